@@ -1,0 +1,25 @@
+use Rattle.std.proofs.Common.{◌≡◌, arith}
+use Rattle.pp_arc.specs.Figure.{after_replace}
+use Rattle.pp_arc.proofs.StepLemmas.{MakesRoom, HasMadeRoom, HasMadeRoom-after_replace}
+use Rattle.pp_arc.proofs.directory.Directory.request_new.Goals as goal
+
+pub put_in_t1-requires : goal.put_in_t1-requires
+put_in_t1-requires g c =
+    let same : c.drop_a_name.new.self.c ≡ c.args.self.now.c = c.drop_a_name.ensures.fixed.0 in
+    let t1 : c.drop_a_name.new.self.t1 ≡ c.args.self.now.t1 = c.drop_a_name.ensures.same_cache.0 in
+    let t2 : c.drop_a_name.new.self.t2 ≡ c.args.self.now.t2 = c.drop_a_name.ensures.same_cache.1 in
+    let m : MakesRoom c.drop_a_name.new.self c.replacement-answer.result = record {
+      free = λ e. rw (t1, t2, same) (c.replacement-answer.ensures.free e);
+      victim = λ v e. rw (t1, t2) (c.replacement-answer.ensures.victim_is_cached v e);
+      no_hit = c.replacement-answer.ensures.no_hit;
+      not_busy = c.in_default.not-AllBusy;
+    } in
+    let d : HasMadeRoom c.drop_a_name.new.self (after_replace c.drop_a_name.new.self c.replacement-answer.result) =
+    HasMadeRoom-after_replace c.drop_a_name.new.self c.replacement-answer.result c.drop_a_name.ensures.bounds m in
+    rw c.replace.ensures.lists record {
+      below = rw d.same_pages (rw c.drop_a_name.ensures.fixed.1 c.requires.below);
+      absent = omega (arith, d.times c.args.page, c.drop_a_name.ensures.fewer c.args.page, c.requires.absent);
+      cached_room = rw d.same_c d.cached;
+      recent_room = omega (arith, d.recent, d.same_c, c.drop_a_name.ensures.recent_room);
+      total_room = omega (arith, d.total, d.same_c, c.drop_a_name.ensures.total_room);
+    }

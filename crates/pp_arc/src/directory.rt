@@ -1,0 +1,414 @@
+ghost use Rattle.std.specs.Prelude.{◌≡◌, ◌≢◌, ℕ, ◌+◌, ◌*◌, ◌<◌, ◌≤◌, ◌⊎◌, ◌↔◌, ◌==◌, if◌then◌else◌, is_none, Bool, true, false, List, [], ◌∷◌, length, Option, Some, None, IsTrue, IsFalse, IfOk, slice_get};
+ghost use Rattle.pp_arc.specs.Pages.{times_in};
+ghost use Rattle.pp_arc.specs.FourLists.{empty_lists, list_of, cached_count, recent_count, total_count, times_named, is_cached, place, after};
+ghost use Rattle.pp_arc.specs.Bounds.{IsWithinBounds};
+ghost use Rattle.pp_arc.specs.Laws.{AllCachedAreBusy, CachesInstead, CachesWithout, CachesAgain};
+ghost use Rattle.pp_arc.specs.Figure.{forget, with_front_of_t1, with_front_of_t2, with_remembered, raised_target, lowered_target, victim, replacement, after_replace, replace_in_t1, room_for_new, without_last_of_b1, without_last_of_b2, is_all_busy, request, bring_back};
+
+use crate::page_list::PageList;
+use crate::{Answer, Busy, List};
+use std::alloc::{AllocError, Global};
+use std::marker::Model;
+
+/// ARC's directory: which pages are cached, which are only remembered, and in which order.
+///
+/// Contracts see it as the record `FourLists`: the four lists, the most recent page first, and the target.
+/// It holds page numbers alone; where the pages themselves lie is the caller's affair.
+///
+/// All its memory is got by [`Directory::new`]. The bounds `IsWithinBounds` hold at all times, and each
+/// call tells them.
+#[derive(Debug, Drop)]
+pub struct Directory {
+    c: u32,
+    pages: u32,
+    target: u32,
+    t1: PageList,
+    t2: PageList,
+    b1: PageList,
+    b2: PageList,
+}
+
+impl Model for Directory {
+    ghost use Rattle.pp_arc.specs.FourLists.{FourLists};
+
+    ghost Value = { FourLists };
+
+    ghost use Rattle.pp_arc.specs.Fields.{lists_of, IsSound};
+
+    ghost view = { lists_of };
+
+    ghost invariant = { IsSound };
+}
+
+impl Directory {
+    /// A directory for a cache of `c` pages, of page numbers below `pages`. Nothing is cached yet.
+    ///
+    /// It gets room for 2 * `c` + 1 page numbers in each of its four lists.
+    ///
+    /// # Errors
+    ///
+    /// Only where that memory can't be had.
+    pub fn new(alloc: Global, c: u32, pages: u32) -> Result<Self, AllocError>
+        requires holds_a_page { 1 ≤ c }
+        ensures empty { IfOk result (λ directory. directory ≡ empty_lists c pages) }
+        ensures bounds { IfOk result IsWithinBounds }
+    {
+        let room = 2 * c as usize + 1;
+        Ok(Directory {
+            c,
+            pages,
+            target: 0,
+            t1: PageList::new(alloc, room)?,
+            t2: PageList::new(alloc, room)?,
+            b1: PageList::new(alloc, room)?,
+            b2: PageList::new(alloc, room)?,
+        })
+    }
+
+    /// The size that `T1` should have, from 0 to `c`.
+    pub fn target(&self) -> u32
+        ensures target { result ≡ self.now.target }
+        ensures bounds { IsWithinBounds self.now }
+    {
+        self.target
+    }
+
+    /// How many pages the list has.
+    pub fn len(&self, list: List) -> usize
+        ensures len { result ≡ length (list_of self.now list) }
+        ensures bounds { IsWithinBounds self.now }
+    {
+        self.list(list).len()
+    }
+
+    /// The most recent page of the list, if it has one.
+    pub fn front(&self, list: List) -> Option<u32>
+        ensures front { result ≡ slice_get (list_of self.now list) 0 }
+        ensures bounds { IsWithinBounds self.now }
+    {
+        self.list(list).front()
+    }
+
+    /// The next less recent page of the list in which this page stands.
+    ///
+    /// None for the last page of a list, and for a page that stands nowhere.
+    pub fn after(&self, page: u32) -> Option<u32>
+        ensures after { result ≡ after self.now page }
+        ensures bounds { IsWithinBounds self.now }
+    {
+        let list = self.place(page)?;
+        self.list(list).next_after(page)
+    }
+
+    /// The list in which the page stands, if it stands in one.
+    pub fn place(&self, page: u32) -> Option<List>
+        ensures place { result ≡ place self.now page }
+        ensures cached { IsTrue (is_cached self.now page) ↔ ((result ≡ Some List.T1) ⊎ (result ≡ Some List.T2)) }
+        ensures bounds { IsWithinBounds self.now }
+    {
+        if self.t1.contains(page) {
+            Some(List::T1)
+        } else if self.t2.contains(page) {
+            Some(List::T2)
+        } else if self.b1.contains(page) {
+            Some(List::B1)
+        } else if self.b2.contains(page) {
+            Some(List::B2)
+        } else {
+            None
+        }
+    }
+
+    /// Asks for a page while the pages of `busy` may not leave the cache.
+    ///
+    /// The page is cached afterwards, but where the answer is [`Answer::AllBusy`]: then nothing has changed.
+    pub fn request<B: Busy>(&mut self, page: u32, busy: &B) -> Answer
+        requires below { page < self.old.pages }
+
+        // ARC's figure
+        ensures answer { result ≡ (request self.old page (B.busy busy.now)).0 }
+        ensures lists { self.new ≡ (request self.old page (B.busy busy.now)).1 }
+        ensures bounds { IsWithinBounds self.new }
+        ensures fixed { (self.new.c ≡ self.old.c) × (self.new.pages ≡ self.old.pages) }
+
+        // which answer comes when
+        ensures hit { (result ≡ Answer.Hit) ↔ IsTrue (is_cached self.old page) }
+        ensures free { (result ≡ Answer.Free) ↔ (IsFalse (is_cached self.old page) × (cached_count self.old < self.old.c)) }
+        ensures all_busy { (result ≡ Answer.AllBusy)
+            ↔ (IsFalse (is_cached self.old page) × (cached_count self.old ≡ self.old.c) × AllCachedAreBusy self.old (B.busy busy.now)) }
+
+        // what it does
+        ensures unchanged { result ≡ Answer.AllBusy → self.new ≡ self.old }
+        ensures victim_was_cached { (v : ℕ) → result ≡ Answer.Evict v → IsTrue (is_cached self.old v) }
+        ensures victim_is_not_busy { (v : ℕ) → result ≡ Answer.Evict v → IsFalse (B.busy busy.now v) }
+        ensures front { result ≢ Answer.AllBusy
+            → slice_get (if is_none (place self.old page) then self.new.t1 else self.new.t2) 0 ≡ Some page }
+        ensures cache { result ≢ Answer.AllBusy → CachesInstead self.old self.new page result }
+    {
+        self.request_by_place(page, busy)
+    }
+
+    /// The request, by the list in which the page stands.
+    fn request_by_place<B: Busy>(&mut self, page: u32, busy: &B) -> Answer
+        requires below { page < self.old.pages }
+        ensures answer { result ≡ (request self.old page (B.busy busy.now)).0 }
+        ensures lists { self.new ≡ (request self.old page (B.busy busy.now)).1 }
+        ensures bounds { IsWithinBounds self.new }
+        ensures were_bounds { IsWithinBounds self.old }
+    {
+        match self.place(page) {
+            Some(List::T1) | Some(List::T2) => {
+                self.move_to_t2(page);
+                Answer::Hit
+            }
+            Some(List::B1) => self.request_remembered(page, self.raised_target(), false, busy),
+            Some(List::B2) => self.request_remembered(page, self.lowered_target(), true, busy),
+            None => self.request_new(page, busy),
+        }
+    }
+
+    /// Takes the page out of its list. A page that stands nowhere changes nothing.
+    pub fn forget(&mut self, page: u32)
+        ensures lists { self.new ≡ forget self.old page }
+        ensures bounds { IsWithinBounds self.new }
+        ensures gone { place self.new page ≡ None }
+        ensures cache { CachesWithout self.old self.new page }
+        ensures room { IsTrue (is_cached self.old page)
+            → (cached_count self.new < self.new.c) × (total_count self.new < 2 * self.new.c) }
+    {
+        self.t1.take_out(page);
+        self.t2.take_out(page);
+        self.b1.take_out(page);
+        self.b2.take_out(page);
+    }
+
+    /// Brings a victim back that could not be written back, so that the page was never read in its place.
+    ///
+    /// The page is remembered nowhere, and the victim is cached again, at the front of `T2`, wherever it
+    /// stood before. The target stays.
+    pub fn bring_back(&mut self, page: u32, victim: u32)
+        requires cached { IsTrue (is_cached self.old page) }
+        requires gone { IsFalse (is_cached self.old victim) }
+        requires below { victim < self.old.pages }
+        ensures lists { self.new ≡ bring_back self.old page victim }
+        ensures bounds { IsWithinBounds self.new }
+        ensures front { slice_get self.new.t2 0 ≡ Some victim }
+        ensures gone { place self.new page ≡ None }
+        ensures cache { CachesAgain self.old self.new page victim }
+    {
+        self.forget(page);
+        self.move_to_t2(victim);
+    }
+
+    /// The request for a page of `B1` or `B2`, with the target as the request moves it.
+    fn request_remembered<B: Busy>(
+        &mut self,
+        page: u32,
+        target: u32,
+        in_b2: bool,
+        busy: &B,
+    ) -> Answer
+        requires below { page < self.old.pages }
+        requires aimed { target ≤ self.old.c }
+        requires remembered { 1 ≤ times_in self.old.b1 page + times_in self.old.b2 page }
+        ensures answer { result ≡ replacement (record self.old { target = target }) in_b2 (B.busy busy.now) }
+        ensures lists { self.new
+            ≡ (if is_all_busy result then self.old
+            else with_front_of_t2 (after_replace (record self.old { target = target }) result) page) }
+        ensures bounds { IsWithinBounds self.new }
+    {
+        let answer = self.replacement(target, in_b2, busy);
+        if let Answer::AllBusy = answer {
+            return answer;
+        }
+        self.target = target;
+        self.replace(answer);
+        self.move_to_t2(page);
+        answer
+    }
+
+    /// The request for a page that stands in no list.
+    fn request_new<B: Busy>(&mut self, page: u32, busy: &B) -> Answer
+        requires below { page < self.old.pages }
+        requires absent { times_named self.old page ≡ 0 }
+        ensures answer { result ≡ (room_for_new self.old (B.busy busy.now)).0 }
+        ensures lists { self.new
+            ≡ (if is_all_busy result then self.old
+            else with_front_of_t1 (room_for_new self.old (B.busy busy.now)).1 page) }
+        ensures bounds { IsWithinBounds self.new }
+    {
+        if self.t1.len() == self.c as usize {
+            return self.request_in_t1(page, busy);
+        }
+        let answer = self.replacement(self.target, false, busy);
+        if let Answer::AllBusy = answer {
+            return answer;
+        }
+        self.drop_a_name();
+        self.replace(answer);
+        self.put_in_t1(page);
+        answer
+    }
+
+    /// The request for a page that stands in no list, where `T1` is all of the cache.
+    fn request_in_t1<B: Busy>(&mut self, page: u32, busy: &B) -> Answer
+        requires below { page < self.old.pages }
+        requires absent { times_named self.old page ≡ 0 }
+        requires full { length self.old.t1 ≡ self.old.c }
+        ensures answer { result ≡ (replace_in_t1 self.old (B.busy busy.now)).0 }
+        ensures lists { self.new
+            ≡ (if is_all_busy result then self.old
+            else with_front_of_t1 (replace_in_t1 self.old (B.busy busy.now)).1 page) }
+        ensures bounds { IsWithinBounds self.new }
+    {
+        match self.t1.last_not_busy(busy) {
+            Some(victim) => {
+                self.forget(victim);
+                self.put_in_t1(page);
+                Answer::Evict(victim)
+            }
+            None => Answer::AllBusy,
+        }
+    }
+
+    /// Before a page that stands in no list comes in, one name is dropped where the lists are full.
+    fn drop_a_name(&mut self)
+        requires { length self.old.t1 < self.old.c }
+        ensures lists { self.new
+            ≡ (if recent_count self.old == self.old.c then without_last_of_b1 self.old
+            else (if total_count self.old == 2 * self.old.c then without_last_of_b2 self.old
+            else self.old)) }
+        ensures recent_room { recent_count self.new < self.new.c }
+        ensures total_room { total_count self.new < 2 * self.new.c }
+        ensures fewer { (x : ℕ) → times_named self.new x ≤ times_named self.old x }
+        ensures same_cache { (self.new.t1 ≡ self.old.t1) × (self.new.t2 ≡ self.old.t2) }
+        ensures fixed { (self.new.c ≡ self.old.c) × (self.new.pages ≡ self.old.pages) }
+        ensures bounds { IsWithinBounds self.new }
+    {
+        let c = self.c as usize;
+        let recent = self.t1.len() + self.b1.len();
+        let total = recent + self.t2.len() + self.b2.len();
+        if recent == c {
+            self.b1.drop_last();
+        } else if total == 2 * c {
+            self.b2.drop_last();
+        }
+    }
+
+    /// What REPLACE answers with this target. Nothing changes yet.
+    fn replacement<B: Busy>(&self, target: u32, in_b2: bool, busy: &B) -> Answer
+        ensures answer { result ≡ replacement (record self.now { target = target }) in_b2 (B.busy busy.now) }
+        ensures free { result ≡ Answer.Free → cached_count self.now < self.now.c }
+        ensures victim_is_cached { (v : ℕ) → result ≡ Answer.Evict v → IsTrue (is_cached self.now v) }
+        ensures no_hit { result ≢ Answer.Hit }
+        ensures bounds { IsWithinBounds self.now }
+    {
+        if self.t1.len() + self.t2.len() != self.c as usize {
+            return Answer::Free;
+        }
+        match self.victim(target, in_b2, busy) {
+            Some(victim) => Answer::Evict(victim),
+            None => Answer::AllBusy,
+        }
+    }
+
+    /// The page that would leave the cache by REPLACE with this target.
+    fn victim<B: Busy>(&self, target: u32, in_b2: bool, busy: &B) -> Option<u32>
+        ensures { result ≡ victim (record self.now { target = target }) in_b2 (B.busy busy.now) }
+    {
+        let len = self.t1.len();
+        let target = target as usize;
+        if len > 0 && (len > target || (in_b2 && len == target)) {
+            self.t1
+                .last_not_busy(busy)
+                .or_else(|| self.t2.last_not_busy(busy))
+        } else {
+            self.t2
+                .last_not_busy(busy)
+                .or_else(|| self.t1.last_not_busy(busy))
+        }
+    }
+
+    /// Carries out what REPLACE answered.
+    fn replace(&mut self, answer: Answer)
+        requires { (v : ℕ) → answer ≡ Answer.Evict v → IsTrue (is_cached self.old v) }
+        ensures lists { self.new ≡ after_replace self.old answer }
+    {
+        if let Answer::Evict(victim) = answer {
+            self.demote(victim);
+        }
+    }
+
+    /// The page leaves the cache, and its name is remembered.
+    fn demote(&mut self, page: u32)
+        requires { IsTrue (is_cached self.old page) }
+        ensures { self.new ≡ with_remembered self.old page }
+    {
+        if self.t1.contains(page) {
+            self.t1.take_out(page);
+            self.b1.put_first(page);
+        } else {
+            self.t2.take_out(page);
+            self.b2.put_first(page);
+        }
+    }
+
+    /// The page leaves its list, if it stands in one, and goes to the front of `T2`.
+    fn move_to_t2(&mut self, page: u32)
+        requires below { page < self.old.pages }
+        requires cached_room { cached_count (forget self.old page) < self.old.c }
+        requires total_room { total_count (forget self.old page) < 2 * self.old.c }
+        ensures lists { self.new ≡ with_front_of_t2 self.old page }
+        ensures bounds { IsWithinBounds self.new }
+    {
+        self.forget(page);
+        self.t2.put_first(page);
+    }
+
+    /// The page, which stands in no list, goes to the front of `T1`.
+    fn put_in_t1(&mut self, page: u32)
+        requires below { page < self.old.pages }
+        requires absent { times_named self.old page ≡ 0 }
+        requires cached_room { cached_count self.old < self.old.c }
+        requires recent_room { recent_count self.old < self.old.c }
+        requires total_room { total_count self.old < 2 * self.old.c }
+        ensures lists { self.new ≡ with_front_of_t1 self.old page }
+        ensures bounds { IsWithinBounds self.new }
+    {
+        self.t1.put_first(page);
+    }
+
+    /// The target that a request for a page of `B1` wants.
+    fn raised_target(&self) -> u32
+        requires { 0 < length self.now.b1 }
+        ensures target { result ≡ raised_target self.now }
+        ensures aimed { result ≤ self.now.c }
+    {
+        let (b1, b2) = (self.b1.len(), self.b2.len());
+        let step = if b2 <= b1 { 1 } else { b2 / b1 };
+        (self.target as usize + step).min(self.c as usize) as u32
+    }
+
+    /// The target that a request for a page of `B2` wants.
+    fn lowered_target(&self) -> u32
+        requires { 0 < length self.now.b2 }
+        ensures target { result ≡ lowered_target self.now }
+        ensures aimed { result ≤ self.now.c }
+    {
+        let (b1, b2) = (self.b1.len(), self.b2.len());
+        let step = if b1 <= b2 { 1 } else { b1 / b2 };
+        (self.target as usize).saturating_sub(step) as u32
+    }
+
+    fn list(&self, list: List) -> &PageList
+        ensures pages { result.now.pages.items ≡ list_of self.now list }
+        ensures bounds { IsWithinBounds self.now }
+    {
+        match list {
+            List::T1 => &self.t1,
+            List::T2 => &self.t2,
+            List::B1 => &self.b1,
+            List::B2 => &self.b2,
+        }
+    }
+}

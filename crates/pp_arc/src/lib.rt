@@ -1,0 +1,22 @@
+//! Adaptive replacement (ARC) as a directory over four lists of page numbers.
+//!
+//! A cache that has room for `c` pages asks the directory for each page that it needs, and is told
+//! whether the page is cached, may take a free frame, or takes the frame of a victim.
+//! Pages that are in use are passed over: the caller names them by a type that implements [`Busy`].
+//!
+//! The rule restates figure 4 of Megiddo and Modha, "ARC: A Self-Tuning, Low Overhead Replacement
+//! Cache", FAST 2003. `specs/Figure.antt` is the definition, and names the choices made there.
+#![tactic(auto)]
+
+pub use answer::Answer;
+pub use busy::Busy;
+pub use directory::Directory;
+pub use list::List;
+
+mod answer;
+mod busy;
+mod directory;
+mod list;
+mod page_list;
+#[cfg(test)]
+mod tests;

@@ -1,0 +1,7 @@
+mod Changes
+mod Entries
+mod Firsts
+mod Keeping
+mod Placing
+mod Standing
+mod Whole

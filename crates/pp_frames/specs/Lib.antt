@@ -1,0 +1,4 @@
+pub mod Kept
+pub mod Least
+pub mod Lists
+pub mod Marks

@@ -1,0 +1,11 @@
+use Rattle.std.proofs.Common.{subst}
+use Rattle.pp_plan.specs.Left.{left}
+use Rattle.pp_plan.specs.CursorMoves.{Same}
+use Rattle.pp_plan.proofs.Standing.{stands_at_start}
+use Rattle.pp_plan.proofs.cursor.Cursor.new.Goals as goal
+
+pub returns : goal.returns
+returns c =
+    let plan = c.args.plan.now in
+    stands_at_start plan c.settle.new.self c.settle.ensures.facts c.settle.ensures.at
+    (subst (λ p. Same plan.layout (left plan.body p) (left plan.body c.settle.new.self)) c.start-cursor.ensures c.settle.ensures.same)

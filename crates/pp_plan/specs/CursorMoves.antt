@@ -1,0 +1,105 @@
+-- How a cursor moves: the words of its private parts.
+use Rattle.std.specs.Prelude.{◌≡◌, ◌<◌, ◌^◌, ℕ, zero, suc, ◌+◌, Option, Some, None, List, [], ◌∷◌, length, slice_index, slice_index_or}
+use Rattle.pp_settings.specs.Layout.{Geometry}
+use Rattle.pp_plan.specs.Tree.{fix, unfix, latch, unlatch, Statement, step, loop, choice, Sequence, done, andthen, branch_count}
+use Rattle.pp_plan.specs.Traces.{IsTrace}
+use Rattle.pp_plan.specs.Left.{sequence_drop, Place, body_at}
+use Rattle.pp_plan.specs.declared.cursor.Entry.{Entry}
+use Rattle.pp_plan.specs.declared.action.Action.{Action}
+use Rattle.pp_plan.specs.declared.action.Action.TheVariants.{Choose}
+use Rattle.pp_plan.specs.declared.action.Ask.{Ask}
+use Rattle.pp_plan.specs.declared.action.Ask.TheVariants as ask
+
+-- ---- entries as a stack
+
+-- The first entries of an array, the last of them first.
+abbrev pub stack : List Entry → ℕ → List Entry
+stack xs zero = []
+stack xs (suc d) = slice_index_or xs d (record { index = 0; turns = 0; branch = 0 }) ∷ stack xs d
+
+-- There is an entry, and the number after its statement's fits its type.
+abbrev pub HasNext : List Entry → Type 0
+HasNext [] = ⊥
+HasNext (e ∷ es) = e.index + 1 < 2 ^ 64
+
+-- Inside the statement at the place.
+abbrev pub entered : Place → (turns branch : ℕ) → Place
+entered p n i = record { entries = record { index = p.index; turns = n; branch = i } ∷ p.entries; index = 0 }
+
+-- Past the statement at the place.
+abbrev pub skipped : Place → Place
+skipped p = record { entries = p.entries; index = p.index + 1 }
+
+-- From the end of a body: to the next turn, or past the statement around it where no turn is left.
+abbrev pub left_to : (turns : ℕ) → Entry → List Entry → Place
+left_to zero e es = record { entries = es; index = e.index + 1 }
+left_to (suc n) e es = record { entries = record { index = e.index; turns = n; branch = e.branch } ∷ es; index = 0 }
+
+-- The same where there is an entry.
+abbrev pub left_by : Place → List Entry → Place
+left_by p [] = p
+left_by p (e ∷ es) = left_to e.turns e es
+
+-- Past an action: into the branch that is chosen, or past the statement that made it.
+abbrev pub moved_by : Action → Place → Place
+moved_by (Choose i) p = entered p 0 i
+moved_by _ p = skipped p
+
+-- There is room to go past the action: a place for a choice's entry, a number for the next statement.
+abbrev pub CanPass : Action → Place → Type 0
+CanPass (Choose i) p = length p.entries < 16
+CanPass _ p = p.index + 1 < 2 ^ 64
+
+-- ---- moves without an action
+
+-- Two bodies with the same traces.
+pub record Same (g : Geometry) (b c : Sequence) : Type 0 where
+  pub to : (t : List Action) → IsTrace g b t → IsTrace g c t
+  pub from : (t : List Action) → IsTrace g c t → IsTrace g b t
+
+-- The place is at the end of a body only where this is the outermost one.
+abbrev pub EndsOutermost : Sequence → Place → Type 0
+EndsOutermost b p = sequence_drop p.index (body_at b p.entries) ≡ done → p.entries ≡ []
+
+-- The count and the body of a body's first statement, where this is a loop.
+abbrev pub first_loop : Sequence → Option (ℕ × Sequence)
+first_loop done = None
+first_loop (andthen (step s) k) = None
+first_loop (andthen (loop n b) k) = Some (n, b)
+first_loop (andthen (choice bs) k) = None
+
+-- How many statements a body has, those inside them not among them.
+abbrev pub sequence_length : Sequence → ℕ
+sequence_length done = 0
+sequence_length (andthen s k) = suc (sequence_length k)
+
+-- The numbers of statements of the bodies that the entries lead through, the outermost first.
+abbrev pub AreLengths : Sequence → List ℕ → List Entry → Type 0
+AreLengths b ns [] = slice_index ns 0 ≡ sequence_length b
+AreLengths b ns (e ∷ es) = (slice_index ns (suc (length es)) ≡ sequence_length (body_at b (e ∷ es))) × AreLengths b ns es
+
+-- ---- what is asked
+
+-- What a statement asks that makes an action, which a loop doesn't.
+abbrev pub statement_ask : Statement → Ask
+statement_ask (step (fix s r)) = ask.Fix s r
+statement_ask (step (unfix s)) = ask.Unfix s
+statement_ask (step (latch s m)) = ask.Latch s m
+statement_ask (step (unlatch s)) = ask.Unlatch s
+statement_ask (loop n b) = ask.End
+statement_ask (choice bs) = ask.Choose (branch_count bs)
+
+-- What is asked where this is the rest of the body: what its first statement asks, or the end.
+abbrev pub first_ask : Sequence → Ask
+first_ask done = ask.End
+first_ask (andthen s k) = statement_ask s
+
+-- What is asked at a place.
+abbrev pub ask_at : Sequence → Place → Ask
+ask_at b p = first_ask (sequence_drop p.index (body_at b p.entries))
+
+-- The statement makes an action, and the number of its branches fits its type.
+abbrev pub IsActive : Statement → Type 0
+IsActive (step s) = Unit {0}
+IsActive (loop n b) = ⊥
+IsActive (choice bs) = branch_count bs < 2 ^ 16

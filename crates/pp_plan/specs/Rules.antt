@@ -1,0 +1,60 @@
+-- Which trees a plan may have.
+use Rattle.std.specs.Prelude.{◌≡◌, ◌⊎◌, ℕ, ◌+◌, ◌<◌, ◌≤◌}
+use Rattle.pp_plan.specs.Tree.{Step, fix, unfix, latch, unlatch, Statement, step, loop, choice, Sequence, done, andthen, Alternatives, none, either, sequence_count, sequence_depth, branch_count}
+
+-- The body has a statement.
+abbrev pub IsSome : Sequence → Type 0
+IsSome done = ⊥
+IsSome (andthen s b) = Unit {0}
+
+-- The step's slot is one of so many, and its region too.
+abbrev pub IsStep : (slots regions : ℕ) → Step → Type 0
+IsStep slots regions (fix s r) = (s < slots) × (r < regions)
+IsStep slots regions (unfix s) = s < slots
+IsStep slots regions (latch s m) = s < slots
+IsStep slots regions (unlatch s) = s < slots
+
+abbrev mutual
+  -- A loop has 1 to 65,535 turns of a body with a statement; a choice has 1 to 16 branches, which may be empty.
+  pub IsStatement : (slots regions : ℕ) → Statement → Type 0
+  IsStatement slots regions (step s) = IsStep slots regions s
+  IsStatement slots regions (loop n b) = (1 ≤ n) × (n ≤ 65535) × IsSome b × IsSequence slots regions b
+  IsStatement slots regions (choice bs) = (1 ≤ branch_count bs) × (branch_count bs ≤ 16) × AreAlternatives slots regions bs
+
+  pub IsSequence : (slots regions : ℕ) → Sequence → Type 0
+  IsSequence slots regions done = Unit {0}
+  IsSequence slots regions (andthen s b) = IsStatement slots regions s × IsSequence slots regions b
+
+  pub AreAlternatives : (slots regions : ℕ) → Alternatives → Type 0
+  AreAlternatives slots regions none = Unit {0}
+  AreAlternatives slots regions (either b bs) = IsSequence slots regions b × AreAlternatives slots regions bs
+
+-- The slot of a step.
+abbrev pub step_slot : Step → ℕ
+step_slot (fix k r) = k
+step_slot (unfix k) = k
+step_slot (latch k m) = k
+step_slot (unlatch k) = k
+
+abbrev mutual
+  -- The statement is a step of the slot, or has one inside it.
+  pub IsUsedBy : Statement → ℕ → Type 0
+  IsUsedBy (step s) k = step_slot s ≡ k
+  IsUsedBy (loop n b) k = IsUsed b k
+  IsUsedBy (choice bs) k = IsUsedInBranch bs k
+
+  -- The body has a step of the slot.
+  pub IsUsed : Sequence → ℕ → Type 0
+  IsUsed done k = ⊥
+  IsUsed (andthen s b) k = IsUsedBy s k ⊎ IsUsed b k
+
+  -- Some branch has a step of the slot.
+  pub IsUsedInBranch : Alternatives → ℕ → Type 0
+  IsUsedInBranch none k = ⊥
+  IsUsedInBranch (either b bs) k = IsUsed b k ⊎ IsUsedInBranch bs k
+
+-- A plan has at most 4,096 statements, at most 16 inside each other.
+pub record IsBody (slots regions : ℕ) (b : Sequence) : Type 0 where
+  pub parts : IsSequence slots regions b
+  pub count : sequence_count b ≤ 4096
+  pub depth : sequence_depth b ≤ 16

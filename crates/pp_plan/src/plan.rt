@@ -1,0 +1,142 @@
+//! A plan.
+
+ghost use Rattle.std.specs.Prelude.{◌≡◌, ◌<◌, IfOk, Ok, List, [], ◌++◌, length, slice_get, Some};
+ghost use Rattle.std.specs.Option.{ok_or};
+ghost use Rattle.serde_json.specs.Read.{read};
+ghost use Rattle.serde_json.specs.View.{view};
+ghost use Rattle.pp_plan.specs.declared.error.PlanError.TheVariants.{NotJson};
+ghost use Rattle.pp_plan.specs.Terms.{Terms, IsPlan};
+ghost use Rattle.pp_plan.specs.Slots.{slot_named};
+ghost use Rattle.pp_plan.specs.Spelling.{IsText};
+ghost use Rattle.pp_plan.specs.View.{sequence_of};
+ghost use Rattle.pp_plan.specs.PlanTraces.{IsTraceOf};
+ghost use Rattle.pp_plan.specs.declared.action.Action.{Action};
+ghost use Rattle.pp_plan.specs.Steps.{Gives};
+ghost use Rattle.pp_plan.specs.Reading.{reading};
+
+use crate::error::PlanError;
+use crate::numbering::{in_byte_order, numbered};
+use crate::progress::{Progress, place_of};
+use crate::reading::read_body;
+use crate::shape::statements_at;
+use crate::stmt::{Body, Stmt};
+use pp_settings::{Layout, Settings};
+use serde_json::{Category, Value};
+use std::alloc::Global;
+use std::marker::Model;
+
+/// How deep statements may stand inside each other.
+const MOST_LEVELS: u8 = 16;
+
+/// What a worker does with pages: statements over slots, read for the layout of some settings.
+///
+/// A plan has at most 4,096 statements, at most 16 inside each other, and at most 32 slots.
+#[derive(Debug, Drop)]
+pub struct Plan {
+    pub(crate) layout: Layout,
+    pub(crate) slots: Vec<String>,
+    pub(crate) body: Body,
+}
+
+impl Model for Plan {
+    ghost use Rattle.pp_plan.specs.Terms.{Terms, coded_terms};
+
+    ghost Value = { Terms };
+
+    ghost coded = { coded_terms };
+
+    ghost use Rattle.pp_plan.specs.Fields.{terms_of};
+    ghost use Rattle.pp_plan.specs.Terms.{IsPlan};
+
+    ghost view = { terms_of };
+
+    ghost invariant = { λ p. IsPlan (terms_of p) };
+}
+
+/// The JSON value that the text is.
+fn value_of(alloc: Global, text: &str) -> Result<Value, PlanError>
+    ensures { Gives view result (ok_or (read text.now) NotJson) }
+{
+    match Value::from_str(alloc, text) {
+        Ok(value) => Ok(value),
+        Err(e) if e.classify() == Category::Memory => Err(PlanError::OutOfMemory),
+        Err(_) => Err(PlanError::NotJson),
+    }
+}
+
+#[tactic(auto, unfolding(crate::specs::Reading::reading))]
+fn read_plan(alloc: Global, settings: &Settings, text: &str) -> Result<Plan, PlanError>
+    ensures { Gives (λ (t : Terms). t) result (reading settings.now text.now) }
+{
+    let value = value_of(alloc, text)?;
+    let items = statements_at(&value)?;
+    let mut progress = Progress::new(alloc);
+    let draft = read_body(alloc, settings, MOST_LEVELS, &mut progress, items)?;
+    let names = progress.into_names();
+    let slots = in_byte_order(alloc, &names)?;
+    let body = numbered(alloc, &slots, &names, &draft)?;
+    Ok(Plan {
+        layout: settings.layout(),
+        slots,
+        body,
+    })
+}
+
+impl Plan {
+    /// The plan that the text spells under the settings, or the first fault.
+    ///
+    /// A key that stands twice counts where it stands last, as the JSON reader has it.
+    pub fn from_text(alloc: Global, settings: &Settings, text: &str) -> Result<Plan, PlanError>
+        // What is read is spelled so, each statement and nothing else, and keeps the rules.
+        ensures found { IfOk result (IsText settings.now text.now) }
+        // What is spelled so and keeps the rules is read, unless memory runs out.
+        ensures only { (t : Terms) → IsText settings.now text.now t → Gives (λ (u : Terms). u) result (Ok t) }
+        // Which refusal it is.
+        ensures exact { Gives (λ (u : Terms). u) result (reading settings.now text.now) }
+    {
+        // The settings keep their limits, as their layout tells.
+        let _layout = settings.layout();
+        read_plan(alloc, settings, text)
+    }
+
+    /// The layout of the settings that the plan was read for.
+    pub fn layout(&self) -> Layout
+        ensures { result ≡ self.now.layout }
+    {
+        self.layout
+    }
+
+    /// The statements.
+    #[tactic(auto, using(crate::proofs::PrefixFree::prefix_free))]
+    pub fn body(&self) -> &[Stmt]
+        ensures is { sequence_of result.now ≡ self.now.body }
+        // What holds of every plan.
+        ensures facts { IsPlan self.now }
+        // No trace of a plan is a proper prefix of another.
+        ensures prefix_free { (t rest : List Action) → IsTraceOf self.now t → IsTraceOf self.now (t ++ rest) → rest ≡ [] }
+    {
+        self.body.stmts()
+    }
+
+    /// How many slot names.
+    pub fn slots(&self) -> u8
+        ensures { result ≡ length self.now.slots }
+    {
+        self.slots.len() as u8
+    }
+
+    /// The name of the slot with this number.
+    pub fn slot_name(&self, slot: u8) -> &str
+        requires { slot < length self.now.slots }
+        ensures { slice_get self.now.slots slot ≡ Some result.now }
+    {
+        self.slots[usize::from(slot)].as_str()
+    }
+
+    /// The number of the slot with this name, if the plan has one.
+    pub fn slot(&self, name: &str) -> Option<u8>
+        ensures { result ≡ slot_named self.now name.now }
+    {
+        place_of(&self.slots, name)
+    }
+}

@@ -1,0 +1,114 @@
+//! How far the reading of a plan is.
+
+ghost use Rattle.std.specs.Prelude.{◌≡◌, ◌≤◌, IfOk, length, map, string_bytes, ℕ};
+ghost use Rattle.pp_plan.specs.Steps.{Gives};
+ghost use Rattle.pp_plan.specs.Numbering.{place_of};
+ghost use Rattle.pp_plan.specs.Reading.{start, begun, used, slot_of};
+ghost use Rattle.pp_plan.specs.Names.{is_slot_name};
+
+use crate::error::PlanError;
+use crate::names::is_slot_name;
+use std::alloc::Global;
+use std::marker::Model;
+
+/// The greatest number of statements in a plan.
+const MOST_STATEMENTS: u32 = 4_096;
+
+/// The greatest number of slot names in a plan.
+const MOST_SLOTS: usize = 32;
+
+/// The slot names in the order of their first use, and how many statements have begun.
+#[derive(Drop)]
+pub(crate) struct Progress {
+    names: Vec<String>,
+    count: u32,
+}
+
+impl Model for Progress {
+    ghost use Rattle.std.specs.Prelude.{map, string_bytes};
+    ghost use Rattle.pp_plan.specs.Progress.{Progress, IsProgress};
+
+    ghost Value = { Progress };
+
+    ghost view = { λ p. record { names = map string_bytes p.names.items; count = p.count } };
+
+    ghost invariant = { λ p. IsProgress (record { names = map string_bytes p.names.items; count = p.count }) };
+}
+
+/// The place of the name among the names.
+pub(crate) fn place_of(names: &[String], name: &str) -> Option<u8>
+    requires { length names.now ≤ 256 }
+    ensures { result ≡ place_of (map string_bytes names.now) name.now }
+{
+    match names.iter().position(|n| n.as_str() == name) {
+        Some(place) => Some(place as u8),
+        None => None,
+    }
+}
+
+impl Progress {
+    /// Before the first statement.
+    pub(crate) fn new(alloc: Global) -> Progress
+        ensures { result ≡ start }
+    {
+        Progress {
+            names: Vec::new(alloc),
+            count: 0,
+        }
+    }
+
+    /// The number of the next statement, which begins.
+    #[tactic(auto, unfolding(crate::specs::Reading::begun))]
+    pub(crate) fn begin(&mut self) -> Result<u32, PlanError>
+        ensures gives { Gives (λ _. self.new) result (begun self.old) }
+        ensures number { IfOk result (λ n. n ≡ self.old.count) }
+    {
+        if self.count >= MOST_STATEMENTS {
+            return Err(PlanError::TooMany(self.count));
+        }
+        let number = self.count;
+        self.count += 1;
+        Ok(number)
+    }
+
+    /// The number of a slot that the statement uses, by the first use of its name.
+    #[tactic(auto, unfolding(crate::specs::Reading::used))]
+    pub(crate) fn use_slot(
+        &mut self,
+        alloc: Global,
+        number: u32,
+        name: &str,
+    ) -> Result<u8, PlanError>
+        ensures { Gives (λ k. (self.new, k)) result (used number self.old name.now) }
+    {
+        if let Some(place) = place_of(&self.names, name) {
+            return Ok(place);
+        }
+        let place = self.names.len();
+        if place >= MOST_SLOTS {
+            return Err(PlanError::TooMany(number));
+        }
+        let name = String::from_str(alloc, name)?;
+        self.names.push(name)?;
+        Ok(place as u8)
+    }
+
+    /// The same of a name that has to be in form.
+    #[tactic(auto, unfolding(crate::specs::Reading::slot_of))]
+    pub(crate) fn slot(&mut self, alloc: Global, number: u32, name: &str) -> Result<u8, PlanError>
+        ensures { Gives (λ k. (self.new, k)) result (slot_of number self.old name.now) }
+    {
+        if !is_slot_name(name) {
+            return Err(PlanError::BadName(number));
+        }
+        self.use_slot(alloc, number, name)
+    }
+
+    /// The names so far, in the order of their first use.
+    pub(crate) fn into_names(self) -> Vec<String>
+        ensures names { map string_bytes result.items ≡ self.names }
+        ensures few { length result.items ≤ 32 }
+    {
+        self.names
+    }
+}

@@ -1,0 +1,181 @@
+//! Reads the statements of a plan, in the order of the refusals.
+
+ghost use Rattle.std.specs.Prelude.{◌≡◌, ◌&&◌, ◌==◌, not, nat_le, ℕ, Ok};
+ghost use Rattle.serde_json.specs.View.{view, items_view};
+ghost use Rattle.pp_settings.specs.Settings.{region_named};
+ghost use Rattle.pp_plan.specs.Steps.{Gives};
+ghost use Rattle.pp_plan.specs.Tree.{Statement, Sequence, done, none};
+ghost use Rattle.pp_plan.specs.View.{statement_of};
+ghost use Rattle.pp_plan.specs.ShapeView.{shape_view};
+ghost use Rattle.pp_plan.specs.Reading.{sequence_from, alternatives_from, fix_by, statement_by, statement_at, items_in, count_of};
+
+use crate::error::PlanError;
+use crate::names::is_slot_name;
+use crate::progress::Progress;
+use crate::shape::{Shape, shape_of};
+use crate::stmt::{Body, Branches, Stmt};
+use pp_settings::Settings;
+use serde_json::Value;
+use std::alloc::Global;
+
+/// The greatest number of branches of a choice.
+const MOST_BRANCHES: usize = 16;
+
+/// A loop of this count and body may stand.
+#[tactic(auto, using(crate::proofs::Trees::count_of_view))]
+fn is_loop(count: u64, body: &[Value]) -> bool
+    ensures { result ≡ ((nat_le 1 count && nat_le count 65535) && not (count_of (items_view body.now) == 0)) }
+{
+    1 <= count && count <= u64::from(u16::MAX) && !body.is_empty()
+}
+
+/// A choice of these branches may stand.
+#[tactic(auto, using(crate::proofs::Trees::count_of_view))]
+fn is_choice(branches: &[Value]) -> bool
+    ensures { result ≡ (nat_le 1 (count_of (items_view branches.now)) && nat_le (count_of (items_view branches.now)) 16) }
+{
+    1 <= branches.len() && branches.len() <= MOST_BRANCHES
+}
+
+/// The items of a list, none of another value.
+fn items_in(value: &Value) -> &[Value]
+    ensures { items_view result.now ≡ items_in (view value.now) }
+{
+    match value.as_array() {
+        Some(items) => items,
+        None => &[],
+    }
+}
+
+/// The statements of the items.
+#[cycle(reading)]
+#[tactic(auto, using(crate::proofs::Walk::walk))]
+pub(crate) fn read_body(
+    alloc: Global,
+    settings: &Settings,
+    levels: u8,
+    progress: &mut Progress,
+    items: &[Value],
+) -> Result<Body, PlanError>
+    ensures { Gives (λ b. (progress.new, b)) result
+        (sequence_from (statement_at (region_named settings.now) levels) done progress.old (items_view items.now)) }
+{
+    let mut stmts = Vec::new(alloc);
+    for value in items {
+        let stmt = read_statement(alloc, settings, levels, progress, value)?;
+        stmts.push(stmt)?;
+    }
+    Ok(Body { stmts })
+}
+
+/// The branches of the lists.
+#[cycle(reading)]
+#[tactic(auto, using(crate::proofs::Walk::walk))]
+fn read_branches(
+    alloc: Global,
+    settings: &Settings,
+    levels: u8,
+    progress: &mut Progress,
+    lists: &[Value],
+) -> Result<Branches, PlanError>
+    ensures { Gives (λ b. (progress.new, b)) result
+        (alternatives_from (statement_at (region_named settings.now) levels) none progress.old (items_view lists.now)) }
+{
+    let mut bodies = Vec::new(alloc);
+    for list in lists {
+        let body = read_body(alloc, settings, levels, progress, items_in(list))?;
+        bodies.push(body)?;
+    }
+    Ok(Branches { bodies })
+}
+
+/// The statement of the value, where so many levels of statements may stand from here on.
+#[cycle(reading)]
+fn read_statement(
+    alloc: Global,
+    settings: &Settings,
+    levels: u8,
+    progress: &mut Progress,
+    value: &Value,
+) -> Result<Stmt, PlanError>
+    ensures { Gives (λ s. (progress.new, statement_of s)) result
+        (statement_at (region_named settings.now) levels progress.old (view value.now)) }
+{
+    let number = progress.begin()?;
+    if levels == 0 {
+        return Err(PlanError::TooDeep(number));
+    }
+    let shape = shape_of(number, value)?;
+    read_shape(alloc, settings, levels - 1, progress, number, shape)
+}
+
+/// A fix of a page of the region into the slot.
+#[tactic(auto, unfolding(crate::specs::Reading::fix_by))]
+fn read_fix(
+    alloc: Global,
+    settings: &Settings,
+    progress: &mut Progress,
+    number: u32,
+    slot: &str,
+    region: &str,
+) -> Result<Stmt, PlanError>
+    ensures { Gives (λ s. (progress.new, statement_of s)) result
+        (fix_by (region_named settings.now) number progress.old slot.now region.now) }
+{
+    if !is_slot_name(slot) {
+        return Err(PlanError::BadName(number));
+    }
+    let region = settings
+        .region(region)
+        .ok_or(PlanError::NoSuchRegion(number))?;
+    let slot = progress.use_slot(alloc, number, slot)?;
+    Ok(Stmt::Fix { slot, region })
+}
+
+/// The statement of this form and number.
+#[cycle(reading)]
+#[tactic(auto, unfolding(crate::specs::Reading::statement_by))]
+fn read_shape(
+    alloc: Global,
+    settings: &Settings,
+    levels: u8,
+    progress: &mut Progress,
+    number: u32,
+    shape: Shape<'_>,
+) -> Result<Stmt, PlanError>
+    ensures { Gives (λ s. (progress.new, statement_of s)) result
+        (statement_by (region_named settings.now) (statement_at (region_named settings.now) levels) number progress.old (shape_view shape.entry)) }
+{
+    match shape {
+        Shape::Fix { slot, region } => { read_fix(alloc, settings, progress, number, slot, region) }
+        Shape::Unfix { slot } => {
+            let slot = progress.slot(alloc, number, slot)?;
+            Ok(Stmt::Unfix { slot })
+        }
+        Shape::Latch { slot, mode } => {
+            let slot = progress.slot(alloc, number, slot)?;
+            Ok(Stmt::Latch { slot, mode })
+        }
+        Shape::Unlatch { slot } => {
+            let slot = progress.slot(alloc, number, slot)?;
+            Ok(Stmt::Unlatch { slot })
+        }
+        Shape::Loop { count, body } => {
+            if !is_loop(count, body) {
+                return Err(PlanError::Range(number));
+            }
+            let body = read_body(alloc, settings, levels, progress, body)?;
+            Ok(Stmt::Loop {
+                count: count as u16,
+                body,
+            })
+        }
+        Shape::Choice { branches } => {
+            if !is_choice(branches) {
+                return Err(PlanError::Range(number));
+            }
+            let branches = read_branches(alloc, settings, levels, progress, branches)?;
+            Ok(Stmt::Choice { branches })
+        }
+    }
+}

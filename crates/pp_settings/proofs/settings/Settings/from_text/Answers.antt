@@ -1,0 +1,12 @@
+use Rattle.pp_settings.proofs.First.{refused_first}
+use Rattle.pp_settings.proofs.Regions.{text_found, text_only}
+use Rattle.pp_settings.proofs.settings.Settings.from_text.Goals as goal
+
+pub returns-clause-found : goal.returns-clause-found
+returns-clause-found c = text_found c.args.text.now c.read.result c.read.ensures
+
+pub returns-clause-only : goal.returns-clause-only
+returns-clause-only c = λ s. text_only c.args.text.now c.read.result s c.read.ensures
+
+pub returns-clause-first : goal.returns-clause-first
+returns-clause-first c = refused_first c.args.text.now c.read.result c.read.ensures

@@ -1,0 +1,33 @@
+-- The keys of a settings text, as it writes them.
+use Rattle.std.specs.Prelude.{ℕ, List, [], ◌∷◌, codes, Option, None, Some}
+use Rattle.pp_settings.specs.declared.key.TopKey.{TopKey}
+use Rattle.pp_settings.specs.declared.key.TopKey.TheVariants.{Frames, PageBytes, Workers, Flushes, Region}
+use Rattle.pp_settings.specs.declared.key.RegionKey.{RegionKey}
+use Rattle.pp_settings.specs.declared.key.RegionKey.TheVariants.{Name, First, Count, Class}
+use Rattle.pp_settings.specs.declared.key.Spot.{Spot}
+use Rattle.pp_settings.specs.declared.key.Spot.TheVariants.{Top, InRegion}
+
+-- A key of the document itself.
+abbrev pub top_key : TopKey → List ℕ
+top_key Frames = codes "frames"
+top_key PageBytes = codes "page_bytes"
+top_key Workers = codes "workers"
+top_key Flushes = codes "flushes"
+top_key Region = codes "region"
+
+-- A key of a region's table.
+abbrev pub region_key : RegionKey → List ℕ
+region_key Name = codes "name"
+region_key First = codes "first"
+region_key Count = codes "count"
+region_key Class = codes "class"
+
+-- The key at a spot.
+abbrev pub key_of : Spot → List ℕ
+key_of (Top k) = top_key k
+key_of (InRegion i k) = region_key k
+
+-- The keys that a table may have: the document's, or those of the region with this number.
+abbrev pub known_keys : Option ℕ → List (List ℕ)
+known_keys None = codes "frames" ∷ codes "page_bytes" ∷ codes "workers" ∷ codes "flushes" ∷ codes "region" ∷ []
+known_keys (Some i) = codes "name" ∷ codes "first" ∷ codes "count" ∷ codes "class" ∷ []

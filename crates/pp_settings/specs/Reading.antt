@@ -1,0 +1,141 @@
+-- What a document gives: its settings, or the first refusal in the fixed order.
+use Rattle.std.specs.Prelude.{ℕ, ◌+◌, ◌-◌, pos, List, [], ◌∷◌, ◌++◌, length, Bool, true, not, ◌&&◌, nat_le, if◌then◌else◌, Option, Some, None, is_some, Result, Ok}
+use Rattle.std.specs.Option.{ok_or}
+use Rattle.std.specs.List.{list_any}
+use Rattle.std.specs.Str.{bytes_eq}
+use Rattle.toml.specs.Data.{Data, string, integer, array, Items, no_items, item, Members, no_members, member, get_member, as_table}
+use Rattle.toml.specs.Parse.{parse_document}
+use Rattle.pp_settings.specs.declared.extent.Extent.{Extent}
+use Rattle.pp_settings.specs.declared.key.TopKey.TheVariants.{Frames, PageBytes, Workers, Flushes, Region}
+use Rattle.pp_settings.specs.declared.key.RegionKey.TheVariants.{Name, First, Count, Class}
+use Rattle.pp_settings.specs.declared.key.Spot.{Spot}
+use Rattle.pp_settings.specs.declared.key.Spot.TheVariants.{Top, InRegion}
+use Rattle.pp_settings.specs.declared.error.SettingsError.{SettingsError}
+use Rattle.pp_settings.specs.declared.error.SettingsError.TheVariants.{NotToml, Missing, Unknown, Range, Overlap, SameName}
+use Rattle.pp_settings.specs.Keys.{key_of, known_keys}
+use Rattle.pp_settings.specs.Layout.{shares_page}
+use Rattle.pp_settings.specs.Names.{is_name}
+use Rattle.pp_settings.specs.Settings.{NamedRegion, Configuration}
+use Rattle.pp_settings.specs.Steps.{◌>>=◌, must}
+
+-- ---- one key
+
+-- A table of the document or of a region may have this key.
+abbrev pub is_known : Option ℕ → List ℕ → Bool
+is_known region key = list_any (bytes_eq key) (known_keys region)
+
+-- Each key of the table is known.
+abbrev pub keys_known : Option ℕ → Members → Bool
+keys_known region no_members = true
+keys_known region (member k d ms) = is_known region k && keys_known region ms
+
+-- The table has no other key than the known ones.
+abbrev pub only_known : Option ℕ → Members → Result (Unit {0}) SettingsError
+only_known region ms = must (keys_known region ms) (Unknown region)
+
+-- The value at a key.
+abbrev pub value_at : Spot → Members → Result Data SettingsError
+value_at spot ms = ok_or (get_member (key_of spot) ms) (Missing spot)
+
+-- A whole number from low to high.
+abbrev pub as_number : ℕ → ℕ → Data → Option ℕ
+as_number low high (integer (pos n)) = if nat_le low n && nat_le n high then Some n else None
+as_number low high _ = None
+
+unfoldable pub number_at : Spot → ℕ → ℕ → Members → Result ℕ SettingsError
+number_at spot low high ms = do
+  d ← value_at spot ms
+  ok_or (as_number low high d) (Range spot)
+
+-- A text that is a name.
+abbrev pub as_name : Data → Option (List ℕ)
+as_name (string s) = if is_name s then Some s else None
+as_name _ = None
+
+unfoldable pub name_at : Spot → Members → Result (List ℕ) SettingsError
+name_at spot ms = do
+  d ← value_at spot ms
+  ok_or (as_name d) (Range spot)
+
+-- ---- regions
+
+-- Where the region with number i lies.
+unfoldable pub extent_at : ℕ → Members → Result Extent SettingsError
+extent_at i ms = do
+  first ← number_at (InRegion i First) 0 65535 ms
+  count ← number_at (InRegion i Count) 1 (65536 - first) ms
+  class ← number_at (InRegion i Class) 0 63 ms
+  Ok (record { first = first; count = count; class = class })
+
+-- The region with number i.
+unfoldable pub region_at : ℕ → Members → Result NamedRegion SettingsError
+region_at i ms = do
+  known ← only_known (Some i) ms
+  name ← name_at (InRegion i Name) ms
+  extent ← extent_at i ms
+  Ok (record { name = name; extent = extent })
+
+-- The region has this name.
+abbrev pub has_name : List ℕ → NamedRegion → Bool
+has_name name r = bytes_eq r.name name
+
+-- The region shares a page with the extent.
+abbrev pub shares_page_with : Extent → NamedRegion → Bool
+shares_page_with extent r = shares_page r.extent extent
+
+-- A region beside the earlier ones: its name first, and then its pages.
+unfoldable pub beside : List NamedRegion → NamedRegion → Result (Unit {0}) SettingsError
+beside earlier r = do
+  name ← must (not (list_any (has_name r.name) earlier)) (SameName (length earlier))
+  must (not (list_any (shares_page_with r.extent) earlier)) (Overlap (length earlier))
+
+-- One item's region, after the earlier ones.
+unfoldable pub next_region : List NamedRegion → Data → Result NamedRegion SettingsError
+next_region earlier d = do
+  ms ← ok_or (as_table d) (Range (Top Region))
+  r ← region_at (length earlier) ms
+  passed ← beside earlier r
+  Ok r
+
+-- The earlier regions and then those of the items, one item after the other.
+abbrev pub regions_from : List NamedRegion → Items → Result (List NamedRegion) SettingsError
+regions_from earlier no_items = Ok earlier
+regions_from earlier (item d ds) = next_region earlier d >>= λ r. regions_from (earlier ++ r ∷ []) ds
+
+-- ---- the document
+
+abbrev pub are_tables : Items → Bool
+are_tables no_items = true
+are_tables (item d ds) = is_some (as_table d) && are_tables ds
+
+abbrev pub count_of : Items → ℕ
+count_of no_items = 0
+count_of (item d ds) = count_of ds + 1
+
+-- An array of 1 to 64 tables.
+abbrev pub are_regions : Items → Bool
+are_regions ds = (nat_le 1 (count_of ds) && nat_le (count_of ds) 64) && are_tables ds
+
+abbrev pub as_tables : Data → Option Items
+as_tables (array ds) = if are_regions ds then Some ds else None
+as_tables _ = None
+
+unfoldable pub tables_at : Spot → Members → Result Items SettingsError
+tables_at spot ms = do
+  d ← value_at spot ms
+  ok_or (as_tables d) (Range spot)
+
+unfoldable pub configuration_of : Members → Result Configuration SettingsError
+configuration_of ms = do
+  known ← only_known None ms
+  frames ← number_at (Top Frames) 1 4096 ms
+  page_bytes ← number_at (Top PageBytes) 64 65536 ms
+  workers ← number_at (Top Workers) 1 32 ms
+  flushes ← number_at (Top Flushes) 0 100000 ms
+  tables ← tables_at (Top Region) ms
+  regions ← regions_from [] tables
+  Ok (record { frames = frames; page_bytes = page_bytes; workers = workers; flushes = flushes; regions = regions })
+
+-- The settings of a text.
+abbrev pub reading : List ℕ → Result Configuration SettingsError
+reading text = ok_or (parse_document text) NotToml >>= configuration_of

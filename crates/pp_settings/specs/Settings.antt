@@ -1,0 +1,59 @@
+-- What settings are, apart from the text that spells them: the sizes of a pool, and its regions with their names.
+use Rattle.std.specs.Prelude.{◌≢◌, ℕ, ◌≤◌, List, length, map, All, AllPairs, IsTrue, Option, option_map, slice_get, position}
+use Rattle.std.specs.Str.{bytes_eq}
+use Rattle.pp_settings.specs.declared.extent.Extent.{Extent}
+use Rattle.pp_settings.specs.Layout.{Geometry, IsExtent, IsApart}
+use Rattle.pp_settings.specs.Names.{is_name}
+
+-- A region: the name by which plans ask for its pages, and where it lies.
+pub record NamedRegion : Type 0 where
+  pub name : List ℕ
+  pub extent : Extent
+
+-- The settings; a region's number is its place in the list, which has the order of the text.
+pub record Configuration : Type 0 where
+  pub frames : ℕ
+  pub page_bytes : ℕ
+  pub workers : ℕ
+  pub flushes : ℕ
+  pub regions : List NamedRegion
+
+-- ---- what is read from them
+
+-- The layout of these frames and regions: their names are left out.
+abbrev pub layout_of : ℕ → List NamedRegion → Geometry
+layout_of frames rs = record { frames = frames; extents = map (λ r. r.extent) rs }
+
+-- The layout of the settings.
+abbrev pub geometry_of : Configuration → Geometry
+geometry_of c = layout_of c.frames c.regions
+
+-- The number of the region with this name, if there is one.
+abbrev pub region_named : Configuration → List ℕ → Option ℕ
+region_named c name = position (λ r. bytes_eq r.name name) c.regions
+
+-- The name of the region with this number, if there is one.
+abbrev pub name_of : Configuration → ℕ → Option (List ℕ)
+name_of c region = option_map (λ r. r.name) (slice_get c.regions region)
+
+-- ---- the limits
+
+-- The name is in form, and the extent within the limits.
+pub record IsNamedRegion (r : NamedRegion) : Type 0 where
+  pub name : IsTrue (is_name r.name)
+  pub extent : IsExtent r.extent
+
+-- Each region is in form, no two have the same name, and no two share a page.
+pub record AreRegions (rs : List NamedRegion) : Type 0 where
+  pub each : All IsNamedRegion rs
+  pub names : AllPairs (λ q r. q.name ≢ r.name) rs
+  pub apart : AllPairs (λ q r. IsApart q.extent r.extent) rs
+
+-- 1 to 4,096 frames, pages of 64 to 65,536 bytes, 1 to 32 workers, at most 100,000 flushes, and 1 to 64 regions.
+pub record IsConfiguration (c : Configuration) : Type 0 where
+  pub frames : (1 ≤ c.frames) × (c.frames ≤ 4096)
+  pub page_bytes : (64 ≤ c.page_bytes) × (c.page_bytes ≤ 65536)
+  pub workers : (1 ≤ c.workers) × (c.workers ≤ 32)
+  pub flushes : c.flushes ≤ 100000
+  pub count : (1 ≤ length c.regions) × (length c.regions ≤ 64)
+  pub regions : AreRegions c.regions

@@ -1,0 +1,30 @@
+-- Reading in steps: the first step that fails gives the refusal.
+use Rattle.std.specs.Prelude.{◌≡◌, Result, Ok, Err, Bool, true, false}
+use Rattle.pp_settings.specs.declared.error.SettingsError.{SettingsError}
+use Rattle.pp_settings.specs.declared.error.SettingsError.TheVariants.{OutOfMemory}
+
+-- A step, and then another with its value.
+infixl 10 ◌>>=◌
+abbrev pub ◌>>=◌ : {A B : Type 0} → Result A SettingsError → (A → Result B SettingsError) → Result B SettingsError
+(Ok x) >>= next = next x
+(Err e) >>= next = Err e
+
+-- A step that has no value: it is passed, or refuses.
+abbrev pub must : Bool → SettingsError → Result (Unit {0}) SettingsError
+must true e = Ok tt
+must false e = Err e
+
+-- What the code returned is what the reading gives, where `seen` shows the value returned.
+abbrev pub Reads : {X Y : Type 0} → (X → Y) → Result X SettingsError → Result Y SettingsError → Type 0
+Reads seen (Ok x) reading = reading ≡ Ok (seen x)
+Reads seen (Err e) reading = reading ≡ Err e
+
+-- The refusal is the reading's; want of memory says nothing of the text.
+abbrev pub Refuses : {Y : Type 0} → SettingsError → Result Y SettingsError → Type 0
+Refuses OutOfMemory reading = Unit {0}
+Refuses e reading = reading ≡ Err e
+
+-- The same where memory may have run out.
+abbrev pub Gives : {X Y : Type 0} → (X → Y) → Result X SettingsError → Result Y SettingsError → Type 0
+Gives seen (Ok x) reading = reading ≡ Ok (seen x)
+Gives seen (Err e) reading = Refuses e reading

@@ -1,0 +1,218 @@
+//! Reads settings from a document, key by key in the order of the refusals.
+
+ghost use Rattle.std.specs.Prelude.{◌≡◌, ◌≤◌, ◌<◌, ◌+◌, [], length, IfOk, string_bytes, IsTrue};
+ghost use Rattle.std.specs.Option.{ok_or};
+ghost use Rattle.std.specs.List.{list_all, list_any};
+ghost use Rattle.std.specs.BTreeMap.{keys};
+ghost use Rattle.toml.specs.Parse.{parse_document};
+ghost use Rattle.toml.specs.View.{view, table_view, items_view};
+ghost use Rattle.pp_settings.specs.declared.error.SettingsError.TheVariants.{NotToml};
+ghost use Rattle.pp_settings.specs.Settings.{NamedRegion};
+ghost use Rattle.pp_settings.specs.Steps.{Gives, Reads};
+ghost use Rattle.pp_settings.specs.Views.{all_named, configured, entered};
+ghost use Rattle.pp_settings.specs.Reading.{is_known, only_known, value_at, number_at, name_at, extent_at, region_at, has_name, shares_page_with, beside, next_region, regions_from, are_tables, are_regions, tables_at, configuration_of};
+
+use crate::error::SettingsError;
+use crate::extent::Extent;
+use crate::key::{RegionKey, Spot, TopKey};
+use crate::layout::MOST_REGIONS;
+use crate::names::{is_known, is_name};
+use crate::region::Region;
+use crate::settings::Fields;
+use std::alloc::Global;
+use toml::{Table, Value};
+
+/// A region as the text has it, before its name is kept.
+#[derive(Clone, Copy)]
+struct Entry<'a> {
+    name: &'a str,
+    extent: Extent,
+}
+
+fn value_at(table: &Table, spot: Spot) -> Result<&Value, SettingsError>
+    ensures { Reads (λ v. view v.now) result (value_at spot (table_view table.now)) }
+{
+    table.get(spot.key()).ok_or(SettingsError::Missing(spot))
+}
+
+#[tactic(auto, unfolding(crate::specs::Reading::number_at))]
+fn number_at(table: &Table, spot: Spot, low: u32, high: u32) -> Result<u32, SettingsError>
+    ensures gives { Reads (λ n. n) result (number_at spot low high (table_view table.now)) }
+    ensures within { IfOk result (λ n. (low ≤ n) × (n ≤ high)) }
+{
+    match value_at(table, spot)?.as_integer() {
+        Some(n) if i64::from(low) <= n && n <= i64::from(high) => Ok(n as u32),
+        _ => Err(SettingsError::Range(spot)),
+    }
+}
+
+#[tactic(auto, unfolding(crate::specs::Reading::name_at))]
+fn name_at(table: &Table, spot: Spot) -> Result<&str, SettingsError>
+    ensures { Reads (λ s. s.now) result (name_at spot (table_view table.now)) }
+{
+    match value_at(table, spot)?.as_str() {
+        Some(name) if is_name(name) => Ok(name),
+        _ => Err(SettingsError::Range(spot)),
+    }
+}
+
+fn has_known_keys(table: &Table, region: Option<u8>) -> bool
+    ensures { result ≡ list_all (λ k. is_known region (string_bytes k)) (keys table.now) }
+{
+    table.keys().all(|key| is_known(region, key.as_str()))
+}
+
+fn only_known(table: &Table, region: Option<u8>) -> Result<(), SettingsError>
+    ensures { Reads (λ _. tt) result (only_known region (table_view table.now)) }
+{
+    if !has_known_keys(table, region) {
+        return Err(SettingsError::Unknown(region));
+    }
+    Ok(())
+}
+
+#[tactic(auto, unfolding(crate::specs::Reading::extent_at))]
+fn extent_at(table: &Table, region: u8) -> Result<Extent, SettingsError>
+    ensures gives { Reads (λ e. e) result (extent_at region (table_view table.now)) }
+    ensures within { IfOk result (λ e. e.first + e.count ≤ 65536) }
+{
+    let first = number_at(table, Spot::InRegion(region, RegionKey::First), 0, 65_535)?;
+    let room = 65_536 - first;
+    let count = number_at(table, Spot::InRegion(region, RegionKey::Count), 1, room)?;
+    let class = number_at(table, Spot::InRegion(region, RegionKey::Class), 0, 63)?;
+    Ok(Extent {
+        first,
+        count,
+        class: class as u8,
+    })
+}
+
+#[tactic(auto, unfolding(crate::specs::Reading::region_at))]
+fn region_at(table: &Table, region: u8) -> Result<Entry<'_>, SettingsError>
+    ensures gives { Reads entered result (region_at region (table_view table.now)) }
+    ensures within { IfOk result (λ e. e.extent.first + e.extent.count ≤ 65536) }
+{
+    only_known(table, Some(region))?;
+    let name = name_at(table, Spot::InRegion(region, RegionKey::Name))?;
+    let extent = extent_at(table, region)?;
+    Ok(Entry { name, extent })
+}
+
+fn has_name(earlier: &[Region], name: &str) -> bool
+    ensures { result ≡ list_any (has_name name.now) (all_named earlier.now) }
+{
+    earlier.iter().any(|region| region.name.as_str() == name)
+}
+
+fn shares_page(earlier: &[Region], extent: &Extent) -> bool
+    ensures { result ≡ list_any (shares_page_with extent.now) (all_named earlier.now) }
+{
+    earlier
+        .iter()
+        .any(|region| region.extent.shares_page(extent))
+}
+
+#[tactic(auto, using(crate::proofs::Trees::all_named_length), unfolding(crate::specs::Reading::beside))]
+fn beside(earlier: &[Region], entry: &Entry<'_>) -> Result<(), SettingsError>
+    requires { length earlier.now < 256 }
+    ensures { Reads (λ _. tt) result (beside (all_named earlier.now) (entered entry.now)) }
+{
+    let number = earlier.len() as u8;
+    if has_name(earlier, entry.name) {
+        return Err(SettingsError::SameName(number));
+    }
+    if shares_page(earlier, &entry.extent) {
+        return Err(SettingsError::Overlap(number));
+    }
+    Ok(())
+}
+
+#[tactic(auto, using(crate::proofs::Trees::all_named_length), unfolding(crate::specs::Reading::next_region))]
+fn next_region<'a>(earlier: &[Region], value: &'a Value) -> Result<Entry<'a>, SettingsError>
+    requires { length earlier.now < 256 }
+    ensures gives { Reads entered result (next_region (all_named earlier.now) (view value.now)) }
+    ensures within { IfOk result (λ e. e.extent.first + e.extent.count ≤ 65536) }
+{
+    let table = match value.as_table() {
+        Some(table) => table,
+        None => return Err(SettingsError::Range(Spot::Top(TopKey::Region))),
+    };
+    let entry = region_at(table, earlier.len() as u8)?;
+    beside(earlier, &entry)?;
+    Ok(entry)
+}
+
+fn regions_of(alloc: Global, items: &[Value]) -> Result<Vec<Region>, SettingsError>
+    requires { length items.now < 256 }
+    ensures { Gives (λ v. all_named v.items) result (regions_from [] (items_view items.now)) }
+{
+    let mut regions = Vec::new(alloc);
+    for value in items {
+        let entry = next_region(&regions, value)?;
+        let name = String::from_str(alloc, entry.name)?;
+        regions.push(Region {
+            name,
+            extent: entry.extent,
+        })?;
+    }
+    Ok(regions)
+}
+
+fn are_tables(items: &[Value]) -> bool
+    ensures { result ≡ are_tables (items_view items.now) }
+{
+    items.iter().all(|value| value.is_table())
+}
+
+#[tactic(auto, using(crate::proofs::Trees::count_of_view))]
+fn are_regions(items: &[Value]) -> bool
+    ensures is { result ≡ are_regions (items_view items.now) }
+    ensures within { IsTrue result → length items.now ≤ 64 }
+{
+    if items.is_empty() || MOST_REGIONS < items.len() {
+        return false;
+    }
+    are_tables(items)
+}
+
+#[tactic(auto, unfolding(crate::specs::Reading::tables_at))]
+fn tables_at(table: &Table, spot: Spot) -> Result<&[Value], SettingsError>
+    ensures gives { Reads (λ s. items_view s.now) result (tables_at spot (table_view table.now)) }
+    ensures within { IfOk result (λ s. length s.now ≤ 64) }
+{
+    match value_at(table, spot)?.as_array() {
+        Some(items) if are_regions(items) => Ok(items),
+        _ => Err(SettingsError::Range(spot)),
+    }
+}
+
+#[tactic(auto, unfolding(crate::specs::Reading::configuration_of))]
+pub(crate) fn fields_of(alloc: Global, table: &Table) -> Result<Fields, SettingsError>
+    ensures { Gives configured result (configuration_of (table_view table.now)) }
+{
+    only_known(table, None)?;
+    let frames = number_at(table, Spot::Top(TopKey::Frames), 1, 4096)?;
+    let page_bytes = number_at(table, Spot::Top(TopKey::PageBytes), 64, 65_536)?;
+    let workers = number_at(table, Spot::Top(TopKey::Workers), 1, 32)?;
+    let flushes = number_at(table, Spot::Top(TopKey::Flushes), 0, 100_000)?;
+    let tables = tables_at(table, Spot::Top(TopKey::Region))?;
+    let regions = regions_of(alloc, tables)?;
+    Ok(Fields {
+        frames,
+        page_bytes,
+        workers,
+        flushes,
+        regions,
+    })
+}
+
+/// The text's document, as the TOML reader gives it.
+pub(crate) fn document_of(alloc: Global, text: &str) -> Result<Table, SettingsError>
+    ensures { Gives table_view result (ok_or (parse_document text.now) NotToml) }
+{
+    match toml::table_from_str(alloc, text) {
+        Ok(table) => Ok(table),
+        Err(error) if error.is_memory() => Err(SettingsError::OutOfMemory),
+        Err(_) => Err(SettingsError::NotToml),
+    }
+}
