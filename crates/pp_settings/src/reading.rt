@@ -73,8 +73,7 @@ fn only_known(table: &Table, region: Option<u8>) -> Result<(), SettingsError>
 
 #[tactic(auto, unfolding(crate::specs::Reading::extent_at))]
 fn extent_at(table: &Table, region: u8) -> Result<Extent, SettingsError>
-    ensures gives { Reads (λ e. e) result (extent_at region (table_view table.now)) }
-    ensures within { IfOk result (λ e. e.first + e.count ≤ 65536) }
+    ensures { Reads (λ e. e) result (extent_at region (table_view table.now)) }
 {
     let first = number_at(table, Spot::InRegion(region, RegionKey::First), 0, 65_535)?;
     let room = 65_536 - first;
@@ -89,8 +88,7 @@ fn extent_at(table: &Table, region: u8) -> Result<Extent, SettingsError>
 
 #[tactic(auto, unfolding(crate::specs::Reading::region_at))]
 fn region_at(table: &Table, region: u8) -> Result<Entry<'_>, SettingsError>
-    ensures gives { Reads entered result (region_at region (table_view table.now)) }
-    ensures within { IfOk result (λ e. e.extent.first + e.extent.count ≤ 65536) }
+    ensures { Reads entered result (region_at region (table_view table.now)) }
 {
     only_known(table, Some(region))?;
     let name = name_at(table, Spot::InRegion(region, RegionKey::Name))?;
@@ -130,8 +128,7 @@ fn beside(earlier: &[Region], entry: &Entry<'_>) -> Result<(), SettingsError>
 #[tactic(auto, using(crate::proofs::Trees::all_named_length), unfolding(crate::specs::Reading::next_region))]
 fn next_region<'a>(earlier: &[Region], value: &'a Value) -> Result<Entry<'a>, SettingsError>
     requires { length earlier.now < 256 }
-    ensures gives { Reads entered result (next_region (all_named earlier.now) (view value.now)) }
-    ensures within { IfOk result (λ e. e.extent.first + e.extent.count ≤ 65536) }
+    ensures { Reads entered result (next_region (all_named earlier.now) (view value.now)) }
 {
     let table = match value.as_table() {
         Some(table) => table,

@@ -1,0 +1,36 @@
+-- What a certificate claims, apart from where it lies in memory.
+use Rattle.std.specs.Prelude.{ℕ, List, ◌<◌, ◌≤◌, length, All, AllPairs}
+use Rattle.pp_settings.specs.Settings.{Configuration}
+use Rattle.pp_plan.specs.Terms.{Terms}
+use Rattle.pp_cert.specs.declared.note.Entry.{Entry}
+use Rattle.pp_cert.specs.declared.certificate.Certificate.{Certificate}
+
+-- The note at each place, the most slots held at once, and the most actions of a trace.
+pub record Claims : Type 0 where
+  pub notes : List (List Entry)
+  pub peak : ℕ
+  pub steps : ℕ
+
+-- The claims of a certificate in memory.
+abbrev pub claims_of : Certificate → Claims
+claims_of c = record { notes = c.notes.items; peak = c.peak; steps = c.steps }
+
+-- At most 70,000 notes, and at most 32 entries in each.
+pub record AreFew (notes : List (List Entry)) : Type 0 where
+  pub notes_few : length notes ≤ 70000
+  pub entries_few : All (λ note. length note ≤ 32) notes
+
+-- The entry's slot is one of the plan's, and its region one of the settings'.
+pub record IsEntry (c : Configuration) (p : Terms) (e : Entry) : Type 0 where
+  pub slot : e.slot < length p.slots
+  pub region : e.region < length c.regions
+
+-- The entries are the plan's and the settings', and stand by rising slot.
+pub record IsNote (c : Configuration) (p : Terms) (note : List Entry) : Type 0 where
+  pub entries : All (IsEntry c p) note
+  pub rising : AllPairs (λ d e. d.slot < e.slot) note
+
+-- Claims that a text can spell: each note is in form, and notes and entries are few enough.
+pub record AreClaims (c : Configuration) (p : Terms) (t : Claims) : Type 0 where
+  pub few : AreFew t.notes
+  pub notes : All (IsNote c p) t.notes

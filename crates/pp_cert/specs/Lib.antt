@@ -1,0 +1,16 @@
+pub mod Slots
+pub mod Held
+pub mod Notes
+pub mod Longest
+pub mod Claims
+pub mod Walk
+pub mod Accepted
+pub mod CheckErrors
+pub mod Refusals
+pub mod TextRefusals
+pub mod Words
+pub mod Steps
+pub mod Reading
+pub mod Spelling
+pub mod Writing
+pub mod Tree

@@ -1,0 +1,216 @@
+-- What a certificate has to say of a plan: the places of its notes, the tests in the order of a walk over the plan,
+-- and the first of them that fails.
+use Rattle.std.specs.Prelude.{ℕ, ◌+◌, Bool, ◌==◌, ◌&&◌, not, nat_le, if◌then◌else◌, Option, None, Some, is_some, Result, Ok, Err, List, [], ◌∷◌, ◌++◌, length, slice_get, unwrap_or}
+use Rattle.std.specs.Cmp.Lexicographic.{pointwise}
+use Rattle.pp_settings.specs.Layout.{Geometry}
+use Rattle.pp_settings.specs.declared.extent.Extent.{Extent}
+use Rattle.pp_plan.specs.Tree.{Step, fix, unfix, latch, unlatch, Statement, step, loop, choice, Sequence, done, andthen, Alternatives, none, either}
+use Rattle.pp_plan.specs.Terms.{Terms}
+use Rattle.pp_cert.specs.declared.certificate.Certificate.{Certificate}
+pub use Rattle.pp_cert.specs.Claims.{Claims, claims_of}
+use Rattle.pp_cert.specs.declared.check_error.CheckError.{CheckError}
+use Rattle.pp_cert.specs.declared.check_error.CheckError.TheVariants.{NotesShort, NotesLong, NoteDiffers, SlotInUse, NotFixed, StillLatched, NotLatched, AgainstOrder, OverPeak, LoopChanges, BranchDiffers, EndsHolding, StepsTooFew, StepsTooMany, PeakTooBig, OtherSettings}
+use Rattle.pp_cert.specs.Held.{is_latched_page}
+use Rattle.pp_cert.specs.Notes.{Entries, same_note, noted_at, noted_after, is_above_latched}
+use Rattle.pp_cert.specs.Longest.{sequence_longest}
+
+-- The note at place k; the empty one where none is left.
+abbrev pub note_at : Claims → ℕ → Entries
+note_at c k = unwrap_or (slice_get c.notes k) []
+
+-- ---- places: before each statement of a body one, then those of the statement's own bodies in order, and at each body's end one
+
+abbrev mutual
+  -- The next place after those of a statement that stands at place k.
+  pub statement_end : ℕ → Statement → ℕ
+  statement_end k (step s) = k + 1
+  statement_end k (loop n b) = sequence_end (k + 1) b + 1
+  statement_end k (choice bs) = alternatives_end (k + 1) bs
+
+  -- The place at the end of a body whose first place is k.
+  pub sequence_end : ℕ → Sequence → ℕ
+  sequence_end k done = k
+  sequence_end k (andthen s b) = sequence_end (statement_end k s) b
+
+  -- The next place after those of branches, the first of which begins at place k.
+  pub alternatives_end : ℕ → Alternatives → ℕ
+  alternatives_end k none = k
+  alternatives_end k (either b bs) = alternatives_end (sequence_end k b + 1) bs
+
+-- ---- expected notes
+
+-- What a note is to be: empty, the same as the note at an earlier place, or what is noted after a step from there.
+pub data Expectation : Type 0 where
+  empty : Expectation
+  same : (place : ℕ) → Expectation
+  after : Step → (place : ℕ) → Expectation
+
+-- The expected note, written from the notes at lower places.
+abbrev pub expected_note : Claims → Expectation → Entries
+expected_note c empty = []
+expected_note c (same k) = note_at c k
+expected_note c (after s k) = noted_after s (note_at c k)
+
+-- What is held after the statement at place k. A loop leaves what was held before it; a choice what is held at the
+-- end of its first branch.
+abbrev pub outcome : ℕ → Statement → Expectation
+outcome k (step s) = after s k
+outcome k (loop n b) = same k
+outcome k (choice none) = same k
+outcome k (choice (either b bs)) = same (sequence_end (k + 1) b)
+
+-- ---- the tests
+
+-- A test of a certificate. A place is that of the note that is looked at.
+pub data Test : Type 0 where
+  -- the plan was read for this layout
+  same_settings : Geometry → Test
+  -- there is a note
+  there : (place : ℕ) → Test
+  -- it is the expected one
+  as_expected : (place : ℕ) → Expectation → Test
+  -- it has at most as many entries as the peak
+  within_peak : (place : ℕ) → Test
+  -- the slot holds nothing, or something; its page isn't latched, or is; its class is above every class that is latched
+  slot_unused : (place slot : ℕ) → Test
+  slot_fixed : (place slot : ℕ) → Test
+  slot_unlatched : (place slot : ℕ) → Test
+  slot_latched : (place slot : ℕ) → Test
+  slot_in_order : (place slot : ℕ) → Test
+  -- it is the note before the loop
+  loop_keeps : (place before : ℕ) → Test
+  -- it is the note at the end of the first branch
+  branch_agrees : (place first : ℕ) → Test
+  -- it is empty
+  holds_nothing : (place : ℕ) → Test
+  -- there are no more notes than these
+  no_more_notes : (count : ℕ) → Test
+  -- at most 1,000,000 steps, at least as many as the longest trace has, and a peak of at most the frames
+  steps_allowed : Test
+  steps_enough : (longest : ℕ) → Test
+  peak_allowed : Test
+
+-- The most steps that a certificate may claim.
+abbrev pub most_steps : ℕ
+most_steps = 1000000
+
+abbrev pub same_extent : Extent → Extent → Bool
+same_extent d e = d.first == e.first && d.count == e.count && d.class == e.class
+
+-- Whether two layouts are the same.
+abbrev pub same_layout : Geometry → Geometry → Bool
+same_layout g h = g.frames == h.frames && pointwise same_extent g.extents h.extents
+
+-- Whether the test holds of what the certificate claims, under the settings' layout.
+abbrev pub passes : Geometry → Claims → Test → Bool
+passes g c (same_settings h) = same_layout g h
+passes g c (there k) = is_some (slice_get c.notes k)
+passes g c (as_expected k e) = same_note (note_at c k) (expected_note c e)
+passes g c (within_peak k) = nat_le (length (note_at c k)) c.peak
+passes g c (slot_unused k s) = not (is_some (noted_at (note_at c k) s))
+passes g c (slot_fixed k s) = is_some (noted_at (note_at c k) s)
+passes g c (slot_unlatched k s) = not (is_latched_page (noted_at (note_at c k) s))
+passes g c (slot_latched k s) = is_latched_page (noted_at (note_at c k) s)
+passes g c (slot_in_order k s) = is_above_latched g (note_at c k) s
+passes g c (loop_keeps k before) = same_note (note_at c k) (note_at c before)
+passes g c (branch_agrees k first) = same_note (note_at c k) (note_at c first)
+passes g c (holds_nothing k) = length (note_at c k) == 0
+passes g c (no_more_notes n) = nat_le (length c.notes) n
+passes g c steps_allowed = nat_le c.steps most_steps
+passes g c (steps_enough n) = nat_le n c.steps
+passes g c peak_allowed = nat_le c.peak g.frames
+
+-- What is answered where the test fails.
+abbrev pub fault_of : Test → CheckError
+fault_of (same_settings h) = OtherSettings
+fault_of (there k) = NotesShort k
+fault_of (as_expected k e) = NoteDiffers k
+fault_of (within_peak k) = OverPeak k
+fault_of (slot_unused k s) = SlotInUse k
+fault_of (slot_fixed k s) = NotFixed k
+fault_of (slot_unlatched k s) = StillLatched k
+fault_of (slot_latched k s) = NotLatched k
+fault_of (slot_in_order k s) = AgainstOrder k
+fault_of (loop_keeps k before) = LoopChanges k
+fault_of (branch_agrees k first) = BranchDiffers k
+fault_of (holds_nothing k) = EndsHolding k
+fault_of (no_more_notes n) = NotesLong n
+fault_of steps_allowed = StepsTooMany
+fault_of (steps_enough n) = StepsTooFew
+fault_of peak_allowed = PeakTooBig
+
+-- ---- the tests in the order of the walk
+
+-- Of each note that is wanted.
+abbrev pub note_tests : ℕ → Expectation → List Test
+note_tests k e = there k ∷ as_expected k e ∷ within_peak k ∷ []
+
+-- Of a step, at the place of the note before it.
+abbrev pub step_tests : ℕ → Step → List Test
+step_tests k (fix s r) = slot_unused k s ∷ []
+step_tests k (unfix s) = slot_fixed k s ∷ slot_unlatched k s ∷ []
+step_tests k (latch s m) = slot_fixed k s ∷ slot_unlatched k s ∷ slot_in_order k s ∷ []
+step_tests k (unlatch s) = slot_fixed k s ∷ slot_latched k s ∷ []
+
+abbrev mutual
+  -- Of a statement at place k: a step's own; those of a loop's body, from its first note on, which
+  -- ends as it begins; those of a choice's branches, which end alike.
+  pub statement_tests : ℕ → Statement → List Test
+  statement_tests k (step s) = step_tests k s
+  statement_tests k (loop n b) =
+      note_tests (k + 1) (same k) ++ sequence_tests (k + 1) b ++ loop_keeps (sequence_end (k + 1) b) k ∷ []
+  statement_tests k (choice none) = []
+  statement_tests k (choice (either b bs)) =
+      note_tests (k + 1) (same k) ++ sequence_tests (k + 1) b ++ later_tests k (sequence_end (k + 1) b) (sequence_end (k + 1) b + 1) bs
+
+  -- Of a body after its first note, at place k: for each statement its own, and then those of the note after it.
+  pub sequence_tests : ℕ → Sequence → List Test
+  sequence_tests k done = []
+  sequence_tests k (andthen s b) =
+      statement_tests k s ++ note_tests (statement_end k s) (outcome k s) ++ sequence_tests (statement_end k s) b
+
+  -- Of the second and later branches of the choice at place `before`, the next of which begins at place k; the first
+  -- branch ends at place `first`.
+  pub later_tests : (before first k : ℕ) → Alternatives → List Test
+  later_tests before first k none = []
+  later_tests before first k (either b bs) =
+      note_tests k (same before)
+      ++ sequence_tests k b
+      ++ branch_agrees (sequence_end k b) first
+      ∷ later_tests before first (sequence_end k b + 1) bs
+
+-- All tests of a certificate of the plan.
+abbrev pub tests : Terms → List Test
+tests p =
+    same_settings p.layout
+    ∷ note_tests 0 empty
+    ++ sequence_tests 0 p.body
+    ++ holds_nothing (sequence_end 0 p.body)
+    ∷ no_more_notes (sequence_end 0 p.body + 1)
+    ∷ steps_allowed
+    ∷ steps_enough (sequence_longest p.body)
+    ∷ peak_allowed
+    ∷ []
+
+-- ---- the first fault
+
+-- What the first test that fails answers, if one fails.
+abbrev pub first_fault : Geometry → Claims → List Test → Option CheckError
+first_fault g c [] = None
+first_fault g c (t ∷ ts) = if passes g c t then first_fault g c ts else Some (fault_of t)
+
+-- The value where there is no fault, else the fault.
+abbrev pub unless : {A : Type 0} → Option CheckError → A → Result A CheckError
+unless None a = Ok a
+unless (Some fault) a = Err fault
+
+-- ---- what the parts of the walk answer
+
+-- What a walk through the tests answers that goes on at place k.
+abbrev pub walked : Geometry → Certificate → List Test → ℕ → Result ℕ CheckError
+walked g c ts k = unless (first_fault g (claims_of c) ts) k
+
+-- What the note at place k answers, where it is known whether it is the expected one.
+abbrev pub note_fault : Claims → ℕ → Bool → Option CheckError
+note_fault c k is_expected =
+    if is_some (slice_get c.notes k) then (if is_expected then (if nat_le (length (note_at c k)) c.peak then None else Some (OverPeak k)) else Some (NoteDiffers k)) else Some (NotesShort k)

@@ -1,0 +1,38 @@
+-- The text of a certificate: without white space, keys in byte order.
+use Rattle.std.specs.Prelude.{ℕ, List, [], ◌++◌, map, codes, slice_get, unwrap_or}
+use Rattle.std.specs.Fmt.{decimal}
+use Rattle.std.specs.List.{join_with_byte}
+use Rattle.pp_settings.specs.Settings.{Configuration, name_of}
+use Rattle.pp_plan.specs.Terms.{Terms}
+use Rattle.pp_cert.specs.declared.note.Entry.{Entry}
+use Rattle.pp_cert.specs.Claims.{Claims}
+use Rattle.pp_cert.specs.Words.{held_text}
+
+-- The name of the slot with this number.
+abbrev pub slot_name : Terms → ℕ → List ℕ
+slot_name p slot = unwrap_or (slice_get p.slots slot) []
+
+-- The name of the region with this number.
+abbrev pub region_name : Configuration → ℕ → List ℕ
+region_name c region = unwrap_or (name_of c region) []
+
+-- A word in quotes.
+abbrev pub in_quotes : List ℕ → List ℕ
+in_quotes word = codes "\"" ++ word ++ codes "\""
+
+-- Texts with a comma between each two.
+abbrev pub with_commas : List (List ℕ) → List ℕ
+with_commas texts = join_with_byte 44 texts
+
+-- An entry, as in `"a":["root","-"]`.
+abbrev pub entry_text : Configuration → Terms → Entry → List ℕ
+entry_text c p e = in_quotes (slot_name p e.slot) ++ codes ":[" ++ in_quotes (region_name c e.region) ++ codes "," ++ in_quotes (held_text e.held) ++ codes "]"
+
+-- A note, as in `{"a":["root","S"],"b":["leaf","-"]}`.
+abbrev pub note_text : Configuration → Terms → List Entry → List ℕ
+note_text c p note = codes "{" ++ with_commas (map (entry_text c p) note) ++ codes "}"
+
+-- A certificate, as in `{"notes":[{},{}],"peak":0,"steps":0}`.
+abbrev pub certificate_text : Configuration → Terms → Claims → List ℕ
+certificate_text c p t =
+    codes "{\"notes\":[" ++ with_commas (map (note_text c p) t.notes) ++ codes "],\"peak\":" ++ decimal t.peak ++ codes ",\"steps\":" ++ decimal t.steps ++ codes "}"

@@ -1,0 +1,77 @@
+//! A certificate.
+
+ghost use Rattle.std.specs.Prelude.{◌≡◌, ◌<◌, Ok, Err, IfOk, IsOkUnless, length, string_bytes};
+ghost use Rattle.pp_cert.specs.declared.error.CertError.TheVariants.{OutOfMemory};
+ghost use Rattle.pp_cert.specs.Steps.{Gives};
+
+use crate::error::CertError;
+use crate::note::Note;
+use crate::reading::read;
+use crate::writing::certificate_value;
+use pp_plan::Plan;
+use pp_settings::Settings;
+use std::alloc::Global;
+
+/// What a certificate claims of a plan: what is held at each place, the most slots held at once and the
+/// most actions done. Nothing of it is believed before `check` accepted it.
+#[derive(Debug, Drop)]
+pub struct Certificate {
+    /// The most slots held at once.
+    pub peak: u64,
+    /// The most actions of a trace.
+    pub steps: u64,
+    /// The note at each place, by number.
+    pub notes: Vec<Note>,
+}
+
+impl Certificate {
+    ghost use Rattle.pp_cert.specs.Claims.{Claims, claims_of, AreClaims};
+    ghost use Rattle.pp_cert.specs.Reading.{reading};
+    ghost use Rattle.pp_cert.specs.Spelling.{IsText};
+    ghost use Rattle.pp_cert.specs.Writing.{certificate_text};
+
+    /// The certificate that the text spells under the settings and the plan, or why it spells none.
+    pub fn from_text(
+        alloc: Global,
+        settings: &Settings,
+        plan: &Plan,
+        text: &str,
+    ) -> Result<Certificate, CertError>
+        // What is accepted is spelled so: each entry and number, and nothing else stands in the text.
+        ensures found { IfOk result (λ c. IsText settings.now plan.now text.now (claims_of c)) }
+        // What is spelled so is accepted, unless memory runs out.
+        ensures only { (t : Claims) → IsText settings.now plan.now text.now t → Gives claims_of result (Ok t) }
+        // Which refusal it is.
+        ensures exact { Gives claims_of result (reading settings.now plan.now text.now) }
+        // What is accepted can be written again.
+        ensures writable { IfOk result (λ c. AreClaims settings.now plan.now (claims_of c)) }
+        // Memory is never wanted for an empty text.
+        ensures memory { result ≡ Err OutOfMemory → 0 < length text.now }
+    {
+        // The plan's slot names stand in byte order, as its statements tell.
+        let _body = plan.body();
+        read(alloc, settings, plan, text)
+    }
+
+    /// The text of the certificate, which has no white space and its keys in byte order, as in
+    /// `{"notes":[{"a":["root","-"]},{}],"peak":2,"steps":8}`.
+    pub fn to_text(
+        &self,
+        alloc: Global,
+        settings: &Settings,
+        plan: &Plan,
+    ) -> Result<String, CertError>
+        // Slots rise in each note and are the plan's, regions are the settings', and notes and entries are few enough.
+        requires { AreClaims settings.now plan.now (claims_of self.now) }
+        ensures text { IfOk result (λ s. string_bytes s ≡ certificate_text settings.now plan.now (claims_of self.now)) }
+        // Under the same settings and plan the text reads as the same certificate.
+        ensures reads_back { IfOk result (λ s. reading settings.now plan.now (string_bytes s) ≡ Ok (claims_of self.now)) }
+        ensures only_memory { IsOkUnless result OutOfMemory }
+    {
+        // Names have no byte that a JSON text escapes, as the layout and the statements tell.
+        let _layout = settings.layout();
+        let _body = plan.body();
+        let value = certificate_value(alloc, settings, plan, self)?;
+        Ok(value.to_string(alloc)?)
+    }
+}

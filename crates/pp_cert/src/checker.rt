@@ -1,0 +1,150 @@
+//! The check of a certificate.
+
+ghost use Rattle.std.specs.Prelude.{◌≡◌, ◌<◌, ◌+◌, ◌^◌, ◌↔◌, ◌++◌, [], ◌∷◌, IsOk, IfOk, IfErr};
+ghost use Rattle.pp_settings.specs.Settings.{geometry_of};
+ghost use Rattle.pp_plan.specs.View.{sequence_of};
+ghost use Rattle.pp_plan.specs.Terms.{IsPlan};
+ghost use Rattle.pp_cert.specs.Walk.{claims_of, tests, first_fault, walked, note_tests, sequence_tests, sequence_end, empty, same_layout, holds_nothing, no_more_notes, steps_allowed, steps_enough, peak_allowed};
+ghost use Rattle.pp_cert.specs.Longest.{sequence_longest, IsLongest};
+ghost use Rattle.pp_cert.specs.Accepted.{IsAccepted};
+
+use crate::accepted::Accepted;
+use crate::certificate::Certificate;
+use crate::check_error::CheckError;
+use crate::longest::longest;
+use crate::walk::Walk;
+use pp_plan::{Plan, Stmt};
+use pp_settings::{Layout, Settings};
+
+/// The most steps that a certificate may claim.
+pub const MOST_STEPS: u64 = 1_000_000;
+
+/// Accepts the plan where its certificate passes every test under the layout of the settings; else gives the plan
+/// back with the first fault.
+///
+/// It takes no memory. What it does grows with the statements of the plan and the entries of the notes. Nothing that
+/// the certificate says is believed before it is tested.
+///
+/// # Errors
+///
+/// The first test that fails, in the order of the walk over the plan: see `CheckError`.
+pub fn check_under(
+    layout: &Layout,
+    plan: Plan,
+    certificate: &Certificate,
+) -> Result<Accepted, (Plan, CheckError)>
+    // It is Ok exactly where no test fails.
+    ensures ok { IsOk result
+        ↔ (first_fault layout.now (claims_of certificate.now) (tests plan) ≡ None) }
+    // Else the plan comes back as it was, with the first fault.
+    ensures err { IfErr result (λ refused. (refused.0 ≡ plan)
+        × (first_fault layout.now (claims_of certificate.now) (tests plan) ≡ Some refused.1)) }
+    // What is accepted is the plan with the peak and the steps that were handed in.
+    ensures accepted { IfOk result (λ accepted. accepted
+        ≡ record { plan = plan; peak = certificate.now.peak; steps = certificate.now.steps }) }
+    // What holds of it.
+    ensures facts { IfOk result IsAccepted }
+    // The length that the steps are tested against is that of the longest trace.
+    ensures longest { IsLongest plan.layout plan.body (sequence_longest plan.body) }
+{
+    match fault_of(layout, &plan, certificate) {
+        Some(fault) => Err((plan, fault)),
+        None => Ok(Accepted::new(plan, certificate.peak, certificate.steps)),
+    }
+}
+
+/// Accepts the plan under the settings where its certificate passes every test; else gives the plan back with the
+/// first fault. It is the check under the layout of the settings.
+///
+/// # Errors
+///
+/// The first test that fails, in the order of the walk over the plan: see `CheckError`.
+pub fn check(
+    settings: &Settings,
+    plan: Plan,
+    certificate: &Certificate,
+) -> Result<Accepted, (Plan, CheckError)>
+    // It is Ok exactly where no test fails.
+    ensures ok { IsOk result
+        ↔ (first_fault (geometry_of settings.now) (claims_of certificate.now) (tests plan) ≡ None) }
+    // Else the plan comes back as it was, with the first fault.
+    ensures err { IfErr result (λ refused. (refused.0 ≡ plan)
+        × (first_fault (geometry_of settings.now) (claims_of certificate.now) (tests plan) ≡ Some refused.1)) }
+    // What is accepted is the plan with the peak and the steps that were handed in.
+    ensures accepted { IfOk result (λ accepted. accepted
+        ≡ record { plan = plan; peak = certificate.now.peak; steps = certificate.now.steps }) }
+    // What holds of it.
+    ensures facts { IfOk result IsAccepted }
+    // The length that the steps are tested against is that of the longest trace.
+    ensures longest { IsLongest plan.layout plan.body (sequence_longest plan.body) }
+{
+    check_under(&settings.layout(), plan, certificate)
+}
+
+/// The first fault of the certificate, if it has one.
+fn fault_of(layout: &Layout, plan: &Plan, certificate: &Certificate) -> Option<CheckError>
+    ensures is { result ≡ first_fault layout.now (claims_of certificate.now) (tests plan.now) }
+    ensures facts { IsPlan plan.now }
+{
+    let stmts = plan.body();
+    if !is_same_layout(layout, &plan.layout()) {
+        return Some(CheckError::OtherSettings);
+    }
+    let walk = Walk {
+        layout,
+        certificate,
+    };
+    match walk_over(&walk, stmts) {
+        Err(fault) => Some(fault),
+        Ok(end) => last_fault(&walk, stmts, end),
+    }
+}
+
+/// Whether two layouts are the same.
+fn is_same_layout(left: &Layout, right: &Layout) -> bool
+    ensures { result ≡ same_layout left.now right.now }
+{
+    left.frames() == right.frames() && left.extents() == right.extents()
+}
+
+/// Walks over a plan's statements, and answers the place at their end.
+fn walk_over(walk: &Walk<'_>, stmts: &[Stmt]) -> Result<u32, CheckError>
+    requires { sequence_end 0 (sequence_of stmts.now) < 2 ^ 32 }
+    ensures { result
+        ≡ walked walk.now.layout.now walk.now.certificate.now
+        (note_tests 0 empty ++ sequence_tests 0 (sequence_of stmts.now)) (sequence_end 0 (sequence_of stmts.now)) }
+{
+    let first = walk.begin()?;
+    walk.sequence(first, stmts)
+}
+
+/// The fault that is found after the walk, if there is one.
+fn last_fault(walk: &Walk<'_>, stmts: &[Stmt], end: u32) -> Option<CheckError>
+    requires { end + 1 < 2 ^ 32 }
+    ensures { result
+        ≡ first_fault walk.now.layout.now (claims_of walk.now.certificate.now)
+        (holds_nothing end
+        ∷ no_more_notes (end + 1)
+        ∷ steps_allowed
+        ∷ steps_enough (sequence_longest (sequence_of stmts.now))
+        ∷ peak_allowed
+        ∷ []) }
+{
+    let certificate = walk.certificate;
+    if !walk.entries(end).is_empty() {
+        return Some(CheckError::EndsHolding { place: end });
+    }
+    if certificate.notes.len() > end as usize + 1 {
+        return Some(CheckError::NotesLong { place: end + 1 });
+    }
+    if certificate.steps > MOST_STEPS {
+        return Some(CheckError::StepsTooMany);
+    }
+    if certificate.steps < longest(stmts) {
+        return Some(CheckError::StepsTooFew);
+    }
+    if certificate.peak > u64::from(walk.layout.frames()) {
+        return Some(CheckError::PeakTooBig);
+    }
+    None
+}

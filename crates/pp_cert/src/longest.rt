@@ -1,0 +1,58 @@
+//! The length of the longest trace.
+
+ghost use Rattle.std.specs.Prelude.{◌≡◌, min};
+ghost use Rattle.pp_plan.specs.View.{statement_of, sequence_of, alternatives_of};
+ghost use Rattle.pp_cert.specs.Longest.{statement_longest, sequence_longest, alternatives_longest};
+
+use pp_plan::{Body, Branches, Stmt};
+
+/// Where counting stops: one more than any steps that are allowed.
+pub(crate) const COUNTED: u64 = 1_000_001;
+
+/// The most actions of a trace of the statements, or `COUNTED` where there are more.
+#[cycle(longest)]
+#[tactic(auto, using(crate::proofs::Rules::walks))]
+pub(crate) fn longest(stmts: &[Stmt]) -> u64
+    ensures { result ≡ min (sequence_longest (sequence_of stmts.now)) COUNTED }
+{
+    let mut sum = 0;
+    for stmt in stmts {
+        sum = (sum + longest_of_stmt(stmt)).min(COUNTED);
+    }
+    sum
+}
+
+/// The most actions of a trace of one statement, or `COUNTED`.
+#[cycle(longest)]
+#[tactic(auto, using(crate::proofs::Rules::walks))]
+fn longest_of_stmt(stmt: &Stmt) -> u64
+    ensures { result ≡ min (statement_longest (statement_of stmt.now)) COUNTED }
+{
+    match stmt {
+        Stmt::Fix { .. } | Stmt::Unfix { .. } | Stmt::Latch { .. } | Stmt::Unlatch { .. } => 1,
+        Stmt::Loop { count, body } => (u64::from(*count) * longest_of_body(body)).min(COUNTED),
+        Stmt::Choice { branches } => (1 + longest_of_branches(branches)).min(COUNTED),
+    }
+}
+
+/// The most actions of a trace of a body, or `COUNTED`.
+#[cycle(longest)]
+#[tactic(auto, using(crate::proofs::Rules::walks))]
+fn longest_of_body(body: &Body) -> u64
+    ensures { result ≡ min (sequence_longest body.now) COUNTED }
+{
+    longest(body.stmts())
+}
+
+/// The most actions of a trace of one of the branches, or `COUNTED`.
+#[cycle(longest)]
+#[tactic(auto, using(crate::proofs::Rules::walks))]
+fn longest_of_branches(branches: &Branches) -> u64
+    ensures { result ≡ min (alternatives_longest branches.now) COUNTED }
+{
+    let mut most = 0;
+    for body in branches.bodies() {
+        most = longest_of_body(body).max(most);
+    }
+    most
+}

@@ -1,0 +1,258 @@
+//! The walk over a plan beside the notes of its certificate.
+
+ghost use Rattle.std.specs.Prelude.{◌≡◌, ◌<◌, ◌+◌, ◌^◌, ◌++◌, [], ◌∷◌};
+ghost use Rattle.pp_plan.specs.Tree.{fix, unfix, latch, unlatch, choice, loop};
+ghost use Rattle.pp_plan.specs.View.{statement_of, sequence_of, alternatives_of};
+
+use crate::certificate::Certificate;
+use crate::check_error::CheckError;
+use crate::entries::{is_above_latched, is_held_as, is_inserted, is_removed, is_same, noted_at};
+use crate::note::{Entry, Held};
+use pp_plan::{Body, Branches, Mode, Stmt};
+use pp_settings::Layout;
+
+/// A walk over a plan under the layout of some settings, beside the notes of a certificate.
+///
+/// Each call is handed the place of the note before what it walks over, whose tests have passed, and answers the
+/// next place, whose tests have passed too, or else the first fault.
+#[derive(Clone, Copy)]
+pub(crate) struct Walk<'a> {
+    /// The settings' layout.
+    pub(crate) layout: &'a Layout,
+    /// The certificate.
+    pub(crate) certificate: &'a Certificate,
+}
+
+impl Walk<'_> {
+    ghost use Rattle.pp_cert.specs.Walk.{Test, empty, same, after, slot_fixed, slot_unlatched, claims_of, note_at, walked, note_fault, first_fault, unless, note_tests, step_tests, statement_tests, sequence_tests, later_tests, outcome, statement_end, sequence_end, alternatives_end};
+
+    /// The note at a place; the empty one where none is left.
+    pub(crate) fn entries(&self, place: u32) -> &[Entry]
+        ensures { result.now ≡ note_at (claims_of self.now.certificate.now) place }
+    {
+        match self.certificate.notes.get(place as usize) {
+            Some(note) => note.entries(),
+            None => &[],
+        }
+    }
+
+    /// Tests the note at a place, where it is known whether it is the expected one.
+    fn settle(&self, place: u32, is_expected: bool) -> Result<u32, CheckError>
+        ensures { result ≡ unless (note_fault (claims_of self.now.certificate.now) place is_expected) place }
+    {
+        let Some(note) = self.certificate.notes.get(place as usize) else {
+            return Err(CheckError::NotesShort { place });
+        };
+        if !is_expected {
+            return Err(CheckError::NoteDiffers { place });
+        }
+        if note.entries().len() as u64 > self.certificate.peak {
+            return Err(CheckError::OverPeak { place });
+        }
+        Ok(place)
+    }
+
+    /// Tests the plan's first note, which is empty.
+    pub(crate) fn begin(&self) -> Result<u32, CheckError>
+        ensures { result ≡ walked self.now.layout.now self.now.certificate.now (note_tests 0 empty) 0 }
+    {
+        self.settle(0, is_same(self.entries(0), &[]))
+    }
+
+    /// Tests a note that is to be the same as an earlier one.
+    fn keep(&self, place: u32, before: u32) -> Result<u32, CheckError>
+        ensures { result
+            ≡ walked self.now.layout.now self.now.certificate.now (note_tests place (same before)) place }
+    {
+        self.settle(place, is_same(self.entries(place), self.entries(before)))
+    }
+
+    /// The fault of a statement that wants the slot's page to be unlatched.
+    fn unlatched_fault(&self, at: u32, slot: u8) -> Option<CheckError>
+        ensures { result
+            ≡ first_fault self.now.layout.now (claims_of self.now.certificate.now)
+            (slot_fixed at slot ∷ slot_unlatched at slot ∷ []) }
+    {
+        match noted_at(self.entries(at), slot) {
+            None => Some(CheckError::NotFixed { place: at }),
+            Some(Held::Free) => None,
+            Some(Held::S) | Some(Held::X) => Some(CheckError::StillLatched { place: at }),
+        }
+    }
+
+    /// Walks over a fix.
+    fn fix(&self, at: u32, slot: u8, region: u8) -> Result<u32, CheckError>
+        requires { at + 1 < 2 ^ 32 }
+        ensures { result
+            ≡ walked self.now.layout.now self.now.certificate.now
+            (step_tests at (fix slot region) ++ note_tests (at + 1) (after (fix slot region) at)) (at + 1) }
+    {
+        let before = self.entries(at);
+        if noted_at(before, slot).is_some() {
+            return Err(CheckError::SlotInUse { place: at });
+        }
+        let entry = Entry {
+            slot,
+            region,
+            held: Held::Free,
+        };
+        self.settle(at + 1, is_inserted(before, entry, self.entries(at + 1)))
+    }
+
+    /// Walks over an unfix.
+    fn unfix(&self, at: u32, slot: u8) -> Result<u32, CheckError>
+        requires { at + 1 < 2 ^ 32 }
+        ensures { result
+            ≡ walked self.now.layout.now self.now.certificate.now
+            (step_tests at (unfix slot) ++ note_tests (at + 1) (after (unfix slot) at)) (at + 1) }
+    {
+        if let Some(fault) = self.unlatched_fault(at, slot) {
+            return Err(fault);
+        }
+        let next = self.entries(at + 1);
+        self.settle(at + 1, is_removed(self.entries(at), slot, next))
+    }
+
+    /// Walks over a latch.
+    fn latch(&self, at: u32, slot: u8, mode: Mode) -> Result<u32, CheckError>
+        requires { at + 1 < 2 ^ 32 }
+        ensures { result
+            ≡ walked self.now.layout.now self.now.certificate.now
+            (step_tests at (latch slot mode) ++ note_tests (at + 1) (after (latch slot mode) at)) (at + 1) }
+    {
+        if let Some(fault) = self.unlatched_fault(at, slot) {
+            return Err(fault);
+        }
+        let before = self.entries(at);
+        if !is_above_latched(self.layout, before, slot) {
+            return Err(CheckError::AgainstOrder { place: at });
+        }
+        let held = Held::of(mode);
+        self.settle(at + 1, is_held_as(before, held, slot, self.entries(at + 1)))
+    }
+
+    /// Walks over an unlatch.
+    fn unlatch(&self, at: u32, slot: u8) -> Result<u32, CheckError>
+        requires { at + 1 < 2 ^ 32 }
+        ensures { result
+            ≡ walked self.now.layout.now self.now.certificate.now
+            (step_tests at (unlatch slot) ++ note_tests (at + 1) (after (unlatch slot) at)) (at + 1) }
+    {
+        let before = self.entries(at);
+        match noted_at(before, slot) {
+            None => Err(CheckError::NotFixed { place: at }),
+            Some(Held::Free) => Err(CheckError::NotLatched { place: at }),
+            Some(Held::S) | Some(Held::X) => {
+                let next = self.entries(at + 1);
+                self.settle(at + 1, is_held_as(before, Held::Free, slot, next))
+            }
+        }
+    }
+
+    /// Walks over statements, from the note before the first to the one after the last.
+    #[cycle(walk)]
+    #[tactic(auto, using(crate::proofs::Rules::walks))]
+    pub(crate) fn sequence(&self, first: u32, stmts: &[Stmt]) -> Result<u32, CheckError>
+        requires { sequence_end first (sequence_of stmts.now) < 2 ^ 32 }
+        ensures { result
+            ≡ walked self.now.layout.now self.now.certificate.now (sequence_tests first (sequence_of stmts.now))
+            (sequence_end first (sequence_of stmts.now)) }
+    {
+        let mut place = first;
+        for stmt in stmts {
+            place = self.statement(place, stmt)?;
+        }
+        Ok(place)
+    }
+
+    /// Walks over one statement and the note after it.
+    #[cycle(walk)]
+    #[tactic(auto, using(crate::proofs::Rules::walks))]
+    fn statement(&self, at: u32, stmt: &Stmt) -> Result<u32, CheckError>
+        requires { statement_end at (statement_of stmt.now) < 2 ^ 32 }
+        ensures { result
+            ≡ walked self.now.layout.now self.now.certificate.now
+            (statement_tests at (statement_of stmt.now)
+            ++ note_tests (statement_end at (statement_of stmt.now)) (outcome at (statement_of stmt.now)))
+            (statement_end at (statement_of stmt.now)) }
+    {
+        match stmt {
+            Stmt::Fix { slot, region } => self.fix(at, *slot, *region),
+            Stmt::Unfix { slot } => self.unfix(at, *slot),
+            Stmt::Latch { slot, mode } => self.latch(at, *slot, *mode),
+            Stmt::Unlatch { slot } => self.unlatch(at, *slot),
+            Stmt::Loop { body, .. } => self.turns(at, body),
+            Stmt::Choice { branches } => self.choice(at, branches),
+        }
+    }
+
+    /// Walks over a body inside the statement at the place `before`.
+    #[cycle(walk)]
+    #[tactic(auto, using(crate::proofs::Rules::walks))]
+    fn inside(&self, before: u32, first: u32, body: &Body) -> Result<u32, CheckError>
+        requires { sequence_end first body.now < 2 ^ 32 }
+        ensures { result
+            ≡ walked self.now.layout.now self.now.certificate.now
+            (note_tests first (same before) ++ sequence_tests first body.now) (sequence_end first body.now) }
+    {
+        self.keep(first, before)?;
+        self.sequence(first, body.stmts())
+    }
+
+    /// Walks over a loop and the note after it.
+    #[cycle(walk)]
+    #[tactic(auto, using(crate::proofs::Rules::walks))]
+    fn turns(&self, at: u32, body: &Body) -> Result<u32, CheckError>
+        requires { sequence_end (at + 1) body.now + 1 < 2 ^ 32 }
+        ensures { result
+            ≡ walked self.now.layout.now self.now.certificate.now
+            (statement_tests at (loop 1 body.now)
+            ++ note_tests (sequence_end (at + 1) body.now + 1) (same at)) (sequence_end (at + 1) body.now + 1) }
+    {
+        let end = self.inside(at, at + 1, body)?;
+        if !is_same(self.entries(end), self.entries(at)) {
+            return Err(CheckError::LoopChanges { place: end });
+        }
+        self.keep(end + 1, at)
+    }
+
+    /// Walks over a choice and the note after it.
+    #[cycle(walk)]
+    #[tactic(auto, using(crate::proofs::Rules::walks))]
+    fn choice(&self, at: u32, branches: &Branches) -> Result<u32, CheckError>
+        requires { alternatives_end (at + 1) branches.now < 2 ^ 32 }
+        ensures { result
+            ≡ walked self.now.layout.now self.now.certificate.now
+            (statement_tests at (choice branches.now)
+            ++ note_tests (alternatives_end (at + 1) branches.now) (outcome at (choice branches.now)))
+            (alternatives_end (at + 1) branches.now) }
+    {
+        let Some((body, later)) = branches.bodies().split_first() else {
+            return self.keep(at + 1, at);
+        };
+        let first = self.inside(at, at + 1, body)?;
+        let next = self.later(at, first, later)?;
+        self.keep(next, first)
+    }
+
+    /// Walks over the second and later branches of the choice at the place `before`; the first ends at `first`.
+    #[cycle(walk)]
+    #[tactic(auto, using(crate::proofs::Rules::walks))]
+    fn later(&self, before: u32, first: u32, bodies: &[Body]) -> Result<u32, CheckError>
+        requires { alternatives_end (first + 1) (alternatives_of bodies.now) < 2 ^ 32 }
+        ensures { result
+            ≡ walked self.now.layout.now self.now.certificate.now
+            (later_tests before first (first + 1) (alternatives_of bodies.now))
+            (alternatives_end (first + 1) (alternatives_of bodies.now)) }
+    {
+        let mut next = first + 1;
+        for body in bodies {
+            let end = self.inside(before, next, body)?;
+            if !is_same(self.entries(end), self.entries(first)) {
+                return Err(CheckError::BranchDiffers { place: end });
+            }
+            next = end + 1;
+        }
+        Ok(next)
+    }
+}

@@ -1,0 +1,91 @@
+//! Refusals, as the program prints them.
+
+ghost use Rattle.std.specs.Prelude.{◌≡◌};
+ghost use Rattle.pp_cli.specs.declared.refusal.Refusal.TheVariants.{Settings, Plan, Certificate};
+
+use pp_cert::{CertError, CheckError};
+use pp_plan::PlanError;
+use pp_settings::SettingsError;
+use std::fmt;
+
+/// Why the files of `check` are not accepted: the first refusal, in the order of the files.
+#[derive(Clone, Copy, Debug, PartialEq, Eq)]
+pub enum Refusal {
+    /// The first file gives no settings.
+    Settings(SettingsError),
+    /// The second file gives no plan under these settings.
+    Plan(PlanError),
+    /// The third file gives no certificate for this plan.
+    Certificate(CertError),
+    /// The certificate is not one of this plan.
+    Check(CheckError),
+}
+
+impl Refusal {
+    /// Whether this is no refusal of a file, but want of memory.
+    pub fn is_want_of_memory(&self) -> bool {
+        matches!(
+            self,
+            Refusal::Settings(SettingsError::OutOfMemory)
+                | Refusal::Plan(PlanError::OutOfMemory)
+                | Refusal::Certificate(CertError::OutOfMemory)
+        )
+    }
+}
+
+/// The line without its line feed: `refused`, the number, the name and what it is about, as in
+/// `refused 4 Range frames`, `refused 31 NotesShort at 8` and `refused 43 StepsTooFew`.
+impl fmt::Display for Refusal {
+    fn fmt<W: fmt::Write>(&self, f: &mut fmt::Formatter<W>) -> fmt::Result {
+        match self {
+            Refusal::Settings(error) => {
+                let refusal = error.refusal();
+                write!(f, "refused {refusal}")
+            }
+            Refusal::Plan(error) => write_plan_refusal(f, *error),
+            Refusal::Certificate(error) => {
+                let refusal = error.refusal();
+                write!(f, "refused {refusal}")
+            }
+            Refusal::Check(error) => {
+                let refusal = error.refusal();
+                write!(f, "refused {refusal}")
+            }
+        }
+    }
+}
+
+/// Prints why a plan is refused.
+fn write_plan_refusal<W: fmt::Write>(f: &mut fmt::Formatter<W>, error: PlanError) -> fmt::Result {
+    let number = error.number();
+    let name = error.name();
+    write!(f, "refused {number} {name}")?;
+    match error.statement() {
+        Some(statement) => write!(f, " at {statement}"),
+        None => Ok(()),
+    }
+}
+
+impl From<SettingsError> for Refusal {
+    ghost from_gives = { λ error refusal. refusal ≡ Settings error };
+
+    fn from(error: SettingsError) -> Refusal {
+        Refusal::Settings(error)
+    }
+}
+
+impl From<PlanError> for Refusal {
+    ghost from_gives = { λ error refusal. refusal ≡ Plan error };
+
+    fn from(error: PlanError) -> Refusal {
+        Refusal::Plan(error)
+    }
+}
+
+impl From<CertError> for Refusal {
+    ghost from_gives = { λ error refusal. refusal ≡ Certificate error };
+
+    fn from(error: CertError) -> Refusal {
+        Refusal::Certificate(error)
+    }
+}

@@ -1,0 +1,55 @@
+//! What the program's words ask for.
+
+use std::alloc::{AllocError, AllocFailed};
+use thiserror::Error;
+
+/// A command with what it works on. The paths are words of the command line.
+#[derive(Clone, Copy, Debug, PartialEq, Eq)]
+pub enum Job<'a> {
+    /// Check a plan's certificate: `check SETTINGS PLAN CERT`.
+    Check(CheckPaths<'a>),
+}
+
+/// The three files of `check`, by their paths, in the order of the words.
+#[derive(Clone, Copy, Debug, PartialEq, Eq)]
+pub struct CheckPaths<'a> {
+    /// The settings of the pool, a TOML text.
+    pub settings: &'a str,
+    /// The plan, a JSON text.
+    pub plan: &'a str,
+    /// The plan's certificate, a JSON text.
+    pub certificate: &'a str,
+}
+
+/// Why words give no job.
+#[derive(Debug, Drop, Error)]
+pub enum JobError {
+    /// The words ask for the help or the version: this text, which ends with a line feed.
+    #[error("{0}")]
+    Shown(String),
+    /// The words are no command of the program: the fault's text with the usage, which ends with a line feed.
+    #[error("{0}")]
+    Words(String),
+    /// Memory ran out. It says nothing of the words.
+    #[error("out of memory")]
+    OutOfMemory,
+}
+
+ghost use Rattle.std.specs.Prelude.{◌≡◌};
+ghost use Rattle.pp_cli.specs.declared.request.JobError.TheVariants.{OutOfMemory};
+
+impl From<AllocError> for JobError {
+    ghost from_gives = { λ _ e. e ≡ OutOfMemory };
+
+    fn from(_refused: AllocError) -> JobError {
+        JobError::OutOfMemory
+    }
+}
+
+impl<T: Drop> From<AllocFailed<T>> for JobError {
+    ghost from_gives = { λ _ e. e ≡ OutOfMemory };
+
+    fn from(_refused: AllocFailed<T>) -> JobError {
+        JobError::OutOfMemory
+    }
+}
