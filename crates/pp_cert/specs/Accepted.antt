@@ -7,7 +7,7 @@ use Rattle.pp_plan.specs.declared.action.Action.{Action}
 use Rattle.pp_cert.specs.Held.{held, pins, IsLegal, IsOrderly}
 use Rattle.pp_cert.specs.Walk.{most_steps}
 
--- A plan, the most slots that it holds at once, and the most actions that it makes.
+-- A plan, a bound on the slots that it holds at once, and a bound on the actions that it makes.
 pub record Acceptance : Type 0 where
   pub plan : Terms
   pub peak : ℕ

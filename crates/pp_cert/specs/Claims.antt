@@ -5,7 +5,7 @@ use Rattle.pp_plan.specs.Terms.{Terms}
 use Rattle.pp_cert.specs.declared.note.Entry.{Entry}
 use Rattle.pp_cert.specs.declared.certificate.Certificate.{Certificate}
 
--- The note at each place, the most slots held at once, and the most actions of a trace.
+-- The note at each place, a bound on the slots held at once, and a bound on the actions of a trace.
 pub record Claims : Type 0 where
   pub notes : List (List Entry)
   pub peak : ℕ

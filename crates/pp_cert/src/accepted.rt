@@ -6,7 +6,7 @@ use pp_plan::Plan;
 use pp_settings::Layout;
 use std::marker::Model;
 
-/// A plan whose certificate was accepted. Only the check makes one.
+/// A plan whose certificate was accepted. Only `check` and `check_under` make one.
 ///
 /// Every beginning of every trace of the plan fixes, unfixes, latches and unlatches in a legal way, takes latches in
 /// rising classes, holds at most `peak` slots and has at most `steps` actions; every whole trace ends holding nothing.
@@ -52,14 +52,14 @@ impl Accepted {
         &self.plan
     }
 
-    /// The most slots that the plan holds at once.
+    /// A bound on the slots that the plan holds at once.
     pub fn peak(&self) -> u64
         ensures { result ≡ self.now.peak }
     {
         self.peak
     }
 
-    /// The most actions that the plan makes.
+    /// A bound on the actions that the plan makes.
     pub fn steps(&self) -> u64
         ensures { result ≡ self.now.steps }
     {

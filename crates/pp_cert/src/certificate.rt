@@ -12,13 +12,13 @@ use pp_plan::Plan;
 use pp_settings::Settings;
 use std::alloc::Global;
 
-/// What a certificate claims of a plan: what is held at each place, the most slots held at once and the
-/// most actions done. Nothing of it is believed before `check` accepted it.
+/// What a certificate claims of a plan: what is held at each place, and bounds on the slots held at once and on the
+/// actions of a trace. Nothing of it is believed before `check` accepted it.
 #[derive(Debug, Drop)]
 pub struct Certificate {
-    /// The most slots held at once.
+    /// A bound on the slots held at once.
     pub peak: u64,
-    /// The most actions of a trace.
+    /// A bound on the actions of a trace.
     pub steps: u64,
     /// The note at each place, by number.
     pub notes: Vec<Note>,
@@ -31,6 +31,10 @@ impl Certificate {
     ghost use Rattle.pp_cert.specs.Writing.{certificate_text};
 
     /// The certificate that the text spells under the settings and the plan, or why it spells none.
+    ///
+    /// # Errors
+    ///
+    /// The first refusal, in the order that `CertError` gives; `OutOfMemory` where memory runs out before.
     pub fn from_text(
         alloc: Global,
         settings: &Settings,
@@ -55,6 +59,10 @@ impl Certificate {
 
     /// The text of the certificate, which has no white space and its keys in byte order, as in
     /// `{"notes":[{"a":["root","-"]},{}],"peak":2,"steps":8}`.
+    ///
+    /// # Errors
+    ///
+    /// `OutOfMemory` alone.
     pub fn to_text(
         &self,
         alloc: Global,

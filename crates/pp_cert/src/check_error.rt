@@ -7,6 +7,11 @@ use thiserror::Error;
 
 /// Why a certificate is refused: the first test that fails, in the order of the walk over the plan.
 ///
+/// First `OtherSettings`. Then, for each note in turn, `NotesShort`, `NoteDiffers`, `OverPeak`; for the statement behind
+/// it `SlotInUse`, `NotFixed`, `StillLatched`, `NotLatched`, `AgainstOrder`; behind the last note of a loop's body
+/// `LoopChanges`, of a later branch `BranchDiffers`, of the plan `EndsHolding`. Last `NotesLong`, `StepsTooMany`,
+/// `StepsTooFew`, `PeakTooBig`.
+///
 /// `place` is the number of the note that the test is about. `Display` is for people; `refusal` is what the
 /// program prints.
 #[derive(Clone, Copy, Debug, PartialEq, Eq, Error)]
@@ -17,7 +22,8 @@ pub enum CheckError {
     /// There are more notes than places; this is the place of the first one left over.
     #[error("from place {place} on, notes are left over")]
     NotesLong { place: u32 },
-    /// The note isn't what is held after the statement before it.
+    /// The note isn't the expected one: the empty note at the plan's beginning, the note before the loop or the choice at
+    /// the beginning of a body in it, else what is held after the statement before it.
     #[error("the note at place {place} isn't what is held there")]
     NoteDiffers { place: u32 },
     /// A page is fixed into a slot that holds one.

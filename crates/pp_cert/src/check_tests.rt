@@ -5,7 +5,7 @@ use std::alloc::Global;
 use std::process::Abort;
 use std::test::*;
 
-/// Settings of two regions, `root` of class 1 and `leaf` of class 2, behind their number of frames.
+/// Settings of two regions, `root` of class 1 and `leaf`, between their number of frames and the class of `leaf`.
 const REGIONS: &str = "
 page_bytes = 64
 workers = 2
@@ -21,12 +21,11 @@ class = 1
 name = \"leaf\"
 first = 16
 count = 8
-class = 2
-";
+class = ";
 
-/// The settings with this many frames.
-fn settings_of(alloc: Global, frames: u32) -> Result<Settings, Fail> {
-    let text = format!(in alloc; "frames = {frames}{REGIONS}")?;
+/// The settings with this many frames, in which `leaf` has this class.
+fn settings_of(alloc: Global, frames: u32, class: u32) -> Result<Settings, Fail> {
+    let text = format!(in alloc; "frames = {frames}{REGIONS}{class}")?;
     Ok(Settings::from_text(alloc, &text)?)
 }
 
@@ -39,7 +38,7 @@ fn verdict(
     peak: &str,
     steps: &str,
 ) -> Result<String, Fail> {
-    let settings = settings_of(alloc, frames)?;
+    let settings = settings_of(alloc, frames, 2)?;
     let text = format!(in alloc; "{{\"body\":[{statements}],\"version\":1}}")?;
     let plan = Plan::from_text(alloc, &settings, &text)?;
     let text = format!(in alloc; "{{\"notes\":[{notes}],\"peak\":{peak},\"steps\":{steps}}}")?;
@@ -81,7 +80,7 @@ const THREE_FRAMES: &str = r#"accepted peak 0 steps 0 cost 34 |  | {} | 0 | 0
 accepted peak 3 steps 9 cost 61 |  | {} | 3 | 9
 31 NotesShort at 0 |  |  | 0 | 0
 32 NotesLong at 1 |  | {},{} | 0 | 0
-33 NoteDiffers at 0 |  | {"a":["root","-"]} | 0 | 0
+33 NoteDiffers at 0 | {"fix":"a","region":"root"} | {"a":["root","-"]} | 0 | 0
 44 StepsTooMany |  | {} | 4 | 1000001
 45 PeakTooBig |  | {} | 4 | 1000000
 31 NotesShort at 1 | {"fix":"a","region":"root"} | {} | 0 | 0
@@ -115,11 +114,16 @@ accepted peak 0 steps 1000000 cost 3000034 | {"body":[{"body":[{"choice":[[]]}],
 44 StepsTooMany | {"body":[{"body":[{"choice":[[]]}],"loop":1001}],"loop":1000} | {},{},{},{},{},{},{} | 0 | 1001000
 43 StepsTooFew | {"body":[{"body":[{"choice":[[]]}],"loop":1001}],"loop":1000} | {},{},{},{},{},{},{} | 0 | 1000000
 accepted peak 1 steps 3 cost 43 | {"choice":[[{"fix":"a","region":"root"},{"unfix":"a"}],[]]} | {},{},{"a":["root","-"]},{},{},{} | 1 | 3
+accepted peak 2 steps 8 cost 58 | {"fix":"a","region":"root"},{"fix":"b","region":"leaf"},{"latch":"a","mode":"S"},{"latch":"b","mode":"X"},{"unlatch":"b"},{"unlatch":"a"},{"unfix":"b"},{"unfix":"a"} | {},{"a":["root","-"]},{"a":["root","-"],"b":["leaf","-"]},{"a":["root","S"],"b":["leaf","-"]},{"a":["root","S"],"b":["leaf","X"]},{"a":["root","S"],"b":["leaf","-"]},{"a":["root","-"],"b":["leaf","-"]},{"a":["root","-"]},{} | 2 | 8
+accepted peak 1 steps 3 cost 43 | {"choice":[[{"fix":"a","region":"root"}],[{"fix":"a","region":"root"}]]},{"unfix":"a"} | {},{},{"a":["root","-"]},{},{"a":["root","-"]},{"a":["root","-"]},{} | 1 | 3
+33 NoteDiffers at 5 | {"choice":[[{"fix":"a","region":"root"}],[{"fix":"a","region":"root"}]]},{"unfix":"a"} | {},{},{"a":["root","-"]},{},{"a":["root","-"]},{},{} | 1 | 3
+33 NoteDiffers at 4 | {"body":[{"fix":"a","region":"root"},{"unfix":"a"}],"loop":2} | {},{},{"a":["root","-"]},{},{"a":["root","-"]} | 1 | 4
+41 BranchDiffers at 4 | {"choice":[[],[],[{"fix":"a","region":"root"}]]} | {},{},{},{},{"a":["root","-"]},{} | 1 | 2
 "#;
 
 #[test]
 fn certificates_under_three_frames(rt: HostRuntime) -> Result<(), Fail> {
-    assert_eq!(rt; compare(&rt, rt.alloc(), THREE_FRAMES, 3)?, 38);
+    assert_eq!(rt; compare(&rt, rt.alloc(), THREE_FRAMES, 3)?, 43);
     Ok(())
 }
 
@@ -158,19 +162,22 @@ fn pin_is_accepted_and_refused(rt: HostRuntime) -> Result<(), Fail> {
 #[test]
 fn a_refused_plan_comes_back(rt: HostRuntime) -> Result<(), Fail> {
     let alloc = rt.alloc();
-    let settings = settings_of(alloc, 3)?;
-    let others = settings_of(alloc, 2)?;
+    let settings = settings_of(alloc, 3, 2)?;
     let text = "{\"body\":[{\"unfix\":\"a\"}],\"version\":1}";
-    let plan = Plan::from_text(alloc, &settings, text)?;
-    let text = "{\"notes\":[{}],\"peak\":0,\"steps\":0}";
-    let certificate = Certificate::from_text(alloc, &settings, &plan, text)?;
-    let refused = check(&others, plan, &certificate).err();
-    assert_eq!(rt; refused.is_some(), true);
-    if let Some(back) = refused {
-        let (plan, fault) = back;
-        assert_eq!(rt; fault, CheckError::OtherSettings);
-        assert_eq!(rt; plan.body().len(), 1);
-        assert_eq!(rt; plan.slots(), 1);
+    // Settings of other frames, and of another class of the region that the plan doesn't use.
+    for (frames, class) in [(2u32, 2u32), (3, 3)] {
+        let others = settings_of(alloc, frames, class)?;
+        let plan = Plan::from_text(alloc, &settings, text)?;
+        let text = "{\"notes\":[{}],\"peak\":0,\"steps\":0}";
+        let certificate = Certificate::from_text(alloc, &settings, &plan, text)?;
+        let refused = check(&others, plan, &certificate).err();
+        assert_eq!(rt; refused.is_some(), true);
+        if let Some(back) = refused {
+            let (plan, fault) = back;
+            assert_eq!(rt; fault, CheckError::OtherSettings);
+            assert_eq!(rt; plan.body().len(), 1);
+            assert_eq!(rt; plan.slots(), 1);
+        }
     }
     Ok(())
 }

@@ -47,7 +47,7 @@ pub fn check_under(
     // The length that the steps are tested against is that of the longest trace.
     ensures longest { IsLongest plan.layout plan.body (sequence_longest plan.body) }
 {
-    match fault_of(layout, &plan, certificate) {
+    match fault_under(layout, &plan, certificate) {
         Some(fault) => Err((plan, fault)),
         None => Ok(Accepted::new(plan, certificate.peak, certificate.steps)),
     }
@@ -81,8 +81,11 @@ pub fn check(
     check_under(&settings.layout(), plan, certificate)
 }
 
-/// The first fault of the certificate, if it has one.
-fn fault_of(layout: &Layout, plan: &Plan, certificate: &Certificate) -> Option<CheckError>
+/// The first test of the plan's certificate that fails under the layout of the settings, if one fails: the check of
+/// a plan that is not to be handed over yet.
+///
+/// It takes no memory.
+pub fn fault_under(layout: &Layout, plan: &Plan, certificate: &Certificate) -> Option<CheckError>
     ensures is { result ≡ first_fault layout.now (claims_of certificate.now) (tests plan.now) }
     ensures facts { IsPlan plan.now }
 {

@@ -16,8 +16,9 @@ mod writing;
 pub use accepted::Accepted;
 pub use certificate::Certificate;
 pub use check_error::{CheckError, CheckRefusal};
-pub use checker::{MOST_STEPS, check, check_under};
+pub use checker::{MOST_STEPS, check, check_under, fault_under};
 pub use error::{CertError, CertRefusal};
+pub use longest::longest_trace;
 pub use note::{Entry, Held, Note};
 
 #[cfg(test)]

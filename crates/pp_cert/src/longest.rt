@@ -2,12 +2,23 @@
 
 ghost use Rattle.std.specs.Prelude.{◌≡◌, min};
 ghost use Rattle.pp_plan.specs.View.{statement_of, sequence_of, alternatives_of};
-ghost use Rattle.pp_cert.specs.Longest.{statement_longest, sequence_longest, alternatives_longest};
+ghost use Rattle.pp_cert.specs.Longest.{statement_longest, sequence_longest, alternatives_longest, IsLongest};
 
-use pp_plan::{Body, Branches, Stmt};
+use pp_plan::{Body, Branches, Plan, Stmt};
 
 /// Where counting stops: one more than any steps that are allowed.
 pub(crate) const COUNTED: u64 = 1_000_001;
+
+/// The most actions of a trace of the plan, or 1,000,001 where there are more.
+///
+/// What it does grows with the statements of the plan, not with the turns of its loops.
+pub fn longest_trace(plan: &Plan) -> u64
+    ensures counted { result ≡ min (sequence_longest plan.now.body) 1000001 }
+    // What is counted is the length of the longest trace.
+    ensures longest { IsLongest plan.now.layout plan.now.body (sequence_longest plan.now.body) }
+{
+    longest(plan.body())
+}
 
 /// The most actions of a trace of the statements, or `COUNTED` where there are more.
 #[cycle(longest)]

@@ -1,3 +1,5 @@
 pub mod CommandLine
 pub mod Outcomes
 pub mod Texts
+pub mod Lines
+pub mod Judgement

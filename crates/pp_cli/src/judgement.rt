@@ -1,6 +1,6 @@
 //! What the contents of the three files of `check` come to.
 
-ghost use Rattle.std.specs.Prelude.{IsErrOf, IsOk, IsUtf8};
+ghost use Rattle.pp_cli.specs.Judgement.{judgement, IsJudgement};
 
 use crate::refusal::Refusal;
 use pp_cert::{Accepted, CertError, Certificate};
@@ -27,11 +27,9 @@ pub struct CheckFiles<'a> {
 /// The first refusal in that order. A file whose bytes are not UTF-8 is refused in its turn, as one that is no
 /// TOML or no JSON.
 pub fn judge(alloc: Global, files: CheckFiles<'_>) -> Result<Accepted, Refusal>
-    // Settings that are no text are refused as no TOML, whatever the other files hold.
-    ensures settings { ¬ (IsUtf8 files.entry.settings.now) → IsErrOf result (Refusal.Settings SettingsError.NotToml) }
-    // What is accepted is text in all three files.
-    ensures texts { IsOk result → IsUtf8 files.entry.settings.now × IsUtf8 files.entry.plan.now
-        × IsUtf8 files.entry.certificate.now }
+    // What is answered is the judgement on the three files, unless memory ran out.
+    ensures { IsJudgement result
+        (judgement files.entry.settings.now files.entry.plan.now files.entry.certificate.now) }
 {
     let text = str::from_utf8(files.settings).map_err(|_| SettingsError::NotToml)?;
     let settings = Settings::from_text(alloc, text)?;

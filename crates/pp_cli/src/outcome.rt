@@ -1,7 +1,8 @@
 //! How a run of the program ends.
 
-ghost use Rattle.std.specs.Prelude.{◌≡◌, ◌+◌, ◌*◌};
+ghost use Rattle.std.specs.Prelude.{◌≡◌, ◌+◌, ◌*◌, Some};
 ghost use Rattle.pp_cli.specs.Outcomes.{status_of, is_output_of};
+ghost use Rattle.pp_cli.specs.Lines.{outcome_text};
 
 use crate::refusal::Refusal;
 use pp_cert::Accepted;
@@ -79,6 +80,8 @@ impl Outcome<'_> {
 
 /// What is printed, ended by a line feed.
 impl fmt::Display for Outcome<'_> {
+    ghost output = { λ outcome. Some (outcome_text outcome) };
+
     fn fmt<W: fmt::Write>(&self, f: &mut fmt::Formatter<W>) -> fmt::Result {
         match self {
             Outcome::Done(figures) => {

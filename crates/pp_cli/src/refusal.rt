@@ -1,6 +1,8 @@
 //! Refusals, as the program prints them.
 
-ghost use Rattle.std.specs.Prelude.{◌≡◌};
+ghost use Rattle.std.specs.Prelude.{◌≡◌, Some};
+ghost use Rattle.pp_cli.specs.Judgement.{is_want_of_memory};
+ghost use Rattle.pp_cli.specs.Lines.{refusal_line};
 ghost use Rattle.pp_cli.specs.declared.refusal.Refusal.TheVariants.{Settings, Plan, Certificate};
 
 use pp_cert::{CertError, CheckError};
@@ -23,7 +25,9 @@ pub enum Refusal {
 
 impl Refusal {
     /// Whether this is no refusal of a file, but want of memory.
-    pub fn is_want_of_memory(&self) -> bool {
+    pub fn is_want_of_memory(&self) -> bool
+        ensures { result ≡ is_want_of_memory self.now }
+    {
         matches!(
             self,
             Refusal::Settings(SettingsError::OutOfMemory)
@@ -36,13 +40,18 @@ impl Refusal {
 /// The line without its line feed: `refused`, the number, the name and what it is about, as in
 /// `refused 4 Range frames`, `refused 31 NotesShort at 8` and `refused 43 StepsTooFew`.
 impl fmt::Display for Refusal {
+    ghost output = { λ refusal. Some (refusal_line refusal) };
+
     fn fmt<W: fmt::Write>(&self, f: &mut fmt::Formatter<W>) -> fmt::Result {
         match self {
             Refusal::Settings(error) => {
                 let refusal = error.refusal();
                 write!(f, "refused {refusal}")
             }
-            Refusal::Plan(error) => write_plan_refusal(f, *error),
+            Refusal::Plan(error) => {
+                let refusal = error.refusal();
+                write!(f, "refused {refusal}")
+            }
             Refusal::Certificate(error) => {
                 let refusal = error.refusal();
                 write!(f, "refused {refusal}")
@@ -52,17 +61,6 @@ impl fmt::Display for Refusal {
                 write!(f, "refused {refusal}")
             }
         }
-    }
-}
-
-/// Prints why a plan is refused.
-fn write_plan_refusal<W: fmt::Write>(f: &mut fmt::Formatter<W>, error: PlanError) -> fmt::Result {
-    let number = error.number();
-    let name = error.name();
-    write!(f, "refused {number} {name}")?;
-    match error.statement() {
-        Some(statement) => write!(f, " at {statement}"),
-        None => Ok(()),
     }
 }
 

@@ -18,9 +18,10 @@ use Rattle.pp_plan.specs.Numbering.{in_byte_order, place_of, place_in, numbered_
 use Rattle.pp_plan.specs.Shapes.{Shape, fix_shape, unfix_shape, latch_shape, unlatch_shape, loop_shape, choice_shape, shape_of, are_lists}
 use Rattle.pp_plan.specs.Reading.{begun, used_at, used, slot_of, followed_by, with_branch, sequence_from, alternatives_from, items_in, count_of, fix_by, statement_by, statement_at}
 use Rattle.pp_plan.specs.Spelling.{SpellsStep, SpellsStatement, SpellsSequence, SpellsAlternatives}
+use Rattle.pp_plan.specs.Faults.{SpellsShape}
 use Rattle.pp_plan.proofs.Places.{Has, has_at, at_has, has_push, Extends, AreApart, place_none}
 use Rattle.pp_plan.proofs.Order.{Rises, rises_apart, rises_short, order_rises, order_length, order_from}
-use Rattle.pp_plan.proofs.Forms.{SpellsShape, shape_again}
+use Rattle.pp_plan.proofs.Forms.{shape_again}
 use Rattle.pp_plan.proofs.Found.{AreNames, SlotUsed, used_found, push_apart, longer, next, joined, gathered, joined_done, joined_follow, gathered_none, gathered_with, branches_counted}
 use Rattle.pp_plan.proofs.Numbered.{placed}
 

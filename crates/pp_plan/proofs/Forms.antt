@@ -20,6 +20,7 @@ use Rattle.pp_plan.specs.declared.error.PlanError.TheVariants.{NoSuchStatement, 
 use Rattle.pp_plan.specs.Steps.{◌>>=◌, must}
 use Rattle.pp_plan.specs.Shapes.{Shape, fix_shape, unfix_shape, latch_shape, unlatch_shape, loop_shape, choice_shape, is_key, kind_of, keys_are, has_only, value_at, text_at, number_at, list_at, mode_named, mode_at, are_lists, shape_at, shape_of}
 use Rattle.pp_plan.specs.Spelling.{AreAmong, HasOnly, Holds, letter_of}
+use Rattle.pp_plan.specs.Faults.{SpellsShape}
 use Rattle.pp_plan.proofs.Order.{equal_is}
 
 -- ---- steps that were passed
@@ -205,14 +206,6 @@ unfolding mode_at
 mode_at_again key n d m held = rw (text_again key n d (letter_of m) held, mode_again m) refl
 
 -- ---- the whole form
-
-abbrev pub SpellsShape : Data → Shape → Type 0
-SpellsShape d (fix_shape slot region) = HasOnly (codes "fix" ∷ codes "region" ∷ []) d × Holds d (codes "fix") (string slot) × Holds d (codes "region") (string region)
-SpellsShape d (unfix_shape slot) = HasOnly (codes "unfix" ∷ []) d × Holds d (codes "unfix") (string slot)
-SpellsShape d (latch_shape slot mode) = HasOnly (codes "latch" ∷ codes "mode" ∷ []) d × Holds d (codes "latch") (string slot) × Holds d (codes "mode") (string (letter_of mode))
-SpellsShape d (unlatch_shape slot) = HasOnly (codes "unlatch" ∷ []) d × Holds d (codes "unlatch") (string slot)
-SpellsShape d (loop_shape n ds) = HasOnly (codes "loop" ∷ codes "body" ∷ []) d × Holds d (codes "loop") (number (unsigned n)) × Holds d (codes "body") (array ds)
-SpellsShape d (choice_shape ds) = HasOnly (codes "choice" ∷ []) d × Holds d (codes "choice") (array ds) × (are_lists ds ≡ true)
 
 kind_found : (kind : Kind) (n : ℕ) (d : Data) (shape : Shape) → has_only (is_key kind) d ≡ true → shape_at kind n d ≡ Ok shape → SpellsShape d shape
 unfolding shape_at

@@ -22,8 +22,9 @@ use Rattle.pp_plan.specs.Shapes.{Shape, fix_shape, unfix_shape, latch_shape, unl
 use Rattle.pp_plan.specs.Reading.{begun, used_at, used, slot_of, followed_by, with_branch, sequence_from, alternatives_from, items_in, count_of, fix_by, statement_by, statement_at}
 use Rattle.pp_plan.specs.Spelling.{HoldsSlot, SpellsStep, SpellsStatement, SpellsSequence, SpellsAlternatives}
 use Rattle.pp_plan.specs.Rules.{IsUsedBy, IsUsed, IsUsedInBranch}
+use Rattle.pp_plan.specs.Faults.{SpellsShape}
 use Rattle.pp_plan.proofs.Places.{Has, has_push, Extends, extends_push, push_at, push_cases, extends_length, AreApart, place_some, place_none}
-use Rattle.pp_plan.proofs.Forms.{bind_ok, must_ok, ok_or_ok, ok_is, SpellsShape, shape_found}
+use Rattle.pp_plan.proofs.Forms.{bind_ok, must_ok, ok_or_ok, ok_is, shape_found}
 
 -- ---- slot names
 

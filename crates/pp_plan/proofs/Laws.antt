@@ -5,7 +5,7 @@ use Rattle.std.specs.Option.{ok_or}
 use Rattle.std.proofs.lemmas.Bool.{false≢true, eqb-true}
 use Rattle.serde_json.specs.Data.{Data, null, boolean, number, string, array, object, unsigned, negative, float, Items}
 use Rattle.serde_json.specs.Read.{read}
-use Rattle.pp_settings.specs.Settings.{Configuration, IsConfiguration, region_named}
+use Rattle.pp_settings.specs.Settings.{Configuration, IsConfiguration, region_named, geometry_of}
 use Rattle.pp_plan.specs.declared.error.PlanError.{PlanError}
 use Rattle.pp_plan.specs.declared.error.PlanError.TheVariants.{NotJson, WrongField, Range}
 use Rattle.pp_plan.specs.Tree.{Sequence, done}
@@ -84,3 +84,8 @@ reading_found settings within text t e =
 pub is_found : (settings : Configuration) → IsConfiguration settings → (text : List ℕ) (r : Result Terms PlanError) → Gives (λ (t : Terms). t) r (reading settings text) → IfOk r (IsText settings text)
 is_found settings within text (Ok t) gives = reading_found settings within text t gives
 is_found settings within text (Err d) gives = tt
+
+-- What is read has the layout of the settings.
+pub has_layout : (settings : Configuration) → IsConfiguration settings → (text : List ℕ) (r : Result Terms PlanError) → Gives (λ (t : Terms). t) r (reading settings text) → IfOk r (λ t. t.layout ≡ geometry_of settings)
+has_layout settings within text (Ok t) gives = let (d, parsed, s, is) = reading_found settings within text t gives in s.layout
+has_layout settings within text (Err d) gives = tt

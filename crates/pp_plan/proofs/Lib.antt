@@ -10,6 +10,8 @@ pub mod Plans
 pub mod Laws
 pub mod Again
 pub mod Only
+pub mod Causes
+pub mod First
 pub mod Joined
 pub mod Sequences
 pub mod Stack
@@ -21,3 +23,6 @@ pub mod Lasting
 pub mod Passing
 pub mod Standing
 pub mod PrefixFree
+pub mod Values
+pub mod Written
+pub mod Spelled

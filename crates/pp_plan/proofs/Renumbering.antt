@@ -1,5 +1,5 @@
 -- Names in byte order, beside the texts in memory.
-use Rattle.std.proofs.Common.{◌≡◌, ◌<◌, ◌≤◌, ◌+◌, ℕ, List, [], ◌∷◌, ◌++◌, length, take, drop, map, get_or, Option, Some, None, unwrap_or, Bool, true, false, nat_lt, subst, not, cond, fold, String, Global, string_bytes, Bor, refl, ap, sym, ◌∙◌, arith}
+use Rattle.std.proofs.Common.{◌≡◌, ◌<◌, ◌≤◌, ◌+◌, ℕ, List, [], ◌∷◌, ◌++◌, length, take, drop, map, get_or, Some, None, unwrap_or, Bool, true, false, nat_lt, subst, not, cond, String, Global, string_bytes, refl, ap, sym, ◌∙◌, arith}
 use Rattle.std.specs.List.{position, position_or_len, insert, slice_index_or}
 use Rattle.std.proofs.lemmas.Bool.Decides.{nat_tests}
 use Rattle.std.proofs.lemmas.List.{length-map, take-map, drop-map, get_or-map, take_more, get_or_past, map-append}

@@ -1,5 +1,5 @@
 -- The JSON library's values beside their trees.
-use Rattle.std.proofs.Common.{◌≡◌, ℕ, ◌+◌, Bool, not, cond, arith, ◌&&◌, true, false, is_some, length, List, [], ◌∷◌, map, Option, Some, None, option_map, String, BTreeMap, Global, Bor, string_bytes, refl, ap, sym, ◌∙◌}
+use Rattle.std.proofs.Common.{◌≡◌, ℕ, ◌+◌, Bool, not, cond, arith, ◌&&◌, false, is_some, length, List, [], ◌∷◌, map, Option, Some, None, String, BTreeMap, Global, string_bytes, refl, ap, sym, ◌∙◌}
 use Rattle.std.specs.List.{list_all}
 use Rattle.std.specs.Map.{keys_of}
 use Rattle.std.specs.BTreeMap.{keys}

@@ -20,3 +20,6 @@ pub mod Progress
 pub mod Numbering
 pub mod Reading
 pub mod Spelling
+pub mod Faults
+pub mod Writing
+pub mod Values

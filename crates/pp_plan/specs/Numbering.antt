@@ -1,5 +1,5 @@
 -- Slots are numbered by the byte order of their names, which is known once all are read.
-use Rattle.std.specs.Prelude.{ℕ, List, [], ◌∷◌, length, insert, fold, position, unwrap_or, Option, slice_index_or}
+use Rattle.std.specs.Prelude.{ℕ, List, [], insert, fold, position, unwrap_or, Option, slice_index_or}
 use Rattle.std.specs.List.{position_or_len}
 use Rattle.std.specs.Str.{bytes_eq}
 use Rattle.pp_plan.specs.Tree.{Step, fix, unfix, latch, unlatch, Statement, step, loop, choice, Sequence, done, andthen, Alternatives, none, either}

@@ -1,5 +1,5 @@
 -- What a plan is: the layout it was read for, its slot names and its body.
-use Rattle.std.specs.Prelude.{◌≡◌, ◌<◌, ◌≤◌, ℕ, List, length, AllPairs, All, IsTrue, refl}
+use Rattle.std.specs.Prelude.{◌<◌, ◌≤◌, ℕ, List, length, AllPairs, All, IsTrue, refl}
 use Rattle.std.specs.Coded.{Coded, code_by, coded×, coded_ℕ, coded_list}
 use Rattle.pp_settings.specs.declared.extent.Extent.{Extent}
 use Rattle.pp_settings.specs.Layout.{Geometry, IsLayout}

@@ -1,5 +1,5 @@
 -- A plan's statements as plain trees: what a body says, apart from where it lies in memory.
-use Rattle.std.specs.Prelude.{ℕ, zero, suc, ◌+◌, max}
+use Rattle.std.specs.Prelude.{ℕ, suc, ◌+◌, max}
 use Rattle.pp_plan.specs.declared.mode.Mode.{Mode}
 
 -- A statement that makes one action. Slots and regions are numbers.

@@ -13,6 +13,7 @@ mod progress;
 mod reading;
 mod shape;
 mod stmt;
+mod writing;
 
 pub use action::{Action, Ask, OffPlan};
 pub use cursor::Cursor;
@@ -21,5 +22,7 @@ pub use mode::Mode;
 pub use plan::Plan;
 pub use stmt::{Body, Branches, Stmt};
 
+#[cfg(test)]
+mod cursor_tests;
 #[cfg(test)]
 mod tests;

@@ -1,18 +1,21 @@
 //! A plan.
 
-ghost use Rattle.std.specs.Prelude.{◌≡◌, ◌<◌, IfOk, Ok, List, [], ◌++◌, length, slice_get, Some};
+ghost use Rattle.std.specs.Prelude.{◌≡◌, ◌≢◌, ◌<◌, IfOk, IfErr, IsOkUnless, Ok, List, [], ◌++◌, length, slice_get, Some, string_bytes};
 ghost use Rattle.std.specs.Option.{ok_or};
 ghost use Rattle.serde_json.specs.Read.{read};
 ghost use Rattle.serde_json.specs.View.{view};
-ghost use Rattle.pp_plan.specs.declared.error.PlanError.TheVariants.{NotJson};
+ghost use Rattle.pp_settings.specs.Settings.{geometry_of};
+ghost use Rattle.pp_plan.specs.declared.error.PlanError.TheVariants.{NotJson, OutOfMemory};
 ghost use Rattle.pp_plan.specs.Terms.{Terms, IsPlan};
 ghost use Rattle.pp_plan.specs.Slots.{slot_named};
 ghost use Rattle.pp_plan.specs.Spelling.{IsText};
+ghost use Rattle.pp_plan.specs.Faults.{Fault, HasFault, TellsFirst};
 ghost use Rattle.pp_plan.specs.View.{sequence_of};
 ghost use Rattle.pp_plan.specs.PlanTraces.{IsTraceOf};
 ghost use Rattle.pp_plan.specs.declared.action.Action.{Action};
 ghost use Rattle.pp_plan.specs.Steps.{Gives};
 ghost use Rattle.pp_plan.specs.Reading.{reading};
+ghost use Rattle.pp_plan.specs.Writing.{plan_text};
 
 use crate::error::PlanError;
 use crate::numbering::{in_byte_order, numbered};
@@ -20,6 +23,7 @@ use crate::progress::{Progress, place_of};
 use crate::reading::read_body;
 use crate::shape::statements_at;
 use crate::stmt::{Body, Stmt};
+use crate::writing::plan_value;
 use pp_settings::{Layout, Settings};
 use serde_json::{Category, Value};
 use std::alloc::Global;
@@ -91,12 +95,37 @@ impl Plan {
         ensures found { IfOk result (IsText settings.now text.now) }
         // What is spelled so and keeps the rules is read, unless memory runs out.
         ensures only { (t : Terms) → IsText settings.now text.now t → Gives (λ (u : Terms). u) result (Ok t) }
-        // Which refusal it is.
+        // A text that is accepted has no fault.
+        ensures faultless { IfOk result (λ _. (f : Fault) → ¬ HasFault settings.now (read text.now) f) }
+        // A refusal tells a fault of the text, the first one in the order, unless memory runs out.
+        ensures first { IfErr result (λ e. e ≢ OutOfMemory → TellsFirst settings.now (read text.now) e) }
+        // The same as a function of the text.
         ensures exact { Gives (λ (u : Terms). u) result (reading settings.now text.now) }
+        // The plan is one of the settings' layout.
+        ensures layout { IfOk result (λ t. t.layout ≡ geometry_of settings.now) }
     {
         // The settings keep their limits, as their layout tells.
         let _layout = settings.layout();
         read_plan(alloc, settings, text)
+    }
+
+    /// The text of the plan, which has no white space and its keys in byte order, as in
+    /// `{"body":[{"fix":"a","region":"root"},{"unfix":"a"}],"version":1}`.
+    ///
+    /// The settings have to be those that the plan was read for, or others with the same layout, whose names of
+    /// regions are then written.
+    pub fn to_text(&self, alloc: Global, settings: &Settings) -> Result<String, PlanError>
+        requires { self.now.layout ≡ geometry_of settings.now }
+        ensures text { IfOk result (λ s. string_bytes s ≡ plan_text settings.now self.now) }
+        // Under the same settings the text reads as the same plan.
+        ensures reads_back { IfOk result (λ s. reading settings.now (string_bytes s) ≡ Ok self.now) }
+        ensures only_memory { IsOkUnless result OutOfMemory }
+    {
+        // Names have no byte that a JSON text escapes, as the layout and the statements tell.
+        let _layout = settings.layout();
+        let _body = self.body();
+        let value = plan_value(alloc, settings, self)?;
+        Ok(value.to_string(alloc)?)
     }
 
     /// The layout of the settings that the plan was read for.

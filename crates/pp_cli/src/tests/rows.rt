@@ -14,6 +14,19 @@ fn gives(rt: &impl Abort, run: &Ended, line: &str) {
     assert_eq!(rt; run.status, status, "at {line}");
 }
 
+/// Runs `check` on the plan of these statements and the certificate of these notes, peak and steps.
+fn run_body(rt: &HostRuntime, folder: &Folder, body: &str, claims: &str) -> Result<Ended, Fail> {
+    let plan = format!(in rt.alloc(); "{{\"body\":[{body}],\"version\":1}}")?;
+    let certificate = format!(in rt.alloc(); "{{\"notes\":{claims}}}")?;
+    run_check(
+        rt,
+        folder,
+        SETTINGS.as_bytes(),
+        plan.as_bytes(),
+        certificate.as_bytes(),
+    )
+}
+
 #[test]
 fn settings_are_refused(rt: HostRuntime) -> Result<(), Fail> {
     let rows = [
@@ -217,15 +230,50 @@ fn bodies_are_checked(rt: HostRuntime) -> Result<(), Fail> {
     ];
     let folder = Folder::new(&rt, "bodies_are_checked")?;
     for (body, claims, line) in rows {
-        let plan = format!(in rt.alloc(); "{{\"body\":[{body}],\"version\":1}}")?;
-        let certificate = format!(in rt.alloc(); "{{\"notes\":{claims}}}")?;
-        let run = run_check(
-            &rt,
-            &folder,
-            SETTINGS.as_bytes(),
-            plan.as_bytes(),
-            certificate.as_bytes(),
-        )?;
+        let run = run_body(&rt, &folder, body, claims)?;
+        gives(&rt, &run, line);
+    }
+    folder.remove(&rt)?;
+    Ok(())
+}
+
+#[test]
+fn loops_and_choices_are_checked(rt: HostRuntime) -> Result<(), Fail> {
+    let rows = [
+        (
+            "{\"body\":[{\"choice\":[[]]}],\"loop\":65535}",
+            "[{},{},{},{},{}],\"peak\":0,\"steps\":65535",
+            "accepted peak 0 steps 65535 cost 196639",
+        ),
+        (
+            "{\"body\":[{\"choice\":[[]]}],\"loop\":65536}",
+            "[{},{},{},{},{}],\"peak\":0,\"steps\":65536",
+            "refused 16 Range at 0",
+        ),
+        (
+            "{\"body\":[{\"body\":[{\"choice\":[[]]}],\"loop\":1000}],\"loop\":1000}",
+            "[{},{},{},{},{},{},{}],\"peak\":0,\"steps\":1000000",
+            "accepted peak 0 steps 1000000 cost 3000034",
+        ),
+        (
+            "{\"body\":[{\"body\":[{\"choice\":[[]]}],\"loop\":1001}],\"loop\":1000}",
+            "[{},{},{},{},{},{},{}],\"peak\":0,\"steps\":1001000",
+            "refused 44 StepsTooMany",
+        ),
+        (
+            "{\"body\":[{\"fix\":\"a\",\"region\":\"root\"}],\"loop\":2}",
+            "[{},{},{\"a\":[\"root\",\"-\"]},{}],\"peak\":1,\"steps\":2",
+            "refused 40 LoopChanges at 2",
+        ),
+        (
+            "{\"choice\":[[{\"fix\":\"a\",\"region\":\"root\"}],[]]}",
+            "[{},{},{\"a\":[\"root\",\"-\"]},{},{}],\"peak\":1,\"steps\":2",
+            "refused 41 BranchDiffers at 3",
+        ),
+    ];
+    let folder = Folder::new(&rt, "loops_and_choices_are_checked")?;
+    for (body, claims, line) in rows {
+        let run = run_body(&rt, &folder, body, claims)?;
         gives(&rt, &run, line);
     }
     folder.remove(&rt)?;

@@ -6,14 +6,14 @@ use Rattle.pp_cert.proofs.checker.check_under.Goals as goal
 
 pub new-requires : goal.new-requires
 new-requires c =
-    accepted_by c.args.layout.now (claims_of c.args.certificate.now) c.args.plan c.fault_of.ensures.facts (sym c.in-None.ensures.is)
+    accepted_by c.args.layout.now (claims_of c.args.certificate.now) c.args.plan c.fault_under.ensures.facts (sym c.in-None.ensures.is)
 
 pub returns-in-Some-clause-longest : goal.returns-in-Some-clause-longest
 returns-in-Some-clause-longest c =
-    let is = c.fault_of.ensures.facts in
+    let is = c.fault_under.ensures.facts in
     longest_is c.args.plan.layout is.layout (length c.args.plan.slots) c.args.plan.body is.body.parts
 
 pub returns-in-None-clause-longest : goal.returns-in-None-clause-longest
 returns-in-None-clause-longest c =
-    let is = c.fault_of.ensures.facts in
+    let is = c.fault_under.ensures.facts in
     longest_is c.args.plan.layout is.layout (length c.args.plan.slots) c.args.plan.body is.body.parts

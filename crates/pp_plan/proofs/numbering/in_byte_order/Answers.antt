@@ -1,4 +1,4 @@
-use Rattle.std.proofs.Common.{◌≡◌, ℕ, ◌+◌, List, String, Global, string_bytes, ap, ◌∙◌, arith, rules}
+use Rattle.std.proofs.Common.{◌≡◌, ℕ, List, String, Global, string_bytes, ap, ◌∙◌, arith, rules}
 use Rattle.std.specs.List.{position_or_len}
 use Rattle.pp_plan.specs.Names.{comes_before}
 use Rattle.pp_plan.proofs.Renumbering.{put_in_turn}

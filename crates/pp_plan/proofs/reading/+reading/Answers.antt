@@ -1,9 +1,6 @@
-use Rattle.std.proofs.Common.{ap, sym, ◌∙◌}
-use Rattle.serde_json.specs.View.{view}
 use Rattle.pp_settings.specs.Settings.{region_named}
-use Rattle.pp_plan.specs.Tree.{Sequence, Alternatives, done}
 use Rattle.pp_plan.specs.View.{statement_of, sequence_of, alternatives_of}
-use Rattle.pp_plan.specs.Reading.{statement_at, sequence_from}
+use Rattle.pp_plan.specs.Reading.{statement_at}
 use Rattle.pp_plan.proofs.Walk.{sequence_of-push, alternatives_of-push, sequence_turn, alternatives_turn}
 use Rattle.pp_plan.proofs.reading.+reading.Goals as goal
 

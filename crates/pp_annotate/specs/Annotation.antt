@@ -1,0 +1,69 @@
+-- What the maker of certificates answers, and what holds of it.
+use Rattle.std.specs.Prelude.{◌≡◌, ℕ, ◌≤◌, Option, None, Result, Ok, Err, List, length}
+use Rattle.pp_settings.specs.Layout.{Geometry}
+use Rattle.pp_plan.specs.Terms.{Terms}
+use Rattle.pp_plan.specs.Traces.{Begins}
+use Rattle.pp_plan.specs.PlanTraces.{IsTraceOf}
+use Rattle.pp_plan.specs.declared.action.Action.{Action}
+use Rattle.pp_cert.specs.declared.certificate.Certificate.{Certificate}
+use Rattle.pp_cert.specs.declared.check_error.CheckError.{CheckError}
+use Rattle.pp_cert.specs.declared.check_error.CheckError.TheVariants.{NotesShort, NotesLong, NoteDiffers, SlotInUse, NotFixed, StillLatched, NotLatched, AgainstOrder, OverPeak, LoopChanges, BranchDiffers, EndsHolding, StepsTooFew, StepsTooMany, PeakTooBig, OtherSettings}
+use Rattle.pp_cert.specs.Held.{pins}
+use Rattle.pp_cert.specs.Walk.{Claims, claims_of, tests, first_fault, unless}
+use Rattle.pp_annotate.specs.declared.error.AnnotateError.{AnnotateError}
+use Rattle.pp_annotate.specs.declared.error.AnnotateError.TheVariants.{Fault, OutOfMemory}
+use Rattle.pp_annotate.specs.Made.{made}
+
+-- No test of the claims fails under the settings' layout: the check accepts them.
+abbrev pub Certifies : Geometry → Terms → Claims → Type 0
+Certifies g p c = first_fault g c (tests p) ≡ None
+
+-- What is made of the plan where no test of it fails, else the first fault.
+abbrev pub annotation : Geometry → Terms → Result Claims CheckError
+annotation g p = unless (first_fault g (made p) (tests p)) (made p)
+
+-- What the code returned is this; want of memory says nothing of the plan.
+abbrev pub Gives : Result Certificate AnnotateError → Result Claims CheckError → Type 0
+Gives (Ok c) answer = answer ≡ Ok (claims_of c)
+Gives (Err (Fault fault)) answer = answer ≡ Err fault
+Gives (Err OutOfMemory) answer = Unit {0}
+
+-- P of the fault, where the code answered one.
+abbrev pub IfFault : Result Certificate AnnotateError → (CheckError → Type 0) → Type 0
+IfFault (Ok c) P = Unit {0}
+IfFault (Err (Fault fault)) P = P fault
+IfFault (Err OutOfMemory) P = Unit {0}
+
+-- A fault that lies in the plan or the settings, and not in how a certificate was written: no note is missing, left
+-- over or another one, and neither the peak nor the steps are too small.
+abbrev pub IsPlansFault : CheckError → Type 0
+IsPlansFault (NotesShort k) = ⊥
+IsPlansFault (NotesLong k) = ⊥
+IsPlansFault (NoteDiffers k) = ⊥
+IsPlansFault (SlotInUse k) = Unit {0}
+IsPlansFault (NotFixed k) = Unit {0}
+IsPlansFault (StillLatched k) = Unit {0}
+IsPlansFault (NotLatched k) = Unit {0}
+IsPlansFault (AgainstOrder k) = Unit {0}
+IsPlansFault (OverPeak k) = ⊥
+IsPlansFault (LoopChanges k) = Unit {0}
+IsPlansFault (BranchDiffers k) = Unit {0}
+IsPlansFault (EndsHolding k) = Unit {0}
+IsPlansFault StepsTooFew = ⊥
+IsPlansFault StepsTooMany = Unit {0}
+IsPlansFault PeakTooBig = Unit {0}
+IsPlansFault OtherSettings = Unit {0}
+
+-- Peak and steps are tight: some beginning of a trace holds exactly as many slots as the peak says, and some trace has
+-- exactly as many actions as the steps say.
+pub record IsTight (p : Terms) (c : Claims) : Type 0 where
+  pub peak : (t : List Action) × (pins t ≡ c.peak) × Begins p.layout p.body t
+  pub steps : (t : List Action) × (length t ≡ c.steps) × IsTraceOf p t
+
+-- No accepted certificate of the plan has a smaller peak or fewer steps.
+abbrev pub IsLeast : Geometry → Terms → Claims → Type 0
+IsLeast g p c = (d : Claims) → Certifies g p d → (c.peak ≤ d.peak) × (c.steps ≤ d.steps)
+
+-- No certificate of the plan is accepted.
+abbrev pub HasNone : Geometry → Terms → Type 0
+HasNone g p = (d : Claims) → ¬ (Certifies g p d)

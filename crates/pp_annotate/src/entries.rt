@@ -1,0 +1,80 @@
+//! The note after a step.
+
+ghost use Rattle.std.specs.Prelude.{◌≡◌, ◌==◌, IfOk, nat_lt, position};
+ghost use Rattle.pp_cert.specs.Held.{held_in};
+ghost use Rattle.pp_cert.specs.Notes.{entry_slot, noted_as};
+ghost use Rattle.pp_cert.specs.Slots.{slot_insert, slot_remove};
+
+use pp_cert::{Entry, Held};
+use pp_plan::Mode;
+use std::alloc::{AllocError, Global};
+
+/// How a page is held that is latched in the mode.
+pub(crate) fn held_in(mode: Mode) -> Held
+    ensures { result ≡ held_in mode }
+{
+    match mode {
+        Mode::S => Held::S,
+        Mode::X => Held::X,
+    }
+}
+
+/// The place of the slot's entry, if it has one.
+fn position_of(note: &[Entry], slot: u8) -> Option<usize>
+    ensures { result ≡ position (λ entry. entry_slot entry == slot) note.now }
+{
+    note.iter().position(|entry| entry.slot == slot)
+}
+
+/// The place of the first entry of a greater slot, if there is one.
+fn position_after(note: &[Entry], slot: u8) -> Option<usize>
+    ensures { result ≡ position (λ entry. nat_lt slot (entry_slot entry)) note.now }
+{
+    note.iter().position(|entry| slot < entry.slot)
+}
+
+/// The note with one more entry, at its place by rising slot.
+#[tactic(auto, using(crate::proofs::Splices::inserts))]
+pub(crate) fn inserted(
+    alloc: Global,
+    before: &[Entry],
+    entry: Entry,
+) -> Result<Vec<Entry>, AllocError>
+    ensures { IfOk result (λ after. after.items ≡ slot_insert entry_slot entry before.now) }
+{
+    let mut after = Vec::from_slice(alloc, before)?;
+    match position_after(before, entry.slot) {
+        Some(place) => after.insert(place, entry)?,
+        None => after.push(entry)?,
+    }
+    Ok(after)
+}
+
+/// The note without the slot's entry.
+#[tactic(auto, using(crate::proofs::Splices::removes))]
+pub(crate) fn removed(alloc: Global, before: &[Entry], slot: u8) -> Result<Vec<Entry>, AllocError>
+    ensures { IfOk result (λ after. after.items ≡ slot_remove entry_slot slot before.now) }
+{
+    let mut after = Vec::from_slice(alloc, before)?;
+    if let Some(place) = position_of(before, slot) {
+        after.remove(place);
+    }
+    Ok(after)
+}
+
+/// The note with the slot's page held so.
+#[tactic(auto, using(crate::proofs::Splices::updates))]
+pub(crate) fn held_as(
+    alloc: Global,
+    before: &[Entry],
+    held: Held,
+    slot: u8,
+) -> Result<Vec<Entry>, AllocError>
+    ensures { IfOk result (λ after. after.items ≡ noted_as held slot before.now) }
+{
+    let mut after = Vec::from_slice(alloc, before)?;
+    if let Some(place) = position_of(before, slot) {
+        after[place] = Entry { held, ..before[place] };
+    }
+    Ok(after)
+}

@@ -1,0 +1,14 @@
+//! Makes the least certificate of a plan. Nobody has to trust it: what it makes is handed to the check.
+#![tactic(auto)]
+
+mod entries;
+mod error;
+mod maker;
+mod writing;
+
+pub use error::{AnnotateError, AnnotateRefusal};
+pub use maker::annotate;
+
+
+#[cfg(test)]
+mod tests;

@@ -1,0 +1,87 @@
+//! Makes a certificate.
+
+ghost use Rattle.std.specs.Prelude.{◌≡◌, IfOk, ◌++◌, [], ◌∷◌};
+ghost use Rattle.pp_settings.specs.Settings.{geometry_of};
+ghost use Rattle.pp_plan.specs.View.{sequence_of};
+ghost use Rattle.pp_cert.specs.Claims.{claims_of, AreClaims};
+ghost use Rattle.pp_cert.specs.Longest.{sequence_longest, IsLongest};
+ghost use Rattle.pp_annotate.specs.Made.{greatest, made, sequence_notes};
+ghost use Rattle.pp_annotate.specs.Annotation.{Certifies, annotation, Gives, IfFault, IsPlansFault, IsTight, IsLeast, HasNone};
+
+use crate::error::AnnotateError;
+use crate::writing::Draft;
+use pp_cert::{Certificate, Note, fault_under, longest_trace};
+use pp_plan::{Plan, Stmt};
+use pp_settings::Settings;
+use std::alloc::{AllocError, Global};
+
+/// Makes the least certificate of the plan: what is held at each place, the size of the greatest note as peak, and
+/// the length of the longest trace as steps.
+///
+/// What it does grows with the statements of the plan and the entries of the notes that it writes.
+///
+/// # Errors
+///
+/// `Fault` where no certificate of the plan is accepted under the settings, with the plan's first fault as the check
+/// would answer it, and `OutOfMemory` where a growth was refused.
+pub fn annotate(
+    alloc: Global,
+    settings: &Settings,
+    plan: &Plan,
+) -> Result<Certificate, AnnotateError>
+    // The exact answer, unless memory runs out.
+    ensures exact { Gives result (annotation (geometry_of settings.now) plan.now) }
+    // What is made is accepted.
+    ensures accepted { IfOk result (λ c. Certifies (geometry_of settings.now) plan.now (claims_of c)) }
+    // Some beginning of a trace holds exactly `peak` slots, and some trace has exactly `steps` actions.
+    ensures tight { IfOk result (λ c. IsTight plan.now (claims_of c)) }
+    // No accepted certificate has a smaller peak or fewer steps.
+    ensures least { IfOk result (λ c. IsLeast (geometry_of settings.now) plan.now (claims_of c)) }
+    // What is made can be written as a text.
+    ensures writable { IfOk result (λ c. AreClaims settings.now plan.now (claims_of c)) }
+    // A fault is answered only where no certificate is accepted.
+    ensures only { IfFault result (λ fault. HasNone (geometry_of settings.now) plan.now) }
+    // And it is never one of how a certificate was written.
+    ensures faults { IfFault result IsPlansFault }
+{
+    let layout = settings.layout();
+    let certificate = made(alloc, plan)?;
+    match fault_under(&layout, plan, &certificate) {
+        Some(fault) => Err(AnnotateError::Fault(fault)),
+        None => Ok(certificate),
+    }
+}
+
+/// The certificate that is made of the plan, whether it is accepted or not.
+fn made(alloc: Global, plan: &Plan) -> Result<Certificate, AllocError>
+    ensures is { IfOk result (λ c. claims_of c ≡ made plan.now) }
+    // The length that the steps are counted from is that of the longest trace.
+    ensures longest { IsLongest plan.now.layout plan.now.body (sequence_longest plan.now.body) }
+{
+    let steps = longest_trace(plan);
+    let notes = notes_of(alloc, plan.body())?;
+    let peak = greatest(&notes);
+    Ok(Certificate { peak, steps, notes })
+}
+
+/// The notes of statements, the first of which is empty.
+fn notes_of(alloc: Global, stmts: &[Stmt]) -> Result<Vec<Note>, AllocError>
+    ensures { IfOk result (λ notes. notes.items ≡ [] ∷ sequence_notes (sequence_of stmts.now) []) }
+{
+    let mut draft = Draft::new(alloc);
+    draft.write(alloc, &[])?;
+    draft.sequence(alloc, &[], stmts)?;
+    Ok(draft.into_notes())
+}
+
+/// The size of the greatest note.
+#[tactic(auto, using(crate::proofs::Walk::walks))]
+fn greatest(notes: &[Note]) -> u64
+    ensures { result ≡ greatest notes.now }
+{
+    let mut most = 0;
+    for note in notes {
+        most = most.max(note.entries().len() as u64);
+    }
+    most
+}
