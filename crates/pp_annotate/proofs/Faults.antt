@@ -1,5 +1,5 @@
 -- What is made of a plan fails no test of how a certificate was written: its first fault is the plan's own.
-use Rattle.std.proofs.Common.{◌≡◌, ℕ, ◌+◌, ◌≤◌, min, Bool, true, false, Option, Some, None, List, [], ◌∷◌, ◌++◌, length, refl, sym, ap, subst, ◌∙◌, arith, inl, inr}
+use Rattle.std.proofs.Common.{◌≡◌, ℕ, ◌+◌, ◌≤◌, min, true, false, Some, List, [], ◌∷◌, ◌++◌, length, refl, sym, ap, subst, ◌∙◌, arith, inl, inr}
 use Rattle.std.specs.Prelude.{◌⊎◌, slice_get, unwrap_or, is_some, if◌then◌else◌, nat_le}
 use borrow.Author.Tests.{leb-true}
 use Rattle.pp_settings.specs.Layout.{Geometry}
@@ -10,7 +10,7 @@ use Rattle.pp_cert.specs.declared.check_error.CheckError.TheVariants.{StepsTooMa
 use Rattle.pp_cert.specs.Notes.{Entries, same_note, noted_after}
 use Rattle.pp_cert.specs.Longest.{sequence_longest}
 use Rattle.pp_cert.specs.Walk.{Claims, note_at, Expectation, empty, same, expected_note, outcome, Test, same_settings, loop_keeps, branch_agrees, holds_nothing, no_more_notes, steps_allowed, steps_enough, peak_allowed, passes, fault_of, first_fault, note_tests, step_tests, statement_tests, sequence_tests, later_tests, tests, statement_end, sequence_end, most_steps}
-use Rattle.pp_annotate.specs.Made.{after_statement, after_sequence, statement_notes, sequence_notes, branches_notes, made_notes, greatest, made}
+use Rattle.pp_annotate.specs.Made.{after_statement, after_sequence, statement_notes, sequence_notes, branches_notes, made_notes, made}
 use Rattle.pp_annotate.specs.Annotation.{IsPlansFault}
 use Rattle.pp_annotate.proofs.Passing.{le_true, note_itself}
 use Rattle.pp_annotate.proofs.Stands.{Stand, stand_split, stand_itself, statement_places, sequence_places}
@@ -48,7 +48,7 @@ module _ (g : Geometry) (c : Claims) where
   abbrev Here : ℕ → List Entries → Type 0
   Here k ns = Stand c.peak c.notes k ns
 
-  is_at : (k : ℕ) (n : Entries) → slice_get c.notes k ≡ Some n → note_at c k ≡ n
+  pub is_at : (k : ℕ) (n : Entries) → slice_get c.notes k ≡ Some n → note_at c k ≡ n
   is_at k n s = ap (λ o. unwrap_or o []) s
 
   -- a note that stands at its place, is the expected one and is small
@@ -66,7 +66,7 @@ module _ (g : Geometry) (c : Claims) where
   step_fair k (unlatch s) = (inr tt, (inr tt, tt))
 
   mutual
-    statement_fair : (k : ℕ) (s : Statement) (n : Entries) → note_at c k ≡ n → Here (k + 1) (statement_notes s n) → AllFair (statement_tests k s) × (expected_note c (outcome k s) ≡ after_statement s n)
+    pub statement_fair : (k : ℕ) (s : Statement) (n : Entries) → note_at c k ≡ n → Here (k + 1) (statement_notes s n) → AllFair (statement_tests k s) × (expected_note c (outcome k s) ≡ after_statement s n)
     statement_fair k (step s) n e h = (step_fair k s, ap (noted_after s) e)
     statement_fair k (loop m b) n e h =
         let end : ℕ = sequence_end (k + 1) b in
@@ -82,7 +82,7 @@ module _ (g : Geometry) (c : Claims) where
         let inner = fair_both (note_tests (k + 1) (same k)) (sequence_tests (k + 1) b) (note_fair (k + 1) (same k) n p.0.0 p.0.1 e) body.0 in
         (fair_both (note_tests (k + 1) (same k) ++ sequence_tests (k + 1) b) (later_tests k end (end + 1) bs) inner (later_fair k end (end + 1) bs n e p.1), body.1)
 
-    sequence_fair : (k : ℕ) (b : Sequence) (n : Entries) → note_at c k ≡ n → Here (k + 1) (sequence_notes b n) → AllFair (sequence_tests k b) × (note_at c (sequence_end k b) ≡ after_sequence b n)
+    pub sequence_fair : (k : ℕ) (b : Sequence) (n : Entries) → note_at c k ≡ n → Here (k + 1) (sequence_notes b n) → AllFair (sequence_tests k b) × (note_at c (sequence_end k b) ≡ after_sequence b n)
     sequence_fair k done n e h = (tt, e)
     sequence_fair k (andthen s b) n e h =
         let next : ℕ = statement_end k s in

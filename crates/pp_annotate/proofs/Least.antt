@@ -1,5 +1,5 @@
 -- Where some certificate of a plan is accepted, the one that is made is accepted, and is the least.
-use Rattle.std.proofs.Common.{◌≡◌, ℕ, zero, suc, ◌+◌, ◌≤◌, min, max, true, Some, None, List, [], ◌∷◌, ◌++◌, length, refl, sym, ap, subst, ◌∙◌, arith}
+use Rattle.std.proofs.Common.{◌≡◌, ℕ, zero, suc, ◌+◌, ◌≤◌, min, true, Some, None, List, [], ◌∷◌, ◌++◌, length, refl, sym, ap, subst, ◌∙◌, arith}
 use Rattle.std.specs.Prelude.{slice_get, unwrap_or, if◌then◌else◌}
 use borrow.Author.Tests.{leb-true}
 use Rattle.pp_settings.specs.Layout.{Geometry}
@@ -8,11 +8,11 @@ use Rattle.pp_plan.specs.Terms.{Terms}
 use Rattle.pp_cert.specs.declared.check_error.CheckError.{CheckError}
 use Rattle.pp_cert.specs.Notes.{Entries}
 use Rattle.pp_cert.specs.Longest.{sequence_longest}
-use Rattle.pp_cert.specs.Walk.{Claims, note_at, empty, outcome, Test, same_settings, there, as_expected, within_peak, slot_unused, slot_fixed, slot_unlatched, slot_latched, slot_in_order, loop_keeps, branch_agrees, holds_nothing, no_more_notes, steps_allowed, steps_enough, peak_allowed, passes, fault_of, first_fault, note_tests, step_tests, statement_tests, sequence_tests, later_tests, tests, statement_end, sequence_end, most_steps}
+use Rattle.pp_cert.specs.Walk.{Claims, note_at, outcome, Test, same_settings, there, as_expected, within_peak, slot_unused, slot_fixed, slot_unlatched, slot_latched, slot_in_order, loop_keeps, branch_agrees, holds_nothing, no_more_notes, steps_allowed, steps_enough, peak_allowed, passes, fault_of, first_fault, note_tests, step_tests, statement_tests, sequence_tests, later_tests, tests, statement_end, sequence_end, most_steps}
 use Rattle.pp_annotate.specs.Made.{made_notes, greatest, made}
 use Rattle.pp_annotate.specs.Annotation.{Certifies, IsLeast, HasNone}
 use Rattle.pp_annotate.proofs.Passing.{first_passes, le_true}
-use Rattle.pp_annotate.proofs.Written.{Accepted, accepted}
+use Rattle.pp_annotate.proofs.Written.{accepted}
 
 -- ---- a test of the steps asks for so many at most
 

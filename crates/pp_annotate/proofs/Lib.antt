@@ -10,3 +10,4 @@ pub mod Fits
 pub mod Reached
 pub mod Tight
 pub mod Writable
+pub mod Same

@@ -1,5 +1,5 @@
 -- Each note of an accepted certificate is what some beginning of a trace holds.
-use Rattle.std.proofs.Common.{◌≡◌, ℕ, zero, suc, ◌+◌, ◌≤◌, ◌<◌, max, Bool, true, false, Option, Some, None, List, [], ◌∷◌, ◌++◌, length, refl, sym, ap, subst, ◌∙◌, arith, append_assoc}
+use Rattle.std.proofs.Common.{◌≡◌, ℕ, zero, suc, ◌+◌, ◌≤◌, ◌<◌, Bool, true, false, Option, Some, None, List, [], ◌∷◌, ◌++◌, length, refl, sym, ap, subst, ◌∙◌, arith, append_assoc}
 use Rattle.std.specs.Prelude.{not, is_some, if◌then◌else◌, nat_le}
 use borrow.Author.Tests.{leb-true, leb-false}
 use Rattle.pp_settings.specs.Layout.{Geometry, IsLayout}
@@ -75,28 +75,40 @@ module _ (g : Geometry) (l : IsLayout g) (c : Claims) (slots : ℕ) where
   step_runs k (fix s r) h is =
       let p = first_passes g c (slot_unused k s) [] h in
       let page = page_of g r l is.1 in
-      let new : Holding = record { slot = s; page = page.0; held = Free } in
-      (Fix s page.0, (refl, page.1), λ hs f.
-          let unused : is_some (held_at hs s) ≡ false = holds_too (note_at c k) hs s is_some false f (not_true (is_some (noted_at (note_at c k) s)) p.0) in
-          let next : held_next hs (Fix s page.0) ≡ Some (slot_insert holding_slot new hs) = ap (λ b. if b then None else Some (slot_insert holding_slot new hs)) unused in
-          (slot_insert holding_slot new hs, one_action hs (slot_insert holding_slot new hs) (Fix s page.0) next, fits_insert (note_at c k) hs (record { slot = s; region = r; held = Free }) new f (refl, refl)))
-  step_runs k (unfix s) h is =
-      (Unfix s, refl, λ hs f.
-          let free = holds_too (note_at c k) hs s is_free_page true f (is_free k s [] h) in
-          let next : held_next hs (Unfix s) ≡ Some (slot_remove holding_slot s hs) = ap (λ b. if b then Some (slot_remove holding_slot s hs) else None) free in
-          (slot_remove holding_slot s hs, one_action hs (slot_remove holding_slot s hs) (Unfix s) next, fits_remove (note_at c k) hs s f))
-  step_runs k (latch s m) h is =
-      (Latch s m, (refl, refl), λ hs f.
-          let free = holds_too (note_at c k) hs s is_free_page true f (is_free k s (slot_in_order k s ∷ []) h) in
-          let next : held_next hs (Latch s m) ≡ Some (holding_as (held_in m) s hs) = ap (λ b. if b then Some (holding_as (held_in m) s hs) else None) free in
-          (holding_as (held_in m) s hs, one_action hs (holding_as (held_in m) s hs) (Latch s m) next, fits_held_as (note_at c k) hs (held_in m) s f))
+      let new : Holding = record { slot = s; page = page.0; held = Free } in (
+        Fix s page.0,
+        (refl, page.1),
+        λ hs f.
+            let unused : is_some (held_at hs s) ≡ false = holds_too (note_at c k) hs s is_some false f (not_true (is_some (noted_at (note_at c k) s)) p.0) in
+            let next : held_next hs (Fix s page.0) ≡ Some (slot_insert holding_slot new hs) = ap (λ b. if b then None else Some (slot_insert holding_slot new hs)) unused in
+            (slot_insert holding_slot new hs, one_action hs (slot_insert holding_slot new hs) (Fix s page.0) next, fits_insert (note_at c k) hs (record { slot = s; region = r; held = Free }) new f (refl, refl)),
+      )
+  step_runs k (unfix s) h is = (
+    Unfix s,
+    refl,
+    λ hs f.
+        let free = holds_too (note_at c k) hs s is_free_page true f (is_free k s [] h) in
+        let next : held_next hs (Unfix s) ≡ Some (slot_remove holding_slot s hs) = ap (λ b. if b then Some (slot_remove holding_slot s hs) else None) free in
+        (slot_remove holding_slot s hs, one_action hs (slot_remove holding_slot s hs) (Unfix s) next, fits_remove (note_at c k) hs s f),
+  )
+  step_runs k (latch s m) h is = (
+    Latch s m,
+    (refl, refl),
+    λ hs f.
+        let free = holds_too (note_at c k) hs s is_free_page true f (is_free k s (slot_in_order k s ∷ []) h) in
+        let next : held_next hs (Latch s m) ≡ Some (holding_as (held_in m) s hs) = ap (λ b. if b then Some (holding_as (held_in m) s hs) else None) free in
+        (holding_as (held_in m) s hs, one_action hs (holding_as (held_in m) s hs) (Latch s m) next, fits_held_as (note_at c k) hs (held_in m) s f),
+  )
   step_runs k (unlatch s) h is =
       let p = first_passes g c (slot_fixed k s) (slot_latched k s ∷ []) h in
-      let q = first_passes g c (slot_latched k s) [] p.1 in
-      (Unlatch s, refl, λ hs f.
-          let latched = holds_too (note_at c k) hs s is_latched_page true f q.0 in
-          let next : held_next hs (Unlatch s) ≡ Some (holding_as Free s hs) = ap (λ b. if b then Some (holding_as Free s hs) else None) latched in
-          (holding_as Free s hs, one_action hs (holding_as Free s hs) (Unlatch s) next, fits_held_as (note_at c k) hs Free s f))
+      let q = first_passes g c (slot_latched k s) [] p.1 in (
+        Unlatch s,
+        refl,
+        λ hs f.
+            let latched = holds_too (note_at c k) hs s is_latched_page true f q.0 in
+            let next : held_next hs (Unlatch s) ≡ Some (holding_as Free s hs) = ap (λ b. if b then Some (holding_as Free s hs) else None) latched in
+            (holding_as Free s hs, one_action hs (holding_as Free s hs) (Unlatch s) next, fits_held_as (note_at c k) hs Free s f),
+      )
 
   -- ---- each part has a trace that goes from the note before it to the one after it
 

@@ -1,12 +1,12 @@
 -- A note with one entry put in, taken out or changed.
-use Rattle.std.proofs.Common.{◌≡◌, ℕ, zero, suc, ◌+◌, ◌<◌, ◌≤◌, Bool, true, false, cond, Some, None, List, [], ◌∷◌, ◌++◌, length, get_or, take, drop, set, refl, sym, ap, ◌∙◌, arith, add-one, one-add}
+use Rattle.std.proofs.Common.{◌≡◌, ℕ, suc, ◌+◌, ◌<◌, ◌≤◌, true, false, cond, Some, None, [], ◌∷◌, ◌++◌, length, get_or, set, refl, ap, arith, one-add}
 use Rattle.std.proofs.lemmas.List.{take_all, drop_all}
 use Rattle.std.proofs.lemmas.Bool.Decides.{nat_tests}
 use Rattle.std.specs.Prelude.{position, nat_lt, if◌then◌else◌, not, ◌==◌}
 use Rattle.std.specs.List.{position_or_len, insert, remove}
 use Rattle.pp_cert.specs.declared.note.Entry.{Entry}
 use Rattle.pp_cert.specs.declared.note.Held.{Held}
-use Rattle.pp_cert.specs.Slots.{slot_insert, slot_remove, slot_update}
+use Rattle.pp_cert.specs.Slots.{slot_insert, slot_remove}
 use Rattle.pp_cert.specs.Notes.{Entries, entry_slot, noted_as}
 
 -- ---- by the place of the first element that passes a test

@@ -1,5 +1,5 @@
 -- What is made of a plan is tight, where it is accepted.
-use Rattle.std.proofs.Common.{◌≡◌, ℕ, ◌≤◌, min, Some, None, List, [], ◌∷◌, ◌++◌, length, refl, sym, ap, subst, ◌∙◌, arith}
+use Rattle.std.proofs.Common.{◌≡◌, min, List, [], ◌∷◌, ◌++◌, length, refl, sym, subst, ◌∙◌, arith}
 use Rattle.std.proofs.lemmas.List.{append-nil}
 use Rattle.pp_settings.specs.Layout.{Geometry}
 use Rattle.pp_plan.specs.declared.action.Action.{Action}
@@ -7,7 +7,6 @@ use Rattle.pp_plan.specs.Tree.{Sequence}
 use Rattle.pp_plan.specs.Traces.{IsTrace}
 use Rattle.pp_plan.specs.Terms.{Terms, IsPlan}
 use Rattle.pp_cert.specs.Longest.{sequence_longest, IsLongest}
-use Rattle.pp_cert.specs.Walk.{first_fault, tests}
 use Rattle.pp_annotate.specs.Made.{sequence_notes, made}
 use Rattle.pp_annotate.specs.Annotation.{Certifies, IsTight}
 use Rattle.pp_annotate.proofs.Written.{accepted}

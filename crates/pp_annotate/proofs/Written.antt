@@ -1,16 +1,15 @@
 -- The notes of an accepted certificate are those that are made.
-use Rattle.std.proofs.Common.{◌≡◌, ℕ, ◌+◌, ◌≤◌, true, Some, None, List, [], ◌∷◌, ◌++◌, length, refl, sym, ap, subst, ◌∙◌, arith}
-use Rattle.std.specs.Prelude.{slice_get}
+use Rattle.std.proofs.Common.{◌≡◌, ℕ, ◌+◌, ◌≤◌, true, Some, None, List, [], ◌∷◌, ◌++◌, length, ap, subst, ◌∙◌, arith}
 use borrow.Author.Tests.{leb-true}
 use Rattle.pp_settings.specs.Layout.{Geometry}
 use Rattle.pp_plan.specs.Tree.{Statement, step, loop, choice, Sequence, done, andthen, Alternatives, none, either}
 use Rattle.pp_plan.specs.Terms.{Terms}
 use Rattle.pp_cert.specs.Notes.{Entries, noted_after}
 use Rattle.pp_cert.specs.Longest.{sequence_longest}
-use Rattle.pp_cert.specs.Walk.{Claims, note_at, empty, same, expected_note, outcome, Test, same_settings, loop_keeps, branch_agrees, holds_nothing, no_more_notes, steps_allowed, steps_enough, peak_allowed, first_fault, note_tests, statement_tests, sequence_tests, later_tests, tests, statement_end, sequence_end, alternatives_end, same_layout, most_steps}
+use Rattle.pp_cert.specs.Walk.{Claims, note_at, empty, same, expected_note, outcome, Test, same_settings, loop_keeps, branch_agrees, holds_nothing, no_more_notes, steps_allowed, steps_enough, peak_allowed, first_fault, note_tests, statement_tests, sequence_tests, later_tests, tests, statement_end, sequence_end, same_layout, most_steps}
 use Rattle.pp_annotate.specs.Made.{after_statement, after_sequence, statement_notes, sequence_notes, branches_notes, made_notes, greatest}
 use Rattle.pp_annotate.proofs.Passing.{first_passes, both_pass, note_passes}
-use Rattle.pp_annotate.proofs.Stands.{Stand, stand_append, stand_whole, stand_greatest, statement_places, sequence_places, branches_places}
+use Rattle.pp_annotate.proofs.Stands.{Stand, stand_append, stand_whole, stand_greatest, statement_places, sequence_places}
 
 module _ (g : Geometry) (c : Claims) where
   abbrev Here : ℕ → List Entries → Type 0

@@ -1,5 +1,5 @@
 -- What the maker of certificates answers, and what holds of it.
-use Rattle.std.specs.Prelude.{◌≡◌, ℕ, ◌≤◌, Option, None, Result, Ok, Err, List, length}
+use Rattle.std.specs.Prelude.{◌≡◌, ◌≤◌, None, Result, Ok, Err, List, length}
 use Rattle.pp_settings.specs.Layout.{Geometry}
 use Rattle.pp_plan.specs.Terms.{Terms}
 use Rattle.pp_plan.specs.Traces.{Begins}
@@ -53,6 +53,13 @@ IsPlansFault StepsTooFew = ⊥
 IsPlansFault StepsTooMany = Unit {0}
 IsPlansFault PeakTooBig = Unit {0}
 IsPlansFault OtherSettings = Unit {0}
+
+-- A plan's fault that is told before those of the limits of steps and peak: of what the plan does, or that it was read
+-- for other settings.
+abbrev pub IsBeforeLimits : CheckError → Type 0
+IsBeforeLimits StepsTooMany = ⊥
+IsBeforeLimits PeakTooBig = ⊥
+IsBeforeLimits fault = IsPlansFault fault
 
 -- Peak and steps are tight: some beginning of a trace holds exactly as many slots as the peak says, and some trace has
 -- exactly as many actions as the steps say.

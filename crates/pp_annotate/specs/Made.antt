@@ -1,6 +1,6 @@
 -- The certificate that is made of a plan: what is held at each place, noted statement by statement. Nothing is tested
 -- here: a statement that may not happen is noted as if it did.
-use Rattle.std.specs.Prelude.{ℕ, ◌+◌, min, max, List, [], ◌∷◌, ◌++◌, length}
+use Rattle.std.specs.Prelude.{ℕ, min, max, List, [], ◌∷◌, ◌++◌, length}
 use Rattle.pp_plan.specs.Tree.{Statement, step, loop, choice, Sequence, done, andthen, Alternatives, none, either}
 use Rattle.pp_plan.specs.Terms.{Terms}
 use Rattle.pp_cert.specs.Claims.{Claims}

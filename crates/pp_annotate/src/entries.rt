@@ -74,7 +74,10 @@ pub(crate) fn held_as(
 {
     let mut after = Vec::from_slice(alloc, before)?;
     if let Some(place) = position_of(before, slot) {
-        after[place] = Entry { held, ..before[place] };
+        after[place] = Entry {
+            held,
+            ..before[place]
+        };
     }
     Ok(after)
 }

@@ -1,10 +1,10 @@
 //! Why no certificate is made, and how a program says so.
 
 ghost use Rattle.std.specs.Prelude.{◌≡◌, Some};
-ghost use Rattle.pp_annotate.specs.declared.error.AnnotateError.TheVariants.{Fault, OutOfMemory};
+ghost use Rattle.pp_annotate.specs.declared.error.AnnotateError.TheVariants.{OutOfMemory};
 
 use pp_cert::CheckError;
-use std::alloc::{AllocError, AllocFailed};
+use std::alloc::AllocError;
 use std::fmt;
 use thiserror::Error;
 

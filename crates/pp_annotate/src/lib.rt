@@ -9,6 +9,5 @@ mod writing;
 pub use error::{AnnotateError, AnnotateRefusal};
 pub use maker::annotate;
 
-
 #[cfg(test)]
 mod tests;

@@ -1,12 +1,14 @@
 //! Makes a certificate.
 
-ghost use Rattle.std.specs.Prelude.{◌≡◌, IfOk, ◌++◌, [], ◌∷◌};
+ghost use Rattle.std.specs.Prelude.{◌≡◌, IfOk, Err, Some, [], ◌∷◌};
 ghost use Rattle.pp_settings.specs.Settings.{geometry_of};
 ghost use Rattle.pp_plan.specs.View.{sequence_of};
-ghost use Rattle.pp_cert.specs.Claims.{claims_of, AreClaims};
+ghost use Rattle.pp_cert.specs.declared.check_error.CheckError.{CheckError};
+ghost use Rattle.pp_cert.specs.Claims.{Claims, claims_of, AreClaims};
+ghost use Rattle.pp_cert.specs.Walk.{first_fault, tests};
 ghost use Rattle.pp_cert.specs.Longest.{sequence_longest, IsLongest};
 ghost use Rattle.pp_annotate.specs.Made.{greatest, made, sequence_notes};
-ghost use Rattle.pp_annotate.specs.Annotation.{Certifies, annotation, Gives, IfFault, IsPlansFault, IsTight, IsLeast, HasNone};
+ghost use Rattle.pp_annotate.specs.Annotation.{Certifies, annotation, Gives, IfFault, IsPlansFault, IsBeforeLimits, IsTight, IsLeast, HasNone};
 
 use crate::error::AnnotateError;
 use crate::writing::Draft;
@@ -43,6 +45,12 @@ pub fn annotate(
     ensures only { IfFault result (λ fault. HasNone (geometry_of settings.now) plan.now) }
     // And it is never one of how a certificate was written.
     ensures faults { IfFault result IsPlansFault }
+    // Where the check refuses some certificate for such a fault of the plan, before it comes to the limits, that is the
+    // answer, at the same place.
+    ensures same { (d : Claims) (fault : CheckError)
+        → first_fault (geometry_of settings.now) d (tests plan.now) ≡ Some fault
+        → IsBeforeLimits fault
+        → Gives result (Err fault) }
 {
     let layout = settings.layout();
     let certificate = made(alloc, plan)?;

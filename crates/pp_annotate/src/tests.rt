@@ -126,7 +126,8 @@ const REFUSED: &str = r#"34 SlotInUse at 1 | {"fix":"a","region":"root"},{"fix":
 "#;
 
 /// Plans with two faults, of which the first one in the order of the walk is told.
-const ORDERED: &str = r#"34 SlotInUse at 2 | {"body":[{"fix":"a","region":"root"},{"fix":"a","region":"root"}],"loop":2}
+const ORDERED: &str =
+    r#"34 SlotInUse at 2 | {"body":[{"fix":"a","region":"root"},{"fix":"a","region":"root"}],"loop":2}
 37 NotLatched at 1 | {"fix":"a","region":"root"},{"unlatch":"a"},{"fix":"a","region":"root"}
 35 NotFixed at 1 | {"fix":"a","region":"root"},{"unfix":"b"}
 36 StillLatched at 2 | {"fix":"a","region":"root"},{"latch":"a","mode":"S"},{"latch":"a","mode":"X"}
@@ -155,7 +156,10 @@ fn other_settings_come_first(rt: HostRuntime) -> Result<(), Fail> {
     ] {
         let plan = plan_of(alloc, &settings, statements)?;
         let error = annotate(alloc, &others, &plan).err();
-        assert_eq!(rt; error, Some(AnnotateError::Fault(CheckError::OtherSettings)));
+        assert_eq!(rt;
+            error,
+            Some(AnnotateError::Fault(CheckError::OtherSettings))
+        );
     }
     Ok(())
 }
@@ -172,7 +176,11 @@ fn refusals_are_told(rt: HostRuntime) -> Result<(), Fail> {
             "40 LoopChanges at 2",
             "at place 2 the loop's body ends holding something else than it began with",
         ),
-        (AnnotateError::OutOfMemory, "19 OutOfMemory", "out of memory"),
+        (
+            AnnotateError::OutOfMemory,
+            "19 OutOfMemory",
+            "out of memory",
+        ),
     ] {
         let text = error.refusal();
         let got = format!(in rt.alloc(); "{text}")?;

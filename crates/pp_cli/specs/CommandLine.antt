@@ -6,8 +6,9 @@ use Rattle.clap.specs.Simple.{App, new_app, new_rule, on_top, subcommand_of, wit
 use Rattle.clap.specs.Faults.{fault_of}
 use Rattle.clap.specs.Kinds.{Kinds}
 use Rattle.pp_cli.specs.declared.request.CheckPaths.{CheckPaths}
+use Rattle.pp_cli.specs.declared.request.AnnotatePaths.{AnnotatePaths}
 use Rattle.pp_cli.specs.declared.request.Job.{Job}
-use Rattle.pp_cli.specs.declared.request.Job.TheVariants.{Check}
+use Rattle.pp_cli.specs.declared.request.Job.TheVariants.{Check, Annotate}
 
 -- a path that has to be given, as a word of its own
 abbrev pub path_rule : Text → Rule
@@ -19,62 +20,80 @@ check_command =
     with_rule (with_rule (with_rule (new_app (codes "check")) (path_rule (codes "settings")))
     (path_rule (codes "plan"))) (path_rule (codes "certificate"))
 
--- the program: it has a version, wants a command, and has the one command `check`
+-- `annotate SETTINGS PLAN`
+abbrev pub annotate_command : App
+annotate_command =
+    with_rule (with_rule (new_app (codes "annotate")) (path_rule (codes "settings"))) (path_rule (codes "plan"))
+
+-- the program: it has a version, wants a command, and has the commands `check` and `annotate`
 abbrev pub program : App
-program = with_subcommand (on_top (λ shape. record shape {
+program = with_subcommand (with_subcommand (on_top (λ shape. record shape {
   has_version = true;
   subcommand_required = true;
   arg_required_else_help = true;
-}) (new_app (codes "pinpool"))) check_command.top
+}) (new_app (codes "pinpool"))) check_command.top) annotate_command.top
 
--- the three paths of `check`
-pub record Paths : Type 0 where
-  pub settings : Text
-  pub plan : Text
-  pub certificate : Text
+-- what words ask for: a command with the paths of its files
+pub data Asked : Type 0 where
+  check : (settings plan certificate : Text) → Asked
+  annotate : (settings plan : Text) → Asked
 
--- the three paths as texts
-abbrev pub paths : CheckPaths → Paths
-paths p = record { settings = p.settings.now; plan = p.plan.now; certificate = p.certificate.now }
+-- a check of three files
+abbrev pub asked_check : CheckPaths → Asked
+asked_check p = check p.settings.now p.plan.now p.certificate.now
 
--- the paths that a job names
-abbrev pub paths_of : Job → Paths
-paths_of (Check p) = paths p
+-- a certificate made of two files
+abbrev pub asked_annotate : AnnotatePaths → Asked
+asked_annotate p = annotate p.settings.now p.plan.now
 
-abbrev pub all_three : Option Text → Option Text → Option Text → Option Paths
-all_three (Some settings) (Some plan) (Some certificate) =
-    Some (record { settings = settings; plan = plan; certificate = certificate })
+-- what a job does
+abbrev pub asked_by : Job → Asked
+asked_by (Check p) = asked_check p
+asked_by (Annotate p) = asked_annotate p
+
+abbrev pub all_three : Option Text → Option Text → Option Text → Option Asked
+all_three (Some settings) (Some plan) (Some certificate) = Some (check settings plan certificate)
 all_three _ _ _ = None
 
 -- the values of the three arguments of `check`, where each has one
-abbrev pub paths_among : List Row → Option Paths
-paths_among rows = all_three (first_of (codes "settings") rows) (first_of (codes "plan") rows)
+abbrev pub check_among : List Row → Option Asked
+check_among rows = all_three (first_of (codes "settings") rows) (first_of (codes "plan") rows)
     (first_of (codes "certificate") rows)
 
--- the paths, where the command is `check`
-abbrev pub paths_in : Option (Text × List Row) → Option Paths
-paths_in None = None
-paths_in (Some command) =
-    if bytes_eq command.0 (codes "check") then paths_among command.1 else None
+abbrev pub both : Option Text → Option Text → Option Asked
+both (Some settings) (Some plan) = Some (annotate settings plan)
+both _ _ = None
+
+-- the values of the two arguments of `annotate`, where both have one
+abbrev pub annotate_among : List Row → Option Asked
+annotate_among rows = both (first_of (codes "settings") rows) (first_of (codes "plan") rows)
+
+-- what a command with the values of its arguments asks for
+abbrev pub asked_of : Option (Text × List Row) → Option Asked
+asked_of None = None
+asked_of (Some command) =
+    if bytes_eq command.0 (codes "check") then check_among command.1
+    else if bytes_eq command.0 (codes "annotate") then annotate_among command.1 else None
 
 -- what is found, where there is no fault
-abbrev pub unless_faulty : Kinds → Option Paths → Option Paths
+abbrev pub unless_faulty : Kinds → Option Asked → Option Asked
 unless_faulty [] found = found
 unless_faulty (kind ∷ kinds) found = None
 
--- what the words ask for, the program's name first: the paths that `clap` matches, where it finds no
--- fault in the words
-abbrev pub asked : List Text → Option Paths
-asked words = unless_faulty (fault_of program words) (paths_in (subcommand_of program words))
+-- what the words ask for, the program's name first: the command and the paths that `clap` matches, where it
+-- finds no fault in the words
+abbrev pub asked : List Text → Option Asked
+asked words = unless_faulty (fault_of program words) (asked_of (subcommand_of program words))
 
 -- the word doesn't begin with a hyphen, so it is no option
 abbrev pub is_plain_word : Text → Bool
 is_plain_word [] = true
 is_plain_word (first ∷ rest) = not (first == 45)
 
--- `check` with three plain words asks for a check of these three paths, in this order
-abbrev pub PlainWordsAreThePaths : Type 0
-PlainWordsAreThePaths = (name settings plan certificate : Text) → is_plain_word settings ≡ true
-    → is_plain_word plan ≡ true → is_plain_word certificate ≡ true
-    → asked (name ∷ codes "check" ∷ settings ∷ plan ∷ certificate ∷ [])
-    ≡ Some (record { settings = settings; plan = plan; certificate = certificate })
+-- plain words after a command are the paths of its files, in this order
+pub record PlainWordsAreThePaths : Type 0 where
+  pub check : (name settings plan certificate : Text) → is_plain_word settings ≡ true → is_plain_word plan ≡ true
+      → is_plain_word certificate ≡ true
+      → asked (name ∷ codes "check" ∷ settings ∷ plan ∷ certificate ∷ []) ≡ Some (check settings plan certificate)
+  pub annotate : (name settings plan : Text) → is_plain_word settings ≡ true → is_plain_word plan ≡ true
+      → asked (name ∷ codes "annotate" ∷ settings ∷ plan ∷ []) ≡ Some (annotate settings plan)

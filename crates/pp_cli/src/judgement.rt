@@ -1,8 +1,12 @@
-//! What the contents of the three files of `check` come to.
+//! What the contents of the files come to.
 
-ghost use Rattle.pp_cli.specs.Judgement.{judgement, IsJudgement};
+ghost use Rattle.std.specs.Prelude.{string_bytes};
+ghost use Rattle.pp_cert.specs.Claims.{claims_of};
+ghost use Rattle.pp_cli.specs.Judgement.{settings_in, plan_in, claims_in, sources_in, judgement, certification};
+ghost use Rattle.pp_cli.specs.Steps.{Gives, same};
 
 use crate::refusal::Refusal;
+use pp_annotate::annotate;
 use pp_cert::{Accepted, CertError, Certificate};
 use pp_plan::{Plan, PlanError};
 use pp_settings::{Settings, SettingsError};
@@ -20,6 +24,24 @@ pub struct CheckFiles<'a> {
     pub certificate: &'a [u8],
 }
 
+/// The bytes of the two files of `annotate`.
+#[derive(Clone, Copy, Debug)]
+pub struct AnnotateFiles<'a> {
+    /// The bytes of the settings.
+    pub settings: &'a [u8],
+    /// The bytes of the plan.
+    pub plan: &'a [u8],
+}
+
+/// Settings, and a plan that was read under them.
+#[derive(Debug, Drop)]
+pub struct Sources {
+    /// The settings.
+    pub settings: Settings,
+    /// The plan.
+    pub plan: Plan,
+}
+
 /// Reads the settings, the plan and the certificate, in this order, and checks the certificate.
 ///
 /// # Errors
@@ -28,17 +50,72 @@ pub struct CheckFiles<'a> {
 /// TOML or no JSON.
 pub fn judge(alloc: Global, files: CheckFiles<'_>) -> Result<Accepted, Refusal>
     // What is answered is the judgement on the three files, unless memory ran out.
-    ensures { IsJudgement result
+    ensures { Gives same result
         (judgement files.entry.settings.now files.entry.plan.now files.entry.certificate.now) }
 {
-    let text = str::from_utf8(files.settings).map_err(|_| SettingsError::NotToml)?;
-    let settings = Settings::from_text(alloc, text)?;
-    let text = str::from_utf8(files.plan).map_err(|_| PlanError::NotJson)?;
-    let plan = Plan::from_text(alloc, &settings, text)?;
-    let text = str::from_utf8(files.certificate).map_err(|_| CertError::NotJson)?;
-    let certificate = Certificate::from_text(alloc, &settings, &plan, text)?;
+    let Sources { settings, plan } = sources_in(alloc, files.settings, files.plan)?;
+    let certificate = certificate_in(alloc, &settings, &plan, files.certificate)?;
     match pp_cert::check(&settings, plan, &certificate) {
         Ok(accepted) => Ok(accepted),
         Err((_, error)) => Err(Refusal::Check(error)),
     }
+}
+
+/// Reads the settings and the plan, in this order, makes the least certificate of the plan, and gives its text.
+///
+/// # Errors
+///
+/// The first refusal in that order. A file whose bytes are not UTF-8 is refused in its turn, as one that is no
+/// TOML or no JSON.
+pub fn certify(alloc: Global, files: AnnotateFiles<'_>) -> Result<String, Refusal>
+    // What is answered is the text of the certificate that is made of the two files, unless memory ran out.
+    ensures { Gives string_bytes result (certification files.entry.settings.now files.entry.plan.now) }
+{
+    let Sources { settings, plan } = sources_in(alloc, files.settings, files.plan)?;
+    let certificate = annotate(alloc, &settings, &plan)?;
+    Ok(certificate.to_text(alloc, &settings, &plan)?)
+}
+
+/// The settings and the plan under them, read in this order.
+fn sources_in(alloc: Global, settings: &[u8], plan: &[u8]) -> Result<Sources, Refusal>
+    ensures { Gives same result (sources_in settings.now plan.now) }
+{
+    let settings = settings_in(alloc, settings)?;
+    let plan = plan_in(alloc, &settings, plan)?;
+    Ok(Sources { settings, plan })
+}
+
+/// The settings that the bytes spell.
+fn settings_in(alloc: Global, bytes: &[u8]) -> Result<Settings, Refusal>
+    ensures { Gives same result (settings_in bytes.now) }
+{
+    let Ok(text) = str::from_utf8(bytes) else {
+        return Err(Refusal::Settings(SettingsError::NotToml));
+    };
+    Ok(Settings::from_text(alloc, text)?)
+}
+
+/// The plan that the bytes spell under the settings.
+fn plan_in(alloc: Global, settings: &Settings, bytes: &[u8]) -> Result<Plan, Refusal>
+    ensures { Gives same result (plan_in settings.now bytes.now) }
+{
+    let Ok(text) = str::from_utf8(bytes) else {
+        return Err(Refusal::Plan(PlanError::NotJson));
+    };
+    Ok(Plan::from_text(alloc, settings, text)?)
+}
+
+/// The certificate that the bytes spell under the settings and the plan.
+fn certificate_in(
+    alloc: Global,
+    settings: &Settings,
+    plan: &Plan,
+    bytes: &[u8],
+) -> Result<Certificate, Refusal>
+    ensures { Gives claims_of result (claims_in settings.now plan.now bytes.now) }
+{
+    let Ok(text) = str::from_utf8(bytes) else {
+        return Err(Refusal::Certificate(CertError::NotJson));
+    };
+    Ok(Certificate::from_text(alloc, settings, plan, text)?)
 }

@@ -1,7 +1,7 @@
 //! How a run of the program ends.
 
 ghost use Rattle.std.specs.Prelude.{◌≡◌, ◌+◌, ◌*◌, Some};
-ghost use Rattle.pp_cli.specs.Outcomes.{status_of, is_output_of};
+ghost use Rattle.pp_cli.specs.Outcomes.{status_of, is_output_of, refused_by};
 ghost use Rattle.pp_cli.specs.Lines.{outcome_text};
 
 use crate::refusal::Refusal;
@@ -13,6 +13,8 @@ use std::fmt;
 pub enum Outcome<'a> {
     /// The certificate is accepted, with these figures.
     Done(Figures),
+    /// The text of the certificate that was made, without a line feed.
+    Made(String),
     /// The help or the version, which ends with a line feed.
     Shown(String),
     /// A file is refused, or the certificate.
@@ -59,7 +61,7 @@ impl Outcome<'_> {
         ensures { result ≡ status_of self.now }
     {
         match self {
-            Outcome::Done(_) | Outcome::Shown(_) => 0,
+            Outcome::Done(_) | Outcome::Made(_) | Outcome::Shown(_) => 0,
             Outcome::Refused(_) => 1,
             Outcome::Misused(_) => 2,
             Outcome::Unread(_) => 3,
@@ -72,7 +74,7 @@ impl Outcome<'_> {
         ensures { result ≡ is_output_of self.now }
     {
         match self {
-            Outcome::Done(_) | Outcome::Shown(_) | Outcome::Refused(_) => true,
+            Outcome::Done(_) | Outcome::Made(_) | Outcome::Shown(_) | Outcome::Refused(_) => true,
             Outcome::Misused(_) | Outcome::Unread(_) | Outcome::OutOfMemory => false,
         }
     }
@@ -88,10 +90,24 @@ impl fmt::Display for Outcome<'_> {
                 let Figures { peak, steps, cost } = *figures;
                 writeln!(f, "accepted peak {peak} steps {steps} cost {cost}")
             }
+            Outcome::Made(text) => writeln!(f, "{text}"),
             Outcome::Refused(refusal) => writeln!(f, "{refusal}"),
             Outcome::Shown(text) | Outcome::Misused(text) => f.write_str(text.as_str()),
             Outcome::Unread(path) => writeln!(f, "fault reading {path}"),
             Outcome::OutOfMemory => f.write_str("out of memory\n"),
+        }
+    }
+}
+
+/// Want of memory is an outcome of its own.
+impl From<Refusal> for Outcome<'_> {
+    ghost from_gives = { λ refusal outcome. outcome ≡ refused_by refusal };
+
+    fn from(refusal: Refusal) -> Self {
+        if refusal.is_want_of_memory() {
+            Outcome::OutOfMemory
+        } else {
+            Outcome::Refused(refusal)
         }
     }
 }

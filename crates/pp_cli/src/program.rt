@@ -5,9 +5,9 @@ ghost use Rattle.pp_cli.specs.CommandLine.{asked};
 ghost use Rattle.pp_cli.specs.Outcomes.{status_of, is_output_of};
 
 use crate::command_line::job;
-use crate::judgement::{CheckFiles, judge};
+use crate::judgement::{AnnotateFiles, CheckFiles, certify, judge};
 use crate::outcome::{Figures, Outcome};
-use crate::request::{CheckPaths, Job, JobError};
+use crate::request::{AnnotatePaths, CheckPaths, Job, JobError};
 use std::convert::AsStr;
 use std::fmt::Display;
 use std::io::{ErrorKind, Write};
@@ -32,6 +32,7 @@ pub fn serve<R: Files + AllocGlobal, S: AsStr, O: Write, E: Write>(
 {
     let outcome = match job(rt.alloc(), words) {
         Ok(Job::Check(paths)) => check(rt, paths),
+        Ok(Job::Annotate(paths)) => annotate(rt, paths),
         Err(JobError::Shown(text)) => Outcome::Shown(text),
         Err(JobError::Words(text)) => Outcome::Misused(text),
         Err(JobError::OutOfMemory) => Outcome::OutOfMemory,
@@ -92,11 +93,35 @@ fn read_and_judge<'a, R: Files + AllocGlobal>(
         plan: plan.as_slice(),
         certificate: certificate.as_slice(),
     };
-    match judge(rt.alloc(), files) {
-        Ok(accepted) => Ok(Outcome::Done(Figures::of(&accepted))),
-        Err(refusal) if refusal.is_want_of_memory() => Err(Outcome::OutOfMemory),
-        Err(refusal) => Err(Outcome::Refused(refusal)),
+    let accepted = judge(rt.alloc(), files)?;
+    Ok(Outcome::Done(Figures::of(&accepted)))
+}
+
+/// Makes the certificate of a plan. Both files are read before either is refused.
+fn annotate<'a, R: Files + AllocGlobal>(rt: &R, paths: AnnotatePaths<'a>) -> Outcome<'a>
+    ensures { status_of result ≢ 2 }
+{
+    match read_and_certify(rt, paths) {
+        Ok(outcome) | Err(outcome) => outcome,
     }
+}
+
+/// Reads the files and makes the certificate of the plan that they hold.
+fn read_and_certify<'a, R: Files + AllocGlobal>(
+    rt: &R,
+    paths: AnnotatePaths<'a>,
+) -> Result<Outcome<'a>, Outcome<'a>>
+    ensures ok { IfOk result (λ outcome. status_of outcome ≢ 2) }
+    ensures err { IfErr result (λ outcome. status_of outcome ≢ 2) }
+{
+    let settings = contents(rt, paths.settings)?;
+    let plan = contents(rt, paths.plan)?;
+    let files = AnnotateFiles {
+        settings: settings.as_slice(),
+        plan: plan.as_slice(),
+    };
+    let text = certify(rt.alloc(), files)?;
+    Ok(Outcome::Made(text))
 }
 
 /// The bytes of the file at the path, or the outcome that it can't be read.

@@ -1,16 +1,17 @@
 //! Refusals, as the program prints them.
 
 ghost use Rattle.std.specs.Prelude.{◌≡◌, Some};
-ghost use Rattle.pp_cli.specs.Judgement.{is_want_of_memory};
+ghost use Rattle.pp_cli.specs.Steps.{is_want_of_memory};
 ghost use Rattle.pp_cli.specs.Lines.{refusal_line};
-ghost use Rattle.pp_cli.specs.declared.refusal.Refusal.TheVariants.{Settings, Plan, Certificate};
+ghost use Rattle.pp_cli.specs.declared.refusal.Refusal.TheVariants.{Settings, Plan, Certificate, Annotate};
 
+use pp_annotate::AnnotateError;
 use pp_cert::{CertError, CheckError};
 use pp_plan::PlanError;
 use pp_settings::SettingsError;
 use std::fmt;
 
-/// Why the files of `check` are not accepted: the first refusal, in the order of the files.
+/// Why the files of a command are refused: the first refusal, in the order of the files.
 #[derive(Clone, Copy, Debug, PartialEq, Eq)]
 pub enum Refusal {
     /// The first file gives no settings.
@@ -21,6 +22,8 @@ pub enum Refusal {
     Certificate(CertError),
     /// The certificate is not one of this plan.
     Check(CheckError),
+    /// The plan has no certificate under these settings.
+    Annotate(AnnotateError),
 }
 
 impl Refusal {
@@ -33,6 +36,7 @@ impl Refusal {
             Refusal::Settings(SettingsError::OutOfMemory)
                 | Refusal::Plan(PlanError::OutOfMemory)
                 | Refusal::Certificate(CertError::OutOfMemory)
+                | Refusal::Annotate(AnnotateError::OutOfMemory)
         )
     }
 }
@@ -57,6 +61,10 @@ impl fmt::Display for Refusal {
                 write!(f, "refused {refusal}")
             }
             Refusal::Check(error) => {
+                let refusal = error.refusal();
+                write!(f, "refused {refusal}")
+            }
+            Refusal::Annotate(error) => {
                 let refusal = error.refusal();
                 write!(f, "refused {refusal}")
             }
@@ -85,5 +93,13 @@ impl From<CertError> for Refusal {
 
     fn from(error: CertError) -> Refusal {
         Refusal::Certificate(error)
+    }
+}
+
+impl From<AnnotateError> for Refusal {
+    ghost from_gives = { λ error refusal. refusal ≡ Annotate error };
+
+    fn from(error: AnnotateError) -> Refusal {
+        Refusal::Annotate(error)
     }
 }

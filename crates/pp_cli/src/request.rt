@@ -8,6 +8,8 @@ use thiserror::Error;
 pub enum Job<'a> {
     /// Check a plan's certificate: `check SETTINGS PLAN CERT`.
     Check(CheckPaths<'a>),
+    /// Make a plan's certificate: `annotate SETTINGS PLAN`.
+    Annotate(AnnotatePaths<'a>),
 }
 
 /// The three files of `check`, by their paths, in the order of the words.
@@ -19,6 +21,15 @@ pub struct CheckPaths<'a> {
     pub plan: &'a str,
     /// The plan's certificate, a JSON text.
     pub certificate: &'a str,
+}
+
+/// The two files of `annotate`, by their paths, in the order of the words.
+#[derive(Clone, Copy, Debug, PartialEq, Eq)]
+pub struct AnnotatePaths<'a> {
+    /// The settings of the pool, a TOML text.
+    pub settings: &'a str,
+    /// The plan, a JSON text.
+    pub plan: &'a str,
 }
 
 /// Why words give no job.

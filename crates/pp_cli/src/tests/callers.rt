@@ -28,7 +28,9 @@ fn an_accepted_plan_leaves_frames(rt: HostRuntime) -> Result<(), Fail> {
     let settings = Settings::from_text(rt.alloc(), SETTINGS)?;
     let plan = Plan::from_text(rt.alloc(), &settings, PLAN)?;
     let certificate = Certificate::from_text(rt.alloc(), &settings, &plan, CERTIFICATE)?;
-    let accepted = check(&settings, plan, &certificate).ok().ok_or("the plan is refused")?;
+    let accepted = check(&settings, plan, &certificate)
+        .ok()
+        .ok_or("the plan is refused")?;
     assert_eq!(rt; frames_left(&accepted), 1);
     Ok(())
 }

@@ -8,8 +8,11 @@ use std::{fs, io};
 
 #[test]
 fn wrong_words_are_told(rt: HostRuntime) -> Result<(), Fail> {
-    let rows: [&[&str]; 7] = [
+    let rows: [&[&str]; 10] = [
         &["pinpool"],
+        &["pinpool", "annotate"],
+        &["pinpool", "annotate", "a"],
+        &["pinpool", "annotate", "a", "b", "c"],
         &["pinpool", "check"],
         &["pinpool", "check", "a", "b"],
         &["pinpool", "check", "a", "b", "c", "d"],
@@ -30,11 +33,17 @@ fn wrong_words_are_told(rt: HostRuntime) -> Result<(), Fail> {
 
 #[test]
 fn help_says_what_each_file_is(rt: HostRuntime) -> Result<(), Fail> {
-    let help = run(&rt, &["pinpool", "check", "--help"])?;
-    assert_eq!(rt; help.status, 0);
-    assert_eq!(rt; help.err.as_str(), "");
-    for line in ["SETTINGS", "PLAN", "CERT", "TOML", "JSON"] {
-        assert!(rt; help.out.as_str().contains(line), "{line}");
+    let rows: [(&str, &[&str]); 2] = [
+        ("check", &["SETTINGS", "PLAN", "CERT", "TOML", "JSON"]),
+        ("annotate", &["SETTINGS", "PLAN", "TOML", "JSON"]),
+    ];
+    for (command, lines) in rows {
+        let help = run(&rt, &["pinpool", command, "--help"])?;
+        assert_eq!(rt; help.status, 0);
+        assert_eq!(rt; help.err.as_str(), "");
+        for line in lines {
+            assert!(rt; help.out.as_str().contains(line), "{command}: {line}");
+        }
     }
     for words in [
         ["pinpool", "--help"],
@@ -45,6 +54,7 @@ fn help_says_what_each_file_is(rt: HostRuntime) -> Result<(), Fail> {
         assert_eq!(rt; help.status, 0);
         assert_eq!(rt; help.err.as_str(), "");
         assert!(rt; help.out.as_str().contains("check"));
+        assert!(rt; help.out.as_str().contains("annotate"));
     }
     let version = run(&rt, &["pinpool", "--version"])?;
     assert_eq!(rt; version.status, 0);

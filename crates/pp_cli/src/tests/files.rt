@@ -112,6 +112,19 @@ pub fn run_check(
     run(rt, words.as_slice())
 }
 
+/// Writes the two files and runs `annotate` on them.
+pub fn run_annotate(
+    rt: &HostRuntime,
+    folder: &Folder,
+    settings: &[u8],
+    plan: &[u8],
+) -> Result<Ended, Fail> {
+    let settings = folder.write(rt, "settings.toml", settings)?;
+    let plan = folder.write(rt, "plan.json", plan)?;
+    let words = ["pinpool", "annotate", settings.as_str(), plan.as_str()];
+    run(rt, words.as_slice())
+}
+
 /// The text with the first place of `old` in it replaced by `new`.
 pub fn edited(rt: &HostRuntime, text: &str, old: &str, new: &str) -> Result<String, Fail> {
     let (before, after) = text.split_once(old).ok_or("the text isn't there")?;

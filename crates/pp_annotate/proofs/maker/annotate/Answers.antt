@@ -1,13 +1,14 @@
-use Rattle.std.proofs.Common.{◌≡◌, Option, sym, ap, subst, ◌∙◌}
+use Rattle.std.proofs.Common.{◌≡◌, Err, Option, ap, sym, subst, ◌∙◌}
 use Rattle.pp_settings.specs.Layout.{Geometry}
 use Rattle.pp_settings.specs.Settings.{geometry_of}
 use Rattle.pp_plan.specs.Terms.{Terms}
 use Rattle.pp_cert.specs.declared.check_error.CheckError.{CheckError}
 use Rattle.pp_cert.specs.Claims.{AreClaims}
-use Rattle.pp_cert.specs.Walk.{Claims, claims_of, first_fault, tests}
+use Rattle.pp_cert.specs.Walk.{Claims, first_fault, tests}
 use Rattle.pp_annotate.specs.Annotation.{IsTight, IsLeast}
 use Rattle.pp_annotate.proofs.Least.{made_least, none_accepted}
 use Rattle.pp_annotate.proofs.Faults.{made_faults}
+use Rattle.pp_annotate.proofs.Same.{made_same}
 use Rattle.pp_annotate.proofs.Tight.{tight}
 use Rattle.pp_annotate.proofs.Writable.{writable}
 use Rattle.pp_annotate.proofs.maker.annotate.Goals as goal
@@ -43,3 +44,18 @@ returns-in-None-clause-writable c =
     let made_is = c.in_ok-certificate.ensures.is in
     let ok = verdict p (geometry_of c.args.settings.now) _ _ _ _ c.layout-layout.ensures.is made_is c.in-None.ensures.is in
     subst (λ (x : Claims). AreClaims c.args.settings.now p x) (sym made_is) (writable c.args.settings.now p c.in-None.ensures.facts ok)
+
+pub returns-in-Some-clause-same : goal.returns-in-Some-clause-same
+returns-in-Some-clause-same c = λ d fault e own.
+    let p = c.args.plan.now in
+    let own_fault = made_same (geometry_of c.args.settings.now) p d fault e own in
+    let answered = verdict p (geometry_of c.args.settings.now) _ _ _ _ c.layout-layout.ensures.is c.in_ok-certificate.ensures.is c.in-Some.ensures.is in
+    let is : fault ≡ c.in-Some.fault = cc in
+    ap Err is
+
+pub returns-in-None-clause-same : goal.returns-in-None-clause-same
+returns-in-None-clause-same c = λ d fault e own.
+    let p = c.args.plan.now in
+    let own_fault = made_same (geometry_of c.args.settings.now) p d fault e own in
+    let answered = verdict p (geometry_of c.args.settings.now) _ _ _ _ c.layout-layout.ensures.is c.in_ok-certificate.ensures.is c.in-None.ensures.is in
+    absurd (cc)

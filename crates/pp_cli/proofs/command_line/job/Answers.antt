@@ -1,6 +1,6 @@
 use Rattle.std.proofs.Common.{◌≡◌, ◌∙◌, ap, sym, map, inl, inr, None, option_map}
 use Rattle.clap.specs.Words.{app_of, is_simple, is_simple_and_free, kind_of, subcommand_rows_of}
-use Rattle.pp_cli.specs.CommandLine.{asked, paths, program}
+use Rattle.pp_cli.specs.CommandLine.{asked, asked_by, program}
 use Rattle.pp_cli.proofs.Asked.{asked_by_fault, asked_by_matches, nothing_asked, program_is_free, program_is_simple}
 use Rattle.pp_cli.proofs.PlainWords.{plain_words}
 use Rattle.pp_cli.proofs.command_line.job.Goals as goal
@@ -11,7 +11,7 @@ returns-in-Some-clause-ok g c =
     asked_by_matches (app_of c.in_ok-command.field-0) (map g.S.AsStr.text c.args.words.now) (subcommand_rows_of c.in-Ok.matches) is
     (c.in-Ok.ensures.kinds (ap is_simple_and_free is ∙ program_is_free))
     ((c.in-Ok.ensures.matches (ap is_simple is ∙ program_is_simple)).1)
-    ∙ sym c.check_paths.ensures ∙ ap (option_map paths) c.in-Some.is
+    ∙ sym c.job_of.ensures ∙ ap (option_map asked_by) c.in-Some.is
 
 pub returns-in-Ok-clause-err : goal.returns-in-Ok-clause-err
 returns-in-Ok-clause-err g c = λ some.
@@ -20,7 +20,7 @@ returns-in-Ok-clause-err g c = λ some.
     asked_by_matches (app_of c.in_ok-command.field-0) (map g.S.AsStr.text c.args.words.now) (subcommand_rows_of c.in-Ok.matches) is
     (c.in-Ok.ensures.kinds (ap is_simple_and_free is ∙ program_is_free))
     ((c.in-Ok.ensures.matches (ap is_simple is ∙ program_is_simple)).1)
-    ∙ sym c.check_paths.ensures ∙ ap (option_map paths) c.in-None.is in
+    ∙ sym c.job_of.ensures ∙ ap (option_map asked_by) c.in-None.is in
     absurd (nothing_asked (asked (map g.S.AsStr.text c.args.words.now)) none some)
 
 pub returns-clause-err : goal.returns-clause-err
