@@ -1,18 +1,19 @@
 -- Where some certificate of a plan is accepted, the one that is made is accepted, and is the least.
 use Rattle.std.proofs.Common.{◌≡◌, ℕ, zero, suc, ◌+◌, ◌≤◌, min, true, Some, None, List, [], ◌∷◌, ◌++◌, length, refl, sym, ap, subst, ◌∙◌, arith}
 use Rattle.std.specs.Prelude.{slice_get, unwrap_or, if◌then◌else◌}
-use borrow.Author.Tests.{leb-true}
+use Rattle.std.proofs.lemmas.Bool.{leb-true, le-leb}
 use Rattle.pp_settings.specs.Layout.{Geometry}
 use Rattle.pp_plan.specs.Tree.{Step, fix, unfix, latch, unlatch, Statement, step, loop, choice, Sequence, done, andthen, Alternatives, none, either}
 use Rattle.pp_plan.specs.Terms.{Terms}
 use Rattle.pp_cert.specs.declared.check_error.CheckError.{CheckError}
 use Rattle.pp_cert.specs.Notes.{Entries}
 use Rattle.pp_cert.specs.Longest.{sequence_longest}
-use Rattle.pp_cert.specs.Walk.{Claims, note_at, outcome, Test, same_settings, there, as_expected, within_peak, slot_unused, slot_fixed, slot_unlatched, slot_latched, slot_in_order, loop_keeps, branch_agrees, holds_nothing, no_more_notes, steps_allowed, steps_enough, peak_allowed, passes, fault_of, first_fault, note_tests, step_tests, statement_tests, sequence_tests, later_tests, tests, statement_end, sequence_end, most_steps}
+use Rattle.pp_cert.specs.Walk.{Claims, note_at, outcome, Test, same_settings, there, as_expected, within_peak, slot_unused, slot_fixed, slot_unlatched, slot_latched, slot_in_order, loop_keeps, branch_agrees, holds_nothing, no_more_notes, steps_allowed, steps_enough, peak_allowed, Certifies, passes, fault_of, first_fault, note_tests, step_tests, statement_tests, sequence_tests, later_tests, tests, statement_end, sequence_end, most_steps}
+use Rattle.pp_cert.specs.Limits.{counted}
+use Rattle.pp_cert.proofs.Passing.{first_passes, all_pass}
 use Rattle.pp_annotate.specs.Made.{made_notes, greatest, made}
-use Rattle.pp_annotate.specs.Annotation.{Certifies, IsLeast, HasNone}
-use Rattle.pp_annotate.proofs.Passing.{first_passes, le_true}
-use Rattle.pp_annotate.proofs.Written.{accepted}
+use Rattle.pp_annotate.specs.Annotation.{IsLeast, HasNone}
+use Rattle.pp_annotate.proofs.Written.{notes_are}
 
 -- ---- a test of the steps asks for so many at most
 
@@ -37,27 +38,71 @@ step_asks m k (unlatch s) = (tt, (tt, tt))
 mutual
   statement_asks : (m k : ℕ) (s : Statement) → AllAsk m (statement_tests k s)
   statement_asks m k (step s) = step_asks m k s
-  statement_asks m k (loop c b) = (tt, (tt, (tt, ask_both m (sequence_tests (k + 1) b) (loop_keeps (sequence_end (k + 1) b) k ∷ []) (sequence_asks m (k + 1) b) (tt, tt))))
+  statement_asks m k (loop c b) = (
+    tt,
+    (
+      tt,
+      (
+        tt,
+        ask_both m (sequence_tests (k + 1) b) (loop_keeps (sequence_end (k + 1) b) k ∷ [])
+            (sequence_asks m (k + 1) b) (tt, tt),
+      ),
+    ),
+  )
   statement_asks m k (choice none) = tt
   statement_asks m k (choice (either b bs)) =
-      let end : ℕ = sequence_end (k + 1) b in
-      (tt, (tt, (tt, ask_both m (sequence_tests (k + 1) b) (later_tests k end (end + 1) bs) (sequence_asks m (k + 1) b) (later_asks m k end (end + 1) bs))))
+      let end : ℕ = sequence_end (k + 1) b in (
+        tt,
+        (
+          tt,
+          (
+            tt,
+            ask_both m (sequence_tests (k + 1) b) (later_tests k end (end + 1) bs) (sequence_asks m (k + 1) b)
+                (later_asks m k end (end + 1) bs),
+          ),
+        ),
+      )
 
   sequence_asks : (m k : ℕ) (b : Sequence) → AllAsk m (sequence_tests k b)
   sequence_asks m k done = tt
   sequence_asks m k (andthen s b) =
       let next : ℕ = statement_end k s in
-      ask_both m (statement_tests k s ++ note_tests next (outcome k s)) (sequence_tests next b) (ask_both m (statement_tests k s) (note_tests next (outcome k s)) (statement_asks m k s) (tt, (tt, (tt, tt)))) (sequence_asks m next b)
+      ask_both m (statement_tests k s ++ note_tests next (outcome k s)) (sequence_tests next b)
+      (ask_both m (statement_tests k s) (note_tests next (outcome k s)) (statement_asks m k s) (tt, (tt, (tt, tt))))
+      (sequence_asks m next b)
 
   later_asks : (m before first k : ℕ) (bs : Alternatives) → AllAsk m (later_tests before first k bs)
   later_asks m before first k none = tt
   later_asks m before first k (either b bs) =
-      let end : ℕ = sequence_end k b in
-      (tt, (tt, (tt, ask_both m (sequence_tests k b) (branch_agrees end first ∷ later_tests before first (end + 1) bs) (sequence_asks m k b) (tt, later_asks m before first (end + 1) bs))))
+      let end : ℕ = sequence_end k b in (
+        tt,
+        (
+          tt,
+          (
+            tt,
+            ask_both m (sequence_tests k b) (branch_agrees end first ∷ later_tests before first (end + 1) bs)
+                (sequence_asks m k b) (tt, later_asks m before first (end + 1) bs),
+          ),
+        ),
+      )
 
 tests_ask : (m : ℕ) (p : Terms) → sequence_longest p.body ≤ m → AllAsk m (tests p)
-tests_ask m p h =
-    (tt, (tt, (tt, (tt, ask_both m (sequence_tests 0 p.body) (holds_nothing (sequence_end 0 p.body) ∷ no_more_notes (sequence_end 0 p.body + 1) ∷ steps_allowed ∷ steps_enough (sequence_longest p.body) ∷ peak_allowed ∷ []) (sequence_asks m 0 p.body) (tt, (tt, (tt, (h, (tt, tt)))))))))
+tests_ask m p h = (
+  tt,
+  (
+    tt,
+    (
+      tt,
+      (
+        tt,
+        ask_both m (sequence_tests 0 p.body)
+            (holds_nothing (sequence_end 0 p.body) ∷ no_more_notes (sequence_end 0 p.body + 1) ∷ steps_allowed ∷
+            steps_enough (sequence_longest p.body) ∷ peak_allowed ∷ []) (sequence_asks m 0 p.body)
+            (tt, (tt, (tt, (h, (tt, tt))))),
+      ),
+    ),
+  ),
+)
 
 -- ---- the same notes with a smaller peak and fewer steps
 
@@ -66,7 +111,8 @@ within_greatest [] k = omega arith
 within_greatest (n ∷ ns) zero = omega arith
 within_greatest (n ∷ ns) (suc k) = omega (arith, within_greatest ns k)
 
-module _ (g : Geometry) (ns : List Entries) (peak steps most count : ℕ) (small : greatest ns ≤ peak) (smaller : peak ≤ most) (fewer : steps ≤ count) where
+module _ (g : Geometry) (ns : List Entries) (peak steps most count : ℕ) (small : greatest ns ≤ peak)
+    (smaller : peak ≤ most) (fewer : steps ≤ count) where
   abbrev this : Claims
   this = record { notes = ns; peak = peak; steps = steps }
 
@@ -77,7 +123,7 @@ module _ (g : Geometry) (ns : List Entries) (peak steps most count : ℕ) (small
   keeps (same_settings h) a e = e
   keeps (there k) a e = e
   keeps (as_expected k x) a e = e
-  keeps (within_peak k) a e = le_true (length (note_at this k)) peak (omega (arith, within_greatest ns k, small))
+  keeps (within_peak k) a e = le-leb (length (note_at this k)) peak (omega (arith, within_greatest ns k, small))
   keeps (slot_unused k s) a e = e
   keeps (slot_fixed k s) a e = e
   keeps (slot_unlatched k s) a e = e
@@ -87,9 +133,9 @@ module _ (g : Geometry) (ns : List Entries) (peak steps most count : ℕ) (small
   keeps (branch_agrees k f) a e = e
   keeps (holds_nothing k) a e = e
   keeps (no_more_notes n) a e = e
-  keeps steps_allowed a e = le_true steps most_steps (omega (arith, fewer, leb-true count most_steps e))
-  keeps (steps_enough n) a e = le_true n steps a
-  keeps peak_allowed a e = le_true peak g.frames (omega (arith, smaller, leb-true most g.frames e))
+  keeps steps_allowed a e = le-leb steps most_steps (omega (arith, fewer, leb-true count most_steps e))
+  keeps (steps_enough n) a e = le-leb n steps a
+  keeps peak_allowed a e = le-leb peak g.frames (omega (arith, smaller, leb-true most g.frames e))
 
   pub keeps_all : (ts : List Test) → AllAsk steps ts → first_fault g other ts ≡ None → first_fault g this ts ≡ None
   keeps_all [] a h = refl
@@ -100,24 +146,29 @@ module _ (g : Geometry) (ns : List Entries) (peak steps most count : ℕ) (small
 -- ---- what is made
 
 -- where some certificate is accepted, the longest trace is counted in full
-pub counted : (longest : ℕ) → longest ≤ 1000000 → min longest 1000001 ≡ longest
-counted longest h = omega (arith, h)
+pub counted_whole : (longest : ℕ) → longest ≤ most_steps → min longest counted ≡ longest
+counted_whole longest h = omega (arith, h)
 
 -- where some certificate is accepted, the one made is
 pub made_accepted : (g : Geometry) (p : Terms) (d : Claims) → Certifies g p d → Certifies g p (made p)
 made_accepted g p d h =
-    let is = accepted g p d h in
+    let is = all_pass g p d h in
+    let notes = notes_are g p d is in
     let longest : ℕ = sequence_longest p.body in
-    let all : longest ≡ min longest 1000001 = sym (counted longest (omega (arith, is.limit, is.enough))) in
-    let moved : first_fault g (record { notes = made_notes p; peak = d.peak; steps = d.steps }) (tests p) ≡ None = subst (λ ns. first_fault g (record { notes = ns; peak = d.peak; steps = d.steps }) (tests p) ≡ None) is.notes h in
-    keeps_all g (made_notes p) (greatest (made_notes p)) (min longest 1000001) d.peak d.steps (omega arith) is.peak (omega (arith, is.enough)) (tests p) (tests_ask (min longest 1000001) p (omega (arith, all))) moved
+    let all : longest ≡ min longest counted = sym (counted_whole longest (omega (arith, is.limit, is.enough))) in
+    let moved : first_fault g (record { notes = made_notes p; peak = d.peak; steps = d.steps }) (tests p) ≡ None =
+    subst (λ ns. first_fault g (record { notes = ns; peak = d.peak; steps = d.steps }) (tests p) ≡ None) notes.made
+    h in
+    keeps_all g (made_notes p) (greatest (made_notes p)) (min longest counted) d.peak d.steps (omega arith) notes.peak
+    (omega (arith, is.enough)) (tests p) (tests_ask (min longest counted) p (omega (arith, all))) moved
 
 -- it is the least one
 pub made_least : (g : Geometry) (p : Terms) → IsLeast g p (made p)
 made_least g p d h =
-    let is = accepted g p d h in
-    (is.peak, omega (arith, is.enough))
+    let is = all_pass g p d h in
+    ((notes_are g p d is).peak, omega (arith, is.enough))
 
 -- where it has a fault, no certificate is accepted
-pub none_accepted : (g : Geometry) (p : Terms) (fault : CheckError) → first_fault g (made p) (tests p) ≡ Some fault → HasNone g p
+pub none_accepted : (g : Geometry) (p : Terms) (fault : CheckError) → first_fault g (made p) (tests p) ≡ Some fault
+    → HasNone g p
 none_accepted g p fault e d h = absurd (let ok = made_accepted g p d h in cc)

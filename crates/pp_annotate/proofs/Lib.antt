@@ -1,12 +1,9 @@
 pub mod Splices
 pub mod Walk
-pub mod Passing
 pub mod Stands
 pub mod Written
 pub mod Least
 pub mod Faults
-pub mod Layouts
-pub mod Fits
 pub mod Reached
 pub mod Tight
 pub mod Writable

@@ -11,11 +11,13 @@ abbrev pub Stand : (peak : ℕ) → List Entries → ℕ → List Entries → Ty
 Stand peak all k [] = Unit {0}
 Stand peak all k (n ∷ ns) = (slice_get all k ≡ Some n) × (length n ≤ peak) × Stand peak all (k + 1) ns
 
-pub stand_append : (peak : ℕ) (all : List Entries) (k m : ℕ) (xs ys : List Entries) → k + length xs ≡ m → Stand peak all k xs → Stand peak all m ys → Stand peak all k (xs ++ ys)
+pub stand_append : (peak : ℕ) (all : List Entries) (k m : ℕ) (xs ys : List Entries) → k + length xs ≡ m
+    → Stand peak all k xs → Stand peak all m ys → Stand peak all k (xs ++ ys)
 stand_append peak all k m [] ys e s t = let at : m ≡ k = omega (arith, e) in subst (λ i. Stand peak all i ys) at t
 stand_append peak all k m (x ∷ xs) ys e s t = (s.0, s.1, stand_append peak all (k + 1) m xs ys (omega (arith, e)) s.2 t)
 
-pub stand_split : (peak : ℕ) (all : List Entries) (k m : ℕ) (xs ys : List Entries) → k + length xs ≡ m → Stand peak all k (xs ++ ys) → Stand peak all k xs × Stand peak all m ys
+pub stand_split : (peak : ℕ) (all : List Entries) (k m : ℕ) (xs ys : List Entries) → k + length xs ≡ m
+    → Stand peak all k (xs ++ ys) → Stand peak all k xs × Stand peak all m ys
 stand_split peak all k m [] ys e s = let at : k ≡ m = omega (arith, e) in (tt, subst (λ i. Stand peak all i ys) at s)
 stand_split peak all k m (x ∷ xs) ys e s =
     let p = stand_split peak all (k + 1) m xs ys (omega (arith, e)) s.2 in
@@ -23,7 +25,8 @@ stand_split peak all k m (x ∷ xs) ys e s =
 
 -- ---- whole lists
 
-stand_back : (peak : ℕ) (x : Entries) (xs : List Entries) (k : ℕ) (ns : List Entries) → Stand peak (x ∷ xs) (suc k) ns → Stand peak xs k ns
+stand_back : (peak : ℕ) (x : Entries) (xs : List Entries) (k : ℕ) (ns : List Entries) → Stand peak (x ∷ xs) (suc k) ns
+    → Stand peak xs k ns
 stand_back peak x xs k [] s = tt
 stand_back peak x xs k (n ∷ ns) s =
     let at : suc k + 1 ≡ suc (k + 1) = omega arith in
@@ -39,11 +42,13 @@ stand_whole peak (x ∷ xs) (n ∷ ns) s h =
     let rest : xs ≡ ns = stand_whole peak xs ns (stand_back peak x xs 0 ns s.2) (omega (arith, h)) in
     λ i. first i ∷ rest i
 
-pub stand_greatest : (peak : ℕ) (all : List Entries) (k : ℕ) (ns : List Entries) → Stand peak all k ns → greatest ns ≤ peak
+pub stand_greatest : (peak : ℕ) (all : List Entries) (k : ℕ) (ns : List Entries) → Stand peak all k ns
+    → greatest ns ≤ peak
 stand_greatest peak all k [] s = omega arith
 stand_greatest peak all k (n ∷ ns) s = omega (arith, s.1, stand_greatest peak all (k + 1) ns s.2)
 
-get_behind : (front : List Entries) (n : Entries) (ns : List Entries) → slice_get (front ++ n ∷ ns) (length front) ≡ Some n
+get_behind : (front : List Entries) (n : Entries) (ns : List Entries)
+    → slice_get (front ++ n ∷ ns) (length front) ≡ Some n
 get_behind [] n ns = refl
 get_behind (x ∷ front) n ns = get_behind front n ns
 
@@ -54,10 +59,15 @@ append_one (x ∷ front) n ns = ap (λ zs. x ∷ zs) (append_one front n ns)
 stand_behind : (peak : ℕ) (front ns : List Entries) → greatest ns ≤ peak → Stand peak (front ++ ns) (length front) ns
 stand_behind peak front [] h = tt
 stand_behind peak front (n ∷ ns) h =
-    let rest : Stand peak ((front ++ n ∷ []) ++ ns) (length (front ++ n ∷ [])) ns = stand_behind peak (front ++ n ∷ []) ns (omega (arith, h)) in
+    let rest : Stand peak ((front ++ n ∷ []) ++ ns) (length (front ++ n ∷ [])) ns =
+    stand_behind peak (front ++ n ∷ []) ns (omega (arith, h)) in
     let at : length (front ++ n ∷ []) ≡ length front + 1 = length-append front (n ∷ []) in
-    let all : (front ++ n ∷ []) ++ ns ≡ front ++ n ∷ ns = append_one front n ns in
-    (get_behind front n ns, omega (arith, h), subst (λ i. Stand peak (front ++ n ∷ ns) i ns) at (subst (λ xs. Stand peak xs (length (front ++ n ∷ [])) ns) all rest))
+    let all : (front ++ n ∷ []) ++ ns ≡ front ++ n ∷ ns = append_one front n ns in (
+      get_behind front n ns,
+      omega (arith, h),
+      subst (λ i. Stand peak (front ++ n ∷ ns) i ns) at
+          (subst (λ xs. Stand peak xs (length (front ++ n ∷ [])) ns) all rest),
+    )
 
 -- each list stands in itself
 pub stand_itself : (ns : List Entries) → Stand (greatest ns) ns 0 ns
@@ -66,7 +76,8 @@ stand_itself ns = stand_behind (greatest ns) [] ns (omega arith)
 -- ---- how many there are
 
 mutual
-  pub statement_places : (k : ℕ) (s : Statement) (n : Entries) → k + 1 + length (statement_notes s n) ≡ statement_end k s
+  pub statement_places : (k : ℕ) (s : Statement) (n : Entries)
+      → k + 1 + length (statement_notes s n) ≡ statement_end k s
   statement_places k (step s) n = omega arith
   statement_places k (loop c b) n = omega (arith, sequence_places (k + 1) b n)
   statement_places k (choice bs) n = branches_places (k + 1) bs n
@@ -74,9 +85,20 @@ mutual
   pub sequence_places : (k : ℕ) (b : Sequence) (n : Entries) → k + length (sequence_notes b n) ≡ sequence_end k b
   sequence_places k done n = omega arith
   sequence_places k (andthen s b) n =
-      omega (arith, length-append (statement_notes s n) (after_statement s n ∷ sequence_notes b (after_statement s n)), statement_places k s n, sequence_places (statement_end k s) b (after_statement s n))
+      omega (
+        arith,
+        length-append (statement_notes s n) (after_statement s n ∷ sequence_notes b (after_statement s n)),
+        statement_places k s n,
+        sequence_places (statement_end k s) b (after_statement s n),
+      )
 
-  pub branches_places : (k : ℕ) (bs : Alternatives) (n : Entries) → k + length (branches_notes bs n) ≡ alternatives_end k bs
+  pub branches_places : (k : ℕ) (bs : Alternatives) (n : Entries)
+      → k + length (branches_notes bs n) ≡ alternatives_end k bs
   branches_places k none n = omega arith
   branches_places k (either b bs) n =
-      omega (arith, length-append (n ∷ sequence_notes b n) (branches_notes bs n), sequence_places k b n, branches_places (sequence_end k b + 1) bs n)
+      omega (
+        arith,
+        length-append (n ∷ sequence_notes b n) (branches_notes bs n),
+        sequence_places k b n,
+        branches_places (sequence_end k b + 1) bs n,
+      )

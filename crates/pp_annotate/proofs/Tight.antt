@@ -6,31 +6,37 @@ use Rattle.pp_plan.specs.declared.action.Action.{Action}
 use Rattle.pp_plan.specs.Tree.{Sequence}
 use Rattle.pp_plan.specs.Traces.{IsTrace}
 use Rattle.pp_plan.specs.Terms.{Terms, IsPlan}
+use Rattle.pp_cert.specs.Limits.{counted}
+use Rattle.pp_cert.specs.Walk.{Certifies}
 use Rattle.pp_cert.specs.Longest.{sequence_longest, IsLongest}
 use Rattle.pp_annotate.specs.Made.{sequence_notes, made}
-use Rattle.pp_annotate.specs.Annotation.{Certifies, IsTight}
-use Rattle.pp_annotate.proofs.Written.{accepted}
-use Rattle.pp_annotate.proofs.Least.{counted}
-use Rattle.pp_annotate.proofs.Layouts.{layout_same}
+use Rattle.pp_annotate.specs.Annotation.{IsTight}
+use Rattle.pp_cert.proofs.Passing.{all_pass}
+use Rattle.pp_annotate.proofs.Least.{counted_whole}
 use Rattle.pp_annotate.proofs.Reached.{AllReached, body_reached, greatest_reached}
 
 -- a whole trace goes on by nothing
 whole : (g : Geometry) (b : Sequence) (t : List Action) → IsTrace g b t → (rest : List Action) × IsTrace g b (t ++ rest)
 whole g b t d = ([], subst (λ u. IsTrace g b u) (sym (append-nil t)) d)
 
-tight_here : (p : Terms) → IsPlan p → Certifies p.layout p (made p) → IsLongest p.layout p.body (sequence_longest p.body) → IsTight p (made p)
+tight_here : (p : Terms) → IsPlan p → Certifies p.layout p (made p)
+    → IsLongest p.layout p.body (sequence_longest p.body) → IsTight p (made p)
 tight_here p plan h longest =
-    let is = accepted p.layout p (made p) h in
+    let is = all_pass p.layout p (made p) h in
     let g : Geometry = p.layout in
-    let all : AllReached g plan.layout (made p) (length p.slots) p.body ([] ∷ sequence_notes p.body []) = body_reached g plan.layout (made p) (length p.slots) p.body 0 p.body [] refl is.walk plan.body.parts [] ([], refl, tt) (whole g p.body) in
+    let all : AllReached g plan.layout (made p) (length p.slots) p.body ([] ∷ sequence_notes p.body []) =
+    body_reached g plan.layout (made p) (length p.slots) p.body 0 p.body [] refl is.first.2 is.walk plan.body.parts
+    [] ([], refl, tt) (whole g p.body) in
     record {
       peak = greatest_reached g plan.layout (made p) (length p.slots) p.body [] (sequence_notes p.body []) all;
       steps =
-          let full : sequence_longest p.body ≡ min (sequence_longest p.body) 1000001 = sym (counted (sequence_longest p.body) (omega (arith, is.limit, is.enough))) in
+          let full : sequence_longest p.body ≡ min (sequence_longest p.body) counted =
+          sym (counted_whole (sequence_longest p.body) (omega (arith, is.limit, is.enough))) in
           (longest.reached.0, longest.reached.1 ∙ full, longest.reached.2);
     }
 
-pub tight : (g : Geometry) (p : Terms) → IsPlan p → Certifies g p (made p) → IsLongest p.layout p.body (sequence_longest p.body) → IsTight p (made p)
+pub tight : (g : Geometry) (p : Terms) → IsPlan p → Certifies g p (made p)
+    → IsLongest p.layout p.body (sequence_longest p.body) → IsTight p (made p)
 tight g p plan h longest =
-    let same = layout_same g p.layout (accepted g p (made p) h).settings in
+    let same = (all_pass g p (made p) h).settings in
     tight_here p plan (subst (λ x. Certifies x p (made p)) same h) longest

@@ -1,14 +1,14 @@
 -- What is made of a plan can be written as a text, where it is accepted.
-use Rattle.std.proofs.Common.{◌≡◌, ℕ, ◌+◌, ◌*◌, ◌<◌, ◌≤◌, Bool, true, false, cond, Some, None, List, [], ◌∷◌, ◌++◌, length, refl, sym, ap, subst, ◌∙◌, arith}
-use Rattle.std.specs.Prelude.{◌==◌, nat_lt, not, is_some, if◌then◌else◌, option_map, find, All}
-use borrow.Author.Tests.{ltb-true}
+use Rattle.std.proofs.Common.{◌≡◌, ℕ, ◌+◌, ◌<◌, ◌≤◌, true, false, cond, Some, None, List, [], ◌∷◌, ◌++◌, length, refl, sym, ap, subst, ◌∙◌, arith}
+use Rattle.std.specs.Prelude.{◌==◌, nat_lt, is_some, if◌then◌else◌, option_map, find, All}
+use Rattle.std.proofs.lemmas.Bool.{not-true, ltb-true}
 use Rattle.std.proofs.lemmas.Bool.Decides.{nat_tests}
 use Rattle.std.proofs.lemmas.List.{length-map}
 use Rattle.std.proofs.lemmas.List.Elements.{All-nil, All-cons, All-append, All-weaker}
 use Rattle.std.proofs.lemmas.List.Kept.{AllPairs-cons}
 use Rattle.pp_settings.specs.Layout.{Geometry}
 use Rattle.pp_settings.specs.Settings.{Configuration, geometry_of}
-use Rattle.pp_plan.specs.Tree.{Step, fix, unfix, latch, unlatch, Statement, step, loop, choice, Sequence, done, andthen, Alternatives, none, either, statement_count, sequence_count, alternatives_count, branch_count}
+use Rattle.pp_plan.specs.Tree.{Step, fix, unfix, latch, unlatch, Statement, step, loop, choice, Sequence, done, andthen, Alternatives, none, either}
 use Rattle.pp_plan.specs.Rules.{IsStep, IsStatement, IsSequence, AreAlternatives}
 use Rattle.pp_plan.specs.Terms.{Terms, IsPlan}
 use Rattle.pp_cert.specs.declared.note.Held.{Held}
@@ -18,32 +18,13 @@ use Rattle.pp_cert.specs.Claims.{IsEntry, IsNote, AreClaims}
 use Rattle.pp_cert.specs.Slots.{slot_insert, slot_remove}
 use Rattle.pp_cert.specs.Held.{held_in}
 use Rattle.pp_cert.specs.Notes.{Entries, entry_slot, noted_at, noted_as, noted_after}
-use Rattle.pp_cert.specs.Walk.{Claims, note_at, same, outcome, slot_unused, loop_keeps, branch_agrees, first_fault, note_tests, step_tests, statement_tests, sequence_tests, later_tests, statement_end, sequence_end, alternatives_end}
+use Rattle.pp_cert.specs.Walk.{Claims, note_at, same, outcome, slot_unused, loop_keeps, branch_agrees, first_fault, note_tests, step_tests, statement_tests, sequence_tests, later_tests, statement_end, sequence_end, Certifies}
+use Rattle.pp_cert.specs.Limits.{most_entries}
+use Rattle.pp_cert.proofs.Passing.{first_passes, both_pass, note_passes, all_pass}
+use Rattle.pp_cert.proofs.Places.{sequence_end-most}
 use Rattle.pp_annotate.specs.Made.{after_statement, after_sequence, statement_notes, sequence_notes, branches_notes, made_notes, made}
-use Rattle.pp_annotate.specs.Annotation.{Certifies}
-use Rattle.pp_annotate.proofs.Passing.{first_passes, both_pass, note_passes}
 use Rattle.pp_annotate.proofs.Stands.{sequence_places}
-use Rattle.pp_annotate.proofs.Written.{statement_written, accepted}
-use Rattle.pp_annotate.proofs.Layouts.{layout_same}
-
--- ---- how many places a plan has
-
-mutual
-  statement_end-most : (slots regions k : ℕ) (s : Statement) → IsStatement slots regions s → statement_end k s ≤ k + 17 * statement_count s
-  statement_end-most slots regions k (step s) h = omega arith
-  statement_end-most slots regions k (loop n b) h = omega (arith, sequence_end-most slots regions (k + 1) b h.3)
-  statement_end-most slots regions k (choice bs) h =
-      omega (arith, h.1, alternatives_end-most slots regions (k + 1) bs h.2)
-
-  sequence_end-most : (slots regions k : ℕ) (b : Sequence) → IsSequence slots regions b → sequence_end k b ≤ k + 17 * sequence_count b
-  sequence_end-most slots regions k done h = omega arith
-  sequence_end-most slots regions k (andthen s b) h =
-      omega (arith, statement_end-most slots regions k s h.0, sequence_end-most slots regions (statement_end k s) b h.1)
-
-  alternatives_end-most : (slots regions k : ℕ) (bs : Alternatives) → AreAlternatives slots regions bs → alternatives_end k bs ≤ k + 17 * alternatives_count bs + branch_count bs
-  alternatives_end-most slots regions k none h = omega arith
-  alternatives_end-most slots regions k (either b bs) h =
-      omega (arith, sequence_end-most slots regions k b h.0, alternatives_end-most slots regions (sequence_end k b + 1) bs h.1)
+use Rattle.pp_annotate.proofs.Written.{statement_written}
 
 -- ---- notes whose slots rise
 
@@ -65,19 +46,29 @@ module _ (slots regions : ℕ) where
   another m s a b = grind (arith, nat_tests)
 
   -- a slot that isn't noted is neither the first one nor noted further on
-  not_first : (y : Entry) (ys : Entries) (s : ℕ) → is_some (noted_at (y ∷ ys) s) ≡ false → ((y.slot == s) ≡ false) × (is_some (noted_at ys s) ≡ false)
-  not_first y ys s = elim (y.slot == s) as (λ b. is_some (option_map (λ e. e.held) (cond b (Some y) (find (λ e. entry_slot e == s) ys))) ≡ false → (b ≡ false) × (is_some (noted_at ys s) ≡ false)) [
-    | true ↦ λ h. absurd (cc)
-    | false ↦ λ h. (refl, h)
-  ]
+  not_first : (y : Entry) (ys : Entries) (s : ℕ) → is_some (noted_at (y ∷ ys) s) ≡ false → ((y.slot == s) ≡ false)
+      × (is_some (noted_at ys s) ≡ false)
+  not_first y ys s =
+      elim (y.slot == s) as (λ b. is_some
+      (option_map (λ e. e.held) (cond b (Some y) (find (λ e. entry_slot e == s) ys))) ≡ false → (b ≡ false)
+      × (is_some (noted_at ys s) ≡ false)) [
+        | true ↦ λ h. absurd (cc)
+        | false ↦ λ h. (refl, h)
+      ]
 
-  rises_insert : (low : ℕ) (n : Entries) (e : Entry) → low ≤ e.slot → e.slot < slots → e.region < regions → is_some (noted_at n e.slot) ≡ false → Rises low n → Rises low (slot_insert entry_slot e n)
+  rises_insert : (low : ℕ) (n : Entries) (e : Entry) → low ≤ e.slot → e.slot < slots → e.region < regions
+      → is_some (noted_at n e.slot) ≡ false → Rises low n → Rises low (slot_insert entry_slot e n)
   rises_insert low [] e at within region unused r = (at, region, omega (arith, within))
   rises_insert low (y ∷ ys) e at within region unused r =
       let apart = not_first y ys e.slot unused in
-      elim (nat_lt e.slot y.slot) as (λ b. nat_lt e.slot y.slot ≡ b → Rises low (if b then e ∷ y ∷ ys else y ∷ slot_insert entry_slot e ys)) [
+      elim (nat_lt e.slot y.slot) as (λ b. nat_lt e.slot y.slot ≡ b
+      → Rises low (if b then e ∷ y ∷ ys else y ∷ slot_insert entry_slot e ys)) [
         | true ↦ λ t. (at, region, (omega (arith, ltb-true e.slot y.slot t), r.1, r.2))
-        | false ↦ λ t. (r.0, r.1, rises_insert (y.slot + 1) ys e (another y.slot e.slot apart.0 t) within region apart.1 r.2)
+        | false ↦ λ t. (
+          r.0,
+          r.1,
+          rises_insert (y.slot + 1) ys e (another y.slot e.slot apart.0 t) within region apart.1 r.2,
+        )
       ] refl
 
   rises_remove : (low s : ℕ) (n : Entries) → Rises low n → Rises low (slot_remove entry_slot s n)
@@ -91,20 +82,19 @@ module _ (slots regions : ℕ) where
   rises_held_as : (low : ℕ) (held : Held) (s : ℕ) (n : Entries) → Rises low n → Rises low (noted_as held s n)
   rises_held_as low held s [] r = r
   rises_held_as low held s (y ∷ ys) r =
-      elim (y.slot == s) as (λ b. Rises low (if b then record { slot = y.slot; region = y.region; held = held } ∷ ys else y ∷ noted_as held s ys)) [
+      elim (y.slot == s) as (λ b. Rises low
+      (if b then record { slot = y.slot; region = y.region; held = held } ∷ ys else y ∷ noted_as held s ys)) [
         | true ↦ (r.0, r.1, r.2)
         | false ↦ (r.0, r.1, rises_held_as (y.slot + 1) held s ys r.2)
       ]
 
-  not_true : (b : Bool) → not b ≡ true → b ≡ false
-  not_true true h = absurd (cc)
-  not_true false h = refl
-
   module _ (g : Geometry) (c : Claims) where
-    step_rises : (k : ℕ) (s : Step) → first_fault g c (step_tests k s) ≡ None → IsStep slots regions s → Rises 0 (note_at c k) → Rises 0 (noted_after s (note_at c k))
+    step_rises : (k : ℕ) (s : Step) → first_fault g c (step_tests k s) ≡ None → IsStep slots regions s
+        → Rises 0 (note_at c k) → Rises 0 (noted_after s (note_at c k))
     step_rises k (fix s r) h is n =
         let p = first_passes g c (slot_unused k s) [] h in
-        rises_insert 0 (note_at c k) (record { slot = s; region = r; held = Free }) (omega arith) is.0 is.1 (not_true (is_some (noted_at (note_at c k) s)) p.0) n
+        rises_insert 0 (note_at c k) (record { slot = s; region = r; held = Free }) (omega arith) is.0 is.1
+        (not-true (is_some (noted_at (note_at c k) s)) p.0) n
     step_rises k (unfix s) h is n = rises_remove 0 s (note_at c k) n
     step_rises k (latch s m) h is n = rises_held_as 0 (held_in m) s (note_at c k) n
     step_rises k (unlatch s) h is n = rises_held_as 0 Free s (note_at c k) n
@@ -113,9 +103,14 @@ module _ (slots regions : ℕ) where
     AllRise ns = All (Rises 0) ns
 
     mutual
-      statement_rises : (k : ℕ) (s : Statement) (n : Entries) → note_at c k ≡ n → first_fault g c (statement_tests k s) ≡ None → IsStatement slots regions s → Rises 0 n → AllRise (statement_notes s n) × Rises 0 (after_statement s n)
-      statement_rises k (step s) n e h is r =
-          (All-nil (Rises 0), subst (λ x. Rises 0 (noted_after s x)) e (step_rises k s h is (subst (λ x. Rises 0 x) (sym e) r)))
+      statement_rises : (k : ℕ) (s : Statement) (n : Entries) → note_at c k ≡ n
+          → first_fault g c (statement_tests k s) ≡ None → IsStatement slots regions s → Rises 0 n
+          → AllRise (statement_notes s n) × Rises 0 (after_statement s n)
+      statement_rises k (step s) n e h is r = (
+        All-nil (Rises 0),
+        subst (λ x. Rises 0 (noted_after s x)) e
+            (step_rises k s h is (subst (λ x. Rises 0 x) (sym e) r)),
+      )
       statement_rises k (loop m b) n e h is r =
           let end : ℕ = sequence_end (k + 1) b in
           let p = both_pass g c (note_tests (k + 1) (same k) ++ sequence_tests (k + 1) b) (loop_keeps end k ∷ []) h in
@@ -125,69 +120,101 @@ module _ (slots regions : ℕ) where
       statement_rises k (choice none) n e h is r = (All-nil (Rises 0), r)
       statement_rises k (choice (either b bs)) n e h is r =
           let end : ℕ = sequence_end (k + 1) b in
-          let p = both_pass g c (note_tests (k + 1) (same k) ++ sequence_tests (k + 1) b) (later_tests k end (end + 1) bs) h in
+          let p =
+          both_pass g c (note_tests (k + 1) (same k) ++ sequence_tests (k + 1) b) (later_tests k end (end + 1) bs)
+          h in
           let q = both_pass g c (note_tests (k + 1) (same k)) (sequence_tests (k + 1) b) p.0 in
           let at : note_at c (k + 1) ≡ n = (note_passes g c (k + 1) (same k) q.0).1 ∙ e in
-          let body = sequence_rises (k + 1) b n at q.1 is.2.0 r in
-          (All-append (Rises 0) (n ∷ sequence_notes b n) (branches_notes bs n) (All-cons (Rises 0) n (sequence_notes b n) r body.0) (later_rises k end (end + 1) bs n e p.1 is.2.1 r), body.1)
+          let body = sequence_rises (k + 1) b n at q.1 is.2.0 r in (
+            All-append (Rises 0) (n ∷ sequence_notes b n) (branches_notes bs n)
+                (All-cons (Rises 0) n (sequence_notes b n) r body.0) (later_rises k end (end + 1) bs n e p.1 is.2.1 r),
+            body.1,
+          )
 
-      sequence_rises : (k : ℕ) (b : Sequence) (n : Entries) → note_at c k ≡ n → first_fault g c (sequence_tests k b) ≡ None → IsSequence slots regions b → Rises 0 n → AllRise (sequence_notes b n) × Rises 0 (after_sequence b n)
+      sequence_rises : (k : ℕ) (b : Sequence) (n : Entries) → note_at c k ≡ n
+          → first_fault g c (sequence_tests k b) ≡ None → IsSequence slots regions b → Rises 0 n
+          → AllRise (sequence_notes b n) × Rises 0 (after_sequence b n)
       sequence_rises k done n e h is r = (All-nil (Rises 0), r)
       sequence_rises k (andthen s b) n e h is r =
           let next : ℕ = statement_end k s in
           let m : Entries = after_statement s n in
           let p = both_pass g c (statement_tests k s ++ note_tests next (outcome k s)) (sequence_tests next b) h in
           let q = both_pass g c (statement_tests k s) (note_tests next (outcome k s)) p.0 in
-          let at : note_at c next ≡ m = (note_passes g c next (outcome k s) q.1).1 ∙ (statement_written g c k s n e q.0).1 in
+          let at : note_at c next ≡ m = (note_passes g c next (outcome k s) q.1).1
+          ∙ (statement_written g c k s n e q.0).1 in
           let inner = statement_rises k s n e q.0 is.0 r in
-          let rest = sequence_rises next b m at p.1 is.1 inner.1 in
-          (All-append (Rises 0) (statement_notes s n) (m ∷ sequence_notes b m) inner.0 (All-cons (Rises 0) m (sequence_notes b m) inner.1 rest.0), rest.1)
+          let rest = sequence_rises next b m at p.1 is.1 inner.1 in (
+            All-append (Rises 0) (statement_notes s n) (m ∷ sequence_notes b m) inner.0
+                (All-cons (Rises 0) m (sequence_notes b m) inner.1 rest.0),
+            rest.1,
+          )
 
       -- of the second and later branches
-      later_rises : (before first k : ℕ) (bs : Alternatives) (n : Entries) → note_at c before ≡ n → first_fault g c (later_tests before first k bs) ≡ None → AreAlternatives slots regions bs → Rises 0 n → AllRise (branches_notes bs n)
+      later_rises : (before first k : ℕ) (bs : Alternatives) (n : Entries) → note_at c before ≡ n
+          → first_fault g c (later_tests before first k bs) ≡ None → AreAlternatives slots regions bs → Rises 0 n
+          → AllRise (branches_notes bs n)
       later_rises before first k none n e h is r = All-nil (Rises 0)
       later_rises before first k (either b bs) n e h is r =
           let end : ℕ = sequence_end k b in
-          let p = both_pass g c (note_tests k (same before) ++ sequence_tests k b) (branch_agrees end first ∷ later_tests before first (end + 1) bs) h in
+          let p =
+          both_pass g c (note_tests k (same before) ++ sequence_tests k b)
+          (branch_agrees end first ∷ later_tests before first (end + 1) bs) h in
           let q = both_pass g c (note_tests k (same before)) (sequence_tests k b) p.0 in
           let rest = first_passes g c (branch_agrees end first) (later_tests before first (end + 1) bs) p.1 in
           let at : note_at c k ≡ n = (note_passes g c k (same before) q.0).1 ∙ e in
-          All-append (Rises 0) (n ∷ sequence_notes b n) (branches_notes bs n) (All-cons (Rises 0) n (sequence_notes b n) r (sequence_rises k b n at q.1 is.0 r).0) (later_rises before first (end + 1) bs n e rest.1 is.1 r)
+          All-append (Rises 0) (n ∷ sequence_notes b n) (branches_notes bs n)
+          (All-cons (Rises 0) n (sequence_notes b n) r (sequence_rises k b n at q.1 is.0 r).0)
+          (later_rises before first (end + 1) bs n e rest.1 is.1 r)
 
 -- ---- such a note is in form
 
 rises_above : (slots regions low : ℕ) (n : Entries) → Rises slots regions low n → All (λ e. low ≤ e.slot) n
 rises_above slots regions low [] r = All-nil (λ e. low ≤ e.slot)
 rises_above slots regions low (e ∷ es) r =
-    All-cons (λ d. low ≤ d.slot) e es r.0 (All-weaker (λ d. e.slot + 1 ≤ d.slot) (λ d. low ≤ d.slot) (λ d h. omega (arith, h, r.0)) es (rises_above slots regions (e.slot + 1) es r.2))
+    All-cons (λ d. low ≤ d.slot) e es r.0
+    (All-weaker (λ d. e.slot + 1 ≤ d.slot) (λ d. low ≤ d.slot) (λ d h. omega (arith, h, r.0)) es
+    (rises_above slots regions (e.slot + 1) es r.2))
 
-is_note : (c : Configuration) (p : Terms) (low : ℕ) (n : Entries) → Rises (length p.slots) (length c.regions) low n → IsNote c p n
+is_note : (c : Configuration) (p : Terms) (low : ℕ) (n : Entries) → Rises (length p.slots) (length c.regions) low n
+    → IsNote c p n
 is_note c p low [] r = record { entries = All-nil (IsEntry c p); rising = λ i j d h l. absurd (omega (arith, l)) }
 is_note c p low (e ∷ es) r =
     let rest = is_note c p (e.slot + 1) es r.2 in
-    let here : IsEntry c p e = record { slot = omega (arith, rises_size (length p.slots) (length c.regions) (e.slot + 1) es r.2); region = r.1 } in
-    let above : All (λ d. e.slot < d.slot) es = All-weaker (λ d. e.slot + 1 ≤ d.slot) (λ d. e.slot < d.slot) (λ d h. omega (arith, h)) es (rises_above (length p.slots) (length c.regions) (e.slot + 1) es r.2) in
+    let here : IsEntry c p e =
+    record {
+      slot = omega (arith, rises_size (length p.slots) (length c.regions) (e.slot + 1) es r.2);
+      region =
+          r.1;
+    } in
+    let above : All (λ d. e.slot < d.slot) es =
+    All-weaker (λ d. e.slot + 1 ≤ d.slot) (λ d. e.slot < d.slot) (λ d h. omega (arith, h)) es
+    (rises_above (length p.slots) (length c.regions) (e.slot + 1) es r.2) in
     record {
       entries = All-cons (IsEntry c p) e es here rest.entries;
       rising = AllPairs-cons (λ d f. d.slot < f.slot) e es above rest.rising;
     }
 
-pub writable : (c : Configuration) (p : Terms) → IsPlan p → Certifies (geometry_of c) p (made p) → AreClaims c p (made p)
+pub writable : (c : Configuration) (p : Terms) → IsPlan p → Certifies (geometry_of c) p (made p)
+    → AreClaims c p (made p)
 writable c p plan h =
     let g : Geometry = geometry_of c in
     let slots : ℕ = length p.slots in
     let regions : ℕ = length c.regions in
-    let is = accepted g p (made p) h in
-    let layouts = layout_same g p.layout is.settings in
-    let count : length p.layout.extents ≡ regions = ap (λ (x : Geometry). length x.extents) (sym layouts) ∙ length-map c.regions (λ r. r.extent) in
+    let is = all_pass g p (made p) h in
+    let count : length p.layout.extents ≡ regions = ap (λ (x : Geometry). length x.extents) (sym is.settings)
+    ∙ length-map c.regions (λ r. r.extent) in
     let parts : IsSequence slots regions p.body = subst (λ (r : ℕ). IsSequence slots r p.body) count plan.body.parts in
     let none_yet : Rises slots regions 0 [] = omega arith in
     let rest = sequence_rises slots regions g (made p) 0 p.body [] refl is.walk parts none_yet in
-    let all : All (Rises slots regions 0) (made_notes p) = All-cons (Rises slots regions 0) [] (sequence_notes p.body []) none_yet rest.0 in
+    let all : All (Rises slots regions 0) (made_notes p) =
+    All-cons (Rises slots regions 0) [] (sequence_notes p.body []) none_yet rest.0 in
     record {
       few = record {
-        notes_few = omega (arith, sequence_places 0 p.body [], sequence_end-most slots regions 0 p.body parts, plan.body.count);
-        entries_few = All-weaker (Rises slots regions 0) (λ (n : Entries). length n ≤ 32) (λ n r. omega (arith, rises_size slots regions 0 n r, plan.count)) (made_notes p) all;
+        notes_few =
+            omega (arith, sequence_places 0 p.body [], sequence_end-most slots regions 0 p.body parts, plan.body.count);
+        entries_few =
+            All-weaker (Rises slots regions 0) (λ (n : Entries). length n ≤ most_entries)
+            (λ n r. omega (arith, rises_size slots regions 0 n r, plan.count)) (made_notes p) all;
       };
       notes = All-weaker (Rises slots regions 0) (IsNote c p) (λ n r. is_note c p 0 n r) (made_notes p) all;
     }

@@ -1,14 +1,12 @@
 -- The notes of an accepted certificate are those that are made.
-use Rattle.std.proofs.Common.{◌≡◌, ℕ, ◌+◌, ◌≤◌, true, Some, None, List, [], ◌∷◌, ◌++◌, length, ap, subst, ◌∙◌, arith}
-use borrow.Author.Tests.{leb-true}
+use Rattle.std.proofs.Common.{◌≡◌, ℕ, ◌+◌, ◌≤◌, Some, None, List, [], ◌∷◌, ◌++◌, length, ap, subst, ◌∙◌, arith}
 use Rattle.pp_settings.specs.Layout.{Geometry}
 use Rattle.pp_plan.specs.Tree.{Statement, step, loop, choice, Sequence, done, andthen, Alternatives, none, either}
 use Rattle.pp_plan.specs.Terms.{Terms}
 use Rattle.pp_cert.specs.Notes.{Entries, noted_after}
-use Rattle.pp_cert.specs.Longest.{sequence_longest}
-use Rattle.pp_cert.specs.Walk.{Claims, note_at, empty, same, expected_note, outcome, Test, same_settings, loop_keeps, branch_agrees, holds_nothing, no_more_notes, steps_allowed, steps_enough, peak_allowed, first_fault, note_tests, statement_tests, sequence_tests, later_tests, tests, statement_end, sequence_end, same_layout, most_steps}
+use Rattle.pp_cert.specs.Walk.{Claims, note_at, same, expected_note, outcome, loop_keeps, branch_agrees, first_fault, note_tests, statement_tests, sequence_tests, later_tests, statement_end, sequence_end}
+use Rattle.pp_cert.proofs.Passing.{first_passes, both_pass, note_passes, AllPass}
 use Rattle.pp_annotate.specs.Made.{after_statement, after_sequence, statement_notes, sequence_notes, branches_notes, made_notes, greatest}
-use Rattle.pp_annotate.proofs.Passing.{first_passes, both_pass, note_passes}
 use Rattle.pp_annotate.proofs.Stands.{Stand, stand_append, stand_whole, stand_greatest, statement_places, sequence_places}
 
 module _ (g : Geometry) (c : Claims) where
@@ -16,7 +14,9 @@ module _ (g : Geometry) (c : Claims) where
   Here k ns = Stand c.peak c.notes k ns
 
   mutual
-    pub statement_written : (k : ℕ) (s : Statement) (n : Entries) → note_at c k ≡ n → first_fault g c (statement_tests k s) ≡ None → Here (k + 1) (statement_notes s n) × (expected_note c (outcome k s) ≡ after_statement s n)
+    pub statement_written : (k : ℕ) (s : Statement) (n : Entries) → note_at c k ≡ n
+        → first_fault g c (statement_tests k s) ≡ None → Here (k + 1) (statement_notes s n)
+        × (expected_note c (outcome k s) ≡ after_statement s n)
     statement_written k (step s) n e h = (tt, ap (noted_after s) e)
     statement_written k (loop m b) n e h =
         let end : ℕ = sequence_end (k + 1) b in
@@ -28,16 +28,24 @@ module _ (g : Geometry) (c : Claims) where
     statement_written k (choice none) n e h = (tt, e)
     statement_written k (choice (either b bs)) n e h =
         let end : ℕ = sequence_end (k + 1) b in
-        let p = both_pass g c (note_tests (k + 1) (same k) ++ sequence_tests (k + 1) b) (later_tests k end (end + 1) bs) h in
+        let p =
+        both_pass g c (note_tests (k + 1) (same k) ++ sequence_tests (k + 1) b) (later_tests k end (end + 1) bs)
+        h in
         let q = both_pass g c (note_tests (k + 1) (same k)) (sequence_tests (k + 1) b) p.0 in
         let note = note_passes g c (k + 1) (same k) q.0 in
         let is : note_at c (k + 1) ≡ n = note.1 ∙ e in
         let body = sequence_written (k + 1) b n is q.1 in
-        let first : Here (k + 1) (n ∷ sequence_notes b n) = (note.0 ∙ ap Some is, subst (λ x. length x ≤ c.peak) is note.2, body.0) in
-        let at : k + 1 + length (n ∷ sequence_notes b n) ≡ end + 1 = omega (arith, sequence_places (k + 1) b n) in
-        (stand_append c.peak c.notes (k + 1) (end + 1) (n ∷ sequence_notes b n) (branches_notes bs n) at first (later_written k end (end + 1) bs n e p.1), body.1)
+        let first : Here (k + 1) (n ∷ sequence_notes b n) =
+        (note.0 ∙ ap Some is, subst (λ x. length x ≤ c.peak) is note.2, body.0) in
+        let at : k + 1 + length (n ∷ sequence_notes b n) ≡ end + 1 = omega (arith, sequence_places (k + 1) b n) in (
+          stand_append c.peak c.notes (k + 1) (end + 1) (n ∷ sequence_notes b n) (branches_notes bs n) at first
+              (later_written k end (end + 1) bs n e p.1),
+          body.1,
+        )
 
-    pub sequence_written : (k : ℕ) (b : Sequence) (n : Entries) → note_at c k ≡ n → first_fault g c (sequence_tests k b) ≡ None → Here (k + 1) (sequence_notes b n) × (note_at c (sequence_end k b) ≡ after_sequence b n)
+    pub sequence_written : (k : ℕ) (b : Sequence) (n : Entries) → note_at c k ≡ n
+        → first_fault g c (sequence_tests k b) ≡ None → Here (k + 1) (sequence_notes b n)
+        × (note_at c (sequence_end k b) ≡ after_sequence b n)
     sequence_written k done n e h = (tt, e)
     sequence_written k (andthen s b) n e h =
         let next : ℕ = statement_end k s in
@@ -48,57 +56,45 @@ module _ (g : Geometry) (c : Claims) where
         let note = note_passes g c next (outcome k s) q.1 in
         let is : note_at c next ≡ m = note.1 ∙ inner.1 in
         let rest = sequence_written next b m is p.1 in
-        let behind : Here next (m ∷ sequence_notes b m) = (note.0 ∙ ap Some is, subst (λ x. length x ≤ c.peak) is note.2, rest.0) in
-        (stand_append c.peak c.notes (k + 1) next (statement_notes s n) (m ∷ sequence_notes b m) (statement_places k s n) inner.0 behind, rest.1)
+        let behind : Here next (m ∷ sequence_notes b m) =
+        (note.0 ∙ ap Some is, subst (λ x. length x ≤ c.peak) is note.2, rest.0) in (
+          stand_append c.peak c.notes (k + 1) next (statement_notes s n) (m ∷ sequence_notes b m)
+              (statement_places k s n) inner.0 behind,
+          rest.1,
+        )
 
     -- of the second and later branches
-    later_written : (before first k : ℕ) (bs : Alternatives) (n : Entries) → note_at c before ≡ n → first_fault g c (later_tests before first k bs) ≡ None → Here k (branches_notes bs n)
+    later_written : (before first k : ℕ) (bs : Alternatives) (n : Entries) → note_at c before ≡ n
+        → first_fault g c (later_tests before first k bs) ≡ None → Here k (branches_notes bs n)
     later_written before first k none n e h = tt
     later_written before first k (either b bs) n e h =
         let end : ℕ = sequence_end k b in
-        let p = both_pass g c (note_tests k (same before) ++ sequence_tests k b) (branch_agrees end first ∷ later_tests before first (end + 1) bs) h in
+        let p =
+        both_pass g c (note_tests k (same before) ++ sequence_tests k b)
+        (branch_agrees end first ∷ later_tests before first (end + 1) bs) h in
         let q = both_pass g c (note_tests k (same before)) (sequence_tests k b) p.0 in
         let rest = first_passes g c (branch_agrees end first) (later_tests before first (end + 1) bs) p.1 in
         let note = note_passes g c k (same before) q.0 in
         let is : note_at c k ≡ n = note.1 ∙ e in
-        let body : Here k (n ∷ sequence_notes b n) = (note.0 ∙ ap Some is, subst (λ x. length x ≤ c.peak) is note.2, (sequence_written k b n is q.1).0) in
+        let body : Here k (n ∷ sequence_notes b n) =
+        (note.0 ∙ ap Some is, subst (λ x. length x ≤ c.peak) is note.2, (sequence_written k b n is q.1).0) in
         let at : k + length (n ∷ sequence_notes b n) ≡ end + 1 = omega (arith, sequence_places k b n) in
-        stand_append c.peak c.notes k (end + 1) (n ∷ sequence_notes b n) (branches_notes bs n) at body (later_written before first (end + 1) bs n e rest.1)
+        stand_append c.peak c.notes k (end + 1) (n ∷ sequence_notes b n) (branches_notes bs n) at body
+        (later_written before first (end + 1) bs n e rest.1)
 
--- what holds of the claims of an accepted certificate
-pub record Accepted (g : Geometry) (p : Terms) (c : Claims) : Type 0 where
-  pub settings : same_layout g p.layout ≡ true
-  pub walk : first_fault g c (sequence_tests 0 p.body) ≡ None
-  pub first : note_at c 0 ≡ []
-  pub notes : c.notes ≡ made_notes p
+-- The notes of an accepted certificate are those that are made, each within its peak.
+pub record Notes (p : Terms) (c : Claims) : Type 0 where
+  pub made : c.notes ≡ made_notes p
   pub peak : greatest (made_notes p) ≤ c.peak
-  pub limit : c.steps ≤ most_steps
-  pub enough : sequence_longest p.body ≤ c.steps
-  pub frames : c.peak ≤ g.frames
 
-pub accepted : (g : Geometry) (p : Terms) (c : Claims) → first_fault g c (tests p) ≡ None → Accepted g p c
-accepted g p c h =
-    let k : ℕ = sequence_end 0 p.body in
-    let finals : List Test = holds_nothing k ∷ no_more_notes (k + 1) ∷ steps_allowed ∷ steps_enough (sequence_longest p.body) ∷ peak_allowed ∷ [] in
-    let a = both_pass g c (same_settings p.layout ∷ note_tests 0 empty ++ sequence_tests 0 p.body) finals h in
-    let b = both_pass g c (same_settings p.layout ∷ note_tests 0 empty) (sequence_tests 0 p.body) a.0 in
-    let d = first_passes g c (same_settings p.layout) (note_tests 0 empty) b.0 in
-    let note = note_passes g c 0 empty d.1 in
-    let e1 = first_passes g c (holds_nothing k) (no_more_notes (k + 1) ∷ steps_allowed ∷ steps_enough (sequence_longest p.body) ∷ peak_allowed ∷ []) a.1 in
-    let e2 = first_passes g c (no_more_notes (k + 1)) (steps_allowed ∷ steps_enough (sequence_longest p.body) ∷ peak_allowed ∷ []) e1.1 in
-    let e3 = first_passes g c steps_allowed (steps_enough (sequence_longest p.body) ∷ peak_allowed ∷ []) e2.1 in
-    let e4 = first_passes g c (steps_enough (sequence_longest p.body)) (peak_allowed ∷ []) e3.1 in
-    let e5 = first_passes g c peak_allowed [] e4.1 in
-    let rest = sequence_written g c 0 p.body [] note.1 b.1 in
-    let all : Stand c.peak c.notes 0 (made_notes p) = (note.0 ∙ ap Some note.1, subst (λ x. length x ≤ c.peak) note.1 note.2, rest.0) in
-    let few : length c.notes ≤ length (made_notes p) = omega (arith, leb-true (length c.notes) (k + 1) e2.0, sequence_places 0 p.body []) in
+pub notes_are : (g : Geometry) (p : Terms) (c : Claims) → AllPass g p c → Notes p c
+notes_are g p c is =
+    let note = is.first in
+    let rest = sequence_written g c 0 p.body [] note.1 is.walk in
+    let small = subst (λ x. length x ≤ c.peak) note.1 note.2 in
+    let all : Stand c.peak c.notes 0 (made_notes p) = (note.0 ∙ ap Some note.1, small, rest.0) in
+    let few : length c.notes ≤ length (made_notes p) = omega (arith, is.few, sequence_places 0 p.body []) in
     record {
-      settings = d.0;
-      walk = b.1;
-      first = note.1;
-      notes = stand_whole c.peak c.notes (made_notes p) all few;
+      made = stand_whole c.peak c.notes (made_notes p) all few;
       peak = stand_greatest c.peak c.notes 0 (made_notes p) all;
-      limit = leb-true c.steps most_steps e3.0;
-      enough = leb-true (sequence_longest p.body) c.steps e4.0;
-      frames = leb-true c.peak g.frames e5.0;
     }

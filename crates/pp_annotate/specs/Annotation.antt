@@ -1,5 +1,5 @@
 -- What the maker of certificates answers, and what holds of it.
-use Rattle.std.specs.Prelude.{◌≡◌, ◌≤◌, None, Result, Ok, Err, List, length}
+use Rattle.std.specs.Prelude.{◌≡◌, ◌≤◌, Result, Ok, Err, List, length}
 use Rattle.pp_settings.specs.Layout.{Geometry}
 use Rattle.pp_plan.specs.Terms.{Terms}
 use Rattle.pp_plan.specs.Traces.{Begins}
@@ -7,16 +7,16 @@ use Rattle.pp_plan.specs.PlanTraces.{IsTraceOf}
 use Rattle.pp_plan.specs.declared.action.Action.{Action}
 use Rattle.pp_cert.specs.declared.certificate.Certificate.{Certificate}
 use Rattle.pp_cert.specs.declared.check_error.CheckError.{CheckError}
-use Rattle.pp_cert.specs.declared.check_error.CheckError.TheVariants.{NotesShort, NotesLong, NoteDiffers, SlotInUse, NotFixed, StillLatched, NotLatched, AgainstOrder, OverPeak, LoopChanges, BranchDiffers, EndsHolding, StepsTooFew, StepsTooMany, PeakTooBig, OtherSettings}
+use Rattle.pp_cert.specs.declared.check_error.CheckError.TheVariants.{NotesShort, NotesLong, NoteDiffers, SlotInUse}
+use Rattle.pp_cert.specs.declared.check_error.CheckError.TheVariants.{NotFixed, StillLatched, NotLatched, AgainstOrder}
+use Rattle.pp_cert.specs.declared.check_error.CheckError.TheVariants.{OverPeak, LoopChanges, BranchDiffers, EndsHolding}
+use Rattle.pp_cert.specs.declared.check_error.CheckError.TheVariants.{StepsTooFew, StepsTooMany, PeakTooBig}
+use Rattle.pp_cert.specs.declared.check_error.CheckError.TheVariants.{OtherSettings}
 use Rattle.pp_cert.specs.Held.{pins}
-use Rattle.pp_cert.specs.Walk.{Claims, claims_of, tests, first_fault, unless}
+use Rattle.pp_cert.specs.Walk.{Claims, claims_of, Certifies, tests, first_fault, unless}
 use Rattle.pp_annotate.specs.declared.error.AnnotateError.{AnnotateError}
 use Rattle.pp_annotate.specs.declared.error.AnnotateError.TheVariants.{Fault, OutOfMemory}
 use Rattle.pp_annotate.specs.Made.{made}
-
--- No test of the claims fails under the settings' layout: the check accepts them.
-abbrev pub Certifies : Geometry → Terms → Claims → Type 0
-Certifies g p c = first_fault g c (tests p) ≡ None
 
 -- What is made of the plan where no test of it fails, else the first fault.
 abbrev pub annotation : Geometry → Terms → Result Claims CheckError

@@ -3,6 +3,7 @@
 use Rattle.std.specs.Prelude.{ℕ, min, max, List, [], ◌∷◌, ◌++◌, length}
 use Rattle.pp_plan.specs.Tree.{Statement, step, loop, choice, Sequence, done, andthen, Alternatives, none, either}
 use Rattle.pp_plan.specs.Terms.{Terms}
+use Rattle.pp_cert.specs.Limits.{counted}
 use Rattle.pp_cert.specs.Claims.{Claims}
 use Rattle.pp_cert.specs.Notes.{Entries, noted_after}
 use Rattle.pp_cert.specs.Longest.{sequence_longest}
@@ -52,6 +53,11 @@ abbrev pub greatest : List Entries → ℕ
 greatest [] = 0
 greatest (n ∷ ns) = max (length n) (greatest ns)
 
--- The notes, the greatest one's size as peak, and the longest trace's length as steps, counted up to 1,000,001.
+-- The notes, the greatest one's size as peak, and the longest trace's length as steps, counted up to one more than
+-- the steps that are allowed.
 abbrev pub made : Terms → Claims
-made p = record { notes = made_notes p; peak = greatest (made_notes p); steps = min (sequence_longest p.body) 1000001 }
+made p = record {
+  notes = made_notes p;
+  peak = greatest (made_notes p);
+  steps = min (sequence_longest p.body) counted;
+}

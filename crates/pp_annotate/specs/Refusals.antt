@@ -1,26 +1,21 @@
--- The number, the name and the place of what the maker of certificates answers, and what the program prints of it.
-use Rattle.std.specs.Prelude.{ℕ, Option, None, List, ◌++◌, codes}
-use Rattle.std.specs.Fmt.{decimal}
-use Rattle.pp_cert.specs.CheckErrors.{number_of as fault_number, name_of as fault_name, place_of as fault_place}
-use Rattle.pp_cert.specs.Refusals.{place_text}
+-- What is printed of what the maker of certificates answers, and the place that it is about.
+use Rattle.std.specs.Prelude.{ℕ, Bool, true, false, Option, None, codes}
+use Rattle.pp_text.specs.Refusals.{Row, row, nothing}
+use Rattle.pp_cert.specs.CheckErrors.{row_of as fault_row, place_of as fault_place}
 use Rattle.pp_annotate.specs.declared.error.AnnotateError.{AnnotateError}
 use Rattle.pp_annotate.specs.declared.error.AnnotateError.TheVariants.{Fault, OutOfMemory}
 
--- The number of a refusal, as it is printed.
-abbrev pub number_of : AnnotateError → ℕ
-number_of (Fault fault) = fault_number fault
-number_of OutOfMemory = 19
-
--- The name of a refusal, as it is printed.
-abbrev pub name_of : AnnotateError → List ℕ
-name_of (Fault fault) = fault_name fault
-name_of OutOfMemory = codes "OutOfMemory"
+-- The number and the name of a refusal, and the place that it is about: a fault's are those of the check.
+abbrev pub row_of : AnnotateError → Row
+row_of (Fault fault) = fault_row fault
+row_of OutOfMemory = row 19 (codes "OutOfMemory") nothing
 
 -- The place that a refusal is about, if it is about one.
 abbrev pub place_of : AnnotateError → Option ℕ
 place_of (Fault fault) = fault_place fault
 place_of OutOfMemory = None
 
--- The number, the name and the place of a refusal.
-abbrev pub refusal_text : AnnotateError → List ℕ
-refusal_text e = decimal (number_of e) ++ codes " " ++ name_of e ++ place_text (place_of e)
+-- Want of memory, which says nothing of the plan.
+abbrev pub is_memory : AnnotateError → Bool
+is_memory (Fault fault) = false
+is_memory OutOfMemory = true

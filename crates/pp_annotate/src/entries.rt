@@ -1,23 +1,11 @@
 //! The note after a step.
 
 ghost use Rattle.std.specs.Prelude.{◌≡◌, ◌==◌, IfOk, nat_lt, position};
-ghost use Rattle.pp_cert.specs.Held.{held_in};
 ghost use Rattle.pp_cert.specs.Notes.{entry_slot, noted_as};
 ghost use Rattle.pp_cert.specs.Slots.{slot_insert, slot_remove};
 
 use pp_cert::{Entry, Held};
-use pp_plan::Mode;
 use std::alloc::{AllocError, Global};
-
-/// How a page is held that is latched in the mode.
-pub(crate) fn held_in(mode: Mode) -> Held
-    ensures { result ≡ held_in mode }
-{
-    match mode {
-        Mode::S => Held::S,
-        Mode::X => Held::X,
-    }
-}
 
 /// The place of the slot's entry, if it has one.
 fn position_of(note: &[Entry], slot: u8) -> Option<usize>

@@ -1,11 +1,11 @@
 //! Why no certificate is made, and how a program says so.
 
-ghost use Rattle.std.specs.Prelude.{◌≡◌, Some};
+ghost use Rattle.std.specs.Prelude.{◌≡◌};
 ghost use Rattle.pp_annotate.specs.declared.error.AnnotateError.TheVariants.{OutOfMemory};
 
 use pp_cert::CheckError;
+use pp_text::{About, Refusal};
 use std::alloc::AllocError;
-use std::fmt;
 use thiserror::Error;
 
 /// Why no certificate is made.
@@ -22,26 +22,31 @@ pub enum AnnotateError {
 }
 
 impl AnnotateError {
-    ghost use Rattle.pp_annotate.specs.Refusals.{number_of, name_of, place_of};
+    ghost use Rattle.pp_text.specs.Views.{row_of as printed};
+    ghost use Rattle.pp_annotate.specs.Refusals.{row_of, place_of};
+
+    /// What the program prints: the number, the name and the place, as in `40 LoopChanges at 2`.
+    pub fn refusal(self) -> Refusal
+        ensures { printed result ≡ row_of self }
+    {
+        match self {
+            AnnotateError::Fault(fault) => fault.refusal(),
+            AnnotateError::OutOfMemory => Refusal::new(19, "OutOfMemory", About::Nothing),
+        }
+    }
 
     /// The number of the refusal: 34 to 38, 40 to 42, 44 to 46, and 19 for want of memory.
     pub fn number(self) -> u8
-        ensures { result ≡ number_of self }
+        ensures { result ≡ (row_of self).number }
     {
-        match self {
-            AnnotateError::Fault(fault) => fault.number(),
-            AnnotateError::OutOfMemory => 19,
-        }
+        self.refusal().number
     }
 
     /// The name of the refusal, as it is printed.
     pub fn name(self) -> &'static str
-        ensures { result.now ≡ name_of self }
+        ensures { result.now ≡ (row_of self).name }
     {
-        match self {
-            AnnotateError::Fault(fault) => fault.name(),
-            AnnotateError::OutOfMemory => "OutOfMemory",
-        }
+        self.refusal().name
     }
 
     /// The place that the refusal is about, if it is about one.
@@ -53,13 +58,6 @@ impl AnnotateError {
             AnnotateError::OutOfMemory => None,
         }
     }
-
-    /// What the program prints: the number, the name and the place, as in `40 LoopChanges at 2`.
-    pub fn refusal(self) -> AnnotateRefusal
-        ensures { result.error ≡ self }
-    {
-        AnnotateRefusal { error: self }
-    }
 }
 
 impl From<AllocError> for AnnotateError {
@@ -67,29 +65,5 @@ impl From<AllocError> for AnnotateError {
 
     fn from(_refused: AllocError) -> AnnotateError {
         AnnotateError::OutOfMemory
-    }
-}
-
-/// A refusal as the program prints it: `40 LoopChanges at 2`, or `44 StepsTooMany` where there is no place.
-#[derive(Clone, Copy, Debug, PartialEq, Eq)]
-pub struct AnnotateRefusal {
-    /// What is refused.
-    pub error: AnnotateError,
-}
-
-impl fmt::Display for AnnotateRefusal {
-    ghost use Rattle.pp_annotate.specs.Refusals.{refusal_text};
-
-    ghost output = { λ r. Some (refusal_text r.error) };
-
-    fn fmt<W: fmt::Write>(&self, f: &mut fmt::Formatter<W>) -> fmt::Result {
-        let error = self.error;
-        let number = error.number();
-        let name = error.name();
-        write!(f, "{number} {name}")?;
-        match error.place() {
-            Some(place) => write!(f, " at {place}"),
-            None => Ok(()),
-        }
     }
 }

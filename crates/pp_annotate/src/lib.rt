@@ -6,8 +6,5 @@ mod error;
 mod maker;
 mod writing;
 
-pub use error::{AnnotateError, AnnotateRefusal};
+pub use error::AnnotateError;
 pub use maker::annotate;
-
-#[cfg(test)]
-mod tests;

@@ -5,10 +5,10 @@ ghost use Rattle.pp_settings.specs.Settings.{geometry_of};
 ghost use Rattle.pp_plan.specs.View.{sequence_of};
 ghost use Rattle.pp_cert.specs.declared.check_error.CheckError.{CheckError};
 ghost use Rattle.pp_cert.specs.Claims.{Claims, claims_of, AreClaims};
-ghost use Rattle.pp_cert.specs.Walk.{first_fault, tests};
+ghost use Rattle.pp_cert.specs.Walk.{Certifies, first_fault, tests};
 ghost use Rattle.pp_cert.specs.Longest.{sequence_longest, IsLongest};
 ghost use Rattle.pp_annotate.specs.Made.{greatest, made, sequence_notes};
-ghost use Rattle.pp_annotate.specs.Annotation.{Certifies, annotation, Gives, IfFault, IsPlansFault, IsBeforeLimits, IsTight, IsLeast, HasNone};
+ghost use Rattle.pp_annotate.specs.Annotation.{annotation, Gives, IfFault, IsPlansFault, IsBeforeLimits, IsTight, IsLeast, HasNone};
 
 use crate::error::AnnotateError;
 use crate::writing::Draft;

@@ -4,7 +4,7 @@ ghost use Rattle.std.specs.Prelude.{◌≡◌, ◌++◌, [], ◌∷◌, IfOk, On
 ghost use Rattle.pp_plan.specs.View.{statement_of, sequence_of, alternatives_of};
 ghost use Rattle.pp_annotate.specs.Made.{after_statement, after_sequence, after_first, statement_notes, sequence_notes, branches_notes};
 
-use crate::entries::{held_as, held_in, inserted, removed};
+use crate::entries::{held_as, inserted, removed};
 use pp_cert::{Entry, Held, Note};
 use pp_plan::{Body, Branches, Stmt};
 use std::alloc::{AllocError, Global};
@@ -86,7 +86,7 @@ impl Draft {
                 inserted(alloc, before, entry)
             }
             Stmt::Unfix { slot } => removed(alloc, before, *slot),
-            Stmt::Latch { slot, mode } => held_as(alloc, before, held_in(*mode), *slot),
+            Stmt::Latch { slot, mode } => held_as(alloc, before, Held::from(*mode), *slot),
             Stmt::Unlatch { slot } => held_as(alloc, before, Held::Free, *slot),
             Stmt::Loop { body, .. } => {
                 self.inside(alloc, before, body)?;

@@ -4,23 +4,46 @@ use Rattle.pp_arc.specs.Pages.{contains, times_in, without}
 use Rattle.pp_arc.specs.FourLists.{FourLists, cached_count, recent_count, total_count, times_named}
 use Rattle.pp_arc.specs.Bounds.{IsWithinBounds}
 use Rattle.pp_arc.specs.Figure.{forget, with_front_of_t1, without_last_of_b1, without_last_of_b2}
-use Rattle.pp_arc.proofs.PageLemmas.{once_with_front, below_with_front, times_in-moved, length-without, times_in-without_same, times_in-without, times_in-take, length-without_last, times_in-contains}
+use Rattle.pp_arc.proofs.PageLemmas.{once_with_front, below_with_front, times_in-moved, length-without}
+use Rattle.pp_arc.proofs.PageLemmas.{times_in-without_same, times_in-without, times_in-take, length-without_last}
+use Rattle.pp_arc.proofs.PageLemmas.{times_in-contains}
 
 -- the counts after a page was forgotten
-pub cached_count-forget : (s : FourLists) (x : ℕ) → cached_count (forget s x) + (times_in s.t1 x + times_in s.t2 x) ≡ cached_count s
+pub cached_count-forget : (s : FourLists) (x : ℕ)
+    → cached_count (forget s x) + (times_in s.t1 x + times_in s.t2 x) ≡ cached_count s
 cached_count-forget s x = omega (arith, length-without s.t1 x, length-without s.t2 x)
 
-pub recent_count-forget : (s : FourLists) (x : ℕ) → recent_count (forget s x) + (times_in s.t1 x + times_in s.b1 x) ≡ recent_count s
+pub recent_count-forget : (s : FourLists) (x : ℕ)
+    → recent_count (forget s x) + (times_in s.t1 x + times_in s.b1 x) ≡ recent_count s
 recent_count-forget s x = omega (arith, length-without s.t1 x, length-without s.b1 x)
 
 pub total_count-forget : (s : FourLists) (x : ℕ) → total_count (forget s x) + times_named s x ≡ total_count s
-total_count-forget s x = omega (arith, length-without s.t1 x, length-without s.t2 x, length-without s.b1 x, length-without s.b2 x)
+total_count-forget s x = omega (
+  arith,
+  length-without s.t1 x,
+  length-without s.t2 x,
+  length-without s.b1 x,
+  length-without s.b2 x,
+)
 
 pub times_named-forget : (s : FourLists) (x q : ℕ) → times_named (forget s x) q ≤ times_named s q
-times_named-forget s x q = omega (arith, times_in-without s.t1 x q, times_in-without s.t2 x q, times_in-without s.b1 x q, times_in-without s.b2 x q)
+times_named-forget s x q = omega (
+  arith,
+  times_in-without s.t1 x q,
+  times_in-without s.t2 x q,
+  times_in-without s.b1 x
+      q,
+  times_in-without s.b2 x q,
+)
 
 pub times_named-forget_same : (s : FourLists) (x : ℕ) → times_named (forget s x) x ≡ 0
-times_named-forget_same s x = omega (arith, times_in-without_same s.t1 x, times_in-without_same s.t2 x, times_in-without_same s.b1 x, times_in-without_same s.b2 x)
+times_named-forget_same s x = omega (
+  arith,
+  times_in-without_same s.t1 x,
+  times_in-without_same s.t2 x,
+  times_in-without_same s.b1 x,
+  times_in-without_same s.b2 x,
+)
 
 -- a page that is forgotten leaves the bounds
 pub bounds-forget : (s : FourLists) (x : ℕ) → IsWithinBounds s → IsWithinBounds (forget s x)
@@ -35,7 +58,8 @@ bounds-forget s x h = record {
 }
 
 -- a page that stood nowhere goes to the front of T2
-pub bounds-put_in_t2 : (s : FourLists) (x : ℕ) → IsWithinBounds s → x < s.pages → times_named s x ≡ 0 → cached_count s < s.c → total_count s < 2 * s.c → IsWithinBounds (record s { t2 = x ∷ s.t2 })
+pub bounds-put_in_t2 : (s : FourLists) (x : ℕ) → IsWithinBounds s → x < s.pages → times_named s x ≡ 0
+    → cached_count s < s.c → total_count s < 2 * s.c → IsWithinBounds (record s { t2 = x ∷ s.t2 })
 bounds-put_in_t2 s x h named absent room all =
     record {
       holds_a_page = h.holds_a_page;
@@ -52,7 +76,8 @@ bounds-put_in_t2 s x h named absent room all =
     }
 
 -- a page that stood nowhere goes to the front of T1
-pub bounds-with_front_of_t1 : (s : FourLists) (x : ℕ) → IsWithinBounds s → x < s.pages → times_named s x ≡ 0 → cached_count s < s.c → recent_count s < s.c → total_count s < 2 * s.c → IsWithinBounds (with_front_of_t1 s x)
+pub bounds-with_front_of_t1 : (s : FourLists) (x : ℕ) → IsWithinBounds s → x < s.pages → times_named s x ≡ 0
+    → cached_count s < s.c → recent_count s < s.c → total_count s < 2 * s.c → IsWithinBounds (with_front_of_t1 s x)
 bounds-with_front_of_t1 s x h named absent room recent all =
     record {
       holds_a_page = h.holds_a_page;
@@ -75,10 +100,12 @@ from_t1 s v = record s { t1 = without s.t1 v; b1 = v ∷ s.b1 }
 abbrev pub from_t2 : FourLists → ℕ → FourLists
 from_t2 s v = record s { t2 = without s.t2 v; b2 = v ∷ s.b2 }
 
-pub times_named-from_t1 : (s : FourLists) (v q : ℕ) → times_in s.t1 v ≡ 1 → times_named (from_t1 s v) q ≡ times_named s q
+pub times_named-from_t1 : (s : FourLists) (v q : ℕ) → times_in s.t1 v ≡ 1
+    → times_named (from_t1 s v) q ≡ times_named s q
 times_named-from_t1 s v q one = omega (arith, times_in-moved s.t1 v q one)
 
-pub times_named-from_t2 : (s : FourLists) (v q : ℕ) → times_in s.t2 v ≡ 1 → times_named (from_t2 s v) q ≡ times_named s q
+pub times_named-from_t2 : (s : FourLists) (v q : ℕ) → times_in s.t2 v ≡ 1
+    → times_named (from_t2 s v) q ≡ times_named s q
 times_named-from_t2 s v q one = omega (arith, times_in-moved s.t2 v q one)
 
 pub bounds-from_t1 : (s : FourLists) (v : ℕ) → IsWithinBounds s → times_in s.t1 v ≡ 1 → IsWithinBounds (from_t1 s v)

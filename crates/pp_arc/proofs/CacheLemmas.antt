@@ -1,5 +1,6 @@
 -- Lemmas on which pages are cached after a request, and on what never changes.
-use Rattle.std.proofs.Common.{◌≡◌, ◌≢◌, ◌⊎◌, ℕ, ◌+◌, ◌*◌, ◌≤◌, Bool, true, false, cond, eqb, ltb, length, refl, arith, sym, subst, ap, inl, inr, eq-eqb}
+use Rattle.std.proofs.Common.{◌≡◌, ◌≢◌, ◌⊎◌, ℕ, ◌+◌, ◌*◌, ◌≤◌, Bool, true, false, cond, eqb, ltb, length, refl, arith}
+use Rattle.std.proofs.Common.{sym, subst, ap, inl, inr, eq-eqb}
 use Rattle.std.specs.Prelude.{Option, Some, None}
 use Rattle.std.proofs.lemmas.Bool.{cases_Bool}
 use Rattle.std.proofs.lemmas.Bool.Decides.{eqb_tells}
@@ -10,9 +11,13 @@ use Rattle.pp_arc.specs.declared.list.List.TheVariants.{T1, T2, B1, B2}
 use Rattle.pp_arc.specs.Pages.{contains, times_in}
 use Rattle.pp_arc.specs.FourLists.{FourLists, recent_count, total_count, is_cached, place}
 use Rattle.pp_arc.specs.Bounds.{IsWithinBounds}
-use Rattle.pp_arc.specs.Figure.{forget, bring_back, with_front_of_t1, with_front_of_t2, with_remembered, replacement, after_replace, replace, after_replace_in_t1, replace_in_t1, without_last_of_b1, without_last_of_b2, room_for_new, cases, is_all_busy, request, raised_target, lowered_target}
+use Rattle.pp_arc.specs.Figure.{forget, bring_back, with_front_of_t1, with_front_of_t2, with_remembered, replacement}
+use Rattle.pp_arc.specs.Figure.{after_replace, replace, after_replace_in_t1, replace_in_t1, without_last_of_b1}
+use Rattle.pp_arc.specs.Figure.{without_last_of_b2, room_for_new, cases, is_all_busy, request, raised_target}
+use Rattle.pp_arc.specs.Figure.{lowered_target}
 use Rattle.pp_arc.specs.Laws.{CachesInstead, CachesWithout, CachesAgain}
-use Rattle.pp_arc.proofs.PageLemmas.{times_in-without_same, times_in-without_other, times_in-contains, times_in-contains_not}
+use Rattle.pp_arc.proofs.PageLemmas.{times_in-without_same, times_in-without_other, times_in-contains}
+use Rattle.pp_arc.proofs.PageLemmas.{times_in-contains_not}
 use Rattle.pp_arc.proofs.BoundLemmas.{from_t1, from_t2}
 use Rattle.pp_arc.proofs.StepLemmas.{times_in-cached, times_in-not_cached}
 
@@ -34,13 +39,15 @@ evicts (Evict v) q =
 
 -- the page of an answer has left the cache, and nothing else has
 pub Leaves : FourLists → FourLists → Answer → Type 0
-Leaves s t answer = (q : ℕ) → (answer ≡ Evict q → times_cached t q ≡ 0) × (answer ≢ Evict q → times_cached t q ≡ times_cached s q)
+Leaves s t answer = (q : ℕ) → (answer ≡ Evict q → times_cached t q ≡ 0) ×
+    (answer ≢ Evict q → times_cached t q ≡ times_cached s q)
 
 -- a page was put into the cache, and nothing else was
 pub Puts : FourLists → FourLists → ℕ → Type 0
 Puts s t x = (q : ℕ) → (x ≡ q → 1 ≤ times_cached t q) × (x ≢ q → times_cached t q ≡ times_cached s q)
 
-CachesInstead-puts : (s r t : FourLists) (x : ℕ) (answer : Answer) → Leaves s r answer → Puts r t x → CachesInstead s t x answer
+CachesInstead-puts : (s r t : FourLists) (x : ℕ) (answer : Answer) → Leaves s r answer → Puts r t x
+    → CachesInstead s t x answer
 unfolding Leaves Puts
 CachesInstead-puts s r t x answer left put q = (forth, back)
   where
@@ -50,7 +57,10 @@ CachesInstead-puts s r t x answer left put q = (forth, back)
           | inl k ↦ inl (sym k.1)
           | inr k ↦ elim (evicts answer q) [
             | inl e ↦ absurd (omega (arith, times_in-cached t q here, (put q).1 k.1, (left q).0 e))
-            | inr e ↦ inr (is_cached-times s q (omega (arith, times_in-cached t q here, (put q).1 k.1, (left q).1 e)), e)
+            | inr e ↦ inr (
+              is_cached-times s q (omega (arith, times_in-cached t q here, (put q).1 k.1, (left q).1 e)),
+              e,
+            )
           ]
         ]
 
@@ -87,7 +97,8 @@ Leaves-forget : (s : FourLists) (v : ℕ) → Leaves s (forget s v) (Evict v)
 unfolding Leaves
 Leaves-forget s v q = (
   λ e. let same : v ≡ q = cc in rw (← same) (omega (arith, times_in-without_same s.t1 v, times_in-without_same s.t2 v)),
-  λ ne. let other : v ≢ q = λ same. ne (ap Evict same) in omega (arith, times_in-without_other s.t1 v q other, times_in-without_other s.t2 v q other),
+  λ ne. let other : v ≢ q = λ same. ne (ap Evict same) in omega
+      (arith, times_in-without_other s.t1 v q other, times_in-without_other s.t2 v q other),
 )
 
 Leaves-from_t1 : (s : FourLists) (v : ℕ) → times_in s.t2 v ≡ 0 → Leaves s (from_t1 s v) (Evict v)
@@ -115,7 +126,8 @@ nobody_leaves : (s : FourLists) (answer : Answer) → ((v : ℕ) → answer ≢ 
 unfolding Leaves
 nobody_leaves s answer none q = (λ e. absurd (none q e), λ ne. refl)
 
-Leaves-after_replace : (s : FourLists) (answer : Answer) → ((q : ℕ) → times_cached s q ≤ 1) → Leaves s (after_replace s answer) answer
+Leaves-after_replace : (s : FourLists) (answer : Answer) → ((q : ℕ) → times_cached s q ≤ 1)
+    → Leaves s (after_replace s answer) answer
 Leaves-after_replace s Hit once = nobody_leaves s Hit (λ v e. cc)
 Leaves-after_replace s Free once = nobody_leaves s Free (λ v e. cc)
 Leaves-after_replace s AllBusy once = nobody_leaves s AllBusy (λ v e. cc)
@@ -127,33 +139,41 @@ Leaves-after_replace_in_t1 s Free = nobody_leaves s Free (λ v e. cc)
 Leaves-after_replace_in_t1 s AllBusy = nobody_leaves s AllBusy (λ v e. cc)
 Leaves-after_replace_in_t1 s (Evict v) = Leaves-forget s v
 
-Leaves-room_for_new : (s : FourLists) (busy : ℕ → Bool) → ((q : ℕ) → times_cached s q ≤ 1) → Leaves s (room_for_new s busy).1 (room_for_new s busy).0
+Leaves-room_for_new : (s : FourLists) (busy : ℕ → Bool) → ((q : ℕ) → times_cached s q ≤ 1)
+    → Leaves s (room_for_new s busy).1 (room_for_new s busy).0
 unfolding Leaves
 Leaves-room_for_new s busy once = go (eqb (recent_count s) s.c) (ltb (length s.t1) s.c) (eqb (total_count s) (2 * s.c))
   where
     go : (a b d : Bool) →
-        let room = cond a (cond b (replace (without_last_of_b1 s) false busy) (replace_in_t1 s busy)) (replace (cond d (without_last_of_b2 s) s) false busy) in
+        let room = cond a (cond b (replace (without_last_of_b1 s) false busy) (replace_in_t1 s busy))
+        (replace (cond d (without_last_of_b2 s) s) false busy) in
         Leaves s room.1 room.0
     go true true d = Leaves-after_replace (without_last_of_b1 s) (replacement (without_last_of_b1 s) false busy) once
     go true false d = Leaves-after_replace_in_t1 s (replace_in_t1 s busy).0
     go false b true = Leaves-after_replace (without_last_of_b2 s) (replacement (without_last_of_b2 s) false busy) once
     go false b false = Leaves-after_replace s (replacement s false busy) once
 
-CachesInstead-cases : (list : Option ListName) (s : FourLists) (x : ℕ) (busy : ℕ → Bool) → ((q : ℕ) → times_cached s q ≤ 1) → CachesInstead s (cases list s x busy).1 x (cases list s x busy).0
+CachesInstead-cases : (list : Option ListName) (s : FourLists) (x : ℕ) (busy : ℕ → Bool)
+    → ((q : ℕ) → times_cached s q ≤ 1) → CachesInstead s (cases list s x busy).1 x (cases list s x busy).0
 unfolding Leaves
-CachesInstead-cases (Some T1) s x busy once = CachesInstead-puts s s (with_front_of_t2 s x) x Hit (nobody_leaves s Hit (λ v e. cc)) (Puts-with_front_of_t2 s x)
-CachesInstead-cases (Some T2) s x busy once = CachesInstead-puts s s (with_front_of_t2 s x) x Hit (nobody_leaves s Hit (λ v e. cc)) (Puts-with_front_of_t2 s x)
+CachesInstead-cases (Some T1) s x busy once = CachesInstead-puts s s (with_front_of_t2 s x) x Hit
+    (nobody_leaves s Hit (λ v e. cc)) (Puts-with_front_of_t2 s x)
+CachesInstead-cases (Some T2) s x busy once = CachesInstead-puts s s (with_front_of_t2 s x) x Hit
+    (nobody_leaves s Hit (λ v e. cc)) (Puts-with_front_of_t2 s x)
 CachesInstead-cases (Some B1) s x busy once =
     let t : FourLists = record s { target = raised_target s } in
     let answer : Answer = replacement t false busy in
-    CachesInstead-puts s (after_replace t answer) (with_front_of_t2 (after_replace t answer) x) x answer (Leaves-after_replace t answer once) (Puts-with_front_of_t2 (after_replace t answer) x)
+    CachesInstead-puts s (after_replace t answer) (with_front_of_t2 (after_replace t answer) x) x answer
+    (Leaves-after_replace t answer once) (Puts-with_front_of_t2 (after_replace t answer) x)
 CachesInstead-cases (Some B2) s x busy once =
     let t : FourLists = record s { target = lowered_target s } in
     let answer : Answer = replacement t true busy in
-    CachesInstead-puts s (after_replace t answer) (with_front_of_t2 (after_replace t answer) x) x answer (Leaves-after_replace t answer once) (Puts-with_front_of_t2 (after_replace t answer) x)
+    CachesInstead-puts s (after_replace t answer) (with_front_of_t2 (after_replace t answer) x) x answer
+    (Leaves-after_replace t answer once) (Puts-with_front_of_t2 (after_replace t answer) x)
 CachesInstead-cases None s x busy once =
     let room : Answer × FourLists = room_for_new s busy in
-    CachesInstead-puts s room.1 (with_front_of_t1 room.1 x) x room.0 (Leaves-room_for_new s busy once) (Puts-with_front_of_t1 room.1 x)
+    CachesInstead-puts s room.1 (with_front_of_t1 room.1 x) x room.0 (Leaves-room_for_new s busy once)
+    (Puts-with_front_of_t1 room.1 x)
 
 not_all_busy : (answer : Answer) → answer ≢ AllBusy → is_all_busy answer ≡ false
 not_all_busy Hit ne = refl
@@ -161,10 +181,13 @@ not_all_busy Free ne = refl
 not_all_busy (Evict v) ne = refl
 not_all_busy AllBusy ne = absurd (ne refl)
 
-pub CachesInstead-request : (s : FourLists) (x : ℕ) (busy : ℕ → Bool) → IsWithinBounds s → (request s x busy).0 ≢ AllBusy → CachesInstead s (request s x busy).1 x (request s x busy).0
+pub CachesInstead-request : (s : FourLists) (x : ℕ) (busy : ℕ → Bool) → IsWithinBounds s
+    → (request s x busy).0 ≢ AllBusy → CachesInstead s (request s x busy).1 x (request s x busy).0
 CachesInstead-request s x busy h ne =
-    let P : Bool → Type 0 = λ b. CachesInstead s (cond b s (cases (place s x) s x busy).1) x (cases (place s x) s x busy).0 in
-    subst P (sym (not_all_busy (cases (place s x) s x busy).0 ne)) (CachesInstead-cases (place s x) s x busy (λ q. omega (arith, h.once q)))
+    let P : Bool → Type 0 = λ b. CachesInstead s (cond b s (cases (place s x) s x busy).1) x
+    (cases (place s x) s x busy).0 in
+    subst P (sym (not_all_busy (cases (place s x) s x busy).0 ne))
+    (CachesInstead-cases (place s x) s x busy (λ q. omega (arith, h.once q)))
 
 -- the sizes that a directory is made with never change
 abbrev pub SameSizes : FourLists → FourLists → Type 0
@@ -192,17 +215,21 @@ SameSizes-after_replace_in_t1 s (Evict v) = (refl, refl)
 SameSizes-room_for_new : (s : FourLists) (busy : ℕ → Bool) → SameSizes s (room_for_new s busy).1
 SameSizes-room_for_new s busy = go (eqb (recent_count s) s.c) (ltb (length s.t1) s.c) (eqb (total_count s) (2 * s.c))
   where
-    go : (a b d : Bool) → SameSizes s (cond a (cond b (replace (without_last_of_b1 s) false busy) (replace_in_t1 s busy)) (replace (cond d (without_last_of_b2 s) s) false busy)).1
+    go : (a b d : Bool) → SameSizes s (cond a (cond b (replace (without_last_of_b1 s) false busy)
+        (replace_in_t1 s busy)) (replace (cond d (without_last_of_b2 s) s) false busy)).1
     go true true d = SameSizes-after_replace (without_last_of_b1 s) (replacement (without_last_of_b1 s) false busy)
     go true false d = SameSizes-after_replace_in_t1 s (replace_in_t1 s busy).0
     go false b true = SameSizes-after_replace (without_last_of_b2 s) (replacement (without_last_of_b2 s) false busy)
     go false b false = SameSizes-after_replace s (replacement s false busy)
 
-SameSizes-cases : (list : Option ListName) (s : FourLists) (x : ℕ) (busy : ℕ → Bool) → SameSizes s (cases list s x busy).1
+SameSizes-cases : (list : Option ListName) (s : FourLists) (x : ℕ) (busy : ℕ → Bool)
+    → SameSizes s (cases list s x busy).1
 SameSizes-cases (Some T1) s x busy = (refl, refl)
 SameSizes-cases (Some T2) s x busy = (refl, refl)
-SameSizes-cases (Some B1) s x busy = SameSizes-after_replace (record s { target = raised_target s }) (replacement (record s { target = raised_target s }) false busy)
-SameSizes-cases (Some B2) s x busy = SameSizes-after_replace (record s { target = lowered_target s }) (replacement (record s { target = lowered_target s }) true busy)
+SameSizes-cases (Some B1) s x busy = SameSizes-after_replace (record s { target = raised_target s })
+    (replacement (record s { target = raised_target s }) false busy)
+SameSizes-cases (Some B2) s x busy = SameSizes-after_replace (record s { target = lowered_target s })
+    (replacement (record s { target = lowered_target s }) true busy)
 SameSizes-cases None s x busy = SameSizes-room_for_new s busy
 
 pub SameSizes-request : (s : FourLists) (x : ℕ) (busy : ℕ → Bool) → SameSizes s (request s x busy).1
@@ -222,8 +249,10 @@ CachesWithout-forget s x q = (forth, back)
         elim (eqb_tells x q) [
           | inl t ↦ absurd (omega (arith, times_in-cached (forget s x) q here, (Leaves-forget s x q).0 (ap Evict t.1)))
           | inr t ↦
-              let other : Evict x ≢ Evict q = λ e. t.1 (cc) in
-              (is_cached-times s q (omega (arith, times_in-cached (forget s x) q here, (Leaves-forget s x q).1 other)), λ e. t.1 (sym e))
+              let other : Evict x ≢ Evict q = λ e. t.1 (cc) in (
+                is_cached-times s q (omega (arith, times_in-cached (forget s x) q here, (Leaves-forget s x q).1 other)),
+                λ e. t.1 (sym e),
+              )
         ]
 
     back : (is_cached s q ≡ true) × (q ≢ x) → is_cached (forget s x) q ≡ true
@@ -236,7 +265,8 @@ pub CachesAgain-bring_back : (s : FourLists) (x v : ℕ) → CachesAgain s (brin
 CachesAgain-bring_back s x v q = (forth, back)
   where
     instead : CachesInstead s (bring_back s x v) v (Evict x)
-    instead = CachesInstead-puts s (forget s x) (bring_back s x v) v (Evict x) (Leaves-forget s x) (Puts-with_front_of_t2 (forget s x) v)
+    instead = CachesInstead-puts s (forget s x) (bring_back s x v) v (Evict x) (Leaves-forget s x)
+        (Puts-with_front_of_t2 (forget s x) v)
 
     forth : is_cached (bring_back s x v) q ≡ true → (q ≡ v) ⊎ ((is_cached s q ≡ true) × (q ≢ x))
     forth here = elim ((instead q).0 here) [ inl e ↦ inl e | inr k ↦ inr (k.0, λ e. k.1 (ap Evict (sym e))) ]

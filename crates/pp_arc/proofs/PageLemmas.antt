@@ -1,5 +1,6 @@
 -- Lemmas on one list of pages: what stands in it after a page left it.
-use Rattle.std.proofs.Common.{◌≡◌, ◌≢◌, ℕ, ◌+◌, ◌-◌, ◌<◌, ◌≤◌, zero, suc, true, false, cond, not, eqb, List, [], ◌∷◌, length, take, refl, arith, ap, inl, inr}
+use Rattle.std.proofs.Common.{◌≡◌, ◌≢◌, ℕ, ◌+◌, ◌-◌, ◌<◌, ◌≤◌, zero, suc, true, false, cond, not, eqb, List, [], ◌∷◌}
+use Rattle.std.proofs.Common.{length, take, refl, arith, ap, inl, inr}
 use Rattle.std.proofs.lemmas.Grind.{common_steps}
 use Rattle.std.proofs.lemmas.Bool.{cases_Bool}
 use Rattle.std.proofs.lemmas.Bool.Decides.{eqb_tells}
@@ -28,7 +29,8 @@ below_with_front x q n bound low below stands =
 pub length-without : (xs : List ℕ) (x : ℕ) → length (without xs x) + times_in xs x ≡ length xs
 length-without [] x = refl
 length-without (y ∷ ys) x =
-    elim (eqb y x) as (λ b. length (cond (not b) (y ∷ without ys x) (without ys x)) + (cond b 1 0 + times_in ys x) ≡ length (y ∷ ys)) [
+    elim (eqb y x) as (λ b. length (cond (not b) (y ∷ without ys x) (without ys x)) + (cond b 1 0 + times_in ys x)
+    ≡ length (y ∷ ys)) [
       | true ↦ omega (arith, length-without ys x)
       | false ↦ omega (arith, length-without ys x)
     ]
@@ -46,7 +48,8 @@ times_in-without_same (y ∷ ys) x =
 pub times_in-without : (xs : List ℕ) (x q : ℕ) → times_in (without xs x) q ≤ times_in xs q
 times_in-without [] x q = omega arith
 times_in-without (y ∷ ys) x q =
-    elim (eqb y x) as (λ b. times_in (cond (not b) (y ∷ without ys x) (without ys x)) q ≤ cond (eqb y q) 1 0 + times_in ys q) [
+    elim (eqb y x) as (λ b. times_in (cond (not b) (y ∷ without ys x) (without ys x)) q ≤ cond (eqb y q) 1 0 + times_in
+    ys q) [
       | true ↦ omega (arith, times_in-without ys x q)
       | false ↦ omega (arith, times_in-without ys x q)
     ]
@@ -56,7 +59,8 @@ pub times_in-without_other : (xs : List ℕ) (x q : ℕ) → x ≢ q → times_i
 times_in-without_other [] x q ne = refl
 times_in-without_other (y ∷ ys) x q ne =
     elim (eqb_tells y x) [
-      | inl t ↦ let e : eqb y q ≡ false = rw t.1 (eqb_not x q ne) in rw (t.0, e) (omega (arith, times_in-without_other ys x q ne))
+      | inl t ↦ let e : eqb y q ≡ false = rw t.1 (eqb_not x q ne) in rw (t.0, e)
+          (omega (arith, times_in-without_other ys x q ne))
       | inr t ↦ rw t.0 (ap (λ n. cond (eqb y q) 1 0 + n) (times_in-without_other ys x q ne))
     ]
 
@@ -87,7 +91,8 @@ times_in-contains_not (y ∷ ys) x h =
     ]
 
 -- a page that stands once in a list, and moves elsewhere
-pub times_in-moved : (xs : List ℕ) (x q : ℕ) → times_in xs x ≡ 1 → cond (eqb x q) 1 0 + times_in (without xs x) q ≡ times_in xs q
+pub times_in-moved : (xs : List ℕ) (x q : ℕ) → times_in xs x ≡ 1
+    → cond (eqb x q) 1 0 + times_in (without xs x) q ≡ times_in xs q
 times_in-moved xs x q one =
     elim (eqb_tells x q) [
       | inl t ↦ let e : times_in xs q ≡ 1 = rw (← t.1) one in

@@ -1,6 +1,9 @@
+-- What contracts cite, lowest first. Table and Fields say how the values are kept.
 pub mod Pages
 pub mod FourLists
 pub mod Bounds
 pub mod Figure
-pub mod Fields
 pub mod Laws
+pub mod Links
+pub mod Table
+pub mod Fields

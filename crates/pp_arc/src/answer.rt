@@ -1,3 +1,5 @@
+//! What a directory answers to a request.
+
 /// What a directory answers to the request for a page.
 #[derive(Clone, Copy, Debug, PartialEq, Eq)]
 pub enum Answer {

@@ -1,11 +1,13 @@
-ghost use Rattle.std.specs.Prelude.{◌≡◌, ◌≢◌, ℕ, ◌+◌, ◌*◌, ◌<◌, ◌≤◌, ◌⊎◌, ◌↔◌, ◌==◌, if◌then◌else◌, is_none, Bool, true, false, List, [], ◌∷◌, length, Option, Some, None, IsTrue, IsFalse, IfOk, slice_get};
-ghost use Rattle.pp_arc.specs.Pages.{times_in};
+//! ARC's directory: the request, a page forgotten, and a victim brought back.
+
+ghost use Rattle.std.specs.Prelude.{◌≡◌, ◌≢◌, ℕ, ◌+◌, ◌*◌, ◌^◌, ◌<◌, ◌≤◌, ◌⊎◌, ◌↔◌, ◌==◌, if◌then◌else◌, is_none, Bool, true, false, List, [], ◌∷◌, length, Option, Some, None, IsTrue, IsFalse, IfOk, slice_get};
+ghost use Rattle.pp_arc.specs.Pages.{times_in, contains};
 ghost use Rattle.pp_arc.specs.FourLists.{empty_lists, list_of, cached_count, recent_count, total_count, times_named, is_cached, place, after};
 ghost use Rattle.pp_arc.specs.Bounds.{IsWithinBounds};
 ghost use Rattle.pp_arc.specs.Laws.{AllCachedAreBusy, CachesInstead, CachesWithout, CachesAgain};
 ghost use Rattle.pp_arc.specs.Figure.{forget, with_front_of_t1, with_front_of_t2, with_remembered, raised_target, lowered_target, victim, replacement, after_replace, replace_in_t1, room_for_new, without_last_of_b1, without_last_of_b2, is_all_busy, request, bring_back};
 
-use crate::page_list::PageList;
+use crate::links::Links;
 use crate::{Answer, Busy, List};
 use std::alloc::{AllocError, Global};
 use std::marker::Model;
@@ -17,15 +19,14 @@ use std::marker::Model;
 ///
 /// All its memory is got by [`Directory::new`]. The bounds `IsWithinBounds` hold at all times, and each
 /// call tells them.
+///
+/// No call searches for a page: each looks at a fixed number of records, and [`Directory::request`]
+/// beyond that only at the pages that it passes over as busy.
 #[derive(Debug, Drop)]
 pub struct Directory {
     c: u32,
-    pages: u32,
     target: u32,
-    t1: PageList,
-    t2: PageList,
-    b1: PageList,
-    b2: PageList,
+    links: Links,
 }
 
 impl Model for Directory {
@@ -43,25 +44,21 @@ impl Model for Directory {
 impl Directory {
     /// A directory for a cache of `c` pages, of page numbers below `pages`. Nothing is cached yet.
     ///
-    /// It gets room for 2 * `c` + 1 page numbers in each of its four lists.
+    /// It takes 12 bytes for each page number, whatever `c` is, and 48 bytes more.
     ///
     /// # Errors
     ///
     /// Only where that memory can't be had.
     pub fn new(alloc: Global, c: u32, pages: u32) -> Result<Self, AllocError>
         requires holds_a_page { 1 ≤ c }
+        requires fits { pages + 4 ≤ 2 ^ 32 }
         ensures empty { IfOk result (λ directory. directory ≡ empty_lists c pages) }
         ensures bounds { IfOk result IsWithinBounds }
     {
-        let room = 2 * c as usize + 1;
         Ok(Directory {
             c,
-            pages,
             target: 0,
-            t1: PageList::new(alloc, room)?,
-            t2: PageList::new(alloc, room)?,
-            b1: PageList::new(alloc, room)?,
-            b2: PageList::new(alloc, room)?,
+            links: Links::new(alloc, pages)?,
         })
     }
 
@@ -78,7 +75,7 @@ impl Directory {
         ensures len { result ≡ length (list_of self.now list) }
         ensures bounds { IsWithinBounds self.now }
     {
-        self.list(list).len()
+        self.links.len(list)
     }
 
     /// The most recent page of the list, if it has one.
@@ -86,7 +83,7 @@ impl Directory {
         ensures front { result ≡ slice_get (list_of self.now list) 0 }
         ensures bounds { IsWithinBounds self.now }
     {
-        self.list(list).front()
+        self.links.front(list)
     }
 
     /// The next less recent page of the list in which this page stands.
@@ -96,8 +93,7 @@ impl Directory {
         ensures after { result ≡ after self.now page }
         ensures bounds { IsWithinBounds self.now }
     {
-        let list = self.place(page)?;
-        self.list(list).next_after(page)
+        self.links.after(page)
     }
 
     /// The list in which the page stands, if it stands in one.
@@ -106,17 +102,7 @@ impl Directory {
         ensures cached { IsTrue (is_cached self.now page) ↔ ((result ≡ Some List.T1) ⊎ (result ≡ Some List.T2)) }
         ensures bounds { IsWithinBounds self.now }
     {
-        if self.t1.contains(page) {
-            Some(List::T1)
-        } else if self.t2.contains(page) {
-            Some(List::T2)
-        } else if self.b1.contains(page) {
-            Some(List::B1)
-        } else if self.b2.contains(page) {
-            Some(List::B2)
-        } else {
-            None
-        }
+        self.links.place(page)
     }
 
     /// Asks for a page while the pages of `busy` may not leave the cache.
@@ -156,7 +142,7 @@ impl Directory {
         ensures bounds { IsWithinBounds self.new }
         ensures were_bounds { IsWithinBounds self.old }
     {
-        match self.place(page) {
+        match self.place_below(page) {
             Some(List::T1) | Some(List::T2) => {
                 self.move_to_t2(page);
                 Answer::Hit
@@ -165,6 +151,15 @@ impl Directory {
             Some(List::B2) => self.request_remembered(page, self.lowered_target(), true, busy),
             None => self.request_new(page, busy),
         }
+    }
+
+    /// The list in which a page below `pages` stands, if it stands in one.
+    fn place_below(&self, page: u32) -> Option<List>
+        requires { page < self.now.pages }
+        ensures place { result ≡ place self.now page }
+        ensures bounds { IsWithinBounds self.now }
+    {
+        self.links.place_below(page)
     }
 
     /// Takes the page out of its list. A page that stands nowhere changes nothing.
@@ -176,10 +171,7 @@ impl Directory {
         ensures room { IsTrue (is_cached self.old page)
             → (cached_count self.new < self.new.c) × (total_count self.new < 2 * self.new.c) }
     {
-        self.t1.take_out(page);
-        self.t2.take_out(page);
-        self.b1.take_out(page);
-        self.b2.take_out(page);
+        self.links.take_out(page);
     }
 
     /// Brings a victim back that could not be written back, so that the page was never read in its place.
@@ -237,7 +229,7 @@ impl Directory {
             else with_front_of_t1 (room_for_new self.old (B.busy busy.now)).1 page) }
         ensures bounds { IsWithinBounds self.new }
     {
-        if self.t1.len() == self.c as usize {
+        if self.links.len(List::T1) == self.c as usize {
             return self.request_in_t1(page, busy);
         }
         let answer = self.replacement(self.target, false, busy);
@@ -261,7 +253,7 @@ impl Directory {
             else with_front_of_t1 (replace_in_t1 self.old (B.busy busy.now)).1 page) }
         ensures bounds { IsWithinBounds self.new }
     {
-        match self.t1.last_not_busy(busy) {
+        match self.links.last_not_busy(List::T1, busy) {
             Some(victim) => {
                 self.forget(victim);
                 self.put_in_t1(page);
@@ -286,12 +278,12 @@ impl Directory {
         ensures bounds { IsWithinBounds self.new }
     {
         let c = self.c as usize;
-        let recent = self.t1.len() + self.b1.len();
-        let total = recent + self.t2.len() + self.b2.len();
+        let recent = self.links.len(List::T1) + self.links.len(List::B1);
+        let total = recent + self.links.len(List::T2) + self.links.len(List::B2);
         if recent == c {
-            self.b1.drop_last();
+            self.links.drop_last(List::B1);
         } else if total == 2 * c {
-            self.b2.drop_last();
+            self.links.drop_last(List::B2);
         }
     }
 
@@ -303,7 +295,8 @@ impl Directory {
         ensures no_hit { result ≢ Answer.Hit }
         ensures bounds { IsWithinBounds self.now }
     {
-        if self.t1.len() + self.t2.len() != self.c as usize {
+        let c = self.c as usize;
+        if self.links.len(List::T1) + self.links.len(List::T2) != c {
             return Answer::Free;
         }
         match self.victim(target, in_b2, busy) {
@@ -316,16 +309,16 @@ impl Directory {
     fn victim<B: Busy>(&self, target: u32, in_b2: bool, busy: &B) -> Option<u32>
         ensures { result ≡ victim (record self.now { target = target }) in_b2 (B.busy busy.now) }
     {
-        let len = self.t1.len();
+        let len = self.links.len(List::T1);
         let target = target as usize;
         if len > 0 && (len > target || (in_b2 && len == target)) {
-            self.t1
-                .last_not_busy(busy)
-                .or_else(|| self.t2.last_not_busy(busy))
+            self.links
+                .last_not_busy(List::T1, busy)
+                .or_else(|| self.links.last_not_busy(List::T2, busy))
         } else {
-            self.t2
-                .last_not_busy(busy)
-                .or_else(|| self.t1.last_not_busy(busy))
+            self.links
+                .last_not_busy(List::T2, busy)
+                .or_else(|| self.links.last_not_busy(List::T1, busy))
         }
     }
 
@@ -344,13 +337,19 @@ impl Directory {
         requires { IsTrue (is_cached self.old page) }
         ensures { self.new ≡ with_remembered self.old page }
     {
-        if self.t1.contains(page) {
-            self.t1.take_out(page);
-            self.b1.put_first(page);
+        if self.is_in_t1(page) {
+            self.links.move_first(List::B1, page);
         } else {
-            self.t2.take_out(page);
-            self.b2.put_first(page);
+            self.links.move_first(List::B2, page);
         }
+    }
+
+    /// Whether a page below `pages` stands in `T1`.
+    fn is_in_t1(&self, page: u32) -> bool
+        requires { page < self.now.pages }
+        ensures { result ≡ contains self.now.t1 page }
+    {
+        matches!(self.links.place_below(page), Some(List::T1))
     }
 
     /// The page leaves its list, if it stands in one, and goes to the front of `T2`.
@@ -361,8 +360,7 @@ impl Directory {
         ensures lists { self.new ≡ with_front_of_t2 self.old page }
         ensures bounds { IsWithinBounds self.new }
     {
-        self.forget(page);
-        self.t2.put_first(page);
+        self.links.move_first(List::T2, page);
     }
 
     /// The page, which stands in no list, goes to the front of `T1`.
@@ -375,7 +373,7 @@ impl Directory {
         ensures lists { self.new ≡ with_front_of_t1 self.old page }
         ensures bounds { IsWithinBounds self.new }
     {
-        self.t1.put_first(page);
+        self.links.put_first(List::T1, page);
     }
 
     /// The target that a request for a page of `B1` wants.
@@ -384,9 +382,10 @@ impl Directory {
         ensures target { result ≡ raised_target self.now }
         ensures aimed { result ≤ self.now.c }
     {
-        let (b1, b2) = (self.b1.len(), self.b2.len());
+        let c = self.c as usize;
+        let (b1, b2) = (self.links.len(List::B1), self.links.len(List::B2));
         let step = if b2 <= b1 { 1 } else { b2 / b1 };
-        (self.target as usize + step).min(self.c as usize) as u32
+        (self.target as usize + step).min(c) as u32
     }
 
     /// The target that a request for a page of `B2` wants.
@@ -395,20 +394,8 @@ impl Directory {
         ensures target { result ≡ lowered_target self.now }
         ensures aimed { result ≤ self.now.c }
     {
-        let (b1, b2) = (self.b1.len(), self.b2.len());
+        let (b1, b2) = (self.links.len(List::B1), self.links.len(List::B2));
         let step = if b1 <= b2 { 1 } else { b1 / b2 };
         (self.target as usize).saturating_sub(step) as u32
-    }
-
-    fn list(&self, list: List) -> &PageList
-        ensures pages { result.now.pages.items ≡ list_of self.now list }
-        ensures bounds { IsWithinBounds self.now }
-    {
-        match list {
-            List::T1 => &self.t1,
-            List::T2 => &self.t2,
-            List::B1 => &self.b1,
-            List::B2 => &self.b2,
-        }
     }
 }

@@ -16,7 +16,6 @@ pub use list::List;
 mod answer;
 mod busy;
 mod directory;
+pub mod laws;
+mod links;
 mod list;
-mod page_list;
-#[cfg(test)]
-mod tests;

@@ -1,5 +1,6 @@
 pub mod Splices
 pub mod Faults
+pub mod Passing
 pub mod Steps
 pub mod Places
 pub mod Rules
@@ -9,9 +10,9 @@ pub mod Sound
 pub mod Lengths
 pub mod Accepts
 pub mod Trees
-pub mod ReadingSteps
 pub mod Values
 pub mod Laws
+pub mod First
 pub mod Order
 pub mod Notes
 pub mod Tree

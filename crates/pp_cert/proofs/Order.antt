@@ -42,7 +42,8 @@ before_all_later : (k l : List ℕ) (ms : Members) → IsBefore k l → IsBefore
 before_all_later k l no_members b h = tt
 before_all_later k l (member m d ms) b h = (nat_list_cmp_total.trans k l m b h.0, before_all_later k l ms b h.1)
 
-before_all_at : (o : Ordering) (k l : List ℕ) (d e : Data) (ms : Members) (j : List ℕ) → slice_cmp nat_cmp k l ≡ o → IsBefore j k → IsBeforeAll j (member l e ms) → IsBeforeAll j (put k d ms)
+before_all_at : (o : Ordering) (k l : List ℕ) (d e : Data) (ms : Members) (j : List ℕ) → slice_cmp nat_cmp k l ≡ o
+    → IsBefore j k → IsBeforeAll j (member l e ms) → IsBeforeAll j (put k d ms)
     → IsBeforeAll j (match_ordering o (member k d (member l e ms)) (member l d ms) (member l e (put k d ms)))
 before_all_at Less k l d e ms j is b h later = (b, h)
 before_all_at Equal k l d e ms j is b h later = h
@@ -50,9 +51,11 @@ before_all_at Greater k l d e ms j is b h later = (h.0, later)
 
 before_all-put : (j k : List ℕ) (d : Data) (ms : Members) → IsBefore j k → IsBeforeAll j ms → IsBeforeAll j (put k d ms)
 before_all-put j k d no_members b h = (b, tt)
-before_all-put j k d (member l e ms) b h = before_all_at (slice_cmp nat_cmp k l) k l d e ms j refl b h (before_all-put j k d ms b h.1)
+before_all-put j k d (member l e ms) b h =
+    before_all_at (slice_cmp nat_cmp k l) k l d e ms j refl b h (before_all-put j k d ms b h.1)
 
-in_order_at : (o : Ordering) (k l : List ℕ) (d e : Data) (ms : Members) → slice_cmp nat_cmp k l ≡ o → IsInOrder d → MembersInOrder (member l e ms) → MembersInOrder (put k d ms)
+in_order_at : (o : Ordering) (k l : List ℕ) (d e : Data) (ms : Members) → slice_cmp nat_cmp k l ≡ o → IsInOrder d
+    → MembersInOrder (member l e ms) → MembersInOrder (put k d ms)
     → MembersInOrder (match_ordering o (member k d (member l e ms)) (member l d ms) (member l e (put k d ms)))
 in_order_at Less k l d e ms is dh h later = ((is, before_all_later k l ms is h.0), dh, h)
 in_order_at Equal k l d e ms is dh h later = (h.0, dh, h.2)
@@ -60,17 +63,21 @@ in_order_at Greater k l d e ms is dh h later =
     let after : IsBefore l k = nat_list_cmp_total.antisymm l k ∙ ap ordering_reverse is in
     (before_all-put l k d ms after h.0, h.1, later)
 
-pub in_order-put : (k : List ℕ) (d : Data) (ms : Members) → IsInOrder d → MembersInOrder ms → MembersInOrder (put k d ms)
+pub in_order-put : (k : List ℕ) (d : Data) (ms : Members) → IsInOrder d → MembersInOrder ms
+    → MembersInOrder (put k d ms)
 in_order-put k d no_members dh h = (tt, dh, tt)
-in_order-put k d (member l e ms) dh h = in_order_at (slice_cmp nat_cmp k l) k l d e ms refl dh h (in_order-put k d ms dh h.2)
+in_order-put k d (member l e ms) dh h =
+    in_order_at (slice_cmp nat_cmp k l) k l d e ms refl dh h (in_order-put k d ms dh h.2)
 
 -- ---- reading
 
-then_some : {A B : Type 0} (f : A → Option B) (o : Option A) (y : B) → option_and_then f o ≡ Some y → (x : A) × (o ≡ Some x) × (f x ≡ Some y)
+then_some : {A B : Type 0} (f : A → Option B) (o : Option A) (y : B) → option_and_then f o ≡ Some y → (x : A)
+    × (o ≡ Some x) × (f x ≡ Some y)
 then_some f None y e = absurd cc
 then_some f (Some x) y e = (x, refl, e)
 
-map_some : {A B : Type 0} (f : A → B) (o : Option A) (y : B) → option_map f o ≡ Some y → (x : A) × (o ≡ Some x) × (f x ≡ y)
+map_some : {A B : Type 0} (f : A → B) (o : Option A) (y : B) → option_map f o ≡ Some y → (x : A) × (o ≡ Some x)
+    × (f x ≡ y)
 map_some f None y e = absurd cc
 map_some f (Some x) y e = (x, refl, cc)
 
@@ -96,7 +103,8 @@ mutual
       let (es, rest, is) = map_some (item d) (of_items js) ds e1 in
       subst AreInOrder is (data_in_order j d first, items_in_order js es rest)
 
-  members_in_order : (ns : json.Members) (found ms : Members) → MembersInOrder found → of_members ns found ≡ Some ms → MembersInOrder ms
+  members_in_order : (ns : json.Members) (found ms : Members) → MembersInOrder found → of_members ns found ≡ Some ms
+      → MembersInOrder ms
   members_in_order json.no_members found ms h e = let is : found ≡ ms = cc in subst MembersInOrder is h
   members_in_order (json.member k j ns) found ms h e =
       let (d, first, rest) = then_some (λ (x : Data). of_members ns (put k x found)) (of_json j) ms e in
@@ -104,5 +112,6 @@ mutual
 
 pub read_in_order : (text : List ℕ) (d : Data) → read text ≡ Some d → IsInOrder d
 read_in_order text d e =
-    let (j, _, is) = then_some of_json (option_and_then (λ p. json.if_last p.0 p.1) (json.value max_depth (tokens text))) d e in
+    let (j, _, is) =
+    then_some of_json (option_and_then (λ p. json.if_last p.0 p.1) (json.value max_depth (tokens text))) d e in
     data_in_order j d is

@@ -1,7 +1,7 @@
 -- Where the tests of a body pass, each of its traces goes well.
-use Rattle.std.proofs.Common.{◌≡◌, ℕ, zero, suc, ◌+◌, ◌≤◌, Bool, true, false, Option, Some, None, List, [], ◌∷◌, ◌++◌, length, refl, sym, ap, subst, ◌∙◌, arith, eqb-true}
-use Rattle.std.specs.Prelude.{◌&&◌, ◌==◌, not, is_some, if◌then◌else◌}
-use borrow.Author.Tests.{leb-true}
+use Rattle.std.proofs.Common.{◌≡◌, ℕ, zero, suc, ◌+◌, ◌≤◌, Bool, true, false, Option, Some, None, List, [], ◌∷◌, ◌++◌, length, refl, sym, ap, subst, ◌∙◌, arith}
+use Rattle.std.specs.Prelude.{not, is_some, if◌then◌else◌}
+use Rattle.std.proofs.lemmas.Bool.{not-true}
 use Rattle.pp_settings.specs.Layout.{Geometry, IsLayout, HasPage}
 use Rattle.pp_plan.specs.declared.mode.Mode.{Mode}
 use Rattle.pp_plan.specs.declared.action.Action.{Action}
@@ -10,80 +10,15 @@ use Rattle.pp_plan.specs.Tree.{Step, fix, unfix, latch, unlatch, Statement, step
 use Rattle.pp_plan.specs.Traces.{Does, Repeats, IsStatementTrace, IsTrace, IsBranchTrace}
 use Rattle.pp_cert.specs.declared.note.Held.{Held}
 use Rattle.pp_cert.specs.declared.note.Held.TheVariants.{Free, S, X}
-use Rattle.pp_cert.specs.declared.note.Entry.{Entry}
-use Rattle.pp_cert.specs.declared.check_error.CheckError.{CheckError}
 use Rattle.pp_cert.specs.Held.{Holding, Holdings, held_in, held_at, held_next, holding_as, holding_slot, is_free_page, is_latched_page}
 use Rattle.pp_cert.specs.Slots.{slot_insert, slot_remove}
-use Rattle.pp_cert.specs.Notes.{Entries, same_held, same_entry, same_note, noted_at, noted_after}
-use Rattle.pp_cert.specs.Walk.{Claims, note_at, Expectation, same, after, expected_note, outcome, Test, there, as_expected, within_peak, slot_unused, slot_fixed, slot_unlatched, slot_latched, slot_in_order, loop_keeps, branch_agrees, passes, fault_of, first_fault, note_tests, step_tests, statement_tests, sequence_tests, later_tests, statement_end, sequence_end, alternatives_end}
+use Rattle.pp_cert.specs.Notes.{Entries, noted_at, noted_after}
+use Rattle.pp_cert.specs.Walk.{Claims, note_at, same, after, outcome, Test, slot_unused, slot_fixed, slot_unlatched, slot_latched, slot_in_order, loop_keeps, branch_agrees, first_fault, note_tests, step_tests, statement_tests, sequence_tests, later_tests, statement_end, sequence_end, alternatives_end}
 use Rattle.pp_cert.proofs.Fits.{Fits, fits_length, fits_held, fits_insert, fits_remove, fits_held_as, above_latched}
+use Rattle.pp_cert.proofs.Passing.{first_passes, both_pass, note_same, note_passes}
 use Rattle.pp_cert.proofs.Goes.{Goes, MayDo, goes_on}
 
--- ---- tests that pass
-
-if_none : (b : Bool) (o : Option CheckError) (fault : CheckError) → (if b then o else Some fault) ≡ None → (b ≡ true) × (o ≡ None)
-if_none true o fault h = (refl, h)
-if_none false o fault h = absurd (cc)
-
-pub first_passes : (g : Geometry) (c : Claims) (t : Test) (ts : List Test) → first_fault g c (t ∷ ts) ≡ None → (passes g c t ≡ true) × (first_fault g c ts ≡ None)
-first_passes g c t ts h = if_none (passes g c t) (first_fault g c ts) (fault_of t) h
-
-pub both_pass : (g : Geometry) (c : Claims) (xs ys : List Test) → first_fault g c (xs ++ ys) ≡ None → (first_fault g c xs ≡ None) × (first_fault g c ys ≡ None)
-both_pass g c [] ys h = (refl, h)
-both_pass g c (x ∷ xs) ys h =
-    let p = first_passes g c x (xs ++ ys) h in
-    let q = both_pass g c xs ys p.1 in
-    (ap (λ b. if b then first_fault g c xs else Some (fault_of x)) p.0 ∙ q.0, q.1)
-
--- ---- equal notes
-
-pub and_both : (a b : Bool) → (a && b) ≡ true → (a ≡ true) × (b ≡ true)
-and_both true b h = (refl, h)
-and_both false b h = absurd (cc)
-
-held_same : (a b : Held) → same_held a b ≡ true → a ≡ b
-held_same Free Free h = refl
-held_same Free S h = absurd (cc)
-held_same Free X h = absurd (cc)
-held_same S Free h = absurd (cc)
-held_same S S h = refl
-held_same S X h = absurd (cc)
-held_same X Free h = absurd (cc)
-held_same X S h = absurd (cc)
-held_same X X h = refl
-
-entry_same : (a b : Entry) → same_entry a b ≡ true → a ≡ b
-entry_same a b h =
-    let p = and_both ((a.slot == b.slot) && (a.region == b.region)) (same_held a.held b.held) h in
-    let q = and_both (a.slot == b.slot) (a.region == b.region) p.0 in
-    let slots : a.slot ≡ b.slot = eqb-true a.slot b.slot q.0 in
-    let regions : a.region ≡ b.region = eqb-true a.region b.region q.1 in
-    let helds : a.held ≡ b.held = held_same a.held b.held p.1 in
-    λ i. record { slot = slots i; region = regions i; held = helds i }
-
-pub note_same : (a b : Entries) → same_note a b ≡ true → a ≡ b
-note_same [] [] h = refl
-note_same [] (y ∷ ys) h = absurd (cc)
-note_same (x ∷ xs) [] h = absurd (cc)
-note_same (x ∷ xs) (y ∷ ys) h =
-    let p = and_both (same_entry x y) (same_note xs ys) h in
-    let first : x ≡ y = entry_same x y p.0 in
-    let rest : xs ≡ ys = note_same xs ys p.1 in
-    λ i. first i ∷ rest i
-
--- a note that passes its tests is the expected one, and small
-pub note_passes : (g : Geometry) (c : Claims) (k : ℕ) (e : Expectation) → first_fault g c (note_tests k e) ≡ None → (note_at c k ≡ expected_note c e) × (length (note_at c k) ≤ c.peak)
-note_passes g c k e h =
-    let p = first_passes g c (there k) (as_expected k e ∷ within_peak k ∷ []) h in
-    let q = first_passes g c (as_expected k e) (within_peak k ∷ []) p.1 in
-    let r = first_passes g c (within_peak k) [] q.1 in
-    (note_same (note_at c k) (expected_note c e) q.0, leb-true (length (note_at c k)) c.peak r.0)
-
 -- ---- one step
-
-not_true : (b : Bool) → not b ≡ true → b ≡ false
-not_true true h = absurd (cc)
-not_true false h = refl
 
 -- fixed and not latched is free
 free_of : (o : Option Held) → is_some o ≡ true → not (is_latched_page o) ≡ true → is_free_page o ≡ true
@@ -97,63 +32,101 @@ abbrev pub StepGoes : Geometry → Entries → Step → Holdings → Action → 
 StepGoes g n s hs a = MayDo g hs a × ((m : Holdings) × (held_next hs a ≡ Some m) × Fits g (noted_after s n) m)
 
 -- what is tested of a slot in a note holds of what is held
-holds_too : (g : Geometry) (n : Entries) (hs : Holdings) (s : ℕ) (test : Option Held → Bool) (b : Bool) → Fits g n hs → test (noted_at n s) ≡ b → test (held_at hs s) ≡ b
+holds_too : (g : Geometry) (n : Entries) (hs : Holdings) (s : ℕ) (test : Option Held → Bool) (b : Bool) → Fits g n hs
+    → test (noted_at n s) ≡ b → test (held_at hs s) ≡ b
 holds_too g n hs s test b f h = ap test (sym (fits_held g n hs s f)) ∙ h
 
 module _ (g : Geometry) (l : IsLayout g) (c : Claims) where
-  fix_goes : (k s r page : ℕ) (hs : Holdings) → HasPage g r page → Fits g (note_at c k) hs → first_fault g c (step_tests k (fix s r)) ≡ None → StepGoes g (note_at c k) (fix s r) hs (Fix s page)
+  fix_goes : (k s r page : ℕ) (hs : Holdings) → HasPage g r page → Fits g (note_at c k) hs
+      → first_fault g c (step_tests k (fix s r)) ≡ None → StepGoes g (note_at c k) (fix s r) hs (Fix s page)
   fix_goes k s r page hs has f h =
       let p = first_passes g c (slot_unused k s) [] h in
-      let unused : is_some (held_at hs s) ≡ false = holds_too g (note_at c k) hs s is_some false f (not_true (is_some (noted_at (note_at c k) s)) p.0) in
-      let new : Holding = record { slot = s; page = page; held = Free } in
-      (tt, (slot_insert holding_slot new hs, ap (λ b. if b then None else Some (slot_insert holding_slot new hs)) unused, fits_insert g (note_at c k) hs (record { slot = s; region = r; held = Free }) new f (refl, refl, has)))
+      let unused : is_some (held_at hs s) ≡ false =
+      holds_too g (note_at c k) hs s is_some false f (not-true (is_some (noted_at (note_at c k) s)) p.0) in
+      let new : Holding = record { slot = s; page = page; held = Free } in (
+        tt,
+        (
+          slot_insert holding_slot new hs,
+          ap (λ b. if b then None else Some (slot_insert holding_slot new hs)) unused,
+          fits_insert g (note_at c k) hs (record { slot = s; region = r; held = Free }) new f (refl, refl, has),
+        ),
+      )
 
   -- a slot that is fixed and not latched is free
-  is_free : (k s : ℕ) (ts : List Test) (hs : Holdings) → Fits g (note_at c k) hs → first_fault g c (slot_fixed k s ∷ slot_unlatched k s ∷ ts) ≡ None → (is_free_page (held_at hs s) ≡ true) × (first_fault g c ts ≡ None)
+  is_free : (k s : ℕ) (ts : List Test) (hs : Holdings) → Fits g (note_at c k) hs
+      → first_fault g c (slot_fixed k s ∷ slot_unlatched k s ∷ ts) ≡ None → (is_free_page (held_at hs s) ≡ true)
+      × (first_fault g c ts ≡ None)
   is_free k s ts hs f h =
       let p = first_passes g c (slot_fixed k s) (slot_unlatched k s ∷ ts) h in
       let q = first_passes g c (slot_unlatched k s) ts p.1 in
       (holds_too g (note_at c k) hs s is_free_page true f (free_of (noted_at (note_at c k) s) p.0 q.0), q.1)
 
-  unfix_goes : (k s : ℕ) (hs : Holdings) → Fits g (note_at c k) hs → first_fault g c (step_tests k (unfix s)) ≡ None → StepGoes g (note_at c k) (unfix s) hs (Unfix s)
+  unfix_goes : (k s : ℕ) (hs : Holdings) → Fits g (note_at c k) hs → first_fault g c (step_tests k (unfix s)) ≡ None
+      → StepGoes g (note_at c k) (unfix s) hs (Unfix s)
   unfix_goes k s hs f h =
-      let p = is_free k s [] hs f h in
-      (tt, (slot_remove holding_slot s hs, ap (λ b. if b then Some (slot_remove holding_slot s hs) else None) p.0, fits_remove g (note_at c k) hs s f))
+      let p = is_free k s [] hs f h in (
+        tt,
+        (
+          slot_remove holding_slot s hs,
+          ap (λ b. if b then Some (slot_remove holding_slot s hs) else None) p.0,
+          fits_remove g (note_at c k) hs s f,
+        ),
+      )
 
-  latch_goes : (k s : ℕ) (m : Mode) (hs : Holdings) → Fits g (note_at c k) hs → first_fault g c (step_tests k (latch s m)) ≡ None → StepGoes g (note_at c k) (latch s m) hs (Latch s m)
+  latch_goes : (k s : ℕ) (m : Mode) (hs : Holdings) → Fits g (note_at c k) hs
+      → first_fault g c (step_tests k (latch s m)) ≡ None → StepGoes g (note_at c k) (latch s m) hs (Latch s m)
   latch_goes k s m hs f h =
       let p = is_free k s (slot_in_order k s ∷ []) hs f h in
-      let q = first_passes g c (slot_in_order k s) [] p.1 in
-      (above_latched g l (note_at c k) hs s f q.0, (holding_as (held_in m) s hs, ap (λ b. if b then Some (holding_as (held_in m) s hs) else None) p.0, fits_held_as g (note_at c k) hs (held_in m) s f))
+      let q = first_passes g c (slot_in_order k s) [] p.1 in (
+        above_latched g l (note_at c k) hs s f q.0,
+        (
+          holding_as (held_in m) s hs,
+          ap (λ b. if b then Some (holding_as (held_in m) s hs) else None) p.0,
+          fits_held_as g (note_at c k) hs (held_in m) s f,
+        ),
+      )
 
-  unlatch_goes : (k s : ℕ) (hs : Holdings) → Fits g (note_at c k) hs → first_fault g c (step_tests k (unlatch s)) ≡ None → StepGoes g (note_at c k) (unlatch s) hs (Unlatch s)
+  unlatch_goes : (k s : ℕ) (hs : Holdings) → Fits g (note_at c k) hs → first_fault g c (step_tests k (unlatch s)) ≡ None
+      → StepGoes g (note_at c k) (unlatch s) hs (Unlatch s)
   unlatch_goes k s hs f h =
       let p = first_passes g c (slot_fixed k s) (slot_latched k s ∷ []) h in
       let q = first_passes g c (slot_latched k s) [] p.1 in
-      let latched : is_latched_page (held_at hs s) ≡ true = holds_too g (note_at c k) hs s is_latched_page true f q.0 in
-      (tt, (holding_as Free s hs, ap (λ b. if b then Some (holding_as Free s hs) else None) latched, fits_held_as g (note_at c k) hs Free s f))
+      let latched : is_latched_page (held_at hs s) ≡ true =
+      holds_too g (note_at c k) hs s is_latched_page true f q.0 in (
+        tt,
+        (
+          holding_as Free s hs,
+          ap (λ b. if b then Some (holding_as Free s hs) else None) latched,
+          fits_held_as g (note_at c k) hs Free s f,
+        ),
+      )
 
-  step_goes : (k : ℕ) (s : Step) (a : Action) (hs : Holdings) → Does g s a → Fits g (note_at c k) hs → first_fault g c (step_tests k s) ≡ None → StepGoes g (note_at c k) s hs a
-  step_goes k (fix s r) (Fix t page) hs d f h = subst (λ u. StepGoes g (note_at c k) (fix s r) hs (Fix u page)) d.0 (fix_goes k s r page hs d.1 f h)
+  step_goes : (k : ℕ) (s : Step) (a : Action) (hs : Holdings) → Does g s a → Fits g (note_at c k) hs
+      → first_fault g c (step_tests k s) ≡ None → StepGoes g (note_at c k) s hs a
+  step_goes k (fix s r) (Fix t page) hs d f h =
+      subst (λ u. StepGoes g (note_at c k) (fix s r) hs (Fix u page)) d.0 (fix_goes k s r page hs d.1 f h)
   step_goes k (fix s r) (Unfix t) hs d f h = absurd d
   step_goes k (fix s r) (Latch t m) hs d f h = absurd d
   step_goes k (fix s r) (Unlatch t) hs d f h = absurd d
   step_goes k (fix s r) (Choose i) hs d f h = absurd d
   step_goes k (unfix s) (Fix t page) hs d f h = absurd d
-  step_goes k (unfix s) (Unfix t) hs d f h = subst (λ u. StepGoes g (note_at c k) (unfix s) hs (Unfix u)) d (unfix_goes k s hs f h)
+  step_goes k (unfix s) (Unfix t) hs d f h =
+      subst (λ u. StepGoes g (note_at c k) (unfix s) hs (Unfix u)) d (unfix_goes k s hs f h)
   step_goes k (unfix s) (Latch t m) hs d f h = absurd d
   step_goes k (unfix s) (Unlatch t) hs d f h = absurd d
   step_goes k (unfix s) (Choose i) hs d f h = absurd d
   step_goes k (latch s m) (Fix t page) hs d f h = absurd d
   step_goes k (latch s m) (Unfix t) hs d f h = absurd d
   step_goes k (latch s m) (Latch t o) hs d f h =
-      subst (λ u. StepGoes g (note_at c k) (latch s m) hs (Latch u o)) d.0 (subst (λ u. StepGoes g (note_at c k) (latch s m) hs (Latch s u)) d.1 (latch_goes k s m hs f h))
+      subst (λ u. StepGoes g (note_at c k) (latch s m) hs (Latch u o)) d.0
+      (subst (λ u. StepGoes g (note_at c k) (latch s m) hs (Latch s u)) d.1 (latch_goes k s m hs f h))
   step_goes k (latch s m) (Unlatch t) hs d f h = absurd d
   step_goes k (latch s m) (Choose i) hs d f h = absurd d
   step_goes k (unlatch s) (Fix t page) hs d f h = absurd d
   step_goes k (unlatch s) (Unfix t) hs d f h = absurd d
   step_goes k (unlatch s) (Latch t m) hs d f h = absurd d
-  step_goes k (unlatch s) (Unlatch t) hs d f h = subst (λ u. StepGoes g (note_at c k) (unlatch s) hs (Unlatch u)) d (unlatch_goes k s hs f h)
+  step_goes k (unlatch s) (Unlatch t) hs d f h =
+      subst (λ u. StepGoes g (note_at c k) (unlatch s) hs (Unlatch u)) d (unlatch_goes k s hs f h)
   step_goes k (unlatch s) (Choose i) hs d f h = absurd d
 
   -- ---- bodies
@@ -166,35 +139,46 @@ module _ (g : Geometry) (l : IsLayout g) (c : Claims) where
   stays : (n : Entries) (hs : Holdings) → Fits g n hs → length n ≤ c.peak → GoesTo n hs []
   stays n hs f small = (hs, (refl, let e : length n ≡ length hs = fits_length g n hs f in omega arith), f)
 
-  goes_to : (n m : Entries) (hs : Holdings) (t u : List Action) → GoesTo n hs t → ((ms : Holdings) → Fits g n ms → GoesTo m ms u) → GoesTo m hs (t ++ u)
+  goes_to : (n m : Entries) (hs : Holdings) (t u : List Action) → GoesTo n hs t
+      → ((ms : Holdings) → Fits g n ms → GoesTo m ms u) → GoesTo m hs (t ++ u)
   goes_to n m hs t u a b =
       let k = b a.0 a.2 in
       (k.0, goes_on g c.peak hs a.0 k.0 t u a.1 k.1, k.2)
 
   -- one more action before a list
-  goes_first : (n : Entries) (hs ms : Holdings) (a : Action) (t : List Action) → length hs ≤ c.peak → MayDo g hs a → held_next hs a ≡ Some ms → GoesTo n ms t → GoesTo n hs (a ∷ t)
+  goes_first : (n : Entries) (hs ms : Holdings) (a : Action) (t : List Action) → length hs ≤ c.peak → MayDo g hs a
+      → held_next hs a ≡ Some ms → GoesTo n ms t → GoesTo n hs (a ∷ t)
   goes_first n hs ms a t small may next to = (to.0, (small, may, (ms, next, to.1)), to.2)
 
   small_too : (n : Entries) (hs : Holdings) → Fits g n hs → length n ≤ c.peak → length hs ≤ c.peak
   small_too n hs f small = let e : length n ≡ length hs = fits_length g n hs f in omega arith
 
   -- turns of a body that ends as it begins
-  repeats_go : (n : Entries) (P : List Action → Type 0) → length n ≤ c.peak → ((hs : Holdings) → Fits g n hs → (u : List Action) → P u → GoesTo n hs u) → (turns : ℕ) (hs : Holdings) → Fits g n hs → (t : List Action) → Repeats turns P t → GoesTo n hs t
+  repeats_go : (n : Entries) (P : List Action → Type 0) → length n ≤ c.peak
+      → ((hs : Holdings) → Fits g n hs → (u : List Action) → P u → GoesTo n hs u) → (turns : ℕ) (hs : Holdings)
+      → Fits g n hs → (t : List Action) → Repeats turns P t → GoesTo n hs t
   repeats_go n P small body zero hs f t r = subst (λ u. GoesTo n hs u) (sym r) (stays n hs f small)
   repeats_go n P small body (suc turns) hs f t r =
-      subst (λ u. GoesTo n hs u) (sym r.2) (goes_to n n hs r.0 r.1 (body hs f r.0 r.3) (λ ms k. repeats_go n P small body turns ms k r.1 r.4))
+      subst (λ u. GoesTo n hs u) (sym r.2)
+      (goes_to n n hs r.0 r.1 (body hs f r.0 r.3) (λ ms k. repeats_go n P small body turns ms k r.1 r.4))
 
   -- a note that is expected to be the same fits the same
   fits_same : (n m : Entries) (hs : Holdings) → n ≡ m → Fits g n hs → Fits g m hs
   fits_same n m hs e f = subst (λ x. Fits g x hs) e f
 
   mutual
-    statement_goes : (k : ℕ) (s : Statement) → length (note_at c k) ≤ c.peak → first_fault g c (statement_tests k s) ≡ None → first_fault g c (note_tests (statement_end k s) (outcome k s)) ≡ None → (hs : Holdings) → Fits g (note_at c k) hs → (t : List Action) → IsStatementTrace g s t → GoesTo (note_at c (statement_end k s)) hs t
+    pub statement_goes : (k : ℕ) (s : Statement) → length (note_at c k) ≤ c.peak
+        → first_fault g c (statement_tests k s) ≡ None
+        → first_fault g c (note_tests (statement_end k s) (outcome k s)) ≡ None → (hs : Holdings)
+        → Fits g (note_at c k) hs → (t : List Action) → IsStatementTrace g s t
+        → GoesTo (note_at c (statement_end k s)) hs t
     statement_goes k (step s) small h n hs f t r =
         let note = note_passes g c (k + 1) (after s k) n in
         let goes = step_goes k s r.0 hs r.2 f h in
-        let fit = fits_same (noted_after s (note_at c k)) (note_at c (k + 1)) goes.1.0 (sym note.0) goes.1.2 in
-        subst (λ u. GoesTo (note_at c (k + 1)) hs u) (sym r.1) (goes_first (note_at c (k + 1)) hs goes.1.0 r.0 [] (small_too (note_at c k) hs f small) goes.0 goes.1.1 (stays (note_at c (k + 1)) goes.1.0 fit note.1))
+        let fit = fits_same (noted_after s (note_at c k)) (note_at c (k + 1)) goes.1.0 (sym note.1) goes.1.2 in
+        subst (λ u. GoesTo (note_at c (k + 1)) hs u) (sym r.1)
+        (goes_first (note_at c (k + 1)) hs goes.1.0 r.0 [] (small_too (note_at c k) hs f small) goes.0 goes.1.1
+        (stays (note_at c (k + 1)) goes.1.0 fit note.2))
     statement_goes k (loop turns b) small h n hs f t r =
         let end : ℕ = sequence_end (k + 1) b in
         let p = both_pass g c (note_tests (k + 1) (same k) ++ sequence_tests (k + 1) b) (loop_keeps end k ∷ []) h in
@@ -202,45 +186,67 @@ module _ (g : Geometry) (l : IsLayout g) (c : Claims) where
         let note = note_passes g c (k + 1) (same k) q.0 in
         let keeps = note_same (note_at c end) (note_at c k) (first_passes g c (loop_keeps end k) [] p.1).0 in
         let last = note_passes g c (end + 1) (same k) n in
-        let body : (ms : Holdings) → Fits g (note_at c k) ms → (u : List Action) → IsTrace g b u → GoesTo (note_at c k) ms u = λ ms m u d.
-        subst (λ x. GoesTo x ms u) keeps (sequence_goes (k + 1) b note.1 q.1 ms (fits_same (note_at c k) (note_at c (k + 1)) ms (sym note.0) m) u d) in
-        subst (λ x. GoesTo x hs t) (sym last.0) (repeats_go (note_at c k) (IsTrace g b) small body turns hs f t r)
+        let body : (ms : Holdings) → Fits g (note_at c k) ms → (u : List Action) → IsTrace g b u
+        → GoesTo (note_at c k) ms u = λ ms m u d.
+        subst (λ x. GoesTo x ms u) keeps
+        (sequence_goes (k + 1) b note.2 q.1 ms (fits_same (note_at c k) (note_at c (k + 1)) ms (sym note.1) m) u
+        d) in
+        subst (λ x. GoesTo x hs t) (sym last.1) (repeats_go (note_at c k) (IsTrace g b) small body turns hs f t r)
     statement_goes k (choice none) small h n hs f t r = absurd r.3
     statement_goes k (choice (either b bs)) small h n hs f t r =
         let end : ℕ = sequence_end (k + 1) b in
-        let p = both_pass g c (note_tests (k + 1) (same k) ++ sequence_tests (k + 1) b) (later_tests k end (end + 1) bs) h in
+        let p =
+        both_pass g c (note_tests (k + 1) (same k) ++ sequence_tests (k + 1) b) (later_tests k end (end + 1) bs)
+        h in
         let q = both_pass g c (note_tests (k + 1) (same k)) (sequence_tests (k + 1) b) p.0 in
         let note = note_passes g c (k + 1) (same k) q.0 in
         let last = note_passes g c (alternatives_end (end + 1) bs) (same end) n in
         let to : GoesTo (note_at c end) hs r.1 =
         elim r.0 as (λ i. IsBranchTrace g (either b bs) i r.1 → GoesTo (note_at c end) hs r.1) [
-          | zero ↦ λ d. sequence_goes (k + 1) b note.1 q.1 hs (fits_same (note_at c k) (note_at c (k + 1)) hs (sym note.0) f) r.1 d
+          | zero ↦ λ d. sequence_goes (k + 1) b note.2 q.1 hs
+              (fits_same (note_at c k) (note_at c (k + 1)) hs (sym note.1) f) r.1 d
           | suc i ↦ λ d. later_go k end (end + 1) bs p.1 hs f i r.1 d
         ] r.3 in
-        let chosen = goes_first (note_at c end) hs hs (Choose r.0) r.1 (small_too (note_at c k) hs f small) tt refl to in
-        subst (λ u. GoesTo (note_at c (alternatives_end (end + 1) bs)) hs u) (sym r.2) (subst (λ x. GoesTo x hs (Choose r.0 ∷ r.1)) (sym last.0) chosen)
+        let chosen =
+        goes_first (note_at c end) hs hs (Choose r.0) r.1 (small_too (note_at c k) hs f small) tt refl to in
+        subst (λ u. GoesTo (note_at c (alternatives_end (end + 1) bs)) hs u) (sym r.2)
+        (subst (λ x. GoesTo x hs (Choose r.0 ∷ r.1)) (sym last.1) chosen)
 
-    pub sequence_goes : (k : ℕ) (b : Sequence) → length (note_at c k) ≤ c.peak → first_fault g c (sequence_tests k b) ≡ None → (hs : Holdings) → Fits g (note_at c k) hs → (t : List Action) → IsTrace g b t → GoesTo (note_at c (sequence_end k b)) hs t
-    sequence_goes k done small h hs f t r = subst (λ u. GoesTo (note_at c k) hs u) (sym r) (stays (note_at c k) hs f small)
+    pub sequence_goes : (k : ℕ) (b : Sequence) → length (note_at c k) ≤ c.peak
+        → first_fault g c (sequence_tests k b) ≡ None → (hs : Holdings) → Fits g (note_at c k) hs → (t : List Action)
+        → IsTrace g b t → GoesTo (note_at c (sequence_end k b)) hs t
+    sequence_goes k done small h hs f t r =
+        subst (λ u. GoesTo (note_at c k) hs u) (sym r) (stays (note_at c k) hs f small)
     sequence_goes k (andthen s b) small h hs f t r =
         let next : ℕ = statement_end k s in
         let p = both_pass g c (statement_tests k s ++ note_tests next (outcome k s)) (sequence_tests next b) h in
         let q = both_pass g c (statement_tests k s) (note_tests next (outcome k s)) p.0 in
         let note = note_passes g c next (outcome k s) q.1 in
-        subst (λ u. GoesTo (note_at c (sequence_end k (andthen s b))) hs u) (sym r.2) (goes_to (note_at c next) (note_at c (sequence_end k (andthen s b))) hs r.0 r.1 (statement_goes k s small q.0 q.1 hs f r.0 r.3) (λ ms m. sequence_goes next b note.1 p.1 ms m r.1 r.4))
+        subst (λ u. GoesTo (note_at c (sequence_end k (andthen s b))) hs u) (sym r.2)
+        (goes_to (note_at c next) (note_at c (sequence_end k (andthen s b))) hs r.0 r.1
+        (statement_goes k s small q.0 q.1 hs f r.0 r.3) (λ ms m. sequence_goes next b note.2 p.1 ms m r.1 r.4))
 
     -- of the second and later branches
-    later_go : (before first k : ℕ) (bs : Alternatives) → first_fault g c (later_tests before first k bs) ≡ None → (hs : Holdings) → Fits g (note_at c before) hs → (i : ℕ) (t : List Action) → IsBranchTrace g bs i t → GoesTo (note_at c first) hs t
+    later_go : (before first k : ℕ) (bs : Alternatives) → first_fault g c (later_tests before first k bs) ≡ None
+        → (hs : Holdings) → Fits g (note_at c before) hs → (i : ℕ) (t : List Action) → IsBranchTrace g bs i t
+        → GoesTo (note_at c first) hs t
     later_go before first k none h hs f i t r = absurd r
     later_go before first k (either b bs) h hs f zero t r =
         let end : ℕ = sequence_end k b in
-        let p = both_pass g c (note_tests k (same before) ++ sequence_tests k b) (branch_agrees end first ∷ later_tests before first (end + 1) bs) h in
+        let p =
+        both_pass g c (note_tests k (same before) ++ sequence_tests k b)
+        (branch_agrees end first ∷ later_tests before first (end + 1) bs) h in
         let q = both_pass g c (note_tests k (same before)) (sequence_tests k b) p.0 in
         let note = note_passes g c k (same before) q.0 in
-        let agrees = note_same (note_at c end) (note_at c first) (first_passes g c (branch_agrees end first) (later_tests before first (end + 1) bs) p.1).0 in
-        subst (λ x. GoesTo x hs t) agrees (sequence_goes k b note.1 q.1 hs (fits_same (note_at c before) (note_at c k) hs (sym note.0) f) t r)
+        let agrees =
+        note_same (note_at c end) (note_at c first)
+        (first_passes g c (branch_agrees end first) (later_tests before first (end + 1) bs) p.1).0 in
+        subst (λ x. GoesTo x hs t) agrees
+        (sequence_goes k b note.2 q.1 hs (fits_same (note_at c before) (note_at c k) hs (sym note.1) f) t r)
     later_go before first k (either b bs) h hs f (suc i) t r =
         let end : ℕ = sequence_end k b in
-        let p = both_pass g c (note_tests k (same before) ++ sequence_tests k b) (branch_agrees end first ∷ later_tests before first (end + 1) bs) h in
+        let p =
+        both_pass g c (note_tests k (same before) ++ sequence_tests k b)
+        (branch_agrees end first ∷ later_tests before first (end + 1) bs) h in
         let rest = first_passes g c (branch_agrees end first) (later_tests before first (end + 1) bs) p.1 in
         later_go before first (end + 1) bs rest.1 hs f i t r

@@ -1,8 +1,9 @@
 -- The tree that is written spells the claims, so reading gives them again.
-use Rattle.std.proofs.Common.{◌≡◌, ℕ, ◌<◌, ◌≤◌, Bool, true, false, List, [], ◌∷◌, length, map, get_or, Some, refl, sym, ap, subst, ◌∙◌, arith}
+use Rattle.std.proofs.Common.{◌≡◌, ℕ, ◌<◌, ◌≤◌, Bool, true, List, [], ◌∷◌, length, map, get_or, Some, refl, sym, ap, subst, ◌∙◌, arith}
 use Rattle.std.specs.Prelude.{All, Ok}
 use Rattle.std.specs.List.{position, position_or_len}
 use Rattle.std.specs.Str.{bytes_eq}
+use Rattle.std.proofs.lemmas.Bool.{false_from_ne_true}
 use Rattle.std.proofs.lemmas.Bool.Decides.{nat_tests}
 use Rattle.std.proofs.lemmas.List.Elements.{All-head, All-tail}
 use Rattle.std.proofs.lemmas.List.Sums.{position_or_len_is}
@@ -28,16 +29,15 @@ use Rattle.pp_cert.proofs.Written.{nameless, region_at, few_levels}
 
 -- ---- names
 
-false_from_not : (b : Bool) → (b ≡ true → ⊥) → b ≡ false
-false_from_not true h = absurd (h refl)
-false_from_not false h = refl
-
-position_at : {X : Type 0} (q : X → Bool) (xs : List X) (i : ℕ) → position_or_len q xs ≡ i → i < length xs → position q xs ≡ Some i
+position_at : {X : Type 0} (q : X → Bool) (xs : List X) (i : ℕ) → position_or_len q xs ≡ i → i < length xs
+    → position q xs ≡ Some i
 position_at q xs i first within = rw first (grind (arith, nat_tests))
 
-position_only : {X : Type 0} (q : X → Bool) (xs : List X) (i : ℕ) (d : X) → i < length xs → q (get_or xs i d) ≡ true → ((k : ℕ) → k < i → q (get_or xs k d) ≡ true → ⊥) → position q xs ≡ Some i
+position_only : {X : Type 0} (q : X → Bool) (xs : List X) (i : ℕ) (d : X) → i < length xs → q (get_or xs i d) ≡ true
+    → ((k : ℕ) → k < i → q (get_or xs k d) ≡ true → ⊥) → position q xs ≡ Some i
 position_only q xs i d within passes others =
-    position_at q xs i (position_or_len_is q xs i d (omega (arith, within)) (λ k below. false_from_not (q (get_or xs k d)) (others k below)) (λ w. passes)) within
+    position_at q xs i (position_or_len_is q xs i d (omega (arith, within))
+    (λ k below. false_from_ne_true (q (get_or xs k d)) (others k below)) (λ w. passes)) within
 
 same_text : (a b : List ℕ) → bytes_eq a b ≡ true → a ≡ b
 same_text a b = (bytes_eq-Decides a b).0
@@ -47,39 +47,67 @@ slot_again p plan slot within =
     let at = λ (k : ℕ). unwrap_or-slice_get p.slots k [] in
     position_only (λ n. bytes_eq n (slot_name p slot)) p.slots slot [] within
     ((bytes_eq-Decides (get_or p.slots slot []) (slot_name p slot)).1 (sym (at slot)))
-    (λ k below same. not_itself (slot_name p slot) (subst (λ (x : List ℕ). IsBefore x (slot_name p slot)) (at k ∙ same_text (get_or p.slots k []) (slot_name p slot) same) (names_rise p plan k slot below within)))
+    (λ k below same. not_itself (slot_name p slot)
+    (subst (λ (x : List ℕ). IsBefore x (slot_name p slot))
+    (at k ∙ same_text (get_or p.slots k []) (slot_name p slot) same) (names_rise p plan k slot below within)))
 
-region_again : (c : Configuration) → IsConfiguration c → (r : ℕ) → r < length c.regions → region_named c (region_name c r) ≡ Some r
+region_again : (c : Configuration) → IsConfiguration c → (r : ℕ) → r < length c.regions
+    → region_named c (region_name c r) ≡ Some r
 region_again c settings r within =
     let at = region_at c r within in
     position_only (λ q. bytes_eq q.name (region_name c r)) c.regions r nameless within
     ((bytes_eq-Decides (get_or c.regions r nameless).name (region_name c r)).1 (sym at))
-    (λ k below same. settings.regions.names k r nameless below within (same_text (get_or c.regions k nameless).name (region_name c r) same ∙ at))
+    (λ k below same. settings.regions.names k r nameless below within
+    (same_text (get_or c.regions k nameless).name (region_name c r) same ∙ at))
 
 -- ---- the tree
 
-entries_spelled : (c : Configuration) (p : Terms) → IsConfiguration c → IsPlan p → (es : List Entry) → All (IsEntry c p) es → SpellsEntries c p (entry_members c p es) es
+entries_spelled : (c : Configuration) (p : Terms) → IsConfiguration c → IsPlan p → (es : List Entry)
+    → All (IsEntry c p) es → SpellsEntries c p (entry_members c p es) es
 entries_spelled c p settings plan [] are = tt
 entries_spelled c p settings plan (e ∷ es) are =
-    let is = All-head (IsEntry c p) e es are in
-    (record { slot = slot_again p plan e.slot is.slot; name = region_name c e.region; region = region_again c settings e.region is.region; value = refl }, entries_spelled c p settings plan es (All-tail (IsEntry c p) e es are))
+    let is = All-head (IsEntry c p) e es are in (
+      record {
+        slot = slot_again p plan e.slot is.slot;
+        name = region_name c e.region;
+        region =
+            region_again c settings e.region is.region;
+        value = refl;
+      },
+      entries_spelled c p settings plan es (All-tail (IsEntry c p) e es are),
+    )
 
-notes_spelled : (c : Configuration) (p : Terms) → IsConfiguration c → IsPlan p → (notes : List (List Entry)) → All (IsNote c p) notes → SpellsNotes c p (items_of (map (note_tree c p) notes)) notes
+notes_spelled : (c : Configuration) (p : Terms) → IsConfiguration c → IsPlan p → (notes : List (List Entry))
+    → All (IsNote c p) notes → SpellsNotes c p (items_of (map (note_tree c p) notes)) notes
 notes_spelled c p settings plan [] are = tt
-notes_spelled c p settings plan (note ∷ notes) are =
-    (entries_spelled c p settings plan note (All-head (IsNote c p) note notes are).entries, notes_spelled c p settings plan notes (All-tail (IsNote c p) note notes are))
+notes_spelled c p settings plan (note ∷ notes) are = (
+  entries_spelled c p settings plan note (All-head (IsNote c p) note notes are).entries,
+  notes_spelled c p settings plan notes (All-tail (IsNote c p) note notes are),
+)
 
-certificate_spelled : (c : Configuration) (p : Terms) → IsConfiguration c → IsPlan p → (t : Claims) → AreClaims c p t → Spells c p (certificate_members c p t) t
+certificate_spelled : (c : Configuration) (p : Terms) → IsConfiguration c → IsPlan p → (t : Claims) → AreClaims c p t
+    → Spells c p (object (certificate_members c p t)) t
 certificate_spelled c p settings plan t are = record {
-  keys = ((0, omega arith, refl), ((1, omega arith, refl), ((2, omega arith, refl), tt)));
+  keys = (
+    certificate_members c p t,
+    refl,
+    ((0, omega arith, refl), ((1, omega arith, refl), ((2, omega arith, refl), tt))),
+  );
   notes = (items_of (map (note_tree c p) t.notes), refl, notes_spelled c p settings plan t.notes are.notes);
   peak = refl;
   steps = refl;
 }
 
 -- What the writer gives of the tree reads as the claims.
-pub reads_as : (c : Configuration) (p : Terms) → IsConfiguration c → IsPlan p → (t : Claims) → AreClaims c p t → (d : Data) (text : List ℕ) → d ≡ object (certificate_members c p t) → (depth d ≤ 127 → read text ≡ Some d) → reading c p text ≡ Ok t
+pub reads_as : (c : Configuration) (p : Terms) → IsConfiguration c → IsPlan p → (t : Claims) → AreClaims c p t
+    → (d : Data) (text : List ℕ) → d ≡ object (certificate_members c p t) → (depth d ≤ 127 → read text ≡ Some d)
+    → reading c p text ≡ Ok t
 reads_as c p settings plan t are d text is parses =
     let within : depth d ≤ 127 = subst (λ (x : Data). depth x ≤ 127) (sym is) (few_levels c p t) in
     let parsed = parses within ∙ ap (λ (x : Data). Some x) is in
-    text_again c p text t (certificate_members c p t, parsed, certificate_spelled c p settings plan t are, are.few)
+    text_again c p text t (
+      object (certificate_members c p t),
+      parsed,
+      certificate_spelled c p settings plan t are,
+      are.few,
+    )

@@ -19,30 +19,48 @@ and_false true = refl
 and_false false = refl
 
 -- comparing with a joined list is comparing with its parts
-pub pointwise-append : {A : Type 0} (same : A → A → Bool) (xs ys zs : List A) → pointwise same xs (ys ++ zs) ≡ (pointwise same (take (length ys) xs) ys && pointwise same (drop (length ys) xs) zs)
+pub pointwise-append : {A : Type 0} (same : A → A → Bool) (xs ys zs : List A)
+    → pointwise same xs (ys ++ zs)
+    ≡ (pointwise same (take (length ys) xs) ys && pointwise same (drop (length ys) xs) zs)
 pointwise-append same [] [] zs = refl
 pointwise-append same [] (y ∷ ys) zs = refl
 pointwise-append same (x ∷ xs) [] zs = refl
 pointwise-append same (x ∷ xs) (y ∷ ys) zs =
-    ap (λ b. same x y && b) (pointwise-append same xs ys zs) ∙ sym (and_assoc (same x y) (pointwise same (take (length ys) xs) ys) (pointwise same (drop (length ys) xs) zs))
+    ap (λ b. same x y && b) (pointwise-append same xs ys zs)
+    ∙ sym (and_assoc (same x y) (pointwise same (take (length ys) xs) ys) (pointwise same (drop (length ys) xs) zs))
 
 -- a list that is shorter than the first part isn't the joined list
-pointwise-short : {A : Type 0} (same : A → A → Bool) (xs ys zs : List A) → length xs < length ys → pointwise same xs (ys ++ zs) ≡ false
+pointwise-short : {A : Type 0} (same : A → A → Bool) (xs ys zs : List A) → length xs < length ys
+    → pointwise same xs (ys ++ zs) ≡ false
 pointwise-short same xs [] zs h = absurd (omega (arith, h))
 pointwise-short same [] (y ∷ ys) zs h = refl
 pointwise-short same (x ∷ xs) (y ∷ ys) zs h =
     rw (pointwise-short same xs ys zs (omega (arith, h))) (and_false (same x y))
 
-pub joined : (whole front middle back : Entries) → same_note whole (front ++ (middle ++ back)) ≡ (same_note (take (length front) whole) front && same_note (take (length middle) (drop (length front) whole)) middle && same_note (drop (length middle) (drop (length front) whole)) back)
+pub joined : (whole front middle back : Entries)
+    → same_note whole (front ++ (middle ++ back))
+    ≡ (same_note (take (length front) whole) front && same_note (take (length middle) (drop (length front) whole))
+    middle && same_note (drop (length middle) (drop (length front) whole)) back)
 joined whole front middle back =
-    rw (pointwise-append same_entry whole front (middle ++ back), pointwise-append same_entry (drop (length front) whole) middle back) (sym (and_assoc (same_note (take (length front) whole) front) (same_note (take (length middle) (drop (length front) whole)) middle) (same_note (drop (length middle) (drop (length front) whole)) back)))
+    rw (
+      pointwise-append same_entry whole front (middle ++ back),
+      pointwise-append same_entry (drop (length front) whole) middle back,
+    )
+    (sym (and_assoc (same_note (take (length front) whole) front)
+    (same_note (take (length middle) (drop (length front) whole)) middle)
+    (same_note (drop (length middle) (drop (length front) whole)) back)))
 
 pub front_short : (whole front back : Entries) → length whole < length front → same_note whole (front ++ back) ≡ false
 front_short whole front back h = pointwise-short same_entry whole front back h
 
-pub middle_short : (whole front middle back : Entries) → length (drop (length front) whole) < length middle → same_note whole (front ++ (middle ++ back)) ≡ false
+pub middle_short : (whole front middle back : Entries) → length (drop (length front) whole) < length middle
+    → same_note whole (front ++ (middle ++ back)) ≡ false
 middle_short whole front middle back h =
-    rw (pointwise-append same_entry whole front (middle ++ back), pointwise-short same_entry (drop (length front) whole) middle back h) (and_false (same_note (take (length front) whole) front))
+    rw (
+      pointwise-append same_entry whole front (middle ++ back),
+      pointwise-short same_entry (drop (length front) whole) middle back h,
+    )
+    (and_false (same_note (take (length front) whole) front))
 
 pub ruleset joins = (joined, front_short, middle_short)
 
@@ -61,57 +79,76 @@ drop_one (suc n) [] = rw add-one refl
 drop_one (suc n) (y ∷ ys) = rw add-one (drop_one n ys ∙ rw add-one refl)
 
 -- an element is put before the first of a greater slot
-pub slot_insert_splits : {A : Type 0} (slot_of : A → ℕ) (x : A) (ys : List A) → slot_insert slot_of x ys ≡ take (position_or_len (λ y. nat_lt (slot_of x) (slot_of y)) ys) ys ++ (x ∷ drop (position_or_len (λ y. nat_lt (slot_of x) (slot_of y)) ys) ys)
+pub slot_insert_splits : {A : Type 0} (slot_of : A → ℕ) (x : A) (ys : List A)
+    → slot_insert slot_of x ys ≡ take (position_or_len (λ y. nat_lt (slot_of x) (slot_of y)) ys) ys
+    ++ (x ∷ drop (position_or_len (λ y. nat_lt (slot_of x) (slot_of y)) ys) ys)
 slot_insert_splits slot_of x [] = refl
 slot_insert_splits {A = A} slot_of x (y ∷ ys) =
     let n : ℕ = position_or_len (λ z. nat_lt (slot_of x) (slot_of z)) ys in
-    elim (nat_lt (slot_of x) (slot_of y)) as (λ b. (if b then x ∷ y ∷ ys else y ∷ slot_insert slot_of x ys) ≡ take (cond (not b) (1 + n) 0) (y ∷ ys) ++ (x ∷ drop (cond (not b) (1 + n) 0) (y ∷ ys))) [
+    elim (nat_lt (slot_of x) (slot_of y)) as (λ b. (if b then x ∷ y ∷ ys else y ∷ slot_insert slot_of x ys)
+    ≡ take (cond (not b) (1 + n) 0) (y ∷ ys) ++ (x ∷ drop (cond (not b) (1 + n) 0) (y ∷ ys))) [
       | true ↦ refl
       | false ↦ rw (take-next n y ys, drop-next n y ys) (ap (λ zs. y ∷ zs) (slot_insert_splits slot_of x ys))
     ]
 
 -- the first element of the slot is left out
-pub slot_remove_splits : {A : Type 0} (slot_of : A → ℕ) (s : ℕ) (ys : List A) → slot_remove slot_of s ys ≡ take (position_or_len (λ y. slot_of y == s) ys) ys ++ drop 1 (drop (position_or_len (λ y. slot_of y == s) ys) ys)
+pub slot_remove_splits : {A : Type 0} (slot_of : A → ℕ) (s : ℕ) (ys : List A)
+    → slot_remove slot_of s ys ≡ take (position_or_len (λ y. slot_of y == s) ys) ys
+    ++ drop 1 (drop (position_or_len (λ y. slot_of y == s) ys) ys)
 slot_remove_splits slot_of s [] = refl
 slot_remove_splits {A = A} slot_of s (y ∷ ys) =
     let n : ℕ = position_or_len (λ z. slot_of z == s) ys in
-    elim (slot_of y == s) as (λ b. (if b then ys else y ∷ slot_remove slot_of s ys) ≡ take (cond (not b) (1 + n) 0) (y ∷ ys) ++ drop 1 (drop (cond (not b) (1 + n) 0) (y ∷ ys))) [
+    elim (slot_of y == s) as (λ b. (if b then ys else y ∷ slot_remove slot_of s ys)
+    ≡ take (cond (not b) (1 + n) 0) (y ∷ ys) ++ drop 1 (drop (cond (not b) (1 + n) 0) (y ∷ ys))) [
       | true ↦ refl
       | false ↦ rw (take-next n y ys, drop-next n y ys) (ap (λ zs. y ∷ zs) (slot_remove_splits slot_of s ys))
     ]
 
-pub slot_remove_absent : {A : Type 0} (slot_of : A → ℕ) (s : ℕ) (ys : List A) → length ys ≤ position_or_len (λ y. slot_of y == s) ys → slot_remove slot_of s ys ≡ ys
+pub slot_remove_absent : {A : Type 0} (slot_of : A → ℕ) (s : ℕ) (ys : List A)
+    → length ys ≤ position_or_len (λ y. slot_of y == s) ys → slot_remove slot_of s ys ≡ ys
 slot_remove_absent slot_of s [] = λ h. refl
 slot_remove_absent {A = A} slot_of s (y ∷ ys) =
     let n : ℕ = position_or_len (λ z. slot_of z == s) ys in
-    elim (slot_of y == s) as (λ b. suc (length ys) ≤ cond (not b) (1 + n) 0 → (if b then ys else y ∷ slot_remove slot_of s ys) ≡ y ∷ ys) [
+    elim (slot_of y == s) as (λ b. suc (length ys) ≤ cond (not b) (1 + n) 0
+    → (if b then ys else y ∷ slot_remove slot_of s ys) ≡ y ∷ ys) [
       | true ↦ λ h. absurd (omega (arith, h))
       | false ↦ λ h. ap (λ zs. y ∷ zs) (slot_remove_absent slot_of s ys (omega (arith, h)))
     ]
 
 -- the first element of the slot is changed
-pub slot_update_splits : {A : Type 0} (slot_of : A → ℕ) (f : A → A) (s : ℕ) (ys : List A) (d : A) → position_or_len (λ y. slot_of y == s) ys < length ys → slot_update slot_of f s ys ≡ take (position_or_len (λ y. slot_of y == s) ys) ys ++ (f (get_or ys (position_or_len (λ y. slot_of y == s) ys) d) ∷ drop 1 (drop (position_or_len (λ y. slot_of y == s) ys) ys))
+pub slot_update_splits : {A : Type 0} (slot_of : A → ℕ) (f : A → A) (s : ℕ) (ys : List A) (d : A)
+    → position_or_len (λ y. slot_of y == s) ys < length ys
+    → slot_update slot_of f s ys ≡ take (position_or_len (λ y. slot_of y == s) ys) ys
+    ++ (f (get_or ys (position_or_len (λ y. slot_of y == s) ys) d) ∷ drop 1
+    (drop (position_or_len (λ y. slot_of y == s) ys) ys))
 slot_update_splits slot_of f s [] d = λ h. absurd (omega (arith, h))
 slot_update_splits {A = A} slot_of f s (y ∷ ys) d =
     let n : ℕ = position_or_len (λ z. slot_of z == s) ys in
-    elim (slot_of y == s) as (λ b. cond (not b) (1 + n) 0 < suc (length ys) → (if b then f y ∷ ys else y ∷ slot_update slot_of f s ys) ≡ take (cond (not b) (1 + n) 0) (y ∷ ys) ++ (f (get_or (y ∷ ys) (cond (not b) (1 + n) 0) d) ∷ drop 1 (drop (cond (not b) (1 + n) 0) (y ∷ ys)))) [
+    elim (slot_of y == s) as (λ b. cond (not b) (1 + n) 0 < suc (length ys)
+    → (if b then f y ∷ ys else y ∷ slot_update slot_of f s ys) ≡ take (cond (not b) (1 + n) 0) (y ∷ ys)
+    ++ (f (get_or (y ∷ ys) (cond (not b) (1 + n) 0) d) ∷ drop 1 (drop (cond (not b) (1 + n) 0) (y ∷ ys)))) [
       | true ↦ λ h. refl
-      | false ↦ λ h. rw (take-next n y ys, drop-next n y ys, get_or-next n y ys d) (ap (λ zs. y ∷ zs) (slot_update_splits slot_of f s ys d (omega (arith, h))))
+      | false ↦ λ h. rw (take-next n y ys, drop-next n y ys, get_or-next n y ys d)
+          (ap (λ zs. y ∷ zs) (slot_update_splits slot_of f s ys d (omega (arith, h))))
     ]
 
 -- an element that isn't there isn't changed
-pub slot_update_absent : {A : Type 0} (slot_of : A → ℕ) (f : A → A) (s : ℕ) (ys : List A) → length ys ≤ position_or_len (λ y. slot_of y == s) ys → slot_update slot_of f s ys ≡ ys
+pub slot_update_absent : {A : Type 0} (slot_of : A → ℕ) (f : A → A) (s : ℕ) (ys : List A)
+    → length ys ≤ position_or_len (λ y. slot_of y == s) ys → slot_update slot_of f s ys ≡ ys
 slot_update_absent slot_of f s [] = λ h. refl
 slot_update_absent {A = A} slot_of f s (y ∷ ys) =
     let n : ℕ = position_or_len (λ z. slot_of z == s) ys in
-    elim (slot_of y == s) as (λ b. suc (length ys) ≤ cond (not b) (1 + n) 0 → (if b then f y ∷ ys else y ∷ slot_update slot_of f s ys) ≡ y ∷ ys) [
+    elim (slot_of y == s) as (λ b. suc (length ys) ≤ cond (not b) (1 + n) 0
+    → (if b then f y ∷ ys else y ∷ slot_update slot_of f s ys) ≡ y ∷ ys) [
       | true ↦ λ h. absurd (omega (arith, h))
       | false ↦ λ h. ap (λ zs. y ∷ zs) (slot_update_absent slot_of f s ys (omega (arith, h)))
     ]
 
 prefix_len-le : {A : Type 0} (p : A → Bool) (ys : List A) → prefix_len p ys ≤ length ys
 prefix_len-le p [] = omega arith
-prefix_len-le p (y ∷ ys) = elim (p y) as (λ b. cond b (1 + prefix_len p ys) 0 ≤ suc (length ys)) [ true ↦ omega (arith, prefix_len-le p ys) | false ↦ omega arith ]
+prefix_len-le p (y ∷ ys) =
+    elim (p y) as (λ b. cond b (1 + prefix_len p ys) 0 ≤ suc (length ys))
+    [ true ↦ omega (arith, prefix_len-le p ys) | false ↦ omega arith ]
 
 -- ---- by the place that `position` gives
 
@@ -130,36 +167,60 @@ at_none n m = elim (nat_lt n m) as (λ b. nat_lt n m ≡ b → cond b (Some n) N
   | false ↦ λ t e. grind (arith, nat_tests)
 ] refl
 
-pub insert_at : (e : Entry) (ys : Entries) (i : ℕ) → position (λ y. nat_lt e.slot (entry_slot y)) ys ≡ Some i → slot_insert entry_slot e ys ≡ take i ys ++ (e ∷ drop i ys)
+pub insert_within : (e : Entry) (ys : Entries) (i : ℕ) → position (λ y. nat_lt e.slot (entry_slot y)) ys ≡ Some i
+    → i < length ys
+insert_within e ys i h = (at_some (position_or_len (λ y. nat_lt e.slot (entry_slot y)) ys) (length ys) i h).1
+
+pub slot_within : (s : ℕ) (ys : Entries) (i : ℕ) → position (λ y. entry_slot y == s) ys ≡ Some i → i < length ys
+slot_within s ys i h = (at_some (position_or_len (λ y. entry_slot y == s) ys) (length ys) i h).1
+
+pub insert_at : (e : Entry) (ys : Entries) (i : ℕ) → position (λ y. nat_lt e.slot (entry_slot y)) ys ≡ Some i
+    → slot_insert entry_slot e ys ≡ take i ys ++ (e ∷ drop i ys)
 insert_at e ys i h =
     let at = at_some (position_or_len (λ y. nat_lt e.slot (entry_slot y)) ys) (length ys) i h in
     rw (slot_insert_splits entry_slot e ys, at.0) refl
 
-pub insert_last : (e : Entry) (ys : Entries) → position (λ y. nat_lt e.slot (entry_slot y)) ys ≡ None → slot_insert entry_slot e ys ≡ ys ++ (e ∷ [])
+pub insert_last : (e : Entry) (ys : Entries) → position (λ y. nat_lt e.slot (entry_slot y)) ys ≡ None
+    → slot_insert entry_slot e ys ≡ ys ++ (e ∷ [])
 insert_last e ys h =
     let past = at_none (position_or_len (λ y. nat_lt e.slot (entry_slot y)) ys) (length ys) h in
-    rw (slot_insert_splits entry_slot e ys, take_all (position_or_len (λ y. nat_lt e.slot (entry_slot y)) ys) ys past, drop_all (position_or_len (λ y. nat_lt e.slot (entry_slot y)) ys) ys past) refl
+    rw (
+      slot_insert_splits entry_slot e ys,
+      take_all (position_or_len (λ y. nat_lt e.slot (entry_slot y)) ys) ys past,
+      drop_all (position_or_len (λ y. nat_lt e.slot (entry_slot y)) ys) ys past,
+    ) refl
 
 pub ruleset inserts = (insert_at, insert_last)
 
-pub remove_at : (s : ℕ) (ys : Entries) (i : ℕ) → position (λ y. entry_slot y == s) ys ≡ Some i → slot_remove entry_slot s ys ≡ take i ys ++ ([] ++ drop (i + 1) ys)
+pub remove_at : (s : ℕ) (ys : Entries) (i : ℕ) → position (λ y. entry_slot y == s) ys ≡ Some i
+    → slot_remove entry_slot s ys ≡ take i ys ++ ([] ++ drop (i + 1) ys)
 remove_at s ys i h =
     let at = at_some (position_or_len (λ y. entry_slot y == s) ys) (length ys) i h in
     rw (slot_remove_splits entry_slot s ys, at.0) (ap (λ zs. take i ys ++ zs) (drop_one i ys))
 
-pub remove_absent : (s : ℕ) (ys : Entries) → position (λ y. entry_slot y == s) ys ≡ None → slot_remove entry_slot s ys ≡ ys
-remove_absent s ys h = slot_remove_absent entry_slot s ys (at_none (position_or_len (λ y. entry_slot y == s) ys) (length ys) h)
+pub remove_absent : (s : ℕ) (ys : Entries) → position (λ y. entry_slot y == s) ys ≡ None
+    → slot_remove entry_slot s ys ≡ ys
+remove_absent s ys h =
+    slot_remove_absent entry_slot s ys (at_none (position_or_len (λ y. entry_slot y == s) ys) (length ys) h)
 
 pub ruleset removes = (remove_at, remove_absent)
 
-pub update_at : (held : Held) (s : ℕ) (ys : Entries) (i : ℕ) (d : Entry) → position (λ y. entry_slot y == s) ys ≡ Some i → noted_as held s ys ≡ take i ys ++ (record { slot = (get_or ys i d).slot; region = (get_or ys i d).region; held = held } ∷ drop (i + 1) ys)
+pub update_at : (held : Held) (s : ℕ) (ys : Entries) (i : ℕ) (d : Entry) → position (λ y. entry_slot y == s) ys ≡ Some i
+    → noted_as held s ys ≡ take i ys
+    ++ (record { slot = (get_or ys i d).slot; region = (get_or ys i d).region; held = held } ∷ drop (i + 1) ys)
 update_at held s ys i d h =
     let n : ℕ = position_or_len (λ y. entry_slot y == s) ys in
     let at : (n ≡ i) × (i < length ys) = at_some n (length ys) i h in
-    let splits = slot_update_splits entry_slot (λ e. record { slot = e.slot; region = e.region; held = held }) s ys d (omega (arith, at.0, at.1)) in
-    rw (splits, at.0) (ap (λ zs. take i ys ++ (record { slot = (get_or ys i d).slot; region = (get_or ys i d).region; held = held } ∷ zs)) (drop_one i ys))
+    let splits =
+    slot_update_splits entry_slot (λ e. record { slot = e.slot; region = e.region; held = held }) s ys d
+    (omega (arith, at.0, at.1)) in
+    rw (splits, at.0) (ap (λ zs. take i ys
+    ++ (record { slot = (get_or ys i d).slot; region = (get_or ys i d).region; held = held } ∷ zs)) (drop_one i ys))
 
-pub update_absent : (held : Held) (s : ℕ) (ys : Entries) → position (λ y. entry_slot y == s) ys ≡ None → noted_as held s ys ≡ ys
-update_absent held s ys h = slot_update_absent entry_slot (λ e. record { slot = e.slot; region = e.region; held = held }) s ys (at_none (position_or_len (λ y. entry_slot y == s) ys) (length ys) h)
+pub update_absent : (held : Held) (s : ℕ) (ys : Entries) → position (λ y. entry_slot y == s) ys ≡ None
+    → noted_as held s ys ≡ ys
+update_absent held s ys h =
+    slot_update_absent entry_slot (λ e. record { slot = e.slot; region = e.region; held = held }) s ys
+    (at_none (position_or_len (λ y. entry_slot y == s) ys) (length ys) h)
 
 pub ruleset updates = (update_at, update_absent)

@@ -28,4 +28,10 @@ pub record IsAccepted (a : Acceptance) : Type 0 where
 -- Stored as the parts of its fields.
 abbrev pub coded_acceptance : Coded Acceptance
 coded_acceptance =
-    code_by (Terms × (ℕ × ℕ)) (coded× coded_terms (coded× coded_ℕ coded_ℕ)) (λ a. (a.plan, (a.peak, a.steps))) (λ p. record { plan = p.0; peak = p.1.0; steps = p.1.1 }) (λ _. refl)
+    code_by (Terms × (ℕ × ℕ)) (coded× coded_terms (coded× coded_ℕ coded_ℕ)) (λ a. (a.plan, (a.peak, a.steps)))
+    (λ p. record {
+      plan =
+          p.0;
+      peak = p.1.0;
+      steps = p.1.1;
+    }) (λ _. refl)

@@ -1,45 +1,31 @@
--- The numbers, names and places of what the check answers.
-use Rattle.std.specs.Prelude.{ℕ, Option, None, Some, List, codes}
+-- What is printed of the faults that the check answers, and their places.
+use Rattle.std.specs.Prelude.{ℕ, Option, None, Some, codes}
+use Rattle.pp_text.specs.Refusals.{Row, row, nothing, at}
 use Rattle.pp_cert.specs.declared.check_error.CheckError.{CheckError}
-use Rattle.pp_cert.specs.declared.check_error.CheckError.TheVariants.{NotesShort, NotesLong, NoteDiffers, SlotInUse, NotFixed, StillLatched, NotLatched, AgainstOrder, OverPeak, LoopChanges, BranchDiffers, EndsHolding, StepsTooFew, StepsTooMany, PeakTooBig, OtherSettings}
+use Rattle.pp_cert.specs.declared.check_error.CheckError.TheVariants.{NotesShort, NotesLong, NoteDiffers, SlotInUse}
+use Rattle.pp_cert.specs.declared.check_error.CheckError.TheVariants.{NotFixed, StillLatched, NotLatched, AgainstOrder}
+use Rattle.pp_cert.specs.declared.check_error.CheckError.TheVariants.{OverPeak, LoopChanges, BranchDiffers, EndsHolding}
+use Rattle.pp_cert.specs.declared.check_error.CheckError.TheVariants.{StepsTooFew, StepsTooMany, PeakTooBig}
+use Rattle.pp_cert.specs.declared.check_error.CheckError.TheVariants.{OtherSettings}
 
--- The number of a fault, as it is printed.
-abbrev pub number_of : CheckError → ℕ
-number_of (NotesShort k) = 31
-number_of (NotesLong k) = 32
-number_of (NoteDiffers k) = 33
-number_of (SlotInUse k) = 34
-number_of (NotFixed k) = 35
-number_of (StillLatched k) = 36
-number_of (NotLatched k) = 37
-number_of (AgainstOrder k) = 38
-number_of (OverPeak k) = 39
-number_of (LoopChanges k) = 40
-number_of (BranchDiffers k) = 41
-number_of (EndsHolding k) = 42
-number_of StepsTooFew = 43
-number_of StepsTooMany = 44
-number_of PeakTooBig = 45
-number_of OtherSettings = 46
-
--- The name of a fault, as it is printed.
-abbrev pub name_of : CheckError → List ℕ
-name_of (NotesShort k) = codes "NotesShort"
-name_of (NotesLong k) = codes "NotesLong"
-name_of (NoteDiffers k) = codes "NoteDiffers"
-name_of (SlotInUse k) = codes "SlotInUse"
-name_of (NotFixed k) = codes "NotFixed"
-name_of (StillLatched k) = codes "StillLatched"
-name_of (NotLatched k) = codes "NotLatched"
-name_of (AgainstOrder k) = codes "AgainstOrder"
-name_of (OverPeak k) = codes "OverPeak"
-name_of (LoopChanges k) = codes "LoopChanges"
-name_of (BranchDiffers k) = codes "BranchDiffers"
-name_of (EndsHolding k) = codes "EndsHolding"
-name_of StepsTooFew = codes "StepsTooFew"
-name_of StepsTooMany = codes "StepsTooMany"
-name_of PeakTooBig = codes "PeakTooBig"
-name_of OtherSettings = codes "OtherSettings"
+-- The number and the name of a fault, and the place of the note that it is about.
+abbrev pub row_of : CheckError → Row
+row_of (NotesShort k) = row 31 (codes "NotesShort") (at k)
+row_of (NotesLong k) = row 32 (codes "NotesLong") (at k)
+row_of (NoteDiffers k) = row 33 (codes "NoteDiffers") (at k)
+row_of (SlotInUse k) = row 34 (codes "SlotInUse") (at k)
+row_of (NotFixed k) = row 35 (codes "NotFixed") (at k)
+row_of (StillLatched k) = row 36 (codes "StillLatched") (at k)
+row_of (NotLatched k) = row 37 (codes "NotLatched") (at k)
+row_of (AgainstOrder k) = row 38 (codes "AgainstOrder") (at k)
+row_of (OverPeak k) = row 39 (codes "OverPeak") (at k)
+row_of (LoopChanges k) = row 40 (codes "LoopChanges") (at k)
+row_of (BranchDiffers k) = row 41 (codes "BranchDiffers") (at k)
+row_of (EndsHolding k) = row 42 (codes "EndsHolding") (at k)
+row_of StepsTooFew = row 43 (codes "StepsTooFew") nothing
+row_of StepsTooMany = row 44 (codes "StepsTooMany") nothing
+row_of PeakTooBig = row 45 (codes "PeakTooBig") nothing
+row_of OtherSettings = row 46 (codes "OtherSettings") nothing
 
 -- The place of the note that a fault is about, if it is about one.
 abbrev pub place_of : CheckError → Option ℕ

@@ -2,6 +2,7 @@
 use Rattle.std.specs.Prelude.{ℕ, List, ◌<◌, ◌≤◌, length, All, AllPairs}
 use Rattle.pp_settings.specs.Settings.{Configuration}
 use Rattle.pp_plan.specs.Terms.{Terms}
+use Rattle.pp_cert.specs.Limits.{most_notes, most_entries}
 use Rattle.pp_cert.specs.declared.note.Entry.{Entry}
 use Rattle.pp_cert.specs.declared.certificate.Certificate.{Certificate}
 
@@ -17,8 +18,8 @@ claims_of c = record { notes = c.notes.items; peak = c.peak; steps = c.steps }
 
 -- At most 70,000 notes, and at most 32 entries in each.
 pub record AreFew (notes : List (List Entry)) : Type 0 where
-  pub notes_few : length notes ≤ 70000
-  pub entries_few : All (λ note. length note ≤ 32) notes
+  pub notes_few : length notes ≤ most_notes
+  pub entries_few : All (λ note. length note ≤ most_entries) notes
 
 -- The entry's slot is one of the plan's, and its region one of the settings'.
 pub record IsEntry (c : Configuration) (p : Terms) (e : Entry) : Type 0 where

@@ -1,6 +1,7 @@
 -- What a worker holds after a list of actions, and which lists are legal and orderly
 -- (fix, use, unfix: Gray and Reuter, Transaction Processing, chapter 13).
-use Rattle.std.specs.Prelude.{◌≡◌, ℕ, ◌<◌, Bool, true, false, IsTrue, if◌then◌else◌, Option, None, Some, is_some, IsSome, option_map, List, [], ◌∷◌, ◌++◌, length, All}
+use Rattle.std.specs.Prelude.{◌≡◌, ℕ, ◌<◌, Bool, true, false, IsTrue, if◌then◌else◌, Option, None, Some, is_some}
+use Rattle.std.specs.Prelude.{IsSome, option_map, List, [], ◌∷◌, ◌++◌, length, All}
 use Rattle.pp_settings.specs.Layout.{Geometry, class_of}
 use Rattle.pp_plan.specs.declared.mode.Mode.{Mode}
 use Rattle.pp_plan.specs.declared.mode.Mode.TheVariants.{S as Shared, X as Exclusive}
@@ -66,7 +67,12 @@ holding_as held s hs = slot_update holding_slot (λ h. record { slot = h.slot; p
 -- a latch one whose page isn't latched, an unlatch one whose page is latched; a choice changes nothing.
 abbrev pub held_next : Holdings → Action → Option Holdings
 held_next hs (Fix s page) =
-    if is_some (held_at hs s) then None else Some (slot_insert holding_slot (record { slot = s; page = page; held = Free }) hs)
+    if is_some (held_at hs s) then None else Some (slot_insert holding_slot (record {
+      slot =
+          s;
+      page = page;
+      held = Free;
+    }) hs)
 held_next hs (Unfix s) = if is_free_page (held_at hs s) then Some (slot_remove holding_slot s hs) else None
 held_next hs (Latch s m) = if is_free_page (held_at hs s) then Some (holding_as (held_in m) s hs) else None
 held_next hs (Unlatch s) = if is_latched_page (held_at hs s) then Some (holding_as Free s hs) else None
@@ -97,12 +103,14 @@ IsClassBelow (Some c) None = ⊥
 -- The slot's page has a class greater than that of every page that is S or X.
 abbrev pub IsAboveLatched : Geometry → Holdings → ℕ → Type 0
 IsAboveLatched g hs s =
-    (h : Holding) → holding_at hs s ≡ Some h → All (λ l. IsTrue (is_latched l.held) → IsClassBelow (class_of g l.page) (class_of g h.page)) hs
+    (h : Holding) → holding_at hs s ≡ Some h
+    → All (λ l. IsTrue (is_latched l.held) → IsClassBelow (class_of g l.page) (class_of g h.page)) hs
 
 -- Each latch in the list is of a page whose class is greater than the class of every page that is S or X just before.
 abbrev pub IsOrderly : Geometry → List Action → Type 0
 IsOrderly g t =
-    (u v : List Action) (s : ℕ) (m : Mode) → t ≡ u ++ Latch s m ∷ v → (hs : Holdings) → held u ≡ Some hs → IsAboveLatched g hs s
+    (u v : List Action) (s : ℕ) (m : Mode) → t ≡ u ++ Latch s m ∷ v → (hs : Holdings) → held u ≡ Some hs
+    → IsAboveLatched g hs s
 
 -- How many slots hold a page.
 abbrev pub size_of : Option Holdings → ℕ

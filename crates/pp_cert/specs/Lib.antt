@@ -1,3 +1,4 @@
+pub mod Limits
 pub mod Slots
 pub mod Held
 pub mod Notes
@@ -6,11 +7,10 @@ pub mod Claims
 pub mod Walk
 pub mod Accepted
 pub mod CheckErrors
-pub mod Refusals
-pub mod TextRefusals
+pub mod CertErrors
 pub mod Words
-pub mod Steps
 pub mod Reading
 pub mod Spelling
+pub mod Faults
 pub mod Writing
 pub mod Tree

@@ -1,5 +1,6 @@
 -- Notes: what a certificate says is held at a place, and what is held there after one more statement.
-use Rattle.std.specs.Prelude.{ℕ, Bool, true, false, ◌==◌, ◌&&◌, ◌||◌, not, nat_lt, Option, option_map, List, slice_get, unwrap_or}
+use Rattle.std.specs.Prelude.{ℕ, Bool, true, false, ◌==◌, ◌&&◌, ◌||◌, not, nat_lt, Option, option_map, List, slice_get}
+use Rattle.std.specs.Prelude.{unwrap_or}
 use Rattle.std.specs.List.{list_all}
 use Rattle.std.specs.Cmp.Lexicographic.{pointwise}
 use Rattle.pp_settings.specs.Layout.{Geometry}
@@ -52,7 +53,8 @@ slot_class g n s = unwrap_or (option_map (λ e. region_class g e.region) (entry_
 
 -- Whether the slot's page has a class greater than every class latched in the note.
 abbrev pub is_above_latched : Geometry → Entries → ℕ → Bool
-is_above_latched g n s = list_all (λ e. not (is_latched e.held) || nat_lt (region_class g e.region) (slot_class g n s)) n
+is_above_latched g n s =
+    list_all (λ e. not (is_latched e.held) || nat_lt (region_class g e.region) (slot_class g n s)) n
 
 -- ---- the note after a statement
 

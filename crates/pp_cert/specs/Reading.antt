@@ -1,19 +1,21 @@
 -- What a certificate's text gives under settings and a plan: its claims, or the first refusal in the fixed order.
-use Rattle.std.specs.Prelude.{ℕ, List, [], ◌∷◌, ◌++◌, Bool, true, ◌&&◌, nat_le, Option, Some, None, option_and_then, codes, Result, Ok}
+use Rattle.std.specs.Prelude.{ℕ, List, [], ◌∷◌, ◌++◌, nat_le, Option, Some, None, option_and_then, codes, Result, Ok}
 use Rattle.std.specs.Option.{ok_or}
 use Rattle.serde_json.specs.Data.{Data, Items, no_items, item, Members, no_members, member}
 use Rattle.serde_json.specs.Events.{items_len, members_len}
 use Rattle.serde_json.specs.Find.{as_object, as_array, as_str, as_number, as_u64, get}
 use Rattle.serde_json.specs.Read.{read}
+use Rattle.pp_text.specs.Steps.{◌>>=◌, must}
+use Rattle.pp_text.specs.Objects.{has_only_keys}
 use Rattle.pp_settings.specs.Settings.{Configuration, region_named}
 use Rattle.pp_plan.specs.Terms.{Terms}
 use Rattle.pp_plan.specs.Slots.{slot_named}
 use Rattle.pp_cert.specs.declared.note.Entry.{Entry}
 use Rattle.pp_cert.specs.declared.error.CertError.{CertError}
 use Rattle.pp_cert.specs.declared.error.CertError.TheVariants.{NotJson, WrongField, UnknownName, TooMany}
+use Rattle.pp_cert.specs.Limits.{most_notes, most_entries}
 use Rattle.pp_cert.specs.Claims.{Claims}
-use Rattle.pp_cert.specs.Steps.{◌>>=◌, must}
-use Rattle.pp_cert.specs.Words.{held_of, is_key}
+use Rattle.pp_cert.specs.Words.{held_of, certificate_keys}
 
 -- ---- one entry
 
@@ -44,7 +46,7 @@ entries_from c p earlier (member key d ms) = entry_at c p key d >>= λ e. entrie
 unfoldable pub note_at : Configuration → Terms → Data → Result (List Entry) CertError
 note_at c p d = do
   ms ← ok_or (as_object d) WrongField
-  few ← must (nat_le (members_len ms) 32) TooMany
+  few ← must (nat_le (members_len ms) most_entries) TooMany
   entries_from c p [] ms
 
 -- The earlier notes and then those of the items, one item after the other.
@@ -53,17 +55,6 @@ notes_from c p earlier no_items = Ok earlier
 notes_from c p earlier (item d ds) = note_at c p d >>= λ note. notes_from c p (earlier ++ note ∷ []) ds
 
 -- ---- the certificate
-
--- Each key of the object is one of a certificate's.
-abbrev pub keys_known : Members → Bool
-keys_known no_members = true
-keys_known (member key d ms) = is_key key && keys_known ms
-
--- The value is an object with no other key.
-unfoldable pub only_known : Data → Result (Unit {0}) CertError
-only_known d = do
-  ms ← ok_or (as_object d) WrongField
-  must (keys_known ms) WrongField
 
 -- The list at a key.
 abbrev pub list_at : List ℕ → Data → Result Items CertError
@@ -76,11 +67,11 @@ number_at key d = ok_or (option_and_then as_u64 (option_and_then as_number (get 
 -- The claims of a value: its own object first, then how many notes there are, then note by note.
 unfoldable pub claims_at : Configuration → Terms → Data → Result Claims CertError
 claims_at c p d = do
-  known ← only_known d
+  only ← must (has_only_keys certificate_keys d) WrongField
   items ← list_at (codes "notes") d
   peak ← number_at (codes "peak") d
   steps ← number_at (codes "steps") d
-  few ← must (nat_le (items_len items) 70000) TooMany
+  few ← must (nat_le (items_len items) most_notes) TooMany
   notes ← notes_from c p [] items
   Ok (record { notes = notes; peak = peak; steps = steps })
 

@@ -1,6 +1,7 @@
 -- The JSON value that is written for a certificate. For private clauses.
 use Rattle.std.specs.Prelude.{List, [], ◌∷◌, map, codes}
-use Rattle.serde_json.specs.Data.{unsigned, Data, number, string, array, object, no_items, item, Members, no_members, member}
+use Rattle.serde_json.specs.Data.{unsigned, Data, number, string, array, object, no_items, item, Members, no_members}
+use Rattle.serde_json.specs.Data.{member}
 use Rattle.serde_json.specs.View.{items_of}
 use Rattle.pp_settings.specs.Settings.{Configuration}
 use Rattle.pp_plan.specs.Terms.{Terms}
@@ -23,4 +24,6 @@ note_tree c p note = object (entry_members c p note)
 
 -- The members of the certificate's object.
 abbrev pub certificate_members : Configuration → Terms → Claims → Members
-certificate_members c p t = member (codes "notes") (array (items_of (map (note_tree c p) t.notes))) (member (codes "peak") (number (unsigned t.peak)) (member (codes "steps") (number (unsigned t.steps)) no_members))
+certificate_members c p t =
+    member (codes "notes") (array (items_of (map (note_tree c p) t.notes)))
+    (member (codes "peak") (number (unsigned t.peak)) (member (codes "steps") (number (unsigned t.steps)) no_members))

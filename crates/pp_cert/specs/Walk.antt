@@ -1,15 +1,22 @@
 -- What a certificate has to say of a plan: the places of its notes, the tests in the order of a walk over the plan,
 -- and the first of them that fails.
-use Rattle.std.specs.Prelude.{ℕ, ◌+◌, Bool, ◌==◌, ◌&&◌, not, nat_le, if◌then◌else◌, Option, None, Some, is_some, Result, Ok, Err, List, [], ◌∷◌, ◌++◌, length, slice_get, unwrap_or}
+use Rattle.std.specs.Prelude.{◌≡◌, ℕ, ◌+◌, Bool, ◌==◌, ◌&&◌, not, nat_le, if◌then◌else◌, Option, None, Some, is_some}
+use Rattle.std.specs.Prelude.{Result, Ok, Err, List, [], ◌∷◌, ◌++◌, length, slice_get, unwrap_or}
 use Rattle.std.specs.Cmp.Lexicographic.{pointwise}
 use Rattle.pp_settings.specs.Layout.{Geometry}
 use Rattle.pp_settings.specs.declared.extent.Extent.{Extent}
-use Rattle.pp_plan.specs.Tree.{Step, fix, unfix, latch, unlatch, Statement, step, loop, choice, Sequence, done, andthen, Alternatives, none, either}
+use Rattle.pp_plan.specs.Tree.{Step, fix, unfix, latch, unlatch, Statement, step, loop, choice, Sequence, done, andthen}
+use Rattle.pp_plan.specs.Tree.{Alternatives, none, either}
 use Rattle.pp_plan.specs.Terms.{Terms}
 use Rattle.pp_cert.specs.declared.certificate.Certificate.{Certificate}
 pub use Rattle.pp_cert.specs.Claims.{Claims, claims_of}
+pub use Rattle.pp_cert.specs.Limits.{most_steps}
 use Rattle.pp_cert.specs.declared.check_error.CheckError.{CheckError}
-use Rattle.pp_cert.specs.declared.check_error.CheckError.TheVariants.{NotesShort, NotesLong, NoteDiffers, SlotInUse, NotFixed, StillLatched, NotLatched, AgainstOrder, OverPeak, LoopChanges, BranchDiffers, EndsHolding, StepsTooFew, StepsTooMany, PeakTooBig, OtherSettings}
+use Rattle.pp_cert.specs.declared.check_error.CheckError.TheVariants.{NotesShort, NotesLong, NoteDiffers, SlotInUse}
+use Rattle.pp_cert.specs.declared.check_error.CheckError.TheVariants.{NotFixed, StillLatched, NotLatched, AgainstOrder}
+use Rattle.pp_cert.specs.declared.check_error.CheckError.TheVariants.{OverPeak, LoopChanges, BranchDiffers, EndsHolding}
+use Rattle.pp_cert.specs.declared.check_error.CheckError.TheVariants.{StepsTooFew, StepsTooMany, PeakTooBig}
+use Rattle.pp_cert.specs.declared.check_error.CheckError.TheVariants.{OtherSettings}
 use Rattle.pp_cert.specs.Held.{is_latched_page}
 use Rattle.pp_cert.specs.Notes.{Entries, same_note, noted_at, noted_after, is_above_latched}
 use Rattle.pp_cert.specs.Longest.{sequence_longest}
@@ -18,7 +25,10 @@ use Rattle.pp_cert.specs.Longest.{sequence_longest}
 abbrev pub note_at : Claims → ℕ → Entries
 note_at c k = unwrap_or (slice_get c.notes k) []
 
--- ---- places: before each statement of a body one, then those of the statement's own bodies in order, and at each body's end one
+-- ---- places
+
+-- Before each statement of a body there is one, then come those of the statement's own bodies in order, and at each
+-- body's end there is one.
 
 abbrev mutual
   -- The next place after those of a statement that stands at place k.
@@ -90,10 +100,6 @@ pub data Test : Type 0 where
   steps_enough : (longest : ℕ) → Test
   peak_allowed : Test
 
--- The most steps that a certificate may claim.
-abbrev pub most_steps : ℕ
-most_steps = 1000000
-
 abbrev pub same_extent : Extent → Extent → Bool
 same_extent d e = d.first == e.first && d.count == e.count && d.class == e.class
 
@@ -161,7 +167,8 @@ abbrev mutual
       note_tests (k + 1) (same k) ++ sequence_tests (k + 1) b ++ loop_keeps (sequence_end (k + 1) b) k ∷ []
   statement_tests k (choice none) = []
   statement_tests k (choice (either b bs)) =
-      note_tests (k + 1) (same k) ++ sequence_tests (k + 1) b ++ later_tests k (sequence_end (k + 1) b) (sequence_end (k + 1) b + 1) bs
+      note_tests (k + 1) (same k) ++ sequence_tests (k + 1) b ++ later_tests k (sequence_end (k + 1) b)
+      (sequence_end (k + 1) b + 1) bs
 
   -- Of a body after its first note, at place k: for each statement its own, and then those of the note after it.
   pub sequence_tests : ℕ → Sequence → List Test
@@ -199,6 +206,10 @@ abbrev pub first_fault : Geometry → Claims → List Test → Option CheckError
 first_fault g c [] = None
 first_fault g c (t ∷ ts) = if passes g c t then first_fault g c ts else Some (fault_of t)
 
+-- No test of the claims fails under the settings' layout: the check accepts them.
+abbrev pub Certifies : Geometry → Terms → Claims → Type 0
+Certifies g p c = first_fault g c (tests p) ≡ None
+
 -- The value where there is no fault, else the fault.
 abbrev pub unless : {A : Type 0} → Option CheckError → A → Result A CheckError
 unless None a = Ok a
@@ -213,4 +224,6 @@ walked g c ts k = unless (first_fault g (claims_of c) ts) k
 -- What the note at place k answers, where it is known whether it is the expected one.
 abbrev pub note_fault : Claims → ℕ → Bool → Option CheckError
 note_fault c k is_expected =
-    if is_some (slice_get c.notes k) then (if is_expected then (if nat_le (length (note_at c k)) c.peak then None else Some (OverPeak k)) else Some (NoteDiffers k)) else Some (NotesShort k)
+    if is_some (slice_get c.notes k) then (if is_expected then
+    (if nat_le (length (note_at c k)) c.peak then None else Some (OverPeak k)) else Some (NoteDiffers k)) else Some
+    (NotesShort k)

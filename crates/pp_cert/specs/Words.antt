@@ -1,5 +1,5 @@
 -- The words of a certificate's text.
-use Rattle.std.specs.Prelude.{ℕ, List, codes, Bool, ◌||◌, if◌then◌else◌, Option, Some, None}
+use Rattle.std.specs.Prelude.{ℕ, List, [], ◌∷◌, codes, if◌then◌else◌, Option, Some, None}
 use Rattle.std.specs.Str.{bytes_eq}
 use Rattle.pp_cert.specs.declared.note.Held.{Held}
 use Rattle.pp_cert.specs.declared.note.Held.TheVariants.{Free, S, X}
@@ -12,8 +12,11 @@ held_text X = codes "X"
 
 -- What a text says of how a page is held, if it is one of the three.
 abbrev pub held_of : List ℕ → Option Held
-held_of text = if bytes_eq text (codes "-") then Some Free else (if bytes_eq text (codes "S") then Some S else (if bytes_eq text (codes "X") then Some X else None))
+held_of text =
+    if bytes_eq text (codes "-")
+    then Some Free
+    else (if bytes_eq text (codes "S") then Some S else (if bytes_eq text (codes "X") then Some X else None))
 
--- A key of a certificate's object.
-abbrev pub is_key : List ℕ → Bool
-is_key key = bytes_eq key (codes "notes") || bytes_eq key (codes "peak") || bytes_eq key (codes "steps")
+-- The keys of a certificate's object.
+abbrev pub certificate_keys : List (List ℕ)
+certificate_keys = codes "notes" ∷ codes "peak" ∷ codes "steps" ∷ []

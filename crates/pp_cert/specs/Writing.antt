@@ -1,7 +1,7 @@
 -- The text of a certificate: without white space, keys in byte order.
-use Rattle.std.specs.Prelude.{ℕ, List, [], ◌++◌, map, codes, slice_get, unwrap_or}
+use Rattle.std.specs.Prelude.{ℕ, List, [], ◌∷◌, ◌++◌, map, codes, slice_get, unwrap_or}
 use Rattle.std.specs.Fmt.{decimal}
-use Rattle.std.specs.List.{join_with_byte}
+use Rattle.pp_text.specs.Words.{in_quotes, with_commas, in_brackets}
 use Rattle.pp_settings.specs.Settings.{Configuration, name_of}
 use Rattle.pp_plan.specs.Terms.{Terms}
 use Rattle.pp_cert.specs.declared.note.Entry.{Entry}
@@ -16,17 +16,12 @@ slot_name p slot = unwrap_or (slice_get p.slots slot) []
 abbrev pub region_name : Configuration → ℕ → List ℕ
 region_name c region = unwrap_or (name_of c region) []
 
--- A word in quotes.
-abbrev pub in_quotes : List ℕ → List ℕ
-in_quotes word = codes "\"" ++ word ++ codes "\""
-
--- Texts with a comma between each two.
-abbrev pub with_commas : List (List ℕ) → List ℕ
-with_commas texts = join_with_byte 44 texts
-
 -- An entry, as in `"a":["root","-"]`.
 abbrev pub entry_text : Configuration → Terms → Entry → List ℕ
-entry_text c p e = in_quotes (slot_name p e.slot) ++ codes ":[" ++ in_quotes (region_name c e.region) ++ codes "," ++ in_quotes (held_text e.held) ++ codes "]"
+entry_text c p e =
+    in_quotes (slot_name p e.slot)
+    ++ codes ":"
+    ++ in_brackets (in_quotes (region_name c e.region) ∷ in_quotes (held_text e.held) ∷ [])
 
 -- A note, as in `{"a":["root","S"],"b":["leaf","-"]}`.
 abbrev pub note_text : Configuration → Terms → List Entry → List ℕ
@@ -35,4 +30,10 @@ note_text c p note = codes "{" ++ with_commas (map (entry_text c p) note) ++ cod
 -- A certificate, as in `{"notes":[{},{}],"peak":0,"steps":0}`.
 abbrev pub certificate_text : Configuration → Terms → Claims → List ℕ
 certificate_text c p t =
-    codes "{\"notes\":[" ++ with_commas (map (note_text c p) t.notes) ++ codes "],\"peak\":" ++ decimal t.peak ++ codes ",\"steps\":" ++ decimal t.steps ++ codes "}"
+    codes "{\"notes\":"
+    ++ in_brackets (map (note_text c p) t.notes)
+    ++ codes ",\"peak\":"
+    ++ decimal t.peak
+    ++ codes ",\"steps\":"
+    ++ decimal t.steps
+    ++ codes "}"

@@ -1,12 +1,14 @@
 //! An accepted plan.
 
 ghost use Rattle.std.specs.Prelude.{◌≡◌, ◌+◌, ◌*◌};
+ghost use Rattle.pp_cert.specs.Limits.{step_events, plan_events};
 
+use crate::limits::{PLAN_EVENTS, STEP_EVENTS};
 use pp_plan::Plan;
 use pp_settings::Layout;
 use std::marker::Model;
 
-/// A plan whose certificate was accepted. Only `check` and `check_under` make one.
+/// A plan whose certificate was accepted. Only `check` makes one.
 ///
 /// Every beginning of every trace of the plan fixes, unfixes, latches and unlatches in a legal way, takes latches in
 /// rising classes, holds at most `peak` slots and has at most `steps` actions; every whole trace ends holding nothing.
@@ -68,9 +70,9 @@ impl Accepted {
 
     /// The most events that a journal needs for the plan: three for each step, and 34 more.
     pub fn cost(&self) -> u64
-        ensures { result ≡ 3 * self.now.steps + 34 }
+        ensures { result ≡ step_events * self.now.steps + plan_events }
     {
-        3 * self.steps + 34
+        STEP_EVENTS * self.steps + PLAN_EVENTS
     }
 
     /// The layout of the settings that the plan was read and accepted for.

@@ -1,16 +1,18 @@
 //! What the check answers where it refuses.
 
-ghost use Rattle.std.specs.Prelude.{◌≡◌, Some};
+ghost use Rattle.std.specs.Prelude.{◌≡◌};
+ghost use Rattle.pp_text.specs.Refusals.{at};
+ghost use Rattle.pp_text.specs.Views.{matter_of};
 
-use std::fmt;
+use pp_text::{About, Refusal};
 use thiserror::Error;
 
-/// Why a certificate is refused: the first test that fails, in the order of the walk over the plan.
+/// Why a certificate is refused: the first error in this fixed order, that of the walk over the plan.
 ///
-/// First `OtherSettings`. Then, for each note in turn, `NotesShort`, `NoteDiffers`, `OverPeak`; for the statement behind
-/// it `SlotInUse`, `NotFixed`, `StillLatched`, `NotLatched`, `AgainstOrder`; behind the last note of a loop's body
-/// `LoopChanges`, of a later branch `BranchDiffers`, of the plan `EndsHolding`. Last `NotesLong`, `StepsTooMany`,
-/// `StepsTooFew`, `PeakTooBig`.
+/// First comes `OtherSettings`. Then, for each note in turn, come `NotesShort`, `NoteDiffers` and `OverPeak`; for the
+/// statement behind it `SlotInUse`, `NotFixed`, `StillLatched`, `NotLatched` and `AgainstOrder`; behind the last note
+/// of a loop's body `LoopChanges`, of a later branch `BranchDiffers`, of the plan `EndsHolding`. Last come `NotesLong`,
+/// `StepsTooMany`, `StepsTooFew` and `PeakTooBig`.
 ///
 /// `place` is the number of the note that the test is about. `Display` is for people; `refusal` is what the
 /// program prints.
@@ -22,8 +24,8 @@ pub enum CheckError {
     /// There are more notes than places; this is the place of the first one left over.
     #[error("from place {place} on, notes are left over")]
     NotesLong { place: u32 },
-    /// The note isn't the expected one: the empty note at the plan's beginning, the note before the loop or the choice at
-    /// the beginning of a body in it, else what is held after the statement before it.
+    /// The note isn't the expected one. Expected is the empty note at the plan's beginning, the note before a loop or a
+    /// choice at the beginning of a body in it, and else what is held after the statement before it.
     #[error("the note at place {place} isn't what is held there")]
     NoteDiffers { place: u32 },
     /// A page is fixed into a slot that holds one.
@@ -67,55 +69,53 @@ pub enum CheckError {
     OtherSettings,
 }
 
+/// About the note at this place.
+fn about(place: u32) -> About
+    ensures { matter_of result ≡ at place }
+{
+    About::At(u64::from(place))
+}
+
 impl CheckError {
-    ghost use Rattle.pp_cert.specs.CheckErrors.{number_of, name_of, place_of};
+    ghost use Rattle.pp_text.specs.Views.{row_of as printed};
+    ghost use Rattle.pp_cert.specs.CheckErrors.{row_of, place_of};
+
+    /// What the program prints: the number, the name and the place, as in `31 NotesShort at 8`.
+    pub fn refusal(self) -> Refusal
+        ensures { printed result ≡ row_of self }
+    {
+        match self {
+            CheckError::NotesShort { place } => Refusal::new(31, "NotesShort", about(place)),
+            CheckError::NotesLong { place } => Refusal::new(32, "NotesLong", about(place)),
+            CheckError::NoteDiffers { place } => Refusal::new(33, "NoteDiffers", about(place)),
+            CheckError::SlotInUse { place } => Refusal::new(34, "SlotInUse", about(place)),
+            CheckError::NotFixed { place } => Refusal::new(35, "NotFixed", about(place)),
+            CheckError::StillLatched { place } => Refusal::new(36, "StillLatched", about(place)),
+            CheckError::NotLatched { place } => Refusal::new(37, "NotLatched", about(place)),
+            CheckError::AgainstOrder { place } => Refusal::new(38, "AgainstOrder", about(place)),
+            CheckError::OverPeak { place } => Refusal::new(39, "OverPeak", about(place)),
+            CheckError::LoopChanges { place } => Refusal::new(40, "LoopChanges", about(place)),
+            CheckError::BranchDiffers { place } => Refusal::new(41, "BranchDiffers", about(place)),
+            CheckError::EndsHolding { place } => Refusal::new(42, "EndsHolding", about(place)),
+            CheckError::StepsTooFew => Refusal::new(43, "StepsTooFew", About::Nothing),
+            CheckError::StepsTooMany => Refusal::new(44, "StepsTooMany", About::Nothing),
+            CheckError::PeakTooBig => Refusal::new(45, "PeakTooBig", About::Nothing),
+            CheckError::OtherSettings => Refusal::new(46, "OtherSettings", About::Nothing),
+        }
+    }
 
     /// The number of the refusal, 31 to 46.
     pub fn number(self) -> u8
-        ensures { result ≡ number_of self }
+        ensures { result ≡ (row_of self).number }
     {
-        match self {
-            CheckError::NotesShort { .. } => 31,
-            CheckError::NotesLong { .. } => 32,
-            CheckError::NoteDiffers { .. } => 33,
-            CheckError::SlotInUse { .. } => 34,
-            CheckError::NotFixed { .. } => 35,
-            CheckError::StillLatched { .. } => 36,
-            CheckError::NotLatched { .. } => 37,
-            CheckError::AgainstOrder { .. } => 38,
-            CheckError::OverPeak { .. } => 39,
-            CheckError::LoopChanges { .. } => 40,
-            CheckError::BranchDiffers { .. } => 41,
-            CheckError::EndsHolding { .. } => 42,
-            CheckError::StepsTooFew => 43,
-            CheckError::StepsTooMany => 44,
-            CheckError::PeakTooBig => 45,
-            CheckError::OtherSettings => 46,
-        }
+        self.refusal().number
     }
 
     /// The name of the refusal, as it is printed.
     pub fn name(self) -> &'static str
-        ensures { result.now ≡ name_of self }
+        ensures { result.now ≡ (row_of self).name }
     {
-        match self {
-            CheckError::NotesShort { .. } => "NotesShort",
-            CheckError::NotesLong { .. } => "NotesLong",
-            CheckError::NoteDiffers { .. } => "NoteDiffers",
-            CheckError::SlotInUse { .. } => "SlotInUse",
-            CheckError::NotFixed { .. } => "NotFixed",
-            CheckError::StillLatched { .. } => "StillLatched",
-            CheckError::NotLatched { .. } => "NotLatched",
-            CheckError::AgainstOrder { .. } => "AgainstOrder",
-            CheckError::OverPeak { .. } => "OverPeak",
-            CheckError::LoopChanges { .. } => "LoopChanges",
-            CheckError::BranchDiffers { .. } => "BranchDiffers",
-            CheckError::EndsHolding { .. } => "EndsHolding",
-            CheckError::StepsTooFew => "StepsTooFew",
-            CheckError::StepsTooMany => "StepsTooMany",
-            CheckError::PeakTooBig => "PeakTooBig",
-            CheckError::OtherSettings => "OtherSettings",
-        }
+        self.refusal().name
     }
 
     /// The place of the note that the refusal is about, if it is about one.
@@ -140,91 +140,5 @@ impl CheckError {
             | CheckError::PeakTooBig
             | CheckError::OtherSettings => None,
         }
-    }
-
-    /// What the program prints: the number, the name and the place, as in `31 NotesShort at 8`.
-    pub fn refusal(self) -> CheckRefusal
-        ensures { result.error ≡ self }
-    {
-        CheckRefusal { error: self }
-    }
-}
-
-/// A refusal as the program prints it: `31 NotesShort at 8`, or `43 StepsTooFew` where there is no place.
-#[derive(Clone, Copy, Debug, PartialEq, Eq)]
-pub struct CheckRefusal {
-    /// What is refused.
-    pub error: CheckError,
-}
-
-impl fmt::Display for CheckRefusal {
-    ghost use Rattle.pp_cert.specs.Refusals.{refusal_text};
-
-    ghost output = { λ r. Some (refusal_text r.error) };
-
-    fn fmt<W: fmt::Write>(&self, f: &mut fmt::Formatter<W>) -> fmt::Result {
-        let error = self.error;
-        let number = error.number();
-        let name = error.name();
-        write!(f, "{number} {name}")?;
-        match error.place() {
-            Some(place) => write!(f, " at {place}"),
-            None => Ok(()),
-        }
-    }
-}
-
-#[cfg(test)]
-mod tests {
-    use super::*;
-    use std::test::Fail;
-
-    #[test]
-    fn refusals_are_printed(rt: HostRuntime) -> Result<(), Fail> {
-        let place = 8;
-        let refusals = [
-            (CheckError::NotesShort { place }, "31 NotesShort at 8"),
-            (CheckError::NotesLong { place: 9 }, "32 NotesLong at 9"),
-            (CheckError::NoteDiffers { place }, "33 NoteDiffers at 8"),
-            (CheckError::SlotInUse { place: 0 }, "34 SlotInUse at 0"),
-            (CheckError::NotFixed { place }, "35 NotFixed at 8"),
-            (CheckError::StillLatched { place }, "36 StillLatched at 8"),
-            (CheckError::NotLatched { place }, "37 NotLatched at 8"),
-            (
-                CheckError::AgainstOrder { place: 3 },
-                "38 AgainstOrder at 3",
-            ),
-            (CheckError::OverPeak { place: 3 }, "39 OverPeak at 3"),
-            (CheckError::LoopChanges { place: 2 }, "40 LoopChanges at 2"),
-            (
-                CheckError::BranchDiffers { place: 3 },
-                "41 BranchDiffers at 3",
-            ),
-            (
-                CheckError::EndsHolding { place: 69999 },
-                "42 EndsHolding at 69999",
-            ),
-            (CheckError::StepsTooFew, "43 StepsTooFew"),
-            (CheckError::StepsTooMany, "44 StepsTooMany"),
-            (CheckError::PeakTooBig, "45 PeakTooBig"),
-            (CheckError::OtherSettings, "46 OtherSettings"),
-        ];
-        for (error, text) in refusals {
-            let refusal = error.refusal();
-            let printed = format!(in rt.alloc(); "{refusal}")?;
-            assert_eq!(rt; printed.as_str(), text);
-        }
-        Ok(())
-    }
-
-    #[test]
-    fn a_fault_is_told_to_people(rt: HostRuntime) -> Result<(), Fail> {
-        let fault = CheckError::OverPeak { place: 3 };
-        let told = format!(in rt.alloc(); "{fault}")?;
-        assert_eq!(rt;
-            told.as_str(),
-            "the note at place 3 holds more slots than the peak"
-        );
-        Ok(())
     }
 }

@@ -4,22 +4,20 @@ ghost use Rattle.std.specs.Prelude.{◌≡◌, ◌<◌, ◌+◌, ◌^◌, ◌↔
 ghost use Rattle.pp_settings.specs.Settings.{geometry_of};
 ghost use Rattle.pp_plan.specs.View.{sequence_of};
 ghost use Rattle.pp_plan.specs.Terms.{IsPlan};
-ghost use Rattle.pp_cert.specs.Walk.{claims_of, tests, first_fault, walked, note_tests, sequence_tests, sequence_end, empty, same_layout, holds_nothing, no_more_notes, steps_allowed, steps_enough, peak_allowed};
+ghost use Rattle.pp_cert.specs.Walk.{claims_of, tests, first_fault, Certifies, walked, note_tests, sequence_tests, sequence_end, empty, same_layout, holds_nothing, no_more_notes, steps_allowed, steps_enough, peak_allowed};
 ghost use Rattle.pp_cert.specs.Longest.{sequence_longest, IsLongest};
 ghost use Rattle.pp_cert.specs.Accepted.{IsAccepted};
 
 use crate::accepted::Accepted;
 use crate::certificate::Certificate;
 use crate::check_error::CheckError;
+use crate::limits::MOST_STEPS;
 use crate::longest::longest;
 use crate::walk::Walk;
 use pp_plan::{Plan, Stmt};
 use pp_settings::{Layout, Settings};
 
-/// The most steps that a certificate may claim.
-pub const MOST_STEPS: u64 = 1_000_000;
-
-/// Accepts the plan where its certificate passes every test under the layout of the settings; else gives the plan
+/// Accepts the plan if its certificate passes every test under the layout of the settings. Otherwise it gives the plan
 /// back with the first fault.
 ///
 /// It takes no memory. What it does grows with the statements of the plan and the entries of the notes. Nothing that
@@ -27,46 +25,14 @@ pub const MOST_STEPS: u64 = 1_000_000;
 ///
 /// # Errors
 ///
-/// The first test that fails, in the order of the walk over the plan: see `CheckError`.
-pub fn check_under(
-    layout: &Layout,
-    plan: Plan,
-    certificate: &Certificate,
-) -> Result<Accepted, (Plan, CheckError)>
-    // It is Ok exactly where no test fails.
-    ensures ok { IsOk result
-        ↔ (first_fault layout.now (claims_of certificate.now) (tests plan) ≡ None) }
-    // Else the plan comes back as it was, with the first fault.
-    ensures err { IfErr result (λ refused. (refused.0 ≡ plan)
-        × (first_fault layout.now (claims_of certificate.now) (tests plan) ≡ Some refused.1)) }
-    // What is accepted is the plan with the peak and the steps that were handed in.
-    ensures accepted { IfOk result (λ accepted. accepted
-        ≡ record { plan = plan; peak = certificate.now.peak; steps = certificate.now.steps }) }
-    // What holds of it.
-    ensures facts { IfOk result IsAccepted }
-    // The length that the steps are tested against is that of the longest trace.
-    ensures longest { IsLongest plan.layout plan.body (sequence_longest plan.body) }
-{
-    match fault_under(layout, &plan, certificate) {
-        Some(fault) => Err((plan, fault)),
-        None => Ok(Accepted::new(plan, certificate.peak, certificate.steps)),
-    }
-}
-
-/// Accepts the plan under the settings where its certificate passes every test; else gives the plan back with the
-/// first fault. It is the check under the layout of the settings.
-///
-/// # Errors
-///
-/// The first test that fails, in the order of the walk over the plan: see `CheckError`.
+/// The plan and the first test that fails, in the order of the walk over the plan: see `CheckError`.
 pub fn check(
     settings: &Settings,
     plan: Plan,
     certificate: &Certificate,
 ) -> Result<Accepted, (Plan, CheckError)>
-    // It is Ok exactly where no test fails.
-    ensures ok { IsOk result
-        ↔ (first_fault (geometry_of settings.now) (claims_of certificate.now) (tests plan) ≡ None) }
+    // It is Ok if and only if no test fails.
+    ensures ok { IsOk result ↔ Certifies (geometry_of settings.now) plan (claims_of certificate.now) }
     // Else the plan comes back as it was, with the first fault.
     ensures err { IfErr result (λ refused. (refused.0 ≡ plan)
         × (first_fault (geometry_of settings.now) (claims_of certificate.now) (tests plan) ≡ Some refused.1)) }
@@ -78,7 +44,10 @@ pub fn check(
     // The length that the steps are tested against is that of the longest trace.
     ensures longest { IsLongest plan.layout plan.body (sequence_longest plan.body) }
 {
-    check_under(&settings.layout(), plan, certificate)
+    match fault_under(&settings.layout(), &plan, certificate) {
+        Some(fault) => Err((plan, fault)),
+        None => Ok(Accepted::new(plan, certificate.peak, certificate.steps)),
+    }
 }
 
 /// The first test of the plan's certificate that fails under the layout of the settings, if one fails: the check of

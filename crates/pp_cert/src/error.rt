@@ -1,16 +1,18 @@
 //! Why a certificate's text is refused, and how a program says so.
 
-ghost use Rattle.std.specs.Prelude.{◌≡◌, Some};
+ghost use Rattle.std.specs.Prelude.{◌≡◌};
 ghost use Rattle.pp_cert.specs.declared.error.CertError.TheVariants.{OutOfMemory};
 
+use pp_text::{About, Refusal};
 use std::alloc::{AllocError, AllocFailed};
-use std::fmt;
 use thiserror::Error;
 
-/// Why a text gives no certificate: the first refusal in the fixed order, or want of memory.
+/// Why a text gives no certificate: the first error in this fixed order, or want of memory.
 ///
-/// The order is: `NotJson`; `WrongField` of the text's own object; `TooMany` notes; and then note by note
+/// The order is `NotJson`; `WrongField` of the text's own object; `TooMany` notes; and then note by note
 /// `WrongField`, `TooMany` entries, and each entry in the byte order of slot names, `WrongField` or `UnknownName`.
+///
+/// `Display` is for people; `refusal` is what the program prints.
 #[derive(Clone, Copy, Debug, PartialEq, Eq, Error)]
 pub enum CertError {
     /// The text is no JSON value.
@@ -31,39 +33,34 @@ pub enum CertError {
 }
 
 impl CertError {
-    ghost use Rattle.pp_cert.specs.TextRefusals.{number_of, name_of};
+    ghost use Rattle.pp_text.specs.Views.{row_of as printed};
+    ghost use Rattle.pp_cert.specs.CertErrors.{row_of};
+
+    /// What the program prints: the number and the name, as in `22 WrongField`.
+    pub fn refusal(self) -> Refusal
+        ensures { printed result ≡ row_of self }
+    {
+        match self {
+            CertError::NotJson => Refusal::new(21, "NotJson", About::Nothing),
+            CertError::WrongField => Refusal::new(22, "WrongField", About::Nothing),
+            CertError::UnknownName => Refusal::new(23, "UnknownName", About::Nothing),
+            CertError::TooMany => Refusal::new(24, "TooMany", About::Nothing),
+            CertError::OutOfMemory => Refusal::new(19, "OutOfMemory", About::Nothing),
+        }
+    }
 
     /// The number of the refusal: 21 to 24, and 19 for want of memory.
     pub fn number(self) -> u8
-        ensures { result ≡ number_of self }
+        ensures { result ≡ (row_of self).number }
     {
-        match self {
-            CertError::NotJson => 21,
-            CertError::WrongField => 22,
-            CertError::UnknownName => 23,
-            CertError::TooMany => 24,
-            CertError::OutOfMemory => 19,
-        }
+        self.refusal().number
     }
 
-    /// The name of the refusal, as a program prints it.
+    /// The name of the refusal, as it is printed.
     pub fn name(self) -> &'static str
-        ensures { result.now ≡ name_of self }
+        ensures { result.now ≡ (row_of self).name }
     {
-        match self {
-            CertError::NotJson => "NotJson",
-            CertError::WrongField => "WrongField",
-            CertError::UnknownName => "UnknownName",
-            CertError::TooMany => "TooMany",
-            CertError::OutOfMemory => "OutOfMemory",
-        }
-    }
-
-    /// The words that a program prints of the refusal.
-    pub fn refusal(self) -> CertRefusal
-        ensures { result.error ≡ self }
-    {
-        CertRefusal { error: self }
+        self.refusal().name
     }
 }
 
@@ -80,25 +77,5 @@ impl<T: Drop> From<AllocFailed<T>> for CertError {
 
     fn from(_refused: AllocFailed<T>) -> CertError {
         CertError::OutOfMemory
-    }
-}
-
-/// Prints a refusal as a program does: its number and its name, as in `22 WrongField`.
-#[derive(Clone, Copy, Debug, PartialEq, Eq)]
-pub struct CertRefusal {
-    /// What is printed.
-    pub error: CertError,
-}
-
-impl fmt::Display for CertRefusal {
-    ghost use Rattle.pp_cert.specs.TextRefusals.{refusal_text};
-
-    ghost output = { λ refusal. Some (refusal_text refusal.error) };
-
-    fn fmt<W: fmt::Write>(&self, f: &mut fmt::Formatter<W>) -> fmt::Result {
-        let error = self.error;
-        let number = error.number();
-        let name = error.name();
-        write!(f, "{number} {name}")
     }
 }

@@ -7,6 +7,7 @@ mod check_error;
 mod checker;
 mod entries;
 mod error;
+mod limits;
 mod longest;
 mod note;
 mod reading;
@@ -15,13 +16,9 @@ mod writing;
 
 pub use accepted::Accepted;
 pub use certificate::Certificate;
-pub use check_error::{CheckError, CheckRefusal};
-pub use checker::{MOST_STEPS, check, check_under, fault_under};
-pub use error::{CertError, CertRefusal};
+pub use check_error::CheckError;
+pub use checker::{check, fault_under};
+pub use error::CertError;
+pub use limits::{MOST_ENTRIES, MOST_NOTES, MOST_STEPS};
 pub use longest::longest_trace;
 pub use note::{Entry, Held, Note};
-
-#[cfg(test)]
-mod check_tests;
-#[cfg(test)]
-mod tests;

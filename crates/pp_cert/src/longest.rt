@@ -2,29 +2,28 @@
 
 ghost use Rattle.std.specs.Prelude.{◌≡◌, min};
 ghost use Rattle.pp_plan.specs.View.{statement_of, sequence_of, alternatives_of};
+ghost use Rattle.pp_cert.specs.Limits.{counted};
 ghost use Rattle.pp_cert.specs.Longest.{statement_longest, sequence_longest, alternatives_longest, IsLongest};
 
+use crate::limits::COUNTED;
 use pp_plan::{Body, Branches, Plan, Stmt};
 
-/// Where counting stops: one more than any steps that are allowed.
-pub(crate) const COUNTED: u64 = 1_000_001;
-
-/// The most actions of a trace of the plan, or 1,000,001 where there are more.
+/// The most actions of a trace of the plan, or 1,000,001 if there are more.
 ///
 /// What it does grows with the statements of the plan, not with the turns of its loops.
 pub fn longest_trace(plan: &Plan) -> u64
-    ensures counted { result ≡ min (sequence_longest plan.now.body) 1000001 }
+    ensures counted { result ≡ min (sequence_longest plan.now.body) counted }
     // What is counted is the length of the longest trace.
     ensures longest { IsLongest plan.now.layout plan.now.body (sequence_longest plan.now.body) }
 {
     longest(plan.body())
 }
 
-/// The most actions of a trace of the statements, or `COUNTED` where there are more.
+/// The most actions of a trace of the statements, or `COUNTED` if there are more.
 #[cycle(longest)]
 #[tactic(auto, using(crate::proofs::Rules::walks))]
 pub(crate) fn longest(stmts: &[Stmt]) -> u64
-    ensures { result ≡ min (sequence_longest (sequence_of stmts.now)) COUNTED }
+    ensures { result ≡ min (sequence_longest (sequence_of stmts.now)) counted }
 {
     let mut sum = 0;
     for stmt in stmts {
@@ -37,7 +36,7 @@ pub(crate) fn longest(stmts: &[Stmt]) -> u64
 #[cycle(longest)]
 #[tactic(auto, using(crate::proofs::Rules::walks))]
 fn longest_of_stmt(stmt: &Stmt) -> u64
-    ensures { result ≡ min (statement_longest (statement_of stmt.now)) COUNTED }
+    ensures { result ≡ min (statement_longest (statement_of stmt.now)) counted }
 {
     match stmt {
         Stmt::Fix { .. } | Stmt::Unfix { .. } | Stmt::Latch { .. } | Stmt::Unlatch { .. } => 1,
@@ -50,7 +49,7 @@ fn longest_of_stmt(stmt: &Stmt) -> u64
 #[cycle(longest)]
 #[tactic(auto, using(crate::proofs::Rules::walks))]
 fn longest_of_body(body: &Body) -> u64
-    ensures { result ≡ min (sequence_longest body.now) COUNTED }
+    ensures { result ≡ min (sequence_longest body.now) counted }
 {
     longest(body.stmts())
 }
@@ -59,7 +58,7 @@ fn longest_of_body(body: &Body) -> u64
 #[cycle(longest)]
 #[tactic(auto, using(crate::proofs::Rules::walks))]
 fn longest_of_branches(branches: &Branches) -> u64
-    ensures { result ≡ min (alternatives_longest branches.now) COUNTED }
+    ensures { result ≡ min (alternatives_longest branches.now) counted }
 {
     let mut most = 0;
     for body in branches.bodies() {

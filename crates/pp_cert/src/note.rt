@@ -16,13 +16,13 @@ pub enum Held {
     X,
 }
 
-impl Held {
+/// How a page is held that is latched in the mode.
+impl From<Mode> for Held {
     ghost use Rattle.pp_cert.specs.Held.{held_in};
 
-    /// How a page is held that is latched in the mode.
-    pub(crate) fn of(mode: Mode) -> Held
-        ensures { result ≡ held_in mode }
-    {
+    ghost from_gives = { λ mode held. held ≡ held_in mode };
+
+    fn from(mode: Mode) -> Held {
         match mode {
             Mode::S => Held::S,
             Mode::X => Held::X,
@@ -85,32 +85,5 @@ impl Note {
         ensures { result.items ≡ self }
     {
         self.entries
-    }
-}
-
-#[cfg(test)]
-mod tests {
-    use super::*;
-    use std::test::Fail;
-
-    #[test]
-    fn a_note_gives_its_entries_back(rt: HostRuntime) -> Result<(), Fail> {
-        let entries = [
-            Entry {
-                slot: 0,
-                region: 1,
-                held: Held::S,
-            },
-            Entry {
-                slot: 3,
-                region: 0,
-                held: Held::Free,
-            },
-        ];
-        let note = Note::new(entries.to_vec(rt.alloc())?);
-        assert_eq!(rt; note.entries(), entries.as_slice());
-        let back = note.into_entries();
-        assert_eq!(rt; back.as_slice(), entries.as_slice());
-        Ok(())
     }
 }

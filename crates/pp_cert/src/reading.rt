@@ -2,30 +2,26 @@
 
 ghost use Rattle.std.specs.Prelude.{◌≡◌, ◌≤◌, ◌<◌, Err, IfOk, [], length, option_map, string_bytes};
 ghost use Rattle.std.specs.Option.{ok_or};
-ghost use Rattle.std.specs.List.{list_all};
-ghost use Rattle.std.specs.BTreeMap.{keys};
 ghost use Rattle.serde_json.specs.Read.{read};
 ghost use Rattle.serde_json.specs.View.{view, items_view, members_view};
+ghost use Rattle.pp_text.specs.Steps.{Gives, Reads};
+ghost use Rattle.pp_cert.specs.CertErrors.{is_memory};
 ghost use Rattle.pp_cert.specs.declared.error.CertError.TheVariants.{NotJson, OutOfMemory};
 ghost use Rattle.pp_cert.specs.Claims.{claims_of};
-ghost use Rattle.pp_cert.specs.Steps.{Gives};
-ghost use Rattle.pp_cert.specs.Words.{held_of, is_key};
-ghost use Rattle.pp_cert.specs.Reading.{as_two, entry_at, entries_from, note_at, notes_from, only_known, list_at, number_at, claims_at, reading};
+ghost use Rattle.pp_cert.specs.Words.{held_of};
+ghost use Rattle.pp_cert.specs.Reading.{as_two, entry_at, entries_from, note_at, notes_from, list_at, number_at, claims_at, reading};
 
 use crate::certificate::Certificate;
 use crate::error::CertError;
+use crate::limits::{MOST_ENTRIES, MOST_NOTES};
 use crate::note::{Entry, Held, Note};
 use pp_plan::Plan;
 use pp_settings::Settings;
+use pp_text::has_only_keys;
 use serde_json::{Category, Map, Value};
 use std::alloc::Global;
 
-/// The greatest number of notes.
-const MOST_NOTES: usize = 70_000;
-
-/// The greatest number of entries in a note.
-const MOST_ENTRIES: usize = 32;
-
+/// What the text says of how a page is held, if it is one of the three.
 fn held_of(text: &str) -> Option<Held>
     ensures { result ≡ held_of text.now }
 {
@@ -40,6 +36,7 @@ fn held_of(text: &str) -> Option<Held>
     }
 }
 
+/// The two items of a list of two.
 #[tactic(auto, using(crate::proofs::Trees::as_two_other))]
 fn as_two(items: &[Value]) -> Option<(&Value, &Value)>
     ensures { option_map (λ two. (view two.0.now, view two.1.now)) result ≡ as_two (items_view items.now) }
@@ -50,9 +47,10 @@ fn as_two(items: &[Value]) -> Option<(&Value, &Value)>
     }
 }
 
+/// The entry of one slot: its form first, then the slot's name, then the region's.
 #[tactic(auto, unfolding(crate::specs::Reading::entry_at))]
 fn entry_at(settings: &Settings, plan: &Plan, key: &str, value: &Value) -> Result<Entry, CertError>
-    ensures { Gives (λ e. e) result (entry_at settings.now plan.now key.now (view value.now)) }
+    ensures { Reads (λ e. e) result (entry_at settings.now plan.now key.now (view value.now)) }
 {
     let items = value.as_array().ok_or(CertError::WrongField)?;
     let (region, held) = as_two(items).ok_or(CertError::WrongField)?;
@@ -66,13 +64,15 @@ fn entry_at(settings: &Settings, plan: &Plan, key: &str, value: &Value) -> Resul
     Ok(Entry { slot, region, held })
 }
 
+/// The entries of a note, in the byte order of slot names.
 fn entries_of(
     alloc: Global,
     settings: &Settings,
     plan: &Plan,
     members: &Map<String, Value>,
 ) -> Result<Vec<Entry>, CertError>
-    ensures { Gives (λ v. v.items) result (entries_from settings.now plan.now [] (members_view members.now.entries)) }
+    ensures { Gives is_memory (λ v. v.items) result
+        (entries_from settings.now plan.now [] (members_view members.now.entries)) }
 {
     let mut entries = Vec::new(alloc);
     for (key, value) in members {
@@ -81,6 +81,7 @@ fn entries_of(
     Ok(entries)
 }
 
+/// The note that the value spells: an object of few enough entries.
 #[tactic(auto, unfolding(crate::specs::Reading::note_at), using(crate::proofs::Trees::members_length))]
 fn note_at(
     alloc: Global,
@@ -88,7 +89,7 @@ fn note_at(
     plan: &Plan,
     value: &Value,
 ) -> Result<Note, CertError>
-    ensures { Gives (λ n. n) result (note_at settings.now plan.now (view value.now)) }
+    ensures { Gives is_memory (λ n. n) result (note_at settings.now plan.now (view value.now)) }
 {
     let members = value.as_object().ok_or(CertError::WrongField)?;
     if members.len() > MOST_ENTRIES {
@@ -98,13 +99,14 @@ fn note_at(
     Ok(Note::new(entries))
 }
 
+/// The notes, one after the other.
 fn notes_of(
     alloc: Global,
     settings: &Settings,
     plan: &Plan,
     items: &[Value],
 ) -> Result<Vec<Note>, CertError>
-    ensures { Gives (λ v. v.items) result (notes_from settings.now plan.now [] (items_view items.now)) }
+    ensures { Gives is_memory (λ v. v.items) result (notes_from settings.now plan.now [] (items_view items.now)) }
 {
     let mut notes = Vec::new(alloc);
     for value in items {
@@ -113,31 +115,9 @@ fn notes_of(
     Ok(notes)
 }
 
-fn is_key(key: &str) -> bool
-    ensures { result ≡ is_key key.now }
-{
-    key == "notes" || key == "peak" || key == "steps"
-}
-
-fn has_known_keys(members: &Map<String, Value>) -> bool
-    ensures { result ≡ list_all (λ k. is_key (string_bytes k)) (keys members.now) }
-{
-    members.keys().all(|key| is_key(key.as_str()))
-}
-
-#[tactic(auto, unfolding(crate::specs::Reading::only_known))]
-fn only_known(value: &Value) -> Result<(), CertError>
-    ensures { Gives (λ _. tt) result (only_known (view value.now)) }
-{
-    let members = value.as_object().ok_or(CertError::WrongField)?;
-    if !has_known_keys(members) {
-        return Err(CertError::WrongField);
-    }
-    Ok(())
-}
-
+/// The list at the key.
 fn list_at<'a>(value: &'a Value, key: &str) -> Result<&'a Vec<Value>, CertError>
-    ensures { Gives (λ v. items_view v.now.items) result (list_at key.now (view value.now)) }
+    ensures { Reads (λ v. items_view v.now.items) result (list_at key.now (view value.now)) }
 {
     value
         .get(key)
@@ -145,8 +125,9 @@ fn list_at<'a>(value: &'a Value, key: &str) -> Result<&'a Vec<Value>, CertError>
         .ok_or(CertError::WrongField)
 }
 
+/// The number at the key: whole, without a sign, of 64 bits.
 fn number_at(value: &Value, key: &str) -> Result<u64, CertError>
-    ensures { Gives (λ n. n) result (number_at key.now (view value.now)) }
+    ensures { Reads (λ n. n) result (number_at key.now (view value.now)) }
 {
     value
         .get(key)
@@ -154,6 +135,7 @@ fn number_at(value: &Value, key: &str) -> Result<u64, CertError>
         .ok_or(CertError::WrongField)
 }
 
+/// The certificate that the value spells: its own object first, then how many notes there are, then note by note.
 #[tactic(auto, unfolding(crate::specs::Reading::claims_at), using(crate::proofs::Trees::items_length))]
 fn certificate_at(
     alloc: Global,
@@ -161,9 +143,11 @@ fn certificate_at(
     plan: &Plan,
     value: &Value,
 ) -> Result<Certificate, CertError>
-    ensures { Gives claims_of result (claims_at settings.now plan.now (view value.now)) }
+    ensures { Gives is_memory claims_of result (claims_at settings.now plan.now (view value.now)) }
 {
-    only_known(value)?;
+    if !has_only_keys(&["notes", "peak", "steps"], value) {
+        return Err(CertError::WrongField);
+    }
     let items = list_at(value, "notes")?;
     let peak = number_at(value, "peak")?;
     let steps = number_at(value, "steps")?;
@@ -174,9 +158,10 @@ fn certificate_at(
     Ok(Certificate { peak, steps, notes })
 }
 
+/// The JSON value that the text is.
 #[tactic(auto, using(crate::proofs::Trees::some_text))]
 fn value_of(alloc: Global, text: &str) -> Result<Value, CertError>
-    ensures gives { Gives view result (ok_or (read text.now) NotJson) }
+    ensures gives { Gives is_memory view result (ok_or (read text.now) NotJson) }
     ensures some { IfOk result (λ _. 0 < length text.now) }
     ensures memory { result ≡ Err OutOfMemory → 0 < length text.now }
 {
@@ -194,7 +179,7 @@ pub(crate) fn read(
     plan: &Plan,
     text: &str,
 ) -> Result<Certificate, CertError>
-    ensures gives { Gives claims_of result (reading settings.now plan.now text.now) }
+    ensures gives { Gives is_memory claims_of result (reading settings.now plan.now text.now) }
     ensures memory { result ≡ Err OutOfMemory → 0 < length text.now }
 {
     let value = value_of(alloc, text)?;

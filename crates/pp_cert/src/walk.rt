@@ -127,7 +127,7 @@ impl Walk<'_> {
         if !is_above_latched(self.layout, before, slot) {
             return Err(CheckError::AgainstOrder { place: at });
         }
-        let held = Held::of(mode);
+        let held = Held::from(mode);
         self.settle(at + 1, is_held_as(before, held, slot, self.entries(at + 1)))
     }
 

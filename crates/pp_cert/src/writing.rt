@@ -17,6 +17,7 @@ use pp_settings::Settings;
 use serde_json::{Map, Value, json};
 use std::alloc::{AllocError, Global};
 
+/// How a page is held, as a text writes it.
 fn held_text(held: Held) -> &'static str
     ensures { result.now ≡ held_text held }
 {
@@ -27,6 +28,7 @@ fn held_text(held: Held) -> &'static str
     }
 }
 
+/// The value at a slot's name.
 fn entry_value(alloc: Global, settings: &Settings, entry: Entry) -> Result<Value, AllocError>
     requires { entry.region < length settings.now.regions }
     ensures { IfOk result (λ v. view v ≡ entry_tree settings.now entry) }
@@ -34,6 +36,7 @@ fn entry_value(alloc: Global, settings: &Settings, entry: Entry) -> Result<Value
     json!(in alloc; [settings.name(entry.region), held_text(entry.held)])
 }
 
+/// The object of a note.
 fn note_value(
     alloc: Global,
     settings: &Settings,
@@ -52,6 +55,7 @@ fn note_value(
     Ok(Value::from(members))
 }
 
+/// The list of the notes.
 fn notes_value(
     alloc: Global,
     settings: &Settings,
@@ -78,7 +82,8 @@ pub(crate) fn certificate_value(
 ) -> Result<Value, AllocError>
     requires names { IsPlan plan.now }
     requires claims { AreClaims settings.now plan.now (claims_of certificate.now) }
-    ensures { IfOk result (λ v. view v ≡ object (certificate_members settings.now plan.now (claims_of certificate.now))) }
+    ensures { IfOk result (λ v. view v
+        ≡ object (certificate_members settings.now plan.now (claims_of certificate.now))) }
 {
     let notes = notes_value(alloc, settings, plan, &certificate.notes)?;
     json!(in alloc; {"notes": notes, "peak": certificate.peak, "steps": certificate.steps})

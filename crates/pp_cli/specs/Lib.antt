@@ -1,6 +1,2 @@
-pub mod CommandLine
-pub mod Outcomes
-pub mod Texts
-pub mod Lines
-pub mod Steps
-pub mod Judgement
+pub mod Telling
+pub mod Runs

@@ -1,7 +1,6 @@
-//! Whole runs of the program, as printed lines with their statuses.
+//! Whole runs of the program: the words of the command line, files that can and can't be read, and streams that fail.
 
-mod annotate;
-mod callers;
-mod command;
 mod files;
-mod rows;
+mod runs;
+mod streams;
+mod words;

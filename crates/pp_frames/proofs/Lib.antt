@@ -1,7 +1,9 @@
-mod Changes
-mod Entries
+-- The lemmas of this crate.
+mod Bits
 mod Firsts
-mod Keeping
-mod Placing
-mod Standing
+mod Moves
+mod Opening
+mod Search
+mod Spelling
+mod Steps
 mod Whole

@@ -1,65 +1,78 @@
--- How the lists that the code keeps stand for the map of the pages.
-use Rattle.std.specs.Prelude.{◌≡◌, ℕ, ◌+◌, ◌<◌, ◌≤◌, ◌^◌, nat_lt, Bool, false, if◌then◌else◌, Option, None, Some, IsSome, List, map, length, slice_index_or, position, vec_capacity}
-use Rattle.std.specs.List.{range_with_len}
-use Rattle.pp_frames.specs.declared.marks.Marks.TheInside.{Inside}
-use Rattle.pp_frames.specs.Marks.{Latches, Shared, Exclusive, PageMarks, PageMap}
-use Rattle.pp_frames.specs.Lists.{has_page, times}
+-- How what the code keeps stands for the map of the pages.
+use Rattle.std.specs.Prelude.{◌≡◌, ℕ, ◌<◌, ◌≤◌, ◌^◌, ◌+◌, ◌↔◌, Bool, true, false, if◌then◌else◌, Option, None, Some}
+use Rattle.std.specs.Prelude.{IsSome, List, map, length, slice_set}
+use Rattle.pp_frames.specs.declared.page.Page.{Page}
+use Rattle.pp_frames.specs.Numbers.{is_member}
+use Rattle.pp_frames.specs.Marks.{Latches, Shared, Exclusive, latch_count, PageMarks, PageMap, marks_of, frame_of}
+use Rattle.pp_frames.specs.Marks.{pins_of, all_pins, is_flushable, IsFree, IsSound}
 
--- For each frame its page; a page's number once for each of its pins, shared latches and exclusive latches; and for each page
--- its dirty mark and its stamp.
-pub record Lists : Type 0 where
-  pub places : List (Option ℕ)
-  pub pins : List ℕ
-  pub readers : List ℕ
-  pub writers : List ℕ
-  pub dirty : List Bool
-  pub stamps : List (Option ℕ)
+-- The frame, the latches and the stamp that a page's record stands for.
+abbrev pub frame_at : Page → Option ℕ
+frame_at page = if page.is_placed then Some page.frame else None
 
-abbrev pub lists_of : Inside → Lists
-lists_of m =
+abbrev pub latches_at : Page → Latches
+latches_at page = if page.has_writer then Exclusive else Shared page.readers
+
+abbrev pub stamp_at : Page → Option ℕ
+stamp_at page = if page.is_stamped then Some page.stamp else None
+
+-- All the marks that it stands for.
+abbrev pub marks_at : Page → PageMarks
+marks_at page =
     record {
-      places = m.places.items;
-      pins = m.pins.items;
-      readers = m.readers.items;
-      writers = m.writers.items;
-      dirty = m.dirty.items;
-      stamps = m.stamps.items;
+      frame = frame_at page;
+      pins = page.pins;
+      latches = latches_at page;
+      dirty = page.is_dirty;
+      stamp = stamp_at page;
     }
 
--- The latches of a page that stands so often among the readers and among the writers.
-abbrev pub latches_at : ℕ → ℕ → Latches
-latches_at readers writers = if nat_lt 0 writers then Exclusive else Shared readers
-
--- What the lists say of one page, and of all.
-abbrev pub marks_at : Lists → ℕ → PageMarks
-marks_at l page =
+-- The record of a page with which nothing was done.
+abbrev pub untouched_page : Page
+untouched_page =
     record {
-      frame = position (has_page page) l.places;
-      pins = times page l.pins;
-      latches = latches_at (times page l.readers) (times page l.writers);
-      dirty = slice_index_or l.dirty page false;
-      stamp = slice_index_or l.stamps page None;
+      stamp = 0;
+      frame = 0;
+      pins = 0;
+      readers = 0;
+      is_placed = false;
+      has_writer = false;
+      is_dirty = false;
+      is_stamped = false;
     }
 
-abbrev pub page_map : Lists → PageMap
-page_map l = record { frames = length l.places; pages = map (marks_at l) (range_with_len 0 (length l.dirty)) }
+-- What the code keeps: a record for each page, the number of all pins, the set of the free frames, and the set of the
+-- pages
+-- that let a flush begin.
+pub record Parts : Type 0 where
+  pub pages : List Page
+  pub pins : ℕ
+  pub free : List Bool
+  pub flushable : List Bool
 
--- What holds of the lists whenever no call is under way.
-pub record IsKept (l : Lists) : Type 0 where
-  -- a frame's page is one of the pool's, and no other frame has it
-  pub held : (frame page : ℕ) → slice_index_or l.places frame None ≡ Some page → (page < length l.dirty) × (position (has_page page) l.places ≡ Some frame)
-  pub pinned : (page : ℕ) → 0 < times page l.pins → IsSome (position (has_page page) l.places)
-  pub latched : (page : ℕ) → times page l.readers + times page l.writers ≤ times page l.pins
-  pub one_writer : (page : ℕ) → times page l.writers ≤ 1
-  pub alone : (page : ℕ) → 0 < times page l.writers → times page l.readers ≡ 0
-  pub few : length l.pins ≤ length l.places
-  pub stamps : length l.stamps ≡ length l.dirty
-  pub frames_fit : length l.places < 2 ^ 32
-  pub pages_fit : length l.dirty < 2 ^ 32
+-- The map that they stand for.
+abbrev pub page_map : Parts → PageMap
+page_map p = record { frames = length p.free; pages = map marks_at p.pages }
 
--- And there is room for as many pins and latches as there are frames.
-pub record IsKeptInside (m : Inside) : Type 0 where
-  pub lists : IsKept (lists_of m)
-  pub pin_room : length m.places.items ≤ vec_capacity m.pins
-  pub reader_room : length m.places.items ≤ vec_capacity m.readers
-  pub writer_room : length m.places.items ≤ vec_capacity m.writers
+-- What holds of them whenever no call is under way: the map is sound, and the number and the two sets say what it says.
+pub record IsKept (p : Parts) : Type 0 where
+  pub sound : IsSound (page_map p)
+  pub pins : p.pins ≡ all_pins (page_map p)
+  pub free : (frame : ℕ) → frame < length p.free → (is_member p.free frame ≡ true) ↔ IsFree (page_map p) frame
+  pub pages : length p.flushable ≡ length p.pages
+  pub flushable : (page : ℕ) → is_member p.flushable page ≡ is_flushable (marks_of (page_map p) page)
+  pub frames_fit : length p.free < 2 ^ 32
+
+-- The marks that a page may get in place of its own: the same frame, no pins without one, no more latches than pins,
+-- and no
+-- more pins in all than frames.
+pub record Fits (m : PageMap) (page : ℕ) (marks : PageMarks) : Type 0 where
+  pub frame : marks.frame ≡ frame_of m page
+  pub placed : 0 < marks.pins → IsSome marks.frame
+  pub pinned : latch_count marks.latches ≤ marks.pins
+  pub room : all_pins m + marks.pins ≤ m.frames + pins_of m page
+
+-- The set in which this number, if there is one, is a member or none.
+abbrev pub put : List Bool → Option ℕ → Bool → List Bool
+put set None is = set
+put set (Some number) is = slice_set set number is

@@ -1,4 +1,8 @@
+-- What the contracts of this crate cite.
 pub mod Kept
+pub mod KeptInside
 pub mod Least
-pub mod Lists
 pub mod Marks
+pub mod Numbers
+pub mod Words
+pub mod WordsFall

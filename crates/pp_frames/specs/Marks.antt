@@ -1,5 +1,7 @@
 -- The marks of the pages: a plain finite map from pages to what is noted of each one.
-use Rattle.std.specs.Prelude.{◌≡◌, ℕ, ◌+◌, ◌-◌, ◌<◌, ◌≤◌, ◌==◌, ◌&&◌, nat_eq, nat_lt, nat_le, not, Bool, true, false, Option, None, Some, is_some, IsSome, List, length, replicate, slice_index_or, slice_set, sum_by}
+use Rattle.std.specs.Prelude.{◌≡◌, ℕ, ◌+◌, ◌-◌, ◌<◌, ◌≤◌, ◌==◌, ◌&&◌, nat_eq, nat_lt, nat_le, not, Bool, true, false}
+use Rattle.std.specs.Prelude.{Option, None, Some, is_some, IsSome, List, length, replicate, slice_index_or, slice_set}
+use Rattle.std.specs.Prelude.{sum_by}
 use Rattle.std.specs.List.{list_any}
 use Rattle.std.specs.Option.{option_or, option_eq}
 use Rattle.pp_frames.specs.declared.mode.Mode.{Mode}
@@ -23,7 +25,8 @@ abbrev pub is_exclusive : Latches → Bool
 is_exclusive (Shared readers) = false
 is_exclusive Exclusive = true
 
--- Whether a latch of this mode goes with those that stand: S goes with S, and X goes with nothing (Gray and Reuter, chapter 13).
+-- Whether a latch of this mode goes with those that stand: S goes with S, and X goes with nothing (Gray and Reuter,
+-- chapter 13).
 abbrev pub is_compatible : Mode → Latches → Bool
 is_compatible S (Shared readers) = true
 is_compatible S Exclusive = false
@@ -47,7 +50,8 @@ without_latch latches = Shared (latch_count latches - 1)
 
 -- ---- the map
 
--- What is noted of one page: the frame that has it, if one has it; how many pins and which latches stand on it; whether its
+-- What is noted of one page: the frame that has it, if one has it; how many pins and which latches stand on it; whether
+-- its
 -- bytes are newer than the disk's; and its stamp, where that is known.
 pub record PageMarks : Type 0 where
   pub frame : Option ℕ
@@ -154,8 +158,10 @@ pub record IsFlushable (m : PageMap) (page : ℕ) : Type 0 where
   pub placed : IsSome (frame_of m page)
   pub no_writer : is_exclusive (latches_of m page) ≡ false
 
--- Whatever calls were made: a page's frame is one of the pool's, no frame has two pages, a page with pins stands in a frame,
--- a page has no more latches than pins, and there are no more pins in all than frames. That the latches of a page are all
+-- Whatever calls were made: a page's frame is one of the pool's, no frame has two pages, a page with pins stands in a
+-- frame,
+-- a page has no more latches than pins, and there are no more pins in all than frames. That the latches of a page are
+-- all
 -- shared or a single exclusive one lies in the type Latches.
 pub record IsSound (m : PageMap) : Type 0 where
   pub in_range : (page frame : ℕ) → frame_of m page ≡ Some frame → frame < m.frames

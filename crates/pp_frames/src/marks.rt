@@ -1,28 +1,32 @@
 //! The marks of all pages: which frame has a page, how it is pinned and latched, whether it is dirty, and its stamp.
 
-ghost use Rattle.std.specs.Prelude.{true, false, ◌≡◌, ℕ, ◌+◌, ◌-◌, ◌<◌, ◌≤◌, IsTrue, IfOk, IfSome, IsNone, ◌↔◌, None, Some, IsSome};
+ghost use Rattle.std.specs.Prelude.{true, false, ◌≡◌, ℕ, ◌+◌, ◌-◌, ◌^◌, ◌<◌, ◌≤◌, IsTrue, IfOk, IfSome, IsNone, ◌↔◌};
+ghost use Rattle.std.specs.Prelude.{None, Some, IsSome, length, slice_set};
+ghost use Rattle.pp_frames.specs.Numbers.{is_member};
+ghost use Rattle.pp_frames.specs.Kept.{put};
 
-use crate::lists;
 use crate::mode::Mode;
+use crate::number_set::NumberSet;
+use crate::page::{self, Page};
 use std::alloc::{AllocError, Global};
 use std::fmt;
 use std::marker::Model;
 
 /// What a pool notes of its pages, as a map from pages to frame, pins, latches, dirty mark and stamp.
 ///
-/// All its memory is got by [`Marks::new`]; no other call takes any. A page is placed before it is pinned, and pinned before
+/// All its memory is got by [`Marks::new`]; no other call takes any. A page is placed before it is pinned, and pinned
+/// before
 /// it is latched.
 #[derive(Drop)]
 pub struct Marks {
-    /// The page of each frame.
-    places: Vec<Option<u32>>,
-    /// One entry for each pin, each shared latch and each exclusive latch: its page.
-    pins: Vec<u32>,
-    readers: Vec<u32>,
-    writers: Vec<u32>,
-    /// The dirty mark and the stamp of each page.
-    dirty: Vec<bool>,
-    stamps: Vec<Option<u64>>,
+    /// A record for each page.
+    pages: Vec<Page>,
+    /// The pins of all pages together.
+    pins: u32,
+    /// The frames in which no page stands.
+    free: NumberSet,
+    /// The pages that let a flush begin.
+    flushable: NumberSet,
 }
 
 impl Model for Marks {
@@ -30,16 +34,47 @@ impl Model for Marks {
 
     ghost Value = { PageMap };
 
-    ghost use Rattle.pp_frames.specs.Kept.{lists_of, page_map, IsKeptInside};
+    ghost use Rattle.pp_frames.specs.KeptInside.{parts_of};
+    ghost use Rattle.pp_frames.specs.Kept.{page_map, IsKept};
 
-    ghost view = { λ m. page_map (lists_of m) };
+    ghost view = { λ m. page_map (parts_of m) };
 
-    ghost invariant = { λ m. IsKeptInside m };
+    ghost invariant = { λ m. IsKept (parts_of m) };
+}
+
+/// Puts the number into the set or out of it, where that is a change.
+fn keep(set: &mut NumberSet, number: u32, was: bool, is: bool)
+    requires below { number < length set.old }
+    requires was { was ≡ is_member set.old number }
+    ensures { set.new ≡ slice_set set.old number is }
+{
+    if was != is {
+        set.put(number, is);
+    }
+}
+
+/// Notes that one frame has become free, and that another is taken.
+fn exchange(free: &mut NumberSet, left: Option<u32>, taken: Option<u32>)
+    requires left { IfSome left (λ frame. frame < length free.old) }
+    requires taken { IfSome taken (λ frame. frame < length free.old) }
+    ensures { free.new ≡ put (put free.old left true) taken false }
+{
+    if let Some(frame) = left {
+        free.insert(frame);
+    }
+    if let Some(frame) = taken {
+        free.remove(frame);
+    }
 }
 
 impl Marks {
-    ghost use Rattle.pp_frames.specs.Marks.{IsFree, IsFlushable, IsSound, opening, page_count, marks_of, frame_of, pins_of, latches_of, latch_count, is_dirty, is_flushable, stamp_of, with_frame, with_pins, with_latches, with_dirty, with_stamp, all_pins, is_compatible, with_latch, has_latch, without_latch, least_free, least_flushable, dirty_from};
+    ghost use Rattle.pp_frames.specs.Marks.{IsFree, IsFlushable, IsSound, opening, page_count, marks_of, frame_of};
+    ghost use Rattle.pp_frames.specs.Marks.{pins_of, latches_of, latch_count, is_dirty, is_flushable, stamp_of};
+    ghost use Rattle.pp_frames.specs.Marks.{with_marks, with_frame, with_pins, with_latches, with_dirty, with_stamp};
+    ghost use Rattle.pp_frames.specs.Marks.{all_pins, is_compatible, with_latch, has_latch, without_latch, least_free};
+    ghost use Rattle.pp_frames.specs.Marks.{least_flushable, dirty_from};
     ghost use Rattle.pp_frames.specs.Least.{IsLeast};
+    ghost use Rattle.pp_frames.specs.Kept.{marks_at, Fits};
 
     /// The marks of a pool with this many frames and pages, in which nothing was done yet.
     pub fn new(alloc: Global, frames: u32, pages: u32) -> Result<Marks, AllocError>
@@ -47,12 +82,10 @@ impl Marks {
         ensures sound { IfOk result IsSound }
     {
         Ok(Marks {
-            places: lists::empty_frames(alloc, frames)?,
-            pins: Vec::with_capacity(alloc, frames as usize)?,
-            readers: Vec::with_capacity(alloc, frames as usize)?,
-            writers: Vec::with_capacity(alloc, frames as usize)?,
-            dirty: lists::all_clean(alloc, pages)?,
-            stamps: lists::unknown_stamps(alloc, pages)?,
+            pages: page::untouched_pages(alloc, pages)?,
+            pins: 0,
+            free: NumberSet::full(alloc, frames)?,
+            flushable: NumberSet::new(alloc, pages)?,
         })
     }
 
@@ -61,7 +94,7 @@ impl Marks {
         ensures value { result ≡ self.now.frames }
         ensures sound { IsSound self.now }
     {
-        self.places.len() as u32
+        self.free.limit()
     }
 
     /// How many pages there are; they are numbered from 0.
@@ -69,7 +102,61 @@ impl Marks {
         ensures value { result ≡ page_count self.now }
         ensures sound { IsSound self.now }
     {
-        self.dirty.len() as u32
+        self.flushable.limit()
+    }
+
+    // ---- what is kept of one page
+
+    /// What is kept of the page. A page past the last one is untouched.
+    fn page(&self, page: u32) -> Page
+        ensures marks { marks_at result ≡ marks_of self.now page }
+        ensures pins { pins_of self.now page ≤ all_pins self.now }
+        ensures frames { self.now.frames < 2 ^ 32 }
+        ensures sound { IsSound self.now }
+    {
+        if page < self.pages() {
+            self.pages[page as usize]
+        } else {
+            Page::untouched()
+        }
+    }
+
+    /// Gives the page these marks, in the frame that it is in.
+    fn write(&mut self, page: u32, to: Page)
+        requires page { page < page_count self.old }
+        requires fits { Fits self.old page (marks_at to) }
+        ensures exact { self.new ≡ with_marks self.old page (marks_at to) }
+        ensures sound { IsSound self.new }
+    {
+        let now = self.pages[page as usize];
+        self.pages[page as usize] = to;
+        self.pins = self.pins - now.pins + to.pins;
+        keep(
+            &mut self.flushable,
+            page,
+            now.is_flushable(),
+            to.is_flushable(),
+        );
+    }
+
+    /// Puts a page without pins into a free frame, or into none.
+    fn move_to(&mut self, page: u32, frame: Option<u32>)
+        requires page { page < page_count self.old }
+        requires unpinned { pins_of self.old page ≡ 0 }
+        requires free { IfSome frame (λ f. (f < self.old.frames) × IsFree self.old f) }
+        ensures exact { self.new ≡ with_frame self.old page frame }
+        ensures sound { IsSound self.new }
+    {
+        let now = self.pages[page as usize];
+        let to = now.in_frame(frame);
+        self.pages[page as usize] = to;
+        exchange(&mut self.free, now.frame(), frame);
+        keep(
+            &mut self.flushable,
+            page,
+            now.is_flushable(),
+            to.is_flushable(),
+        );
     }
 
     // ---- frames
@@ -79,7 +166,7 @@ impl Marks {
         ensures value { result ≡ frame_of self.now page }
         ensures sound { IsSound self.now }
     {
-        lists::narrow(lists::frame_with(&self.places, page))
+        self.page(page).frame()
     }
 
     /// Whether no page stands in the frame.
@@ -88,7 +175,7 @@ impl Marks {
         ensures free { IsTrue result ↔ IsFree self.now frame }
         ensures sound { IsSound self.now }
     {
-        self.places[frame as usize].is_none()
+        self.free.contains(frame)
     }
 
     /// The least frame in which no page stands, if there is one.
@@ -98,28 +185,32 @@ impl Marks {
         ensures least { IfSome result (IsLeast (λ frame. (frame < self.now.frames) × IsFree self.now frame)) }
         ensures sound { IsSound self.now }
     {
-        lists::narrow(lists::first_empty(&self.places))
+        self.free.least_from(0)
     }
 
-    /// Puts the page into a free frame, out of the one that it was in.
+    /// Puts a page without pins into a free frame, out of the one that it was in.
     pub fn place(&mut self, page: u32, frame: u32)
         requires page { page < page_count self.old }
         requires frame { frame < self.old.frames }
         requires free { IsFree self.old frame }
+        requires unpinned { pins_of self.old page ≡ 0 }
         ensures exact { self.new ≡ with_frame self.old page (Some frame) }
         ensures sound { IsSound self.new }
     {
-        lists::move_to(&mut self.places, page, frame);
+        self.move_to(page, Some(frame));
     }
 
-    /// Takes a page without pins out of its frame, if it is in one. It stays as dirty as it is, and its stamp stays known.
+    /// Takes a page without pins out of its frame, if it is in one. It stays as dirty as it is, and its stamp stays
+    /// known.
     pub fn clear(&mut self, page: u32)
         requires unpinned { pins_of self.old page ≡ 0 }
         ensures exact { self.new ≡ with_frame self.old page None }
         ensures freed { (frame : ℕ) → frame_of self.old page ≡ Some frame → IsFree self.new frame }
         ensures sound { IsSound self.new }
     {
-        lists::vacate(&mut self.places, page);
+        if page < self.pages() {
+            self.move_to(page, None);
+        }
     }
 
     // ---- pins
@@ -129,7 +220,7 @@ impl Marks {
         ensures value { result ≡ pins_of self.now page }
         ensures sound { IsSound self.now }
     {
-        lists::count(&self.pins, page)
+        self.page(page).pins
     }
 
     /// How many pins stand on all pages together.
@@ -137,7 +228,7 @@ impl Marks {
         ensures value { result ≡ all_pins self.now }
         ensures sound { IsSound self.now }
     {
-        self.pins.len() as u32
+        self.pins
     }
 
     /// Sets one more pin on a page that is in a frame. There are never more pins in all than frames.
@@ -147,7 +238,8 @@ impl Marks {
         ensures exact { self.new ≡ with_pins self.old page (pins_of self.old page + 1) }
         ensures sound { IsSound self.new }
     {
-        self.pins.push_reserved(page);
+        let now = self.page(page);
+        self.write(page, now.with_pins(now.pins + 1));
     }
 
     /// Takes one pin off a page that has more pins than latches.
@@ -156,7 +248,8 @@ impl Marks {
         ensures exact { self.new ≡ with_pins self.old page (pins_of self.old page - 1) }
         ensures sound { IsSound self.new }
     {
-        lists::remove_one(&mut self.pins, page);
+        let now = self.page(page);
+        self.write(page, now.with_pins(now.pins - 1));
     }
 
     // ---- latches
@@ -166,7 +259,7 @@ impl Marks {
         ensures value { result ≡ latch_count (latches_of self.now page) }
         ensures sound { IsSound self.now }
     {
-        lists::count(&self.readers, page) + lists::count(&self.writers, page)
+        self.page(page).latches()
     }
 
     /// Whether a latch of this mode stands on the page.
@@ -174,10 +267,7 @@ impl Marks {
         ensures value { result ≡ has_latch mode (latches_of self.now page) }
         ensures sound { IsSound self.now }
     {
-        match mode {
-            Mode::S => lists::count(&self.readers, page) > 0,
-            Mode::X => lists::count(&self.writers, page) > 0,
-        }
+        self.page(page).has_latch(mode)
     }
 
     /// Whether a latch of this mode goes with those that stand on the page: S with S, X with none.
@@ -185,27 +275,23 @@ impl Marks {
         ensures value { result ≡ is_compatible mode (latches_of self.now page) }
         ensures sound { IsSound self.now }
     {
-        match mode {
-            Mode::S => !self.is_latched(page, Mode::X),
-            Mode::X => self.latches(page) == 0,
-        }
+        self.page(page).goes(mode)
     }
 
     /// Latches the page where this mode goes with the latches that stand on it. The page has fewer latches than pins.
     pub fn grant(&mut self, page: u32, mode: Mode) -> bool
         requires spare_pin { latch_count (latches_of self.old page) < pins_of self.old page }
         ensures answer { result ≡ is_compatible mode (latches_of self.old page) }
-        ensures granted { IsTrue result → self.new ≡ with_latches self.old page (with_latch mode (latches_of self.old page)) }
+        ensures granted { IsTrue result
+            → self.new ≡ with_latches self.old page (with_latch mode (latches_of self.old page)) }
         ensures refused { result ≡ false → self.new ≡ self.old }
         ensures sound { IsSound self.new }
     {
-        if !self.can_grant(page, mode) {
+        let now = self.page(page);
+        if !now.goes(mode) {
             return false;
         }
-        match mode {
-            Mode::S => self.readers.push_reserved(page),
-            Mode::X => self.writers.push_reserved(page),
-        }
+        self.write(page, now.with_latch(mode));
         true
     }
 
@@ -215,10 +301,8 @@ impl Marks {
         ensures exact { self.new ≡ with_latches self.old page (without_latch (latches_of self.old page)) }
         ensures sound { IsSound self.new }
     {
-        match mode {
-            Mode::S => lists::remove_one(&mut self.readers, page),
-            Mode::X => lists::remove_one(&mut self.writers, page),
-        }
+        let now = self.page(page);
+        self.write(page, now.without_latch());
     }
 
     // ---- dirty marks and stamps
@@ -228,7 +312,7 @@ impl Marks {
         ensures value { result ≡ is_dirty self.now page }
         ensures sound { IsSound self.now }
     {
-        lists::is_set(&self.dirty, page)
+        self.page(page).is_dirty
     }
 
     /// Marks the page dirty.
@@ -237,7 +321,14 @@ impl Marks {
         ensures exact { self.new ≡ with_dirty self.old page true }
         ensures sound { IsSound self.new }
     {
-        self.dirty[page as usize] = true;
+        let now = self.page(page);
+        self.write(
+            page,
+            Page {
+                is_dirty: true,
+                ..now
+            },
+        );
     }
 
     /// Marks the page clean.
@@ -246,7 +337,14 @@ impl Marks {
         ensures exact { self.new ≡ with_dirty self.old page false }
         ensures sound { IsSound self.new }
     {
-        self.dirty[page as usize] = false;
+        let now = self.page(page);
+        self.write(
+            page,
+            Page {
+                is_dirty: false,
+                ..now
+            },
+        );
     }
 
     /// The page's stamp, where it is known. That of a page past the last one is unknown.
@@ -254,7 +352,7 @@ impl Marks {
         ensures value { result ≡ stamp_of self.now page }
         ensures sound { IsSound self.now }
     {
-        lists::number(&self.stamps, page)
+        self.page(page).stamp()
     }
 
     /// Notes the page's stamp.
@@ -263,15 +361,15 @@ impl Marks {
         ensures exact { self.new ≡ with_stamp self.old page (Some stamp) }
         ensures sound { IsSound self.new }
     {
-        self.stamps[page as usize] = Some(stamp);
-    }
-
-    /// Whether the page itself lets a flush begin: it is dirty, in a frame, and not latched X.
-    fn is_flushable(&self, page: u32) -> bool
-        ensures value { result ≡ is_flushable (marks_of self.now page) }
-        ensures sound { IsSound self.now }
-    {
-        self.is_dirty(page) && self.frame_of(page).is_some() && !self.is_latched(page, Mode::X)
+        let now = self.page(page);
+        self.write(
+            page,
+            Page {
+                stamp,
+                is_stamped: true,
+                ..now
+            },
+        );
     }
 
     /// The least page from this one on that lets a flush begin, if there is one.
@@ -279,15 +377,11 @@ impl Marks {
         ensures value { result ≡ least_flushable self.now from }
         ensures sound { IsSound self.now }
     {
-        for page in from..self.pages() {
-            if self.is_flushable(page) {
-                return Some(page);
-            }
-        }
-        None
+        self.flushable.least_from(from)
     }
 
-    /// The least page number from this one on that is dirty, in a frame, and not latched X; where there is none from this one
+    /// The least page number from this one on that is dirty, in a frame, and not latched X; where there is none from
+    /// this one
     /// on, the least such page of all.
     pub fn dirty_from(&self, from: u32) -> Option<u32>
         ensures exact { result ≡ dirty_from self.now from }
@@ -310,6 +404,3 @@ impl fmt::Debug for Marks {
             .finish_non_exhaustive()
     }
 }
-
-#[cfg(test)]
-mod tests;

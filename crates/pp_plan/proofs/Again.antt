@@ -1,5 +1,7 @@
 -- Statements that are spelled are read.
-use Rattle.std.proofs.Common.{◌≡◌, inl, inr, ℕ, zero, suc, ◌+◌, ◌<◌, ◌≤◌, true, not, ◌&&◌, ◌==◌, nat_le, nat_lt, List, [], ◌∷◌, ◌++◌, length, Option, Some, None, is_some, Result, Ok, refl, sym, ap, subst, ◌∙◌, arith}
+use Rattle.std.proofs.Common.{◌≡◌, inl, inr, ℕ, zero, suc, ◌+◌, ◌<◌, ◌≤◌, true, not, ◌&&◌, ◌==◌, nat_le, nat_lt, List}
+use Rattle.std.proofs.Common.{[], ◌∷◌, ◌++◌, length, Option, Some, None, is_some, Result, Ok, refl, sym, ap, subst, ◌∙◌}
+use Rattle.std.proofs.Common.{arith}
 use Rattle.std.specs.List.{slice_get}
 use Rattle.std.proofs.lemmas.Bool.{and_from, lt-ltb}
 use Rattle.std.proofs.lemmas.Bool.Decides.{nat_tests}
@@ -9,20 +11,26 @@ use Rattle.serde_json.specs.Find.{as_array}
 use Rattle.pp_settings.specs.Settings.{Configuration, region_named}
 use Rattle.pp_plan.specs.declared.mode.Mode.{Mode}
 use Rattle.pp_plan.specs.declared.error.PlanError.{PlanError}
-use Rattle.pp_plan.specs.Tree.{Step, fix, unfix, latch, unlatch, Statement, step, loop, choice, Sequence, done, andthen, Alternatives, none, either, statement_count, sequence_count, alternatives_count, statement_depth, sequence_depth, alternatives_depth}
+use Rattle.pp_plan.specs.Tree.{Step, fix, unfix, latch, unlatch, Statement, step, loop, choice, Sequence, done, andthen}
+use Rattle.pp_plan.specs.Tree.{Alternatives, none, either, statement_count, sequence_count, alternatives_count}
+use Rattle.pp_plan.specs.Tree.{statement_depth, sequence_depth, alternatives_depth}
 use Rattle.pp_plan.specs.Names.{is_slot_name}
 use Rattle.pp_plan.specs.Rules.{IsSome, IsStatement, IsSequence, AreAlternatives}
 use Rattle.pp_plan.specs.Progress.{Progress}
-use Rattle.pp_plan.specs.Steps.{◌>>=◌}
-use Rattle.pp_plan.specs.Numbering.{in_byte_order, place_of, place_in, numbered_step, numbered_statement, numbered, numbered_branches}
-use Rattle.pp_plan.specs.Shapes.{Shape, fix_shape, unfix_shape, latch_shape, unlatch_shape, loop_shape, choice_shape, shape_of, are_lists}
-use Rattle.pp_plan.specs.Reading.{begun, used_at, used, slot_of, followed_by, with_branch, sequence_from, alternatives_from, items_in, count_of, fix_by, statement_by, statement_at}
+use Rattle.pp_text.specs.Steps.{◌>>=◌}
+use Rattle.pp_plan.specs.Numbering.{in_byte_order, place_of, place_in, numbered_step, numbered_statement, numbered}
+use Rattle.pp_plan.specs.Numbering.{numbered_branches}
+use Rattle.pp_plan.specs.Shapes.{Shape, fix_shape, unfix_shape, latch_shape, unlatch_shape, loop_shape, choice_shape}
+use Rattle.pp_plan.specs.Shapes.{shape_of, are_lists}
+use Rattle.pp_plan.specs.Reading.{begun, used_at, used, slot_of, followed_by, with_branch, sequence_from}
+use Rattle.pp_plan.specs.Reading.{alternatives_from, items_in, count_of, fix_by, statement_by, statement_at}
 use Rattle.pp_plan.specs.Spelling.{SpellsStep, SpellsStatement, SpellsSequence, SpellsAlternatives}
 use Rattle.pp_plan.specs.Faults.{SpellsShape}
 use Rattle.pp_plan.proofs.Places.{Has, has_at, at_has, has_push, Extends, AreApart, place_none}
 use Rattle.pp_plan.proofs.Order.{Rises, rises_apart, rises_short, order_rises, order_length, order_from}
 use Rattle.pp_plan.proofs.Forms.{shape_again}
-use Rattle.pp_plan.proofs.Found.{AreNames, SlotUsed, used_found, push_apart, longer, next, joined, gathered, joined_done, joined_follow, gathered_none, gathered_with, branches_counted}
+use Rattle.pp_plan.proofs.Found.{AreNames, SlotUsed, used_found, push_apart, longer, next, joined, gathered}
+use Rattle.pp_plan.proofs.Found.{joined_done, joined_follow, gathered_none, gathered_with, branches_counted}
 use Rattle.pp_plan.proofs.Numbered.{placed}
 
 -- ---- slot names
@@ -33,55 +41,72 @@ AreIn slots names = (n : List ℕ) → Has names n → Has slots n
 
 no_more : (slots names : List (List ℕ)) → Rises slots → AreApart names → AreIn slots names → length names ≤ length slots
 no_more slots names up apart within =
-    let a = rises_short slots (in_byte_order names) (order_rises names apart) up (λ n h. within n (order_from names n h)) in
+    let a =
+    rises_short slots (in_byte_order names) (order_rises names apart) up (λ n h. within n (order_from names n h)) in
     let l = order_length names in
     omega (arith, a, l)
 
-used_to : (o : Option ℕ) (slots : List (List ℕ)) (n : ℕ) (p : Progress) (name : List ℕ) → place_of p.names name ≡ o → Rises slots → length slots ≤ 32 → AreApart p.names → AreIn slots p.names → Has slots name → (u : Progress × ℕ) × (used_at o n p name ≡ Ok u)
+used_to : (o : Option ℕ) (slots : List (List ℕ)) (n : ℕ) (p : Progress) (name : List ℕ) → place_of p.names name ≡ o
+    → Rises slots → length slots ≤ 32 → AreApart p.names → AreIn slots p.names → Has slots name
+    → (u : Progress × ℕ) × (used_at o n p name ≡ Ok u)
 used_to (Some k) slots n p name is up few apart within has = ((p, k), refl)
 used_to None slots n p name is up few apart within has =
-    let more : AreIn slots (p.names ++ name ∷ []) = λ m h. elim (has_push p.names name m h) as (λ _. Has slots m) [ inl old ↦ within m old | inr e ↦ subst (λ (z : List ℕ). Has slots z) e has ] in
+    let more : AreIn slots (p.names ++ name ∷ []) =
+    λ m h. elim (has_push p.names name m h) as (λ _. Has slots m)
+    [ inl old ↦ within m old | inr e ↦ subst (λ (z : List ℕ). Has slots z) e has ] in
     let a = no_more slots (p.names ++ name ∷ []) up (push_apart p.names name apart (place_none p.names name is)) more in
     let l = longer p.names name in
     let room : nat_lt (length p.names) 32 ≡ true = lt-ltb (length p.names) 32 (omega (arith, a, l, few)) in
     ((record { names = p.names ++ name ∷ []; count = p.count }, length p.names), rw room refl)
 
-used_again : (slots : List (List ℕ)) (n : ℕ) (p : Progress) (name : List ℕ) → Rises slots → length slots ≤ 32 → AreApart p.names → AreIn slots p.names → Has slots name → (u : Progress × ℕ) × (used n p name ≡ Ok u)
+used_again : (slots : List (List ℕ)) (n : ℕ) (p : Progress) (name : List ℕ) → Rises slots → length slots ≤ 32
+    → AreApart p.names → AreIn slots p.names → Has slots name → (u : Progress × ℕ) × (used n p name ≡ Ok u)
 unfolding used
-used_again slots n p name up few apart within has = used_to (place_of p.names name) slots n p name refl up few apart within has
+used_again slots n p name up few apart within has =
+    used_to (place_of p.names name) slots n p name refl up few apart within has
 
-slot_again : (n : ℕ) (p : Progress) (name : List ℕ) (u : Progress × ℕ) → is_slot_name name ≡ true → used n p name ≡ Ok u → slot_of n p name ≡ Ok u
+slot_again : (n : ℕ) (p : Progress) (name : List ℕ) (u : Progress × ℕ) → is_slot_name name ≡ true → used n p name ≡ Ok u
+    → slot_of n p name ≡ Ok u
 unfolding slot_of
 slot_again n p name u form is = rw form is
 
 -- ---- what is read, beside the statement that it was to be
 
-pub record AgainStatement (slots : List (List ℕ)) (p : Progress) (s : Statement) (r : Progress × Statement) : Type 0 where
-  pub grows : Extends p.names r.0.names
-  pub names : AreNames r.0.names
-  pub within : AreIn slots r.0.names
-  pub count : r.0.count ≡ p.count + statement_count s
-  pub same : (names : List (List ℕ)) → Extends r.0.names names → numbered_statement (λ k. place_in slots names k) r.1 ≡ s
+pub record AgainStatement (slots : List (List ℕ)) (p : Progress) (s : Statement) (r : Progress × Statement) : Type 0
+  where
+    pub grows : Extends p.names r.0.names
+    pub names : AreNames r.0.names
+    pub within : AreIn slots r.0.names
+    pub count : r.0.count ≡ p.count + statement_count s
+    pub same : (names : List (List ℕ)) → Extends r.0.names names
+        → numbered_statement (λ k. place_in slots names k) r.1 ≡ s
 
-pub record AgainSequence (slots : List (List ℕ)) (earlier : Sequence) (p : Progress) (b : Sequence) (r : Progress × Sequence) : Type 0 where
+pub record AgainSequence (slots : List (List ℕ)) (earlier : Sequence) (p : Progress) (b : Sequence)
+    (r : Progress × Sequence) : Type 0 where
   pub grows : Extends p.names r.0.names
   pub names : AreNames r.0.names
   pub within : AreIn slots r.0.names
   pub count : r.0.count ≡ p.count + sequence_count b
-  pub same : (names : List (List ℕ)) → Extends r.0.names names → numbered (λ k. place_in slots names k) r.1 ≡ joined (numbered (λ k. place_in slots names k) earlier) b
+  pub same : (names : List (List ℕ)) → Extends r.0.names names
+      → numbered (λ k. place_in slots names k) r.1 ≡ joined (numbered (λ k. place_in slots names k) earlier) b
 
-pub record AgainBranches (slots : List (List ℕ)) (earlier : Alternatives) (p : Progress) (bs : Alternatives) (r : Progress × Alternatives) : Type 0 where
+pub record AgainBranches (slots : List (List ℕ)) (earlier : Alternatives) (p : Progress) (bs : Alternatives)
+    (r : Progress × Alternatives) : Type 0 where
   pub grows : Extends p.names r.0.names
   pub names : AreNames r.0.names
   pub within : AreIn slots r.0.names
   pub count : r.0.count ≡ p.count + alternatives_count bs
-  pub same : (names : List (List ℕ)) → Extends r.0.names names → numbered_branches (λ k. place_in slots names k) r.1 ≡ gathered (numbered_branches (λ k. place_in slots names k) earlier) bs
+  pub same : (names : List (List ℕ)) → Extends r.0.names names
+      → numbered_branches (λ k. place_in slots names k) r.1
+      ≡ gathered (numbered_branches (λ k. place_in slots names k) earlier) bs
 
-numbered_follow : (f : ℕ → ℕ) (b : Sequence) (s : Statement) → numbered f (followed_by b s) ≡ followed_by (numbered f b) (numbered_statement f s)
+numbered_follow : (f : ℕ → ℕ) (b : Sequence) (s : Statement)
+    → numbered f (followed_by b s) ≡ followed_by (numbered f b) (numbered_statement f s)
 numbered_follow f done s = refl
 numbered_follow f (andthen r b) s = ap (andthen (numbered_statement f r)) (numbered_follow f b s)
 
-numbered_with : (f : ℕ → ℕ) (bs : Alternatives) (b : Sequence) → numbered_branches f (with_branch bs b) ≡ with_branch (numbered_branches f bs) (numbered f b)
+numbered_with : (f : ℕ → ℕ) (bs : Alternatives) (b : Sequence)
+    → numbered_branches f (with_branch bs b) ≡ with_branch (numbered_branches f bs) (numbered f b)
 numbered_with f none b = refl
 numbered_with f (either a bs) b = ap (either (numbered f a)) (numbered_with f bs b)
 
@@ -93,19 +118,23 @@ record AgainSlot (slots : List (List ℕ)) (p : Progress) (name : List ℕ) (k :
   within : AreIn slots u.0.names
   same : (names : List (List ℕ)) → Extends u.0.names names → place_in slots names u.1 ≡ k
 
-slot_is : (slots : List (List ℕ)) (p : Progress) (name : List ℕ) (k : ℕ) (u : Progress × ℕ) → Rises slots → AreIn slots p.names → slice_get slots k ≡ Some name → SlotUsed (next p) name u → AgainSlot slots p name k u
+slot_is : (slots : List (List ℕ)) (p : Progress) (name : List ℕ) (k : ℕ) (u : Progress × ℕ) → Rises slots
+    → AreIn slots p.names → slice_get slots k ≡ Some name → SlotUsed (next p) name u → AgainSlot slots p name k u
 slot_is slots p name k u up within there is = record {
   used = is;
   within = λ n h.
       let (j, at) = has_at u.0.names n h in
       elim (is.new j n at) as (λ _. Has slots n) [
         | inl old ↦ within n (at_has p.names j n old)
-        | inr e ↦ subst (λ (z : List ℕ). Has slots z) (same_Some name n (sym is.at ∙ ap (λ (i : ℕ). slice_get u.0.names i) e ∙ at)) (at_has slots k name there)
+        | inr e ↦ subst (λ (z : List ℕ). Has slots z)
+            (same_Some name n (sym is.at ∙ ap (λ (i : ℕ). slice_get u.0.names i) e ∙ at)) (at_has slots k name there)
       ];
   same = λ names ext. placed slots names k u.1 name (rises_apart slots up) (ext u.1 name is.at) there;
 }
 
-step_again : (slots : List (List ℕ)) (p : Progress) (name : List ℕ) (k : ℕ) (u : Progress × ℕ) (s : Step) → AgainSlot slots p name k u → ((f : ℕ → ℕ) → f u.1 ≡ k → numbered_step f s ≡ numbered_step (λ _. k) s) → AgainStatement slots p (step (numbered_step (λ _. k) s)) (u.0, step s)
+step_again : (slots : List (List ℕ)) (p : Progress) (name : List ℕ) (k : ℕ) (u : Progress × ℕ) (s : Step)
+    → AgainSlot slots p name k u → ((f : ℕ → ℕ) → f u.1 ≡ k → numbered_step f s ≡ numbered_step (λ _. k) s)
+    → AgainStatement slots p (step (numbered_step (λ _. k) s)) (u.0, step s)
 step_again slots p name k u s a same = record {
   grows = a.used.grows;
   names = a.used.names;
@@ -120,38 +149,59 @@ begun_again : (p : Progress) → p.count < 4096 → begun p ≡ Ok (next p)
 unfolding begun
 begun_again p room = rw (lt-ltb p.count 4096 room) refl
 
-at_again : (region : List ℕ → Option ℕ) (levels : ℕ) (p : Progress) (d : Data) (shape : Shape) (r : Progress × Statement) → p.count < 4096 → shape_of p.count d ≡ Ok shape → statement_by region (statement_at region levels) p.count (next p) shape ≡ Ok r → statement_at region (suc levels) p d ≡ Ok r
+at_again : (region : List ℕ → Option ℕ) (levels : ℕ) (p : Progress) (d : Data) (shape : Shape)
+    (r : Progress × Statement) → p.count < 4096 → shape_of p.count d ≡ Ok shape
+    → statement_by region (statement_at region levels) p.count (next p) shape ≡ Ok r
+    → statement_at region (suc levels) p d ≡ Ok r
 at_again region levels p d shape r room is more = rw (begun_again p room, is) more
 
-fix_again : (region : List ℕ → Option ℕ) (n : ℕ) (p : Progress) (slot name : List ℕ) (i : ℕ) (u : Progress × ℕ) → is_slot_name slot ≡ true → region name ≡ Some i → used n p slot ≡ Ok u → fix_by region n p slot name ≡ Ok (u.0, step (fix u.1 i))
+fix_again : (region : List ℕ → Option ℕ) (n : ℕ) (p : Progress) (slot name : List ℕ) (i : ℕ) (u : Progress × ℕ)
+    → is_slot_name slot ≡ true → region name ≡ Some i → used n p slot ≡ Ok u
+    → fix_by region n p slot name ≡ Ok (u.0, step (fix u.1 i))
 unfolding fix_by
 fix_again region n p slot name i u form named is = rw (form, named, is) refl
 
-fix_to : (region : List ℕ → Option ℕ) (read_one : Progress → Data → Result (Progress × Statement) PlanError) (n : ℕ) (p : Progress) (slot name : List ℕ) (r : Progress × Statement) → fix_by region n p slot name ≡ Ok r → statement_by region read_one n p (fix_shape slot name) ≡ Ok r
+fix_to : (region : List ℕ → Option ℕ) (read_one : Progress → Data → Result (Progress × Statement) PlanError) (n : ℕ)
+    (p : Progress) (slot name : List ℕ) (r : Progress × Statement) → fix_by region n p slot name ≡ Ok r
+    → statement_by region read_one n p (fix_shape slot name) ≡ Ok r
 unfolding statement_by
 fix_to region read_one n p slot name r e = e
 
-unfix_to : (region : List ℕ → Option ℕ) (read_one : Progress → Data → Result (Progress × Statement) PlanError) (n : ℕ) (p : Progress) (slot : List ℕ) (u : Progress × ℕ) → slot_of n p slot ≡ Ok u → statement_by region read_one n p (unfix_shape slot) ≡ Ok (u.0, step (unfix u.1))
+unfix_to : (region : List ℕ → Option ℕ) (read_one : Progress → Data → Result (Progress × Statement) PlanError) (n : ℕ)
+    (p : Progress) (slot : List ℕ) (u : Progress × ℕ) → slot_of n p slot ≡ Ok u
+    → statement_by region read_one n p (unfix_shape slot) ≡ Ok (u.0, step (unfix u.1))
 unfolding statement_by
 unfix_to region read_one n p slot u e = rw e refl
 
-latch_to : (region : List ℕ → Option ℕ) (read_one : Progress → Data → Result (Progress × Statement) PlanError) (n : ℕ) (p : Progress) (slot : List ℕ) (u : Progress × ℕ) (mode : Mode) → slot_of n p slot ≡ Ok u → statement_by region read_one n p (latch_shape slot mode) ≡ Ok (u.0, step (latch u.1 mode))
+latch_to : (region : List ℕ → Option ℕ) (read_one : Progress → Data → Result (Progress × Statement) PlanError) (n : ℕ)
+    (p : Progress) (slot : List ℕ) (u : Progress × ℕ) (mode : Mode) → slot_of n p slot ≡ Ok u
+    → statement_by region read_one n p (latch_shape slot mode) ≡ Ok (u.0, step (latch u.1 mode))
 unfolding statement_by
 latch_to region read_one n p slot u mode e = rw e refl
 
-unlatch_to : (region : List ℕ → Option ℕ) (read_one : Progress → Data → Result (Progress × Statement) PlanError) (n : ℕ) (p : Progress) (slot : List ℕ) (u : Progress × ℕ) → slot_of n p slot ≡ Ok u → statement_by region read_one n p (unlatch_shape slot) ≡ Ok (u.0, step (unlatch u.1))
+unlatch_to : (region : List ℕ → Option ℕ) (read_one : Progress → Data → Result (Progress × Statement) PlanError) (n : ℕ)
+    (p : Progress) (slot : List ℕ) (u : Progress × ℕ) → slot_of n p slot ≡ Ok u
+    → statement_by region read_one n p (unlatch_shape slot) ≡ Ok (u.0, step (unlatch u.1))
 unfolding statement_by
 unlatch_to region read_one n p slot u e = rw e refl
 
-loop_to : (region : List ℕ → Option ℕ) (read_one : Progress → Data → Result (Progress × Statement) PlanError) (n : ℕ) (p : Progress) (count : ℕ) (ds : Items) (b : Progress × Sequence) → ((nat_le 1 count && nat_le count 65535) && not (count_of ds == 0)) ≡ true → sequence_from read_one done p ds ≡ Ok b → statement_by region read_one n p (loop_shape count ds) ≡ Ok (b.0, loop count b.1)
+loop_to : (region : List ℕ → Option ℕ) (read_one : Progress → Data → Result (Progress × Statement) PlanError) (n : ℕ)
+    (p : Progress) (count : ℕ) (ds : Items) (b : Progress × Sequence)
+    → ((nat_le 1 count && nat_le count 65535) && not (count_of ds == 0)) ≡ true
+    → sequence_from read_one done p ds ≡ Ok b
+    → statement_by region read_one n p (loop_shape count ds) ≡ Ok (b.0, loop count b.1)
 unfolding statement_by
 loop_to region read_one n p count ds b range e = rw (range, e) refl
 
-choice_to : (region : List ℕ → Option ℕ) (read_one : Progress → Data → Result (Progress × Statement) PlanError) (n : ℕ) (p : Progress) (ds : Items) (bs : Progress × Alternatives) → (nat_le 1 (count_of ds) && nat_le (count_of ds) 16) ≡ true → alternatives_from read_one none p ds ≡ Ok bs → statement_by region read_one n p (choice_shape ds) ≡ Ok (bs.0, choice bs.1)
+choice_to : (region : List ℕ → Option ℕ) (read_one : Progress → Data → Result (Progress × Statement) PlanError) (n : ℕ)
+    (p : Progress) (ds : Items) (bs : Progress × Alternatives)
+    → (nat_le 1 (count_of ds) && nat_le (count_of ds) 16) ≡ true → alternatives_from read_one none p ds ≡ Ok bs
+    → statement_by region read_one n p (choice_shape ds) ≡ Ok (bs.0, choice bs.1)
 unfolding statement_by
 choice_to region read_one n p ds bs range e = rw (range, e) refl
 
-some_again : (settings : Configuration) (slots : List (List ℕ)) (ds : Items) (b : Sequence) → SpellsSequence settings slots ds b → IsSome b → not (count_of ds == 0) ≡ true
+some_again : (settings : Configuration) (slots : List (List ℕ)) (ds : Items) (b : Sequence)
+    → SpellsSequence settings slots ds b → IsSome b → not (count_of ds == 0) ≡ true
 some_again settings slots no_items done h some = absurd some
 some_again settings slots (item d ds) (andthen s b) h some = grind (arith, nat_tests)
 some_again settings slots no_items (andthen s b) h some = absurd h
@@ -160,15 +210,19 @@ some_again settings slots (item d ds) done h some = absurd h
 range_again : (low high n : ℕ) → low ≤ n → n ≤ high → (nat_le low n && nat_le n high) ≡ true
 range_again low high n a b = grind (arith, nat_tests)
 
-lists_again : (settings : Configuration) (slots : List (List ℕ)) (ds : Items) (bs : Alternatives) → SpellsAlternatives settings slots ds bs → are_lists ds ≡ true
+lists_again : (settings : Configuration) (slots : List (List ℕ)) (ds : Items) (bs : Alternatives)
+    → SpellsAlternatives settings slots ds bs → are_lists ds ≡ true
 lists_again settings slots no_items none h = refl
 lists_again settings slots (item d ds) (either b bs) h =
-    and_from (is_some (as_array d)) (are_lists ds) (ap (λ (x : Data). is_some (as_array x)) h.0.1) (lists_again settings slots ds bs h.1)
+    and_from (is_some (as_array d)) (are_lists ds) (ap (λ (x : Data). is_some (as_array x)) h.0.1)
+    (lists_again settings slots ds bs h.1)
 lists_again settings slots no_items (either b bs) h = absurd h
 lists_again settings slots (item d ds) none h = absurd h
 
 -- a slot name of the text is read
-slot_read : (slots : List (List ℕ)) → Rises slots → AreNames slots → (p : Progress) (name : List ℕ) (k : ℕ) → AreNames p.names → AreIn slots p.names → slice_get slots k ≡ Some name → (u : Progress × ℕ) × (used p.count (next p) name ≡ Ok u) × AgainSlot slots p name k u
+slot_read : (slots : List (List ℕ)) → Rises slots → AreNames slots → (p : Progress) (name : List ℕ) (k : ℕ)
+    → AreNames p.names → AreIn slots p.names → slice_get slots k ≡ Some name
+    → (u : Progress × ℕ) × (used p.count (next p) name ≡ Ok u) × AgainSlot slots p name k u
 slot_read slots up are p name k names within there =
     let has = at_has slots k name there in
     let (u, is) = used_again slots p.count (next p) name up are.few names.apart within has in
@@ -176,21 +230,31 @@ slot_read slots up are p name k names within there =
 
 -- the statement of a value, where it is read so
 abbrev pub IsReadAgain : Configuration → List (List ℕ) → ℕ → Progress → Data → Statement → Type 0
-IsReadAgain settings slots levels p d s = (r : Progress × Statement) × (statement_at (region_named settings) levels p d ≡ Ok r) × AgainStatement slots p s r
+IsReadAgain settings slots levels p d s =
+    (r : Progress × Statement) × (statement_at (region_named settings) levels p d ≡ Ok r) × AgainStatement slots p s r
 
 -- by its form
-read_by : (settings : Configuration) (slots : List (List ℕ)) (levels : ℕ) (p : Progress) (d : Data) (s : Statement) (shape : Shape) (r : Progress × Statement) → p.count < 4096 → SpellsShape d shape → statement_by (region_named settings) (statement_at (region_named settings) levels) p.count (next p) shape ≡ Ok r → AgainStatement slots p s r
+read_by : (settings : Configuration) (slots : List (List ℕ)) (levels : ℕ) (p : Progress) (d : Data) (s : Statement)
+    (shape : Shape) (r : Progress × Statement) → p.count < 4096 → SpellsShape d shape
+    → statement_by (region_named settings) (statement_at (region_named settings) levels) p.count (next p) shape ≡ Ok r
+    → AgainStatement slots p s r
     → IsReadAgain settings slots (suc levels) p d s
-read_by settings slots levels p d s shape r room h e a = (r, at_again (region_named settings) levels p d shape r room (shape_again p.count d shape h) e, a)
+read_by settings slots levels p d s shape r room h e a =
+    (r, at_again (region_named settings) levels p d shape r room (shape_again p.count d shape h) e, a)
 
 -- a step that is spelled is read
-step_spelled : (settings : Configuration) (slots : List (List ℕ)) → Rises slots → AreNames slots → (s : Step) (levels : ℕ) (p : Progress) (d : Data) → AreNames p.names → AreIn slots p.names → p.count < 4096 → SpellsStep settings slots d s → IsReadAgain settings slots (suc levels) p d (step s)
-step_spelled settings slots up are (fix k i) levels p d names within room (keys, (slot, at, there), (name, held, named)) =
+step_spelled : (settings : Configuration) (slots : List (List ℕ)) → Rises slots → AreNames slots
+    → (s : Step) (levels : ℕ) (p : Progress) (d : Data) → AreNames p.names → AreIn slots p.names → p.count < 4096
+    → SpellsStep settings slots d s → IsReadAgain settings slots (suc levels) p d (step s)
+step_spelled settings slots up are (fix k i) levels p d names within room
+    (keys, (slot, at, there), (name, held, named)) =
     let (u, is, a) = slot_read slots up are p slot k names within there in
     let form = are.form slot (at_has slots k slot there) in
     let region = region_named settings in
-    read_by settings slots levels p d (step (fix k i)) (fix_shape slot name) (u.0, step (fix u.1 i)) room (keys, at, held)
-    (fix_to region (statement_at region levels) p.count (next p) slot name (u.0, step (fix u.1 i)) (fix_again region p.count (next p) slot name i u form named is))
+    read_by settings slots levels p d (step (fix k i)) (fix_shape slot name) (u.0, step (fix u.1 i)) room
+    (keys, at, held)
+    (fix_to region (statement_at region levels) p.count (next p) slot name (u.0, step (fix u.1 i))
+    (fix_again region p.count (next p) slot name i u form named is))
     (step_again slots p slot k u (fix u.1 i) a (λ f e. ap (λ (j : ℕ). fix j i) e))
 step_spelled settings slots up are (unfix k) levels p d names within room (keys, (slot, at, there)) =
     let (u, is, a) = slot_read slots up are p slot k names within there in
@@ -203,24 +267,32 @@ step_spelled settings slots up are (latch k m) levels p d names within room (key
     let (u, is, a) = slot_read slots up are p slot k names within there in
     let form = are.form slot (at_has slots k slot there) in
     let region = region_named settings in
-    read_by settings slots levels p d (step (latch k m)) (latch_shape slot m) (u.0, step (latch u.1 m)) room (keys, at, held)
-    (latch_to region (statement_at region levels) p.count (next p) slot u m (slot_again p.count (next p) slot u form is))
+    read_by settings slots levels p d (step (latch k m)) (latch_shape slot m) (u.0, step (latch u.1 m)) room
+    (keys, at, held)
+    (latch_to region (statement_at region levels) p.count (next p) slot u m
+    (slot_again p.count (next p) slot u form is))
     (step_again slots p slot k u (latch u.1 m) a (λ f e. ap (λ (j : ℕ). latch j m) e))
 step_spelled settings slots up are (unlatch k) levels p d names within room (keys, (slot, at, there)) =
     let (u, is, a) = slot_read slots up are p slot k names within there in
     let form = are.form slot (at_has slots k slot there) in
     let region = region_named settings in
     read_by settings slots levels p d (step (unlatch k)) (unlatch_shape slot) (u.0, step (unlatch u.1)) room (keys, at)
-    (unlatch_to region (statement_at region levels) p.count (next p) slot u (slot_again p.count (next p) slot u form is))
+    (unlatch_to region (statement_at region levels) p.count (next p) slot u
+    (slot_again p.count (next p) slot u form is))
     (step_again slots p slot k u (unlatch u.1) a (λ f e. ap unlatch e))
 
 -- a loop of a body that is read, and a choice of such branches
-loop_again : (settings : Configuration) (slots : List (List ℕ)) (levels n : ℕ) (b : Sequence) (p : Progress) (d : Data) (ds : Items) (r : Progress × Sequence) → p.count < 4096 → 1 ≤ n → n ≤ 65535 → not (count_of ds == 0) ≡ true → SpellsShape d (loop_shape n ds)
-    → sequence_from (statement_at (region_named settings) levels) done (next p) ds ≡ Ok r → AgainSequence slots done (next p) b r → IsReadAgain settings slots (suc levels) p d (loop n b)
+loop_again : (settings : Configuration) (slots : List (List ℕ)) (levels n : ℕ) (b : Sequence) (p : Progress) (d : Data)
+    (ds : Items) (r : Progress × Sequence) → p.count < 4096 → 1 ≤ n → n ≤ 65535 → not (count_of ds == 0) ≡ true
+    → SpellsShape d (loop_shape n ds)
+    → sequence_from (statement_at (region_named settings) levels) done (next p) ds ≡ Ok r
+    → AgainSequence slots done (next p) b r → IsReadAgain settings slots (suc levels) p d (loop n b)
 loop_again settings slots levels n b p d ds r room low high some h is a =
     let region = region_named settings in
-    let range = and_from (nat_le 1 n && nat_le n 65535) (not (count_of ds == 0)) (range_again 1 65535 n low high) some in
-    read_by settings slots levels p d (loop n b) (loop_shape n ds) (r.0, loop n r.1) room h (loop_to region (statement_at region levels) p.count (next p) n ds r range is) (record {
+    let range =
+    and_from (nat_le 1 n && nat_le n 65535) (not (count_of ds == 0)) (range_again 1 65535 n low high) some in
+    read_by settings slots levels p d (loop n b) (loop_shape n ds) (r.0, loop n r.1) room h
+    (loop_to region (statement_at region levels) p.count (next p) n ds r range is) (record {
       grows = a.grows;
       names = a.names;
       within = a.within;
@@ -228,11 +300,16 @@ loop_again settings slots levels n b p d ds r room low high some h is a =
       same = λ names ext. ap (loop n) (a.same names ext);
     })
 
-choice_again : (settings : Configuration) (slots : List (List ℕ)) (levels : ℕ) (bs : Alternatives) (p : Progress) (d : Data) (ds : Items) (r : Progress × Alternatives) → p.count < 4096 → 1 ≤ count_of ds → count_of ds ≤ 16 → SpellsShape d (choice_shape ds)
-    → alternatives_from (statement_at (region_named settings) levels) none (next p) ds ≡ Ok r → AgainBranches slots none (next p) bs r → IsReadAgain settings slots (suc levels) p d (choice bs)
+choice_again : (settings : Configuration) (slots : List (List ℕ)) (levels : ℕ) (bs : Alternatives) (p : Progress)
+    (d : Data) (ds : Items) (r : Progress × Alternatives) → p.count < 4096 → 1 ≤ count_of ds → count_of ds ≤ 16
+    → SpellsShape d (choice_shape ds)
+    → alternatives_from (statement_at (region_named settings) levels) none (next p) ds ≡ Ok r
+    → AgainBranches slots none (next p) bs r → IsReadAgain settings slots (suc levels) p d (choice bs)
 choice_again settings slots levels bs p d ds r room low high h is a =
     let region = region_named settings in
-    read_by settings slots levels p d (choice bs) (choice_shape ds) (r.0, choice r.1) room h (choice_to region (statement_at region levels) p.count (next p) ds r (range_again 1 16 (count_of ds) low high) is) (record {
+    read_by settings slots levels p d (choice bs) (choice_shape ds) (r.0, choice r.1) room h
+    (choice_to region (statement_at region levels) p.count (next p) ds r (range_again 1 16 (count_of ds) low high)
+    is) (record {
       grows = a.grows;
       names = a.names;
       within = a.within;
@@ -241,7 +318,9 @@ choice_again settings slots levels bs p d ds r room low high h is a =
     })
 
 -- one statement more, and one branch more
-follow_again : (slots : List (List ℕ)) (earlier : Sequence) (p : Progress) (s : Statement) (b : Sequence) (r : Progress × Statement) (all : Progress × Sequence) → AgainStatement slots p s r → AgainSequence slots (followed_by earlier r.1) r.0 b all → AgainSequence slots earlier p (andthen s b) all
+follow_again : (slots : List (List ℕ)) (earlier : Sequence) (p : Progress) (s : Statement) (b : Sequence)
+    (r : Progress × Statement) (all : Progress × Sequence) → AgainStatement slots p s r
+    → AgainSequence slots (followed_by earlier r.1) r.0 b all → AgainSequence slots earlier p (andthen s b) all
 follow_again slots earlier p s b r all a c = record {
   grows = λ j n e. c.grows j n (a.grows j n e);
   names = c.names;
@@ -249,10 +328,15 @@ follow_again slots earlier p s b r all a c = record {
   count = omega (arith, a.count, c.count);
   same = λ names ext.
       let new : ℕ → ℕ = λ k. place_in slots names k in
-      c.same names ext ∙ ap (λ (x : Sequence). joined x b) (numbered_follow new earlier r.1 ∙ ap (λ (x : Statement). followed_by (numbered new earlier) x) (a.same names (λ j n e. ext j n (c.grows j n e)))) ∙ joined_follow (numbered new earlier) s b;
+      c.same names ext ∙ ap (λ (x : Sequence). joined x b)
+      (numbered_follow new earlier r.1
+      ∙ ap (λ (x : Statement). followed_by (numbered new earlier) x)
+      (a.same names (λ j n e. ext j n (c.grows j n e)))) ∙ joined_follow (numbered new earlier) s b;
 }
 
-branch_again : (slots : List (List ℕ)) (earlier : Alternatives) (p : Progress) (b : Sequence) (bs : Alternatives) (r : Progress × Sequence) (all : Progress × Alternatives) → AgainSequence slots done p b r → AgainBranches slots (with_branch earlier r.1) r.0 bs all → AgainBranches slots earlier p (either b bs) all
+branch_again : (slots : List (List ℕ)) (earlier : Alternatives) (p : Progress) (b : Sequence) (bs : Alternatives)
+    (r : Progress × Sequence) (all : Progress × Alternatives) → AgainSequence slots done p b r
+    → AgainBranches slots (with_branch earlier r.1) r.0 bs all → AgainBranches slots earlier p (either b bs) all
 branch_again slots earlier p b bs r all a c = record {
   grows = λ j n e. c.grows j n (a.grows j n e);
   names = c.names;
@@ -260,37 +344,67 @@ branch_again slots earlier p b bs r all a c = record {
   count = omega (arith, a.count, c.count);
   same = λ names ext.
       let new : ℕ → ℕ = λ k. place_in slots names k in
-      c.same names ext ∙ ap (λ (x : Alternatives). gathered x bs) (numbered_with new earlier r.1 ∙ ap (λ (x : Sequence). with_branch (numbered_branches new earlier) x) (a.same names (λ j n e. ext j n (c.grows j n e)))) ∙ gathered_with (numbered_branches new earlier) b bs;
+      c.same names ext ∙ ap (λ (x : Alternatives). gathered x bs)
+      (numbered_with new earlier r.1 ∙ ap (λ (x : Sequence). with_branch (numbered_branches new earlier) x)
+      (a.same names (λ j n e. ext j n (c.grows j n e)))) ∙ gathered_with (numbered_branches new earlier) b bs;
 }
 
 -- ---- statements one after another
 
-sequence_step : (read_one : Progress → Data → Result (Progress × Statement) PlanError) (earlier : Sequence) (p : Progress) (d : Data) (ds : Items) (r : Progress × Statement) (all : Progress × Sequence) → read_one p d ≡ Ok r → sequence_from read_one (followed_by earlier r.1) r.0 ds ≡ Ok all → sequence_from read_one earlier p (item d ds) ≡ Ok all
-sequence_step read_one earlier p d ds r all is more = ap (λ (x : Result (Progress × Statement) PlanError). x >>= λ y. sequence_from read_one (followed_by earlier y.1) y.0 ds) is ∙ more
+sequence_step : (read_one : Progress → Data → Result (Progress × Statement) PlanError) (earlier : Sequence)
+    (p : Progress) (d : Data) (ds : Items) (r : Progress × Statement) (all : Progress × Sequence) → read_one p d ≡ Ok r
+    → sequence_from read_one (followed_by earlier r.1) r.0 ds ≡ Ok all
+    → sequence_from read_one earlier p (item d ds) ≡ Ok all
+sequence_step read_one earlier p d ds r all is more =
+    ap (λ (x : Result (Progress × Statement) PlanError). x >>= λ y. sequence_from read_one (followed_by earlier y.1) y.0
+    ds) is ∙ more
 
-branches_step : (read_one : Progress → Data → Result (Progress × Statement) PlanError) (earlier : Alternatives) (p : Progress) (d : Data) (es ds : Items) (r : Progress × Sequence) (all : Progress × Alternatives) → d ≡ array es → sequence_from read_one done p es ≡ Ok r → alternatives_from read_one (with_branch earlier r.1) r.0 ds ≡ Ok all
+branches_step : (read_one : Progress → Data → Result (Progress × Statement) PlanError) (earlier : Alternatives)
+    (p : Progress) (d : Data) (es ds : Items) (r : Progress × Sequence) (all : Progress × Alternatives) → d ≡ array es
+    → sequence_from read_one done p es ≡ Ok r → alternatives_from read_one (with_branch earlier r.1) r.0 ds ≡ Ok all
     → alternatives_from read_one earlier p (item d ds) ≡ Ok all
 branches_step read_one earlier p d es ds r all listed is more =
-    let here : sequence_from read_one done p (items_in d) ≡ Ok r = ap (λ (x : Data). sequence_from read_one done p (items_in x)) listed ∙ is in
-    ap (λ (x : Result (Progress × Sequence) PlanError). x >>= λ y. alternatives_from read_one (with_branch earlier y.1) y.0 ds) here ∙ more
+    let here : sequence_from read_one done p (items_in d) ≡ Ok r =
+    ap (λ (x : Data). sequence_from read_one done p (items_in x)) listed ∙ is in
+    ap (λ (x : Result (Progress × Sequence) PlanError). x >>= λ y. alternatives_from read_one (with_branch earlier y.1)
+    y.0 ds) here ∙ more
 
 mutual
-  statement_again : (settings : Configuration) (slots : List (List ℕ)) → Rises slots → AreNames slots → (s : Statement) (levels : ℕ) (p : Progress) (d : Data) → AreNames p.names → AreIn slots p.names → p.count + statement_count s ≤ 4096
-      → IsStatement (length slots) (length settings.regions) s → statement_depth s ≤ levels → SpellsStatement settings slots d s → IsReadAgain settings slots levels p d s
+  statement_again : (settings : Configuration) (slots : List (List ℕ)) → Rises slots → AreNames slots
+      → (s : Statement) (levels : ℕ) (p : Progress) (d : Data) → AreNames p.names → AreIn slots p.names
+      → p.count + statement_count s ≤ 4096
+      → IsStatement (length slots) (length settings.regions) s → statement_depth s ≤ levels
+      → SpellsStatement settings slots d s → IsReadAgain settings slots levels p d s
   statement_again settings slots up are (step s) zero p d names within most parts deep h = absurd (omega (arith, deep))
-  statement_again settings slots up are (step s) (suc levels) p d names within most parts deep h = step_spelled settings slots up are s levels p d names within (omega (arith, most)) h
-  statement_again settings slots up are (loop n b) zero p d names within most parts deep h = absurd (omega (arith, deep))
-  statement_again settings slots up are (loop n b) (suc levels) p d names within most (low, high, some, parts) deep (keys, count, (ds, body, h)) =
-      let (r, is, a) = sequence_again settings slots up are b levels ds done (next p) names within (omega (arith, most)) parts (omega (arith, deep)) h in
-      loop_again settings slots levels n b p d ds r (omega (arith, most)) low high (some_again settings slots ds b h some) (keys, count, body) is a
-  statement_again settings slots up are (choice bs) zero p d names within most parts deep h = absurd (omega (arith, deep))
-  statement_again settings slots up are (choice bs) (suc levels) p d names within most (low, high, parts) deep (keys, (ds, body, h)) =
-      let (r, is, a) = branches_again settings slots up are bs levels ds none (next p) names within (omega (arith, most)) parts (omega (arith, deep)) h in
+  statement_again settings slots up are (step s) (suc levels) p d names within most parts deep h =
+      step_spelled settings slots up are s levels p d names within (omega (arith, most)) h
+  statement_again settings slots up are (loop n b) zero p d names within most parts deep h =
+      absurd (omega (arith, deep))
+  statement_again settings slots up are (loop n b) (suc levels) p d names within most (low, high, some, parts) deep
+      (keys, count, (ds, body, h)) =
+      let (r, is, a) =
+      sequence_again settings slots up are b levels ds done (next p) names within (omega (arith, most)) parts
+      (omega (arith, deep)) h in
+      loop_again settings slots levels n b p d ds r (omega (arith, most)) low high
+      (some_again settings slots ds b h some) (keys, count, body) is a
+  statement_again settings slots up are (choice bs) zero p d names within most parts deep h =
+      absurd (omega (arith, deep))
+  statement_again settings slots up are (choice bs) (suc levels) p d names within most (low, high, parts) deep
+      (keys, (ds, body, h)) =
+      let (r, is, a) =
+      branches_again settings slots up are bs levels ds none (next p) names within (omega (arith, most)) parts
+      (omega (arith, deep)) h in
       let counted = branches_counted settings slots ds bs h in
-      choice_again settings slots levels bs p d ds r (omega (arith, most)) (omega (arith, low, counted)) (omega (arith, high, counted)) (keys, body, lists_again settings slots ds bs h) is a
+      choice_again settings slots levels bs p d ds r (omega (arith, most)) (omega (arith, low, counted))
+      (omega (arith, high, counted)) (keys, body, lists_again settings slots ds bs h) is a
 
-  pub sequence_again : (settings : Configuration) (slots : List (List ℕ)) → Rises slots → AreNames slots → (b : Sequence) (levels : ℕ) (ds : Items) (earlier : Sequence) (p : Progress) → AreNames p.names → AreIn slots p.names → p.count + sequence_count b ≤ 4096
-      → IsSequence (length slots) (length settings.regions) b → sequence_depth b ≤ levels → SpellsSequence settings slots ds b → (r : Progress × Sequence) × (sequence_from (statement_at (region_named settings) levels) earlier p ds ≡ Ok r) × AgainSequence slots earlier p b r
+  pub sequence_again : (settings : Configuration) (slots : List (List ℕ)) → Rises slots → AreNames slots
+      → (b : Sequence) (levels : ℕ) (ds : Items) (earlier : Sequence) (p : Progress) → AreNames p.names
+      → AreIn slots p.names → p.count + sequence_count b ≤ 4096
+      → IsSequence (length slots) (length settings.regions) b → sequence_depth b ≤ levels
+      → SpellsSequence settings slots ds b
+      → (r : Progress × Sequence) × (sequence_from (statement_at (region_named settings) levels) earlier p ds
+      ≡ Ok r) × AgainSequence slots earlier p b r
   sequence_again settings slots up are done levels no_items earlier p names within most parts deep h = (
     (p, earlier),
     refl,
@@ -303,14 +417,27 @@ mutual
     },
   )
   sequence_again settings slots up are (andthen s b) levels (item d ds) earlier p names within most parts deep h =
-      let (r, is, a) = statement_again settings slots up are s levels p d names within (omega (arith, most)) parts.0 (omega (arith, deep)) h.0 in
-      let (all, more, c) = sequence_again settings slots up are b levels ds (followed_by earlier r.1) r.0 a.names a.within (omega (arith, most, a.count)) parts.1 (omega (arith, deep)) h.1 in
-      (all, sequence_step (statement_at (region_named settings) levels) earlier p d ds r all is more, follow_again slots earlier p s b r all a c)
+      let (r, is, a) =
+      statement_again settings slots up are s levels p d names within (omega (arith, most)) parts.0
+      (omega (arith, deep)) h.0 in
+      let (all, more, c) =
+      sequence_again settings slots up are b levels ds (followed_by earlier r.1) r.0 a.names a.within
+      (omega (arith, most, a.count)) parts.1 (omega (arith, deep)) h.1 in (
+        all,
+        sequence_step (statement_at (region_named settings) levels) earlier p d ds r all is more,
+        follow_again slots earlier p s b r all a c,
+      )
   sequence_again settings slots up are done levels (item d ds) earlier p names within most parts deep h = absurd h
   sequence_again settings slots up are (andthen s b) levels no_items earlier p names within most parts deep h = absurd h
 
-  branches_again : (settings : Configuration) (slots : List (List ℕ)) → Rises slots → AreNames slots → (bs : Alternatives) (levels : ℕ) (ds : Items) (earlier : Alternatives) (p : Progress) → AreNames p.names → AreIn slots p.names → p.count + alternatives_count bs ≤ 4096
-      → AreAlternatives (length slots) (length settings.regions) bs → alternatives_depth bs ≤ levels → SpellsAlternatives settings slots ds bs → (r : Progress × Alternatives) × (alternatives_from (statement_at (region_named settings) levels) earlier p ds ≡ Ok r) × AgainBranches slots earlier p bs r
+  branches_again : (settings : Configuration) (slots : List (List ℕ)) → Rises slots → AreNames slots
+      → (bs : Alternatives) (levels : ℕ) (ds : Items) (earlier : Alternatives) (p : Progress) → AreNames p.names
+      → AreIn slots p.names → p.count + alternatives_count bs ≤ 4096
+      → AreAlternatives (length slots) (length settings.regions) bs → alternatives_depth bs ≤ levels
+      → SpellsAlternatives settings slots ds bs
+      → (r : Progress × Alternatives)
+      × (alternatives_from (statement_at (region_named settings) levels) earlier p ds ≡ Ok r)
+      × AgainBranches slots earlier p bs r
   branches_again settings slots up are none levels no_items earlier p names within most parts deep h = (
     (p, earlier),
     refl,
@@ -322,9 +449,17 @@ mutual
       same = λ names ext. sym (gathered_none (numbered_branches (λ k. place_in slots names k) earlier));
     },
   )
-  branches_again settings slots up are (either b bs) levels (item d ds) earlier p names within most parts deep ((es, listed, first), rest) =
-      let (r, is, a) = sequence_again settings slots up are b levels es done p names within (omega (arith, most)) parts.0 (omega (arith, deep)) first in
-      let (all, more, c) = branches_again settings slots up are bs levels ds (with_branch earlier r.1) r.0 a.names a.within (omega (arith, most, a.count)) parts.1 (omega (arith, deep)) rest in
-      (all, branches_step (statement_at (region_named settings) levels) earlier p d es ds r all listed is more, branch_again slots earlier p b bs r all a c)
+  branches_again settings slots up are (either b bs) levels (item d ds) earlier p names within most parts deep
+      ((es, listed, first), rest) =
+      let (r, is, a) =
+      sequence_again settings slots up are b levels es done p names within (omega (arith, most)) parts.0
+      (omega (arith, deep)) first in
+      let (all, more, c) =
+      branches_again settings slots up are bs levels ds (with_branch earlier r.1) r.0 a.names a.within
+      (omega (arith, most, a.count)) parts.1 (omega (arith, deep)) rest in (
+        all,
+        branches_step (statement_at (region_named settings) levels) earlier p d es ds r all listed is more,
+        branch_again slots earlier p b bs r all a c,
+      )
   branches_again settings slots up are none levels (item d ds) earlier p names within most parts deep h = absurd h
   branches_again settings slots up are (either b bs) levels no_items earlier p names within most parts deep h = absurd h

@@ -1,5 +1,8 @@
--- What the reading of statements gives: how the progress grows, that the statements keep the rules, and what they are spelled by.
-use Rattle.std.proofs.Common.{◌≡◌, ◌⊎◌, inl, inr, ℕ, zero, suc, ◌+◌, ◌<◌, ◌≤◌, Bool, true, not, ◌&&◌, ◌==◌, nat_le, nat_lt, IsTrue, List, [], ◌∷◌, ◌++◌, length, Option, Some, None, is_some, Result, Ok, codes, refl, sym, ap, subst, ◌∙◌, arith}
+-- What the reading of statements gives: how the progress grows, that the statements keep the rules, and what they are
+-- spelled by.
+use Rattle.std.proofs.Common.{◌≡◌, ◌⊎◌, inl, inr, ℕ, zero, suc, ◌+◌, ◌<◌, ◌≤◌, Bool, true, not, ◌&&◌, ◌==◌, nat_le}
+use Rattle.std.proofs.Common.{nat_lt, IsTrue, List, [], ◌∷◌, ◌++◌, length, Option, Some, None, is_some, Result, Ok}
+use Rattle.std.proofs.Common.{codes, refl, sym, ap, subst, ◌∙◌, arith}
 use Rattle.std.specs.Option.{ok_or}
 use Rattle.std.specs.List.{slice_get}
 use Rattle.std.specs.Str.{bytes_eq}
@@ -12,19 +15,25 @@ use Rattle.serde_json.specs.Find.{as_array}
 use Rattle.pp_settings.specs.Settings.{NamedRegion, Configuration, region_named}
 use Rattle.pp_plan.specs.declared.error.PlanError.{PlanError}
 use Rattle.pp_plan.specs.declared.error.PlanError.TheVariants.{BadName, NoSuchRegion, Range, TooMany}
-use Rattle.pp_plan.specs.Tree.{Step, fix, unfix, latch, unlatch, Statement, step, loop, choice, Sequence, done, andthen, Alternatives, none, either, statement_count, sequence_count, alternatives_count, statement_depth, sequence_depth, alternatives_depth, branch_count}
+use Rattle.pp_plan.specs.Tree.{Step, fix, unfix, latch, unlatch, Statement, step, loop, choice, Sequence, done, andthen}
+use Rattle.pp_plan.specs.Tree.{Alternatives, none, either, statement_count, sequence_count, alternatives_count}
+use Rattle.pp_plan.specs.Tree.{statement_depth, sequence_depth, alternatives_depth, branch_count}
 use Rattle.pp_plan.specs.Names.{is_slot_name}
 use Rattle.pp_plan.specs.Rules.{IsSome, IsStep, IsStatement, IsSequence, AreAlternatives}
 use Rattle.pp_plan.specs.Progress.{Progress}
-use Rattle.pp_plan.specs.Steps.{must}
+use Rattle.pp_text.specs.Steps.{must}
 use Rattle.pp_plan.specs.Numbering.{place_of}
-use Rattle.pp_plan.specs.Shapes.{Shape, fix_shape, unfix_shape, latch_shape, unlatch_shape, loop_shape, choice_shape, shape_of, are_lists}
-use Rattle.pp_plan.specs.Reading.{begun, used_at, used, slot_of, followed_by, with_branch, sequence_from, alternatives_from, items_in, count_of, fix_by, statement_by, statement_at}
+use Rattle.pp_plan.specs.Shapes.{Shape, fix_shape, unfix_shape, latch_shape, unlatch_shape, loop_shape, choice_shape}
+use Rattle.pp_plan.specs.Shapes.{shape_of, are_lists}
+use Rattle.pp_plan.specs.Reading.{begun, used_at, used, slot_of, followed_by, with_branch, sequence_from}
+use Rattle.pp_plan.specs.Reading.{alternatives_from, items_in, count_of, fix_by, statement_by, statement_at}
 use Rattle.pp_plan.specs.Spelling.{HoldsSlot, SpellsStep, SpellsStatement, SpellsSequence, SpellsAlternatives}
 use Rattle.pp_plan.specs.Rules.{IsUsedBy, IsUsed, IsUsedInBranch}
 use Rattle.pp_plan.specs.Faults.{SpellsShape}
-use Rattle.pp_plan.proofs.Places.{Has, has_push, Extends, extends_push, push_at, push_cases, extends_length, AreApart, place_some, place_none}
-use Rattle.pp_plan.proofs.Forms.{bind_ok, must_ok, ok_or_ok, ok_is, shape_found}
+use Rattle.pp_plan.proofs.Places.{Has, has_push, Extends, extends_push, push_at, push_cases, extends_length, AreApart}
+use Rattle.pp_plan.proofs.Places.{place_some, place_none}
+use Rattle.pp_text.proofs.Steps.{bind_ok, must_ok, ok_or_ok, ok_is}
+use Rattle.pp_plan.proofs.Forms.{shape_found}
 
 -- ---- slot names
 
@@ -45,7 +54,8 @@ pub record SlotUsed (p : Progress) (name : List ℕ) (u : Progress × ℕ) : Typ
 pub room_is : (n m : ℕ) → nat_lt n m ≡ true → n < m
 room_is n m e = grind (arith, nat_tests)
 
-pub push_apart : (xs : List (List ℕ)) (y : List ℕ) → AreApart xs → ((k : ℕ) → slice_get xs k ≡ Some y → ⊥) → AreApart (xs ++ y ∷ [])
+pub push_apart : (xs : List (List ℕ)) (y : List ℕ) → AreApart xs → ((k : ℕ) → slice_get xs k ≡ Some y → ⊥)
+    → AreApart (xs ++ y ∷ [])
 push_apart xs y apart new i j n a b =
     elim (push_cases xs y i n a) as (λ _. i ≡ j) [
       | inl p ↦ elim (push_cases xs y j n b) as (λ _. i ≡ j) [
@@ -62,14 +72,18 @@ pub longer : (xs : List (List ℕ)) (y : List ℕ) → length (xs ++ y ∷ []) �
 longer [] y = refl
 longer (x ∷ xs) y = ap suc (longer xs y)
 
-push_names : (xs : List (List ℕ)) (y : List ℕ) → AreNames xs → length xs < 32 → is_slot_name y ≡ true → place_of xs y ≡ None → AreNames (xs ++ y ∷ [])
+push_names : (xs : List (List ℕ)) (y : List ℕ) → AreNames xs → length xs < 32 → is_slot_name y ≡ true
+    → place_of xs y ≡ None → AreNames (xs ++ y ∷ [])
 push_names xs y are room form new = record {
   few = let l = longer xs y in omega (arith, room, l);
-  form = λ n h. elim (has_push xs y n h) as (λ _. IsTrue (is_slot_name n)) [ inl old ↦ are.form n old | inr e ↦ subst (λ (z : List ℕ). IsTrue (is_slot_name z)) e form ];
+  form =
+      λ n h. elim (has_push xs y n h) as (λ _. IsTrue (is_slot_name n))
+      [ inl old ↦ are.form n old | inr e ↦ subst (λ (z : List ℕ). IsTrue (is_slot_name z)) e form ];
   apart = push_apart xs y are.apart (place_none xs y new);
 }
 
-used_by : (o : Option ℕ) (n : ℕ) (p : Progress) (name : List ℕ) (u : Progress × ℕ) → place_of p.names name ≡ o → AreNames p.names → is_slot_name name ≡ true → used_at o n p name ≡ Ok u → SlotUsed p name u
+used_by : (o : Option ℕ) (n : ℕ) (p : Progress) (name : List ℕ) (u : Progress × ℕ) → place_of p.names name ≡ o
+    → AreNames p.names → is_slot_name name ≡ true → used_at o n p name ≡ Ok u → SlotUsed p name u
 used_by (Some k) n p name u is are form e =
     subst (λ (v : Progress × ℕ). SlotUsed p name v) (ok_is {A = Progress × ℕ} (p, k) u e) (record {
       grows = λ j m h. h;
@@ -83,17 +97,22 @@ used_by None n p name u is are form e =
     let made : Progress = record { names = p.names ++ name ∷ []; count = p.count } in
     subst (λ (v : Progress × ℕ). SlotUsed p name v) (ok_is {A = Progress × ℕ} (made, length p.names) u e1) (record {
       grows = extends_push p.names name;
-      names = push_names p.names name are (room_is _ _ (must_ok (nat_lt (length p.names) 32) (TooMany n) x room)) form is;
+      names =
+          push_names p.names name are (room_is _ _ (must_ok (nat_lt (length p.names) 32) (TooMany n) x room)) form is;
       count = refl;
       at = push_at p.names name;
-      new = λ j m h. elim (push_cases p.names name j m h) as (λ _. (slice_get p.names j ≡ Some m) ⊎ (length p.names ≡ j)) [ inl old ↦ inl old | inr q ↦ inr (sym q.0) ];
+      new =
+          λ j m h. elim (push_cases p.names name j m h) as (λ _. (slice_get p.names j ≡ Some m) ⊎ (length p.names ≡ j))
+          [ inl old ↦ inl old | inr q ↦ inr (sym q.0) ];
     })
 
-pub used_found : (n : ℕ) (p : Progress) (name : List ℕ) (u : Progress × ℕ) → AreNames p.names → is_slot_name name ≡ true → used n p name ≡ Ok u → SlotUsed p name u
+pub used_found : (n : ℕ) (p : Progress) (name : List ℕ) (u : Progress × ℕ) → AreNames p.names → is_slot_name name ≡ true
+    → used n p name ≡ Ok u → SlotUsed p name u
 unfolding used
 used_found n p name u are form e = used_by (place_of p.names name) n p name u refl are form e
 
-pub slot_found : (n : ℕ) (p : Progress) (name : List ℕ) (u : Progress × ℕ) → AreNames p.names → slot_of n p name ≡ Ok u → SlotUsed p name u
+pub slot_found : (n : ℕ) (p : Progress) (name : List ℕ) (u : Progress × ℕ) → AreNames p.names → slot_of n p name ≡ Ok u
+    → SlotUsed p name u
 unfolding slot_of
 slot_found n p name u are e =
     let (x, form, e1) = bind_ok (must (is_slot_name name) (BadName n)) _ u e in
@@ -101,7 +120,8 @@ slot_found n p name u are e =
 
 -- ---- statements
 
-pub record ReadStatement (settings : Configuration) (levels : ℕ) (p : Progress) (d : Data) (r : Progress × Statement) : Type 0 where
+pub record ReadStatement (settings : Configuration) (levels : ℕ) (p : Progress) (d : Data)
+    (r : Progress × Statement) : Type 0 where
   pub grows : Extends p.names r.0.names
   pub names : AreNames r.0.names
   pub count : r.0.count ≡ p.count + statement_count r.1
@@ -111,7 +131,8 @@ pub record ReadStatement (settings : Configuration) (levels : ℕ) (p : Progress
   pub spelled : SpellsStatement settings r.0.names d r.1
   pub used : (j : ℕ) (n : List ℕ) → slice_get r.0.names j ≡ Some n → (slice_get p.names j ≡ Some n) ⊎ IsUsedBy r.1 j
 
-pub record ReadSequence (settings : Configuration) (levels : ℕ) (p : Progress) (ds : Items) (r : Progress × Sequence) : Type 0 where
+pub record ReadSequence (settings : Configuration) (levels : ℕ) (p : Progress) (ds : Items)
+    (r : Progress × Sequence) : Type 0 where
   pub grows : Extends p.names r.0.names
   pub names : AreNames r.0.names
   pub count : r.0.count ≡ p.count + sequence_count r.1
@@ -121,7 +142,8 @@ pub record ReadSequence (settings : Configuration) (levels : ℕ) (p : Progress)
   pub spelled : SpellsSequence settings r.0.names ds r.1
   pub used : (j : ℕ) (n : List ℕ) → slice_get r.0.names j ≡ Some n → (slice_get p.names j ≡ Some n) ⊎ IsUsed r.1 j
 
-pub record ReadBranches (settings : Configuration) (levels : ℕ) (p : Progress) (ds : Items) (r : Progress × Alternatives) : Type 0 where
+pub record ReadBranches (settings : Configuration) (levels : ℕ) (p : Progress) (ds : Items)
+    (r : Progress × Alternatives) : Type 0 where
   pub grows : Extends p.names r.0.names
   pub names : AreNames r.0.names
   pub count : r.0.count ≡ p.count + alternatives_count r.1
@@ -129,7 +151,8 @@ pub record ReadBranches (settings : Configuration) (levels : ℕ) (p : Progress)
   pub parts : AreAlternatives (length r.0.names) (length settings.regions) r.1
   pub depth : alternatives_depth r.1 ≤ levels
   pub spelled : SpellsAlternatives settings r.0.names ds r.1
-  pub used : (j : ℕ) (n : List ℕ) → slice_get r.0.names j ≡ Some n → (slice_get p.names j ≡ Some n) ⊎ IsUsedInBranch r.1 j
+  pub used : (j : ℕ) (n : List ℕ) → slice_get r.0.names j ≡ Some n
+      → (slice_get p.names j ≡ Some n) ⊎ IsUsedInBranch r.1 j
 
 -- ---- what holds under some names holds under more
 
@@ -153,30 +176,39 @@ mutual
   wider_branches m n r h none a = tt
   wider_branches m n r h (either b bs) (a, c) = (wider_sequence m n r h b a, wider_branches m n r h bs c)
 
-kept_slot : (xs ys : List (List ℕ)) → Extends xs ys → (d : Data) (key : List ℕ) (k : ℕ) → HoldsSlot xs d key k → HoldsSlot ys d key k
+kept_slot : (xs ys : List (List ℕ)) → Extends xs ys → (d : Data) (key : List ℕ) (k : ℕ) → HoldsSlot xs d key k
+    → HoldsSlot ys d key k
 kept_slot xs ys h d key k (name, held, is) = (name, held, h k name is)
 
-kept_step : (settings : Configuration) (xs ys : List (List ℕ)) → Extends xs ys → (d : Data) (s : Step) → SpellsStep settings xs d s → SpellsStep settings ys d s
+kept_step : (settings : Configuration) (xs ys : List (List ℕ)) → Extends xs ys → (d : Data) (s : Step)
+    → SpellsStep settings xs d s → SpellsStep settings ys d s
 kept_step settings xs ys h d (fix k r) (a, b, c) = (a, kept_slot xs ys h d (codes "fix") k b, c)
 kept_step settings xs ys h d (unfix k) (a, b) = (a, kept_slot xs ys h d (codes "unfix") k b)
 kept_step settings xs ys h d (latch k m) (a, b, c) = (a, kept_slot xs ys h d (codes "latch") k b, c)
 kept_step settings xs ys h d (unlatch k) (a, b) = (a, kept_slot xs ys h d (codes "unlatch") k b)
 
 mutual
-  kept_statement : (settings : Configuration) (xs ys : List (List ℕ)) → Extends xs ys → (d : Data) (s : Statement) → SpellsStatement settings xs d s → SpellsStatement settings ys d s
+  kept_statement : (settings : Configuration) (xs ys : List (List ℕ)) → Extends xs ys → (d : Data) (s : Statement)
+      → SpellsStatement settings xs d s → SpellsStatement settings ys d s
   kept_statement settings xs ys h d (step s) a = kept_step settings xs ys h d s a
-  kept_statement settings xs ys h d (loop n b) (keys, count, body) = (keys, count, (body.0, body.1, kept_sequence settings xs ys h body.0 b body.2))
-  kept_statement settings xs ys h d (choice bs) (keys, body) = (keys, (body.0, body.1, kept_branches settings xs ys h body.0 bs body.2))
+  kept_statement settings xs ys h d (loop n b) (keys, count, body) =
+      (keys, count, (body.0, body.1, kept_sequence settings xs ys h body.0 b body.2))
+  kept_statement settings xs ys h d (choice bs) (keys, body) =
+      (keys, (body.0, body.1, kept_branches settings xs ys h body.0 bs body.2))
 
-  kept_sequence : (settings : Configuration) (xs ys : List (List ℕ)) → Extends xs ys → (ds : Items) (b : Sequence) → SpellsSequence settings xs ds b → SpellsSequence settings ys ds b
+  kept_sequence : (settings : Configuration) (xs ys : List (List ℕ)) → Extends xs ys → (ds : Items) (b : Sequence)
+      → SpellsSequence settings xs ds b → SpellsSequence settings ys ds b
   kept_sequence settings xs ys h no_items done a = tt
-  kept_sequence settings xs ys h (item d ds) (andthen s b) (a, c) = (kept_statement settings xs ys h d s a, kept_sequence settings xs ys h ds b c)
+  kept_sequence settings xs ys h (item d ds) (andthen s b) (a, c) =
+      (kept_statement settings xs ys h d s a, kept_sequence settings xs ys h ds b c)
   kept_sequence settings xs ys h no_items (andthen s b) a = absurd a
   kept_sequence settings xs ys h (item d ds) done a = absurd a
 
-  kept_branches : (settings : Configuration) (xs ys : List (List ℕ)) → Extends xs ys → (ds : Items) (bs : Alternatives) → SpellsAlternatives settings xs ds bs → SpellsAlternatives settings ys ds bs
+  kept_branches : (settings : Configuration) (xs ys : List (List ℕ)) → Extends xs ys → (ds : Items) (bs : Alternatives)
+      → SpellsAlternatives settings xs ds bs → SpellsAlternatives settings ys ds bs
   kept_branches settings xs ys h no_items none a = tt
-  kept_branches settings xs ys h (item d ds) (either b bs) (a, c) = ((a.0, a.1, kept_sequence settings xs ys h a.0 b a.2), kept_branches settings xs ys h ds bs c)
+  kept_branches settings xs ys h (item d ds) (either b bs) (a, c) =
+      ((a.0, a.1, kept_sequence settings xs ys h a.0 b a.2), kept_branches settings xs ys h ds bs c)
   kept_branches settings xs ys h no_items (either b bs) a = absurd a
   kept_branches settings xs ys h (item d ds) none a = absurd a
 
@@ -203,18 +235,24 @@ pub gathered_none : (bs : Alternatives) → gathered bs none ≡ bs
 gathered_none none = refl
 gathered_none (either b bs) = ap (either b) (gathered_none bs)
 
-pub gathered_with : (cs : Alternatives) (b : Sequence) (bs : Alternatives) → gathered (with_branch cs b) bs ≡ gathered cs (either b bs)
+pub gathered_with : (cs : Alternatives) (b : Sequence) (bs : Alternatives)
+    → gathered (with_branch cs b) bs ≡ gathered cs (either b bs)
 gathered_with none b bs = refl
 gathered_with (either a cs) b bs = ap (either a) (gathered_with cs b bs)
 
 -- a reader of one statement that gives what is to be proved
 abbrev Reads : Configuration → ℕ → (Progress → Data → Result (Progress × Statement) PlanError) → Type 0
-Reads settings levels read_one = (p : Progress) (d : Data) (r : Progress × Statement) → AreNames p.names → p.count ≤ 4096 → read_one p d ≡ Ok r → ReadStatement settings levels p d r
+Reads settings levels read_one = (p : Progress) (d : Data) (r : Progress × Statement) → AreNames p.names
+    → p.count ≤ 4096 → read_one p d ≡ Ok r → ReadStatement settings levels p d r
 
-pub sequence_found : (settings : Configuration) (levels : ℕ) (read_one : Progress → Data → Result (Progress × Statement) PlanError) → Reads settings levels read_one → (ds : Items) (earlier : Sequence) (p : Progress) (all : Progress × Sequence)
-    → AreNames p.names → p.count ≤ 4096 → sequence_from read_one earlier p ds ≡ Ok all → (b : Sequence) × (all.1 ≡ joined earlier b) × ReadSequence settings levels p ds (all.0, b)
+pub sequence_found : (settings : Configuration) (levels : ℕ)
+    (read_one : Progress → Data → Result (Progress × Statement) PlanError) → Reads settings levels read_one
+    → (ds : Items) (earlier : Sequence) (p : Progress) (all : Progress × Sequence)
+    → AreNames p.names → p.count ≤ 4096 → sequence_from read_one earlier p ds ≡ Ok all
+    → (b : Sequence) × (all.1 ≡ joined earlier b) × ReadSequence settings levels p ds (all.0, b)
 sequence_found settings levels read_one one no_items earlier p all are most e =
-    subst (λ (r : Progress × Sequence). (b : Sequence) × (r.1 ≡ joined earlier b) × ReadSequence settings levels p no_items (r.0, b)) (ok_is {A = Progress × Sequence} (p, earlier) all e) (
+    subst (λ (r : Progress × Sequence). (b : Sequence) × (r.1 ≡ joined earlier b)
+    × ReadSequence settings levels p no_items (r.0, b)) (ok_is {A = Progress × Sequence} (p, earlier) all e) (
       done,
       sym (joined_done earlier),
       record {
@@ -231,7 +269,8 @@ sequence_found settings levels read_one one no_items earlier p all are most e =
 sequence_found settings levels read_one one (item d ds) earlier p all are most e =
     let (r, first, e1) = bind_ok (read_one p d) _ all e in
     let s = one p d r are most first in
-    let (b, is, more) = sequence_found settings levels read_one one ds (followed_by earlier r.1) r.0 all s.names s.most e1 in (
+    let (b, is, more) =
+    sequence_found settings levels read_one one ds (followed_by earlier r.1) r.0 all s.names s.most e1 in (
       andthen r.1 b,
       is ∙ joined_follow earlier r.1 b,
       record {
@@ -242,10 +281,12 @@ sequence_found settings levels read_one one (item d ds) earlier p all are most e
         parts = (wider_statement _ _ _ (extends_length _ _ more.grows) r.1 s.parts, more.parts);
         depth = omega (arith, s.depth, more.depth);
         spelled = (kept_statement settings _ _ more.grows d r.1 s.spelled, more.spelled);
-        used = λ j n h. elim (more.used j n h) as (λ _. (slice_get p.names j ≡ Some n) ⊎ (IsUsedBy r.1 j ⊎ IsUsed b j)) [
-          | inl old ↦ elim (s.used j n old) as (λ _. (slice_get p.names j ≡ Some n) ⊎ (IsUsedBy r.1 j ⊎ IsUsed b j)) [ inl o ↦ inl o | inr u ↦ inr (inl u) ]
-          | inr u ↦ inr (inr u)
-        ];
+        used =
+            λ j n h. elim (more.used j n h) as (λ _. (slice_get p.names j ≡ Some n) ⊎ (IsUsedBy r.1 j ⊎ IsUsed b j)) [
+              | inl old ↦ elim (s.used j n old) as (λ _. (slice_get p.names j ≡ Some n) ⊎ (IsUsedBy r.1 j ⊎ IsUsed b j))
+                  [ inl o ↦ inl o | inr u ↦ inr (inl u) ]
+              | inr u ↦ inr (inr u)
+            ];
       },
     )
 
@@ -257,10 +298,14 @@ listed (number n) e = absurd (false≢true e)
 listed (string s) e = absurd (false≢true e)
 listed (object ms) e = absurd (false≢true e)
 
-pub branches_found : (settings : Configuration) (levels : ℕ) (read_one : Progress → Data → Result (Progress × Statement) PlanError) → Reads settings levels read_one → (ds : Items) (earlier : Alternatives) (p : Progress) (all : Progress × Alternatives)
-    → AreNames p.names → p.count ≤ 4096 → are_lists ds ≡ true → alternatives_from read_one earlier p ds ≡ Ok all → (bs : Alternatives) × (all.1 ≡ gathered earlier bs) × ReadBranches settings levels p ds (all.0, bs)
+pub branches_found : (settings : Configuration) (levels : ℕ)
+    (read_one : Progress → Data → Result (Progress × Statement) PlanError) → Reads settings levels read_one
+    → (ds : Items) (earlier : Alternatives) (p : Progress) (all : Progress × Alternatives)
+    → AreNames p.names → p.count ≤ 4096 → are_lists ds ≡ true → alternatives_from read_one earlier p ds ≡ Ok all
+    → (bs : Alternatives) × (all.1 ≡ gathered earlier bs) × ReadBranches settings levels p ds (all.0, bs)
 branches_found settings levels read_one one no_items earlier p all are most lists e =
-    subst (λ (r : Progress × Alternatives). (bs : Alternatives) × (r.1 ≡ gathered earlier bs) × ReadBranches settings levels p no_items (r.0, bs)) (ok_is {A = Progress × Alternatives} (p, earlier) all e) (
+    subst (λ (r : Progress × Alternatives). (bs : Alternatives) × (r.1 ≡ gathered earlier bs)
+    × ReadBranches settings levels p no_items (r.0, bs)) (ok_is {A = Progress × Alternatives} (p, earlier) all e) (
       none,
       sym (gathered_none earlier),
       record {
@@ -278,7 +323,8 @@ branches_found settings levels read_one one (item d ds) earlier p all are most l
     let (here, rest) = and_parts (is_some (as_array d)) (are_lists ds) lists in
     let (r, first, e1) = bind_ok (sequence_from read_one done p (items_in d)) _ all e in
     let (c, same, s) = sequence_found settings levels read_one one (items_in d) done p r are most first in
-    let (bs, is, more) = branches_found settings levels read_one one ds (with_branch earlier r.1) r.0 all s.names s.most rest e1 in (
+    let (bs, is, more) =
+    branches_found settings levels read_one one ds (with_branch earlier r.1) r.0 all s.names s.most rest e1 in (
       either c bs,
       is ∙ gathered_with earlier r.1 bs ∙ ap (λ (x : Sequence). gathered earlier (either x bs)) same,
       record {
@@ -288,21 +334,32 @@ branches_found settings levels read_one one (item d ds) earlier p all are most l
         most = more.most;
         parts = (wider_sequence _ _ _ (extends_length _ _ more.grows) c s.parts, more.parts);
         depth = omega (arith, s.depth, more.depth);
-        spelled = ((items_in d, listed d here, kept_sequence settings _ _ more.grows (items_in d) c s.spelled), more.spelled);
-        used = λ j n h. elim (more.used j n h) as (λ _. (slice_get p.names j ≡ Some n) ⊎ (IsUsed c j ⊎ IsUsedInBranch bs j)) [
-          | inl old ↦ elim (s.used j n old) as (λ _. (slice_get p.names j ≡ Some n) ⊎ (IsUsed c j ⊎ IsUsedInBranch bs j)) [ inl o ↦ inl o | inr u ↦ inr (inl u) ]
-          | inr u ↦ inr (inr u)
-        ];
+        spelled =
+            ((items_in d, listed d here, kept_sequence settings _ _ more.grows (items_in d) c s.spelled), more.spelled);
+        used =
+            λ j n h. elim (more.used j n h)
+            as (λ _. (slice_get p.names j ≡ Some n) ⊎ (IsUsed c j ⊎ IsUsedInBranch bs j)) [
+              | inl old ↦ elim (s.used j n old)
+                  as (λ _. (slice_get p.names j ≡ Some n) ⊎ (IsUsed c j ⊎ IsUsedInBranch bs j))
+                  [ inl o ↦ inl o | inr u ↦ inr (inl u) ]
+              | inr u ↦ inr (inr u)
+            ];
       },
     )
 
 -- a whole body, and all branches
-pub whole_found : (settings : Configuration) (levels : ℕ) (read_one : Progress → Data → Result (Progress × Statement) PlanError) → Reads settings levels read_one → (ds : Items) (p : Progress) (r : Progress × Sequence) → AreNames p.names → p.count ≤ 4096 → sequence_from read_one done p ds ≡ Ok r → ReadSequence settings levels p ds r
+pub whole_found : (settings : Configuration) (levels : ℕ)
+    (read_one : Progress → Data → Result (Progress × Statement) PlanError) → Reads settings levels read_one
+    → (ds : Items) (p : Progress) (r : Progress × Sequence) → AreNames p.names → p.count ≤ 4096
+    → sequence_from read_one done p ds ≡ Ok r → ReadSequence settings levels p ds r
 whole_found settings levels read_one one ds p r are most e =
     let (b, same, s) = sequence_found settings levels read_one one ds done p r are most e in
     subst (λ (x : Sequence). ReadSequence settings levels p ds (r.0, x)) (sym same) s
 
-all_found : (settings : Configuration) (levels : ℕ) (read_one : Progress → Data → Result (Progress × Statement) PlanError) → Reads settings levels read_one → (ds : Items) (p : Progress) (r : Progress × Alternatives) → AreNames p.names → p.count ≤ 4096 → are_lists ds ≡ true → alternatives_from read_one none p ds ≡ Ok r → ReadBranches settings levels p ds r
+all_found : (settings : Configuration) (levels : ℕ)
+    (read_one : Progress → Data → Result (Progress × Statement) PlanError) → Reads settings levels read_one
+    → (ds : Items) (p : Progress) (r : Progress × Alternatives) → AreNames p.names → p.count ≤ 4096
+    → are_lists ds ≡ true → alternatives_from read_one none p ds ≡ Ok r → ReadBranches settings levels p ds r
 all_found settings levels read_one one ds p r are most lists e =
     let (bs, same, s) = branches_found settings levels read_one one ds none p r are most lists e in
     subst (λ (x : Alternatives). ReadBranches settings levels p ds (r.0, x)) (sym same) s
@@ -318,7 +375,9 @@ begun_found p q e =
     let (x, room, e1) = bind_ok (must (nat_lt p.count 4096) (TooMany p.count)) _ q e in
     (room_is _ _ (must_ok (nat_lt p.count 4096) (TooMany p.count) x room), ok_is {A = Progress} (next p) q e1)
 
-step_read : (settings : Configuration) (levels : ℕ) (p : Progress) (d : Data) (u : Progress × ℕ) (name : List ℕ) (s : Step) → p.count < 4096 → SlotUsed (next p) name u → IsStep (length u.0.names) (length settings.regions) s → SpellsStep settings u.0.names d s
+step_read : (settings : Configuration) (levels : ℕ) (p : Progress) (d : Data) (u : Progress × ℕ) (name : List ℕ)
+    (s : Step) → p.count < 4096 → SlotUsed (next p) name u → IsStep (length u.0.names) (length settings.regions) s
+    → SpellsStep settings u.0.names d s
     → ((j : ℕ) → u.1 ≡ j → IsUsedBy (step s) j) → ReadStatement settings (suc levels) p d (u.0, step s)
 step_read settings levels p d u name s room is parts spelled uses = record {
   grows = is.grows;
@@ -328,19 +387,27 @@ step_read settings levels p d u name s room is parts spelled uses = record {
   parts = parts;
   depth = omega arith;
   spelled = spelled;
-  used = λ j n h. elim (is.new j n h) as (λ _. (slice_get p.names j ≡ Some n) ⊎ IsUsedBy (step s) j) [ inl old ↦ inl old | inr e ↦ inr (uses j e) ];
+  used =
+      λ j n h. elim (is.new j n h) as (λ _. (slice_get p.names j ≡ Some n) ⊎ IsUsedBy (step s) j)
+      [ inl old ↦ inl old | inr e ↦ inr (uses j e) ];
 }
 
-region_within : (settings : Configuration) (name : List ℕ) (i : ℕ) → region_named settings name ≡ Some i → i < length settings.regions
+region_within : (settings : Configuration) (name : List ℕ) (i : ℕ) → region_named settings name ≡ Some i
+    → i < length settings.regions
 region_within settings name i e =
     let nameless : NamedRegion = record { name = []; extent = record { first = 0; count = 0; class = 0 } } in
     (position-Some (λ (r : NamedRegion). bytes_eq r.name name) settings.regions i nameless e).0
 
 -- a reader's answer is the statement that was made
-answered : (settings : Configuration) (levels : ℕ) (p : Progress) (d : Data) (r y : Progress × Statement) → ◌≡◌ {A = Result (Progress × Statement) PlanError} (Ok r) (Ok y) → ReadStatement settings levels p d r → ReadStatement settings levels p d y
-answered settings levels p d r y e h = subst (λ (x : Progress × Statement). ReadStatement settings levels p d x) (ok_is r y e) h
+answered : (settings : Configuration) (levels : ℕ) (p : Progress) (d : Data) (r y : Progress × Statement)
+    → ◌≡◌ {A = Result (Progress × Statement) PlanError} (Ok r) (Ok y) → ReadStatement settings levels p d r
+    → ReadStatement settings levels p d y
+answered settings levels p d r y e h =
+    subst (λ (x : Progress × Statement). ReadStatement settings levels p d x) (ok_is r y e) h
 
-fix_found : (settings : Configuration) (levels n : ℕ) (p : Progress) (d : Data) (slot name : List ℕ) (r : Progress × Statement) → AreNames p.names → p.count < 4096 → SpellsShape d (fix_shape slot name) → fix_by (region_named settings) n (next p) slot name ≡ Ok r → ReadStatement settings (suc levels) p d r
+fix_found : (settings : Configuration) (levels n : ℕ) (p : Progress) (d : Data) (slot name : List ℕ)
+    (r : Progress × Statement) → AreNames p.names → p.count < 4096 → SpellsShape d (fix_shape slot name)
+    → fix_by (region_named settings) n (next p) slot name ≡ Ok r → ReadStatement settings (suc levels) p d r
 unfolding fix_by
 fix_found settings levels n p d slot name r are room (keys, at, held) e =
     let (x, form, e1) = bind_ok (must (is_slot_name slot) (BadName n)) _ r e in
@@ -349,25 +416,32 @@ fix_found settings levels n p d slot name r are room (keys, at, held) e =
     let h = used_found n (next p) slot u are (must_ok (is_slot_name slot) (BadName n) x form) uses in
     let named : region_named settings name ≡ Some i = ok_or_ok (region_named settings name) (NoSuchRegion n) i is in
     answered settings (suc levels) p d (u.0, step (fix u.1 i)) r e3
-    (step_read settings levels p d u slot (fix u.1 i) room h (slice_get_within u.0.names u.1 slot h.at, region_within settings name i named) (keys, (slot, at, h.at), (name, held, named)) (λ j w. w))
+    (step_read settings levels p d u slot (fix u.1 i) room h
+    (slice_get_within u.0.names u.1 slot h.at, region_within settings name i named)
+    (keys, (slot, at, h.at), (name, held, named)) (λ j w. w))
 
 range_is : (low high n : ℕ) → (nat_le low n && nat_le n high) ≡ true → (low ≤ n) × (n ≤ high)
 range_is low high n e = grind (arith, nat_tests)
 
-some_found : (settings : Configuration) (xs : List (List ℕ)) (ds : Items) (b : Sequence) → SpellsSequence settings xs ds b → not (count_of ds == 0) ≡ true → IsSome b
+some_found : (settings : Configuration) (xs : List (List ℕ)) (ds : Items) (b : Sequence)
+    → SpellsSequence settings xs ds b → not (count_of ds == 0) ≡ true → IsSome b
 some_found settings xs no_items done h e = absurd (false≢true e)
 some_found settings xs (item d ds) (andthen s b) h e = tt
 some_found settings xs no_items (andthen s b) h e = absurd h
 some_found settings xs (item d ds) done h e = absurd h
 
-pub branches_counted : (settings : Configuration) (xs : List (List ℕ)) (ds : Items) (bs : Alternatives) → SpellsAlternatives settings xs ds bs → count_of ds ≡ branch_count bs
+pub branches_counted : (settings : Configuration) (xs : List (List ℕ)) (ds : Items) (bs : Alternatives)
+    → SpellsAlternatives settings xs ds bs → count_of ds ≡ branch_count bs
 branches_counted settings xs no_items none h = refl
-branches_counted settings xs (item d ds) (either b bs) h = ap (λ (n : ℕ). n + 1) (branches_counted settings xs ds bs h.1)
+branches_counted settings xs (item d ds) (either b bs) h =
+    ap (λ (n : ℕ). n + 1) (branches_counted settings xs ds bs h.1)
 branches_counted settings xs no_items (either b bs) h = absurd h
 branches_counted settings xs (item d ds) none h = absurd h
 
 -- a loop of the body that was read, and a choice of the branches
-loop_read : (settings : Configuration) (levels n : ℕ) (p : Progress) (d : Data) (ds : Items) (b : Progress × Sequence) → 1 ≤ n → n ≤ 65535 → not (count_of ds == 0) ≡ true → SpellsShape d (loop_shape n ds) → ReadSequence settings levels (next p) ds b → ReadStatement settings (suc levels) p d (b.0, loop n b.1)
+loop_read : (settings : Configuration) (levels n : ℕ) (p : Progress) (d : Data) (ds : Items) (b : Progress × Sequence)
+    → 1 ≤ n → n ≤ 65535 → not (count_of ds == 0) ≡ true → SpellsShape d (loop_shape n ds)
+    → ReadSequence settings levels (next p) ds b → ReadStatement settings (suc levels) p d (b.0, loop n b.1)
 loop_read settings levels n p d ds b low high some h s = record {
   grows = s.grows;
   names = s.names;
@@ -379,7 +453,9 @@ loop_read settings levels n p d ds b low high some h s = record {
   used = s.used;
 }
 
-choice_read : (settings : Configuration) (levels : ℕ) (p : Progress) (d : Data) (ds : Items) (b : Progress × Alternatives) → 1 ≤ count_of ds → count_of ds ≤ 16 → SpellsShape d (choice_shape ds) → ReadBranches settings levels (next p) ds b → ReadStatement settings (suc levels) p d (b.0, choice b.1)
+choice_read : (settings : Configuration) (levels : ℕ) (p : Progress) (d : Data) (ds : Items)
+    (b : Progress × Alternatives) → 1 ≤ count_of ds → count_of ds ≤ 16 → SpellsShape d (choice_shape ds)
+    → ReadBranches settings levels (next p) ds b → ReadStatement settings (suc levels) p d (b.0, choice b.1)
 choice_read settings levels p d ds b low high h s =
     let counted = branches_counted settings b.0.names ds b.1 s.spelled in
     record {
@@ -393,40 +469,55 @@ choice_read settings levels p d ds b low high h s =
       used = s.used;
     }
 
-shape_read : (settings : Configuration) (levels : ℕ) (read_one : Progress → Data → Result (Progress × Statement) PlanError) → Reads settings levels read_one → (p : Progress) (d : Data) (shape : Shape) (r : Progress × Statement)
-    → AreNames p.names → p.count < 4096 → SpellsShape d shape → statement_by (region_named settings) read_one p.count (next p) shape ≡ Ok r → ReadStatement settings (suc levels) p d r
+shape_read : (settings : Configuration) (levels : ℕ)
+    (read_one : Progress → Data → Result (Progress × Statement) PlanError) → Reads settings levels read_one
+    → (p : Progress) (d : Data) (shape : Shape) (r : Progress × Statement)
+    → AreNames p.names → p.count < 4096 → SpellsShape d shape
+    → statement_by (region_named settings) read_one p.count (next p) shape ≡ Ok r
+    → ReadStatement settings (suc levels) p d r
 unfolding statement_by
-shape_read settings levels read_one one p d (fix_shape slot name) r are room h e = fix_found settings levels p.count p d slot name r are room h e
+shape_read settings levels read_one one p d (fix_shape slot name) r are room h e =
+    fix_found settings levels p.count p d slot name r are room h e
 shape_read settings levels read_one one p d (unfix_shape slot) r are room h e =
     let (u, uses, e1) = bind_ok (slot_of p.count (next p) slot) _ r e in
     let s = slot_found p.count (next p) slot u are uses in
     answered settings (suc levels) p d (u.0, step (unfix u.1)) r e1
-    (step_read settings levels p d u slot (unfix u.1) room s (slice_get_within u.0.names u.1 slot s.at) (h.0, (slot, h.1, s.at)) (λ j w. w))
+    (step_read settings levels p d u slot (unfix u.1) room s (slice_get_within u.0.names u.1 slot s.at)
+    (h.0, (slot, h.1, s.at)) (λ j w. w))
 shape_read settings levels read_one one p d (latch_shape slot mode) r are room h e =
     let (u, uses, e1) = bind_ok (slot_of p.count (next p) slot) _ r e in
     let s = slot_found p.count (next p) slot u are uses in
     answered settings (suc levels) p d (u.0, step (latch u.1 mode)) r e1
-    (step_read settings levels p d u slot (latch u.1 mode) room s (slice_get_within u.0.names u.1 slot s.at) (h.0, (slot, h.1, s.at), h.2) (λ j w. w))
+    (step_read settings levels p d u slot (latch u.1 mode) room s (slice_get_within u.0.names u.1 slot s.at)
+    (h.0, (slot, h.1, s.at), h.2) (λ j w. w))
 shape_read settings levels read_one one p d (unlatch_shape slot) r are room h e =
     let (u, uses, e1) = bind_ok (slot_of p.count (next p) slot) _ r e in
     let s = slot_found p.count (next p) slot u are uses in
     answered settings (suc levels) p d (u.0, step (unlatch u.1)) r e1
-    (step_read settings levels p d u slot (unlatch u.1) room s (slice_get_within u.0.names u.1 slot s.at) (h.0, (slot, h.1, s.at)) (λ j w. w))
+    (step_read settings levels p d u slot (unlatch u.1) room s (slice_get_within u.0.names u.1 slot s.at)
+    (h.0, (slot, h.1, s.at)) (λ j w. w))
 shape_read settings levels read_one one p d (loop_shape n ds) r are room h e =
     let test : Bool = (nat_le 1 n && nat_le n 65535) && not (count_of ds == 0) in
     let (x, range, e1) = bind_ok (must test (Range p.count)) _ r e in
     let (b, body, e2) = bind_ok (sequence_from read_one done (next p) ds) _ r e1 in
-    let (within, some) = and_parts (nat_le 1 n && nat_le n 65535) (not (count_of ds == 0)) (must_ok test (Range p.count) x range) in
+    let (within, some) =
+    and_parts (nat_le 1 n && nat_le n 65535) (not (count_of ds == 0)) (must_ok test (Range p.count) x range) in
     let (low, high) = range_is 1 65535 n within in
-    answered settings (suc levels) p d (b.0, loop n b.1) r e2 (loop_read settings levels n p d ds b low high some h (whole_found settings levels read_one one ds (next p) b are (omega (arith, room)) body))
+    answered settings (suc levels) p d (b.0, loop n b.1) r e2
+    (loop_read settings levels n p d ds b low high some h
+    (whole_found settings levels read_one one ds (next p) b are (omega (arith, room)) body))
 shape_read settings levels read_one one p d (choice_shape ds) r are room h e =
     let test : Bool = nat_le 1 (count_of ds) && nat_le (count_of ds) 16 in
     let (x, range, e1) = bind_ok (must test (Range p.count)) _ r e in
     let (b, body, e2) = bind_ok (alternatives_from read_one none (next p) ds) _ r e1 in
     let (low, high) = range_is 1 16 (count_of ds) (must_ok test (Range p.count) x range) in
-    answered settings (suc levels) p d (b.0, choice b.1) r e2 (choice_read settings levels p d ds b low high h (all_found settings levels read_one one ds (next p) b are (omega (arith, room)) h.2 body))
+    answered settings (suc levels) p d (b.0, choice b.1) r e2
+    (choice_read settings levels p d ds b low high h
+    (all_found settings levels read_one one ds (next p) b are (omega (arith, room)) h.2 body))
 
-pub statement_found : (settings : Configuration) (levels : ℕ) (p : Progress) (d : Data) (r : Progress × Statement) → AreNames p.names → p.count ≤ 4096 → statement_at (region_named settings) levels p d ≡ Ok r → ReadStatement settings levels p d r
+pub statement_found : (settings : Configuration) (levels : ℕ) (p : Progress) (d : Data) (r : Progress × Statement)
+    → AreNames p.names → p.count ≤ 4096 → statement_at (region_named settings) levels p d ≡ Ok r
+    → ReadStatement settings levels p d r
 statement_found settings zero p d r are most e =
     let (q, _, e1) = bind_ok (begun p) _ r e in absurd cc
 statement_found settings (suc levels) p d r are most e =
@@ -434,5 +525,6 @@ statement_found settings (suc levels) p d r are most e =
     let (shape, is, e2) = bind_ok (shape_of p.count d) _ r e1 in
     let (room, same) = begun_found p q begins in
     let read_one = statement_at (region_named settings) levels in
-    shape_read settings levels read_one (statement_found settings levels) p d shape r are room (shape_found p.count d shape is)
+    shape_read settings levels read_one (statement_found settings levels) p d shape r are room
+    (shape_found p.count d shape is)
     (subst (λ (x : Progress). statement_by (region_named settings) read_one p.count x shape ≡ Ok r) (sym same) e2)

@@ -14,7 +14,8 @@ Joins-back P Q R t h =
     (h.0 ++ f.0, f.1, h.2 ∙ ap (λ x. h.0 ++ x) f.2 ∙ sym (append_assoc h.0 f.0 f.1), (h.0, f.0, refl, h.3, f.3), f.4)
 
 -- The second list may be another.
-pub Joins-rest : (P Q R : List Action → Type 0) (t : List Action) → ((u : List Action) → Q u → R u) → Joins P Q t → Joins P R t
+pub Joins-rest : (P Q R : List Action → Type 0) (t : List Action) → ((u : List Action) → Q u → R u) → Joins P Q t
+    → Joins P R t
 Joins-rest P Q R t f h = (h.0, h.1, h.2, h.3, f h.1 h.4)
 
 pub Joins-nil : (Q : List Action → Type 0) (t : List Action) → Joins (λ u. u ≡ []) Q t → Q t

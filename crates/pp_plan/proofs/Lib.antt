@@ -3,11 +3,13 @@ pub mod Walk
 pub mod Renumbering
 pub mod Places
 pub mod Order
+pub mod Sorted
+pub mod OnlyKind
 pub mod Forms
 pub mod Found
 pub mod Numbered
 pub mod Plans
-pub mod Laws
+pub mod Accepting
 pub mod Again
 pub mod Only
 pub mod Causes
@@ -22,6 +24,8 @@ pub mod CursorMoves
 pub mod Lasting
 pub mod Passing
 pub mod Standing
+pub mod Asking
+pub mod OneAsk
 pub mod PrefixFree
 pub mod Values
 pub mod Written

@@ -1,14 +1,16 @@
 -- Which actions go on from a place, and where they lead.
 use Rattle.std.proofs.Common.{◌≡◌, ℕ, ◌+◌, ◌^◌, ◌<◌, List, ◌∷◌, refl, sym, ap, subst}
 use Rattle.pp_settings.specs.Layout.{Geometry}
-use Rattle.pp_plan.specs.Tree.{Step, fix, unfix, latch, unlatch, step, loop, choice, Sequence, done, andthen, Alternatives, branch_count}
+use Rattle.pp_plan.specs.Tree.{Step, fix, unfix, latch, unlatch, step, loop, choice, Sequence, done, andthen}
+use Rattle.pp_plan.specs.Tree.{Alternatives, branch_count}
 use Rattle.pp_plan.specs.Rules.{IsBody}
 use Rattle.pp_plan.specs.declared.action.Action.{Action}
 use Rattle.pp_plan.specs.declared.action.Action.TheVariants.{Fix, Unfix, Latch, Unlatch, Choose}
 use Rattle.pp_plan.specs.Traces.{Does, IsTrace}
 use Rattle.pp_plan.specs.Left.{◌then◌, sequence_drop, branch_at, inside, after, Place, body_at, outside, left}
 use Rattle.pp_plan.specs.Cursor.{CanBeIn, IsPath, Names}
-use Rattle.pp_plan.specs.CursorMoves.{entered, skipped, moved_by, CanPass, statement_ask, first_ask, ask_at}
+use Rattle.pp_plan.specs.CursorMoves.{entered, skipped, moved_by, CanPass, first_ask, ask_at}
+use Rattle.pp_plan.specs.Asked.{statement_ask}
 use Rattle.pp_plan.proofs.Sequences.{step_does, does_step, choice_does, does_choice}
 use Rattle.pp_plan.proofs.Paths.{drop_next, room_to_enter, room_to_skip}
 use Rattle.pp_plan.proofs.CursorMoves.{enter_path}
@@ -20,12 +22,18 @@ pub record Follows (g : Geometry) (b : Sequence) (a : Action) (c : Sequence) : T
 
 -- ---- steps
 
-step_follows : (g : Geometry) (b : Sequence) (p : Place) (s : Step) (k : Sequence) (a : Action) → sequence_drop p.index (body_at b p.entries) ≡ andthen (step s) k → Does g s a → Follows g (left b p) a (left b (skipped p))
+step_follows : (g : Geometry) (b : Sequence) (p : Place) (s : Step) (k : Sequence) (a : Action)
+    → sequence_drop p.index (body_at b p.entries) ≡ andthen (step s) k → Does g s a
+    → Follows g (left b p) a (left b (skipped p))
 step_follows g b p s k a h d =
     let o = outside b p.entries in
     let e : left b p ≡ andthen (step s) (k then o) = ap (λ x. x then o) h in
     let f : left b (skipped p) ≡ k then o = ap (λ x. x then o) (drop_next p.index (body_at b p.entries) (step s) k h) in
-    rw (e, f) (record { to = λ t i. (step_does g s (k then o) a t i).1; from = λ t i. does_step g s (k then o) a t d i })
+    rw (e, f) (record {
+      to = λ t i. (step_does g s (k then o) a t i).1;
+      from =
+          λ t i. does_step g s (k then o) a t d i;
+    })
 
 -- What a step's ask names is what makes the step.
 pub named_does : (g : Geometry) (s : Step) (a : Action) → Names g (statement_ask (step s)) a → Does g s a
@@ -63,13 +71,16 @@ can_skip g (unlatch s) (Choose i) p h lt = absurd h
 
 -- ---- choices
 
-choice_follows : (g : Geometry) (b : Sequence) (p : Place) (i : ℕ) (k : Sequence) (bs : Alternatives) → sequence_drop p.index (body_at b p.entries) ≡ andthen (choice bs) k → i < branch_count bs → Follows g (left b p) (Choose i) (left b (entered p 0 i))
+choice_follows : (g : Geometry) (b : Sequence) (p : Place) (i : ℕ) (k : Sequence) (bs : Alternatives)
+    → sequence_drop p.index (body_at b p.entries) ≡ andthen (choice bs) k → i < branch_count bs
+    → Follows g (left b p) (Choose i) (left b (entered p 0 i))
 choice_follows g b p i k bs h lt =
     let o = outside b p.entries in
     let e : left b p ≡ andthen (choice bs) (k then o) = ap (λ x. x then o) h in
     let f : left b (entered p 0 i) ≡ branch_at bs i then (k then o) = ap (λ x. inside x i then (after x 0 then o)) h in
     rw (e, f) (record {
-      to = λ t j. let d = choice_does g bs (k then o) (Choose i) t j in let same : d.0 ≡ i = cc (d.1) in subst (λ n. IsTrace g (branch_at bs n then (k then o)) t) same d.3;
+      to = λ t j. let d = choice_does g bs (k then o) (Choose i) t j in let same : d.0 ≡ i = cc (d.1) in
+          subst (λ n. IsTrace g (branch_at bs n then (k then o)) t) same d.3;
       from = λ t j. does_choice g bs (k then o) i t lt j;
     })
 
@@ -81,7 +92,9 @@ pub record Passes (g : Geometry) (b : Sequence) (p : Place) (a : Action) : Type 
   pub path : IsPath b (moved_by a p).entries
   pub follows : Follows g (left b p) a (left b (moved_by a p))
 
-passes_by : (g : Geometry) (slots regions : ℕ) (b : Sequence) (p : Place) (a : Action) (d : Sequence) → IsBody slots regions b → IsPath b p.entries → sequence_drop p.index (body_at b p.entries) ≡ d → Names g (first_ask d) a → Passes g b p a
+passes_by : (g : Geometry) (slots regions : ℕ) (b : Sequence) (p : Place) (a : Action) (d : Sequence)
+    → IsBody slots regions b → IsPath b p.entries → sequence_drop p.index (body_at b p.entries) ≡ d
+    → Names g (first_ask d) a → Passes g b p a
 passes_by g slots regions b p a done rules path h n = absurd n
 passes_by g slots regions b p a (andthen (step s) k) rules path h n =
     let d = named_does g s a n in
@@ -105,5 +118,7 @@ passes_by g slots regions b p (Latch s m) (andthen (choice bs) k) rules path h n
 passes_by g slots regions b p (Unlatch s) (andthen (choice bs) k) rules path h n = absurd n
 
 -- An action that is named goes on from the place.
-pub passes : (g : Geometry) (slots regions : ℕ) (b : Sequence) (p : Place) (a : Action) → IsBody slots regions b → IsPath b p.entries → Names g (ask_at b p) a → Passes g b p a
-passes g slots regions b p a rules path n = passes_by g slots regions b p a (sequence_drop p.index (body_at b p.entries)) rules path refl n
+pub passes : (g : Geometry) (slots regions : ℕ) (b : Sequence) (p : Place) (a : Action) → IsBody slots regions b
+    → IsPath b p.entries → Names g (ask_at b p) a → Passes g b p a
+passes g slots regions b p a rules path n =
+    passes_by g slots regions b p a (sequence_drop p.index (body_at b p.entries)) rules path refl n

@@ -1,5 +1,6 @@
 -- Names in a list: which stand in it, and at which places.
-use Rattle.std.proofs.Common.{◌≡◌, ◌⊎◌, inl, inr, ℕ, zero, suc, ◌<◌, ◌≤◌, Bool, true, false, List, [], ◌∷◌, ◌++◌, length, get_or, Some, None, refl, ap, ◌∙◌, arith}
+use Rattle.std.proofs.Common.{◌≡◌, ◌⊎◌, inl, inr, ℕ, zero, suc, ◌<◌, ◌≤◌, Bool, true, false, List, [], ◌∷◌, ◌++◌}
+use Rattle.std.proofs.Common.{length, get_or, Some, None, refl, ap, ◌∙◌, arith}
 use Rattle.std.specs.List.{position, position_or_len, slice_get}
 use Rattle.std.specs.Str.{bytes_eq}
 use Rattle.std.proofs.lemmas.Bool.Decides.{nat_tests}
@@ -46,11 +47,13 @@ pub push_at : (xs : List (List ℕ)) (y : List ℕ) → slice_get (xs ++ y ∷ [
 push_at [] y = refl
 push_at (x ∷ xs) y = push_at xs y
 
-pub push_cases : (xs : List (List ℕ)) (y : List ℕ) (k : ℕ) (n : List ℕ) → slice_get (xs ++ y ∷ []) k ≡ Some n → (slice_get xs k ≡ Some n) ⊎ ((k ≡ length xs) × (y ≡ n))
+pub push_cases : (xs : List (List ℕ)) (y : List ℕ) (k : ℕ) (n : List ℕ) → slice_get (xs ++ y ∷ []) k ≡ Some n
+    → (slice_get xs k ≡ Some n) ⊎ ((k ≡ length xs) × (y ≡ n))
 push_cases [] y zero n e = inr (refl, cc)
 push_cases [] y (suc k) n e = absurd cc
 push_cases (x ∷ xs) y zero n e = inl e
-push_cases (x ∷ xs) y (suc k) n e = elim (push_cases xs y k n e) [ inl old ↦ inl old | inr new ↦ inr (ap suc new.0, new.1) ]
+push_cases (x ∷ xs) y (suc k) n e =
+    elim (push_cases xs y k n e) [ inl old ↦ inl old | inr new ↦ inr (ap suc new.0, new.1) ]
 
 pub filled : (xs : List (List ℕ)) (k : ℕ) → k < length xs → (n : List ℕ) × (slice_get xs k ≡ Some n)
 filled [] k h = absurd (omega (arith, h))
@@ -77,29 +80,36 @@ place_some xs n k e =
     let (within, passes, _) = position-Some (λ (x : List ℕ). bytes_eq x n) xs k [] e in
     slice_get-get_or xs k [] within ∙ ap (λ (y : List ℕ). Some y) ((bytes_eq-Decides (get_or xs k []) n).0 passes)
 
-position_at : (p : List ℕ → Bool) (xs : List (List ℕ)) (i : ℕ) → position_or_len p xs ≡ i → i < length xs → position p xs ≡ Some i
+position_at : (p : List ℕ → Bool) (xs : List (List ℕ)) (i : ℕ) → position_or_len p xs ≡ i → i < length xs
+    → position p xs ≡ Some i
 position_at p xs i first within = rw first (grind (arith, nat_tests))
 
-pub place_only : (xs : List (List ℕ)) (n : List ℕ) (k : ℕ) → AreApart xs → slice_get xs k ≡ Some n → place_of xs n ≡ Some k
+pub place_only : (xs : List (List ℕ)) (n : List ℕ) (k : ℕ) → AreApart xs → slice_get xs k ≡ Some n
+    → place_of xs n ≡ Some k
 place_only xs n k apart is =
     let within : k < length xs = slice_get_within xs k n is in
     let test = λ (x : List ℕ). bytes_eq x n in
     let here : get_or xs k [] ≡ n = get_or_from_slice_get xs k n [] is in
     let others : (j : ℕ) → j < k → test (get_or xs j []) ≡ false =
     λ j below. false_from_ne_true (test (get_or xs j [])) (λ e.
-    let there : slice_get xs j ≡ Some n = slice_get-get_or xs j [] (omega (arith, below, within)) ∙ ap (λ (y : List ℕ). Some y) ((bytes_eq-Decides (get_or xs j []) n).0 e) in
+    let there : slice_get xs j ≡ Some n = slice_get-get_or xs j [] (omega (arith, below, within))
+    ∙ ap (λ (y : List ℕ). Some y) ((bytes_eq-Decides (get_or xs j []) n).0 e) in
     let same : j ≡ k = apart j k n there is in
     absurd (omega (arith, below, same))) in
-    position_at test xs k (position_or_len_is test xs k [] (omega (arith, within)) others (λ w. (bytes_eq-Decides (get_or xs k []) n).1 here)) within
+    position_at test xs k (position_or_len_is test xs k [] (omega (arith, within)) others
+    (λ w. (bytes_eq-Decides (get_or xs k []) n).1 here)) within
 
-first_fails : (p : List ℕ → Bool) (xs : List (List ℕ)) (k : ℕ) (n : List ℕ) → slice_get xs k ≡ Some n → p n ≡ true → position_or_len p xs < length xs
+first_fails : (p : List ℕ → Bool) (xs : List (List ℕ)) (k : ℕ) (n : List ℕ) → slice_get xs k ≡ Some n → p n ≡ true
+    → position_or_len p xs < length xs
 first_fails p [] k n is passes = absurd cc
-first_fails p (x ∷ xs) zero n is passes = let same : x ≡ n = cc in let here : p x ≡ true = ap p same ∙ passes in rw here (omega arith)
+first_fails p (x ∷ xs) zero n is passes = let same : x ≡ n = cc in let here : p x ≡ true = ap p same ∙ passes in
+    rw here (omega arith)
 first_fails p (x ∷ xs) (suc k) n is passes =
     let more = first_fails p xs k n is passes in grind (arith, more)
 
 pub place_none : (xs : List (List ℕ)) (n : List ℕ) → place_of xs n ≡ None → (k : ℕ) → slice_get xs k ≡ Some n → ⊥
 place_none xs n e k is =
     let below = first_fails (λ (x : List ℕ). bytes_eq x n) xs k n is ((bytes_eq-Decides n n).1 refl) in
-    let found : place_of xs n ≡ Some (position_or_len (λ (x : List ℕ). bytes_eq x n) xs) = position_at (λ (x : List ℕ). bytes_eq x n) xs _ refl below in
+    let found : place_of xs n ≡ Some (position_or_len (λ (x : List ℕ). bytes_eq x n) xs) =
+    position_at (λ (x : List ℕ). bytes_eq x n) xs _ refl below in
     absurd cc

@@ -35,7 +35,8 @@ one_action P t u x y h k e =
     let same : h.0 ≡ k.0 = cc in
     (h.1 ∙ ap (λ a. a ∷ []) same ∙ sym k.1, cc)
 
-choice_once : (P : ℕ → List Action → Type 0) → ((i : ℕ) → BeginsOnce (P i)) → BeginsOnce (λ t. (i : ℕ) × (u : List Action) × (t ≡ Choose i ∷ u) × P i u)
+choice_once : (P : ℕ → List Action → Type 0) → ((i : ℕ) → BeginsOnce (P i))
+    → BeginsOnce (λ t. (i : ℕ) × (u : List Action) × (t ≡ Choose i ∷ u) × P i u)
 unfolding BeginsOnce
 choice_once P p t u x y h k e =
     let f : Choose h.0 ∷ (h.1 ++ x) ≡ Choose k.0 ∷ (k.1 ++ y) = sym (ap (λ w. w ++ x) h.2) ∙ e ∙ ap (λ w. w ++ y) k.2 in
@@ -63,6 +64,7 @@ mutual
   branch_once g (either b bs) zero = body_once g b
   branch_once g (either b bs) (suc i) = branch_once g bs i
 
-pub prefix_free : (g : Geometry) (b : Sequence) (t rest : List Action) → IsTrace g b t → IsTrace g b (t ++ rest) → rest ≡ []
+pub prefix_free : (g : Geometry) (b : Sequence) (t rest : List Action) → IsTrace g b t → IsTrace g b (t ++ rest)
+    → rest ≡ []
 unfolding BeginsOnce
 prefix_free g b t rest h k = (body_once g b t (t ++ rest) rest [] h k (sym (append-nil (t ++ rest)))).1

@@ -1,5 +1,6 @@
 -- The value that is written spells the plan, so reading gives the plan again.
-use Rattle.std.proofs.Common.{◌≡◌, ℕ, ◌<◌, ◌≤◌, Bool, true, false, List, [], length, get_or, Some, refl, sym, ap, subst, ◌∙◌, arith}
+use Rattle.std.proofs.Common.{◌≡◌, ℕ, ◌<◌, ◌≤◌, Bool, true, false, List, [], length, get_or, Some, refl, sym, ap, subst}
+use Rattle.std.proofs.Common.{◌∙◌, arith}
 use Rattle.std.specs.Prelude.{Ok, slice_get}
 use Rattle.std.specs.List.{position, position_or_len}
 use Rattle.std.specs.Str.{bytes_eq}
@@ -13,7 +14,8 @@ use Rattle.serde_json.specs.Read.{read}
 use Rattle.serde_json.specs.View.{items_of}
 use Rattle.pp_settings.specs.Layout.{Geometry}
 use Rattle.pp_settings.specs.Settings.{NamedRegion, Configuration, IsConfiguration, region_named, geometry_of}
-use Rattle.pp_plan.specs.Tree.{Step, fix, unfix, latch, unlatch, Statement, step, loop, choice, Sequence, done, andthen, Alternatives, none, either}
+use Rattle.pp_plan.specs.Tree.{Step, fix, unfix, latch, unlatch, Statement, step, loop, choice, Sequence, done, andthen}
+use Rattle.pp_plan.specs.Tree.{Alternatives, none, either}
 use Rattle.pp_plan.specs.Rules.{IsStep, IsStatement, IsSequence, AreAlternatives}
 use Rattle.pp_plan.specs.Terms.{Terms, IsPlan}
 use Rattle.pp_plan.specs.Reading.{reading}
@@ -26,72 +28,110 @@ use Rattle.pp_plan.proofs.Written.{nameless, region_at, few_levels}
 -- ---- names
 
 slot_at : (slots : List (List ℕ)) (k : ℕ) → k < length slots → slice_get slots k ≡ Some (slot_name slots k)
-slot_at slots k within = slice_get-get_or slots k [] within ∙ ap (λ (n : List ℕ). Some n) (sym (unwrap_or-slice_get slots k []))
+slot_at slots k within = slice_get-get_or slots k [] within
+    ∙ ap (λ (n : List ℕ). Some n) (sym (unwrap_or-slice_get slots k []))
 
 false_from_not : (b : Bool) → (b ≡ true → ⊥) → b ≡ false
 false_from_not true h = absurd (h refl)
 false_from_not false h = refl
 
-position_at : {X : Type 0} (q : X → Bool) (xs : List X) (i : ℕ) → position_or_len q xs ≡ i → i < length xs → position q xs ≡ Some i
+position_at : {X : Type 0} (q : X → Bool) (xs : List X) (i : ℕ) → position_or_len q xs ≡ i → i < length xs
+    → position q xs ≡ Some i
 position_at q xs i first within = rw first (grind (arith, nat_tests))
 
-position_only : {X : Type 0} (q : X → Bool) (xs : List X) (i : ℕ) (d : X) → i < length xs → q (get_or xs i d) ≡ true → ((k : ℕ) → k < i → q (get_or xs k d) ≡ true → ⊥) → position q xs ≡ Some i
+position_only : {X : Type 0} (q : X → Bool) (xs : List X) (i : ℕ) (d : X) → i < length xs → q (get_or xs i d) ≡ true
+    → ((k : ℕ) → k < i → q (get_or xs k d) ≡ true → ⊥) → position q xs ≡ Some i
 position_only q xs i d within passes others =
-    position_at q xs i (position_or_len_is q xs i d (omega (arith, within)) (λ k below. false_from_not (q (get_or xs k d)) (others k below)) (λ w. passes)) within
+    position_at q xs i (position_or_len_is q xs i d (omega (arith, within))
+    (λ k below. false_from_not (q (get_or xs k d)) (others k below)) (λ w. passes)) within
 
 same_text : (a b : List ℕ) → bytes_eq a b ≡ true → a ≡ b
 same_text a b = (bytes_eq-Decides a b).0
 
-region_again : (c : Configuration) → IsConfiguration c → (r : ℕ) → r < length c.regions → region_named c (region_name c r) ≡ Some r
+region_again : (c : Configuration) → IsConfiguration c → (r : ℕ) → r < length c.regions
+    → region_named c (region_name c r) ≡ Some r
 region_again c settings r within =
     let at = region_at c r within in
     position_only (λ q. bytes_eq q.name (region_name c r)) c.regions r nameless within
     ((bytes_eq-Decides (get_or c.regions r nameless).name (region_name c r)).1 (sym at))
-    (λ k below same. settings.regions.names k r nameless below within (same_text (get_or c.regions k nameless).name (region_name c r) same ∙ at))
+    (λ k below same. settings.regions.names k r nameless below within
+    (same_text (get_or c.regions k nameless).name (region_name c r) same ∙ at))
 
 -- ---- the value
 
-step_spelled : (c : Configuration) (ss : List (List ℕ)) → IsConfiguration c → (s : Step) → IsStep (length ss) (length c.regions) s → SpellsStep c ss (step_value c ss s) s
-step_spelled c ss settings (fix k r) (within, there) =
-    ((_, refl, ((0, omega arith, refl), ((1, omega arith, refl), tt))), (slot_name ss k, refl, slot_at ss k within), (region_name c r, refl, region_again c settings r there))
-step_spelled c ss settings (unfix k) within = ((_, refl, ((0, omega arith, refl), tt)), (slot_name ss k, refl, slot_at ss k within))
-step_spelled c ss settings (latch k m) within = ((_, refl, ((0, omega arith, refl), ((1, omega arith, refl), tt))), (slot_name ss k, refl, slot_at ss k within), refl)
-step_spelled c ss settings (unlatch k) within = ((_, refl, ((0, omega arith, refl), tt)), (slot_name ss k, refl, slot_at ss k within))
+step_spelled : (c : Configuration) (ss : List (List ℕ)) → IsConfiguration c → (s : Step)
+    → IsStep (length ss) (length c.regions) s → SpellsStep c ss (step_value c ss s) s
+step_spelled c ss settings (fix k r) (within, there) = (
+  (_, refl, ((0, omega arith, refl), ((1, omega arith, refl), tt))),
+  (slot_name ss k, refl, slot_at ss k within),
+  (region_name c r, refl, region_again c settings r there),
+)
+step_spelled c ss settings (unfix k) within =
+    ((_, refl, ((0, omega arith, refl), tt)), (slot_name ss k, refl, slot_at ss k within))
+step_spelled c ss settings (latch k m) within = (
+  (_, refl, ((0, omega arith, refl), ((1, omega arith, refl), tt))),
+  (slot_name ss k, refl, slot_at ss k within),
+  refl,
+)
+step_spelled c ss settings (unlatch k) within =
+    ((_, refl, ((0, omega arith, refl), tt)), (slot_name ss k, refl, slot_at ss k within))
 
 mutual
-  statement_spelled : (c : Configuration) (ss : List (List ℕ)) → IsConfiguration c → (s : Statement) → IsStatement (length ss) (length c.regions) s → SpellsStatement c ss (statement_value c ss s) s
+  statement_spelled : (c : Configuration) (ss : List (List ℕ)) → IsConfiguration c → (s : Statement)
+      → IsStatement (length ss) (length c.regions) s → SpellsStatement c ss (statement_value c ss s) s
   statement_spelled c ss settings (step s) keeps = step_spelled c ss settings s keeps
-  statement_spelled c ss settings (loop n b) keeps =
-      ((_, refl, ((1, omega arith, refl), ((0, omega arith, refl), tt))), refl, (items_of (statement_values c ss b), refl, sequence_spelled c ss settings b keeps.3))
-  statement_spelled c ss settings (choice bs) keeps =
-      ((_, refl, ((0, omega arith, refl), tt)), (items_of (branch_values c ss bs), refl, branches_spelled c ss settings bs keeps.2))
+  statement_spelled c ss settings (loop n b) keeps = (
+    (_, refl, ((1, omega arith, refl), ((0, omega arith, refl), tt))),
+    refl,
+    (items_of (statement_values c ss b), refl, sequence_spelled c ss settings b keeps.3),
+  )
+  statement_spelled c ss settings (choice bs) keeps = (
+    (_, refl, ((0, omega arith, refl), tt)),
+    (items_of (branch_values c ss bs), refl, branches_spelled c ss settings bs keeps.2),
+  )
 
-  sequence_spelled : (c : Configuration) (ss : List (List ℕ)) → IsConfiguration c → (b : Sequence) → IsSequence (length ss) (length c.regions) b → SpellsSequence c ss (items_of (statement_values c ss b)) b
+  sequence_spelled : (c : Configuration) (ss : List (List ℕ)) → IsConfiguration c → (b : Sequence)
+      → IsSequence (length ss) (length c.regions) b → SpellsSequence c ss (items_of (statement_values c ss b)) b
   sequence_spelled c ss settings done keeps = tt
-  sequence_spelled c ss settings (andthen s b) keeps = (statement_spelled c ss settings s keeps.0, sequence_spelled c ss settings b keeps.1)
+  sequence_spelled c ss settings (andthen s b) keeps =
+      (statement_spelled c ss settings s keeps.0, sequence_spelled c ss settings b keeps.1)
 
-  branches_spelled : (c : Configuration) (ss : List (List ℕ)) → IsConfiguration c → (bs : Alternatives) → AreAlternatives (length ss) (length c.regions) bs → SpellsAlternatives c ss (items_of (branch_values c ss bs)) bs
+  branches_spelled : (c : Configuration) (ss : List (List ℕ)) → IsConfiguration c → (bs : Alternatives)
+      → AreAlternatives (length ss) (length c.regions) bs
+      → SpellsAlternatives c ss (items_of (branch_values c ss bs)) bs
   branches_spelled c ss settings none keeps = tt
-  branches_spelled c ss settings (either b bs) keeps = ((items_of (statement_values c ss b), refl, sequence_spelled c ss settings b keeps.0), branches_spelled c ss settings bs keeps.1)
+  branches_spelled c ss settings (either b bs) keeps = (
+    (items_of (statement_values c ss b), refl, sequence_spelled c ss settings b keeps.0),
+    branches_spelled c ss settings bs keeps.1,
+  )
 
 -- ---- the whole
 
 -- The statements keep the rules under the settings too, whose layout is the plan's.
-pub keeps_rules : (c : Configuration) (t : Terms) → IsPlan t → t.layout ≡ geometry_of c → IsSequence (length t.slots) (length c.regions) t.body
+pub keeps_rules : (c : Configuration) (t : Terms) → IsPlan t → t.layout ≡ geometry_of c
+    → IsSequence (length t.slots) (length c.regions) t.body
 keeps_rules c t plan layout =
-    let regions : length t.layout.extents ≡ length c.regions = ap (λ (g : Geometry). length g.extents) layout ∙ length-map c.regions (λ (q : NamedRegion). q.extent) in
+    let regions : length t.layout.extents ≡ length c.regions = ap (λ (g : Geometry). length g.extents) layout
+    ∙ length-map c.regions (λ (q : NamedRegion). q.extent) in
     subst (λ (m : ℕ). IsSequence (length t.slots) m t.body) regions plan.body.parts
 
-value_spelled : (c : Configuration) (t : Terms) → IsConfiguration c → IsPlan t → t.layout ≡ geometry_of c → Spells c (object (plan_members c t)) t
+value_spelled : (c : Configuration) (t : Terms) → IsConfiguration c → IsPlan t → t.layout ≡ geometry_of c
+    → Spells c (object (plan_members c t)) t
 value_spelled c t settings plan layout = record {
   keys = (_, refl, ((0, omega arith, refl), ((1, omega arith, refl), tt)));
   version = refl;
-  body = (items_of (statement_values c t.slots t.body), refl, sequence_spelled c t.slots settings t.body (keeps_rules c t plan layout));
+  body = (
+    items_of (statement_values c t.slots t.body),
+    refl,
+    sequence_spelled c t.slots settings t.body (keeps_rules c t plan layout),
+  );
   layout = layout;
 }
 
 -- What the writer gives of the value reads as the plan.
-pub reads_as : (c : Configuration) (t : Terms) → IsConfiguration c → IsPlan t → t.layout ≡ geometry_of c → (d : Data) (text : List ℕ) → d ≡ object (plan_members c t) → (depth d ≤ 127 → read text ≡ Some d) → reading c text ≡ Ok t
+pub reads_as : (c : Configuration) (t : Terms) → IsConfiguration c → IsPlan t → t.layout ≡ geometry_of c
+    → (d : Data) (text : List ℕ) → d ≡ object (plan_members c t) → (depth d ≤ 127 → read text ≡ Some d)
+    → reading c text ≡ Ok t
 reads_as c t settings plan layout d text is parses =
     let within : depth d ≤ 127 = subst (λ (x : Data). depth x ≤ 127) (sym is) (few_levels c t plan) in
     let parsed = parses within ∙ ap (λ (x : Data). Some x) is in

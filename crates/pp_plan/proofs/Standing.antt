@@ -14,7 +14,8 @@ use Rattle.pp_plan.specs.Traces.{IsTrace}
 use Rattle.pp_plan.specs.Left.{◌then◌, sequence_drop, Place, body_at, outside, left}
 use Rattle.pp_plan.specs.PlanTraces.{IsTraceOf, PlanAsks}
 use Rattle.pp_plan.specs.Cursor.{IsReady, IsReadyAt, IsAt, StandsFor, Names, IsAskOf}
-use Rattle.pp_plan.specs.CursorMoves.{moved_by, Same, statement_ask, first_ask, ask_at, IsActive}
+use Rattle.pp_plan.specs.CursorMoves.{moved_by, Same, first_ask, ask_at, IsActive}
+use Rattle.pp_plan.specs.Asked.{statement_ask}
 use Rattle.pp_plan.proofs.Sequences.{then-done, step_does, choice_does, step_acts, choice_acts}
 use Rattle.pp_plan.proofs.Paths.{rest_keeps, next_keeps}
 use Rattle.pp_plan.proofs.Lasting.{body_lasts, left_lasts}
@@ -24,8 +25,10 @@ use Rattle.pp_plan.proofs.Passing.{Passes, passes, does_named}
 
 -- A body that begins with a step or a choice, or that is empty at the end of the outermost one, goes on only with
 -- what its ask names.
-named_by : (g : Geometry) (d o : Sequence) (es : List Entry) (a : Action) (rest : List Action) → IsReady d es → (es ≡ [] → o ≡ done) → IsTrace g (d then o) (a ∷ rest) → Names g (first_ask d) a
-named_by g done o [] a rest ready out h = absurd (let e : a ∷ rest ≡ [] = subst (λ c. IsTrace g c (a ∷ rest)) (out refl) h in cc)
+named_by : (g : Geometry) (d o : Sequence) (es : List Entry) (a : Action) (rest : List Action) → IsReady d es
+    → (es ≡ [] → o ≡ done) → IsTrace g (d then o) (a ∷ rest) → Names g (first_ask d) a
+named_by g done o [] a rest ready out h =
+    absurd (let e : a ∷ rest ≡ [] = subst (λ c. IsTrace g c (a ∷ rest)) (out refl) h in cc)
 named_by g done o (e ∷ es) a rest ready out h = absurd ready
 named_by g (andthen (step s) k) o es a rest ready out h = does_named g s a (step_does g s (k then o) a rest h).0
 named_by g (andthen (loop n c) k) o es a rest ready out h = absurd ready
@@ -36,44 +39,56 @@ named_by g (andthen (choice bs) k) o es a rest ready out h =
 outside-nil : (b : Sequence) (es : List Entry) → es ≡ [] → outside b es ≡ done
 outside-nil b es h = ap (outside b) h
 
-pub goes_named : (g : Geometry) (b : Sequence) (p : Place) (a : Action) (rest : List Action) → IsAt b p → IsTrace g (left b p) (a ∷ rest) → Names g (ask_at b p) a
+pub goes_named : (g : Geometry) (b : Sequence) (p : Place) (a : Action) (rest : List Action) → IsAt b p
+    → IsTrace g (left b p) (a ∷ rest) → Names g (ask_at b p) a
 goes_named g b p a rest at h =
-    named_by g (sequence_drop p.index (body_at b p.entries)) (outside b p.entries) p.entries a rest at.ready (outside-nil b p.entries) h
+    named_by g (sequence_drop p.index (body_at b p.entries)) (outside b p.entries) p.entries a rest at.ready
+    (outside-nil b p.entries) h
 
 -- The end is asked exactly where nothing is left.
-ended_by : (g : Geometry) (d o : Sequence) (es : List Entry) → IsReady d es → (es ≡ [] → o ≡ done) → (first_ask d ≡ ask.End) ↔ IsTrace g (d then o) []
+ended_by : (g : Geometry) (d o : Sequence) (es : List Entry) → IsReady d es → (es ≡ [] → o ≡ done)
+    → (first_ask d ≡ ask.End) ↔ IsTrace g (d then o) []
 ended_by g done o [] ready out = ((λ _. subst (λ c. IsTrace g c []) (sym (out refl)) refl), (λ _. refl))
 ended_by g done o (e ∷ es) ready out = absurd ready
 ended_by g (andthen (step (fix s r)) k) o es ready out = ((λ e. cc), (λ h. absurd (step_acts g (fix s r) (k then o) h)))
 ended_by g (andthen (step (unfix s)) k) o es ready out = ((λ e. cc), (λ h. absurd (step_acts g (unfix s) (k then o) h)))
-ended_by g (andthen (step (latch s m)) k) o es ready out = ((λ e. cc), (λ h. absurd (step_acts g (latch s m) (k then o) h)))
-ended_by g (andthen (step (unlatch s)) k) o es ready out = ((λ e. cc), (λ h. absurd (step_acts g (unlatch s) (k then o) h)))
+ended_by g (andthen (step (latch s m)) k) o es ready out =
+    ((λ e. cc), (λ h. absurd (step_acts g (latch s m) (k then o) h)))
+ended_by g (andthen (step (unlatch s)) k) o es ready out =
+    ((λ e. cc), (λ h. absurd (step_acts g (unlatch s) (k then o) h)))
 ended_by g (andthen (loop n c) k) o es ready out = absurd ready
 ended_by g (andthen (choice bs) k) o es ready out = ((λ e. cc), (λ h. absurd (choice_acts g bs (k then o) h)))
 
 -- ---- what the answers of a cursor say of the lists that it stands for
 
-pub asks_end : (plan : Terms) (p : Place) (before : List Action) → StandsFor plan p before → (ask_at plan.body p ≡ ask.End) ↔ IsTraceOf plan before
+pub asks_end : (plan : Terms) (p : Place) (before : List Action) → StandsFor plan p before
+    → (ask_at plan.body p ≡ ask.End) ↔ IsTraceOf plan before
 asks_end plan p before s =
     let g = plan.layout in
     let b = plan.body in
-    let e = ended_by g (sequence_drop p.index (body_at b p.entries)) (outside b p.entries) p.entries s.at.ready (outside-nil b p.entries) in (
+    let e =
+    ended_by g (sequence_drop p.index (body_at b p.entries)) (outside b p.entries) p.entries s.at.ready
+    (outside-nil b p.entries) in (
       (λ h. subst (IsTrace g b) (append-nil before) (s.from [] (e.0 h))),
       (λ h. e.1 (s.to [] (subst (IsTrace g b) (sym (append-nil before)) h))),
     )
 
-pub asks_named : (plan : Terms) (p : Place) (before : List Action) (a : Action) → IsPlan plan → StandsFor plan p before → PlanAsks plan before a ↔ Names plan.layout (ask_at plan.body p) a
+pub asks_named : (plan : Terms) (p : Place) (before : List Action) (a : Action) → IsPlan plan → StandsFor plan p before
+    → PlanAsks plan before a ↔ Names plan.layout (ask_at plan.body p) a
 asks_named plan p before a facts s = (
   (λ h. goes_named plan.layout plan.body p a h.0 s.at (s.to (a ∷ h.0) h.1)),
   (λ n.
-      let f = passes plan.layout (length plan.slots) (length plan.layout.extents) plan.body p a facts.body s.at.path n in
+      let f =
+      passes plan.layout (length plan.slots) (length plan.layout.extents) plan.body p a facts.body s.at.path n in
       let t = left_lasts plan.layout (length plan.slots) plan.body (moved_by a p) facts.layout facts.body.parts in
       (t.0, s.from (a ∷ t.0) (f.follows.from t.0 t.1))),
 )
 
 -- The same of an answer that is the ask at the place.
-pub answers_named : (plan : Terms) (p : Place) (x : Ask) (before : List Action) (a : Action) → IsPlan plan → x ≡ ask_at plan.body p → StandsFor plan p before → PlanAsks plan before a ↔ Names plan.layout x a
-answers_named plan p x before a facts is s = subst (λ y. PlanAsks plan before a ↔ Names plan.layout y a) (sym is) (asks_named plan p before a facts s)
+pub answers_named : (plan : Terms) (p : Place) (x : Ask) (before : List Action) (a : Action) → IsPlan plan
+    → x ≡ ask_at plan.body p → StandsFor plan p before → PlanAsks plan before a ↔ Names plan.layout x a
+answers_named plan p x before a facts is s =
+    subst (λ y. PlanAsks plan before a ↔ Names plan.layout y a) (sym is) (asks_named plan p before a facts s)
 
 known_by : (slots regions : ℕ) (d : Sequence) → IsSequence slots regions d → IsAskOf slots regions (first_ask d)
 known_by slots regions done h = tt
@@ -84,13 +99,16 @@ known_by slots regions (andthen (step (unlatch s)) k) h = h.0
 known_by slots regions (andthen (loop n b) k) h = tt
 known_by slots regions (andthen (choice bs) k) h = (h.0.0, h.0.1)
 
-pub asks_known : (plan : Terms) (p : Place) → IsPlan plan → IsAskOf (length plan.slots) (length plan.layout.extents) (ask_at plan.body p)
+pub asks_known : (plan : Terms) (p : Place) → IsPlan plan
+    → IsAskOf (length plan.slots) (length plan.layout.extents) (ask_at plan.body p)
 asks_known plan p facts =
-    known_by (length plan.slots) (length plan.layout.extents) (sequence_drop p.index (body_at plan.body p.entries)) (rest_keeps (length plan.slots) (length plan.layout.extents) plan.body p facts.body.parts)
+    known_by (length plan.slots) (length plan.layout.extents) (sequence_drop p.index (body_at plan.body p.entries))
+    (rest_keeps (length plan.slots) (length plan.layout.extents) plan.body p facts.body.parts)
 
 -- ---- moves
 
-pub stands_at_start : (plan : Terms) (q : Place) → IsPlan plan → IsAt plan.body q → Same plan.layout (left plan.body (record { entries = []; index = 0 })) (left plan.body q) → StandsFor plan q []
+pub stands_at_start : (plan : Terms) (q : Place) → IsPlan plan → IsAt plan.body q
+    → Same plan.layout (left plan.body (record { entries = []; index = 0 })) (left plan.body q) → StandsFor plan q []
 stands_at_start plan q facts at same =
     let e : left plan.body (record { entries = []; index = 0 }) ≡ plan.body = then-done plan.body in
     record {
@@ -100,12 +118,15 @@ stands_at_start plan q facts at same =
       from = λ t i. subst (λ x. IsTrace plan.layout x t) e (same.from t i);
     }
 
-stands_after : (plan : Terms) (p r : Place) (a : Action) → IsPlan plan → Passes plan.layout plan.body p a → Same plan.layout (left plan.body (moved_by a p)) (left plan.body r) → IsAt plan.body r → (before : List Action) → StandsFor plan p before → StandsFor plan r (before ++ a ∷ [])
+stands_after : (plan : Terms) (p r : Place) (a : Action) → IsPlan plan → Passes plan.layout plan.body p a
+    → Same plan.layout (left plan.body (moved_by a p)) (left plan.body r) → IsAt plan.body r → (before : List Action)
+    → StandsFor plan p before → StandsFor plan r (before ++ a ∷ [])
 stands_after plan p r a facts f same at before s =
     let g = plan.layout in
     let b = plan.body in
     let from : (t : List Action) → IsTrace g (left b r) t → IsTrace g b ((before ++ a ∷ []) ++ t) =
-    λ t i. subst (IsTrace g b) (sym (append_assoc before (a ∷ []) t)) (s.from (a ∷ t) (f.follows.from t (same.from t i))) in
+    λ t i. subst (IsTrace g b) (sym (append_assoc before (a ∷ []) t))
+    (s.from (a ∷ t) (f.follows.from t (same.from t i))) in
     let rest = left_lasts g (length plan.slots) b r facts.layout facts.body.parts in
     record {
       at = at;
@@ -115,18 +136,27 @@ stands_after plan p r a facts f same at before s =
     }
 
 -- A named action is gone past, and then its place is settled.
-pub stands_followed : (plan : Terms) (p q r : Place) (x : Ask) (a : Action) → IsPlan plan → x ≡ ask_at plan.body p → Names plan.layout x a → q ≡ moved_by a p → Same plan.layout (left plan.body q) (left plan.body r) → IsAt plan.body r → (before : List Action) → StandsFor plan p before → StandsFor plan r (before ++ a ∷ [])
+pub stands_followed : (plan : Terms) (p q r : Place) (x : Ask) (a : Action) → IsPlan plan → x ≡ ask_at plan.body p
+    → Names plan.layout x a → q ≡ moved_by a p → Same plan.layout (left plan.body q) (left plan.body r)
+    → IsAt plan.body r → (before : List Action) → StandsFor plan p before → StandsFor plan r (before ++ a ∷ [])
 stands_followed plan p q r x a facts is named moved same at before s =
-    let f = passes plan.layout (length plan.slots) (length plan.layout.extents) plan.body p a facts.body s.at.path (subst (λ y. Names plan.layout y a) is named) in
-    stands_after plan p r a facts f (subst (λ o. Same plan.layout (left plan.body o) (left plan.body r)) moved same) at before s
+    let f =
+    passes plan.layout (length plan.slots) (length plan.layout.extents) plan.body p a facts.body s.at.path
+    (subst (λ y. Names plan.layout y a) is named) in
+    stands_after plan p r a facts f (subst (λ o. Same plan.layout (left plan.body o) (left plan.body r)) moved same) at
+    before s
 
 -- ---- the next statement
 
-active_by : (slots regions : ℕ) (s : Statement) (k : Sequence) (es : List Entry) → IsStatement slots regions s → IsReady (andthen s k) es → IsActive s
+active_by : (slots regions : ℕ) (s : Statement) (k : Sequence) (es : List Entry) → IsStatement slots regions s
+    → IsReady (andthen s k) es → IsActive s
 active_by slots regions (step s) k es rules ready = tt
 active_by slots regions (loop n c) k es rules ready = absurd ready
 active_by slots regions (choice bs) k es rules ready = let few = rules.1 in omega arith
 
-pub next_active : (slots regions : ℕ) (b : Sequence) (p : Place) (s : Statement) (k : Sequence) → IsSequence slots regions b → sequence_drop p.index (body_at b p.entries) ≡ andthen s k → IsReadyAt b p → IsActive s
+pub next_active : (slots regions : ℕ) (b : Sequence) (p : Place) (s : Statement) (k : Sequence)
+    → IsSequence slots regions b → sequence_drop p.index (body_at b p.entries) ≡ andthen s k → IsReadyAt b p
+    → IsActive s
 next_active slots regions b p s k rules h ready =
-    active_by slots regions s k p.entries (next_keeps slots regions b p s k rules h) (subst (λ d. IsReady d p.entries) h ready)
+    active_by slots regions s k p.entries (next_keeps slots regions b p s k rules h)
+    (subst (λ d. IsReady d p.entries) h ready)

@@ -1,27 +1,25 @@
 -- What the value that is written has: no floats, few levels, and the bytes of the plan's text.
-use Rattle.std.proofs.Common.{◌≡◌, ◌≢◌, ℕ, ◌+◌, ◌*◌, max, ◌<◌, ◌≤◌, Bool, true, false, ◌&&◌, ◌||◌, ◌==◌, nat_lt, List, [], ◌∷◌, ◌++◌, length, map, get_or, codes, refl, sym, ap, ◌∙◌, append_assoc, arith}
-use Rattle.std.specs.Prelude.{flat_map}
-use Rattle.std.specs.Char.{is_ascii_digit, is_ascii_lowercase}
-use Rattle.std.specs.List.{list_all, join_with_byte}
+use Rattle.std.proofs.Common.{◌≡◌, ℕ, ◌+◌, ◌*◌, max, ◌<◌, ◌≤◌, false, List}
+use Rattle.std.proofs.Common.{[], ◌∷◌, ◌++◌, length, map, get_or, codes, refl, ap, ◌∙◌, append_assoc, arith}
 use Rattle.std.specs.Fmt.{decimal, digits}
-use Rattle.std.proofs.lemmas.Bool.{and_parts}
-use Rattle.std.proofs.lemmas.Bool.Decides.{nat_tests}
 use Rattle.std.proofs.lemmas.Option.{slice_get-get_or, unwrap_or-slice_get}
-use Rattle.std.proofs.lemmas.List.{append-nil}
-use Rattle.json.specs.Print.{escape_letter, escape_byte, escape, quoted}
+use Rattle.json.specs.Print.{escape_byte, quoted}
 use Rattle.serde_json.specs.Data.{Data, object, depth, items_depth}
 use Rattle.serde_json.specs.View.{items_of}
 use Rattle.serde_json.specs.Written.{has_float, items_have_float, compact_text, items_text}
-use Rattle.pp_settings.specs.Names as regions
+use Rattle.pp_text.specs.Words.{in_quotes, in_brackets}
+use Rattle.pp_text.proofs.Escapes.{quoted_name, list_bytes}
 use Rattle.pp_settings.specs.Settings.{NamedRegion, Configuration, IsConfiguration}
-use Rattle.pp_plan.specs.Names as slots
+use Rattle.pp_plan.specs.Limits.{longest_name}
 use Rattle.pp_plan.specs.declared.mode.Mode.{Mode}
 use Rattle.pp_plan.specs.declared.mode.Mode.TheVariants.{S, X}
-use Rattle.pp_plan.specs.Tree.{Step, fix, unfix, latch, unlatch, Statement, step, loop, choice, Sequence, done, andthen, Alternatives, none, either, statement_depth, sequence_depth, alternatives_depth}
+use Rattle.pp_plan.specs.Tree.{Step, fix, unfix, latch, unlatch, Statement, step, loop, choice, Sequence, done, andthen}
+use Rattle.pp_plan.specs.Tree.{Alternatives, none, either, statement_depth, sequence_depth, alternatives_depth}
 use Rattle.pp_plan.specs.Rules.{IsStep, IsStatement, IsSequence, AreAlternatives}
 use Rattle.pp_plan.specs.Terms.{Terms, IsPlan}
 use Rattle.pp_plan.specs.Spelling.{letter_of}
-use Rattle.pp_plan.specs.Writing.{slot_name, region_name, in_quotes, in_brackets, step_text, statement_text, statement_texts, branch_texts, plan_text}
+use Rattle.pp_plan.specs.Writing.{slot_name, region_name, step_text, statement_text, statement_texts, branch_texts}
+use Rattle.pp_plan.specs.Writing.{plan_text}
 use Rattle.pp_plan.specs.Values.{step_value, statement_value, statement_values, branch_values, plan_members}
 
 -- ---- no floats
@@ -33,16 +31,19 @@ step_plain c ss (latch k m) = refl
 step_plain c ss (unlatch k) = refl
 
 mutual
-  statement_plain : (c : Configuration) (ss : List (List ℕ)) (s : Statement) → has_float (statement_value c ss s) ≡ false
+  statement_plain : (c : Configuration) (ss : List (List ℕ)) (s : Statement)
+      → has_float (statement_value c ss s) ≡ false
   statement_plain c ss (step s) = step_plain c ss s
   statement_plain c ss (loop n b) = rw (sequence_plain c ss b) refl
   statement_plain c ss (choice bs) = rw (branches_plain c ss bs) refl
 
-  sequence_plain : (c : Configuration) (ss : List (List ℕ)) (b : Sequence) → items_have_float (items_of (statement_values c ss b)) ≡ false
+  sequence_plain : (c : Configuration) (ss : List (List ℕ)) (b : Sequence)
+      → items_have_float (items_of (statement_values c ss b)) ≡ false
   sequence_plain c ss done = refl
   sequence_plain c ss (andthen s b) = rw (statement_plain c ss s) (sequence_plain c ss b)
 
-  branches_plain : (c : Configuration) (ss : List (List ℕ)) (bs : Alternatives) → items_have_float (items_of (branch_values c ss bs)) ≡ false
+  branches_plain : (c : Configuration) (ss : List (List ℕ)) (bs : Alternatives)
+      → items_have_float (items_of (branch_values c ss bs)) ≡ false
   branches_plain c ss none = refl
   branches_plain c ss (either b bs) = rw (sequence_plain c ss b) (branches_plain c ss bs)
 
@@ -65,16 +66,21 @@ step_levels c ss (unlatch k) = omega arith
 
 mutual
   -- A statement takes three levels at most: an object, a list, and a list of lists.
-  statement_levels : (c : Configuration) (ss : List (List ℕ)) (s : Statement) → depth (statement_value c ss s) ≤ 3 * statement_depth s
+  statement_levels : (c : Configuration) (ss : List (List ℕ)) (s : Statement)
+      → depth (statement_value c ss s) ≤ 3 * statement_depth s
   statement_levels c ss (step s) = let h = step_levels c ss s in omega (arith, h)
   statement_levels c ss (loop n b) = let h = sequence_levels c ss b in omega (arith, h)
   statement_levels c ss (choice bs) = let h = branches_levels c ss bs in omega (arith, h)
 
-  sequence_levels : (c : Configuration) (ss : List (List ℕ)) (b : Sequence) → items_depth (items_of (statement_values c ss b)) ≤ 3 * sequence_depth b
+  sequence_levels : (c : Configuration) (ss : List (List ℕ)) (b : Sequence)
+      → items_depth (items_of (statement_values c ss b)) ≤ 3 * sequence_depth b
   sequence_levels c ss done = omega arith
-  sequence_levels c ss (andthen s b) = max_below (depth (statement_value c ss s)) (items_depth (items_of (statement_values c ss b))) (statement_depth s) (sequence_depth b) (statement_levels c ss s) (sequence_levels c ss b)
+  sequence_levels c ss (andthen s b) =
+      max_below (depth (statement_value c ss s)) (items_depth (items_of (statement_values c ss b))) (statement_depth s)
+      (sequence_depth b) (statement_levels c ss s) (sequence_levels c ss b)
 
-  branches_levels : (c : Configuration) (ss : List (List ℕ)) (bs : Alternatives) → items_depth (items_of (branch_values c ss bs)) ≤ 3 * alternatives_depth bs + 1
+  branches_levels : (c : Configuration) (ss : List (List ℕ)) (bs : Alternatives)
+      → items_depth (items_of (branch_values c ss bs)) ≤ 3 * alternatives_depth bs + 1
   branches_levels c ss none = omega arith
   branches_levels c ss (either b bs) =
       let h = sequence_levels c ss b in
@@ -86,98 +92,30 @@ few_levels c t plan = let h = sequence_levels c t.slots t.body in omega (arith, 
 
 -- ---- words in quotes
 
-no_letter : (x : ℕ) → 34 < x → x ≢ 92 → escape_letter x ≡ 0
-no_letter x above other = grind (arith, nat_tests)
-
--- Each byte that a name may have stands for itself in a JSON text.
-plain_byte : (x : ℕ) → 34 < x → x ≢ 92 → escape_byte x ≡ x ∷ []
-unfolding escape_byte
-plain_byte x above other =
-    let low : nat_lt x 32 ≡ false = grind (arith, nat_tests) in
-    rw (no_letter x above other, low) refl
-
-slot_byte : (x : ℕ) → slots.is_name_byte x ≡ true → (34 < x) × (x ≢ 92)
-slot_byte x e = (grind (arith, nat_tests), λ is. grind (arith, nat_tests))
-
-region_byte : (x : ℕ) → regions.is_name_byte x ≡ true → (34 < x) × (x ≢ 92)
-region_byte x e = (grind (arith, nat_tests), λ is. grind (arith, nat_tests))
-
-plain_text : (f : ℕ → Bool) → ((x : ℕ) → f x ≡ true → (34 < x) × (x ≢ 92)) → (s : List ℕ) → list_all f s ≡ true → escape s ≡ s
-plain_text f plain [] e = refl
-plain_text f plain (x ∷ s) e =
-    let (here, more) = and_parts (f x) (list_all f s) e in
-    let (above, other) = plain x here in
-    rw (plain_byte x above other, plain_text f plain s more) refl
-
-quoted_plain : (s : List ℕ) → escape s ≡ s → quoted s ≡ in_quotes s
-quoted_plain s e = rw e refl
-
 quoted_letter : (m : Mode) → quoted (letter_of m) ≡ in_quotes (letter_of m)
 unfolding escape_byte
 quoted_letter S = refl
 quoted_letter X = refl
 
-and_again : (a b : Bool) → a ≡ true → b ≡ true → (a && b) ≡ true
-and_again true b p q = q
-and_again false b p q = absurd cc
-
-or_first : (a b d : Bool) → a ≡ true → ((a || b) || d) ≡ true
-or_first true b d p = refl
-or_first false b d p = absurd cc
-
-slot_bytes : (s : List ℕ) → slots.is_slot_name s ≡ true → list_all slots.is_name_byte s ≡ true
-slot_bytes [] e = absurd cc
-slot_bytes (x ∷ s) e =
-    let (start, more) = and_parts (is_ascii_lowercase x && nat_lt (length s) 16) (list_all slots.is_name_byte s) e in
-    let (small, _) = and_parts (is_ascii_lowercase x) (nat_lt (length s) 16) start in
-    and_again (slots.is_name_byte x) (list_all slots.is_name_byte s) (or_first (is_ascii_lowercase x) (is_ascii_digit x) (x == 95) small) more
-
-region_bytes : (s : List ℕ) → regions.is_name s ≡ true → list_all regions.is_name_byte s ≡ true
-region_bytes [] e = absurd cc
-region_bytes (x ∷ s) e =
-    let (start, more) = and_parts (is_ascii_lowercase x && nat_lt (length s) 32) (list_all regions.is_name_byte s) e in
-    let (small, _) = and_parts (is_ascii_lowercase x) (nat_lt (length s) 32) start in
-    and_again (regions.is_name_byte x) (list_all regions.is_name_byte s) (or_first (is_ascii_lowercase x) (is_ascii_digit x) (x == 95) small) more
-
-slot_quoted : (t : Terms) → IsPlan t → (k : ℕ) → k < length t.slots → quoted (slot_name t.slots k) ≡ in_quotes (slot_name t.slots k)
+slot_quoted : (t : Terms) → IsPlan t → (k : ℕ) → k < length t.slots
+    → quoted (slot_name t.slots k) ≡ in_quotes (slot_name t.slots k)
 slot_quoted t plan k within =
     let name = get_or t.slots k [] in
     let is : slot_name t.slots k ≡ name = unwrap_or-slice_get t.slots k [] in
-    let fits = slot_bytes name (plan.names k [] within) in
-    rw is (quoted_plain name (plain_text slots.is_name_byte slot_byte name fits))
+    rw is (quoted_name longest_name name (plan.names k [] within))
 
 pub nameless : NamedRegion
 nameless = record { name = []; extent = record { first = 0; count = 0; class = 0 } }
 
-pub region_at : (c : Configuration) (r : ℕ) → r < length c.regions → region_name c r ≡ (get_or c.regions r nameless).name
+pub region_at : (c : Configuration) (r : ℕ) → r < length c.regions
+    → region_name c r ≡ (get_or c.regions r nameless).name
 region_at c r within = rw (slice_get-get_or c.regions r nameless within) refl
 
-region_quoted : (c : Configuration) → IsConfiguration c → (r : ℕ) → r < length c.regions → quoted (region_name c r) ≡ in_quotes (region_name c r)
+region_quoted : (c : Configuration) → IsConfiguration c → (r : ℕ) → r < length c.regions
+    → quoted (region_name c r) ≡ in_quotes (region_name c r)
 region_quoted c settings r within =
     let name = (get_or c.regions r nameless).name in
-    let fits = region_bytes name (settings.regions.each r nameless within).name in
-    rw (region_at c r within) (quoted_plain name (plain_text regions.is_name_byte region_byte name fits))
-
--- ---- texts in brackets
-
-joined : (t : List ℕ) (ts : List (List ℕ)) → join_with_byte 44 (t ∷ ts) ≡ t ++ flat_map (λ u. 44 ∷ u) ts
-joined t [] = sym (append-nil t)
-joined t (u ∷ ts) = ap (λ z. t ++ 44 ∷ z) (joined u ts)
-
-later_items : (ds : List Data) → items_text true (items_of ds) ≡ flat_map (λ u. 44 ∷ u) (map compact_text ds) ++ 93 ∷ []
-later_items [] = refl
-later_items (d ∷ ds) = ap (λ z. 44 ∷ (compact_text d ++ z)) (later_items ds) ∙ ap (λ z. 44 ∷ z) (sym (append_assoc (compact_text d) (flat_map (λ u. 44 ∷ u) (map compact_text ds)) (93 ∷ [])))
-
-all_items : (ds : List Data) → items_text false (items_of ds) ≡ join_with_byte 44 (map compact_text ds) ++ 93 ∷ []
-all_items [] = refl
-all_items (d ∷ ds) =
-    ap (λ z. compact_text d ++ z) (later_items ds)
-    ∙ sym (append_assoc (compact_text d) (flat_map (λ u. 44 ∷ u) (map compact_text ds)) (93 ∷ []))
-    ∙ ap (λ z. z ++ 93 ∷ []) (sym (joined (compact_text d) (map compact_text ds)))
-
--- The text of a list of values.
-list_bytes : (ds : List Data) (ts : List (List ℕ)) → map compact_text ds ≡ ts → 91 ∷ items_text false (items_of ds) ≡ in_brackets ts
-list_bytes ds ts e = ap (λ z. 91 ∷ z) (all_items ds) ∙ ap in_brackets e
+    rw (region_at c r within) (quoted_name 32 name (settings.regions.each r nameless within).name)
 
 -- ---- the text of each statement
 
@@ -187,48 +125,78 @@ two_words a b q r x y e f = rw (e, f) (simp append_assoc)
 one_word : (a q x : List ℕ) → x ≡ q → a ++ (x ++ 125 ∷ []) ≡ a ++ q ++ codes "}"
 one_word a q x e = rw e (simp append_assoc)
 
-step_bytes : (c : Configuration) (t : Terms) → IsConfiguration c → IsPlan t → (s : Step) → IsStep (length t.slots) (length c.regions) s → compact_text (step_value c t.slots s) ≡ step_text c t.slots s
+step_bytes : (c : Configuration) (t : Terms) → IsConfiguration c → IsPlan t → (s : Step)
+    → IsStep (length t.slots) (length c.regions) s → compact_text (step_value c t.slots s) ≡ step_text c t.slots s
 unfolding escape_byte
-step_bytes c t settings plan (fix k r) (within, there) = two_words (codes "{\"fix\":") (codes ",\"region\":") _ _ _ _ (slot_quoted t plan k within) (region_quoted c settings r there)
+step_bytes c t settings plan (fix k r) (within, there) =
+    two_words (codes "{\"fix\":") (codes ",\"region\":") _ _ _ _ (slot_quoted t plan k within)
+    (region_quoted c settings r there)
 step_bytes c t settings plan (unfix k) within = one_word (codes "{\"unfix\":") _ _ (slot_quoted t plan k within)
-step_bytes c t settings plan (latch k m) within = two_words (codes "{\"latch\":") (codes ",\"mode\":") _ _ _ _ (slot_quoted t plan k within) (quoted_letter m)
+step_bytes c t settings plan (latch k m) within =
+    two_words (codes "{\"latch\":") (codes ",\"mode\":") _ _ _ _ (slot_quoted t plan k within) (quoted_letter m)
 step_bytes c t settings plan (unlatch k) within = one_word (codes "{\"unlatch\":") _ _ (slot_quoted t plan k within)
 
-loop_bytes : (x q n : List ℕ) → x ≡ q → codes "{\"body\":" ++ (x ++ (codes ",\"loop\":" ++ (n ++ codes "}"))) ≡ codes "{\"body\":" ++ q ++ codes ",\"loop\":" ++ n ++ codes "}"
+loop_bytes : (x q n : List ℕ) → x ≡ q
+    → codes "{\"body\":" ++ (x ++ (codes ",\"loop\":" ++ (n ++ codes "}"))) ≡ codes "{\"body\":" ++ q
+    ++ codes ",\"loop\":" ++ n ++ codes "}"
 loop_bytes x q n e = rw e (simp append_assoc)
 
 mutual
   unfolding escape_byte
 
-  statement_bytes : (c : Configuration) (t : Terms) → IsConfiguration c → IsPlan t → (s : Statement) → IsStatement (length t.slots) (length c.regions) s → compact_text (statement_value c t.slots s) ≡ statement_text c t.slots s
+  statement_bytes : (c : Configuration) (t : Terms) → IsConfiguration c → IsPlan t → (s : Statement)
+      → IsStatement (length t.slots) (length c.regions) s
+      → compact_text (statement_value c t.slots s) ≡ statement_text c t.slots s
   statement_bytes c t settings plan (step s) keeps = step_bytes c t settings plan s keeps
   statement_bytes c t settings plan (loop n b) keeps =
-      loop_bytes (91 ∷ items_text false (items_of (statement_values c t.slots b))) (in_brackets (statement_texts c t.slots b)) (decimal n) (list_bytes (statement_values c t.slots b) (statement_texts c t.slots b) (sequence_bytes c t settings plan b keeps.3))
+      loop_bytes (91 ∷ items_text false (items_of (statement_values c t.slots b)))
+      (in_brackets (statement_texts c t.slots b)) (decimal n)
+      (list_bytes (statement_values c t.slots b) (statement_texts c t.slots b)
+      (sequence_bytes c t settings plan b keeps.3))
   statement_bytes c t settings plan (choice bs) keeps =
-      one_word (codes "{\"choice\":") (in_brackets (branch_texts c t.slots bs)) (91 ∷ items_text false (items_of (branch_values c t.slots bs))) (list_bytes (branch_values c t.slots bs) (branch_texts c t.slots bs) (branches_bytes c t settings plan bs keeps.2))
+      one_word (codes "{\"choice\":") (in_brackets (branch_texts c t.slots bs))
+      (91 ∷ items_text false (items_of (branch_values c t.slots bs)))
+      (list_bytes (branch_values c t.slots bs) (branch_texts c t.slots bs)
+      (branches_bytes c t settings plan bs keeps.2))
 
-  sequence_bytes : (c : Configuration) (t : Terms) → IsConfiguration c → IsPlan t → (b : Sequence) → IsSequence (length t.slots) (length c.regions) b → map compact_text (statement_values c t.slots b) ≡ statement_texts c t.slots b
+  sequence_bytes : (c : Configuration) (t : Terms) → IsConfiguration c → IsPlan t → (b : Sequence)
+      → IsSequence (length t.slots) (length c.regions) b
+      → map compact_text (statement_values c t.slots b) ≡ statement_texts c t.slots b
   sequence_bytes c t settings plan done keeps = refl
-  sequence_bytes c t settings plan (andthen s b) keeps = λ i. statement_bytes c t settings plan s keeps.0 i ∷ sequence_bytes c t settings plan b keeps.1 i
+  sequence_bytes c t settings plan (andthen s b) keeps =
+      λ i. statement_bytes c t settings plan s keeps.0 i ∷ sequence_bytes c t settings plan b keeps.1 i
 
-  branches_bytes : (c : Configuration) (t : Terms) → IsConfiguration c → IsPlan t → (bs : Alternatives) → AreAlternatives (length t.slots) (length c.regions) bs → map compact_text (branch_values c t.slots bs) ≡ branch_texts c t.slots bs
+  branches_bytes : (c : Configuration) (t : Terms) → IsConfiguration c → IsPlan t → (bs : Alternatives)
+      → AreAlternatives (length t.slots) (length c.regions) bs
+      → map compact_text (branch_values c t.slots bs) ≡ branch_texts c t.slots bs
   branches_bytes c t settings plan none keeps = refl
   branches_bytes c t settings plan (either b bs) keeps =
-      let here = list_bytes (statement_values c t.slots b) (statement_texts c t.slots b) (sequence_bytes c t settings plan b keeps.0) in
+      let here =
+      list_bytes (statement_values c t.slots b) (statement_texts c t.slots b)
+      (sequence_bytes c t settings plan b keeps.0) in
       λ i. here i ∷ branches_bytes c t settings plan bs keeps.1 i
 
 one_digit : decimal 1 ≡ codes "1"
 unfolding digits
 one_digit = refl
 
-plan_shape : (x q n : List ℕ) → x ≡ q → n ≡ codes "1" → codes "{\"body\":" ++ (x ++ (codes ",\"version\":" ++ (n ++ codes "}"))) ≡ codes "{\"body\":" ++ q ++ codes ",\"version\":1}"
+plan_shape : (x q n : List ℕ) → x ≡ q → n ≡ codes "1"
+    → codes "{\"body\":" ++ (x ++ (codes ",\"version\":" ++ (n ++ codes "}"))) ≡ codes "{\"body\":" ++ q
+    ++ codes ",\"version\":1}"
 plan_shape x q n e one = rw (e, one) (simp append_assoc)
 
-plan_bytes : (c : Configuration) (t : Terms) → IsConfiguration c → IsPlan t → IsSequence (length t.slots) (length c.regions) t.body → compact_text (object (plan_members c t)) ≡ plan_text c t
+plan_bytes : (c : Configuration) (t : Terms) → IsConfiguration c → IsPlan t
+    → IsSequence (length t.slots) (length c.regions) t.body → compact_text (object (plan_members c t)) ≡ plan_text c t
 unfolding escape_byte
 plan_bytes c t settings plan keeps =
-    plan_shape (91 ∷ items_text false (items_of (statement_values c t.slots t.body))) (in_brackets (statement_texts c t.slots t.body)) (decimal 1) (list_bytes (statement_values c t.slots t.body) (statement_texts c t.slots t.body) (sequence_bytes c t settings plan t.body keeps)) one_digit
+    plan_shape (91 ∷ items_text false (items_of (statement_values c t.slots t.body)))
+    (in_brackets (statement_texts c t.slots t.body)) (decimal 1)
+    (list_bytes (statement_values c t.slots t.body) (statement_texts c t.slots t.body)
+    (sequence_bytes c t settings plan t.body keeps)) one_digit
 
 -- What the writer gives of the value is the plan's text.
-pub text_is : (c : Configuration) (t : Terms) → IsConfiguration c → IsPlan t → IsSequence (length t.slots) (length c.regions) t.body → (d : Data) (text : List ℕ) → d ≡ object (plan_members c t) → (has_float d ≡ false → text ≡ compact_text d) → text ≡ plan_text c t
-text_is c t settings plan keeps d text is writes = writes (ap has_float is ∙ no_float c t) ∙ ap compact_text is ∙ plan_bytes c t settings plan keeps
+pub text_is : (c : Configuration) (t : Terms) → IsConfiguration c → IsPlan t
+    → IsSequence (length t.slots) (length c.regions) t.body → (d : Data) (text : List ℕ) → d ≡ object (plan_members c t)
+    → (has_float d ≡ false → text ≡ compact_text d) → text ≡ plan_text c t
+text_is c t settings plan keeps d text is writes = writes (ap has_float is ∙ no_float c t) ∙ ap compact_text is
+    ∙ plan_bytes c t settings plan keeps

@@ -1,7 +1,9 @@
 -- What a cursor stands for, and what it may ask.
 use Rattle.std.specs.Prelude.{◌≡◌, ◌<◌, ◌≤◌, ℕ, List, [], ◌∷◌, ◌++◌}
 use Rattle.pp_settings.specs.Layout.{Geometry}
-use Rattle.pp_plan.specs.Tree.{fix, unfix, latch, unlatch, Statement, step, loop, choice, Sequence, done, andthen, branch_count}
+use Rattle.pp_plan.specs.Limits.{most_branches}
+use Rattle.pp_plan.specs.Tree.{fix, unfix, latch, unlatch, Statement, step, loop, choice, Sequence, done, andthen}
+use Rattle.pp_plan.specs.Tree.{branch_count}
 use Rattle.pp_plan.specs.Terms.{Terms}
 use Rattle.pp_plan.specs.Traces.{Does, IsTrace, Begins}
 use Rattle.pp_plan.specs.Left.{sequence_drop, Place, body_at, left}
@@ -53,8 +55,10 @@ pub record IsAt (b : Sequence) (p : Place) : Type 0 where
 pub record StandsFor (plan : Terms) (cursor : Place) (before : List Action) : Type 0 where
   pub at : IsAt plan.body cursor
   pub begins : Begins plan.layout plan.body before
-  pub to : (rest : List Action) → IsTrace plan.layout plan.body (before ++ rest) → IsTrace plan.layout (left plan.body cursor) rest
-  pub from : (rest : List Action) → IsTrace plan.layout (left plan.body cursor) rest → IsTrace plan.layout plan.body (before ++ rest)
+  pub to : (rest : List Action) → IsTrace plan.layout plan.body (before ++ rest)
+      → IsTrace plan.layout (left plan.body cursor) rest
+  pub from : (rest : List Action) → IsTrace plan.layout (left plan.body cursor) rest
+      → IsTrace plan.layout plan.body (before ++ rest)
 
 -- The cursor is one of this plan: it stands for some list.
 abbrev pub IsCursorOf : Terms → Place → Type 0
@@ -79,5 +83,5 @@ IsAskOf slots regions (ask.Fix s r) = (s < slots) × (r < regions)
 IsAskOf slots regions (ask.Unfix s) = s < slots
 IsAskOf slots regions (ask.Latch s m) = s < slots
 IsAskOf slots regions (ask.Unlatch s) = s < slots
-IsAskOf slots regions (ask.Choose n) = (1 ≤ n) × (n ≤ 16)
+IsAskOf slots regions (ask.Choose n) = (1 ≤ n) × (n ≤ most_branches)
 IsAskOf slots regions ask.End = Unit {0}

@@ -1,8 +1,12 @@
 -- How a cursor moves: the words of its private parts.
-use Rattle.std.specs.Prelude.{◌≡◌, ◌<◌, ◌^◌, ℕ, zero, suc, ◌+◌, Option, Some, None, List, [], ◌∷◌, length, slice_index, slice_index_or}
+use Rattle.std.specs.Prelude.{◌≡◌, ◌<◌, ◌^◌, ℕ, zero, suc, ◌+◌, Option, Some, None, List, [], ◌∷◌, length, slice_index}
+use Rattle.std.specs.Prelude.{slice_index_or}
 use Rattle.pp_settings.specs.Layout.{Geometry}
-use Rattle.pp_plan.specs.Tree.{fix, unfix, latch, unlatch, Statement, step, loop, choice, Sequence, done, andthen, branch_count}
+use Rattle.pp_plan.specs.Limits.{most_depth}
+use Rattle.pp_plan.specs.Tree.{Statement, step, loop, choice, Sequence, done, andthen}
+use Rattle.pp_plan.specs.Tree.{branch_count}
 use Rattle.pp_plan.specs.Traces.{IsTrace}
+use Rattle.pp_plan.specs.Asked.{statement_ask}
 use Rattle.pp_plan.specs.Left.{sequence_drop, Place, body_at}
 use Rattle.pp_plan.specs.declared.cursor.Entry.{Entry}
 use Rattle.pp_plan.specs.declared.action.Action.{Action}
@@ -47,7 +51,7 @@ moved_by _ p = skipped p
 
 -- There is room to go past the action: a place for a choice's entry, a number for the next statement.
 abbrev pub CanPass : Action → Place → Type 0
-CanPass (Choose i) p = length p.entries < 16
+CanPass (Choose i) p = length p.entries < most_depth
 CanPass _ p = p.index + 1 < 2 ^ 64
 
 -- ---- moves without an action
@@ -76,18 +80,10 @@ sequence_length (andthen s k) = suc (sequence_length k)
 -- The numbers of statements of the bodies that the entries lead through, the outermost first.
 abbrev pub AreLengths : Sequence → List ℕ → List Entry → Type 0
 AreLengths b ns [] = slice_index ns 0 ≡ sequence_length b
-AreLengths b ns (e ∷ es) = (slice_index ns (suc (length es)) ≡ sequence_length (body_at b (e ∷ es))) × AreLengths b ns es
+AreLengths b ns (e ∷ es) =
+    (slice_index ns (suc (length es)) ≡ sequence_length (body_at b (e ∷ es))) × AreLengths b ns es
 
 -- ---- what is asked
-
--- What a statement asks that makes an action, which a loop doesn't.
-abbrev pub statement_ask : Statement → Ask
-statement_ask (step (fix s r)) = ask.Fix s r
-statement_ask (step (unfix s)) = ask.Unfix s
-statement_ask (step (latch s m)) = ask.Latch s m
-statement_ask (step (unlatch s)) = ask.Unlatch s
-statement_ask (loop n b) = ask.End
-statement_ask (choice bs) = ask.Choose (branch_count bs)
 
 -- What is asked where this is the rest of the body: what its first statement asks, or the end.
 abbrev pub first_ask : Sequence → Ask

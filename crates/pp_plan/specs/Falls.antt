@@ -17,6 +17,7 @@ most_le-sequence_size (Unlatch s ∷ ss) = omega (arith, most_le-sequence_size s
 most_le-sequence_size (Loop n b ∷ ss) = omega (arith, most_le-sequence_size ss)
 most_le-sequence_size (Choice bs ∷ ss) = omega (arith, most_le-sequence_size ss)
 
-pub most_le-alternatives_size : (bs : List Sequence) → most (λ b. sequence_size b + 1) bs ≤ alternatives_size (alternatives_of bs)
+pub most_le-alternatives_size : (bs : List Sequence)
+    → most (λ b. sequence_size b + 1) bs ≤ alternatives_size (alternatives_of bs)
 most_le-alternatives_size [] = omega arith
 most_le-alternatives_size (b ∷ bs) = omega (arith, most_le-alternatives_size bs)

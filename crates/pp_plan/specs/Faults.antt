@@ -1,15 +1,22 @@
 -- The faults of a document, each said by itself, and the order in which they are told: the refusal is the first.
-use Rattle.std.specs.Prelude.{◌≡◌, ◌≢◌, ◌⊎◌, ℕ, zero, suc, ◌+◌, ◌≤◌, ◌<◌, List, [], ◌∷◌, ◌++◌, length, map, flat_map, slice_get, All, AllPairs, IsTrue, Option, None, Some, codes, true}
+use Rattle.std.specs.Prelude.{◌≡◌, ◌≢◌, ◌⊎◌, ℕ, zero, suc, ◌+◌, ◌≤◌, ◌<◌, List, [], ◌∷◌, ◌++◌, length, map, flat_map}
+use Rattle.std.specs.Prelude.{slice_get, All, AllPairs, IsTrue, Option, None, Some, codes, true}
 use Rattle.std.specs.Option.{option_map_or}
 use Rattle.serde_json.specs.Data.{Data, number, unsigned, string, array, Items, no_items, item}
 use Rattle.serde_json.specs.Find.{get, as_array}
+use Rattle.pp_text.specs.Objects.{HasOnly, Holds}
 use Rattle.pp_settings.specs.Settings.{Configuration, region_named}
 use Rattle.pp_plan.specs.declared.kind.Kind.{Kind}
+use Rattle.pp_plan.specs.declared.kind.Kind.TheVariants as kind
+use Rattle.pp_plan.specs.Keys.{top_keys, keys_of, first_key}
+use Rattle.pp_plan.specs.Limits.{most_statements, most_depth, most_slots, most_turns, most_branches}
 use Rattle.pp_plan.specs.declared.error.PlanError.{PlanError}
-use Rattle.pp_plan.specs.declared.error.PlanError.TheVariants.{NotJson, NoSuchStatement, WrongField, BadName, NoSuchRegion, Range, TooDeep, TooMany}
+use Rattle.pp_plan.specs.declared.error.PlanError.TheVariants.{NotJson, NoSuchStatement, WrongField, BadName}
+use Rattle.pp_plan.specs.declared.error.PlanError.TheVariants.{NoSuchRegion, Range, TooDeep, TooMany}
 use Rattle.pp_plan.specs.Names.{is_slot_name}
-use Rattle.pp_plan.specs.Shapes.{first_key, are_lists, Shape, fix_shape, unfix_shape, latch_shape, unlatch_shape, loop_shape, choice_shape}
-use Rattle.pp_plan.specs.Spelling.{HasOnly, Holds, letter_of}
+use Rattle.pp_plan.specs.Shapes.{are_lists, Shape, fix_shape, unfix_shape, latch_shape, unlatch_shape, loop_shape}
+use Rattle.pp_plan.specs.Shapes.{choice_shape}
+use Rattle.pp_plan.specs.Spelling.{letter_of}
 
 -- ---- the statements of a document
 
@@ -30,7 +37,8 @@ listed d = option_map_or elements (as_array d) []
 abbrev pub listed_at : List ℕ → Data → List Data
 listed_at key d = option_map_or listed (get key d) []
 
--- The statements directly inside a statement: those of a loop's body, and those of a choice's branches. Another value that
+-- The statements directly inside a statement: those of a loop's body, and those of a choice's branches. Another value
+-- that
 -- has these keys is a fault already.
 abbrev pub inside : Data → List Data
 inside d = listed_at (codes "body") d ++ flat_map listed (listed_at (codes "choice") d)
@@ -38,12 +46,13 @@ inside d = listed_at (codes "body") d ++ flat_map listed (listed_at (codes "choi
 -- A statement, and then those inside it, so many levels in all.
 abbrev pub statements_in : (levels depth : ℕ) → Data → List Written
 statements_in zero depth d = []
-statements_in (suc levels) depth d = (record { depth = depth; value = d }) ∷ flat_map (statements_in levels (depth + 1)) (inside d)
+statements_in (suc levels) depth d =
+    (record { depth = depth; value = d }) ∷ flat_map (statements_in levels (depth + 1)) (inside d)
 
 -- The statements of a document in the order in which they begin: a statement's number is its place here. What stands
 -- inside a statement of depth 17 is left out, since that one is a fault already.
 unfoldable pub statements_of : Data → List Written
-statements_of d = flat_map (statements_in 17 1) (listed_at (codes "body") d)
+statements_of d = flat_map (statements_in (most_depth + 1) 1) (listed_at (codes "body") d)
 
 -- ---- what may stand in a statement
 
@@ -53,16 +62,24 @@ IsOfKind d k = ((v : Data) × Holds d (first_key k) v) × ((j : Kind) (v : Data)
 
 -- The value has exactly the keys of this form, each with a value of its kind.
 abbrev pub SpellsShape : Data → Shape → Type 0
-SpellsShape d (fix_shape slot region) = HasOnly (codes "fix" ∷ codes "region" ∷ []) d × Holds d (codes "fix") (string slot) × Holds d (codes "region") (string region)
-SpellsShape d (unfix_shape slot) = HasOnly (codes "unfix" ∷ []) d × Holds d (codes "unfix") (string slot)
-SpellsShape d (latch_shape slot mode) = HasOnly (codes "latch" ∷ codes "mode" ∷ []) d × Holds d (codes "latch") (string slot) × Holds d (codes "mode") (string (letter_of mode))
-SpellsShape d (unlatch_shape slot) = HasOnly (codes "unlatch" ∷ []) d × Holds d (codes "unlatch") (string slot)
-SpellsShape d (loop_shape n ds) = HasOnly (codes "loop" ∷ codes "body" ∷ []) d × Holds d (codes "loop") (number (unsigned n)) × Holds d (codes "body") (array ds)
-SpellsShape d (choice_shape ds) = HasOnly (codes "choice" ∷ []) d × Holds d (codes "choice") (array ds) × (are_lists ds ≡ true)
+SpellsShape d (fix_shape slot region) =
+    HasOnly (keys_of kind.Fix) d × Holds d (codes "fix") (string slot) × Holds d (codes "region") (string region)
+SpellsShape d (unfix_shape slot) = HasOnly (keys_of kind.Unfix) d × Holds d (codes "unfix") (string slot)
+SpellsShape d (latch_shape slot mode) =
+    HasOnly (keys_of kind.Latch) d × Holds d (codes "latch") (string slot)
+    × Holds d (codes "mode") (string (letter_of mode))
+SpellsShape d (unlatch_shape slot) = HasOnly (keys_of kind.Unlatch) d × Holds d (codes "unlatch") (string slot)
+SpellsShape d (loop_shape n ds) =
+    HasOnly (keys_of kind.Loop) d × Holds d (codes "loop") (number (unsigned n)) × Holds d (codes "body") (array ds)
+SpellsShape d (choice_shape ds) =
+    HasOnly (keys_of kind.Choice) d × Holds d (codes "choice") (array ds) × (are_lists ds ≡ true)
 
 -- The value names the slot.
 abbrev pub NamesSlot : Data → List ℕ → Type 0
-NamesSlot d name = Holds d (codes "fix") (string name) ⊎ (Holds d (codes "unfix") (string name) ⊎ (Holds d (codes "latch") (string name) ⊎ Holds d (codes "unlatch") (string name)))
+NamesSlot d name =
+    Holds d (codes "fix") (string name)
+    ⊎ (Holds d (codes "unfix") (string name)
+    ⊎ (Holds d (codes "latch") (string name) ⊎ Holds d (codes "unlatch") (string name)))
 
 -- A statement before the n-th names the slot.
 abbrev pub IsNamedBefore : List Written → ℕ → List ℕ → Type 0
@@ -70,18 +87,24 @@ IsNamedBefore ss n name = (j : ℕ) × (j < n) × ((s : Written) × (slice_get s
 
 -- No statement before the n-th names the slot, and they name 32 others.
 abbrev pub IsOneTooMany : List Written → ℕ → List ℕ → Type 0
-IsOneTooMany ss n name = (¬ IsNamedBefore ss n name) × ((others : List (List ℕ)) × (length others ≡ 32) × AllPairs (λ a b. a ≢ b) others × All (IsNamedBefore ss n) others)
+IsOneTooMany ss n name =
+    (¬ IsNamedBefore ss n name) × ((others : List (List ℕ)) × (length others ≡ most_slots)
+    × AllPairs (λ a b. a ≢ b) others × All (IsNamedBefore ss n) others)
 
 -- A loop that doesn't run 1 to 65,535 times, one with an empty body, or a choice that hasn't 1 to 16 branches.
 abbrev pub IsOutOfRange : Data → Type 0
 IsOutOfRange d =
-    ((n : ℕ) × Holds d (codes "loop") (number (unsigned n)) × ¬ ((1 ≤ n) × (n ≤ 65535)))
-    ⊎ (Holds d (codes "body") (array no_items) ⊎ ((ds : Items) × Holds d (codes "choice") (array ds) × ¬ ((1 ≤ length (elements ds)) × (length (elements ds) ≤ 16))))
+    ((n : ℕ) × Holds d (codes "loop") (number (unsigned n)) × ¬ ((1 ≤ n) × (n ≤ most_turns)))
+    ⊎ (Holds d (codes "body") (array no_items)
+    ⊎ ((ds : Items) × Holds d (codes "choice") (array ds)
+    × ¬ ((1 ≤ length (elements ds)) × (length (elements ds) ≤ most_branches))))
 
 -- ---- the faults
 
--- What may be wrong with one statement: it is the 4,097th or later, stands below depth 16, hasn't exactly one of the six first
--- keys, has other keys or values of other kinds, names a slot out of form or no region of the settings, is out of range, or
+-- What may be wrong with one statement: it is the 4,097th or later, stands below depth 16, hasn't exactly one of the
+-- six first
+-- keys, has other keys or values of other kinds, names a slot out of form or no region of the settings, is out of
+-- range, or
 -- names one slot more than 32.
 pub data Cause : Type 0 where
   one_too_many : Cause
@@ -117,25 +140,28 @@ error_of (in_statement n name_too_many) = TooMany n
 
 -- The n-th of the statements is wrong in this way.
 abbrev pub HasCause : Configuration → List Written → ℕ → Written → Cause → Type 0
-HasCause settings ss n s one_too_many = 4096 ≤ n
-HasCause settings ss n s too_deep = 16 < s.depth
+HasCause settings ss n s one_too_many = most_statements ≤ n
+HasCause settings ss n s too_deep = most_depth < s.depth
 HasCause settings ss n s no_kind = ¬ ((k : Kind) × IsOfKind s.value k)
 HasCause settings ss n s other_form = ¬ ((shape : Shape) × SpellsShape s.value shape)
 HasCause settings ss n s bad_name = (name : List ℕ) × NamesSlot s.value name × ¬ IsTrue (is_slot_name name)
-HasCause settings ss n s no_region = (name : List ℕ) × Holds s.value (codes "region") (string name) × (region_named settings name ≡ None)
+HasCause settings ss n s no_region =
+    (name : List ℕ) × Holds s.value (codes "region") (string name) × (region_named settings name ≡ None)
 HasCause settings ss n s out_of_range = IsOutOfRange s.value
 HasCause settings ss n s name_too_many = (name : List ℕ) × NamesSlot s.value name × IsOneTooMany ss n name
 
 -- The value is an object of exactly a `body`, a list, and a `version`.
 abbrev pub IsTopForm : Data → Type 0
-IsTopForm d = HasOnly (codes "body" ∷ codes "version" ∷ []) d × ((ds : Items) × Holds d (codes "body") (array ds)) × ((v : Data) × Holds d (codes "version") v)
+IsTopForm d =
+    HasOnly top_keys d × ((ds : Items) × Holds d (codes "body") (array ds)) × ((v : Data) × Holds d (codes "version") v)
 
 -- A text, or the document that it is, has the fault.
 abbrev pub HasFault : Configuration → Option Data → Fault → Type 0
 HasFault settings None not_json = Unit {0}
 HasFault settings (Some d) other_top = ¬ IsTopForm d
 HasFault settings (Some d) other_version = ¬ Holds d (codes "version") (number (unsigned 1))
-HasFault settings (Some d) (in_statement n cause) = (s : Written) × (slice_get (statements_of d) n ≡ Some s) × HasCause settings (statements_of d) n s cause
+HasFault settings (Some d) (in_statement n cause) =
+    (s : Written) × (slice_get (statements_of d) n ≡ Some s) × HasCause settings (statements_of d) n s cause
 HasFault _ _ _ = ⊥
 
 -- ---- the order
@@ -151,7 +177,7 @@ at_statements n (suc m) = map (in_statement n) causes ++ at_statements (n + 1) m
 
 -- All faults of a text, in the order in which they are told. The 4,097th statement is one too many.
 abbrev pub order : List Fault
-order = not_json ∷ other_top ∷ other_version ∷ at_statements 0 4097
+order = not_json ∷ other_top ∷ other_version ∷ at_statements 0 (most_statements + 1)
 
 -- f is the first of the list that holds.
 abbrev pub IsFirst : (Fault → Type 0) → List Fault → Fault → Type 0

@@ -64,6 +64,7 @@ abbrev pub outside : Sequence → List Entry → Sequence
 outside b [] = done
 outside b (e ∷ es) = after (sequence_drop e.index (body_at b es)) e.turns then outside b es
 
--- What is left of a body at a place: the rest of the innermost body, and then what is left outside it. It is a body again.
+-- What is left of a body at a place: the rest of the innermost body, and then what is left outside it. It is a body
+-- again.
 abbrev pub left : Sequence → Place → Sequence
 left b p = sequence_drop p.index (body_at b p.entries) then outside b p.entries

@@ -1,3 +1,4 @@
+pub mod Limits
 pub mod Tree
 pub mod Coding
 pub mod View
@@ -10,10 +11,11 @@ pub mod Fields
 pub mod Slots
 pub mod PlanTraces
 pub mod Left
+pub mod Asked
 pub mod Cursor
 pub mod CursorMoves
 pub mod Refusals
-pub mod Steps
+pub mod Keys
 pub mod Shapes
 pub mod ShapeView
 pub mod Progress

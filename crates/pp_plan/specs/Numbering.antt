@@ -1,8 +1,9 @@
 -- Slots are numbered by the byte order of their names, which is known once all are read.
-use Rattle.std.specs.Prelude.{ℕ, List, [], insert, fold, position, unwrap_or, Option, slice_index_or}
+use Rattle.std.specs.Prelude.{ℕ, List, [], map, insert, fold, position, unwrap_or, Option, slice_index_or}
 use Rattle.std.specs.List.{position_or_len}
 use Rattle.std.specs.Str.{bytes_eq}
-use Rattle.pp_plan.specs.Tree.{Step, fix, unfix, latch, unlatch, Statement, step, loop, choice, Sequence, done, andthen, Alternatives, none, either}
+use Rattle.pp_plan.specs.Tree.{Step, fix, unfix, latch, unlatch, Statement, step, loop, choice, Sequence, done, andthen}
+use Rattle.pp_plan.specs.Tree.{Alternatives, none, either}
 use Rattle.pp_plan.specs.Names.{comes_before}
 
 -- The place of a name among names.
@@ -17,9 +18,12 @@ put_in names name = insert names (position_or_len (comes_before name) names) nam
 abbrev pub in_byte_order : List (List ℕ) → List (List ℕ)
 in_byte_order names = fold put_in [] names
 
--- The place among the ordered names of the k-th name.
+-- The new number of the k-th name: its place among the ordered names.
+abbrev pub new_number : (ordered : List (List ℕ)) → List ℕ → ℕ
+new_number ordered name = unwrap_or (place_of ordered name) 0
+
 abbrev pub place_in : (ordered names : List (List ℕ)) → ℕ → ℕ
-place_in ordered names k = unwrap_or (place_of ordered (slice_index_or names k [])) 0
+place_in ordered names k = slice_index_or (map (new_number ordered) names) k 0
 
 -- The step with its slot numbered anew.
 abbrev pub numbered_step : (ℕ → ℕ) → Step → Step

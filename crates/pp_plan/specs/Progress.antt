@@ -1,5 +1,6 @@
 -- How far the reading of a plan is.
 use Rattle.std.specs.Prelude.{ℕ, ◌≤◌, List, length}
+use Rattle.pp_plan.specs.Limits.{most_statements, most_slots}
 
 -- The slot names in the order of their first use, and how many statements have begun.
 pub record Progress : Type 0 where
@@ -7,5 +8,5 @@ pub record Progress : Type 0 where
   pub count : ℕ
 
 pub record IsProgress (p : Progress) : Type 0 where
-  pub names : length p.names ≤ 32
-  pub count : p.count ≤ 4096
+  pub names : length p.names ≤ most_slots
+  pub count : p.count ≤ most_statements

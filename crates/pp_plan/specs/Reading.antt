@@ -1,19 +1,26 @@
 -- What a text's tree gives: the plan, or the first refusal in the fixed order.
-use Rattle.std.specs.Prelude.{ℕ, zero, suc, ◌+◌, List, [], ◌∷◌, ◌++◌, length, Bool, false, not, ◌&&◌, ◌||◌, ◌==◌, nat_le, nat_lt, Option, Some, None, option_and_then, unwrap_or, codes, Result, Ok, Err}
+use Rattle.std.specs.Prelude.{ℕ, zero, suc, ◌+◌, List, [], ◌∷◌, ◌++◌, length, Bool, false, not, ◌&&◌, ◌==◌, nat_le}
+use Rattle.std.specs.Prelude.{nat_lt}
+use Rattle.std.specs.Prelude.{Option, Some, None, option_and_then, unwrap_or, codes, Result, Ok, Err}
 use Rattle.std.specs.Option.{ok_or, option_map_or}
-use Rattle.std.specs.Str.{bytes_eq}
 use Rattle.serde_json.specs.Data.{Data, Items, no_items, item}
 use Rattle.serde_json.specs.Find.{as_array, as_number, as_u64}
 use Rattle.serde_json.specs.Read.{read}
+use Rattle.pp_text.specs.Steps.{◌>>=◌, must}
+use Rattle.pp_text.specs.Objects.{has_only_keys}
 use Rattle.pp_settings.specs.Settings.{Configuration, region_named, geometry_of}
 use Rattle.pp_plan.specs.declared.error.PlanError.{PlanError}
-use Rattle.pp_plan.specs.declared.error.PlanError.TheVariants.{NotJson, WrongField, BadName, NoSuchRegion, Range, TooDeep, TooMany}
-use Rattle.pp_plan.specs.Tree.{fix, unfix, latch, unlatch, Statement, step, loop, choice, Sequence, done, andthen, Alternatives, none, either}
+use Rattle.pp_plan.specs.declared.error.PlanError.TheVariants.{NotJson, WrongField, BadName, NoSuchRegion, Range}
+use Rattle.pp_plan.specs.declared.error.PlanError.TheVariants.{TooDeep, TooMany}
+use Rattle.pp_plan.specs.Tree.{fix, unfix, latch, unlatch, Statement, step, loop, choice, Sequence, done, andthen}
+use Rattle.pp_plan.specs.Tree.{Alternatives, none, either}
 use Rattle.pp_plan.specs.Names.{is_slot_name}
 use Rattle.pp_plan.specs.Progress.{Progress}
 use Rattle.pp_plan.specs.Terms.{Terms}
-use Rattle.pp_plan.specs.Steps.{◌>>=◌, must}
-use Rattle.pp_plan.specs.Shapes.{Shape, fix_shape, unfix_shape, latch_shape, unlatch_shape, loop_shape, choice_shape, shape_of, value_at, list_at, has_only}
+use Rattle.pp_plan.specs.Keys.{top_keys}
+use Rattle.pp_plan.specs.Limits.{most_statements, most_depth, most_slots, most_turns, most_branches}
+use Rattle.pp_plan.specs.Shapes.{Shape, fix_shape, unfix_shape, latch_shape, unlatch_shape, loop_shape, choice_shape}
+use Rattle.pp_plan.specs.Shapes.{shape_of, value_at, list_at}
 use Rattle.pp_plan.specs.Numbering.{in_byte_order, place_of, place_in, numbered}
 
 -- ---- statements and slot names are counted as they come
@@ -23,12 +30,16 @@ start = record { names = []; count = 0 }
 
 -- One statement more, of 4,096 at most.
 unfoldable pub begun : Progress → Result Progress PlanError
-begun p = must (nat_lt p.count 4096) (TooMany p.count) >>= λ room. Ok (record { names = p.names; count = p.count + 1 })
+begun p =
+    must (nat_lt p.count most_statements) (TooMany p.count) >>= λ room. Ok
+    (record { names = p.names; count = p.count + 1 })
 
 -- A slot name that the statement uses: its number by first use, and with it the names so far, 32 at most.
 abbrev pub used_at : Option ℕ → ℕ → Progress → List ℕ → Result (Progress × ℕ) PlanError
 used_at (Some k) n p name = Ok (p, k)
-used_at None n p name = must (nat_lt (length p.names) 32) (TooMany n) >>= λ room. Ok (record { names = p.names ++ name ∷ []; count = p.count }, length p.names)
+used_at None n p name =
+    must (nat_lt (length p.names) most_slots) (TooMany n) >>= λ room. Ok
+    (record { names = p.names ++ name ∷ []; count = p.count }, length p.names)
 
 unfoldable pub used : ℕ → Progress → List ℕ → Result (Progress × ℕ) PlanError
 used n p name = used_at (place_of p.names name) n p name
@@ -49,18 +60,22 @@ with_branch none b = either b none
 with_branch (either a bs) b = either a (with_branch bs b)
 
 -- The statements of the items behind the earlier ones, each as the reader reads it.
-abbrev pub sequence_from : (Progress → Data → Result (Progress × Statement) PlanError) → Sequence → Progress → Items → Result (Progress × Sequence) PlanError
+abbrev pub sequence_from : (Progress → Data → Result (Progress × Statement) PlanError) → Sequence → Progress → Items
+    → Result (Progress × Sequence) PlanError
 sequence_from read_one earlier p no_items = Ok (p, earlier)
-sequence_from read_one earlier p (item d ds) = read_one p d >>= λ r. sequence_from read_one (followed_by earlier r.1) r.0 ds
+sequence_from read_one earlier p (item d ds) =
+    read_one p d >>= λ r. sequence_from read_one (followed_by earlier r.1) r.0 ds
 
 -- The items of a list, none of another value.
 abbrev pub items_in : Data → Items
 items_in d = unwrap_or (as_array d) no_items
 
 -- The branches of the lists behind the earlier ones.
-abbrev pub alternatives_from : (Progress → Data → Result (Progress × Statement) PlanError) → Alternatives → Progress → Items → Result (Progress × Alternatives) PlanError
+abbrev pub alternatives_from : (Progress → Data → Result (Progress × Statement) PlanError) → Alternatives → Progress
+    → Items → Result (Progress × Alternatives) PlanError
 alternatives_from read_one earlier p no_items = Ok (p, earlier)
-alternatives_from read_one earlier p (item d ds) = sequence_from read_one done p (items_in d) >>= λ r. alternatives_from read_one (with_branch earlier r.1) r.0 ds
+alternatives_from read_one earlier p (item d ds) =
+    sequence_from read_one done p (items_in d) >>= λ r. alternatives_from read_one (with_branch earlier r.1) r.0 ds
 
 -- ---- one statement
 
@@ -70,7 +85,8 @@ count_of no_items = 0
 count_of (item d ds) = count_of ds + 1
 
 -- A fix: first the form of the slot's name, then the region, and then the slot.
-unfoldable pub fix_by : (List ℕ → Option ℕ) → ℕ → Progress → (slot region : List ℕ) → Result (Progress × Statement) PlanError
+unfoldable pub fix_by : (List ℕ → Option ℕ) → ℕ → Progress → (slot region : List ℕ)
+    → Result (Progress × Statement) PlanError
 fix_by region n p slot name = do
   form ← must (is_slot_name slot) (BadName n)
   i ← ok_or (region name) (NoSuchRegion n)
@@ -78,7 +94,8 @@ fix_by region n p slot name = do
   Ok (u.0, step (fix u.1 i))
 
 -- The statement of this form and number; `read_one` reads the statements inside it.
-unfoldable pub statement_by : (List ℕ → Option ℕ) → (Progress → Data → Result (Progress × Statement) PlanError) → ℕ → Progress → Shape → Result (Progress × Statement) PlanError
+unfoldable pub statement_by : (List ℕ → Option ℕ) → (Progress → Data → Result (Progress × Statement) PlanError) → ℕ
+    → Progress → Shape → Result (Progress × Statement) PlanError
 statement_by region read_one n p (fix_shape slot name) = fix_by region n p slot name
 statement_by region read_one n p (unfix_shape slot) = do
   u ← slot_of n p slot
@@ -90,23 +107,21 @@ statement_by region read_one n p (unlatch_shape slot) = do
   u ← slot_of n p slot
   Ok (u.0, step (unlatch u.1))
 statement_by region read_one n p (loop_shape count body) = do
-  range ← must ((nat_le 1 count && nat_le count 65535) && not (count_of body == 0)) (Range n)
+  range ← must ((nat_le 1 count && nat_le count most_turns) && not (count_of body == 0)) (Range n)
   b ← sequence_from read_one done p body
   Ok (b.0, loop count b.1)
 statement_by region read_one n p (choice_shape branches) = do
-  range ← must (nat_le 1 (count_of branches) && nat_le (count_of branches) 16) (Range n)
+  range ← must (nat_le 1 (count_of branches) && nat_le (count_of branches) most_branches) (Range n)
   bs ← alternatives_from read_one none p branches
   Ok (bs.0, choice bs.1)
 
 -- The statement of the value, where so many levels of statements may stand from here on.
 abbrev pub statement_at : (List ℕ → Option ℕ) → ℕ → Progress → Data → Result (Progress × Statement) PlanError
 statement_at region zero p d = begun p >>= λ q. Err (TooDeep p.count)
-statement_at region (suc levels) p d = begun p >>= λ q. shape_of p.count d >>= λ shape. statement_by region (statement_at region levels) p.count q shape
+statement_at region (suc levels) p d =
+    begun p >>= λ q. shape_of p.count d >>= λ shape. statement_by region (statement_at region levels) p.count q shape
 
 -- ---- the whole text
-
-abbrev pub is_top_key : List ℕ → Bool
-is_top_key k = bytes_eq k (codes "body") || bytes_eq k (codes "version")
 
 abbrev pub is_one : Data → Bool
 is_one d = option_map_or (λ n. n == 1) (option_and_then as_u64 (as_number d)) false
@@ -114,7 +129,7 @@ is_one d = option_map_or (λ n. n == 1) (option_and_then as_u64 (as_number d)) f
 -- The statements of an object with exactly a `body`, a list, and a `version`, the number 1.
 unfoldable pub statements_at : Data → Result Items PlanError
 statements_at d = do
-  only ← must (has_only is_top_key d) (WrongField 0)
+  only ← must (has_only_keys top_keys d) (WrongField 0)
   items ← list_at (codes "body") 0 d
   version ← value_at (codes "version") 0 d
   one ← must (is_one version) (Range 0)
@@ -131,5 +146,5 @@ unfoldable pub reading : Configuration → List ℕ → Result Terms PlanError
 reading settings text = do
   d ← ok_or (read text) NotJson
   items ← statements_at d
-  r ← sequence_from (statement_at (region_named settings) 16) done start items
+  r ← sequence_from (statement_at (region_named settings) most_depth) done start items
   Ok (plan_of settings r)

@@ -1,48 +1,43 @@
--- The refusals of a plan's text, by number and name.
-use Rattle.std.specs.Prelude.{ℕ, List, [], ◌++◌, Option, Some, None, codes}
-use Rattle.std.specs.Fmt.{decimal}
-use Rattle.std.specs.Option.{option_map_or}
+-- The refusals of a plan's text.
+use Rattle.std.specs.Prelude.{ℕ, List, Bool, true, false, Option, Some, None, codes}
+use Rattle.pp_text.specs.Refusals.{Matter, nothing, key, region_key, top, region, at, worker, Row, row}
 use Rattle.pp_plan.specs.declared.error.PlanError.{PlanError}
-use Rattle.pp_plan.specs.declared.error.PlanError.TheVariants.{NotJson, NoSuchStatement, WrongField, BadName, NoSuchRegion, Range, TooDeep, TooMany, OutOfMemory}
+use Rattle.pp_plan.specs.declared.error.PlanError.TheVariants.{NotJson, NoSuchStatement, WrongField, BadName}
+use Rattle.pp_plan.specs.declared.error.PlanError.TheVariants.{NoSuchRegion, Range, TooDeep, TooMany, OutOfMemory}
+
+-- The number, the name as a program prints it, and the statement, where one is at fault.
+abbrev pub row_of : PlanError → Row
+row_of NotJson = row 11 (codes "NotJson") nothing
+row_of (NoSuchStatement n) = row 12 (codes "NoSuchStatement") (at n)
+row_of (WrongField n) = row 13 (codes "WrongField") (at n)
+row_of (BadName n) = row 14 (codes "BadName") (at n)
+row_of (NoSuchRegion n) = row 15 (codes "NoSuchRegion") (at n)
+row_of (Range n) = row 16 (codes "Range") (at n)
+row_of (TooDeep n) = row 17 (codes "TooDeep") (at n)
+row_of (TooMany n) = row 18 (codes "TooMany") (at n)
+row_of OutOfMemory = row 19 (codes "OutOfMemory") nothing
 
 abbrev pub number_of : PlanError → ℕ
-number_of NotJson = 11
-number_of (NoSuchStatement n) = 12
-number_of (WrongField n) = 13
-number_of (BadName n) = 14
-number_of (NoSuchRegion n) = 15
-number_of (Range n) = 16
-number_of (TooDeep n) = 17
-number_of (TooMany n) = 18
-number_of OutOfMemory = 19
+number_of e = (row_of e).number
 
--- The name as the program prints it.
 abbrev pub name_of : PlanError → List ℕ
-name_of NotJson = codes "NotJson"
-name_of (NoSuchStatement n) = codes "NoSuchStatement"
-name_of (WrongField n) = codes "WrongField"
-name_of (BadName n) = codes "BadName"
-name_of (NoSuchRegion n) = codes "NoSuchRegion"
-name_of (Range n) = codes "Range"
-name_of (TooDeep n) = codes "TooDeep"
-name_of (TooMany n) = codes "TooMany"
-name_of OutOfMemory = codes "OutOfMemory"
+name_of e = (row_of e).name
+
+-- The place that a refusal is about, where it is about one.
+abbrev pub place_of : Matter → Option ℕ
+place_of (at n) = Some n
+place_of nothing = None
+place_of (key name) = None
+place_of (region_key i name) = None
+place_of top = None
+place_of (region i) = None
+place_of (worker w) = None
 
 -- The number of the statement that is refused, where one is.
 abbrev pub statement_of : PlanError → Option ℕ
-statement_of NotJson = None
-statement_of (NoSuchStatement n) = Some n
-statement_of (WrongField n) = Some n
-statement_of (BadName n) = Some n
-statement_of (NoSuchRegion n) = Some n
-statement_of (Range n) = Some n
-statement_of (TooDeep n) = Some n
-statement_of (TooMany n) = Some n
-statement_of OutOfMemory = None
+statement_of e = place_of (row_of e).about
 
--- The words that a program prints: the number, the name, and the statement where one is at fault.
-abbrev pub place_text : ℕ → List ℕ
-place_text n = codes " at " ++ decimal n
-
-abbrev pub refusal_text : PlanError → List ℕ
-refusal_text e = decimal (number_of e) ++ codes " " ++ name_of e ++ option_map_or place_text (statement_of e) []
+-- Want of memory, which says nothing of the text.
+abbrev pub is_memory : PlanError → Bool
+is_memory OutOfMemory = true
+is_memory _ = false

@@ -1,6 +1,8 @@
 -- Which trees a plan may have.
 use Rattle.std.specs.Prelude.{◌≡◌, ◌⊎◌, ℕ, ◌<◌, ◌≤◌}
-use Rattle.pp_plan.specs.Tree.{Step, fix, unfix, latch, unlatch, Statement, step, loop, choice, Sequence, done, andthen, Alternatives, none, either, sequence_count, sequence_depth, branch_count}
+use Rattle.pp_plan.specs.Limits.{most_statements, most_depth, most_turns, most_branches}
+use Rattle.pp_plan.specs.Tree.{Step, fix, unfix, latch, unlatch, Statement, step, loop, choice, Sequence, done, andthen}
+use Rattle.pp_plan.specs.Tree.{Alternatives, none, either, sequence_count, sequence_depth, branch_count}
 
 -- The body has a statement.
 abbrev pub IsSome : Sequence → Type 0
@@ -18,8 +20,9 @@ abbrev mutual
   -- A loop has 1 to 65,535 turns of a body with a statement; a choice has 1 to 16 branches, which may be empty.
   pub IsStatement : (slots regions : ℕ) → Statement → Type 0
   IsStatement slots regions (step s) = IsStep slots regions s
-  IsStatement slots regions (loop n b) = (1 ≤ n) × (n ≤ 65535) × IsSome b × IsSequence slots regions b
-  IsStatement slots regions (choice bs) = (1 ≤ branch_count bs) × (branch_count bs ≤ 16) × AreAlternatives slots regions bs
+  IsStatement slots regions (loop n b) = (1 ≤ n) × (n ≤ most_turns) × IsSome b × IsSequence slots regions b
+  IsStatement slots regions (choice bs) =
+      (1 ≤ branch_count bs) × (branch_count bs ≤ most_branches) × AreAlternatives slots regions bs
 
   pub IsSequence : (slots regions : ℕ) → Sequence → Type 0
   IsSequence slots regions done = Unit {0}
@@ -56,5 +59,5 @@ abbrev mutual
 -- A plan has at most 4,096 statements, at most 16 inside each other.
 pub record IsBody (slots regions : ℕ) (b : Sequence) : Type 0 where
   pub parts : IsSequence slots regions b
-  pub count : sequence_count b ≤ 4096
-  pub depth : sequence_depth b ≤ 16
+  pub count : sequence_count b ≤ most_statements
+  pub depth : sequence_depth b ≤ most_depth

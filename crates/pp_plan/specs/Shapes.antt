@@ -1,34 +1,19 @@
 -- The form of a statement in a text: which of the six it is, and the values of its keys.
-use Rattle.std.specs.Prelude.{ℕ, List, [], ◌∷◌, Bool, true, false, ◌&&◌, ◌||◌, is_some, count_by, find, ◌==◌, if◌then◌else◌, Option, Some, None, option_and_then, codes, Result, Ok}
-use Rattle.std.specs.Option.{ok_or, option_map_or}
+use Rattle.std.specs.Prelude.{ℕ, List, [], ◌∷◌, Bool, true, ◌&&◌, is_some, filter, if◌then◌else◌}
+use Rattle.std.specs.Prelude.{Option, Some, None, option_and_then, codes, Result, Ok}
+use Rattle.std.specs.Option.{ok_or}
 use Rattle.std.specs.Str.{bytes_eq}
-use Rattle.serde_json.specs.Data.{Data, Items, no_items, item, Members, no_members, member}
-use Rattle.serde_json.specs.Find.{get, as_object, as_array, as_str, as_number, as_u64}
+use Rattle.serde_json.specs.Data.{Data, Items, no_items, item}
+use Rattle.serde_json.specs.Find.{get, as_array, as_str, as_number, as_u64}
+use Rattle.pp_text.specs.Steps.{◌>>=◌, must}
+use Rattle.pp_text.specs.Objects.{has_only_keys}
 use Rattle.pp_plan.specs.declared.mode.Mode.{Mode}
 use Rattle.pp_plan.specs.declared.mode.Mode.TheVariants.{S, X}
 use Rattle.pp_plan.specs.declared.kind.Kind.{Kind}
 use Rattle.pp_plan.specs.declared.kind.Kind.TheVariants.{Fix, Unfix, Latch, Unlatch, Loop, Choice}
 use Rattle.pp_plan.specs.declared.error.PlanError.{PlanError}
 use Rattle.pp_plan.specs.declared.error.PlanError.TheVariants.{NoSuchStatement, WrongField}
-use Rattle.pp_plan.specs.Steps.{◌>>=◌, must}
-
--- The key that tells a statement's kind, which is its first one.
-abbrev pub first_key : Kind → List ℕ
-first_key Fix = codes "fix"
-first_key Unfix = codes "unfix"
-first_key Latch = codes "latch"
-first_key Unlatch = codes "unlatch"
-first_key Loop = codes "loop"
-first_key Choice = codes "choice"
-
--- The keys that a statement of this kind has, all of them and no other.
-abbrev pub is_key : Kind → List ℕ → Bool
-is_key Fix k = bytes_eq k (codes "fix") || bytes_eq k (codes "region")
-is_key Unfix k = bytes_eq k (codes "unfix")
-is_key Latch k = bytes_eq k (codes "latch") || bytes_eq k (codes "mode")
-is_key Unlatch k = bytes_eq k (codes "unlatch")
-is_key Loop k = bytes_eq k (codes "loop") || bytes_eq k (codes "body")
-is_key Choice k = bytes_eq k (codes "choice")
+use Rattle.pp_plan.specs.Keys.{keys_of, first_key}
 
 abbrev pub kinds : List Kind
 kinds = Fix ∷ Unfix ∷ Latch ∷ Unlatch ∷ Loop ∷ Choice ∷ []
@@ -37,18 +22,14 @@ kinds = Fix ∷ Unfix ∷ Latch ∷ Unlatch ∷ Loop ∷ Choice ∷ []
 abbrev pub has_kind : Data → Kind → Bool
 has_kind d k = is_some (get (first_key k) d)
 
--- The statement's kind: of the six keys the value has exactly one.
+-- The one of a list that has one.
+abbrev pub only_one : List Kind → Option Kind
+only_one (k ∷ []) = Some k
+only_one _ = None
+
+-- The statement's kind: of the six first keys the value has exactly one.
 abbrev pub kind_of : Data → Option Kind
-kind_of d = if count_by (has_kind d) kinds == 1 then find (has_kind d) kinds else None
-
--- Each key of the members passes the test.
-abbrev pub keys_are : (List ℕ → Bool) → Members → Bool
-keys_are test no_members = true
-keys_are test (member k d ms) = test k && keys_are test ms
-
--- The value is an object, and each of its keys passes the test.
-abbrev pub has_only : (List ℕ → Bool) → Data → Bool
-has_only test d = option_map_or (keys_are test) (as_object d) false
+kind_of d = only_one (filter (has_kind d) kinds)
 
 -- ---- the values of the keys, in the statement with this number
 
@@ -114,5 +95,5 @@ shape_at Choice n d = do
 unfoldable pub shape_of : ℕ → Data → Result Shape PlanError
 shape_of n d = do
   kind ← ok_or (kind_of d) (NoSuchStatement n)
-  only ← must (has_only (is_key kind) d) (WrongField n)
+  only ← must (has_only_keys (keys_of kind) d) (WrongField n)
   shape_at kind n d

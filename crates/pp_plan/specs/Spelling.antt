@@ -1,28 +1,18 @@
 -- Which text spells which plan under the settings, said apart from any order of reading.
-use Rattle.std.specs.Prelude.{◌≡◌, ℕ, List, [], ◌∷◌, Contains, Some, slice_get, codes}
-use Rattle.serde_json.specs.Data.{Data, number, unsigned, string, array, object, Items, no_items, item, Members, no_members, member}
-use Rattle.serde_json.specs.Find.{get}
+use Rattle.std.specs.Prelude.{◌≡◌, ℕ, List, Some, slice_get, codes}
+use Rattle.serde_json.specs.Data.{Data, number, unsigned, string, array, Items, no_items, item}
 use Rattle.serde_json.specs.Read.{read}
+use Rattle.pp_text.specs.Objects.{HasOnly, Holds}
 use Rattle.pp_settings.specs.Settings.{Configuration, region_named, geometry_of}
 use Rattle.pp_plan.specs.declared.mode.Mode.{Mode}
 use Rattle.pp_plan.specs.declared.mode.Mode.TheVariants.{S, X}
-use Rattle.pp_plan.specs.Tree.{Step, fix, unfix, latch, unlatch, Statement, step, loop, choice, Sequence, done, andthen, Alternatives, none, either}
+use Rattle.pp_plan.specs.declared.kind.Kind.TheVariants as kind
+use Rattle.pp_plan.specs.Keys.{top_keys, keys_of}
+use Rattle.pp_plan.specs.Tree.{Step, fix, unfix, latch, unlatch, Statement, step, loop, choice, Sequence, done, andthen}
+use Rattle.pp_plan.specs.Tree.{Alternatives, none, either}
 use Rattle.pp_plan.specs.Terms.{Terms, IsPlan}
 
--- ---- what stands in an object
-
--- Each key is one of these.
-abbrev pub AreAmong : List (List ℕ) → Members → Type 0
-AreAmong keys no_members = Unit {0}
-AreAmong keys (member k d ms) = Contains keys k × AreAmong keys ms
-
--- The value is an object, and each of its keys is one of these.
-abbrev pub HasOnly : List (List ℕ) → Data → Type 0
-HasOnly keys d = (ms : Members) × (d ≡ object ms) × AreAmong keys ms
-
--- The value is an object that has this value at the key.
-abbrev pub Holds : Data → List ℕ → Data → Type 0
-Holds d key v = get key d ≡ Some v
+-- ---- what stands at a key
 
 -- At the key stands the name of the slot with this number, which is the place of the name among the slot names.
 abbrev pub HoldsSlot : List (List ℕ) → Data → List ℕ → ℕ → Type 0
@@ -41,36 +31,44 @@ letter_of X = codes "X"
 
 -- The value spells the step, and nothing else stands in it.
 abbrev pub SpellsStep : Configuration → (slots : List (List ℕ)) → Data → Step → Type 0
-SpellsStep settings slots d (fix k r) = HasOnly (codes "fix" ∷ codes "region" ∷ []) d × HoldsSlot slots d (codes "fix") k × HoldsRegion settings d (codes "region") r
-SpellsStep settings slots d (unfix k) = HasOnly (codes "unfix" ∷ []) d × HoldsSlot slots d (codes "unfix") k
-SpellsStep settings slots d (latch k m) = HasOnly (codes "latch" ∷ codes "mode" ∷ []) d × HoldsSlot slots d (codes "latch") k × Holds d (codes "mode") (string (letter_of m))
-SpellsStep settings slots d (unlatch k) = HasOnly (codes "unlatch" ∷ []) d × HoldsSlot slots d (codes "unlatch") k
+SpellsStep settings slots d (fix k r) =
+    HasOnly (keys_of kind.Fix) d × HoldsSlot slots d (codes "fix") k × HoldsRegion settings d (codes "region") r
+SpellsStep settings slots d (unfix k) = HasOnly (keys_of kind.Unfix) d × HoldsSlot slots d (codes "unfix") k
+SpellsStep settings slots d (latch k m) =
+    HasOnly (keys_of kind.Latch) d × HoldsSlot slots d (codes "latch") k × Holds d (codes "mode") (string (letter_of m))
+SpellsStep settings slots d (unlatch k) = HasOnly (keys_of kind.Unlatch) d × HoldsSlot slots d (codes "unlatch") k
 
 abbrev mutual
   -- The value spells the statement, and nothing else stands in it.
   pub SpellsStatement : Configuration → (slots : List (List ℕ)) → Data → Statement → Type 0
   SpellsStatement settings slots d (step s) = SpellsStep settings slots d s
   SpellsStatement settings slots d (loop n b) =
-      HasOnly (codes "loop" ∷ codes "body" ∷ []) d × Holds d (codes "loop") (number (unsigned n)) × ((ds : Items) × Holds d (codes "body") (array ds) × SpellsSequence settings slots ds b)
-  SpellsStatement settings slots d (choice bs) = HasOnly (codes "choice" ∷ []) d × ((ds : Items) × Holds d (codes "choice") (array ds) × SpellsAlternatives settings slots ds bs)
+      HasOnly (keys_of kind.Loop) d × Holds d (codes "loop") (number (unsigned n))
+      × ((ds : Items) × Holds d (codes "body") (array ds) × SpellsSequence settings slots ds b)
+  SpellsStatement settings slots d (choice bs) =
+      HasOnly (keys_of kind.Choice) d
+      × ((ds : Items) × Holds d (codes "choice") (array ds) × SpellsAlternatives settings slots ds bs)
 
   -- There is one value for each statement, in the same order.
   pub SpellsSequence : Configuration → (slots : List (List ℕ)) → Items → Sequence → Type 0
   SpellsSequence settings slots no_items done = Unit {0}
-  SpellsSequence settings slots (item d ds) (andthen s b) = SpellsStatement settings slots d s × SpellsSequence settings slots ds b
+  SpellsSequence settings slots (item d ds) (andthen s b) =
+      SpellsStatement settings slots d s × SpellsSequence settings slots ds b
   SpellsSequence settings slots _ _ = ⊥
 
   -- There is one list for each branch, in the same order.
   pub SpellsAlternatives : Configuration → (slots : List (List ℕ)) → Items → Alternatives → Type 0
   SpellsAlternatives settings slots no_items none = Unit {0}
-  SpellsAlternatives settings slots (item d ds) (either b bs) = ((es : Items) × (d ≡ array es) × SpellsSequence settings slots es b) × SpellsAlternatives settings slots ds bs
+  SpellsAlternatives settings slots (item d ds) (either b bs) =
+      ((es : Items) × (d ≡ array es) × SpellsSequence settings slots es b) × SpellsAlternatives settings slots ds bs
   SpellsAlternatives settings slots _ _ = ⊥
 
 -- ---- the whole
 
--- The value is an object of a `body` and a `version`, which is 1, and spells the plan: its body, its slot names and the layout of the settings.
+-- The value is an object of a `body` and a `version`, which is 1, and spells the plan: its body, its slot names and the
+-- layout of the settings.
 pub record Spells (settings : Configuration) (d : Data) (t : Terms) : Type 0 where
-  pub keys : HasOnly (codes "body" ∷ codes "version" ∷ []) d
+  pub keys : HasOnly top_keys d
   pub version : Holds d (codes "version") (number (unsigned 1))
   pub body : (ds : Items) × Holds d (codes "body") (array ds) × SpellsSequence settings t.slots ds t.body
   pub layout : t.layout ≡ geometry_of settings

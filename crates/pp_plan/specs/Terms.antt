@@ -3,6 +3,7 @@ use Rattle.std.specs.Prelude.{◌<◌, ◌≤◌, ℕ, List, length, AllPairs, A
 use Rattle.std.specs.Coded.{Coded, code_by, coded×, coded_ℕ, coded_list}
 use Rattle.pp_settings.specs.declared.extent.Extent.{Extent}
 use Rattle.pp_settings.specs.Layout.{Geometry, IsLayout}
+use Rattle.pp_plan.specs.Limits.{most_slots}
 use Rattle.pp_plan.specs.Tree.{Sequence}
 use Rattle.pp_plan.specs.Coding.{coded_sequence}
 use Rattle.pp_plan.specs.Names.{is_slot_name, comes_before}
@@ -14,10 +15,11 @@ pub record Terms : Type 0 where
   pub slots : List (List ℕ)
   pub body : Sequence
 
--- What holds of every plan: at most 32 slot names, in byte order, each of which is used, and a body that keeps the rules.
+-- What holds of every plan: at most 32 slot names, in byte order, each of which is used, and a body that keeps the
+-- rules.
 pub record IsPlan (p : Terms) : Type 0 where
   pub layout : IsLayout p.layout
-  pub count : length p.slots ≤ 32
+  pub count : length p.slots ≤ most_slots
   pub names : All (λ n. IsTrue (is_slot_name n)) p.slots
   pub order : AllPairs (λ a b. IsTrue (comes_before a b)) p.slots
   pub used : (k : ℕ) → k < length p.slots → IsUsed p.body k
@@ -25,13 +27,17 @@ pub record IsPlan (p : Terms) : Type 0 where
 
 abbrev coded_extent : Coded Extent
 coded_extent =
-    code_by (ℕ × (ℕ × ℕ)) (coded× coded_ℕ (coded× coded_ℕ coded_ℕ)) (λ e. (e.first, (e.count, e.class))) (λ p. record { first = p.0; count = p.1.0; class = p.1.1 }) (λ _. refl)
+    code_by (ℕ × (ℕ × ℕ)) (coded× coded_ℕ (coded× coded_ℕ coded_ℕ)) (λ e. (e.first, (e.count, e.class)))
+    (λ p. record { first = p.0; count = p.1.0; class = p.1.1 }) (λ _. refl)
 
 abbrev coded_geometry : Coded Geometry
 coded_geometry =
-    code_by (ℕ × List Extent) (coded× coded_ℕ (coded_list coded_extent)) (λ g. (g.frames, g.extents)) (λ p. record { frames = p.0; extents = p.1 }) (λ _. refl)
+    code_by (ℕ × List Extent) (coded× coded_ℕ (coded_list coded_extent)) (λ g. (g.frames, g.extents))
+    (λ p. record { frames = p.0; extents = p.1 }) (λ _. refl)
 
 -- Stored as the parts of its fields.
 abbrev pub coded_terms : Coded Terms
 coded_terms =
-    code_by (Geometry × (List (List ℕ) × Sequence)) (coded× coded_geometry (coded× (coded_list (coded_list coded_ℕ)) coded_sequence)) (λ p. (p.layout, (p.slots, p.body))) (λ p. record { layout = p.0; slots = p.1.0; body = p.1.1 }) (λ _. refl)
+    code_by (Geometry × (List (List ℕ) × Sequence))
+    (coded× coded_geometry (coded× (coded_list (coded_list coded_ℕ)) coded_sequence))
+    (λ p. (p.layout, (p.slots, p.body))) (λ p. record { layout = p.0; slots = p.1.0; body = p.1.1 }) (λ _. refl)

@@ -1,6 +1,7 @@
 -- What the statements of the program are seen as.
 use Rattle.std.specs.Prelude.{List, [], ◌∷◌}
-use Rattle.pp_plan.specs.Tree.{fix, unfix, latch, unlatch, Statement, step, loop, choice, Sequence, done, andthen, Alternatives, none, either}
+use Rattle.pp_plan.specs.Tree.{fix, unfix, latch, unlatch, Statement, step, loop, choice, Sequence, done, andthen}
+use Rattle.pp_plan.specs.Tree.{Alternatives, none, either}
 use Rattle.pp_plan.specs.declared.stmt.Stmt.{Stmt}
 use Rattle.pp_plan.specs.declared.stmt.Stmt.TheVariants.{Fix, Unfix, Latch, Unlatch, Loop, Choice}
 

@@ -1,6 +1,7 @@
 //! Where a worker is in its plan.
 
-ghost use Rattle.std.specs.Prelude.{◌≡◌, ◌+◌, ◌<◌, ◌^◌, List, [], ◌∷◌, ◌++◌, length, true, false, ◌↔◌, IsTrue, IfSome, IfNone, OnOk, OnErr};
+ghost use Rattle.std.specs.Prelude.{◌≡◌, ◌+◌, ◌<◌, ◌^◌, List, [], ◌∷◌, ◌++◌, length, true, false, ◌↔◌, IsTrue, IfSome};
+ghost use Rattle.std.specs.Prelude.{IfNone, OnOk, OnErr};
 ghost use Rattle.pp_settings.specs.Layout.{HasPage};
 ghost use Rattle.pp_plan.specs.declared.action.Action.{Action};
 ghost use Rattle.pp_plan.specs.View.{sequence_of, statement_of};
@@ -8,19 +9,22 @@ ghost use Rattle.pp_plan.specs.Terms.{IsPlan};
 ghost use Rattle.pp_plan.specs.Left.{body_at, body_of, inside, sequence_drop, left};
 ghost use Rattle.pp_plan.specs.PlanTraces.{IsTraceOf, PlanAsks};
 ghost use Rattle.pp_plan.specs.Cursor.{IsPath, IsAt, StandsFor, IsCursorOf, Names, IsAskOf};
-ghost use Rattle.pp_plan.specs.CursorMoves.{HasNext, entered, skipped, left_by, moved_by, first_loop, CanPass, EndsOutermost, AreLengths, Same, first_ask, ask_at, IsActive, statement_ask};
+ghost use Rattle.pp_plan.specs.CursorMoves.{HasNext, entered, skipped, left_by, moved_by, first_loop, CanPass};
+ghost use Rattle.pp_plan.specs.CursorMoves.{EndsOutermost, AreLengths, Same, first_ask, ask_at, IsActive};
+ghost use Rattle.pp_plan.specs.Asked.{statement_ask, asked};
 
 use crate::action::{Action, Ask, OffPlan};
+use crate::limits::MOST_DEPTH;
 use crate::mode::Mode;
 use crate::plan::Plan;
 use crate::stmt::{Body, Stmt};
 use std::marker::Model;
 
-/// The most statements inside each other.
-const MOST_DEPTH: usize = 16;
+/// How many loops and choices a place may be inside.
+const MOST_ENTRIES: usize = MOST_DEPTH as usize;
 
-/// The most bodies around a place, the outermost among them.
-const MOST_BODIES: usize = MOST_DEPTH + 1;
+/// How many bodies may be around a place, the outermost among them.
+const MOST_BODIES: usize = MOST_ENTRIES + 1;
 
 /// A loop or a choice that a worker is inside: which statement of its body it is, how many turns of it come after
 /// this one, and which of its branches is done.
@@ -31,14 +35,14 @@ struct Entry {
     branch: u16,
 }
 
-/// Where a worker is in its plan: between two actions, or before the first, or after the last.
+/// Where a worker is in its plan: between two actions, before the first, or after the last.
 ///
-/// A cursor stands for the list of actions that the worker has done, and doesn't store it: what may follow that
-/// list in the plan's traces is what the cursor has left. It takes no memory. What a call costs depends on how deep
-/// the plan's statements stand inside each other, at most 16, and not on its length or its loops' turns.
+/// A cursor stores no history. `follow(a)` succeeds if and only if the plan allows `a` next. A cursor takes no memory.
+/// What a call costs depends on how deep the plan's statements stand inside each other, which is at most 16. It doesn't
+/// depend on the plan's length or on the turns of its loops.
 #[derive(Debug, Drop)]
 pub struct Cursor {
-    entries: [Entry; MOST_DEPTH],
+    entries: [Entry; MOST_ENTRIES],
     depth: usize,
     index: usize,
 }
@@ -65,9 +69,11 @@ impl Cursor {
         cursor
     }
 
-    /// What the plan asks next.
+    /// What the plan asks next: one action, a set of actions, or the end.
     pub fn ask(&self, plan: &Plan) -> Ask
         requires { IsCursorOf plan.now self.now }
+        // The answer, as a function of the actions that the cursor stands for.
+        ensures is { (before : List Action) → StandsFor plan.now self.now before → result ≡ asked plan.now before }
         // The end is answered exactly where the list is a whole trace.
         ensures end { (before : List Action) → StandsFor plan.now self.now before →
             (result ≡ Ask.End) ↔ IsTraceOf plan.now before }
@@ -80,11 +86,11 @@ impl Cursor {
         self.next_ask(plan)
     }
 
-    /// Does the action.
+    /// Does the action, if and only if the plan asks it.
     ///
     /// # Errors
     ///
-    /// `OffPlan` where the plan doesn't ask the action.
+    /// `OffPlan` if the plan doesn't ask the action. The cursor then stays where it is.
     pub fn follow(&mut self, plan: &Plan, action: Action) -> Result<(), OffPlan>
         requires { IsCursorOf plan.now self.old }
         ensures asked { OnOk result ((before : List Action) → StandsFor plan.now self.old before →
@@ -208,7 +214,7 @@ impl Cursor {
             branch: 0,
         };
         Cursor {
-            entries: [unused; MOST_DEPTH],
+            entries: [unused; MOST_ENTRIES],
             depth: 0,
             index: 0,
         }

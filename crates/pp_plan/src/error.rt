@@ -1,17 +1,21 @@
 //! Why a plan's text was refused.
 
-ghost use Rattle.std.specs.Prelude.{◌≡◌, Some};
+ghost use Rattle.std.specs.Prelude.{◌≡◌};
+ghost use Rattle.pp_text.specs.Refusals.{row, at as statement_at};
+ghost use Rattle.pp_text.specs.Views.{row_of as printed};
 ghost use Rattle.pp_plan.specs.declared.error.PlanError.TheVariants.{OutOfMemory};
-ghost use Rattle.pp_plan.specs.Refusals.{number_of, name_of, statement_of};
+ghost use Rattle.pp_plan.specs.Refusals.{row_of, number_of, name_of, statement_of};
 
+use pp_text::{About, Refusal};
 use std::alloc::{AllocError, AllocFailed};
-use std::fmt;
 use thiserror::Error;
 
-/// Why a plan's text was refused: the first fault in a fixed order.
+/// Why a plan's text was refused: the first refusal in a fixed order, or want of memory.
 ///
-/// A statement's number counts from 0 in the order in which statements begin in the body; 0 also stands
-/// for the whole text where its top is at fault.
+/// First comes the whole text: `NotJson`, `WrongField(0)`, `Range(0)`. Then come the statements, one after another.
+/// Of one statement the order is: `TooMany` for the 4,097th, `TooDeep`, `NoSuchStatement`, `WrongField`, `BadName`,
+/// `NoSuchRegion`, `Range`, `TooMany` for the 33rd slot name. Statements are numbered from 0 in the order in which they
+/// begin in the text.
 #[derive(Clone, Copy, Debug, PartialEq, Eq, Error)]
 pub enum PlanError {
     /// The text is no JSON.
@@ -29,8 +33,8 @@ pub enum PlanError {
     /// The settings have no region of this name.
     #[error("statement {0} names a region that the settings don't have")]
     NoSuchRegion(u32),
-    /// A loop's count isn't 1 to 65,535, a loop's body is empty, a choice hasn't 1 to 16 branches, or the
-    /// plan's version isn't 1.
+    /// A loop doesn't run 1 to 65,535 times, its body is empty, a choice doesn't have 1 to 16 branches, or the version
+    /// isn't 1.
     #[error("statement {0} is out of range")]
     Range(u32),
     /// The statement stands more than 16 deep.
@@ -39,44 +43,41 @@ pub enum PlanError {
     /// The statement is one more than 4,096, or names one slot more than 32.
     #[error("statement {0} is one too many, or its slot is")]
     TooMany(u32),
-    /// A growth was refused.
+    /// Memory ran out. It says nothing of the text.
     #[error("out of memory")]
     OutOfMemory,
 }
 
 impl PlanError {
+    /// The refusal as a program prints it, as in `11 NotJson` and `16 Range at 0`.
+    pub fn refusal(self) -> Refusal
+        ensures { printed result ≡ row_of self }
+    {
+        match self {
+            PlanError::NotJson => Refusal::new(11, "NotJson", About::Nothing),
+            PlanError::NoSuchStatement(n) => at(12, "NoSuchStatement", n),
+            PlanError::WrongField(n) => at(13, "WrongField", n),
+            PlanError::BadName(n) => at(14, "BadName", n),
+            PlanError::NoSuchRegion(n) => at(15, "NoSuchRegion", n),
+            PlanError::Range(n) => at(16, "Range", n),
+            PlanError::TooDeep(n) => at(17, "TooDeep", n),
+            PlanError::TooMany(n) => at(18, "TooMany", n),
+            PlanError::OutOfMemory => Refusal::new(19, "OutOfMemory", About::Nothing),
+        }
+    }
+
     /// The number of the refusal, 11 to 19.
     pub fn number(self) -> u8
         ensures { result ≡ number_of self }
     {
-        match self {
-            PlanError::NotJson => 11,
-            PlanError::NoSuchStatement(_) => 12,
-            PlanError::WrongField(_) => 13,
-            PlanError::BadName(_) => 14,
-            PlanError::NoSuchRegion(_) => 15,
-            PlanError::Range(_) => 16,
-            PlanError::TooDeep(_) => 17,
-            PlanError::TooMany(_) => 18,
-            PlanError::OutOfMemory => 19,
-        }
+        self.refusal().number
     }
 
     /// The name of the refusal, as the program prints it.
     pub fn name(self) -> &'static str
         ensures { result.now ≡ name_of self }
     {
-        match self {
-            PlanError::NotJson => "NotJson",
-            PlanError::NoSuchStatement(_) => "NoSuchStatement",
-            PlanError::WrongField(_) => "WrongField",
-            PlanError::BadName(_) => "BadName",
-            PlanError::NoSuchRegion(_) => "NoSuchRegion",
-            PlanError::Range(_) => "Range",
-            PlanError::TooDeep(_) => "TooDeep",
-            PlanError::TooMany(_) => "TooMany",
-            PlanError::OutOfMemory => "OutOfMemory",
-        }
+        self.refusal().name
     }
 
     /// The number of the statement at fault, where one is.
@@ -84,23 +85,23 @@ impl PlanError {
         ensures { result ≡ statement_of self }
     {
         match self {
-            PlanError::NoSuchStatement(number)
-            | PlanError::WrongField(number)
-            | PlanError::BadName(number)
-            | PlanError::NoSuchRegion(number)
-            | PlanError::Range(number)
-            | PlanError::TooDeep(number)
-            | PlanError::TooMany(number) => Some(number),
+            PlanError::NoSuchStatement(n)
+            | PlanError::WrongField(n)
+            | PlanError::BadName(n)
+            | PlanError::NoSuchRegion(n)
+            | PlanError::Range(n)
+            | PlanError::TooDeep(n)
+            | PlanError::TooMany(n) => Some(n),
             PlanError::NotJson | PlanError::OutOfMemory => None,
         }
     }
+}
 
-    /// The words that a program prints of the refusal.
-    pub fn refusal(self) -> Refusal
-        ensures { result.error ≡ self }
-    {
-        Refusal { error: self }
-    }
+/// The refusal of the statement with this number.
+fn at(number: u8, name: &'static str, statement: u32) -> Refusal
+    ensures { printed result ≡ row number name.now (statement_at statement) }
+{
+    Refusal::new(number, name, About::At(u64::from(statement)))
 }
 
 impl From<AllocError> for PlanError {
@@ -116,30 +117,5 @@ impl<T: Drop> From<AllocFailed<T>> for PlanError {
 
     fn from(_refused: AllocFailed<T>) -> PlanError {
         PlanError::OutOfMemory
-    }
-}
-
-/// Prints a refusal as a program does: its number, its name, and then the statement, where one is at fault,
-/// as in `11 NotJson` and `16 Range at 0`.
-#[derive(Clone, Copy, Debug, PartialEq, Eq)]
-pub struct Refusal {
-    /// What is printed.
-    pub error: PlanError,
-}
-
-impl fmt::Display for Refusal {
-    ghost use Rattle.pp_plan.specs.Refusals.{refusal_text};
-
-    ghost output = { λ refusal. Some (refusal_text refusal.error) };
-
-    fn fmt<W: fmt::Write>(&self, f: &mut fmt::Formatter<W>) -> fmt::Result {
-        let error = self.error;
-        let number = error.number();
-        let name = error.name();
-        write!(f, "{number} {name}")?;
-        match error.statement() {
-            Some(statement) => write!(f, " at {statement}"),
-            None => Ok(()),
-        }
     }
 }

@@ -5,6 +5,8 @@ mod action;
 mod cursor;
 mod error;
 mod kind;
+pub mod laws;
+mod limits;
 mod mode;
 mod names;
 mod numbering;
@@ -17,12 +19,7 @@ mod writing;
 
 pub use action::{Action, Ask, OffPlan};
 pub use cursor::Cursor;
-pub use error::{PlanError, Refusal};
+pub use error::PlanError;
 pub use mode::Mode;
 pub use plan::Plan;
 pub use stmt::{Body, Branches, Stmt};
-
-#[cfg(test)]
-mod cursor_tests;
-#[cfg(test)]
-mod tests;

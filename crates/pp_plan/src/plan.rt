@@ -1,10 +1,11 @@
 //! A plan.
 
-ghost use Rattle.std.specs.Prelude.{◌≡◌, ◌≢◌, ◌<◌, IfOk, IfErr, IsOkUnless, Ok, List, [], ◌++◌, length, slice_get, Some, string_bytes};
+ghost use Rattle.std.specs.Prelude.{◌≡◌, ◌≢◌, ◌<◌, IfOk, IfErr, IsOkUnless, Ok, List, [], ◌++◌, length, slice_get};
+ghost use Rattle.std.specs.Prelude.{Some, string_bytes};
 ghost use Rattle.std.specs.Option.{ok_or};
 ghost use Rattle.serde_json.specs.Read.{read};
 ghost use Rattle.serde_json.specs.View.{view};
-ghost use Rattle.pp_settings.specs.Settings.{geometry_of};
+ghost use Rattle.pp_settings.specs.Settings.{IsConfiguration, geometry_of};
 ghost use Rattle.pp_plan.specs.declared.error.PlanError.TheVariants.{NotJson, OutOfMemory};
 ghost use Rattle.pp_plan.specs.Terms.{Terms, IsPlan};
 ghost use Rattle.pp_plan.specs.Slots.{slot_named};
@@ -13,12 +14,14 @@ ghost use Rattle.pp_plan.specs.Faults.{Fault, HasFault, TellsFirst};
 ghost use Rattle.pp_plan.specs.View.{sequence_of};
 ghost use Rattle.pp_plan.specs.PlanTraces.{IsTraceOf};
 ghost use Rattle.pp_plan.specs.declared.action.Action.{Action};
-ghost use Rattle.pp_plan.specs.Steps.{Gives};
+ghost use Rattle.pp_plan.specs.Refusals.{is_memory};
+ghost use Rattle.pp_text.specs.Steps.{Gives};
 ghost use Rattle.pp_plan.specs.Reading.{reading};
 ghost use Rattle.pp_plan.specs.Writing.{plan_text};
 
 use crate::error::PlanError;
-use crate::numbering::{in_byte_order, numbered};
+use crate::limits::MOST_DEPTH;
+use crate::numbering::{in_byte_order, new_numbers, renumber};
 use crate::progress::{Progress, place_of};
 use crate::reading::read_body;
 use crate::shape::statements_at;
@@ -28,9 +31,6 @@ use pp_settings::{Layout, Settings};
 use serde_json::{Category, Value};
 use std::alloc::Global;
 use std::marker::Model;
-
-/// How deep statements may stand inside each other.
-const MOST_LEVELS: u8 = 16;
 
 /// What a worker does with pages: statements over slots, read for the layout of some settings.
 ///
@@ -59,7 +59,7 @@ impl Model for Plan {
 
 /// The JSON value that the text is.
 fn value_of(alloc: Global, text: &str) -> Result<Value, PlanError>
-    ensures { Gives view result (ok_or (read text.now) NotJson) }
+    ensures { Gives is_memory view result (ok_or (read text.now) NotJson) }
 {
     match Value::from_str(alloc, text) {
         Ok(value) => Ok(value),
@@ -68,17 +68,20 @@ fn value_of(alloc: Global, text: &str) -> Result<Value, PlanError>
     }
 }
 
+/// The plan that the text spells, or the first refusal.
 #[tactic(auto, unfolding(crate::specs::Reading::reading))]
 fn read_plan(alloc: Global, settings: &Settings, text: &str) -> Result<Plan, PlanError>
-    ensures { Gives (λ (t : Terms). t) result (reading settings.now text.now) }
+    ensures gives { Gives is_memory (λ (t : Terms). t) result (reading settings.now text.now) }
+    // What holds of all settings.
+    ensures settings { IfOk result (λ _. IsConfiguration settings.now) }
 {
     let value = value_of(alloc, text)?;
     let items = statements_at(&value)?;
     let mut progress = Progress::new(alloc);
-    let draft = read_body(alloc, settings, MOST_LEVELS, &mut progress, items)?;
+    let mut body = read_body(alloc, settings, MOST_DEPTH, &mut progress, items)?;
     let names = progress.into_names();
-    let slots = in_byte_order(alloc, &names)?;
-    let body = numbered(alloc, &slots, &names, &draft)?;
+    let slots = in_byte_order(&names)?;
+    renumber(&mut body, &new_numbers(&slots, &names));
     Ok(Plan {
         layout: settings.layout(),
         slots,
@@ -87,33 +90,31 @@ fn read_plan(alloc: Global, settings: &Settings, text: &str) -> Result<Plan, Pla
 }
 
 impl Plan {
-    /// The plan that the text spells under the settings, or the first fault.
+    /// The plan that the text spells under the settings, or the first refusal in a fixed order.
     ///
-    /// A key that stands twice counts where it stands last, as the JSON reader has it.
+    /// A text is accepted if and only if it spells a plan that keeps the limits, unless memory runs out. A key that
+    /// stands twice counts where it stands last.
     pub fn from_text(alloc: Global, settings: &Settings, text: &str) -> Result<Plan, PlanError>
         // What is read is spelled so, each statement and nothing else, and keeps the rules.
         ensures found { IfOk result (IsText settings.now text.now) }
         // What is spelled so and keeps the rules is read, unless memory runs out.
-        ensures only { (t : Terms) → IsText settings.now text.now t → Gives (λ (u : Terms). u) result (Ok t) }
+        ensures only { (t : Terms) → IsText settings.now text.now t → Gives is_memory (λ (u : Terms). u) result (Ok t) }
         // A text that is accepted has no fault.
         ensures faultless { IfOk result (λ _. (f : Fault) → ¬ HasFault settings.now (read text.now) f) }
         // A refusal tells a fault of the text, the first one in the order, unless memory runs out.
         ensures first { IfErr result (λ e. e ≢ OutOfMemory → TellsFirst settings.now (read text.now) e) }
         // The same as a function of the text.
-        ensures exact { Gives (λ (u : Terms). u) result (reading settings.now text.now) }
+        ensures exact { Gives is_memory (λ (u : Terms). u) result (reading settings.now text.now) }
         // The plan is one of the settings' layout.
         ensures layout { IfOk result (λ t. t.layout ≡ geometry_of settings.now) }
     {
-        // The settings keep their limits, as their layout tells.
-        let _layout = settings.layout();
         read_plan(alloc, settings, text)
     }
 
-    /// The text of the plan, which has no white space and its keys in byte order, as in
-    /// `{"body":[{"fix":"a","region":"root"},{"unfix":"a"}],"version":1}`.
+    /// The text of the plan, as in `{"body":[{"fix":"a","region":"root"},{"unfix":"a"}],"version":1}`.
     ///
-    /// The settings have to be those that the plan was read for, or others with the same layout, whose names of
-    /// regions are then written.
+    /// It has no white space, and its keys are in byte order. The settings must have the plan's layout. Their names of
+    /// regions are written.
     pub fn to_text(&self, alloc: Global, settings: &Settings) -> Result<String, PlanError>
         requires { self.now.layout ≡ geometry_of settings.now }
         ensures text { IfOk result (λ s. string_bytes s ≡ plan_text settings.now self.now) }
@@ -121,9 +122,8 @@ impl Plan {
         ensures reads_back { IfOk result (λ s. reading settings.now (string_bytes s) ≡ Ok self.now) }
         ensures only_memory { IsOkUnless result OutOfMemory }
     {
-        // Names have no byte that a JSON text escapes, as the layout and the statements tell.
-        let _layout = settings.layout();
-        let _body = self.body();
+        // The settings keep their limits: names of regions have no byte that a JSON text escapes.
+        prove!(settings.layout().frames() == self.layout.frames());
         let value = plan_value(alloc, settings, self)?;
         Ok(value.to_string(alloc)?)
     }
@@ -142,7 +142,8 @@ impl Plan {
         // What holds of every plan.
         ensures facts { IsPlan self.now }
         // No trace of a plan is a proper prefix of another.
-        ensures prefix_free { (t rest : List Action) → IsTraceOf self.now t → IsTraceOf self.now (t ++ rest) → rest ≡ [] }
+        ensures prefix_free { (t rest : List Action) → IsTraceOf self.now t → IsTraceOf self.now (t ++ rest)
+            → rest ≡ [] }
     {
         self.body.stmts()
     }

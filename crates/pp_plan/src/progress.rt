@@ -1,21 +1,17 @@
 //! How far the reading of a plan is.
 
 ghost use Rattle.std.specs.Prelude.{◌≡◌, ◌≤◌, IfOk, length, map, string_bytes, ℕ};
-ghost use Rattle.pp_plan.specs.Steps.{Gives};
+ghost use Rattle.pp_plan.specs.Refusals.{is_memory};
+ghost use Rattle.pp_text.specs.Steps.{Gives, Reads};
 ghost use Rattle.pp_plan.specs.Numbering.{place_of};
 ghost use Rattle.pp_plan.specs.Reading.{start, begun, used, slot_of};
 ghost use Rattle.pp_plan.specs.Names.{is_slot_name};
 
 use crate::error::PlanError;
+use crate::limits::{MOST_SLOTS, MOST_STATEMENTS};
 use crate::names::is_slot_name;
 use std::alloc::Global;
 use std::marker::Model;
-
-/// The greatest number of statements in a plan.
-const MOST_STATEMENTS: u32 = 4_096;
-
-/// The greatest number of slot names in a plan.
-const MOST_SLOTS: usize = 32;
 
 /// The slot names in the order of their first use, and how many statements have begun.
 #[derive(Drop)]
@@ -60,7 +56,7 @@ impl Progress {
     /// The number of the next statement, which begins.
     #[tactic(auto, unfolding(crate::specs::Reading::begun))]
     pub(crate) fn begin(&mut self) -> Result<u32, PlanError>
-        ensures gives { Gives (λ _. self.new) result (begun self.old) }
+        ensures gives { Reads (λ _. self.new) result (begun self.old) }
         ensures number { IfOk result (λ n. n ≡ self.old.count) }
     {
         if self.count >= MOST_STATEMENTS {
@@ -79,7 +75,7 @@ impl Progress {
         number: u32,
         name: &str,
     ) -> Result<u8, PlanError>
-        ensures { Gives (λ k. (self.new, k)) result (used number self.old name.now) }
+        ensures { Gives is_memory (λ k. (self.new, k)) result (used number self.old name.now) }
     {
         if let Some(place) = place_of(&self.names, name) {
             return Ok(place);
@@ -96,7 +92,7 @@ impl Progress {
     /// The same of a name that has to be in form.
     #[tactic(auto, unfolding(crate::specs::Reading::slot_of))]
     pub(crate) fn slot(&mut self, alloc: Global, number: u32, name: &str) -> Result<u8, PlanError>
-        ensures { Gives (λ k. (self.new, k)) result (slot_of number self.old name.now) }
+        ensures { Gives is_memory (λ k. (self.new, k)) result (slot_of number self.old name.now) }
     {
         if !is_slot_name(name) {
             return Err(PlanError::BadName(number));

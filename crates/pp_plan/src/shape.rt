@@ -1,18 +1,20 @@
 //! The form of a statement in a text.
 
-ghost use Rattle.std.specs.Prelude.{◌≡◌, count_by, find, string_bytes};
-ghost use Rattle.std.specs.BTreeMap.{keys};
-ghost use Rattle.std.specs.List.{list_all};
-ghost use Rattle.serde_json.specs.View.{view, items_view, members_view};
-ghost use Rattle.pp_plan.specs.Steps.{Gives};
-ghost use Rattle.pp_plan.specs.Shapes.{first_key, is_key, has_kind, kind_of, has_only, value_at, text_at, number_at, list_at, mode_named, mode_at, are_lists, shape_at, shape_of};
+ghost use Rattle.std.specs.Prelude.{◌≡◌, ◌<◌, length};
+ghost use Rattle.serde_json.specs.View.{view, items_view};
+ghost use Rattle.pp_text.specs.Steps.{Reads};
+ghost use Rattle.pp_text.specs.Views.{texts};
+ghost use Rattle.pp_plan.specs.Keys.{keys_of, first_key};
+ghost use Rattle.pp_plan.specs.Shapes.{has_kind, kind_of, value_at, text_at, number_at, list_at, mode_named, mode_at};
+ghost use Rattle.pp_plan.specs.Shapes.{are_lists, shape_at, shape_of};
 ghost use Rattle.pp_plan.specs.ShapeView.{shape_view};
-ghost use Rattle.pp_plan.specs.Reading.{is_top_key, is_one, statements_at};
+ghost use Rattle.pp_plan.specs.Reading.{is_one, statements_at};
 
 use crate::error::PlanError;
 use crate::kind::Kind;
 use crate::mode::Mode;
-use serde_json::{Map, Value};
+use pp_text::has_only_keys;
+use serde_json::Value;
 
 /// The kind of a statement, and the values of its keys.
 #[derive(Clone, Copy)]
@@ -25,6 +27,10 @@ pub(crate) enum Shape<'v> {
     Choice { branches: &'v [Value] },
 }
 
+/// The keys of the whole text.
+const TOP_KEYS: [&str; 2] = ["body", "version"];
+
+/// The six kinds.
 const KINDS: [Kind; 6] = [
     Kind::Fix,
     Kind::Unfix,
@@ -34,109 +40,77 @@ const KINDS: [Kind; 6] = [
     Kind::Choice,
 ];
 
-fn first_key(kind: Kind) -> &'static str
-    ensures { result.now ≡ first_key kind }
+/// The keys that a statement of this kind has, all of them and no other. The first one tells the kind.
+fn keys_of(kind: Kind) -> &'static [&'static str]
+    ensures are { texts result.now ≡ keys_of kind }
+    ensures some { 0 < length result.now }
 {
     match kind {
-        Kind::Fix => "fix",
-        Kind::Unfix => "unfix",
-        Kind::Latch => "latch",
-        Kind::Unlatch => "unlatch",
-        Kind::Loop => "loop",
-        Kind::Choice => "choice",
+        Kind::Fix => &["fix", "region"],
+        Kind::Unfix => &["unfix"],
+        Kind::Latch => &["latch", "mode"],
+        Kind::Unlatch => &["unlatch"],
+        Kind::Loop => &["loop", "body"],
+        Kind::Choice => &["choice"],
     }
 }
 
-fn is_key(kind: Kind, key: &str) -> bool
-    ensures { result ≡ is_key kind key.now }
-{
-    match kind {
-        Kind::Fix => key == "fix" || key == "region",
-        Kind::Unfix => key == "unfix",
-        Kind::Latch => key == "latch" || key == "mode",
-        Kind::Unlatch => key == "unlatch",
-        Kind::Loop => key == "loop" || key == "body",
-        Kind::Choice => key == "choice",
-    }
-}
-
-/// The value has the key of this kind.
+/// The value has the first key of this kind.
 fn has_kind(value: &Value, kind: Kind) -> bool
     ensures { result ≡ has_kind (view value.now) kind }
 {
-    value.get(first_key(kind)).is_some()
+    let keys = keys_of(kind);
+    value.get(keys[0]).is_some()
 }
 
-/// How many of the kinds have their key in the value.
-fn count_of(value: &Value, kinds: &[Kind]) -> usize
-    ensures { result ≡ count_by (λ k. has_kind (view value.now) k) kinds.now }
-{
-    kinds.iter().filter(|kind| has_kind(value, **kind)).count()
-}
-
-/// The first of the kinds that has its key in the value.
-fn first_of(value: &Value, kinds: &[Kind]) -> Option<Kind>
-    ensures { result ≡ find (λ k. has_kind (view value.now) k) kinds.now }
-{
-    kinds.iter().copied().find(|kind| has_kind(value, *kind))
-}
-
-/// The one kind whose key the value has.
+/// The one kind whose first key the value has.
 fn kind_of(value: &Value) -> Option<Kind>
     ensures { result ≡ kind_of (view value.now) }
 {
-    if count_of(value, &KINDS) == 1 {
-        first_of(value, &KINDS)
-    } else {
-        None
+    let mut found = None;
+    for kind in &KINDS {
+        if has_kind(value, *kind) {
+            if found.is_some() {
+                return None;
+            }
+            found = Some(*kind);
+        }
     }
+    found
 }
 
-fn are_keys(kind: Kind, members: &Map<String, Value>) -> bool
-    ensures { result ≡ list_all (λ k. is_key kind (string_bytes k)) (keys members.now) }
-{
-    members.keys().all(|key| is_key(kind, key.as_str()))
-}
-
-/// The value is an object with no other key than this kind's.
-#[tactic(auto, using(crate::proofs::Trees::only_none))]
-fn has_only(kind: Kind, value: &Value) -> bool
-    ensures { result ≡ has_only (is_key kind) (view value.now) }
-{
-    match value.as_object() {
-        Some(members) => are_keys(kind, members),
-        None => false,
-    }
-}
-
+/// The value at the key, in the statement with this number.
 #[tactic(auto, unfolding(crate::specs::Shapes::value_at))]
 fn value_at<'v>(key: &str, number: u32, value: &'v Value) -> Result<&'v Value, PlanError>
-    ensures { Gives (λ v. view v.now) result (value_at key.now number (view value.now)) }
+    ensures { Reads (λ v. view v.now) result (value_at key.now number (view value.now)) }
 {
     value.get(key).ok_or(PlanError::WrongField(number))
 }
 
+/// The same where it is a text.
 #[tactic(auto, unfolding(crate::specs::Shapes::text_at))]
 fn text_at<'v>(key: &str, number: u32, value: &'v Value) -> Result<&'v str, PlanError>
-    ensures { Gives (λ s. s.now) result (text_at key.now number (view value.now)) }
+    ensures { Reads (λ s. s.now) result (text_at key.now number (view value.now)) }
 {
     value_at(key, number, value)?
         .as_str()
         .ok_or(PlanError::WrongField(number))
 }
 
+/// The same where it is a whole number of 64 bits without a sign.
 #[tactic(auto, unfolding(crate::specs::Shapes::number_at))]
 fn number_at(key: &str, number: u32, value: &Value) -> Result<u64, PlanError>
-    ensures { Gives (λ n. n) result (number_at key.now number (view value.now)) }
+    ensures { Reads (λ n. n) result (number_at key.now number (view value.now)) }
 {
     value_at(key, number, value)?
         .as_u64()
         .ok_or(PlanError::WrongField(number))
 }
 
+/// The same where it is a list.
 #[tactic(auto, unfolding(crate::specs::Shapes::list_at))]
 fn list_at<'v>(key: &str, number: u32, value: &'v Value) -> Result<&'v [Value], PlanError>
-    ensures { Gives (λ s. items_view s.now) result (list_at key.now number (view value.now)) }
+    ensures { Reads (λ s. items_view s.now) result (list_at key.now number (view value.now)) }
 {
     match value_at(key, number, value)?.as_array() {
         Some(items) => Ok(items),
@@ -144,6 +118,7 @@ fn list_at<'v>(key: &str, number: u32, value: &'v Value) -> Result<&'v [Value], 
     }
 }
 
+/// The mode that the letter stands for.
 fn mode_named(text: &str) -> Option<Mode>
     ensures { result ≡ mode_named text.now }
 {
@@ -156,22 +131,25 @@ fn mode_named(text: &str) -> Option<Mode>
     }
 }
 
+/// The same where it is the letter of a mode.
 #[tactic(auto, unfolding(crate::specs::Shapes::mode_at))]
 fn mode_at(key: &str, number: u32, value: &Value) -> Result<Mode, PlanError>
-    ensures { Gives (λ m. m) result (mode_at key.now number (view value.now)) }
+    ensures { Reads (λ m. m) result (mode_at key.now number (view value.now)) }
 {
     mode_named(text_at(key, number, value)?).ok_or(PlanError::WrongField(number))
 }
 
+/// Each of the values is a list.
 fn are_lists(items: &[Value]) -> bool
     ensures { result ≡ are_lists (items_view items.now) }
 {
     items.iter().all(|value| value.is_array())
 }
 
+/// The values of the keys of this kind.
 #[tactic(auto, unfolding(crate::specs::Shapes::shape_at))]
 fn shape_at<'v>(kind: Kind, number: u32, value: &'v Value) -> Result<Shape<'v>, PlanError>
-    ensures { Gives shape_view result (shape_at kind number (view value.now)) }
+    ensures { Reads shape_view result (shape_at kind number (view value.now)) }
 {
     match kind {
         Kind::Fix => {
@@ -210,41 +188,16 @@ fn shape_at<'v>(kind: Kind, number: u32, value: &'v Value) -> Result<Shape<'v>, 
 /// The form of the statement with this number.
 #[tactic(auto, unfolding(crate::specs::Shapes::shape_of))]
 pub(crate) fn shape_of(number: u32, value: &Value) -> Result<Shape<'_>, PlanError>
-    ensures { Gives shape_view result (shape_of number (view value.now)) }
+    ensures { Reads shape_view result (shape_of number (view value.now)) }
 {
-    let kind = match kind_of(value) {
-        Some(kind) => kind,
-        None => return Err(PlanError::NoSuchStatement(number)),
-    };
-    if !has_only(kind, value) {
+    let kind = kind_of(value).ok_or(PlanError::NoSuchStatement(number))?;
+    if !has_only_keys(keys_of(kind), value) {
         return Err(PlanError::WrongField(number));
     }
     shape_at(kind, number, value)
 }
 
-fn is_top_key(key: &str) -> bool
-    ensures { result ≡ is_top_key key.now }
-{
-    key == "body" || key == "version"
-}
-
-fn are_top_keys(members: &Map<String, Value>) -> bool
-    ensures { result ≡ list_all (λ k. is_top_key (string_bytes k)) (keys members.now) }
-{
-    members.keys().all(|key| is_top_key(key.as_str()))
-}
-
-/// The value is an object with no other keys than a plan's.
-#[tactic(auto, using(crate::proofs::Trees::only_none))]
-fn has_only_top_keys(value: &Value) -> bool
-    ensures { result ≡ has_only is_top_key (view value.now) }
-{
-    match value.as_object() {
-        Some(members) => are_top_keys(members),
-        None => false,
-    }
-}
-
+/// The value is the number 1.
 fn is_one(value: &Value) -> bool
     ensures { result ≡ is_one (view value.now) }
 {
@@ -257,9 +210,9 @@ fn is_one(value: &Value) -> bool
 /// The statements of a plan's object.
 #[tactic(auto, unfolding(crate::specs::Reading::statements_at))]
 pub(crate) fn statements_at(value: &Value) -> Result<&[Value], PlanError>
-    ensures { Gives (λ s. items_view s.now) result (statements_at (view value.now)) }
+    ensures { Reads (λ s. items_view s.now) result (statements_at (view value.now)) }
 {
-    if !has_only_top_keys(value) {
+    if !has_only_keys(&TOP_KEYS, value) {
         return Err(PlanError::WrongField(0));
     }
     let items = list_at("body", 0, value)?;

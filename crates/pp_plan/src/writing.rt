@@ -6,6 +6,7 @@ ghost use Rattle.serde_json.specs.View.{view, items_of};
 ghost use Rattle.pp_settings.specs.Settings.{geometry_of};
 ghost use Rattle.pp_plan.specs.View.{statement_of};
 ghost use Rattle.pp_plan.specs.Rules.{IsStatement, IsSequence, AreAlternatives};
+ghost use Rattle.pp_plan.specs.Terms.{IsPlan};
 ghost use Rattle.pp_plan.specs.Spelling.{letter_of};
 ghost use Rattle.pp_plan.specs.Values.{statement_value, statement_values, branch_values, plan_members};
 
@@ -16,6 +17,7 @@ use pp_settings::Settings;
 use serde_json::{Value, json};
 use std::alloc::{AllocError, Global};
 
+/// The letter that stands for the mode.
 fn letter_of(mode: Mode) -> &'static str
     ensures { result.now ≡ letter_of mode }
 {
@@ -25,6 +27,7 @@ fn letter_of(mode: Mode) -> &'static str
     }
 }
 
+/// The JSON value that is written for the statement.
 #[cycle(writing)]
 fn statement_value(
     alloc: Global,
@@ -55,6 +58,7 @@ fn statement_value(
     }
 }
 
+/// The list that is written for the body: one value for each statement, in order.
 #[cycle(writing)]
 fn body_value(
     alloc: Global,
@@ -72,6 +76,7 @@ fn body_value(
     Ok(Value::from(values))
 }
 
+/// The list that is written for the branches: one list for each branch, in order.
 #[cycle(writing)]
 fn branches_value(
     alloc: Global,
@@ -96,7 +101,9 @@ pub(crate) fn plan_value(
     plan: &Plan,
 ) -> Result<Value, AllocError>
     requires { plan.now.layout ≡ geometry_of settings.now }
-    ensures { IfOk result (λ v. view v ≡ object (plan_members settings.now plan.now)) }
+    ensures value { IfOk result (λ v. view v ≡ object (plan_members settings.now plan.now)) }
+    // What holds of every plan.
+    ensures facts { IsPlan plan.now }
 {
     let body = body_value(alloc, settings, plan, &plan.body)?;
     json!(in alloc; {"body": body, "version": 1})

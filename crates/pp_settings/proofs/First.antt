@@ -1,5 +1,7 @@
 -- The refusal that reading gives is the first fault in the order.
-use Rattle.std.proofs.Common.{◌≡◌, ◌≢◌, ◌⊎◌, inl, inr, ℕ, zero, suc, ◌+◌, ◌-◌, ◌≤◌, ◌<◌, max, pos, Bool, true, false, not, ◌||◌, IsTrue, List, [], ◌∷◌, ◌++◌, length, get_or, All, IfErr, Option, Some, None, option_and_then, Result, Ok, Err, codes, refl, sym, ap, subst, ◌∙◌, arith}
+use Rattle.std.proofs.Common.{◌≡◌, ◌≢◌, ◌⊎◌, inl, inr, ℕ, zero, suc, ◌+◌, ◌-◌, ◌≤◌, ◌<◌, max, pos, Bool, true, false}
+use Rattle.std.proofs.Common.{not, ◌||◌, IsTrue, List, [], ◌∷◌, ◌++◌, length, get_or, All, IfErr, Option, Some, None}
+use Rattle.std.proofs.Common.{option_and_then, Result, Ok, Err, codes, refl, sym, ap, subst, ◌∙◌, arith}
 use Rattle.std.specs.Option.{ok_or}
 use Rattle.std.specs.List.{list_any}
 use Rattle.std.proofs.lemmas.Bool.{false≢true, cases_lt}
@@ -8,36 +10,45 @@ use Rattle.std.proofs.lemmas.List.{get_or_append_left, length-append}
 use Rattle.std.proofs.Math.Seq.{get_or-append_seam}
 use Rattle.std.proofs.lemmas.Slice.Eq.{bytes_eq-Decides}
 use Rattle.toml.specs.Parse.{parse_document}
-use Rattle.toml.specs.Data.{Data, string, integer, array, table, Items, no_items, item, Members, get_member, get_item, as_table, as_array}
+use Rattle.toml.specs.Data.{Data, string, integer, array, table, Items, no_items, item, Members, get_member, get_item}
+use Rattle.toml.specs.Data.{as_table, as_array}
+use Rattle.pp_text.proofs.Steps.{must_ok}
 use Rattle.pp_settings.specs.declared.extent.Extent.{Extent}
+use Rattle.pp_settings.specs.Refusals.{is_memory}
 use Rattle.pp_settings.specs.declared.error.SettingsError.{SettingsError}
-use Rattle.pp_settings.specs.declared.error.SettingsError.TheVariants.{NotToml, Missing, Unknown, Range, SameName, Overlap, OutOfMemory}
+use Rattle.pp_settings.specs.declared.error.SettingsError.TheVariants.{NotToml, Missing, Unknown, Range, SameName}
+use Rattle.pp_settings.specs.declared.error.SettingsError.TheVariants.{Overlap, OutOfMemory}
 use Rattle.pp_settings.specs.declared.key.TopKey.TheVariants.{Frames, PageBytes, Workers, Flushes, Region}
 use Rattle.pp_settings.specs.declared.key.RegionKey.TheVariants.{Name, First, Count, Class}
 use Rattle.pp_settings.specs.declared.key.Spot.{Spot}
 use Rattle.pp_settings.specs.declared.key.Spot.TheVariants.{Top, InRegion}
 use Rattle.pp_settings.specs.Keys.{key_of, known_keys}
-use Rattle.pp_settings.specs.Names.{is_name}
 use Rattle.pp_settings.specs.Layout.{IsApart, shares_page}
-use Rattle.pp_settings.specs.Settings.{NamedRegion, Configuration, IsNamedRegion, AreRegions}
-use Rattle.pp_settings.specs.Steps.{◌>>=◌, must, Refuses, Gives}
-use Rattle.pp_settings.specs.Reading.{keys_known, only_known, value_at, as_number, number_at, as_name, name_at, extent_at, region_at, has_name, shares_page_with, beside, next_region, regions_from, are_tables, count_of, as_tables, tables_at, configuration_of, reading}
+use Rattle.pp_settings.specs.Settings.{NamedRegion, Configuration, IsNamedRegion, AreRegions, is_region_name}
+use Rattle.pp_text.specs.Steps.{◌>>=◌, must, Refuses, Gives}
+use Rattle.pp_settings.specs.Reading.{keys_known, only_known, value_at, as_number, number_at, as_name, name_at}
+use Rattle.pp_settings.specs.Reading.{extent_at, region_at, has_name, shares_page_with, beside, next_region}
+use Rattle.pp_settings.specs.Reading.{regions_from, are_tables, count_of, as_tables, tables_at, configuration_of}
+use Rattle.pp_settings.specs.Reading.{reading}
 use Rattle.pp_settings.specs.Spelling.{HasOnly, Holds, SpellsRegion}
-use Rattle.pp_settings.specs.Faults.{table_of, home_of, value_of, IsNumber, IsNameText, IsCount, AreRegionTables, IsAllowed, HasFault, at_key, at_region, at_regions, in_document, order, IsFirst}
-use Rattle.pp_settings.proofs.Laws.{must_ok, known_found, known_again, as_number_again, number_found, name_found, region_found}
-use Rattle.pp_settings.proofs.Regions.{IsBeside, are_more, each_fails, not_true, next_found, tables_found, counted_again}
+use Rattle.pp_settings.specs.Faults.{table_of, home_of, IsNumber, IsNameText, IsCount, AreRegionTables}
+use Rattle.pp_settings.specs.Faults.{IsAllowed, HasPageAt, HasFault, at_key, at_region, at_regions, in_document, order}
+use Rattle.pp_settings.specs.Faults.{IsFirst}
+use Rattle.pp_settings.proofs.Laws.{known_found, known_again, as_number_again, number_found, name_found, region_found}
+use Rattle.pp_settings.proofs.Clear.{nameless, some_is, value_is, not_missing, IsClear, key_clear, region_clear}
+use Rattle.pp_settings.proofs.Clear.{SpellsAt, name_there, first_there, count_there, names_clear, pages_clear}
+use Rattle.pp_settings.proofs.Spelled.{no_regions, IsBeside, are_more, each_fails, not_true, next_found, tables_found}
+use Rattle.pp_settings.proofs.Spelled.{counted_again}
 
 -- the refusal is the first of the list that the document has
 record Told (ms : Members) (fs : List SettingsError) (e : SettingsError) : Type 0 where
   told : IsFirst (HasFault (Some ms)) fs e
 
-nameless : NamedRegion
-nameless = record { name = []; extent = record { first = 0; count = 0; class = 0 } }
-
 -- ---- steps that fail
 
 -- a step that failed, or one that was passed and the rest that failed
-step : {A B G : Type 0} (r : Result A SettingsError) (next : A → Result B SettingsError) (e : SettingsError) → (r >>= next) ≡ Err e → (r ≡ Err e → G) → ((x : A) → r ≡ Ok x → next x ≡ Err e → G) → G
+step : {A B G : Type 0} (r : Result A SettingsError) (next : A → Result B SettingsError) (e : SettingsError)
+    → (r >>= next) ≡ Err e → (r ≡ Err e → G) → ((x : A) → r ≡ Ok x → next x ≡ Err e → G) → G
 step (Ok x) next e h refused passed = passed x refl h
 step (Err d) next e h refused passed = let is : d ≡ e = cc in refused (ap (λ f. Err f) is)
 
@@ -45,46 +56,48 @@ must_err : (b : Bool) (d e : SettingsError) → must b d ≡ Err e → (b ≡ fa
 must_err true d e h = absurd cc
 must_err false d e h = (refl, cc)
 
-some_is : {A : Type 0} (x y : A) → ◌≡◌ {A = Option A} (Some x) (Some y) → x ≡ y
-some_is x y e = cc
-
 none_some : {A : Type 0} (o : Option A) (x : A) → o ≡ None → o ≡ Some x → ⊥
 none_some o x a b = absurd cc
 
 -- ---- one key
 
-value_is : (ms t : Members) (spot : Spot) → table_of ms (home_of spot) ≡ Some t → value_of ms spot ≡ get_member (key_of spot) t
-value_is ms t spot home = ap (option_and_then (get_member (key_of spot))) home
-
 -- a key with a value that it may have is no fault
-spot_passed : (ms t : Members) (spot : Spot) (d : Data) → table_of ms (home_of spot) ≡ Some t → Holds t (key_of spot) d → IsAllowed ms spot d → (rest : List SettingsError) (e : SettingsError) → Told ms rest e → Told ms (at_key spot rest) e
+key_passed : (ms : Members) (spot : Spot) (rest : List SettingsError) (e : SettingsError) → IsClear ms spot
+    → Told ms rest e → Told ms (at_key spot rest) e
+key_passed ms spot rest e clear more = record { told = inr (clear.there, inr (clear.good, more.told)) }
+
+spot_passed : (ms t : Members) (spot : Spot) (d : Data) → table_of ms (home_of spot) ≡ Some t
+    → Holds t (key_of spot) d → IsAllowed ms spot d → (rest : List SettingsError) (e : SettingsError)
+    → Told ms rest e → Told ms (at_key spot rest) e
 spot_passed ms t spot d home held allowed rest e more =
-    let there : ¬ HasFault (Some ms) (Missing spot) = λ m. none_some (get_member (key_of spot) t) d (subst (λ (u : Members). get_member (key_of spot) u ≡ None) (some_is m.0 t (sym m.1 ∙ home)) m.2) held in
-    let good : ¬ HasFault (Some ms) (Range spot) = λ m. m.2 (subst (IsAllowed ms spot) (some_is d m.0 (sym held ∙ sym (value_is ms t spot home) ∙ m.1)) allowed) in
-    record { told = inr (there, inr (good, more.told)) }
+    key_passed ms spot rest e (key_clear ms t spot d home held allowed) more
 
 -- a key that is refused is a fault
-spot_refused : {A : Type 0} (ms t : Members) (spot : Spot) (test : Data → Option A) (rest : List SettingsError) (e : SettingsError) → table_of ms (home_of spot) ≡ Some t → ((d : Data) → test d ≡ None → ¬ IsAllowed ms spot d)
+spot_refused : {A : Type 0} (ms t : Members) (spot : Spot) (test : Data → Option A) (rest : List SettingsError)
+    (e : SettingsError) → table_of ms (home_of spot) ≡ Some t → ((d : Data) → test d ≡ None → ¬ IsAllowed ms spot d)
     → (value_at spot t >>= λ d. ok_or (test d) (Range spot)) ≡ Err e → Told ms (at_key spot rest) e
 spot_refused {A} ms t spot test rest e home bad h = by_value (get_member (key_of spot) t) refl h
   where
-    by_test : (d : Data) → get_member (key_of spot) t ≡ Some d → (o : Option A) → test d ≡ o → ok_or o (Range spot) ≡ Err e → Told ms (at_key spot rest) e
+    by_test : (d : Data) → get_member (key_of spot) t ≡ Some d → (o : Option A) → test d ≡ o
+        → ok_or o (Range spot) ≡ Err e → Told ms (at_key spot rest) e
     by_test d held None fails h =
-        let there : ¬ HasFault (Some ms) (Missing spot) = λ m. none_some (get_member (key_of spot) t) d (subst (λ (u : Members). get_member (key_of spot) u ≡ None) (some_is m.0 t (sym m.1 ∙ home)) m.2) held in
+        let there = not_missing ms t spot d home held in
         record { told = inr (there, inl (cc, (d, value_is ms t spot home ∙ held, bad d fails))) }
     by_test d held (Some x) passes h = absurd cc
 
-    by_value : (v : Option Data) → get_member (key_of spot) t ≡ v → (ok_or v (Missing spot) >>= λ d. ok_or (test d) (Range spot)) ≡ Err e → Told ms (at_key spot rest) e
+    by_value : (v : Option Data) → get_member (key_of spot) t ≡ v
+        → (ok_or v (Missing spot) >>= λ d. ok_or (test d) (Range spot)) ≡ Err e → Told ms (at_key spot rest) e
     by_value None is h = record { told = inl (cc, (t, home, is)) }
     by_value (Some d) is h = by_test d is (test d) refl h
 
 number_none : (low high : ℕ) (d : Data) → as_number low high d ≡ None → ¬ IsNumber low high d
-number_none low high d none is = none_some (as_number low high d) is.0 none (ap (as_number low high) is.1 ∙ as_number_again low high is.0 is.2 is.3)
+number_none low high d none is =
+    none_some (as_number low high d) is.0 none (ap (as_number low high) is.1 ∙ as_number_again low high is.0 is.2 is.3)
 
 name_none : (d : Data) → as_name d ≡ None → ¬ IsNameText d
 name_none d none is = none_some (as_name d) is.0 none (ap as_name is.1 ∙ passes is.0 is.2)
   where
-    passes : (s : List ℕ) → IsTrue (is_name s) → as_name (string s) ≡ Some s
+    passes : (s : List ℕ) → IsTrue (is_region_name s) → as_name (string s) ≡ Some s
     passes s fits = rw fits refl
 
 tables_none : (d : Data) → as_tables d ≡ None → ¬ AreRegionTables d
@@ -93,47 +106,77 @@ tables_none d none is = none_some (as_tables d) is.0 none (ap as_tables is.1 ∙
     passes : (ds : Items) → 1 ≤ count_of ds → count_of ds ≤ 64 → IsTrue (are_tables ds) → as_tables (array ds) ≡ Some ds
     passes ds a b c = rw (counted_again 1 64 (count_of ds) (are_tables ds) a b c) refl
 
-number_refused : (ms t : Members) (spot : Spot) (low high : ℕ) (rest : List SettingsError) (e : SettingsError) → table_of ms (home_of spot) ≡ Some t → ((d : Data) → as_number low high d ≡ None → ¬ IsAllowed ms spot d) → number_at spot low high t ≡ Err e → Told ms (at_key spot rest) e
+number_refused : (ms t : Members) (spot : Spot) (low high : ℕ) (rest : List SettingsError) (e : SettingsError)
+    → table_of ms (home_of spot) ≡ Some t → ((d : Data) → as_number low high d ≡ None → ¬ IsAllowed ms spot d)
+    → number_at spot low high t ≡ Err e → Told ms (at_key spot rest) e
 unfolding number_at
 number_refused ms t spot low high rest e home bad h = spot_refused ms t spot (as_number low high) rest e home bad h
 
-name_refused : (ms t : Members) (i : ℕ) (rest : List SettingsError) (e : SettingsError) → table_of ms (Some i) ≡ Some t → name_at (InRegion i Name) t ≡ Err e → Told ms (at_key (InRegion i Name) rest) e
+-- a number that is refused, or one that was passed and the rest that failed
+number_step : {B : Type 0} (ms t : Members) (spot : Spot) (low high : ℕ) (next : ℕ → Result B SettingsError)
+    (rest : List SettingsError) (e : SettingsError) → table_of ms (home_of spot) ≡ Some t
+    → ((d : Data) → as_number low high d ≡ None → ¬ IsAllowed ms spot d)
+    → ((n : ℕ) → low ≤ n → n ≤ high → IsAllowed ms spot (integer (pos n)))
+    → (number_at spot low high t >>= next) ≡ Err e
+    → ((n : ℕ) → Holds t (key_of spot) (integer (pos n)) → n ≤ high → next n ≡ Err e → Told ms rest e)
+    → Told ms (at_key spot rest) e
+number_step ms t spot low high next rest e home bad good h more =
+    step (number_at spot low high t) next e h (λ refused. number_refused ms t spot low high rest e home bad refused)
+    (λ n is then.
+    let (held, a, b) = number_found spot low high n t is in
+    spot_passed ms t spot (integer (pos n)) home held (good n a b) rest e (more n held b then))
+
+name_refused : (ms t : Members) (i : ℕ) (rest : List SettingsError) (e : SettingsError) → table_of ms (Some i) ≡ Some t
+    → name_at (InRegion i Name) t ≡ Err e → Told ms (at_key (InRegion i Name) rest) e
 unfolding name_at
 name_refused ms t i rest e home h = spot_refused ms t (InRegion i Name) as_name rest e home name_none h
 
-tables_refused : (ms : Members) (rest : List SettingsError) (e : SettingsError) → tables_at (Top Region) ms ≡ Err e → Told ms (at_key (Top Region) rest) e
+tables_refused : (ms : Members) (rest : List SettingsError) (e : SettingsError) → tables_at (Top Region) ms ≡ Err e
+    → Told ms (at_key (Top Region) rest) e
 unfolding tables_at
 tables_refused ms rest e h = spot_refused ms ms (Top Region) as_tables rest e refl tables_none h
 
-known_refused : (ms t : Members) (region : Option ℕ) (rest : List SettingsError) (e : SettingsError) → table_of ms region ≡ Some t → only_known region t ≡ Err e → Told ms (Unknown region ∷ rest) e
+known_refused : (ms t : Members) (region : Option ℕ) (rest : List SettingsError) (e : SettingsError)
+    → table_of ms region ≡ Some t → only_known region t ≡ Err e → Told ms (Unknown region ∷ rest) e
 known_refused ms t region rest e home h =
     let (bad, is) = must_err (keys_known region t) (Unknown region) e h in
-    record { told = inl (is, (t, home, λ only. false≢true (sym bad ∙ must_ok _ (Unknown region) tt (known_again region t only)))) }
+    let passed = λ (only : HasOnly (known_keys region) t). must_ok _ (Unknown region) tt (known_again region t only) in
+    record { told = inl (is, (t, home, λ only. false≢true (sym bad ∙ passed only))) }
 
-known_passed : (ms t : Members) (region : Option ℕ) (rest : List SettingsError) (e : SettingsError) → table_of ms region ≡ Some t → HasOnly (known_keys region) t → Told ms rest e → Told ms (Unknown region ∷ rest) e
-known_passed ms t region rest e home only more = record { told = inr (λ m. m.2 (subst (HasOnly (known_keys region)) (some_is t m.0 (sym home ∙ m.1)) only), more.told) }
+known_passed : (ms t : Members) (region : Option ℕ) (rest : List SettingsError) (e : SettingsError)
+    → table_of ms region ≡ Some t → HasOnly (known_keys region) t → Told ms rest e → Told ms (Unknown region ∷ rest) e
+known_passed ms t region rest e home only more = record {
+  told = inr
+      (λ m. m.2 (subst (HasOnly (known_keys region)) (some_is t m.0 (sym home ∙ m.1)) only), more.told);
+}
 
 -- ---- one region
 
-count_none : (ms t : Members) (i first : ℕ) → table_of ms (Some i) ≡ Some t → Holds t (codes "first") (integer (pos first)) → first ≤ 65535 → (d : Data) → as_number 1 (65536 - first) d ≡ None → ¬ IsCount ms i d
+count_none : (ms t : Members) (i first : ℕ) → table_of ms (Some i) ≡ Some t
+    → Holds t (codes "first") (integer (pos first)) → first ≤ 65535 → (d : Data) → as_number 1 (65536 - first) d ≡ None
+    → ¬ IsCount ms i d
 count_none ms t i first home held below d none (f, n, begins, is, some, ends) =
-    let both : ◌≡◌ {A = Option Data} (Some (integer (pos f))) (Some (integer (pos first))) = sym begins ∙ value_is ms t (InRegion i First) home ∙ held in
+    let both : ◌≡◌ {A = Option Data} (Some (integer (pos f))) (Some (integer (pos first))) =
+    sym begins ∙ value_is ms t (InRegion i First) home ∙ held in
     let same : f ≡ first = cc in
     number_none 1 (65536 - first) d none (n, is, some, omega (arith, same, ends))
 
-extent_refused : (ms t : Members) (i : ℕ) (rest : List SettingsError) (e : SettingsError) → table_of ms (Some i) ≡ Some t → extent_at i t ≡ Err e
+extent_refused : (ms t : Members) (i : ℕ) (rest : List SettingsError) (e : SettingsError)
+    → table_of ms (Some i) ≡ Some t → extent_at i t ≡ Err e
     → Told ms (at_key (InRegion i First) (at_key (InRegion i Count) (at_key (InRegion i Class) rest))) e
 unfolding extent_at
 extent_refused ms t i rest e home h =
-    step (number_at (InRegion i First) 0 65535 t) _ e h (λ bad. number_refused ms t (InRegion i First) 0 65535 _ e home (number_none 0 65535) bad) (λ first begins h1.
-    let f = number_found (InRegion i First) 0 65535 first t begins in
-    spot_passed ms t (InRegion i First) (integer (pos first)) home f.0 (first, refl, f.1, f.2) _ e (
-    step (number_at (InRegion i Count) 1 (65536 - first) t) _ e h1 (λ bad. number_refused ms t (InRegion i Count) 1 (65536 - first) _ e home (count_none ms t i first home f.0 f.2) bad) (λ count counts h2.
-    let c = number_found (InRegion i Count) 1 (65536 - first) count t counts in
-    spot_passed ms t (InRegion i Count) (integer (pos count)) home c.0 (first, count, value_is ms t (InRegion i First) home ∙ f.0, refl, c.1, omega (arith, c.2, f.2)) _ e (
-    step (number_at (InRegion i Class) 0 63 t) _ e h2 (λ bad. number_refused ms t (InRegion i Class) 0 63 _ e home (number_none 0 63) bad) (λ class stands h3. absurd cc)))))
+    number_step ms t (InRegion i First) 0 65535 _ _ e home (number_none 0 65535) (λ n a b. (n, refl, a, b)) h
+    (λ first begins below h1.
+    let there = value_is ms t (InRegion i First) home ∙ begins in
+    number_step ms t (InRegion i Count) 1 (65536 - first) _ _ e home (count_none ms t i first home begins below)
+    (λ n a b. (first, n, there, refl, a, omega (arith, b, below))) h1
+    (λ count counts most h2.
+    number_step ms t (InRegion i Class) 0 63 _ _ e home (number_none 0 63) (λ n a b. (n, refl, a, b)) h2
+    (λ class stands top h3. absurd cc)))
 
-region_refused : (ms t : Members) (i : ℕ) (rest : List SettingsError) (e : SettingsError) → table_of ms (Some i) ≡ Some t → region_at i t ≡ Err e → Told ms (at_region i rest) e
+region_refused : (ms t : Members) (i : ℕ) (rest : List SettingsError) (e : SettingsError)
+    → table_of ms (Some i) ≡ Some t → region_at i t ≡ Err e → Told ms (at_region i rest) e
 unfolding region_at
 region_refused ms t i rest e home h =
     step (only_known (Some i) t) _ e h (λ bad. known_refused ms t (Some i) _ e home bad) (λ x known h1.
@@ -144,21 +187,18 @@ region_refused ms t i rest e home h =
     step (extent_at i t) _ e h2 (λ bad. extent_refused ms t i _ e home bad) (λ extent lies h3. absurd cc)))))
 
 -- a region that was read has no fault of its own
-region_passed : (ms t : Members) (i : ℕ) (r : NamedRegion) (rest : List SettingsError) (e : SettingsError) → table_of ms (Some i) ≡ Some t → SpellsRegion t r → IsNamedRegion r
+region_passed : (ms t : Members) (i : ℕ) (r : NamedRegion) (rest : List SettingsError) (e : SettingsError)
+    → table_of ms (Some i) ≡ Some t → SpellsRegion t r → IsNamedRegion r
     → Told ms (SameName i ∷ Overlap i ∷ rest) e → Told ms (at_region i rest) e
 region_passed ms t i r rest e home s h more =
-    let x = h.extent in
+    let clear = region_clear ms t i r home s h in
     known_passed ms t (Some i) _ e home s.keys (
-    spot_passed ms t (InRegion i Name) (string r.name) home s.name (r.name, refl, h.name) _ e (
-    spot_passed ms t (InRegion i First) (integer (pos r.extent.first)) home s.first (r.extent.first, refl, omega arith, omega (arith, x.some, x.ends)) _ e (
-    spot_passed ms t (InRegion i Count) (integer (pos r.extent.count)) home s.count (r.extent.first, r.extent.count, value_is ms t (InRegion i First) home ∙ s.first, refl, x.some, x.ends) _ e (
-    spot_passed ms t (InRegion i Class) (integer (pos r.extent.class)) home s.class (r.extent.class, refl, omega arith, x.class) _ e more))))
+    key_passed ms (InRegion i Name) _ e (clear Name) (
+    key_passed ms (InRegion i First) _ e (clear First) (
+    key_passed ms (InRegion i Count) _ e (clear Count) (
+    key_passed ms (InRegion i Class) _ e (clear Class) more))))
 
 -- ---- a region beside the earlier ones
-
--- the region's table stands in the document, and spells it
-abbrev SpellsAt : Members → ℕ → NamedRegion → Type 0
-SpellsAt ms i r = (t : Members) × (table_of ms (Some i) ≡ Some t) × SpellsRegion t r
 
 -- the earlier regions are those of the first tables
 abbrev Earlier : Members → List NamedRegion → Type 0
@@ -169,52 +209,42 @@ or_cases true y e = inl refl
 or_cases false y e = inr e
 
 -- where some element passes, there is one
-some_passes : {X : Type 0} (p : X → Bool) (d : X) (xs : List X) → list_any p xs ≡ true → (k : ℕ) × (k < length xs) × (p (get_or xs k d) ≡ true)
+some_passes : {X : Type 0} (p : X → Bool) (d : X) (xs : List X) → list_any p xs ≡ true
+    → (k : ℕ) × (k < length xs) × (p (get_or xs k d) ≡ true)
 some_passes p d [] e = absurd cc
-some_passes p d (x ∷ xs) e = elim (or_cases (p x) (list_any p xs) e) [ inl is ↦ (0, omega arith, is) | inr more ↦ let (k, within, is) = some_passes p d xs more in (suc k, omega (arith, within), is) ]
+some_passes p d (x ∷ xs) e =
+    elim (or_cases (p x) (list_any p xs) e) [
+      | inl is ↦ (0, omega arith, is)
+      | inr more ↦ let (k, within, is) = some_passes p d xs more in (suc k, omega (arith, within), is)
+    ]
 
 not_false : (b : Bool) → not b ≡ false → b ≡ true
 not_false true e = refl
 not_false false e = absurd cc
 
-name_there : (ms : Members) (i : ℕ) (r : NamedRegion) → SpellsAt ms i r → value_of ms (InRegion i Name) ≡ Some (string r.name)
-name_there ms i r (t, home, s) = value_is ms t (InRegion i Name) home ∙ s.name
-
-first_there : (ms : Members) (i : ℕ) (r : NamedRegion) → SpellsAt ms i r → value_of ms (InRegion i First) ≡ Some (integer (pos r.extent.first))
-first_there ms i r (t, home, s) = value_is ms t (InRegion i First) home ∙ s.first
-
-count_there : (ms : Members) (i : ℕ) (r : NamedRegion) → SpellsAt ms i r → value_of ms (InRegion i Count) ≡ Some (integer (pos r.extent.count))
-count_there ms i r (t, home, s) = value_is ms t (InRegion i Count) home ∙ s.count
-
-string_is : (a b : List ℕ) → ◌≡◌ {A = Option Data} (Some (string a)) (Some (string b)) → a ≡ b
-string_is a b e = cc
-
-number_is : (a b : ℕ) → ◌≡◌ {A = Option Data} (Some (integer (pos a))) (Some (integer (pos b))) → a ≡ b
-number_is a b e = cc
-
 -- two extents with a page each share one
-common_page : (d e : Extent) → 1 ≤ d.count → 1 ≤ e.count → shares_page d e ≡ true → (d.first ≤ max d.first e.first) × (max d.first e.first < d.first + d.count) × (e.first ≤ max d.first e.first) × (max d.first e.first < e.first + e.count)
+common_page : (d e : Extent) → 1 ≤ d.count → 1 ≤ e.count → shares_page d e ≡ true
+    → (d.first ≤ max d.first e.first) × (max d.first e.first < d.first + d.count) × (e.first ≤ max d.first e.first)
+    × (max d.first e.first < e.first + e.count)
 common_page d e a b h = grind (arith, nat_tests)
 
-no_common_page : (d e : Extent) (page : ℕ) → IsApart d e → d.first ≤ page → page < d.first + d.count → e.first ≤ page → page < e.first + e.count → ⊥
-no_common_page d e page (inl h) a b c f = omega (arith, h, a, b, c, f)
-no_common_page d e page (inr h) a b c f = omega (arith, h, a, b, c, f)
-
-other_names : (ms : Members) (earlier : List NamedRegion) (r : NamedRegion) → Earlier ms earlier → SpellsAt ms (length earlier) r → All (λ q. q.name ≢ r.name) earlier → ¬ HasFault (Some ms) (SameName (length earlier))
+other_names : (ms : Members) (earlier : List NamedRegion) (r : NamedRegion) → Earlier ms earlier
+    → SpellsAt ms (length earlier) r → All (λ q. q.name ≢ r.name) earlier
+    → ¬ HasFault (Some ms) (SameName (length earlier))
 other_names ms earlier r before here others (j, below, (name, there, is)) =
-    others j nameless below (string_is _ _ (sym (name_there ms j (get_or earlier j nameless) (before j below)) ∙ there) ∙ string_is _ _ (sym is ∙ name_there ms (length earlier) r here))
+    names_clear ms j (length earlier) (get_or earlier j nameless) r (before j below) here (others j nameless below)
+    name there is
 
-other_pages : (ms : Members) (earlier : List NamedRegion) (r : NamedRegion) → Earlier ms earlier → SpellsAt ms (length earlier) r → All (λ q. IsApart q.extent r.extent) earlier → ¬ HasFault (Some ms) (Overlap (length earlier))
-other_pages ms earlier r before here others (j, below, (page, (f, c, fa, ca, low, high), (f', c', fb, cb, low', high'))) =
-    let q : NamedRegion = get_or earlier j nameless in
-    let s = before j below in
-    let e1 : q.extent.first ≡ f = number_is _ _ (sym (first_there ms j q s) ∙ fa) in
-    let e2 : q.extent.count ≡ c = number_is _ _ (sym (count_there ms j q s) ∙ ca) in
-    let e3 : r.extent.first ≡ f' = number_is _ _ (sym (first_there ms (length earlier) r here) ∙ fb) in
-    let e4 : r.extent.count ≡ c' = number_is _ _ (sym (count_there ms (length earlier) r here) ∙ cb) in
-    no_common_page q.extent r.extent page (others j nameless below) (omega (arith, e1, low)) (omega (arith, e1, e2, high)) (omega (arith, e3, low')) (omega (arith, e3, e4, high'))
+other_pages : (ms : Members) (earlier : List NamedRegion) (r : NamedRegion) → Earlier ms earlier
+    → SpellsAt ms (length earlier) r → All (λ q. IsApart q.extent r.extent) earlier
+    → ¬ HasFault (Some ms) (Overlap (length earlier))
+other_pages ms earlier r before here others (j, below, (page, has, has')) =
+    pages_clear ms j (length earlier) (get_or earlier j nameless) r (before j below) here (others j nameless below)
+    page has has'
 
-beside_refused : (ms : Members) (earlier : List NamedRegion) (r : NamedRegion) (rest : List SettingsError) (e : SettingsError) → Earlier ms earlier → AreRegions earlier → SpellsAt ms (length earlier) r → IsNamedRegion r → beside earlier r ≡ Err e
+beside_refused : (ms : Members) (earlier : List NamedRegion) (r : NamedRegion) (rest : List SettingsError)
+    (e : SettingsError) → Earlier ms earlier → AreRegions earlier → SpellsAt ms (length earlier) r → IsNamedRegion r
+    → beside earlier r ≡ Err e
     → Told ms (SameName (length earlier) ∷ Overlap (length earlier) ∷ rest) e
 unfolding beside
 beside_refused ms earlier r rest e before are here h refused =
@@ -224,67 +254,79 @@ beside_refused ms earlier r rest e before are here h refused =
     let (j, below, same) = some_passes (has_name r.name) nameless earlier (not_false _ fails) in
     let q : NamedRegion = get_or earlier j nameless in
     let named : q.name ≡ r.name = (bytes_eq-Decides q.name r.name).0 same in
-    record { told = inl (is, (j, below, (r.name, name_there ms j q (before j below) ∙ ap (λ (n : List ℕ). Some (string n)) named, name_there ms (length earlier) r here))) })
+    let there = name_there ms j q (before j below) ∙ ap (λ (n : List ℕ). Some (string n)) named in
+    record { told = inl (is, (j, below, (r.name, there, name_there ms (length earlier) r here))) })
     (λ x named bad.
     let differ = each_fails (has_name r.name) earlier (not_true _ (must_ok _ (SameName (length earlier)) x named)) in
-    let others : All (λ q. q.name ≢ r.name) earlier = λ k d within. λ is. false≢true (sym (differ k d within) ∙ (bytes_eq-Decides (get_or earlier k d).name r.name).1 is) in
+    let others : All (λ q. q.name ≢ r.name) earlier =
+    λ k d within. λ is. false≢true (sym (differ k d within)
+    ∙ (bytes_eq-Decides (get_or earlier k d).name r.name).1 is) in
     let (fails, is) = must_err _ (Overlap (length earlier)) e bad in
     let (j, below, meets) = some_passes (shares_page_with r.extent) nameless earlier (not_false _ fails) in
     let q : NamedRegion = get_or earlier j nameless in
     let s = before j below in
     let (a, b, c, d) = common_page q.extent r.extent (are.each j nameless below).extent.some h.extent.some meets in
-    record {
-      told = inr (
-        other_names ms earlier r before here others,
-        inl (
-          is,
-          (
-            j,
-            below,
-            (
-              max q.extent.first r.extent.first,
-              (q.extent.first, q.extent.count, first_there ms j q s, count_there ms j q s, a, b),
-              (r.extent.first, r.extent.count, first_there ms (length earlier) r here, count_there ms (length earlier) r here, c, d),
-            ),
-          ),
-        ),
-      );
-    })
+    let page = max q.extent.first r.extent.first in
+    let there : HasPageAt ms j page =
+    (q.extent.first, q.extent.count, first_there ms j q s, count_there ms j q s, a, b) in
+    let too : HasPageAt ms (length earlier) page =
+    let n = length earlier in
+    (r.extent.first, r.extent.count, first_there ms n r here, count_there ms n r here, c, d) in
+    let other = other_names ms earlier r before here others in
+    record { told = inr (other, inl (is, (j, below, (page, there, too)))) })
 
 -- ---- regions one after the other
 
 table_inside : (t u : Members) → table t ≡ table u → t ≡ u
 table_inside t u e = cc
 
-table_there : (ms : Members) (all : Items) (i : ℕ) (t : Members) → Holds ms (codes "region") (array all) → get_item i all ≡ Some (table t) → table_of ms (Some i) ≡ Some t
-table_there ms all i t held is = ap (λ (o : Option Data). option_and_then as_table (option_and_then (get_item i) (option_and_then as_array o))) held ∙ ap (option_and_then as_table) is
+table_there : (ms : Members) (all : Items) (i : ℕ) (t : Members) → Holds ms (codes "region") (array all)
+    → get_item i all ≡ Some (table t) → table_of ms (Some i) ≡ Some t
+table_there ms all i t held is =
+    ap (λ (o : Option Data). option_and_then as_table (option_and_then (get_item i) (option_and_then as_array o))) held
+    ∙ ap (option_and_then as_table) is
 
-next_refused : (ms t : Members) (earlier : List NamedRegion) (rest : List SettingsError) (e : SettingsError) → Earlier ms earlier → AreRegions earlier → table_of ms (Some (length earlier)) ≡ Some t → next_region earlier (table t) ≡ Err e
+next_refused : (ms t : Members) (earlier : List NamedRegion) (rest : List SettingsError) (e : SettingsError)
+    → Earlier ms earlier → AreRegions earlier → table_of ms (Some (length earlier)) ≡ Some t
+    → next_region earlier (table t) ≡ Err e
     → Told ms (at_region (length earlier) rest) e
 unfolding next_region
 next_refused ms t earlier rest e before are home h =
-    step (region_at (length earlier) t) _ e h (λ bad. region_refused ms t (length earlier) rest e home bad) (λ r read h1.
+    step (region_at (length earlier) t) _ e h (λ bad. region_refused ms t (length earlier) rest e home bad)
+    (λ r read h1.
     let (s, is) = region_found (length earlier) t r read in
-    step (beside earlier r) _ e h1 (λ bad. region_passed ms t (length earlier) r rest e home s is (beside_refused ms earlier r rest e before are (t, home, s) is bad)) (λ x fresh h2. absurd cc))
+    step (beside earlier r) _ e h1 (λ bad.
+    region_passed ms t (length earlier) r rest e home s is
+    (beside_refused ms earlier r rest e before are (t, home, s) is bad)) (λ x fresh h2. absurd cc))
 
 -- a region that was read, and the rest
-next_passed : (ms t : Members) (earlier : List NamedRegion) (r : NamedRegion) (rest : List SettingsError) (e : SettingsError) → Earlier ms earlier → table_of ms (Some (length earlier)) ≡ Some t → SpellsRegion t r → IsNamedRegion r → IsBeside earlier r
+next_passed : (ms t : Members) (earlier : List NamedRegion) (r : NamedRegion) (rest : List SettingsError)
+    (e : SettingsError) → Earlier ms earlier → table_of ms (Some (length earlier)) ≡ Some t → SpellsRegion t r
+    → IsNamedRegion r → IsBeside earlier r
     → Told ms rest e → Told ms (at_region (length earlier) rest) e
 next_passed ms t earlier r rest e before home s is b more =
-    region_passed ms t (length earlier) r rest e home s is (record { told = inr (other_names ms earlier r before (t, home, s) b.names, inr (other_pages ms earlier r before (t, home, s) b.apart, more.told)) })
+    let here : SpellsAt ms (length earlier) r = (t, home, s) in
+    let names = other_names ms earlier r before here b.names in
+    let pages = other_pages ms earlier r before here b.apart in
+    region_passed ms t (length earlier) r rest e home s is (record { told = inr (names, inr (pages, more.told)) })
 
 -- one region more
-earlier_more : (ms : Members) (earlier : List NamedRegion) (r : NamedRegion) → Earlier ms earlier → SpellsAt ms (length earlier) r → Earlier ms (earlier ++ r ∷ [])
+earlier_more : (ms : Members) (earlier : List NamedRegion) (r : NamedRegion) → Earlier ms earlier
+    → SpellsAt ms (length earlier) r → Earlier ms (earlier ++ r ∷ [])
 earlier_more ms earlier r before here j below = elim (cases_lt j (length earlier)) [
   | inl within ↦ subst (SpellsAt ms j) (sym (get_or_append_left earlier (r ∷ []) nameless j within)) (before j within)
   | inr past ↦
       let long : length (earlier ++ r ∷ []) ≡ length earlier + length (r ∷ []) = length-append earlier (r ∷ []) in
       let last : length earlier ≡ j = omega (arith, below, past, long) in
-      subst (λ (k : ℕ). SpellsAt ms k (get_or (earlier ++ r ∷ []) k nameless)) last (subst (SpellsAt ms (length earlier)) (sym (get_or-append_seam earlier r [] nameless)) here)
+      subst (λ (k : ℕ). SpellsAt ms k (get_or (earlier ++ r ∷ []) k nameless)) last
+      (subst (SpellsAt ms (length earlier)) (sym (get_or-append_seam earlier r [] nameless)) here)
 ]
 
-regions_first : (ms : Members) (all : Items) (earlier : List NamedRegion) (ds : Items) (n : ℕ) (e : SettingsError) → Holds ms (codes "region") (array all) → are_tables ds ≡ true → ((k : ℕ) → get_item (length earlier + k) all ≡ get_item k ds)
-    → Earlier ms earlier → AreRegions earlier → count_of ds ≤ n → regions_from earlier ds ≡ Err e → Told ms (at_regions (length earlier) n) e
+regions_first : (ms : Members) (all : Items) (earlier : List NamedRegion) (ds : Items) (n : ℕ) (e : SettingsError)
+    → Holds ms (codes "region") (array all) → are_tables ds ≡ true
+    → ((k : ℕ) → get_item (length earlier + k) all ≡ get_item k ds)
+    → Earlier ms earlier → AreRegions earlier → count_of ds ≤ n → regions_from earlier ds ≡ Err e
+    → Told ms (at_regions (length earlier) n) e
 unfolding at_regions
 regions_first ms all earlier no_items n e held tables left before are room h = absurd cc
 regions_first ms all earlier (item d ds) zero e held tables left before are room h = absurd (omega (arith, room))
@@ -292,13 +334,17 @@ regions_first ms all earlier (item (table t) ds) (suc n) e held tables left befo
     let i = length earlier in
     let here : get_item i all ≡ Some (table t) = ap (λ (k : ℕ). get_item k all) (omega arith) ∙ left 0 in
     let home : table_of ms (Some i) ≡ Some t = table_there ms all i t held here in
-    step (next_region earlier (table t)) _ e h (λ bad. next_refused ms t earlier (at_regions (i + 1) n) e before are home bad) (λ r next h1.
+    step (next_region earlier (table t)) _ e h
+    (λ bad. next_refused ms t earlier (at_regions (i + 1) n) e before are home bad) (λ r next h1.
     let (u, is, s', good, b) = next_found earlier (table t) r next in
     let s : SpellsRegion t r = subst (λ (v : Members). SpellsRegion v r) (sym (table_inside t u is)) s' in
     let long : length (earlier ++ r ∷ []) ≡ i + 1 = length-append earlier (r ∷ []) in
     let more : Told ms (at_regions (length (earlier ++ r ∷ [])) n) e =
-    regions_first ms all (earlier ++ r ∷ []) ds n e held tables (λ k. ap (λ (m : ℕ). get_item m all) (omega (arith, long)) ∙ left (suc k)) (earlier_more ms earlier r before (t, home, s)) (are_more earlier r are good b) (omega (arith, room)) h1 in
-    next_passed ms t earlier r (at_regions (i + 1) n) e before home s good b (subst (λ (m : ℕ). Told ms (at_regions m n) e) long more))
+    regions_first ms all (earlier ++ r ∷ []) ds n e held tables
+    (λ k. ap (λ (m : ℕ). get_item m all) (omega (arith, long)) ∙ left (suc k))
+    (earlier_more ms earlier r before (t, home, s)) (are_more earlier r are good b) (omega (arith, room)) h1 in
+    next_passed ms t earlier r (at_regions (i + 1) n) e before home s good b
+    (subst (λ (m : ℕ). Told ms (at_regions m n) e) long more))
 regions_first ms all earlier (item d ds) (suc n) e held tables left before are room h = absurd cc
 
 -- ---- the document
@@ -306,32 +352,28 @@ regions_first ms all earlier (item d ds) (suc n) e held tables left before are r
 none_yet : (ms : Members) → Earlier ms []
 none_yet ms = λ j below. absurd (omega (arith, below))
 
-no_regions : AreRegions []
-no_regions = record { each = λ k d below. absurd (omega (arith, below)); names = λ i j d a b. absurd (omega (arith, b)); apart = λ i j d a b. absurd (omega (arith, b)) }
-
 document_first : (ms : Members) (e : SettingsError) → configuration_of ms ≡ Err e → Told ms in_document e
 unfolding configuration_of
 document_first ms e h =
     step (only_known None ms) _ e h (λ bad. known_refused ms ms None _ e refl bad) (λ x known h0.
     known_passed ms ms None _ e refl (known_found None ms x known) (
-    step (number_at (Top Frames) 1 4096 ms) _ e h0 (λ bad. number_refused ms ms (Top Frames) 1 4096 _ e refl (number_none 1 4096) bad) (λ frames f h1.
-    let a = number_found (Top Frames) 1 4096 frames ms f in
-    spot_passed ms ms (Top Frames) (integer (pos frames)) refl a.0 (frames, refl, a.1, a.2) _ e (
-    step (number_at (Top PageBytes) 64 65536 ms) _ e h1 (λ bad. number_refused ms ms (Top PageBytes) 64 65536 _ e refl (number_none 64 65536) bad) (λ page_bytes p h2.
-    let b = number_found (Top PageBytes) 64 65536 page_bytes ms p in
-    spot_passed ms ms (Top PageBytes) (integer (pos page_bytes)) refl b.0 (page_bytes, refl, b.1, b.2) _ e (
-    step (number_at (Top Workers) 1 32 ms) _ e h2 (λ bad. number_refused ms ms (Top Workers) 1 32 _ e refl (number_none 1 32) bad) (λ workers w h3.
-    let c = number_found (Top Workers) 1 32 workers ms w in
-    spot_passed ms ms (Top Workers) (integer (pos workers)) refl c.0 (workers, refl, c.1, c.2) _ e (
-    step (number_at (Top Flushes) 0 100000 ms) _ e h3 (λ bad. number_refused ms ms (Top Flushes) 0 100000 _ e refl (number_none 0 100000) bad) (λ flushes l h4.
-    let d = number_found (Top Flushes) 0 100000 flushes ms l in
-    spot_passed ms ms (Top Flushes) (integer (pos flushes)) refl d.0 (flushes, refl, d.1, d.2) _ e (
+    number_step ms ms (Top Frames) 1 4096 _ _ e refl (number_none 1 4096) (λ n a b. (n, refl, a, b)) h0
+    (λ frames f fm h1.
+    number_step ms ms (Top PageBytes) 64 65536 _ _ e refl (number_none 64 65536) (λ n a b. (n, refl, a, b)) h1
+    (λ page_bytes p pm h2.
+    number_step ms ms (Top Workers) 1 32 _ _ e refl (number_none 1 32) (λ n a b. (n, refl, a, b)) h2
+    (λ workers w wm h3.
+    number_step ms ms (Top Flushes) 0 100000 _ _ e refl (number_none 0 100000) (λ n a b. (n, refl, a, b)) h3
+    (λ flushes l lm h4.
     step (tables_at (Top Region) ms) _ e h4 (λ bad. tables_refused ms _ e bad) (λ ds t h5.
     let g = tables_found ms ds t in
     spot_passed ms ms (Top Region) (array ds) refl g.0 (ds, refl, g.1, g.2, g.3) _ e (
-    step (regions_from [] ds) _ e h5 (λ bad. regions_first ms ds [] ds 64 e g.0 g.3 (λ k. ap (λ (m : ℕ). get_item m ds) (omega arith)) (none_yet ms) no_regions g.2 bad) (λ all read h6. absurd cc)))))))))))))
+    step (regions_from [] ds) _ e h5 (λ bad.
+    regions_first ms ds [] ds 64 e g.0 g.3 (λ k. ap (λ (m : ℕ). get_item m ds) (omega arith))
+    (none_yet ms) no_regions g.2 bad) (λ all read h6. absurd cc)))))))))
 
-pub text_first : (text : List ℕ) (e : SettingsError) → reading text ≡ Err e → IsFirst (HasFault (parse_document text)) order e
+pub text_first : (text : List ℕ) (e : SettingsError) → reading text ≡ Err e
+    → IsFirst (HasFault (parse_document text)) order e
 text_first text e h = by_document (parse_document text) h
   where
     by_document : (o : Option Members) → (ok_or o NotToml >>= configuration_of) ≡ Err e → IsFirst (HasFault o) order e
@@ -339,10 +381,13 @@ text_first text e h = by_document (parse_document text) h
     by_document (Some ms) h = inr (λ fault. fault, (document_first ms e h).told)
 
 -- what is told is the first fault, unless memory ran out
-pub told_first : (text : List ℕ) (e : SettingsError) → e ≢ OutOfMemory → Refuses e (reading text) → IsFirst (HasFault (parse_document text)) order e
+pub told_first : (text : List ℕ) (e : SettingsError) → e ≢ OutOfMemory → Refuses (is_memory e) e (reading text)
+    → IsFirst (HasFault (parse_document text)) order e
 told_first text OutOfMemory other h = absurd (other refl)
 told_first text e other h = text_first text e h
 
-pub refused_first : (text : List ℕ) (r : Result Configuration SettingsError) → Gives (λ (c : Configuration). c) r (reading text) → IfErr r (λ e. e ≢ OutOfMemory → IsFirst (HasFault (parse_document text)) order e)
+pub refused_first : (text : List ℕ) (r : Result Configuration SettingsError)
+    → Gives is_memory (λ (c : Configuration). c) r (reading text)
+    → IfErr r (λ e. e ≢ OutOfMemory → IsFirst (HasFault (parse_document text)) order e)
 refused_first text (Ok c) gives = tt
 refused_first text (Err e) gives = λ other. told_first text e other gives

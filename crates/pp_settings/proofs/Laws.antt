@@ -1,57 +1,25 @@
 -- What is read is spelled so, and what is spelled so is read: one key, and one region.
-use Rattle.std.proofs.Common.{◌≡◌, ◌⊎◌, inl, inr, ℕ, suc, ◌-◌, ◌≤◌, pos, negsuc, Bool, true, false, ◌||◌, IsTrue, List, [], ◌∷◌, get_or, Contains, Option, Some, None, Result, Ok, Err, codes, refl, sym, ap, subst, ◌∙◌, arith}
-use Rattle.std.specs.Option.{ok_or}
-use Rattle.std.specs.List.{list_any}
-use Rattle.std.specs.Str.{bytes_eq}
+use Rattle.std.proofs.Common.{◌≡◌, ℕ, ◌-◌, ◌≤◌, pos, negsuc, true, IsTrue, List}
+use Rattle.std.proofs.Common.{Option, Some, Ok, codes, refl, ap}
+use Rattle.std.proofs.Common.{subst, ◌∙◌, arith}
 use Rattle.std.proofs.lemmas.Option.{cond_some}
 use Rattle.std.proofs.lemmas.Bool.{and_parts}
 use Rattle.std.proofs.lemmas.Bool.Decides.{nat_tests}
-use Rattle.std.proofs.lemmas.List.Folds.{list_any_at}
-use Rattle.std.proofs.lemmas.Slice.Eq.{bytes_eq-Decides}
 use Rattle.toml.specs.Data.{Data, string, integer, float, boolean, datetime, array, table, Members, no_members, member}
+use Rattle.pp_text.proofs.Keys.{among, among_again}
+use Rattle.pp_text.proofs.Steps.{bind_ok, must_ok, ok_or_ok, ok_is}
 use Rattle.pp_settings.specs.declared.extent.Extent.{Extent}
-use Rattle.pp_settings.specs.declared.error.SettingsError.{SettingsError}
 use Rattle.pp_settings.specs.declared.key.RegionKey.TheVariants.{Name, First, Count, Class}
 use Rattle.pp_settings.specs.declared.key.Spot.{Spot}
 use Rattle.pp_settings.specs.declared.key.Spot.TheVariants.{InRegion}
 use Rattle.pp_settings.specs.Keys.{key_of, known_keys}
-use Rattle.pp_settings.specs.Names.{is_name}
 use Rattle.pp_settings.specs.Layout.{IsExtent}
-use Rattle.pp_settings.specs.Settings.{NamedRegion, IsNamedRegion}
-use Rattle.pp_settings.specs.Steps.{◌>>=◌, must}
-use Rattle.pp_settings.specs.Reading.{is_known, keys_known, only_known, value_at, as_number, number_at, as_name, name_at, extent_at, region_at}
+use Rattle.pp_settings.specs.Settings.{NamedRegion, IsNamedRegion, is_region_name}
+use Rattle.pp_settings.specs.Reading.{is_known, keys_known, only_known, value_at, as_number, number_at, as_name}
+use Rattle.pp_settings.specs.Reading.{name_at, extent_at, region_at}
 use Rattle.pp_settings.specs.Spelling.{HasOnly, Holds, SpellsRegion}
 
--- ---- steps that were passed
-
-pub bind_ok : {A B : Type 0} (r : Result A SettingsError) (next : A → Result B SettingsError) (y : B) → (r >>= next) ≡ Ok y → (x : A) × (r ≡ Ok x) × (next x ≡ Ok y)
-bind_ok (Ok x) next y e = (x, refl, e)
-bind_ok (Err d) next y e = absurd cc
-
-pub must_ok : (b : Bool) (d : SettingsError) (x : Unit {0}) → must b d ≡ Ok x → b ≡ true
-must_ok true d x e = refl
-must_ok false d x e = absurd cc
-
-pub ok_or_ok : {A : Type 0} (o : Option A) (d : SettingsError) (x : A) → ok_or o d ≡ Ok x → o ≡ Some x
-ok_or_ok None d x e = absurd cc
-ok_or_ok (Some y) d x e = cc
-
-pub ok_is : {A : Type 0} (x y : A) → ◌≡◌ {A = Result A SettingsError} (Ok x) (Ok y) → x ≡ y
-ok_is x y e = cc
-
 -- ---- keys
-
-or_cases : (x y : Bool) → (x || y) ≡ true → (x ≡ true) ⊎ (y ≡ true)
-or_cases true y e = inl refl
-or_cases false y e = inr e
-
--- a key that is equal to one of the list stands in it
-among : (k : List ℕ) (keys : List (List ℕ)) → list_any (bytes_eq k) keys ≡ true → Contains keys k
-among k [] e = absurd cc
-among k (l ∷ ls) e = elim (or_cases (bytes_eq k l) (list_any (bytes_eq k) ls) e) [ inl is ↦ (0, omega arith, sym ((bytes_eq-Decides k l).0 is)) | inr more ↦ let (i, within, is) = among k ls more in (suc i, omega (arith, within), is) ]
-
-among_again : (k : List ℕ) (keys : List (List ℕ)) → Contains keys k → list_any (bytes_eq k) keys ≡ true
-among_again k keys (i, within, is) = list_any_at (bytes_eq k) keys i k within ((bytes_eq-Decides k (get_or keys i k)).1 (sym is))
 
 keys_found : (region : Option ℕ) (ms : Members) → keys_known region ms ≡ true → HasOnly (known_keys region) ms
 keys_found region no_members e = tt
@@ -63,7 +31,8 @@ keys_again : (region : Option ℕ) (ms : Members) → HasOnly (known_keys region
 keys_again region no_members h = refl
 keys_again region (member k d ms) h = rw (among_again k (known_keys region) h.0) (keys_again region ms h.1)
 
-pub known_found : (region : Option ℕ) (ms : Members) (x : Unit {0}) → only_known region ms ≡ Ok x → HasOnly (known_keys region) ms
+pub known_found : (region : Option ℕ) (ms : Members) (x : Unit {0}) → only_known region ms ≡ Ok x
+    → HasOnly (known_keys region) ms
 known_found region ms x e = keys_found region ms (must_ok _ _ x e)
 
 pub known_again : (region : Option ℕ) (ms : Members) → HasOnly (known_keys region) ms → only_known region ms ≡ Ok tt
@@ -71,7 +40,8 @@ known_again region ms h = rw (keys_again region ms h)
 
 -- ---- numbers
 
-pub number_is : (low high n : ℕ) (d : Data) → as_number low high d ≡ Some n → (d ≡ integer (pos n)) × (low ≤ n) × (n ≤ high)
+pub number_is : (low high n : ℕ) (d : Data) → as_number low high d ≡ Some n
+    → (d ≡ integer (pos n)) × (low ≤ n) × (n ≤ high)
 number_is low high n (integer (pos m)) e = grind (arith, nat_tests)
 number_is low high n (integer (negsuc m)) e = absurd cc
 number_is low high n (string s) e = absurd cc
@@ -84,21 +54,25 @@ number_is low high n (table ms) e = absurd cc
 pub as_number_again : (low high n : ℕ) → low ≤ n → n ≤ high → as_number low high (integer (pos n)) ≡ Some n
 as_number_again low high n a b = grind (arith, nat_tests)
 
-pub number_found : (spot : Spot) (low high n : ℕ) (ms : Members) → number_at spot low high ms ≡ Ok n → Holds ms (key_of spot) (integer (pos n)) × (low ≤ n) × (n ≤ high)
+pub number_found : (spot : Spot) (low high n : ℕ) (ms : Members) → number_at spot low high ms ≡ Ok n
+    → Holds ms (key_of spot) (integer (pos n)) × (low ≤ n) × (n ≤ high)
 unfolding number_at
 number_found spot low high n ms e =
     let (d, found, tested) = bind_ok (value_at spot ms) _ n e in
     let (is, a, b) = number_is low high n d (ok_or_ok _ _ n tested) in
     (ok_or_ok _ _ d found ∙ ap Some is, a, b)
 
-pub number_again : (spot : Spot) (low high n : ℕ) (ms : Members) → Holds ms (key_of spot) (integer (pos n)) → low ≤ n → n ≤ high → number_at spot low high ms ≡ Ok n
+pub number_again : (spot : Spot) (low high n : ℕ) (ms : Members) → Holds ms (key_of spot) (integer (pos n)) → low ≤ n
+    → n ≤ high → number_at spot low high ms ≡ Ok n
 unfolding number_at
 number_again spot low high n ms held a b = rw (held, as_number_again low high n a b)
 
 -- ---- names
 
-pub name_is : (n : List ℕ) (d : Data) → as_name d ≡ Some n → (d ≡ string n) × IsTrue (is_name n)
-name_is n (string s) e = let (passed, is) = cond_some (is_name s) s n e in (ap string is, subst (λ x. is_name x ≡ true) is passed)
+pub name_is : (n : List ℕ) (d : Data) → as_name d ≡ Some n → (d ≡ string n) × IsTrue (is_region_name n)
+name_is n (string s) e =
+    let (passed, is) = cond_some (is_region_name s) s n e in
+    (ap string is, subst (λ x. is_region_name x ≡ true) is passed)
 name_is n (integer z) e = absurd cc
 name_is n (float x) e = absurd cc
 name_is n (boolean b) e = absurd cc
@@ -106,14 +80,16 @@ name_is n (datetime t) e = absurd cc
 name_is n (array ds) e = absurd cc
 name_is n (table ms) e = absurd cc
 
-pub name_found : (spot : Spot) (n : List ℕ) (ms : Members) → name_at spot ms ≡ Ok n → Holds ms (key_of spot) (string n) × IsTrue (is_name n)
+pub name_found : (spot : Spot) (n : List ℕ) (ms : Members) → name_at spot ms ≡ Ok n
+    → Holds ms (key_of spot) (string n) × IsTrue (is_region_name n)
 unfolding name_at
 name_found spot n ms e =
     let (d, found, tested) = bind_ok (value_at spot ms) _ n e in
     let (is, fits) = name_is n d (ok_or_ok _ _ n tested) in
     (ok_or_ok _ _ d found ∙ ap Some is, fits)
 
-pub name_again : (spot : Spot) (n : List ℕ) (ms : Members) → Holds ms (key_of spot) (string n) → IsTrue (is_name n) → name_at spot ms ≡ Ok n
+pub name_again : (spot : Spot) (n : List ℕ) (ms : Members) → Holds ms (key_of spot) (string n)
+    → IsTrue (is_region_name n) → name_at spot ms ≡ Ok n
 unfolding name_at
 name_again spot n ms held fits = rw (held, fits) refl
 
@@ -135,14 +111,22 @@ extent_found i ms x e =
     let f = number_found (InRegion i First) 0 65535 first ms begins in
     let n = number_found (InRegion i Count) 1 (65536 - first) count ms counts in
     let c = number_found (InRegion i Class) 0 63 class ms stands in
-    subst (λ (y : Extent). SpellsExtent ms y × IsExtent y) (ok_is made x e3) (record { first = f.0; count = n.0; class = c.0 }, record { some = n.1; ends = omega (arith, n.2, f.2); class = c.2 })
+    subst (λ (y : Extent). SpellsExtent ms y × IsExtent y) (ok_is made x e3) (
+      record { first = f.0; count = n.0; class = c.0 },
+      record { some = n.1; ends = omega (arith, n.2, f.2); class = c.2 },
+    )
 
 pub extent_again : (i : ℕ) (ms : Members) (x : Extent) → SpellsExtent ms x → IsExtent x → extent_at i ms ≡ Ok x
 unfolding extent_at
 extent_again i ms x s h =
-    rw (number_again (InRegion i First) 0 65535 x.first ms s.first (omega arith) (omega (arith, h.some, h.ends)), number_again (InRegion i Count) 1 (65536 - x.first) x.count ms s.count h.some (omega (arith, h.ends)), number_again (InRegion i Class) 0 63 x.class ms s.class (omega arith) h.class) refl
+    rw (
+      number_again (InRegion i First) 0 65535 x.first ms s.first (omega arith) (omega (arith, h.some, h.ends)),
+      number_again (InRegion i Count) 1 (65536 - x.first) x.count ms s.count h.some (omega (arith, h.ends)),
+      number_again (InRegion i Class) 0 63 x.class ms s.class (omega arith) h.class,
+    ) refl
 
-pub region_found : (i : ℕ) (ms : Members) (r : NamedRegion) → region_at i ms ≡ Ok r → SpellsRegion ms r × IsNamedRegion r
+pub region_found : (i : ℕ) (ms : Members) (r : NamedRegion) → region_at i ms ≡ Ok r
+    → SpellsRegion ms r × IsNamedRegion r
 unfolding region_at
 region_found i ms r e =
     let (x, known, e1) = bind_ok (only_known (Some i) ms) _ r e in
@@ -151,9 +135,21 @@ region_found i ms r e =
     let made : NamedRegion = record { name = name; extent = extent } in
     let n = name_found (InRegion i Name) name ms named in
     let l = extent_found i ms extent lies in
-    subst (λ (q : NamedRegion). SpellsRegion ms q × IsNamedRegion q) (ok_is made r e3) (record { keys = known_found (Some i) ms x known; name = n.0; first = l.0.first; count = l.0.count; class = l.0.class }, record { name = n.1; extent = l.1 })
+    subst (λ (q : NamedRegion). SpellsRegion ms q × IsNamedRegion q) (ok_is made r e3) (
+      record {
+        keys = known_found
+            (Some i) ms x known;
+        name = n.0;
+        first = l.0.first;
+        count = l.0.count;
+        class = l.0.class;
+      },
+      record { name = n.1; extent = l.1 },
+    )
 
-pub region_again : (i : ℕ) (ms : Members) (r : NamedRegion) → SpellsRegion ms r → IsNamedRegion r → region_at i ms ≡ Ok r
+pub region_again : (i : ℕ) (ms : Members) (r : NamedRegion) → SpellsRegion ms r → IsNamedRegion r
+    → region_at i ms ≡ Ok r
 unfolding region_at
 region_again i ms r s h =
-    rw (known_again (Some i) ms s.keys, name_again (InRegion i Name) r.name ms s.name h.name, extent_again i ms r.extent (record { first = s.first; count = s.count; class = s.class }) h.extent) refl
+    let x = extent_again i ms r.extent (record { first = s.first; count = s.count; class = s.class }) h.extent in
+    rw (known_again (Some i) ms s.keys, name_again (InRegion i Name) r.name ms s.name h.name, x) refl

@@ -1,6 +1,8 @@
 pub mod Pages
 pub mod Trees
 pub mod Laws
-pub mod Regions
+pub mod Spelled
+pub mod Named
 pub mod Kept
+pub mod Clear
 pub mod First

@@ -1,6 +1,8 @@
 -- The library's values beside their trees.
-use Rattle.std.proofs.Common.{◌≡◌, ℕ, ◌+◌, cond, not, Bool, ◌&&◌, ◌||◌, is_some, length, arith, List, [], ◌∷◌, map, Option, Some, None, option_map, String, BTreeMap, Global, string_bytes, nat_cmp, Bor, refl, ap, sym, ◌∙◌}
-use Rattle.std.specs.List.{list_all, list_any, position, position_or_len}
+use Rattle.std.proofs.Common.{◌≡◌, ℕ, ◌+◌, cond, not, Bool, ◌&&◌, is_some, length, arith, List, [], ◌∷◌, map}
+use Rattle.std.proofs.Common.{Option, Some, None, option_map, String, BTreeMap, Global, string_bytes, nat_cmp, Bor}
+use Rattle.std.proofs.Common.{refl, ap, sym, ◌∙◌}
+use Rattle.std.specs.List.{list_all, position, position_or_len}
 use Rattle.std.specs.Map.{lookup, keys_of}
 use Rattle.std.specs.Option.{ok_or}
 use Rattle.std.specs.BTreeMap.{is_at, keys}
@@ -11,33 +13,32 @@ use Rattle.toml.specs.Data.{Data, get_member, as_table}
 use Rattle.toml.specs.View.{view, members_view, table_view, items_view}
 use Rattle.toml.proofs.Views.{table_get}
 use Rattle.pp_settings.specs.declared.key.Spot.{Spot}
-use Rattle.pp_settings.specs.declared.region.Region.{Region}
 use Rattle.pp_settings.specs.declared.error.SettingsError.TheVariants.{Missing}
 use Rattle.pp_settings.specs.Keys.{key_of}
-use Rattle.pp_settings.specs.Steps.{Reads}
+use Rattle.pp_text.specs.Steps.{Reads}
 use Rattle.pp_settings.specs.Reading.{is_known, keys_known, value_at, are_tables, count_of}
-use Rattle.pp_settings.specs.Views.{all_named, named}
 
-known_in : (region : Option ℕ) (es : List (String Global × Value)) → list_all (λ k. is_known region (string_bytes k)) (keys_of es) ≡ keys_known region (members_view es)
+known_in : (region : Option ℕ) (es : List (String Global × Value))
+    → list_all (λ k. is_known region (string_bytes k)) (keys_of es) ≡ keys_known region (members_view es)
 known_in region [] = refl
 known_in region (e ∷ es) = ap (λ b. is_known region (string_bytes e.0) && b) (known_in region es)
 
 -- the keys of a table beside those of its tree
-pub known_keys_of : (region : Option ℕ) (m : BTreeMap (String Global) Value) → list_all (λ k. is_known region (string_bytes k)) (keys m) ≡ keys_known region (table_view m)
+pub known_keys_of : (region : Option ℕ) (m : BTreeMap (String Global) Value)
+    → list_all (λ k. is_known region (string_bytes k)) (keys m) ≡ keys_known region (table_view m)
 known_keys_of region m = known_in region m.entries
 
-found_or_missing : (spot : Spot) (r : Option (Bor Value)) (d : Option Data) → option_map (λ v. view v.now) r ≡ d → Reads (λ v. view v.now) (ok_or r (Missing spot)) (ok_or d (Missing spot))
+found_or_missing : (spot : Spot) (r : Option (Bor Value)) (d : Option Data) → option_map (λ v. view v.now) r ≡ d
+    → Reads (λ v. view v.now) (ok_or r (Missing spot)) (ok_or d (Missing spot))
 found_or_missing spot None d e = ap (λ o. ok_or o (Missing spot)) (sym e)
 found_or_missing spot (Some v) d e = ap (λ o. ok_or o (Missing spot)) (sym e)
 
 -- what a look-up at the spot's key finds
-pub value_got : (spot : Spot) (r : Option (Bor Value)) (k : List ℕ) (m : BTreeMap (String Global) Value) → option_map (λ x. x.now) r ≡ lookup (is_at (λ x. slice_cmp nat_cmp k (string_bytes x))) m.entries → k ≡ key_of spot → Reads (λ v. view v.now) (ok_or r (Missing spot)) (value_at spot (table_view m))
-value_got spot r k m got same = found_or_missing spot r _ (table_get r k m.entries got ∙ ap (λ x. get_member x (members_view m.entries)) same)
-
--- a test of each element, through a map
-pub list_any_map : {A B : Type 0} (f : B → Bool) (g : A → B) (xs : List A) → list_any f (map g xs) ≡ list_any (λ x. f (g x)) xs
-list_any_map f g [] = refl
-list_any_map f g (x ∷ xs) = ap (λ b. f (g x) || b) (list_any_map f g xs)
+pub value_got : (spot : Spot) (r : Option (Bor Value)) (k : List ℕ) (m : BTreeMap (String Global) Value)
+    → option_map (λ x. x.now) r ≡ lookup (is_at (λ x. slice_cmp nat_cmp k (string_bytes x))) m.entries
+    → k ≡ key_of spot → Reads (λ v. view v.now) (ok_or r (Missing spot)) (value_at spot (table_view m))
+value_got spot r k m got same =
+    found_or_missing spot r _ (table_get r k m.entries got ∙ ap (λ x. get_member x (members_view m.entries)) same)
 
 pub are_tables_view : (vs : List Value) → list_all (λ v. is_some (as_table (view v))) vs ≡ are_tables (items_view vs)
 are_tables_view [] = refl
@@ -47,13 +48,12 @@ pub count_of_view : (vs : List Value) → count_of (items_view vs) ≡ length vs
 count_of_view [] = refl
 count_of_view (v ∷ vs) = omega (arith, count_of_view vs)
 
-pub all_named_length : (rs : List Region) → length (all_named rs) ≡ length rs
-all_named_length rs = length-map rs named
-
-position_or_len_map : {A B : Type 0} (p : B → Bool) (f : A → B) (xs : List A) → position_or_len p (map f xs) ≡ position_or_len (λ x. p (f x)) xs
+position_or_len_map : {A B : Type 0} (p : B → Bool) (f : A → B) (xs : List A)
+    → position_or_len p (map f xs) ≡ position_or_len (λ x. p (f x)) xs
 position_or_len_map p f [] = refl
 position_or_len_map p f (x ∷ xs) = ap (λ n. cond (not (p (f x))) (1 + n) 0) (position_or_len_map p f xs)
 
 -- the first place that passes, through a map
-pub position_map : {A B : Type 0} (p : B → Bool) (f : A → B) (xs : List A) → position p (map f xs) ≡ position (λ x. p (f x)) xs
+pub position_map : {A B : Type 0} (p : B → Bool) (f : A → B) (xs : List A)
+    → position p (map f xs) ≡ position (λ x. p (f x)) xs
 position_map p f xs = rw (position_or_len_map p f xs, length-map xs f) refl

@@ -29,5 +29,5 @@ key_of (InRegion i k) = region_key k
 
 -- The keys that a table may have: the document's, or those of the region with this number.
 abbrev pub known_keys : Option ℕ → List (List ℕ)
-known_keys None = codes "frames" ∷ codes "page_bytes" ∷ codes "workers" ∷ codes "flushes" ∷ codes "region" ∷ []
-known_keys (Some i) = codes "name" ∷ codes "first" ∷ codes "count" ∷ codes "class" ∷ []
+known_keys None = top_key Frames ∷ top_key PageBytes ∷ top_key Workers ∷ top_key Flushes ∷ top_key Region ∷ []
+known_keys (Some i) = region_key Name ∷ region_key First ∷ region_key Count ∷ region_key Class ∷ []

@@ -1,5 +1,6 @@
 -- A layout: the frames of a pool, and the regions of pages, each a run of page numbers with a class.
-use Rattle.std.specs.Prelude.{◌≡◌, ℕ, ◌+◌, ◌≤◌, ◌&&◌, ◌⊎◌, nat_le, nat_lt, Bool, Option, option_map, List, [], ◌∷◌, max, length, All, AllPairs, IsTrue, slice_get, position, find, Some}
+use Rattle.std.specs.Prelude.{◌≡◌, ℕ, ◌+◌, ◌≤◌, ◌&&◌, ◌⊎◌, nat_le, nat_lt, Bool, Option, option_map, List, [], ◌∷◌, max}
+use Rattle.std.specs.Prelude.{length, All, AllPairs, IsTrue, slice_get, position, find, Some, None}
 use Rattle.pp_settings.specs.declared.extent.Extent.{Extent}
 
 -- The number of frames, and the regions' extents; a region's number is its place in this list.
@@ -28,6 +29,16 @@ class_of g page = option_map (λ e. e.class) (find (has_page page) g.extents)
 -- Region r has the page.
 abbrev pub HasPage : Geometry → ℕ → ℕ → Type 0
 HasPage g r page = (e : Extent) × (slice_get g.extents r ≡ Some e) × IsTrue (has_page page e)
+
+-- Region r has the class.
+abbrev pub HasClass : Geometry → ℕ → ℕ → Type 0
+HasClass g r class = (e : Extent) × (slice_get g.extents r ≡ Some e) × (e.class ≡ class)
+
+-- What is told of a page: the class of a region that has the page, and that alone has it; or that no region has it.
+abbrev pub TellsClass : Geometry → ℕ → Option ℕ → Type 0
+TellsClass g page (Some class) =
+    (r : ℕ) × HasPage g r page × HasClass g r class × ((s : ℕ) → HasPage g s page → s ≡ r)
+TellsClass g page None = (r : ℕ) → ¬ HasPage g r page
 
 -- The first page number behind all of these extents.
 abbrev pub end_of : List Extent → ℕ

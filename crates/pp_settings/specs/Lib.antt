@@ -1,11 +1,10 @@
 pub mod Layout
 pub mod Places
 pub mod Keys
-pub mod Names
 pub mod Settings
 pub mod Refusals
 pub mod Spelling
-pub mod Steps
 pub mod Reading
 pub mod Views
+pub mod Kept
 pub mod Faults

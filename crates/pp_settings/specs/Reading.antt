@@ -1,22 +1,24 @@
 -- What a document gives: its settings, or the first refusal in the fixed order.
-use Rattle.std.specs.Prelude.{ℕ, ◌+◌, ◌-◌, pos, List, [], ◌∷◌, ◌++◌, length, Bool, true, not, ◌&&◌, nat_le, if◌then◌else◌, Option, Some, None, is_some, Result, Ok}
+use Rattle.std.specs.Prelude.{ℕ, ◌+◌, ◌-◌, pos, List, [], ◌∷◌, ◌++◌, length, Bool, true, not, ◌&&◌, nat_le}
+use Rattle.std.specs.Prelude.{if◌then◌else◌, Option, Some, None, is_some, Result, Ok}
 use Rattle.std.specs.Option.{ok_or}
 use Rattle.std.specs.List.{list_any}
 use Rattle.std.specs.Str.{bytes_eq}
-use Rattle.toml.specs.Data.{Data, string, integer, array, Items, no_items, item, Members, no_members, member, get_member, as_table}
+use Rattle.toml.specs.Data.{Data, string, integer, array, Items, no_items, item, Members, no_members, member}
+use Rattle.toml.specs.Data.{get_member, as_table}
 use Rattle.toml.specs.Parse.{parse_document}
+use Rattle.pp_text.specs.Steps.{◌>>=◌, must}
 use Rattle.pp_settings.specs.declared.extent.Extent.{Extent}
 use Rattle.pp_settings.specs.declared.key.TopKey.TheVariants.{Frames, PageBytes, Workers, Flushes, Region}
 use Rattle.pp_settings.specs.declared.key.RegionKey.TheVariants.{Name, First, Count, Class}
 use Rattle.pp_settings.specs.declared.key.Spot.{Spot}
 use Rattle.pp_settings.specs.declared.key.Spot.TheVariants.{Top, InRegion}
 use Rattle.pp_settings.specs.declared.error.SettingsError.{SettingsError}
-use Rattle.pp_settings.specs.declared.error.SettingsError.TheVariants.{NotToml, Missing, Unknown, Range, Overlap, SameName}
+use Rattle.pp_settings.specs.declared.error.SettingsError.TheVariants.{NotToml, Missing, Unknown, Range, Overlap}
+use Rattle.pp_settings.specs.declared.error.SettingsError.TheVariants.{SameName}
 use Rattle.pp_settings.specs.Keys.{key_of, known_keys}
 use Rattle.pp_settings.specs.Layout.{shares_page}
-use Rattle.pp_settings.specs.Names.{is_name}
-use Rattle.pp_settings.specs.Settings.{NamedRegion, Configuration}
-use Rattle.pp_settings.specs.Steps.{◌>>=◌, must}
+use Rattle.pp_settings.specs.Settings.{NamedRegion, Configuration, is_region_name}
 
 -- ---- one key
 
@@ -49,7 +51,7 @@ number_at spot low high ms = do
 
 -- A text that is a name.
 abbrev pub as_name : Data → Option (List ℕ)
-as_name (string s) = if is_name s then Some s else None
+as_name (string s) = if is_region_name s then Some s else None
 as_name _ = None
 
 unfoldable pub name_at : Spot → Members → Result (List ℕ) SettingsError

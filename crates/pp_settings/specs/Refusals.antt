@@ -1,50 +1,36 @@
--- Refusals: their numbers and names, and the words that a program prints of them.
-use Rattle.std.specs.Prelude.{ℕ, List, [], ◌++◌, codes, None, Some}
+-- Refusals: the row that a program prints of each, and the words of a spot.
+use Rattle.std.specs.Prelude.{ℕ, Bool, true, false, List, ◌++◌, codes, None, Some}
 use Rattle.std.specs.Fmt.{decimal}
+use Rattle.pp_text.specs.Refusals.{Matter, nothing, key, region_key as key_of_region, top, region, Row, row}
 use Rattle.pp_settings.specs.declared.key.Spot.{Spot}
 use Rattle.pp_settings.specs.declared.key.Spot.TheVariants.{Top, InRegion}
 use Rattle.pp_settings.specs.declared.error.SettingsError.{SettingsError}
-use Rattle.pp_settings.specs.declared.error.SettingsError.TheVariants.{NotToml, Missing, Unknown, Range, Overlap, SameName, OutOfMemory}
+use Rattle.pp_settings.specs.declared.error.SettingsError.TheVariants.{NotToml, Missing, Unknown, Range, Overlap}
+use Rattle.pp_settings.specs.declared.error.SettingsError.TheVariants.{SameName, OutOfMemory}
 use Rattle.pp_settings.specs.Keys.{top_key, region_key}
 
-abbrev pub number_of : SettingsError → ℕ
-number_of NotToml = 1
-number_of (Missing spot) = 2
-number_of (Unknown region) = 3
-number_of (Range spot) = 4
-number_of (Overlap region) = 5
-number_of (SameName region) = 6
-number_of OutOfMemory = 7
+-- A spot, as what a refusal is about.
+abbrev pub spot_matter : Spot → Matter
+spot_matter (Top k) = key (top_key k)
+spot_matter (InRegion i k) = key_of_region i (region_key k)
 
-abbrev pub name_of : SettingsError → List ℕ
-name_of NotToml = codes "NotToml"
-name_of (Missing spot) = codes "Missing"
-name_of (Unknown region) = codes "Unknown"
-name_of (Range spot) = codes "Range"
-name_of (Overlap region) = codes "Overlap"
-name_of (SameName region) = codes "SameName"
-name_of OutOfMemory = codes "OutOfMemory"
+-- The number of each refusal, its name, and what it is about.
+abbrev pub refusal_row : SettingsError → Row
+refusal_row NotToml = row 1 (codes "NotToml") nothing
+refusal_row (Missing spot) = row 2 (codes "Missing") (spot_matter spot)
+refusal_row (Unknown None) = row 3 (codes "Unknown") top
+refusal_row (Unknown (Some i)) = row 3 (codes "Unknown") (region i)
+refusal_row (Range spot) = row 4 (codes "Range") (spot_matter spot)
+refusal_row (Overlap i) = row 5 (codes "Overlap") (region i)
+refusal_row (SameName i) = row 6 (codes "SameName") (region i)
+refusal_row OutOfMemory = row 7 (codes "OutOfMemory") nothing
 
--- A region by its number.
-abbrev pub region_text : ℕ → List ℕ
-region_text i = codes "region " ++ decimal i
+-- Want of memory, which says nothing of the text.
+abbrev pub is_memory : SettingsError → Bool
+is_memory OutOfMemory = true
+is_memory _ = false
 
--- A key, with its region before it.
+-- A spot for people: its key, with its region before it.
 abbrev pub spot_text : Spot → List ℕ
 spot_text (Top k) = top_key k
-spot_text (InRegion i k) = region_text i ++ codes " " ++ region_key k
-
--- What follows the name: the key, the table, or the region.
-abbrev pub argument_of : SettingsError → List ℕ
-argument_of NotToml = []
-argument_of (Missing spot) = codes " " ++ spot_text spot
-argument_of (Unknown None) = codes " top"
-argument_of (Unknown (Some i)) = codes " " ++ region_text i
-argument_of (Range spot) = codes " " ++ spot_text spot
-argument_of (Overlap i) = codes " " ++ region_text i
-argument_of (SameName i) = codes " " ++ region_text i
-argument_of OutOfMemory = []
-
--- The number, the name, and what follows.
-abbrev pub refusal_text : SettingsError → List ℕ
-refusal_text e = decimal (number_of e) ++ codes " " ++ name_of e ++ argument_of e
+spot_text (InRegion i k) = codes "region " ++ decimal i ++ codes " " ++ region_key k

@@ -1,9 +1,10 @@
 -- What settings are, apart from the text that spells them: the sizes of a pool, and its regions with their names.
-use Rattle.std.specs.Prelude.{◌≢◌, ℕ, ◌≤◌, List, length, map, All, AllPairs, IsTrue, Option, option_map, slice_get, position}
+use Rattle.std.specs.Prelude.{◌≢◌, ℕ, ◌≤◌, List, [], ◌∷◌, length, map, All, AllPairs, Bool, IsTrue, Option, option_map}
+use Rattle.std.specs.Prelude.{slice_get, position}
 use Rattle.std.specs.Str.{bytes_eq}
+use Rattle.pp_text.specs.Names.{is_name}
 use Rattle.pp_settings.specs.declared.extent.Extent.{Extent}
 use Rattle.pp_settings.specs.Layout.{Geometry, IsExtent, IsApart}
-use Rattle.pp_settings.specs.Names.{is_name}
 
 -- A region: the name by which plans ask for its pages, and where it lies.
 pub record NamedRegion : Type 0 where
@@ -17,6 +18,11 @@ pub record Configuration : Type 0 where
   pub workers : ℕ
   pub flushes : ℕ
   pub regions : List NamedRegion
+
+-- The regions with these names and extents, name by name beside extent by extent.
+abbrev pub named : List (List ℕ) → List Extent → List NamedRegion
+named (name ∷ names) (extent ∷ extents) = record { name = name; extent = extent } ∷ named names extents
+named _ _ = []
 
 -- ---- what is read from them
 
@@ -38,9 +44,13 @@ name_of c region = option_map (λ r. r.name) (slice_get c.regions region)
 
 -- ---- the limits
 
+-- A region's name has 1 to 32 bytes: a letter, and then letters, digits and underscores.
+abbrev pub is_region_name : List ℕ → Bool
+is_region_name name = is_name 32 name
+
 -- The name is in form, and the extent within the limits.
 pub record IsNamedRegion (r : NamedRegion) : Type 0 where
-  pub name : IsTrue (is_name r.name)
+  pub name : IsTrue (is_region_name r.name)
   pub extent : IsExtent r.extent
 
 -- Each region is in form, no two have the same name, and no two share a page.

@@ -1,6 +1,7 @@
 -- Which document spells which settings, said apart from any order of reading.
 use Rattle.std.specs.Prelude.{◌≡◌, ℕ, List, [], ◌∷◌, Contains, None, Some, codes, pos}
-use Rattle.toml.specs.Data.{Data, string, integer, array, table, Items, no_items, item, Members, no_members, member, get_member}
+use Rattle.toml.specs.Data.{Data, string, integer, array, table, Items, no_items, item, Members, no_members, member}
+use Rattle.toml.specs.Data.{get_member}
 use Rattle.toml.specs.Parse.{parse_document}
 use Rattle.pp_settings.specs.Keys.{known_keys}
 use Rattle.pp_settings.specs.Settings.{NamedRegion, Configuration, IsConfiguration}

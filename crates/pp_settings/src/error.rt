@@ -1,35 +1,36 @@
 //! Why settings are refused, and how a program says so.
 
-ghost use Rattle.std.specs.Prelude.{◌≡◌, Some};
+ghost use Rattle.std.specs.Prelude.{◌≡◌};
 ghost use Rattle.pp_settings.specs.declared.error.SettingsError.TheVariants.{OutOfMemory};
 
 use crate::key::Spot;
+use pp_text::{About, Refusal};
 use std::alloc::{AllocError, AllocFailed};
-use std::fmt;
 use thiserror::Error;
 
-/// Why a text gives no settings: the first refusal in the fixed order, or want of memory.
+/// Why a text is refused: the first error in this fixed order, or `OutOfMemory`.
 ///
-/// The order is: `NotToml`; `Unknown` of the document; each key of the document, `Missing` or `Range`; and then
-/// region by region `Unknown`, each of its keys, `SameName` and `Overlap`. Regions are numbered from 0.
+/// First comes `NotToml`, and then `Unknown` of the document. Then each key of the document follows in turn, `Missing`
+/// or `Range`. Then each region follows in turn: `Unknown`, each of its keys, `SameName`, `Overlap`. Regions are
+/// numbered from 0.
 #[derive(Clone, Copy, Debug, PartialEq, Eq, Error)]
 pub enum SettingsError {
-    /// The text is no TOML document.
+    /// The text is not a TOML document.
     #[error("the text is not a TOML document")]
     NotToml,
     /// A key is missing.
     #[error("a key is missing: {0}")]
     Missing(Spot),
-    /// The document, or the region with this number, has a key that is not known.
+    /// The document has a key that is not known, or the region with this number has one.
     #[error("a key is not known")]
     Unknown(Option<u8>),
     /// The value at a key is of another kind, or out of its limits.
     #[error("a value is out of its limits, or of another kind: {0}")]
     Range(Spot),
-    /// This region has a page of an earlier one.
+    /// The region with this number has a page of an earlier one.
     #[error("region {0} has a page of an earlier region")]
     Overlap(u8),
-    /// This region has the name of an earlier one.
+    /// The region with this number has the name of an earlier one.
     #[error("region {0} has the name of an earlier region")]
     SameName(u8),
     /// Memory ran out. It says nothing of the text.
@@ -38,43 +39,37 @@ pub enum SettingsError {
 }
 
 impl SettingsError {
-    ghost use Rattle.pp_settings.specs.Refusals.{number_of, name_of};
+    ghost use Rattle.pp_text.specs.Views.{row_of};
+    ghost use Rattle.pp_settings.specs.Refusals.{refusal_row};
+
+    /// The refusal as programs print it: its number from 1 to 7, its name, and the key, the table or the region.
+    pub fn refusal(self) -> Refusal
+        ensures { row_of result ≡ refusal_row self }
+    {
+        match self {
+            SettingsError::NotToml => Refusal::new(1, "NotToml", About::Nothing),
+            SettingsError::Missing(spot) => Refusal::new(2, "Missing", spot.about()),
+            SettingsError::Unknown(None) => Refusal::new(3, "Unknown", About::Top),
+            SettingsError::Unknown(Some(i)) => Refusal::new(3, "Unknown", About::Region(i)),
+            SettingsError::Range(spot) => Refusal::new(4, "Range", spot.about()),
+            SettingsError::Overlap(i) => Refusal::new(5, "Overlap", About::Region(i)),
+            SettingsError::SameName(i) => Refusal::new(6, "SameName", About::Region(i)),
+            SettingsError::OutOfMemory => Refusal::new(7, "OutOfMemory", About::Nothing),
+        }
+    }
 
     /// The number of the refusal, from 1 to 7.
     pub fn number(self) -> u8
-        ensures { result ≡ number_of self }
+        ensures { result ≡ (refusal_row self).number }
     {
-        match self {
-            SettingsError::NotToml => 1,
-            SettingsError::Missing(_) => 2,
-            SettingsError::Unknown(_) => 3,
-            SettingsError::Range(_) => 4,
-            SettingsError::Overlap(_) => 5,
-            SettingsError::SameName(_) => 6,
-            SettingsError::OutOfMemory => 7,
-        }
+        self.refusal().number
     }
 
-    /// The name of the refusal, as a program prints it.
+    /// The name of the refusal, as programs print it.
     pub fn name(self) -> &'static str
-        ensures { result.now ≡ name_of self }
+        ensures { result.now ≡ (refusal_row self).name }
     {
-        match self {
-            SettingsError::NotToml => "NotToml",
-            SettingsError::Missing(_) => "Missing",
-            SettingsError::Unknown(_) => "Unknown",
-            SettingsError::Range(_) => "Range",
-            SettingsError::Overlap(_) => "Overlap",
-            SettingsError::SameName(_) => "SameName",
-            SettingsError::OutOfMemory => "OutOfMemory",
-        }
-    }
-
-    /// The words that a program prints of the refusal.
-    pub fn refusal(self) -> Refusal
-        ensures { result.error ≡ self }
-    {
-        Refusal { error: self }
+        self.refusal().name
     }
 }
 
@@ -91,34 +86,5 @@ impl<T: Drop> From<AllocFailed<T>> for SettingsError {
 
     fn from(_refused: AllocFailed<T>) -> SettingsError {
         SettingsError::OutOfMemory
-    }
-}
-
-/// Prints a refusal as a program does: its number, its name, and then the key, the table or the region,
-/// as in `4 Range frames`, `3 Unknown top` and `5 Overlap region 1`.
-#[derive(Clone, Copy, Debug, PartialEq, Eq)]
-pub struct Refusal {
-    /// What is printed.
-    pub error: SettingsError,
-}
-
-impl fmt::Display for Refusal {
-    ghost use Rattle.pp_settings.specs.Refusals.{refusal_text};
-
-    ghost output = { λ refusal. Some (refusal_text refusal.error) };
-
-    fn fmt<W: fmt::Write>(&self, f: &mut fmt::Formatter<W>) -> fmt::Result {
-        let error = self.error;
-        let number = error.number();
-        let name = error.name();
-        write!(f, "{number} {name}")?;
-        match error {
-            SettingsError::Missing(spot) | SettingsError::Range(spot) => write!(f, " {spot}"),
-            SettingsError::Unknown(None) => f.write_str(" top"),
-            SettingsError::Unknown(Some(region))
-            | SettingsError::Overlap(region)
-            | SettingsError::SameName(region) => write!(f, " region {region}"),
-            SettingsError::NotToml | SettingsError::OutOfMemory => Ok(()),
-        }
     }
 }

@@ -16,13 +16,6 @@ pub struct Extent {
 impl Extent {
     ghost use Rattle.pp_settings.specs.Layout.{has_page, shares_page};
 
-    /// Fills the places of a layout that no region uses.
-    pub(crate) const UNUSED: Extent = Extent {
-        first: 0,
-        count: 0,
-        class: 0,
-    };
-
     /// Whether the page is one of the region's.
     pub fn has(&self, page: u32) -> bool
         ensures { result ≡ has_page page self.now }

@@ -2,6 +2,7 @@
 
 ghost use Rattle.std.specs.Prelude.{◌≡◌, Some};
 
+use pp_text::About;
 use std::fmt;
 
 /// A key of the document itself.
@@ -75,7 +76,9 @@ pub enum Spot {
 }
 
 impl Spot {
+    ghost use Rattle.pp_text.specs.Views.{matter_of};
     ghost use Rattle.pp_settings.specs.Keys.{key_of};
+    ghost use Rattle.pp_settings.specs.Refusals.{spot_matter};
 
     /// The key as the text writes it.
     pub fn key(self) -> &'static str
@@ -84,6 +87,16 @@ impl Spot {
         match self {
             Spot::Top(key) => key.name(),
             Spot::InRegion(_, key) => key.name(),
+        }
+    }
+
+    /// The spot, as what a refusal is about.
+    pub(crate) fn about(self) -> About
+        ensures { matter_of result ≡ spot_matter self }
+    {
+        match self {
+            Spot::Top(key) => About::Key(key.name()),
+            Spot::InRegion(region, key) => About::RegionKey(region, key.name()),
         }
     }
 }

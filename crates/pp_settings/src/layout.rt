@@ -1,43 +1,32 @@
 //! Where regions lie, as a plain value.
 
-ghost use Rattle.std.specs.Prelude.{◌≡◌, ◌≤◌, ◌<◌, ◌-◌, ◌++◌, ℕ, length, map, replicate, Some, IfSome, slice_get};
-ghost use Rattle.pp_settings.specs.Layout.{region_of, class_of, page_count, HasPage, IsLayout};
-ghost use Rattle.pp_settings.specs.Places.{unused};
-ghost use Rattle.pp_settings.specs.Settings.{layout_of};
-ghost use Rattle.pp_settings.specs.Views.{all_named};
+ghost use Rattle.std.specs.Prelude.{◌≡◌, ◌≤◌, ◌<◌, ◌-◌, ℕ, length, Some, IfSome, slice_get};
+ghost use Rattle.pp_settings.specs.Layout.{region_of, class_of, page_count, HasPage, TellsClass, IsLayout};
 
 use crate::extent::Extent;
-use crate::region::Region;
+use crate::extents::Extents;
 use std::marker::Model;
 
-/// The greatest number of regions.
-pub const MOST_REGIONS: usize = 64;
-
-/// The frames of a pool, and the regions of its pages: a plain value that is copied where it is wanted.
+/// The frames of a pool, and where the regions of its pages lie. It is plain data, and copied where it is wanted.
 ///
-/// Each layout has 1 to 4,096 frames and 1 to 64 regions that share no page, of page numbers below 65,536
-/// and classes below 64. A region's number is its place in the settings' text, from 0.
+/// There are 1 to 4,096 frames and 1 to 64 regions. No two regions share a page. Page numbers are below 65,536, and
+/// classes below 64. A region's number is its place in the settings' text, from 0.
 #[derive(Clone, Copy, Debug, PartialEq, Eq)]
 pub struct Layout {
     frames: u32,
-    regions: u8,
-    places: [Extent; MOST_REGIONS],
+    extents: Extents,
 }
 
 impl Model for Layout {
-    ghost use Rattle.pp_settings.specs.Layout.{Geometry};
+    ghost use Rattle.pp_settings.specs.Layout.{Geometry, IsLayout};
 
     ghost Value = { Geometry };
 
-    ghost use Rattle.pp_settings.specs.Places.{geometry_of, IsPlain, fields_of, fields_of-geometry_of};
+    ghost view = { λ l. record { frames = l.frames; extents = l.extents } };
 
-    ghost view = { geometry_of };
+    ghost invariant = { λ l. IsLayout (record { frames = l.frames; extents = l.extents }) };
 
-    ghost invariant = { IsPlain };
-
-    ghost inverse = { fields_of };
-
-    ghost inverse_ok = { fields_of-geometry_of };
+    ghost inverse = { λ g. record { frames = g.frames; extents = g.extents } };
 }
 
 impl Layout {
@@ -55,22 +44,18 @@ impl Layout {
         // What holds of every layout.
         ensures facts { IsLayout self.now }
     {
-        &self.places[..usize::from(self.regions)]
+        self.extents.as_slice()
     }
 
     /// The layout of these frames and regions.
-    pub(crate) fn new(frames: u32, regions: &[Region]) -> Layout
-        requires { IsLayout (layout_of frames (all_named regions.now)) }
-        ensures { result ≡ layout_of frames (all_named regions.now) }
+    pub(crate) fn new(frames: u32, extents: Extents) -> Layout
+        requires { IsLayout (record { frames = frames; extents = extents }) }
+        ensures { result ≡ record { frames = frames; extents = extents } }
     {
-        Layout {
-            frames,
-            regions: regions.len() as u8,
-            places: places_of(regions),
-        }
+        Layout { frames, extents }
     }
 
-    /// How many page numbers there are: one more than the greatest page of any region, at most 65,536.
+    /// One more than the greatest page number of any region.
     pub fn pages(&self) -> u32
         ensures is { result ≡ page_count self.now }
         // Each page of a region is below the number, and some region ends with the page before it.
@@ -106,9 +91,12 @@ impl Layout {
         Some(place as u8)
     }
 
-    /// The class of the page's region, if a region has the page.
+    /// The class of the region that has the page, if one has it.
     pub fn class_of(&self, page: u32) -> Option<u8>
         ensures is { result ≡ class_of self.now page }
+        // A class named is that of the one region that has the page. None is named if and only if no region has it.
+        ensures tells { TellsClass self.now page result }
+        ensures most { IfSome result (λ class. class ≤ 63) }
     {
         let extent = self.extents().iter().find(|extent| extent.has(page))?;
         Some(extent.class)
@@ -120,16 +108,4 @@ impl Layout {
     {
         self.extents().get(usize::from(region)).copied()
     }
-}
-
-/// The regions' extents, and then unused places.
-fn places_of(regions: &[Region]) -> [Extent; MOST_REGIONS]
-    requires { length regions.now ≤ 64 }
-    ensures { result ≡ map (λ r. r.extent) regions.now ++ replicate (64 - length regions.now) unused }
-{
-    let mut places = [Extent::UNUSED; MOST_REGIONS];
-    for (i, region) in regions.iter().enumerate() {
-        places[i] = region.extent;
-    }
-    places
 }

@@ -3,18 +3,17 @@
 
 mod error;
 mod extent;
+mod extents;
 mod key;
 mod layout;
+pub mod limits;
 mod names;
 mod reading;
-mod region;
+mod regions;
 mod settings;
 
-pub use error::{Refusal, SettingsError};
+pub use error::SettingsError;
 pub use extent::Extent;
 pub use key::{RegionKey, Spot, TopKey};
 pub use layout::Layout;
 pub use settings::Settings;
-
-#[cfg(test)]
-mod tests;

@@ -1,26 +1,41 @@
 //! Reads settings from a document, key by key in the order of the refusals.
 
-ghost use Rattle.std.specs.Prelude.{◌≡◌, ◌≤◌, ◌<◌, ◌+◌, [], length, IfOk, string_bytes, IsTrue};
+ghost use Rattle.std.specs.Prelude.{◌≡◌, ◌≤◌, ◌<◌, ◌+◌, [], length, IfOk, string_bytes, IsTrue, List};
 ghost use Rattle.std.specs.Option.{ok_or};
 ghost use Rattle.std.specs.List.{list_all, list_any};
 ghost use Rattle.std.specs.BTreeMap.{keys};
 ghost use Rattle.toml.specs.Parse.{parse_document};
 ghost use Rattle.toml.specs.View.{view, table_view, items_view};
+ghost use Rattle.pp_text.specs.Steps.{Gives, Reads};
 ghost use Rattle.pp_settings.specs.declared.error.SettingsError.TheVariants.{NotToml};
 ghost use Rattle.pp_settings.specs.Settings.{NamedRegion};
-ghost use Rattle.pp_settings.specs.Steps.{Gives, Reads};
-ghost use Rattle.pp_settings.specs.Views.{all_named, configured, entered};
-ghost use Rattle.pp_settings.specs.Reading.{is_known, only_known, value_at, number_at, name_at, extent_at, region_at, has_name, shares_page_with, beside, next_region, regions_from, are_tables, are_regions, tables_at, configuration_of};
+ghost use Rattle.pp_settings.specs.Refusals.{is_memory};
+ghost use Rattle.pp_settings.specs.Views.{drafted, entered};
+ghost use Rattle.pp_settings.specs.Reading.{is_known, only_known, value_at, number_at, name_at, extent_at, region_at};
+ghost use Rattle.pp_settings.specs.Reading.{has_name, shares_page_with, beside, next_region, regions_from, are_tables};
+ghost use Rattle.pp_settings.specs.Reading.{are_regions, tables_at, configuration_of};
 
 use crate::error::SettingsError;
 use crate::extent::Extent;
 use crate::key::{RegionKey, Spot, TopKey};
-use crate::layout::MOST_REGIONS;
-use crate::names::{is_known, is_name};
-use crate::region::Region;
-use crate::settings::Fields;
+use crate::limits::{
+    FEWEST_PAGE_BYTES, GREATEST_CLASS, MOST_FLUSHES, MOST_FRAMES, MOST_PAGE_BYTES, MOST_REGIONS,
+    MOST_WORKERS, PAGE_NUMBERS,
+};
+use crate::names::{is_known, is_region_name};
+use crate::regions::Regions;
 use std::alloc::Global;
 use toml::{Table, Value};
+
+/// What a document gives, before it is known to be within the limits.
+#[derive(Debug, Drop)]
+pub(crate) struct Draft {
+    pub(crate) frames: u32,
+    pub(crate) page_bytes: u32,
+    pub(crate) workers: u32,
+    pub(crate) flushes: u32,
+    pub(crate) regions: Regions,
+}
 
 /// A region as the text has it, before its name is kept.
 #[derive(Clone, Copy)]
@@ -51,7 +66,7 @@ fn name_at(table: &Table, spot: Spot) -> Result<&str, SettingsError>
     ensures { Reads (λ s. s.now) result (name_at spot (table_view table.now)) }
 {
     match value_at(table, spot)?.as_str() {
-        Some(name) if is_name(name) => Ok(name),
+        Some(name) if is_region_name(name) => Ok(name),
         _ => Err(SettingsError::Range(spot)),
     }
 }
@@ -75,10 +90,20 @@ fn only_known(table: &Table, region: Option<u8>) -> Result<(), SettingsError>
 fn extent_at(table: &Table, region: u8) -> Result<Extent, SettingsError>
     ensures { Reads (λ e. e) result (extent_at region (table_view table.now)) }
 {
-    let first = number_at(table, Spot::InRegion(region, RegionKey::First), 0, 65_535)?;
-    let room = 65_536 - first;
+    let first = number_at(
+        table,
+        Spot::InRegion(region, RegionKey::First),
+        0,
+        PAGE_NUMBERS - 1,
+    )?;
+    let room = PAGE_NUMBERS - first;
     let count = number_at(table, Spot::InRegion(region, RegionKey::Count), 1, room)?;
-    let class = number_at(table, Spot::InRegion(region, RegionKey::Class), 0, 63)?;
+    let class = number_at(
+        table,
+        Spot::InRegion(region, RegionKey::Class),
+        0,
+        GREATEST_CLASS,
+    )?;
     Ok(Extent {
         first,
         count,
@@ -96,61 +121,41 @@ fn region_at(table: &Table, region: u8) -> Result<Entry<'_>, SettingsError>
     Ok(Entry { name, extent })
 }
 
-fn has_name(earlier: &[Region], name: &str) -> bool
-    ensures { result ≡ list_any (has_name name.now) (all_named earlier.now) }
+#[tactic(auto, unfolding(crate::specs::Reading::beside))]
+fn beside(earlier: &Regions, entry: &Entry<'_>) -> Result<(), SettingsError>
+    ensures { Reads (λ _. tt) result (beside earlier.now (entered entry.now)) }
 {
-    earlier.iter().any(|region| region.name.as_str() == name)
-}
-
-fn shares_page(earlier: &[Region], extent: &Extent) -> bool
-    ensures { result ≡ list_any (shares_page_with extent.now) (all_named earlier.now) }
-{
-    earlier
-        .iter()
-        .any(|region| region.extent.shares_page(extent))
-}
-
-#[tactic(auto, using(crate::proofs::Trees::all_named_length), unfolding(crate::specs::Reading::beside))]
-fn beside(earlier: &[Region], entry: &Entry<'_>) -> Result<(), SettingsError>
-    requires { length earlier.now < 256 }
-    ensures { Reads (λ _. tt) result (beside (all_named earlier.now) (entered entry.now)) }
-{
-    let number = earlier.len() as u8;
-    if has_name(earlier, entry.name) {
+    let number = earlier.len();
+    if earlier.has_name(entry.name) {
         return Err(SettingsError::SameName(number));
     }
-    if shares_page(earlier, &entry.extent) {
+    if earlier.shares_page(&entry.extent) {
         return Err(SettingsError::Overlap(number));
     }
     Ok(())
 }
 
-#[tactic(auto, using(crate::proofs::Trees::all_named_length), unfolding(crate::specs::Reading::next_region))]
-fn next_region<'a>(earlier: &[Region], value: &'a Value) -> Result<Entry<'a>, SettingsError>
-    requires { length earlier.now < 256 }
-    ensures { Reads entered result (next_region (all_named earlier.now) (view value.now)) }
+#[tactic(auto, unfolding(crate::specs::Reading::next_region))]
+fn next_region<'a>(earlier: &Regions, value: &'a Value) -> Result<Entry<'a>, SettingsError>
+    ensures { Reads entered result (next_region earlier.now (view value.now)) }
 {
     let table = match value.as_table() {
         Some(table) => table,
         None => return Err(SettingsError::Range(Spot::Top(TopKey::Region))),
     };
-    let entry = region_at(table, earlier.len() as u8)?;
+    let entry = region_at(table, earlier.len())?;
     beside(earlier, &entry)?;
     Ok(entry)
 }
 
-fn regions_of(alloc: Global, items: &[Value]) -> Result<Vec<Region>, SettingsError>
-    requires { length items.now < 256 }
-    ensures { Gives (λ v. all_named v.items) result (regions_from [] (items_view items.now)) }
+fn regions_of(alloc: Global, items: &[Value]) -> Result<Regions, SettingsError>
+    requires { length items.now ≤ 64 }
+    ensures { Gives is_memory (λ (rs : List NamedRegion). rs) result (regions_from [] (items_view items.now)) }
 {
-    let mut regions = Vec::new(alloc);
+    let mut regions = Regions::new(alloc);
     for value in items {
         let entry = next_region(&regions, value)?;
-        let name = String::from_str(alloc, entry.name)?;
-        regions.push(Region {
-            name,
-            extent: entry.extent,
-        })?;
+        regions.push(alloc, entry.name, entry.extent)?;
     }
     Ok(regions)
 }
@@ -184,17 +189,22 @@ fn tables_at(table: &Table, spot: Spot) -> Result<&[Value], SettingsError>
 }
 
 #[tactic(auto, unfolding(crate::specs::Reading::configuration_of))]
-pub(crate) fn fields_of(alloc: Global, table: &Table) -> Result<Fields, SettingsError>
-    ensures { Gives configured result (configuration_of (table_view table.now)) }
+pub(crate) fn draft_of(alloc: Global, table: &Table) -> Result<Draft, SettingsError>
+    ensures { Gives is_memory drafted result (configuration_of (table_view table.now)) }
 {
     only_known(table, None)?;
-    let frames = number_at(table, Spot::Top(TopKey::Frames), 1, 4096)?;
-    let page_bytes = number_at(table, Spot::Top(TopKey::PageBytes), 64, 65_536)?;
-    let workers = number_at(table, Spot::Top(TopKey::Workers), 1, 32)?;
-    let flushes = number_at(table, Spot::Top(TopKey::Flushes), 0, 100_000)?;
+    let frames = number_at(table, Spot::Top(TopKey::Frames), 1, MOST_FRAMES)?;
+    let page_bytes = number_at(
+        table,
+        Spot::Top(TopKey::PageBytes),
+        FEWEST_PAGE_BYTES,
+        MOST_PAGE_BYTES,
+    )?;
+    let workers = number_at(table, Spot::Top(TopKey::Workers), 1, MOST_WORKERS)?;
+    let flushes = number_at(table, Spot::Top(TopKey::Flushes), 0, MOST_FLUSHES)?;
     let tables = tables_at(table, Spot::Top(TopKey::Region))?;
     let regions = regions_of(alloc, tables)?;
-    Ok(Fields {
+    Ok(Draft {
         frames,
         page_bytes,
         workers,
@@ -205,7 +215,7 @@ pub(crate) fn fields_of(alloc: Global, table: &Table) -> Result<Fields, Settings
 
 /// The text's document, as the TOML reader gives it.
 pub(crate) fn document_of(alloc: Global, text: &str) -> Result<Table, SettingsError>
-    ensures { Gives table_view result (ok_or (parse_document text.now) NotToml) }
+    ensures { Gives is_memory table_view result (ok_or (parse_document text.now) NotToml) }
 {
     match toml::table_from_str(alloc, text) {
         Ok(table) => Ok(table),

@@ -2,70 +2,89 @@
 
 ghost use Rattle.std.specs.Prelude.{◌≡◌, ◌≢◌, ◌-◌, ◌≤◌, ◌<◌, ℕ, Ok, Some, IfOk, IfErr, IfSome, length};
 ghost use Rattle.toml.specs.Parse.{parse_document};
+ghost use Rattle.pp_text.specs.Steps.{Gives};
+ghost use Rattle.pp_settings.specs.declared.error.SettingsError.{SettingsError};
 ghost use Rattle.pp_settings.specs.declared.error.SettingsError.TheVariants.{OutOfMemory};
 ghost use Rattle.pp_settings.specs.Faults.{HasFault, IsFirst, order};
-ghost use Rattle.pp_settings.specs.Layout.{HasPage, IsLayout, region_of, class_of, page_count};
+ghost use Rattle.pp_settings.specs.Layout.{HasPage, TellsClass, IsLayout, region_of, class_of, page_count};
 ghost use Rattle.pp_settings.specs.Settings.{Configuration, IsConfiguration, geometry_of, region_named, name_of};
 ghost use Rattle.pp_settings.specs.Spelling.{IsText};
 ghost use Rattle.pp_settings.specs.Reading.{reading};
-ghost use Rattle.pp_settings.specs.Steps.{Gives};
+ghost use Rattle.pp_settings.specs.Refusals.{is_memory};
+ghost use Rattle.pp_settings.specs.Views.{drafted};
 
 use crate::error::SettingsError;
 use crate::layout::Layout;
-use crate::reading::{document_of, fields_of};
-use crate::region::Region;
+use crate::reading::{Draft, document_of, draft_of};
 use std::alloc::Global;
 use std::marker::Model;
 
-/// What settings are made of.
-#[derive(Debug, Drop)]
-pub(crate) struct Fields {
-    pub(crate) frames: u32,
-    pub(crate) page_bytes: u32,
-    pub(crate) workers: u32,
-    pub(crate) flushes: u32,
-    pub(crate) regions: Vec<Region>,
-}
-
 /// The settings of a pool, within their limits.
 ///
-/// There are 1 to 4,096 frames, pages of 64 to 65,536 bytes, 1 to 32 workers, at most 100,000 flushes in one run,
-/// and 1 to 64 regions. Regions have different names and share no page, and are numbered from 0 in the text's order.
+/// A pool has 1 to 4,096 frames and 1 to 32 workers. A page has 64 to 65,536 bytes. One run begins at most 100,000
+/// flushes. There are 1 to 64 regions. No two have the same name, and no two share a page. A region's number is its
+/// place in the text, from 0.
 #[derive(Debug, Drop)]
 pub struct Settings {
-    fields: Fields,
+    page_bytes: u32,
+    workers: u32,
+    flushes: u32,
+    layout: Layout,
+    names: Vec<String>,
 }
 
 impl Model for Settings {
-    ghost use Rattle.pp_settings.specs.Settings.{Configuration, IsConfiguration};
-    ghost use Rattle.pp_settings.specs.Views.{configured};
+    ghost use Rattle.pp_settings.specs.Settings.{Configuration};
 
     ghost Value = { Configuration };
 
-    ghost view = { λ s. configured s.fields };
+    ghost use Rattle.pp_settings.specs.Kept.{configured, IsKept};
 
-    ghost invariant = { λ s. IsConfiguration (configured s.fields) };
+    ghost view = { configured };
+
+    ghost invariant = { IsKept };
 }
 
 fn read(alloc: Global, text: &str) -> Result<Settings, SettingsError>
-    ensures { Gives (λ (c : Configuration). c) result (reading text.now) }
+    ensures { Gives is_memory (λ (c : Configuration). c) result (reading text.now) }
 {
     let document = document_of(alloc, text)?;
-    let fields = fields_of(alloc, &document)?;
-    Ok(Settings { fields })
+    let draft = draft_of(alloc, &document)?;
+    Ok(settled(draft))
+}
+
+/// The settings that were read.
+fn settled(draft: Draft) -> Settings
+    requires { IsConfiguration (drafted draft) }
+    ensures { result ≡ drafted draft }
+{
+    let regions = draft.regions;
+    Settings {
+        page_bytes: draft.page_bytes,
+        workers: draft.workers,
+        flushes: draft.flushes,
+        layout: Layout::new(draft.frames, regions.extents),
+        names: regions.names,
+    }
 }
 
 impl Settings {
-    /// The settings that the text spells, or why it spells none.
+    /// Reads settings from a text.
+    ///
+    /// Accepts a text if and only if it is TOML with every setting, in range, and no other key, unless memory runs
+    /// out. Answers any other text with the first error in the fixed order of [`SettingsError`].
     pub fn from_text(alloc: Global, text: &str) -> Result<Settings, SettingsError>
         // What is accepted is spelled so: each key and value, and nothing else stands in the text.
         ensures found { IfOk result (IsText text.now) }
         // What is spelled so is accepted, unless memory runs out.
-        ensures only { (c : Configuration) → IsText text.now c → Gives (λ (c : Configuration). c) result (Ok c) }
+        ensures only { (c : Configuration) → IsText text.now c
+            → Gives is_memory (λ (c : Configuration). c) result (Ok c) }
         // A refusal tells a fault of the text, the first one in the order, unless memory runs out.
         ensures first { IfErr result (λ e. e ≢ OutOfMemory → IsFirst (HasFault (parse_document text.now)) order e) }
+        // A text that is accepted has none of the faults.
+        ensures faultless { IfOk result (λ _. (f : SettingsError) → ¬ HasFault (parse_document text.now) f) }
         // The same as a function of the text.
-        ensures exact { Gives (λ (c : Configuration). c) result (reading text.now) }
+        ensures exact { Gives is_memory (λ (c : Configuration). c) result (reading text.now) }
     {
         read(alloc, text)
     }
@@ -75,7 +94,7 @@ impl Settings {
         ensures is { result ≡ self.now.frames }
         ensures within { (1 ≤ result) × (result ≤ 4096) }
     {
-        self.fields.frames
+        self.layout.frames()
     }
 
     /// How many bytes a page has.
@@ -83,7 +102,7 @@ impl Settings {
         ensures is { result ≡ self.now.page_bytes }
         ensures within { (64 ≤ result) × (result ≤ 65536) }
     {
-        self.fields.page_bytes
+        self.page_bytes
     }
 
     /// How many workers run plans.
@@ -91,7 +110,7 @@ impl Settings {
         ensures is { result ≡ self.now.workers }
         ensures within { (1 ≤ result) × (result ≤ 32) }
     {
-        self.fields.workers
+        self.workers
     }
 
     /// How many flushes one run may begin.
@@ -99,10 +118,10 @@ impl Settings {
         ensures is { result ≡ self.now.flushes }
         ensures within { result ≤ 100000 }
     {
-        self.fields.flushes
+        self.flushes
     }
 
-    /// How many page numbers there are: one more than the greatest page of any region, at most 65,536.
+    /// One more than the greatest page number of any region.
     pub fn pages(&self) -> u32
         ensures is { result ≡ page_count (geometry_of self.now) }
         // Each page of a region is below the number, and some region ends with the page before it.
@@ -110,7 +129,7 @@ impl Settings {
         ensures last { (r : ℕ) × HasPage (geometry_of self.now) r (result - 1) }
         ensures most { result ≤ 65536 }
     {
-        self.layout().pages()
+        self.kept_layout().pages()
     }
 
     /// The number of the region with this name, if there is one.
@@ -131,18 +150,15 @@ impl Settings {
         ensures below { IfSome result (λ place. place < length self.now.regions) }
         ensures facts { IsConfiguration self.now }
     {
-        self.fields
-            .regions
-            .iter()
-            .position(|region| region.name.as_str() == name)
+        self.names.iter().position(|kept| kept.as_str() == name)
     }
 
-    /// The name of the region with this number.
+    /// The name of the region with this number. There must be such a region.
     pub fn name(&self, region: u8) -> &str
         requires { region < length self.now.regions }
         ensures { name_of self.now region ≡ Some result.now }
     {
-        self.fields.regions[usize::from(region)].name.as_str()
+        self.names[usize::from(region)].as_str()
     }
 
     /// The region that has the page, if one has it.
@@ -153,23 +169,35 @@ impl Settings {
         ensures has { IfSome result (λ r. HasPage (geometry_of self.now) r page) }
         ensures only { (r : ℕ) → HasPage (geometry_of self.now) r page → result ≡ Some r }
     {
-        self.layout().region_of(page)
+        self.kept_layout().region_of(page)
     }
 
-    /// The class of the page's region, if a region has the page.
+    /// The class of the region that has the page, if one has it.
     pub fn class_of(&self, page: u32) -> Option<u8>
-        ensures { result ≡ class_of (geometry_of self.now) page }
+        ensures is { result ≡ class_of (geometry_of self.now) page }
+        // A class named is that of the one region that has the page. None is named if and only if no region has it.
+        ensures tells { TellsClass (geometry_of self.now) page result }
+        ensures most { IfSome result (λ class. class ≤ 63) }
     {
-        self.layout().class_of(page)
+        self.kept_layout().class_of(page)
     }
 
-    /// The layout: the frames, and where the regions lie. Where many pages are asked for, it is taken once.
+    /// The layout: the frames, and where the regions lie.
     pub fn layout(&self) -> Layout
         ensures is { result ≡ geometry_of self.now }
         // What holds of every layout, and of all settings.
         ensures layout { IsLayout result }
         ensures settings { IsConfiguration self.now }
     {
-        Layout::new(self.fields.frames, &self.fields.regions)
+        *self.kept_layout()
+    }
+
+    /// The layout where it is kept.
+    fn kept_layout(&self) -> &Layout
+        ensures is { result.now ≡ geometry_of self.now }
+        ensures layout { IsLayout result.now }
+        ensures settings { IsConfiguration self.now }
+    {
+        &self.layout
     }
 }

@@ -14,42 +14,54 @@ use Rattle.pp_annotate.proofs.Writable.{writable}
 use Rattle.pp_annotate.proofs.maker.annotate.Goals as goal
 
 -- what the test of the certificate answered is the verdict on what is made
-verdict : (p : Terms) (g h : Geometry) (c d : Claims) (answer : Option CheckError) → h ≡ g → c ≡ d → answer ≡ first_fault h c (tests p) → first_fault g d (tests p) ≡ answer
+verdict : (p : Terms) (g h : Geometry) (c d : Claims) (answer : Option CheckError) → h ≡ g → c ≡ d
+    → answer ≡ first_fault h c (tests p) → first_fault g d (tests p) ≡ answer
 verdict p g h c d answer layouts claims e = sym (e ∙ (λ i. first_fault (layouts i) (claims i) (tests p)))
 
 pub returns-in-Some-clause-only : goal.returns-in-Some-clause-only
 returns-in-Some-clause-only c =
-    let e = verdict c.args.plan.now (geometry_of c.args.settings.now) _ _ _ _ c.layout-layout.ensures.is c.in_ok-certificate.ensures.is c.in-Some.ensures.is in
+    let e =
+    verdict c.args.plan.now (geometry_of c.args.settings.now) _ _ _ _ c.layout-layout.ensures.is
+    c.in_ok-certificate.ensures.is c.in-Some.ensures.is in
     none_accepted (geometry_of c.args.settings.now) c.args.plan.now c.in-Some.fault e
 
 pub returns-in-Some-clause-faults : goal.returns-in-Some-clause-faults
 returns-in-Some-clause-faults c =
-    let e = verdict c.args.plan.now (geometry_of c.args.settings.now) _ _ _ _ c.layout-layout.ensures.is c.in_ok-certificate.ensures.is c.in-Some.ensures.is in
+    let e =
+    verdict c.args.plan.now (geometry_of c.args.settings.now) _ _ _ _ c.layout-layout.ensures.is
+    c.in_ok-certificate.ensures.is c.in-Some.ensures.is in
     made_faults (geometry_of c.args.settings.now) c.args.plan.now c.in-Some.fault e
 
 pub returns-in-None-clause-tight : goal.returns-in-None-clause-tight
 returns-in-None-clause-tight c =
     let p = c.args.plan.now in
     let made_is = c.in_ok-certificate.ensures.is in
-    let ok = verdict p (geometry_of c.args.settings.now) _ _ _ _ c.layout-layout.ensures.is made_is c.in-None.ensures.is in
-    subst (λ (x : Claims). IsTight p x) (sym made_is) (tight (geometry_of c.args.settings.now) p c.in-None.ensures.facts ok c.in_ok-certificate.ensures.longest)
+    let ok =
+    verdict p (geometry_of c.args.settings.now) _ _ _ _ c.layout-layout.ensures.is made_is c.in-None.ensures.is in
+    subst (λ (x : Claims). IsTight p x) (sym made_is)
+    (tight (geometry_of c.args.settings.now) p c.in-None.ensures.facts ok c.in_ok-certificate.ensures.longest)
 
 pub returns-in-None-clause-least : goal.returns-in-None-clause-least
 returns-in-None-clause-least c =
-    subst (λ (x : Claims). IsLeast (geometry_of c.args.settings.now) c.args.plan.now x) (sym c.in_ok-certificate.ensures.is) (made_least (geometry_of c.args.settings.now) c.args.plan.now)
+    subst (λ (x : Claims). IsLeast (geometry_of c.args.settings.now) c.args.plan.now x)
+    (sym c.in_ok-certificate.ensures.is) (made_least (geometry_of c.args.settings.now) c.args.plan.now)
 
 pub returns-in-None-clause-writable : goal.returns-in-None-clause-writable
 returns-in-None-clause-writable c =
     let p = c.args.plan.now in
     let made_is = c.in_ok-certificate.ensures.is in
-    let ok = verdict p (geometry_of c.args.settings.now) _ _ _ _ c.layout-layout.ensures.is made_is c.in-None.ensures.is in
-    subst (λ (x : Claims). AreClaims c.args.settings.now p x) (sym made_is) (writable c.args.settings.now p c.in-None.ensures.facts ok)
+    let ok =
+    verdict p (geometry_of c.args.settings.now) _ _ _ _ c.layout-layout.ensures.is made_is c.in-None.ensures.is in
+    subst (λ (x : Claims). AreClaims c.args.settings.now p x) (sym made_is)
+    (writable c.args.settings.now p c.in-None.ensures.facts ok)
 
 pub returns-in-Some-clause-same : goal.returns-in-Some-clause-same
 returns-in-Some-clause-same c = λ d fault e own.
     let p = c.args.plan.now in
     let own_fault = made_same (geometry_of c.args.settings.now) p d fault e own in
-    let answered = verdict p (geometry_of c.args.settings.now) _ _ _ _ c.layout-layout.ensures.is c.in_ok-certificate.ensures.is c.in-Some.ensures.is in
+    let answered =
+    verdict p (geometry_of c.args.settings.now) _ _ _ _ c.layout-layout.ensures.is c.in_ok-certificate.ensures.is
+    c.in-Some.ensures.is in
     let is : fault ≡ c.in-Some.fault = cc in
     ap Err is
 
@@ -57,5 +69,7 @@ pub returns-in-None-clause-same : goal.returns-in-None-clause-same
 returns-in-None-clause-same c = λ d fault e own.
     let p = c.args.plan.now in
     let own_fault = made_same (geometry_of c.args.settings.now) p d fault e own in
-    let answered = verdict p (geometry_of c.args.settings.now) _ _ _ _ c.layout-layout.ensures.is c.in_ok-certificate.ensures.is c.in-None.ensures.is in
+    let answered =
+    verdict p (geometry_of c.args.settings.now) _ _ _ _ c.layout-layout.ensures.is c.in_ok-certificate.ensures.is
+    c.in-None.ensures.is in
     absurd (cc)

@@ -17,19 +17,32 @@ last_fault-requires c =
     let p = c.args.plan.now in
     let body = c.body-stmts.ensures.facts.body in
     let ends = ap (sequence_end 0) c.body-stmts.ensures.is in
-    let end = plan_end c.args.layout.now c.args.certificate.now (sequence_of c.body-stmts.result.now) c.in-Ok.end c.in-Ok.ensures in
-    omega (arith, end, ends, sequence_end-most (length p.slots) (length p.layout.extents) 0 p.body body.parts, body.count)
+    let end =
+    plan_end c.args.layout.now c.args.certificate.now (sequence_of c.body-stmts.result.now) c.in-Ok.end
+    c.in-Ok.ensures in
+    omega (
+      arith,
+      end,
+      ends,
+      sequence_end-most (length p.slots) (length p.layout.extents) 0 p.body body.parts,
+      body.count,
+    )
 
 pub returns-in-Err-clause-is : goal.returns-in-Err-clause-is
 returns-in-Err-clause-is c =
     let g = c.args.layout.now in
     let cert = c.args.certificate.now in
-    let same = ap (same_layout g) (sym c.layout.ensures) ∙ sym c.is_same_layout.ensures ∙ c.if-not-is_same_layout.false in
-    plan_err g cert c.args.plan.now.layout (sequence_of c.body-stmts.result.now) c.in-Err.fault same c.in-Err.ensures ∙ ap (λ b. first_fault g (claims_of cert) (all_tests c.args.plan.now.layout b)) c.body-stmts.ensures.is
+    let same = ap (same_layout g) (sym c.layout.ensures) ∙ sym c.is_same_layout.ensures
+    ∙ c.if-not-is_same_layout.false in
+    plan_err g cert c.args.plan.now.layout (sequence_of c.body-stmts.result.now) c.in-Err.fault same c.in-Err.ensures
+    ∙ ap (λ b. first_fault g (claims_of cert) (all_tests c.args.plan.now.layout b)) c.body-stmts.ensures.is
 
 pub returns-in-Ok-clause-is : goal.returns-in-Ok-clause-is
 returns-in-Ok-clause-is c =
     let g = c.args.layout.now in
     let cert = c.args.certificate.now in
-    let same = ap (same_layout g) (sym c.layout.ensures) ∙ sym c.is_same_layout.ensures ∙ c.if-not-is_same_layout.false in
-    c.last_fault.ensures ∙ plan_ok g cert c.args.plan.now.layout (sequence_of c.body-stmts.result.now) c.in-Ok.end same c.in-Ok.ensures ∙ ap (λ b. first_fault g (claims_of cert) (all_tests c.args.plan.now.layout b)) c.body-stmts.ensures.is
+    let same = ap (same_layout g) (sym c.layout.ensures) ∙ sym c.is_same_layout.ensures
+    ∙ c.if-not-is_same_layout.false in
+    c.last_fault.ensures ∙ plan_ok g cert c.args.plan.now.layout (sequence_of c.body-stmts.result.now) c.in-Ok.end same
+    c.in-Ok.ensures ∙ ap (λ b. first_fault g (claims_of cert) (all_tests c.args.plan.now.layout b))
+    c.body-stmts.ensures.is

@@ -1,6 +1,7 @@
 use Rattle.std.proofs.Common.{◌≡◌, ◌+◌, ◌*◌, ◌≤◌, min, max, drop}
 use Rattle.pp_plan.specs.Tree.{statement_size, sequence_size, alternatives_size}
 use Rattle.pp_plan.specs.View.{statement_of, sequence_of, alternatives_of}
+use Rattle.pp_cert.specs.Limits.{counted}
 use Rattle.pp_cert.specs.Longest.{sequence_longest, alternatives_longest}
 use Rattle.pp_cert.proofs.longest.+longest.Given as goal
 
@@ -17,7 +18,11 @@ abbrev pub decreases-longest_of_branches : goal.decreases-longest_of_branches
 decreases-longest_of_branches l = 2 * alternatives_size l.branches.now
 
 abbrev pub invariant-longest-loop-stmt : goal.invariant-longest-loop-stmt
-invariant-longest-loop-stmt l = (l.sum ≤ 1000001) × (min (l.sum + sequence_longest (sequence_of (drop l.stmt-index l.stmts))) 1000001 ≡ min (sequence_longest (sequence_of l.stmts)) 1000001)
+invariant-longest-loop-stmt l = (l.sum ≤ counted)
+    × (min (l.sum + sequence_longest (sequence_of (drop l.stmt-index l.stmts))) counted
+    ≡ min (sequence_longest (sequence_of l.stmts)) counted)
 
 abbrev pub invariant-longest_of_branches-loop-body : goal.invariant-longest_of_branches-loop-body
-invariant-longest_of_branches-loop-body l = (l.most ≤ 1000001) × (min (max l.most (alternatives_longest (alternatives_of (drop l.body-index l.body-items)))) 1000001 ≡ min (alternatives_longest l.branches) 1000001)
+invariant-longest_of_branches-loop-body l = (l.most ≤ counted)
+    × (min (max l.most (alternatives_longest (alternatives_of (drop l.body-index l.body-items)))) counted
+    ≡ min (alternatives_longest l.branches) counted)

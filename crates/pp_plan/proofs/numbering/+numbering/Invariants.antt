@@ -1,12 +1,18 @@
-use Rattle.std.proofs.Common.{◌≡◌, take, map, string_bytes}
-use Rattle.pp_plan.specs.View.{sequence_of, alternatives_of}
-use Rattle.pp_plan.specs.Numbering.{place_in, numbered, numbered_branches}
+use Rattle.std.proofs.Common.{slice_index_or}
+use Rattle.pp_plan.specs.Numbering.{numbered, numbered_statement}
+use Rattle.pp_plan.specs.View.{statement_of}
+use Rattle.pp_plan.proofs.Renumbering.{ArePartly}
 use Rattle.pp_plan.proofs.numbering.+numbering.Given as goal
 
-abbrev pub invariant-numbered-loop-stmt : goal.invariant-numbered-loop-stmt
-invariant-numbered-loop-stmt l =
-    sequence_of l.stmts.items ≡ numbered (place_in (map string_bytes l.ordered) (map string_bytes l.names)) (sequence_of (take l.stmt-index l.stmt-items))
+abbrev pub invariant-renumber-loop-i : goal.invariant-renumber-loop-i
+invariant-renumber-loop-i l = record {
+  unvisited : goal.unvisited-renumber-loop-i l;
+  done : ArePartly (numbered_statement (λ k. slice_index_or l.numbers k 0)) statement_of l.initial.stmts.items
+      l.stmts.items l.i;
+}
 
-abbrev pub invariant-numbered_branches-loop-body : goal.invariant-numbered_branches-loop-body
-invariant-numbered_branches-loop-body l =
-    alternatives_of l.bodies.items ≡ numbered_branches (place_in (map string_bytes l.ordered) (map string_bytes l.names)) (alternatives_of (take l.body-index l.body-items))
+abbrev pub invariant-renumber_branches-loop-i : goal.invariant-renumber_branches-loop-i
+invariant-renumber_branches-loop-i l = record {
+  unvisited : goal.unvisited-renumber_branches-loop-i l;
+  done : ArePartly (numbered (λ k. slice_index_or l.numbers k 0)) (λ b. b) l.initial.bodies.items l.bodies.items l.i;
+}

@@ -1,6 +1,6 @@
-use Rattle.pp_settings.specs.Views.{configured}
-use Rattle.pp_settings.proofs.Regions.{configuration_found}
+use Rattle.pp_settings.specs.Views.{drafted}
+use Rattle.pp_settings.proofs.Spelled.{configuration_found}
 use Rattle.pp_settings.proofs.settings.read.Goals as goal
 
-pub invariant_of-result : goal.invariant_of-result
-invariant_of-result c = (configuration_found _ (configured c.in_ok-fields.fields) c.in_ok-fields.ensures).1
+pub settled-requires : goal.settled-requires
+settled-requires c = (configuration_found _ (drafted c.in_ok-draft.draft) c.in_ok-draft.ensures).1

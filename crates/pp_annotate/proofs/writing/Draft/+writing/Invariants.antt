@@ -21,10 +21,14 @@ decreases-later l = 3 * alternatives_size (alternatives_of l.bodies.now)
 
 abbrev pub invariant-sequence-loop-stmt : goal.invariant-sequence-loop-stmt
 invariant-sequence-loop-stmt l = record {
-  notes : l.self.notes.items ++ sequence_notes (sequence_of (drop l.stmt-index l.stmts)) l.current.items ≡ l.fn.self.notes.items ++ sequence_notes (sequence_of l.stmts) l.before;
-  after : after_sequence (sequence_of (drop l.stmt-index l.stmts)) l.current.items ≡ after_sequence (sequence_of l.stmts) l.before;
+  notes : l.self.notes.items
+      ++ sequence_notes (sequence_of (drop l.stmt-index l.stmts)) l.current.items ≡ l.fn.self.notes.items
+      ++ sequence_notes (sequence_of l.stmts) l.before;
+  after : after_sequence (sequence_of (drop l.stmt-index l.stmts)) l.current.items
+      ≡ after_sequence (sequence_of l.stmts) l.before;
 }
 
 abbrev pub invariant-later-loop-body : goal.invariant-later-loop-body
 invariant-later-loop-body l =
-    l.self.notes.items ++ branches_notes (alternatives_of (drop l.body-index l.bodies)) l.before ≡ l.fn.self.notes.items ++ branches_notes (alternatives_of l.bodies) l.before
+    l.self.notes.items ++ branches_notes (alternatives_of (drop l.body-index l.bodies)) l.before ≡ l.fn.self.notes.items
+    ++ branches_notes (alternatives_of l.bodies) l.before

@@ -1,3 +1,4 @@
+-- What is left to show of Directory::bring_back: there is room for the victim, and what is cached then.
 use Rattle.std.proofs.Common.{◌≡◌, ◌≢◌, true, false, arith}
 use Rattle.pp_arc.specs.FourLists.{is_cached}
 use Rattle.pp_arc.specs.Figure.{bring_back}
@@ -7,10 +8,12 @@ use Rattle.pp_arc.proofs.BoundLemmas.{cached_count-forget, total_count-forget}
 use Rattle.pp_arc.proofs.directory.Directory.bring_back.Goals as goal
 
 pub move_to_t2-requires-clause-cached_room : goal.move_to_t2-requires-clause-cached_room
-move_to_t2-requires-clause-cached_room c = omega (arith, cached_count-forget c.forget.new.self c.args.victim, c.forget.ensures.room c.requires.cached)
+move_to_t2-requires-clause-cached_room c = omega
+    (arith, cached_count-forget c.forget.new.self c.args.victim, c.forget.ensures.room c.requires.cached)
 
 pub move_to_t2-requires-clause-total_room : goal.move_to_t2-requires-clause-total_room
-move_to_t2-requires-clause-total_room c = omega (arith, total_count-forget c.forget.new.self c.args.victim, c.forget.ensures.room c.requires.cached)
+move_to_t2-requires-clause-total_room c = omega
+    (arith, total_count-forget c.forget.new.self c.args.victim, c.forget.ensures.room c.requires.cached)
 
 pub returns-clause-gone : goal.returns-clause-gone
 returns-clause-gone c =

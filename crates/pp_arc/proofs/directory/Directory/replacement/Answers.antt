@@ -1,3 +1,4 @@
+-- What is left to show of Directory::replacement: a victim is cached.
 use Rattle.std.proofs.Common.{◌≡◌}
 use Rattle.std.specs.Prelude.{Some}
 use Rattle.pp_arc.specs.FourLists.{FourLists}

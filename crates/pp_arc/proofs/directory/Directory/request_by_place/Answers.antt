@@ -1,3 +1,4 @@
+-- What is left to show of Directory::request_by_place: what each case of the figure asks of the lists.
 use Rattle.std.proofs.Common.{◌≡◌, true, arith}
 use Rattle.std.specs.Prelude.{Some, None}
 use Rattle.pp_arc.specs.declared.list.List.TheVariants.{T1, T2, B1, B2}
@@ -21,18 +22,22 @@ request_remembered-requires-in-Some-B2-clause-remembered g c =
 pub move_to_t2-requires-clause-cached_room : goal.move_to_t2-requires-clause-cached_room
 move_to_t2-requires-clause-cached_room g c =
     let here : is_cached c.args.self.now c.args.page ≡ true = elim c.in-Some-T1-1.branch [
-      | in-T1-1 w ↦ let e : place c.args.self.now c.args.page ≡ Some T1 = cc in rw e at (StandsIn-place c.args.self.now c.args.page)
-      | in-T2-1 w ↦ let e : place c.args.self.now c.args.page ≡ Some T2 = cc in rw e at (StandsIn-place c.args.self.now c.args.page)
+      | in-T1-1 w ↦ let e : place c.args.self.now c.args.page ≡ Some T1 = cc in rw e at
+          (StandsIn-place c.args.self.now c.args.page)
+      | in-T2-1 w ↦ let e : place c.args.self.now c.args.page ≡ Some T2 = cc in rw e at
+          (StandsIn-place c.args.self.now c.args.page)
     ] in
-    (room-forget c.args.self.now c.args.page c.place.ensures.bounds here).0
+    (room-forget c.args.self.now c.args.page c.place_below.ensures.bounds here).0
 
 pub move_to_t2-requires-clause-total_room : goal.move_to_t2-requires-clause-total_room
 move_to_t2-requires-clause-total_room g c =
     let here : is_cached c.args.self.now c.args.page ≡ true = elim c.in-Some-T1-1.branch [
-      | in-T1-1 w ↦ let e : place c.args.self.now c.args.page ≡ Some T1 = cc in rw e at (StandsIn-place c.args.self.now c.args.page)
-      | in-T2-1 w ↦ let e : place c.args.self.now c.args.page ≡ Some T2 = cc in rw e at (StandsIn-place c.args.self.now c.args.page)
+      | in-T1-1 w ↦ let e : place c.args.self.now c.args.page ≡ Some T1 = cc in rw e at
+          (StandsIn-place c.args.self.now c.args.page)
+      | in-T2-1 w ↦ let e : place c.args.self.now c.args.page ≡ Some T2 = cc in rw e at
+          (StandsIn-place c.args.self.now c.args.page)
     ] in
-    (room-forget c.args.self.now c.args.page c.place.ensures.bounds here).1
+    (room-forget c.args.self.now c.args.page c.place_below.ensures.bounds here).1
 
 pub request_new-requires-clause-absent : goal.request_new-requires-clause-absent
 request_new-requires-clause-absent g c =

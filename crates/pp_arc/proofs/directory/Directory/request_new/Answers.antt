@@ -1,3 +1,4 @@
+-- What is left to show of Directory::request_new: room for the new page, once a name was dropped and REPLACE ran.
 use Rattle.std.proofs.Common.{◌≡◌, arith}
 use Rattle.pp_arc.specs.Figure.{after_replace}
 use Rattle.pp_arc.proofs.StepLemmas.{MakesRoom, HasMadeRoom, HasMadeRoom-after_replace}

@@ -1,14 +1,17 @@
+-- What is left to show of Directory::request_remembered: there is room for the remembered page once REPLACE ran.
 use Rattle.std.proofs.Common.{◌≡◌, ◌≤◌, arith}
 use Rattle.pp_arc.specs.FourLists.{FourLists, times_named}
 use Rattle.pp_arc.specs.Bounds.{IsWithinBounds}
 use Rattle.pp_arc.specs.Figure.{after_replace}
-use Rattle.pp_arc.proofs.StepLemmas.{MakesRoom, HasMadeRoom, HasMadeRoom-after_replace, room-after_replace, bounds-at_target}
+use Rattle.pp_arc.proofs.StepLemmas.{MakesRoom, HasMadeRoom, HasMadeRoom-after_replace, room-after_replace}
+use Rattle.pp_arc.proofs.StepLemmas.{bounds-at_target}
 use Rattle.pp_arc.proofs.directory.Directory.request_remembered.Goals as goal
 
 pub move_to_t2-requires : goal.move_to_t2-requires
 move_to_t2-requires g c =
     let s : FourLists = record c.args.self.now { target = c.args.target } in
-    let h : IsWithinBounds s = bounds-at_target c.args.self.now c.args.target c.replacement-answer.ensures.bounds c.requires.aimed in
+    let h : IsWithinBounds s = bounds-at_target c.args.self.now c.args.target c.replacement-answer.ensures.bounds
+    c.requires.aimed in
     let m : MakesRoom s c.replacement-answer.result = record {
       free = c.replacement-answer.ensures.free;
       victim = c.replacement-answer.ensures.victim_is_cached;
@@ -17,7 +20,8 @@ move_to_t2-requires g c =
     } in
     let named : 1 ≤ times_named s c.args.page = omega (arith, c.requires.remembered) in
     let e : c.replace.new.self ≡ after_replace s c.replacement-answer.result = cc in
-    let d : HasMadeRoom s (after_replace s c.replacement-answer.result) = HasMadeRoom-after_replace s c.replacement-answer.result h m in
+    let d : HasMadeRoom s (after_replace s c.replacement-answer.result) = HasMadeRoom-after_replace s
+    c.replacement-answer.result h m in
     rw e record {
       below = rw d.same_pages c.requires.below;
       cached_room = rw d.same_c (room-after_replace s c.replacement-answer.result c.args.page h m named).0;

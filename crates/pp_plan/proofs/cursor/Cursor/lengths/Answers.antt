@@ -9,10 +9,13 @@ use Rattle.pp_plan.proofs.cursor.Cursor.lengths.Goals as goal
 pub loop-level-preserved : goal.loop-level-preserved
 loop-level-preserved c =
     let long = length-set c.loop-level.lengths (c.loop-level.level + 1) (length c.stmts_inside-stmts.result.now) in
-    let is : sequence_of c.stmts_inside-stmts.result.now ≡ body_at c.args.plan.now.body (stack c.self.inside.entries (c.loop-level.level + 1)) = search rules in
+    let is : sequence_of c.stmts_inside-stmts.result.now
+    ≡ body_at c.args.plan.now.body (stack c.self.inside.entries (c.loop-level.level + 1)) = search rules in
     record {
       stmts = is;
       long = long ∙ c.loop-level.invariant.long;
-      lengths = lengths-push c.args.plan.now.body c.loop-level.lengths c.self.inside.entries c.loop-level.level (length c.stmts_inside-stmts.result.now) (omega arith) c.loop-level.invariant.lengths
+      lengths =
+          lengths-push c.args.plan.now.body c.loop-level.lengths c.self.inside.entries c.loop-level.level
+          (length c.stmts_inside-stmts.result.now) (omega arith) c.loop-level.invariant.lengths
           (sym (sequence_length-of c.stmts_inside-stmts.result.now) ∙ ap sequence_length is);
     }

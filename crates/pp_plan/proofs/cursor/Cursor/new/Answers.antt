@@ -8,4 +8,5 @@ pub returns : goal.returns
 returns c =
     let plan = c.args.plan.now in
     stands_at_start plan c.settle.new.self c.settle.ensures.facts c.settle.ensures.at
-    (subst (λ p. Same plan.layout (left plan.body p) (left plan.body c.settle.new.self)) c.start-cursor.ensures c.settle.ensures.same)
+    (subst (λ p. Same plan.layout (left plan.body p) (left plan.body c.settle.new.self)) c.start-cursor.ensures
+    c.settle.ensures.same)

@@ -1,5 +1,6 @@
+use Rattle.pp_settings.proofs.Clear.{accepted_clear}
 use Rattle.pp_settings.proofs.First.{refused_first}
-use Rattle.pp_settings.proofs.Regions.{text_found, text_only}
+use Rattle.pp_settings.proofs.Spelled.{text_found, text_only}
 use Rattle.pp_settings.proofs.settings.Settings.from_text.Goals as goal
 
 pub returns-clause-found : goal.returns-clause-found
@@ -10,3 +11,6 @@ returns-clause-only c = λ s. text_only c.args.text.now c.read.result s c.read.e
 
 pub returns-clause-first : goal.returns-clause-first
 returns-clause-first c = refused_first c.args.text.now c.read.result c.read.ensures
+
+pub returns-clause-faultless : goal.returns-clause-faultless
+returns-clause-faultless c = accepted_clear c.args.text.now c.read.result c.read.ensures

@@ -1,0 +1,31 @@
+-- What the steps of a table of links do to the four lists.
+use Rattle.std.specs.Prelude.{ℕ, ◌∷◌, nat_lt, Option, None, Some, if◌then◌else◌}
+use Rattle.pp_arc.specs.declared.list.List.{List as ListName}
+use Rattle.pp_arc.specs.declared.list.List.TheVariants.{T1, T2, B1, B2}
+use Rattle.pp_arc.specs.Pages.{without_last}
+use Rattle.pp_arc.specs.FourLists.{FourLists}
+
+-- the number of a list among the four
+abbrev pub code : ListName → ℕ
+code T1 = 0
+code T2 = 1
+code B1 = 2
+code B2 = 3
+
+-- x goes to the front of the list of this name
+abbrev pub with_front : FourLists → ListName → ℕ → FourLists
+with_front s T1 x = record s { t1 = x ∷ s.t1 }
+with_front s T2 x = record s { t2 = x ∷ s.t2 }
+with_front s B1 x = record s { b1 = x ∷ s.b1 }
+with_front s B2 x = record s { b2 = x ∷ s.b2 }
+
+-- the list of this name loses its last page
+abbrev pub without_last_of : FourLists → ListName → FourLists
+without_last_of s T1 = record s { t1 = without_last s.t1 }
+without_last_of s T2 = record s { t2 = without_last s.t2 }
+without_last_of s B1 = record s { b1 = without_last s.b1 }
+without_last_of s B2 = record s { b2 = without_last s.b2 }
+
+-- the page of a place, which is the place's number; a place from `pages` on is a head's, and has none
+abbrev pub page_at : ℕ → ℕ → Option ℕ
+page_at pages place = if nat_lt place pages then Some place else None

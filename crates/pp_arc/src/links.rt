@@ -1,0 +1,229 @@
+//! Four lists of page numbers in one table of linked records.
+
+ghost use Rattle.std.specs.Prelude.{◌≡◌, ◌≢◌, ℕ, ◌+◌, ◌^◌, ◌<◌, ◌≤◌, ◌==◌, [], ◌∷◌, length, IfOk, IfSome, slice_get, Some, None};
+ghost use Rattle.pp_arc.specs.Pages.{last_not_busy, next_after};
+ghost use Rattle.pp_arc.specs.FourLists.{empty_lists, list_of, place, after};
+ghost use Rattle.pp_arc.specs.Figure.{forget};
+ghost use Rattle.pp_arc.specs.Links.{code, with_front, without_last_of, page_at};
+
+use crate::{Busy, List};
+use std::alloc::{AllocError, Global};
+use std::marker::Model;
+
+/// What the table keeps of a page, or of the head of a list, in 12 bytes.
+///
+/// Each list is a ring: its head, its pages with the most recent first, and its head again. A page that
+/// stands in no list has no list here, and its neighbours mean nothing.
+#[derive(Clone, Copy, Debug)]
+struct Record {
+    list: Option<List>,
+    before: u32,
+    after: u32,
+}
+
+impl Record {
+    /// The head of an empty list, which is its own neighbour.
+    fn head(list: List, place: u32) -> Self
+        ensures { result ≡ record { list = Some list; before = place; after = place } }
+    {
+        Record {
+            list: Some(list),
+            before: place,
+            after: place,
+        }
+    }
+}
+
+/// The number of a list: its head stands so far behind the pages.
+fn code_of(list: List) -> u32
+    ensures code { result ≡ code list }
+    ensures below { result < 4 }
+{
+    match list {
+        List::T1 => 0,
+        List::T2 => 1,
+        List::B1 => 2,
+        List::B2 => 3,
+    }
+}
+
+/// Four lists of page numbers, each page in one of them at most. No page is searched for.
+///
+/// Contracts see it as the record `FourLists`, for a cache of no pages whose target is 0.
+#[derive(Debug, Drop)]
+pub(crate) struct Links {
+    pages: u32,
+    /// One record for each page, and behind them one for each head.
+    records: Vec<Record>,
+    /// How many pages each list has.
+    counts: [usize; 4],
+}
+
+impl Model for Links {
+    ghost use Rattle.pp_arc.specs.FourLists.{FourLists};
+
+    ghost Value = { FourLists };
+
+    ghost use Rattle.pp_arc.specs.Table.{content_of, lists_in, IsSound};
+
+    ghost view = { λ d. lists_in (content_of d) };
+
+    ghost invariant = { λ d. IsSound (content_of d) };
+}
+
+impl Links {
+    /// Four empty lists, for page numbers below `pages`.
+    pub(crate) fn new(alloc: Global, pages: u32) -> Result<Self, AllocError>
+        requires fits { pages + 4 ≤ 2 ^ 32 }
+        ensures empty { IfOk result (λ links. links ≡ empty_lists 0 pages) }
+    {
+        let blank = Record {
+            list: None,
+            before: 0,
+            after: 0,
+        };
+        let mut records = vec![in alloc; blank; pages as usize + 4]?;
+        records[pages as usize] = Record::head(List::T1, pages);
+        records[pages as usize + 1] = Record::head(List::T2, pages + 1);
+        records[pages as usize + 2] = Record::head(List::B1, pages + 2);
+        records[pages as usize + 3] = Record::head(List::B2, pages + 3);
+        Ok(Links {
+            pages,
+            records,
+            counts: [0; 4],
+        })
+    }
+
+    /// The list in which the page stands, if it stands in one.
+    pub(crate) fn place(&self, page: u32) -> Option<List>
+        ensures place { result ≡ place self.now page }
+        ensures below { IfSome result (λ _. page < self.now.pages) }
+    {
+        if page < self.pages {
+            self.place_below(page)
+        } else {
+            None
+        }
+    }
+
+    /// The list in which a page of the table stands, if it stands in one.
+    pub(crate) fn place_below(&self, page: u32) -> Option<List>
+        requires { page < self.now.pages }
+        ensures { result ≡ place self.now page }
+    {
+        self.records[page as usize].list
+    }
+
+    /// How many pages the list has.
+    pub(crate) fn len(&self, list: List) -> usize
+        ensures { result ≡ length (list_of self.now list) }
+    {
+        self.counts[code_of(list) as usize]
+    }
+
+    /// The page at a place, if it isn't a head's.
+    fn page_at(&self, place: u32) -> Option<u32>
+        ensures { result ≡ page_at self.now.pages place }
+    {
+        if place < self.pages {
+            Some(place)
+        } else {
+            None
+        }
+    }
+
+    /// The most recent page of the list, if it has one.
+    pub(crate) fn front(&self, list: List) -> Option<u32>
+        ensures { result ≡ slice_get (list_of self.now list) 0 }
+    {
+        let head = self.pages + code_of(list);
+        self.page_at(self.records[head as usize].after)
+    }
+
+    /// The next less recent page of the list in which this page stands.
+    pub(crate) fn after(&self, page: u32) -> Option<u32>
+        ensures { result ≡ after self.now page }
+    {
+        let _list = self.place(page)?;
+        self.page_at(self.records[page as usize].after)
+    }
+
+    /// The last page of the list that isn't busy.
+    pub(crate) fn last_not_busy<B: Busy>(&self, list: List, busy: &B) -> Option<u32>
+        ensures { result ≡ last_not_busy (list_of self.now list) (B.busy busy.now) }
+    {
+        let code = code_of(list);
+        let mut place = self.pages + code;
+        for _ in 0..self.counts[code as usize] {
+            place = self.records[place as usize].before;
+            if !busy.is_busy(place) {
+                return Some(place);
+            }
+        }
+        None
+    }
+
+    /// Puts a page that stands in no list at the front of the list.
+    pub(crate) fn put_first(&mut self, list: List, page: u32)
+        requires below { page < self.old.pages }
+        requires absent { place self.old page ≡ None }
+        requires room { length (list_of self.old list) < 2 ^ 63 }
+        ensures lists { self.new ≡ with_front self.old list page }
+    {
+        let code = code_of(list);
+        let head = self.pages + code;
+        let first = self.records[head as usize].after;
+        self.records[page as usize] = Record {
+            list: Some(list),
+            before: head,
+            after: first,
+        };
+        self.records[head as usize].after = page;
+        self.records[first as usize].before = page;
+        self.counts[code as usize] += 1;
+    }
+
+    /// Takes the page out of its list, if it stands in one, and puts it at the front of the list.
+    pub(crate) fn move_first(&mut self, list: List, page: u32)
+        requires below { page < self.old.pages }
+        requires room { length (list_of self.old list) < 2 ^ 63 }
+        ensures lists { self.new ≡ with_front (forget self.old page) list page }
+    {
+        self.take_out_below(page);
+        self.put_first(list, page);
+    }
+
+    /// Takes the page out of its list, if it stands in one.
+    pub(crate) fn take_out(&mut self, page: u32)
+        ensures lists { self.new ≡ forget self.old page }
+        ensures gone { place self.new page ≡ None }
+    {
+        if page < self.pages {
+            self.take_out_below(page);
+        }
+    }
+
+    /// Takes a page of the table out of its list, if it stands in one.
+    fn take_out_below(&mut self, page: u32)
+        requires below { page < self.old.pages }
+        ensures lists { self.new ≡ forget self.old page }
+        ensures gone { place self.new page ≡ None }
+    {
+        let record = self.records[page as usize];
+        if let Some(list) = record.list {
+            self.records[record.before as usize].after = record.after;
+            self.records[record.after as usize].before = record.before;
+            self.records[page as usize].list = None;
+            self.counts[code_of(list) as usize] -= 1;
+        }
+    }
+
+    /// Takes the last page of the list out of it, if there is one.
+    pub(crate) fn drop_last(&mut self, list: List)
+        ensures lists { self.new ≡ without_last_of self.old list }
+    {
+        let head = self.pages + code_of(list);
+        let last = self.records[head as usize].before;
+        self.take_out(last);
+    }
+}

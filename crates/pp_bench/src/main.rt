@@ -1,0 +1,40 @@
+//! The program `pp_bench`: plays a trace to a part of the pool, and prints what it counted.
+//!
+//! `pp_bench directory hit|skew|loop|mixed OPS [FRAMES]` prints how many of the requests missed, and
+//! `pp_bench marks OPS [FRAMES]` how many pages were brought in, each in place of another.
+//! How long a run takes is for the caller to measure.
+#![tactic(auto)]
+
+mod directory;
+mod marks;
+mod trace;
+mod trouble;
+
+use std::env;
+use std::io::Write;
+use std::process::ExitCode;
+use trouble::Trouble;
+
+/// Plays what the words of the command line ask for, and says what went wrong.
+fn main(rt: HostRuntime) -> ExitCode {
+    match play(&rt) {
+        Ok(()) => ExitCode::SUCCESS,
+        Err(trouble) => {
+            let _ = writeln!(rt.stderr(), "{trouble}");
+            ExitCode::from(trouble.status())
+        }
+    }
+}
+
+/// The first word says which part of the pool is played to.
+fn play(rt: &HostRuntime) -> Result<(), Trouble> {
+    let words: Vec<String> = env::args(rt)?.collect(rt.alloc())?;
+    let Some(part) = words.get(1) else {
+        return Err(Trouble::Words);
+    };
+    match part.as_str() {
+        "directory" => directory::play(rt, &words[2..]),
+        "marks" => marks::play(rt, &words[2..]),
+        _ => Err(Trouble::Words),
+    }
+}

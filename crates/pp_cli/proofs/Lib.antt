@@ -1,9 +1,0 @@
-pub mod Asked
-pub mod Ended
-pub mod PlainWalk
-pub mod PlainCheck
-pub mod PlainAnnotate
-pub mod PlainWords
-pub mod Refusals
-pub mod Steps
-pub mod Judged

@@ -1,7 +1,0 @@
--- What a command with plain words asks for.
-use Rattle.pp_cli.specs.CommandLine.{PlainWordsAreThePaths}
-use Rattle.pp_cli.proofs.PlainAnnotate.{plain_annotate}
-use Rattle.pp_cli.proofs.PlainCheck.{plain_check}
-
-pub plain_words : PlainWordsAreThePaths
-plain_words = record { check = plain_check; annotate = plain_annotate }

@@ -1,0 +1,102 @@
+//! Runs of the program over memory, on files in a folder of a test's own.
+
+use crate::program::serve;
+use std::convert::AsStr;
+use std::process::Abort;
+use std::test::Fail;
+use std::{env, fs, io};
+
+/// What a run of the program wrote, and its status.
+#[derive(Debug, Drop)]
+pub struct Ended {
+    /// The status.
+    pub status: u8,
+    /// What went to standard output.
+    pub out: String,
+    /// What went to standard error.
+    pub err: String,
+}
+
+impl Ended {
+    /// Sees that the run ended with this status and wrote exactly these texts.
+    pub fn is(&self, rt: &impl Abort, status: u8, out: &str, err: &str) {
+        let is = self.status == status && self.out.as_str() == out && self.err.as_str() == err;
+        assert!(rt; is, "{self:?} is not {status}, {out:?} and {err:?}");
+    }
+
+    /// Sees that the run ended with this status, wrote nothing to one stream and to the other a text with this part.
+    pub fn says(&self, rt: &impl Abort, status: u8, part: &str) {
+        let (said, other) = if status == 0 {
+            (self.out.as_str(), self.err.as_str())
+        } else {
+            (self.err.as_str(), self.out.as_str())
+        };
+        let says = self.status == status
+            && other.is_empty()
+            && said.contains(part)
+            && said.ends_with("\n");
+        assert!(rt; says, "{self:?} is not {status} with {part:?}");
+    }
+}
+
+/// Runs the program on these words, its name first.
+pub fn run<S: AsStr>(rt: &HostRuntime, words: &[S]) -> Result<Ended, Fail> {
+    let mut out = Vec::new(rt.alloc());
+    let mut err = Vec::new(rt.alloc());
+    let status = serve(rt, words, &mut out, &mut err);
+    Ok(Ended {
+        status,
+        out: String::from_utf8(out)?,
+        err: String::from_utf8(err)?,
+    })
+}
+
+/// A folder of a test's own.
+#[derive(Debug, Drop)]
+pub struct Folder {
+    path: String,
+}
+
+impl Folder {
+    /// Makes the folder of the test with this name, with these files.
+    pub fn new(rt: &HostRuntime, test: &str, files: &[(&str, &[u8])]) -> io::Result<Folder> {
+        let temporary = env::temp_dir(rt)?;
+        let place = temporary.as_path().display();
+        let process = std::process::id(rt.process());
+        let folder = Folder {
+            path: format!(in rt.alloc(); "{place}/pinpool_{test}_{process}")?,
+        };
+        fs::create_dir_all(rt, folder.path.as_str())?;
+        for (file, bytes) in files {
+            fs::write(rt, folder.at(rt, file)?.as_str(), *bytes)?;
+        }
+        Ok(folder)
+    }
+
+    /// The path of a file of the folder.
+    pub fn at(&self, rt: &HostRuntime, file: &str) -> io::Result<String> {
+        let folder = self.path.as_str();
+        Ok(format!(in rt.alloc(); "{folder}/{file}")?)
+    }
+
+    /// The words of a command with these files of the folder, the program's name first.
+    pub fn words(
+        &self,
+        rt: &HostRuntime,
+        command: &str,
+        files: &[&str],
+    ) -> io::Result<Vec<String>> {
+        let mut words = Vec::new(rt.alloc());
+        words.push(String::from_str(rt.alloc(), "pinpool")?)?;
+        words.push(String::from_str(rt.alloc(), command)?)?;
+        for file in files {
+            words.push(self.at(rt, file)?)?;
+        }
+        Ok(words)
+    }
+
+    /// Removes the folder with its files.
+    pub fn remove(self, rt: &HostRuntime) -> io::Result<()> {
+        fs::remove_dir_all(rt, self.path.as_str())
+    }
+}

@@ -1,0 +1,53 @@
+//! The words of the command line.
+
+use super::runs::run;
+use std::test::Fail;
+
+#[test]
+fn words_are_told(rt: HostRuntime) -> Result<(), Fail> {
+    run(&rt, &["pinpool", "--version"])?.is(&rt, 0, "pinpool 0.1.0\n", "");
+    run(&rt, &["another", "check", "a", "b", "c", "d"])?.is(
+        &rt,
+        2,
+        "",
+        "error: unexpected argument 'd' found\n\nUsage: pinpool check <SETTINGS> <PLAN> <CERT>\n\n\
+            For more information, try '--help'.\n",
+    );
+    run(&rt, &["pinpool", "check", "--", "-a", "-b", "-c"])?.is(&rt, 3, "", "fault reading -a\n");
+    let rows: [(u8, &[&str], &str); 14] = [
+        (0, &["pinpool", "--help"], "Usage: pinpool <COMMAND>"),
+        (0, &["pinpool", "-h"], "\n  annotate "),
+        (0, &["pinpool", "help"], "\n  check "),
+        (
+            0,
+            &["pinpool", "check", "--help"],
+            "Usage: pinpool check <SETTINGS> <PLAN> <CERT>",
+        ),
+        (
+            0,
+            &["pinpool", "annotate", "--help"],
+            "Usage: pinpool annotate <SETTINGS> <PLAN>",
+        ),
+        (2, &["pinpool"], "Usage: pinpool <COMMAND>"),
+        (2, &["another"], "Usage: pinpool <COMMAND>"),
+        (2, &["pinpool", "chek", "a", "b", "c"], "'chek'"),
+        (
+            2,
+            &["pinpool", "--fast", "check", "a", "b", "c"],
+            "'--fast'",
+        ),
+        (
+            2,
+            &["pinpool", "check", "--fast", "a", "b", "c"],
+            "'--fast'",
+        ),
+        (2, &["pinpool", "check"], "<SETTINGS>"),
+        (2, &["pinpool", "check", "a", "b"], "<CERT>"),
+        (2, &["pinpool", "annotate", "a"], "<PLAN>"),
+        (2, &["pinpool", "annotate", "a", "b", "c"], "'c'"),
+    ];
+    for (status, words, part) in rows {
+        run(&rt, words)?.says(&rt, status, part);
+    }
+    Ok(())
+}

@@ -1,0 +1,3 @@
+pub mod Refusals
+pub mod Steps
+pub mod Judged

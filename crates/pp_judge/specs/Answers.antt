@@ -1,0 +1,95 @@
+-- What a run comes to: the answer, its status, and where it is told.
+use Rattle.std.specs.Prelude.{◌≡◌, ◌⊎◌, ◌+◌, ◌*◌, ℕ, Bool, true, false, List, Result, Ok, Err, if◌then◌else◌, string_bytes}
+use Rattle.pp_cert.specs.Accepted.{Acceptance}
+use Rattle.pp_cert.specs.Limits.{step_events, plan_events}
+use Rattle.pp_judge.specs.Judgement.{certification, judgement}
+use Rattle.pp_judge.specs.Steps.{is_want_of_memory}
+use Rattle.pp_judge.specs.declared.contents.Contents.{Contents}
+use Rattle.pp_judge.specs.declared.contents.Contents.TheVariants.{Check, Annotate}
+use Rattle.pp_judge.specs.declared.refusal.Refusal.{Refusal}
+use Rattle.pp_judge.specs.declared.outcome.Figures.{Figures}
+use Rattle.pp_judge.specs.declared.outcome.Outcome.{Outcome}
+use Rattle.pp_judge.specs.declared.outcome.Outcome.TheVariants.{Done, Made, Shown, Refused, Misused, Wordless, Unread, Unwritten, OutOfMemory}
+
+-- what a run comes to; texts are their bytes
+pub data Answer : Type 0 where
+  done : Figures → Answer
+  made : (text : List ℕ) → Answer
+  shown : (text : List ℕ) → Answer
+  refused : Refusal → Answer
+  misused : (text : List ℕ) → Answer
+  wordless : Answer
+  unread : (path : List ℕ) → Answer
+  unwritten : Answer
+  out_of_memory : Answer
+
+-- an outcome, as it is seen
+abbrev pub seen : Outcome → Answer
+seen (Done figures) = done figures
+seen (Made text) = made (string_bytes text)
+seen (Shown text) = shown (string_bytes text)
+seen (Refused refusal) = refused refusal
+seen (Misused text) = misused (string_bytes text)
+seen Wordless = wordless
+seen (Unread path) = unread path.now
+seen Unwritten = unwritten
+seen OutOfMemory = out_of_memory
+
+-- 0 done, 1 refused, 2 a bad command line, 3 a fault of a file, 4 out of memory
+abbrev pub status_of : Answer → ℕ
+status_of (done figures) = 0
+status_of (made text) = 0
+status_of (shown text) = 0
+status_of (refused refusal) = 1
+status_of (misused text) = 2
+status_of wordless = 2
+status_of (unread path) = 3
+status_of unwritten = 3
+status_of out_of_memory = 4
+
+-- what was asked for goes to standard output, complaints to standard error
+abbrev pub is_output_of : Answer → Bool
+is_output_of (done figures) = true
+is_output_of (made text) = true
+is_output_of (shown text) = true
+is_output_of (refused refusal) = true
+is_output_of (misused text) = false
+is_output_of wordless = false
+is_output_of (unread path) = false
+is_output_of unwritten = false
+is_output_of out_of_memory = false
+
+-- the peak and the steps of an accepted plan, and the most events that a journal needs for it
+abbrev pub figures_of : Acceptance → Figures
+figures_of accepted = record { peak = accepted.peak; steps = accepted.steps; cost = step_events * accepted.steps + plan_events }
+
+-- a certificate that is checked: the figures of the accepted plan, or the refusal
+abbrev pub answer_of_check : Result Acceptance Refusal → Answer
+answer_of_check (Ok accepted) = done (figures_of accepted)
+answer_of_check (Err refusal) = refused refusal
+
+-- a certificate that is made: its text, or the refusal
+abbrev pub answer_of_annotate : Result (List ℕ) Refusal → Answer
+answer_of_annotate (Ok text) = made text
+answer_of_annotate (Err refusal) = refused refusal
+
+-- what the bytes of the files of `check` come to
+abbrev pub judgement_answer : (settings plan certificate : List ℕ) → Answer
+judgement_answer settings plan certificate = answer_of_check (judgement settings plan certificate)
+
+-- what the bytes of the files of `annotate` come to
+abbrev pub certification_answer : (settings plan : List ℕ) → Answer
+certification_answer settings plan = answer_of_annotate (certification settings plan)
+
+-- what the contents of the files come to
+abbrev pub answer_to : Contents → Answer
+answer_to (Check files) = judgement_answer files.settings.now files.plan.now files.certificate.now
+answer_to (Annotate files) = certification_answer files.settings.now files.plan.now
+
+-- the outcome is this answer, or want of memory
+abbrev pub ComesTo : Answer → Outcome → Type 0
+ComesTo answer outcome = (seen outcome ≡ answer) ⊎ (outcome ≡ OutOfMemory)
+
+-- want of memory is an outcome of its own, and no refusal of a file
+abbrev pub refused_by : Refusal → Outcome
+refused_by refusal = if is_want_of_memory refusal then OutOfMemory else Refused refusal

@@ -1,0 +1,4 @@
+pub mod Steps
+pub mod Judgement
+pub mod Answers
+pub mod Lines

@@ -1,0 +1,12 @@
+//! What the bytes of files come to, and what is printed of it. Nothing here reads a file or a word of a command line.
+#![tactic(auto)]
+
+mod contents;
+mod judgement;
+mod outcome;
+mod refusal;
+
+pub use contents::{AnnotateFiles, CheckFiles, Contents, outcome_of};
+pub use judgement::{certify, judge};
+pub use outcome::{Figures, Outcome};
+pub use refusal::Refusal;

@@ -1,0 +1,126 @@
+//! How a run of the program ends: the status, and the text.
+
+ghost use Rattle.std.specs.Prelude.{◌≡◌, Some};
+ghost use Rattle.pp_judge.specs.Answers.{figures_of, is_output_of, refused_by, seen, status_of};
+ghost use Rattle.pp_judge.specs.Lines.{figures_line, text_of};
+
+use crate::refusal::Refusal;
+use pp_cert::Accepted;
+use std::fmt;
+
+/// What a run comes to: what is told of it, where, and the status.
+#[derive(Debug, Drop)]
+pub enum Outcome<'a> {
+    /// The certificate is accepted, with these figures.
+    Done(Figures),
+    /// The text of the certificate that was made, without a line feed.
+    Made(String),
+    /// The help or the version, which ends with a line feed.
+    Shown(String),
+    /// A file is refused, or the certificate.
+    Refused(Refusal),
+    /// The words are no command: the fault's text, which ends with a line feed.
+    Misused(String),
+    /// The words of the command line can't be read.
+    Wordless,
+    /// The file at this path can't be read.
+    Unread(&'a str),
+    /// Standard output can't be written.
+    Unwritten,
+    /// Memory ran out.
+    OutOfMemory,
+}
+
+/// What is printed of an accepted plan.
+#[derive(Clone, Copy, Debug, PartialEq, Eq)]
+pub struct Figures {
+    /// A bound on the slots held at once, as the certificate declares it.
+    pub peak: u64,
+    /// A bound on the actions of a trace, as the certificate declares it.
+    pub steps: u64,
+    /// The most events that a journal needs for the plan once it is submitted: three for each step, and 34 more.
+    pub cost: u64,
+}
+
+impl Figures {
+    /// The figures of an accepted plan.
+    pub fn of(accepted: &Accepted) -> Figures
+        ensures { result ≡ figures_of accepted.now }
+    {
+        Figures {
+            peak: accepted.peak(),
+            steps: accepted.steps(),
+            cost: accepted.cost(),
+        }
+    }
+}
+
+/// As in `accepted peak 2 steps 8 cost 58`.
+impl fmt::Display for Figures {
+    ghost output = { λ figures. Some (figures_line figures) };
+
+    fn fmt<W: fmt::Write>(&self, f: &mut fmt::Formatter<W>) -> fmt::Result {
+        let Figures { peak, steps, cost } = *self;
+        write!(f, "accepted peak {peak} steps {steps} cost {cost}")
+    }
+}
+
+impl Outcome<'_> {
+    /// The status of a program that ends so.
+    pub fn status(&self) -> u8
+        ensures { result ≡ status_of (seen self.now) }
+    {
+        match self {
+            Outcome::Done(_) | Outcome::Made(_) | Outcome::Shown(_) => 0,
+            Outcome::Refused(_) => 1,
+            Outcome::Misused(_) | Outcome::Wordless => 2,
+            Outcome::Unread(_) | Outcome::Unwritten => 3,
+            Outcome::OutOfMemory => 4,
+        }
+    }
+
+    /// Whether what there is to say goes to standard output; else it goes to standard error.
+    pub fn is_output(&self) -> bool
+        ensures { result ≡ is_output_of (seen self.now) }
+    {
+        match self {
+            Outcome::Done(_) | Outcome::Made(_) | Outcome::Shown(_) | Outcome::Refused(_) => true,
+            Outcome::Misused(_)
+            | Outcome::Wordless
+            | Outcome::Unread(_)
+            | Outcome::Unwritten
+            | Outcome::OutOfMemory => false,
+        }
+    }
+}
+
+/// What is printed, ended by a line feed.
+impl fmt::Display for Outcome<'_> {
+    ghost output = { λ outcome. Some (text_of (seen outcome)) };
+
+    fn fmt<W: fmt::Write>(&self, f: &mut fmt::Formatter<W>) -> fmt::Result {
+        match self {
+            Outcome::Done(figures) => writeln!(f, "{figures}"),
+            Outcome::Made(text) => writeln!(f, "{text}"),
+            Outcome::Refused(refusal) => writeln!(f, "{refusal}"),
+            Outcome::Shown(text) | Outcome::Misused(text) => f.write_str(text.as_str()),
+            Outcome::Wordless => f.write_str("error: the words can't be read\n"),
+            Outcome::Unread(path) => writeln!(f, "fault reading {path}"),
+            Outcome::Unwritten => f.write_str("fault writing -\n"),
+            Outcome::OutOfMemory => f.write_str("out of memory\n"),
+        }
+    }
+}
+
+/// Want of memory is an outcome of its own.
+impl From<Refusal> for Outcome<'_> {
+    ghost from_gives = { λ refusal outcome. outcome ≡ refused_by refusal };
+
+    fn from(refusal: Refusal) -> Self {
+        if refusal.is_want_of_memory() {
+            Outcome::OutOfMemory
+        } else {
+            Outcome::Refused(refusal)
+        }
+    }
+}

@@ -1,0 +1,99 @@
+//! Refusals, as the program prints them.
+
+ghost use Rattle.std.specs.Prelude.{◌≡◌, Some};
+ghost use Rattle.pp_judge.specs.Steps.{is_want_of_memory};
+ghost use Rattle.pp_text.specs.Views.{row_of as printed};
+ghost use Rattle.pp_judge.specs.Lines.{refusal_line, row_of};
+ghost use Rattle.pp_judge.specs.declared.refusal.Refusal.TheVariants.{Settings, Plan, Certificate, Annotate};
+
+use pp_annotate::AnnotateError;
+use pp_cert::{CertError, CheckError};
+use pp_plan::PlanError;
+use pp_settings::SettingsError;
+use std::fmt;
+
+/// Why the files of a command are refused: the first refusal, in the order of the files.
+#[derive(Clone, Copy, Debug, PartialEq, Eq)]
+pub enum Refusal {
+    /// The first file gives no settings.
+    Settings(SettingsError),
+    /// The second file gives no plan under these settings.
+    Plan(PlanError),
+    /// The third file gives no certificate for this plan.
+    Certificate(CertError),
+    /// The certificate is not one of this plan.
+    Check(CheckError),
+    /// The plan has no certificate under these settings.
+    Annotate(AnnotateError),
+}
+
+impl Refusal {
+    /// Whether this is no refusal of a file, but want of memory.
+    pub fn is_want_of_memory(&self) -> bool
+        ensures { result ≡ is_want_of_memory self.now }
+    {
+        matches!(
+            self,
+            Refusal::Settings(SettingsError::OutOfMemory)
+                | Refusal::Plan(PlanError::OutOfMemory)
+                | Refusal::Certificate(CertError::OutOfMemory)
+                | Refusal::Annotate(AnnotateError::OutOfMemory)
+        )
+    }
+
+    /// The number, the name and what the refusal is about.
+    fn printed(&self) -> pp_text::Refusal
+        ensures { printed result ≡ row_of self.now }
+    {
+        match self {
+            Refusal::Settings(error) => error.refusal(),
+            Refusal::Plan(error) => error.refusal(),
+            Refusal::Certificate(error) => error.refusal(),
+            Refusal::Check(error) => error.refusal(),
+            Refusal::Annotate(error) => error.refusal(),
+        }
+    }
+}
+
+/// The line without its line feed: `refused`, the number, the name and what it is about, as in
+/// `refused 4 Range frames`, `refused 31 NotesShort at 8` and `refused 43 StepsTooFew`.
+impl fmt::Display for Refusal {
+    ghost output = { λ refusal. Some (refusal_line refusal) };
+
+    fn fmt<W: fmt::Write>(&self, f: &mut fmt::Formatter<W>) -> fmt::Result {
+        let refusal = self.printed();
+        write!(f, "refused {refusal}")
+    }
+}
+
+impl From<SettingsError> for Refusal {
+    ghost from_gives = { λ error refusal. refusal ≡ Settings error };
+
+    fn from(error: SettingsError) -> Refusal {
+        Refusal::Settings(error)
+    }
+}
+
+impl From<PlanError> for Refusal {
+    ghost from_gives = { λ error refusal. refusal ≡ Plan error };
+
+    fn from(error: PlanError) -> Refusal {
+        Refusal::Plan(error)
+    }
+}
+
+impl From<CertError> for Refusal {
+    ghost from_gives = { λ error refusal. refusal ≡ Certificate error };
+
+    fn from(error: CertError) -> Refusal {
+        Refusal::Certificate(error)
+    }
+}
+
+impl From<AnnotateError> for Refusal {
+    ghost from_gives = { λ error refusal. refusal ≡ Annotate error };
+
+    fn from(error: AnnotateError) -> Refusal {
+        Refusal::Annotate(error)
+    }
+}

@@ -1,0 +1,129 @@
+-- Laws of reached states, in the words of those who use a pool.
+use Rattle.std.specs.Prelude.{◌≡◌, ◌≢◌, ◌⊎◌, ℕ, ◌+◌, ◌<◌, ◌≤◌, false, None, Some, List, [], ◌∷◌, ◌++◌, length}
+use Rattle.std.specs.Prelude.{All, IsTrue}
+use Rattle.pp_plan.specs.declared.mode.Mode.{Mode}
+use Rattle.pp_plan.specs.declared.action.Action.TheVariants as action
+use Rattle.pp_cert.specs.Held.{IsAboveLatched}
+use Rattle.pp_cert.specs.Accepted.{Acceptance, IsAccepted}
+use Rattle.pp_arc.specs.FourLists.{is_cached, cached_count}
+use Rattle.pp_frames.specs.Marks.{marks_of, with_marks}
+use Rattle.pp_model.specs.declared.event.Event.{Event}
+use Rattle.pp_model.specs.declared.event.Event.TheVariants.{Submit, Step}
+use Rattle.pp_model.specs.declared.moves.Move.{Move}
+use Rattle.pp_model.specs.declared.moves.Move.TheVariants as moves
+use Rattle.pp_model.specs.declared.refusals.Delay.TheVariants.{FlushHolds}
+use Rattle.pp_model.specs.declared.reply.Reply.TheVariants.{NotNow}
+use Rattle.pp_model.specs.Pool.{acting, Running, Flush, State}
+use Rattle.pp_model.specs.Holders.{holdings, loading, is_taken, readers_of, writers_of, errands_of}
+use Rattle.pp_model.specs.Budget.{cost_of, bound}
+use Rattle.pp_model.specs.Moves.{seat_of, reply_of, next_of, is_possible, IsPossible}
+use Rattle.pp_model.specs.Submitting.{submit_error, after_submit}
+use Rattle.pp_model.specs.Runs.{Input, plan, move, run, state_after, count_done}
+use Rattle.pp_model.specs.Journals.{IsJournalOf}
+use Rattle.pp_model.specs.Reached.{IsReached}
+use Rattle.pp_model.specs.Marks.{marks_at, marks}
+use Rattle.pp_model.specs.Turns.{Asks}
+
+-- ---- all frames fixed
+
+-- A fix of the page finds all frames fixed: the page isn't cached, the cache is full, and every cached page is taken.
+pub record IsAllFixed (s : State) (page : ℕ) : Type 0 where
+  pub away : is_cached s.lists page ≡ false
+  pub full : cached_count s.lists ≡ s.settings.layout.frames
+  pub fixed : (q : ℕ) → IsTrue (is_cached s.lists q) → IsTrue (is_taken s q)
+
+-- Worker w runs its plan, and no errand is out for it.
+pub record IsActing (s : State) (w : ℕ) (r : Running) : Type 0 where
+  pub seat : seat_of s w ≡ Some (Some r)
+  pub stage : r.stage ≡ acting
+
+-- No worker can find all frames fixed at a fix that its plan asks.
+abbrev pub NoneStuck : State → Type 0
+NoneStuck s =
+    (w slot page : ℕ) (r : Running) → IsActing s w r → Asks r (action.Fix slot page) → ¬ IsAllFixed s page
+
+-- A fix is answered that a flush holds the frames only where a flush is in flight of a page that isn't taken.
+abbrev pub FlushHoldsAlone : State → Type 0
+FlushHoldsAlone s =
+    (w page : ℕ) → reply_of s (moves.Fix w page) ≡ NotNow FlushHolds
+    → (f : Flush) × (s.flush ≡ Some f) × (is_taken s f.page ≡ false)
+
+-- ---- a worker's slots
+
+-- What a worker holds, together with the page that is loaded for it, is at most its plan's peak, counted by slots.
+abbrev pub WithinPeaks : State → Type 0
+WithinPeaks s =
+    (w : ℕ) (r : Running) → seat_of s w ≡ Some (Some r)
+    → length (holdings r) + length (loading r.stage) ≤ r.accepted.peak
+
+-- ---- latches
+
+-- No worker asks a latch against the order of the classes: the class of the page that it asks for is greater than that
+-- of each page that it has latched.
+abbrev pub InOrder : State → Type 0
+InOrder s =
+    (w slot : ℕ) (m : Mode) (r : Running) → IsActing s w r → Asks r (action.Latch slot m)
+    → IsAboveLatched r.accepted.plan.layout (holdings r) slot
+
+-- The latches on a page are all S, or a single X.
+abbrev pub LatchesAgree : State → Type 0
+LatchesAgree s =
+    (page : ℕ) → (writers_of s page ≡ 0) ⊎ ((writers_of s page ≡ 1) × (readers_of s page ≡ 0))
+
+-- ---- errands
+
+-- No page has two errands of workers out: it is read for one alone, or written back as a victim for one alone.
+abbrev pub OneErrand : State → Type 0
+OneErrand s = (page : ℕ) → errands_of s page ≤ 1
+
+-- ---- the bound
+
+-- Each move that is done lowers the bound by 1 at least, and one that is refused leaves the state.
+abbrev pub BoundFalls : State → Type 0
+BoundFalls s = (m : Move) → IsPossible s m → bound (next_of s m) + 1 ≤ bound s
+
+abbrev pub RefusedLeaves : State → Type 0
+RefusedLeaves s = (m : Move) → is_possible s m ≡ false → next_of s m ≡ s
+
+-- A plan that is taken in raises the bound by its cost.
+abbrev pub BoundRises : State → Type 0
+BoundRises s = (a : Acceptance) → submit_error s a ≡ None → bound (after_submit s a) ≡ bound s + cost_of a
+
+-- A list of moves has at most as many done ones as the bound at its start.
+abbrev pub DoneWithinBound : State → Type 0
+DoneWithinBound s = (ms : List Move) → count_done s ms + bound (state_after s ms) ≤ bound s
+
+-- ---- going on
+
+-- Whatever comes to the pool, a move that is possible or refused or a plan that the checker accepted, a reached state
+-- follows.
+abbrev pub IsAcceptedInput : Input → Type 0
+IsAcceptedInput (plan a) = IsAccepted a
+IsAcceptedInput (move m) = Unit {0}
+
+abbrev pub StaysReached : State → Type 0
+StaysReached s = (inputs : List Input) → All IsAcceptedInput inputs → IsReached (run s inputs)
+
+-- A journal of the state and a possible move, with its reply, are a journal of the next state.
+abbrev pub JournalGrows : State → Type 0
+JournalGrows s =
+    (es : List Event) (m : Move) → IsJournalOf s es → IsPossible s m
+    → IsJournalOf (next_of s m) (es ++ Step m (reply_of s m) ∷ [])
+
+-- The same of a plan that is taken in.
+abbrev pub JournalTakesIn : State → Type 0
+JournalTakesIn s =
+    (es : List Event) (a : Acceptance) → IsJournalOf s es → submit_error s a ≡ None
+    → IsJournalOf (after_submit s a) (es ++ Submit (length s.plans) ∷ [])
+
+-- ---- the marks of all pages
+
+-- The map has of each page what is marked of it.
+abbrev pub MarksTell : State → Type 0
+MarksTell s = (page : ℕ) → page < length s.notes → marks_of (marks s) page ≡ marks_at s page
+
+-- Where two states of one pool differ in the marks of one page alone, so do their maps.
+abbrev pub OnePageChanges : (s t : State) → Type 0
+OnePageChanges s t =
+    (page : ℕ) → ((q : ℕ) → q ≢ page → marks_at t q ≡ marks_at s q)
+    → marks t ≡ with_marks (marks s) page (marks_at t page)

@@ -1,0 +1,64 @@
+//! Laws of every reached state: of every state to which a true journal leads, over plans that the checker accepted.
+
+ghost use Rattle.std.specs.Prelude.{◌≡◌, ◌≤◌, length};
+ghost use Rattle.pp_arc.specs.Bounds.{IsWithinBounds};
+ghost use Rattle.pp_model.specs.Pool.{State, Settings, opening};
+ghost use Rattle.pp_model.specs.Budget.{running_peaks};
+ghost use Rattle.pp_model.specs.Reached.{IsSettings, IsReached};
+ghost use Rattle.pp_model.specs.Laws.{WithinPeaks, NoneStuck, FlushHoldsAlone, InOrder, LatchesAgree, OneErrand};
+ghost use Rattle.pp_model.specs.Laws.{BoundFalls, RefusedLeaves, BoundRises, DoneWithinBound, StaysReached};
+ghost use Rattle.pp_model.specs.Laws.{JournalGrows, JournalTakesIn, MarksTell, OnePageChanges};
+
+/// Room: the peaks of all plans that run sum to at most the frames, and each worker holds and loads at most its peak.
+pub fn peaks_fit()
+    ensures together { (s : State) → IsReached s → running_peaks s ≤ s.settings.layout.frames }
+    ensures each { (s : State) → IsReached s → WithinPeaks s }
+{}
+
+/// No worker can find all frames fixed at a fix that its plan asks. A fix that has to wait for the flusher waits for
+/// nobody else.
+pub fn frames_suffice()
+    ensures none_stuck { (s : State) → IsReached s → NoneStuck s }
+    ensures flush_alone { (s : State) → IsReached s → FlushHoldsAlone s }
+{}
+
+/// Latches are asked by rising classes, and those on one page are all S or a single X.
+pub fn latches_agree()
+    ensures in_order { (s : State) → IsReached s → InOrder s }
+    ensures on_a_page { (s : State) → IsReached s → LatchesAgree s }
+{}
+
+/// No page has two errands of workers out.
+pub fn errands_are_apart()
+    ensures one { (s : State) → IsReached s → OneErrand s }
+{}
+
+/// ARC's bounds hold of the state's lists.
+pub fn lists_are_bounded()
+    ensures bounds { (s : State) → IsReached s → IsWithinBounds s.lists }
+{}
+
+/// Each move that is done lowers the bound by 1 at least, one that is refused leaves the state, and a plan that is
+/// taken in raises the bound by its cost. So a list of moves has at most as many done ones as the bound at its start.
+pub fn moves_are_bounded()
+    ensures falls { (s : State) → IsReached s → BoundFalls s }
+    ensures refused { (s : State) → RefusedLeaves s }
+    ensures rises { (s : State) → IsReached s → BoundRises s }
+    ensures lists { (s : State) → IsReached s → DoneWithinBound s }
+{}
+
+/// The opening state is reached, and so is whatever follows a reached state, also by moves and plans that are refused.
+/// A journal grows by what is done.
+pub fn runs_stay_reached()
+    ensures opens { (k : Settings) → IsSettings k → IsReached (opening k) }
+    ensures goes_on { (s : State) → IsReached s → StaysReached s }
+    ensures steps { (s : State) → JournalGrows s }
+    ensures submits { (s : State) → JournalTakesIn s }
+{}
+
+/// The map of the marks has of each page what the state says of it, and changes as the state does, page by page.
+pub fn marks_go_by_page()
+    ensures tell { (s : State) → MarksTell s }
+    ensures change { (s t : State) → s.settings.layout.frames ≡ t.settings.layout.frames
+        → length s.notes ≡ length t.notes → OnePageChanges s t }
+{}

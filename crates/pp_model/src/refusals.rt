@@ -1,0 +1,100 @@
+//! Why a move or a plan is refused.
+
+ghost use Rattle.std.specs.Prelude.{Some};
+
+use std::fmt;
+
+/// Why a move isn't possible now. It may become possible without the mover's doing.
+#[derive(Clone, Copy, Debug, PartialEq, Eq)]
+pub enum Delay {
+    /// No plan waits.
+    NothingWaiting,
+    /// The peak of the first plan that waits doesn't fit beside the running peaks.
+    NoRoom,
+    /// The page is being loaded for a worker, also where its victim is still being written, or is written back as a
+    /// victim.
+    InFlight,
+    /// Every page that could leave the cache is taken, or is the one being flushed.
+    FlushHolds,
+    /// A latch stands on the page that doesn't go with the one that is asked for, or an X latch, where a flush would begin.
+    LatchHeld,
+    /// A flush is in flight.
+    FlushBusy,
+}
+
+impl fmt::Display for Delay {
+    ghost use Rattle.pp_model.specs.Words.{delay_word};
+
+    ghost output = { λ delay. Some (delay_word delay) };
+
+    fn fmt<W: fmt::Write>(&self, f: &mut fmt::Formatter<W>) -> fmt::Result {
+        f.write_str(match self {
+            Delay::NothingWaiting => "nothingwaiting",
+            Delay::NoRoom => "noroom",
+            Delay::InFlight => "inflight",
+            Delay::FlushHolds => "flushholds",
+            Delay::LatchHeld => "latchheld",
+            Delay::FlushBusy => "flushbusy",
+        })
+    }
+}
+
+/// Why a move isn't one that may be asked here at all.
+#[derive(Clone, Copy, Debug, PartialEq, Eq)]
+pub enum Cause {
+    /// There is no worker of this number.
+    NoWorker,
+    /// The worker isn't idle.
+    NotIdle,
+    /// The worker doesn't act in its plan.
+    NotActing,
+    /// The worker's plan asks something else.
+    NotAsked,
+    /// No errand is out that could be answered so.
+    NoErrand,
+    /// The worker doesn't leave its plan.
+    NotLeaving,
+    /// The slot isn't held any more.
+    NotHeld,
+    /// The plan isn't at its end, or a slot is still held.
+    NotEnded,
+    /// The page isn't cached, or isn't newer than the device's.
+    NotDirty,
+    /// All flushes of this run were begun.
+    NoFlushLeft,
+}
+
+impl fmt::Display for Cause {
+    ghost use Rattle.pp_model.specs.Words.{cause_word};
+
+    ghost output = { λ cause. Some (cause_word cause) };
+
+    fn fmt<W: fmt::Write>(&self, f: &mut fmt::Formatter<W>) -> fmt::Result {
+        f.write_str(match self {
+            Cause::NoWorker => "noworker",
+            Cause::NotIdle => "notidle",
+            Cause::NotActing => "notacting",
+            Cause::NotAsked => "notasked",
+            Cause::NoErrand => "noerrand",
+            Cause::NotLeaving => "notleaving",
+            Cause::NotHeld => "notheld",
+            Cause::NotEnded => "notended",
+            Cause::NotDirty => "notdirty",
+            Cause::NoFlushLeft => "noflushleft",
+        })
+    }
+}
+
+/// Why a plan isn't taken in.
+#[derive(Clone, Copy, Debug, PartialEq, Eq, thiserror::Error)]
+pub enum SubmitError {
+    /// It was accepted under another layout than the pool's.
+    #[error("the plan was accepted under other settings")]
+    OtherSettings,
+    /// As many plans were submitted as a pool keeps.
+    #[error("as many plans were submitted as a pool keeps")]
+    TooManyPlans,
+    /// The events of all plans and flushes would not fit a journal.
+    #[error("the journal of all plans and flushes would be too long")]
+    JournalLimit,
+}

@@ -1,0 +1,87 @@
+//! What the pool answers.
+
+ghost use Rattle.std.specs.Prelude.{Some};
+
+use crate::refusals::{Cause, Delay};
+use std::fmt;
+
+/// Why a fix failed at the device.
+#[derive(Clone, Copy, Debug, PartialEq, Eq)]
+pub enum Failure {
+    /// The victim could not be written back.
+    WriteFault,
+    /// The page could not be read.
+    ReadFault,
+    /// What was read is an image of another page, or has another stamp than the known one, or, where none is known, a
+    /// stamp of 2^62 or more.
+    Misread,
+}
+
+impl fmt::Display for Failure {
+    ghost use Rattle.pp_model.specs.Words.{failure_word};
+
+    ghost output = { λ failure. Some (failure_word failure) };
+
+    fn fmt<W: fmt::Write>(&self, f: &mut fmt::Formatter<W>) -> fmt::Result {
+        f.write_str(match self {
+            Failure::WriteFault => "write",
+            Failure::ReadFault => "read",
+            Failure::Misread => "misread",
+        })
+    }
+}
+
+/// How a worker ended its plan.
+#[derive(Clone, Copy, Debug, PartialEq, Eq)]
+pub enum Ending {
+    /// At the plan's end.
+    Done,
+    /// Before it, after a fix that failed.
+    Gone,
+}
+
+impl fmt::Display for Ending {
+    ghost use Rattle.pp_model.specs.Words.{ending_word};
+
+    ghost output = { λ ending. Some (ending_word ending) };
+
+    fn fmt<W: fmt::Write>(&self, f: &mut fmt::Formatter<W>) -> fmt::Result {
+        f.write_str(match self {
+            Ending::Done => "done",
+            Ending::Gone => "gone",
+        })
+    }
+}
+
+/// What a move is answered.
+#[derive(Clone, Copy, Debug, PartialEq, Eq)]
+pub enum Reply {
+    /// The worker runs the plan of this number from now on.
+    Taken { plan: u32 },
+    /// The page was cached already, in this frame, and has this mark.
+    Hit { frame: u32, mark: u64 },
+    /// The device has to read the page into this frame.
+    MustRead { frame: u32 },
+    /// The device has to write this victim back first, whose frame the page gets.
+    MustWrite { frame: u32, victim: u32 },
+    /// The fix failed, and the worker leaves its plan.
+    Failed(Failure),
+    /// The page was read, and has this mark.
+    Loaded { mark: u64 },
+    /// The move is done.
+    Did,
+    /// The page is latched, and has this mark.
+    Latched { mark: u64 },
+    /// The worker's latch is off the page, which has this mark.
+    Unlatched { mark: u64 },
+    /// The worker is idle again.
+    Finished(Ending),
+    /// The page is to be written, as it is with this mark.
+    Flushing { mark: u64 },
+    /// The flush is over, and the page is as the device has it; or it isn't, and the page is still newer.
+    Flushed { clean: bool },
+    /// The move isn't possible now. Nothing has changed.
+    NotNow(Delay),
+    /// The move isn't one that may be asked here. Nothing has changed.
+    OffPlan(Cause),
+}

@@ -1,0 +1,277 @@
+//! Certificates: how they are made, written, read and checked at their limits, and how refusals are told.
+
+use pp_annotate::{AnnotateError, annotate};
+use pp_cert::{
+    CertError, Certificate, CheckError, Entry, Held, Note, check, fault_under, longest_trace,
+};
+use pp_plan::Plan;
+use pp_settings::Settings;
+use std::alloc::Global;
+use std::process::Abort;
+use std::test::*;
+
+/// Settings of two regions, `root` of class 1 and `leaf` of class 2, behind their number of frames.
+const REGIONS: &str = "
+page_bytes = 64
+workers = 2
+flushes = 4
+
+[[region]]
+name = \"root\"
+first = 0
+count = 4
+class = 1
+
+[[region]]
+name = \"leaf\"
+first = 16
+count = 8
+class = 2
+";
+
+/// The settings with this many frames.
+fn settings_of(alloc: Global, frames: u32) -> Result<Settings, Fail> {
+    let text = format!(in alloc; "frames = {frames}{REGIONS}")?;
+    Ok(Settings::from_text(alloc, &text)?)
+}
+
+/// Compares two texts.
+fn same_text(rt: &impl Abort, got: &str, want: &str) {
+    assert_eq!(rt; got, want);
+}
+
+/// Compares two numbers.
+fn same_number(rt: &impl Abort, got: u64, want: u64) {
+    assert_eq!(rt; got, want);
+}
+
+#[test]
+fn faults_are_printed(rt: HostRuntime) -> Result<(), Fail> {
+    let most = u32::MAX;
+    for (fault, want) in [
+        (CheckError::NotesShort { place: 0 }, "31 NotesShort at 0"),
+        (CheckError::NotesLong { place: 9 }, "32 NotesLong at 9"),
+        (CheckError::NoteDiffers { place: 8 }, "33 NoteDiffers at 8"),
+        (CheckError::SlotInUse { place: 0 }, "34 SlotInUse at 0"),
+        (CheckError::NotFixed { place: 8 }, "35 NotFixed at 8"),
+        (
+            CheckError::StillLatched { place: 7 },
+            "36 StillLatched at 7",
+        ),
+        (CheckError::NotLatched { place: 8 }, "37 NotLatched at 8"),
+        (
+            CheckError::AgainstOrder { place: 3 },
+            "38 AgainstOrder at 3",
+        ),
+        (CheckError::OverPeak { place: 3 }, "39 OverPeak at 3"),
+        (CheckError::LoopChanges { place: 2 }, "40 LoopChanges at 2"),
+        (
+            CheckError::BranchDiffers { place: 3 },
+            "41 BranchDiffers at 3",
+        ),
+        (
+            CheckError::EndsHolding { place: most },
+            "42 EndsHolding at 4294967295",
+        ),
+        (CheckError::StepsTooFew, "43 StepsTooFew"),
+        (CheckError::StepsTooMany, "44 StepsTooMany"),
+        (CheckError::PeakTooBig, "45 PeakTooBig"),
+        (CheckError::OtherSettings, "46 OtherSettings"),
+    ] {
+        let refusal = fault.refusal();
+        let got = format!(in rt.alloc(); "{refusal}")?;
+        same_text(&rt, &got, want);
+        let refusal = AnnotateError::Fault(fault).refusal();
+        let got = format!(in rt.alloc(); "{refusal}")?;
+        same_text(&rt, &got, want);
+    }
+    Ok(())
+}
+
+#[test]
+fn refusals_of_texts_are_printed(rt: HostRuntime) -> Result<(), Fail> {
+    for (error, want) in [
+        (CertError::NotJson, "21 NotJson"),
+        (CertError::WrongField, "22 WrongField"),
+        (CertError::UnknownName, "23 UnknownName"),
+        (CertError::TooMany, "24 TooMany"),
+        (CertError::OutOfMemory, "19 OutOfMemory"),
+    ] {
+        let refusal = error.refusal();
+        let got = format!(in rt.alloc(); "{refusal}")?;
+        same_text(&rt, &got, want);
+    }
+    let refusal = AnnotateError::OutOfMemory.refusal();
+    let got = format!(in rt.alloc(); "{refusal}")?;
+    same_text(&rt, &got, "19 OutOfMemory");
+    Ok(())
+}
+
+#[test]
+fn refusals_are_told_to_people(rt: HostRuntime) -> Result<(), Fail> {
+    let fault = CheckError::OverPeak { place: 3 };
+    let want = "the note at place 3 holds more slots than the peak";
+    let got = format!(in rt.alloc(); "{fault}")?;
+    same_text(&rt, &got, want);
+    let made = AnnotateError::Fault(fault);
+    let got = format!(in rt.alloc(); "{made}")?;
+    same_text(&rt, &got, want);
+    let error = CertError::TooMany;
+    let got = format!(in rt.alloc(); "{error}")?;
+    same_text(
+        &rt,
+        &got,
+        "the certificate has too many notes, or a note has too many entries",
+    );
+    Ok(())
+}
+
+#[test]
+fn refusals_have_their_parts(rt: HostRuntime) {
+    let fault = CheckError::LoopChanges { place: 2 };
+    let made = AnnotateError::Fault(fault);
+    same_number(&rt, u64::from(fault.number()), 40);
+    same_text(&rt, fault.name(), "LoopChanges");
+    same_number(&rt, u64::from(fault.place().unwrap_or(9)), 2);
+    same_number(&rt, u64::from(made.number()), 40);
+    same_text(&rt, made.name(), "LoopChanges");
+    same_number(&rt, u64::from(made.place().unwrap_or(9)), 2);
+    same_number(&rt, u64::from(CertError::UnknownName.number()), 23);
+    same_text(&rt, CertError::UnknownName.name(), "UnknownName");
+}
+
+#[test]
+fn a_note_gives_its_entries_back(rt: HostRuntime) -> Result<(), Fail> {
+    let entries = [
+        Entry {
+            slot: 0,
+            region: 1,
+            held: Held::S,
+        },
+        Entry {
+            slot: 31,
+            region: 63,
+            held: Held::Free,
+        },
+    ];
+    let note = Note::new(entries.to_vec(rt.alloc())?);
+    assert_eq!(rt; note.entries(), entries.as_slice());
+    let back = note.into_entries();
+    assert_eq!(rt; back.as_slice(), entries.as_slice());
+    Ok(())
+}
+
+#[test]
+fn a_refused_plan_comes_back(rt: HostRuntime) -> Result<(), Fail> {
+    let settings = settings_of(rt.alloc(), 3)?;
+    let others = settings_of(rt.alloc(), 2)?;
+    let text = "{\"body\":[{\"unfix\":\"a\"}],\"version\":1}";
+    let plan = Plan::from_text(rt.alloc(), &settings, text)?;
+    let certificate = Certificate {
+        peak: 0,
+        steps: 0,
+        notes: Vec::new(rt.alloc()),
+    };
+    let refused = check(&others, plan, &certificate).err();
+    assert_eq!(rt; refused.is_some(), true);
+    if let Some(back) = refused {
+        let (plan, fault) = back;
+        same_number(&rt, u64::from(fault.number()), 46);
+        same_number(&rt, plan.body().len() as u64, 1);
+        same_number(&rt, longest_trace(&plan), 1);
+        let own = fault_under(&settings.layout(), &plan, &certificate);
+        same_number(&rt, own.map_or(0, |fault| u64::from(fault.number())), 31);
+        let made = annotate(rt.alloc(), &others, &plan).err();
+        same_number(&rt, made.map_or(0, |error| u64::from(error.number())), 46);
+    }
+    Ok(())
+}
+
+/// Writes the piece so many times, with a comma before each.
+fn repeat(text: &mut String, piece: &str, count: u32) -> Result<(), Fail> {
+    for _ in 0..count {
+        text.push_str(",")?;
+        text.push_str(piece)?;
+    }
+    Ok(())
+}
+
+/// A plan of 4,096 statements that holds 32 slots for nearly all of them.
+fn greatest_plan(alloc: Global) -> Result<String, Fail> {
+    let mut text = String::from_str(alloc, "{\"body\":[{\"fix\":\"s0\",\"region\":\"root\"}")?;
+    for i in 1u8..32 {
+        let fix = format!(in alloc; ",{{\"fix\":\"s{i}\",\"region\":\"leaf\"}}")?;
+        text.push_str(&fix)?;
+    }
+    repeat(
+        &mut text,
+        "{\"latch\":\"s0\",\"mode\":\"X\"},{\"unlatch\":\"s0\"}",
+        2016,
+    )?;
+    for i in 0u8..32 {
+        let unfix = format!(in alloc; ",{{\"unfix\":\"s{i}\"}}")?;
+        text.push_str(&unfix)?;
+    }
+    text.push_str("],\"version\":1}")?;
+    Ok(text)
+}
+
+/// Makes the plan's certificate, writes it, reads it back and writes it again; gives what was read.
+fn made_again(
+    rt: &impl Abort,
+    alloc: Global,
+    settings: &Settings,
+    plan: &Plan,
+) -> Result<Certificate, Fail> {
+    let text = annotate(alloc, settings, plan)?.to_text(alloc, settings, plan)?;
+    assert!(rt; text.len() > 2_000_000);
+    let certificate = Certificate::from_text(alloc, settings, plan, &text)?;
+    let again = certificate.to_text(alloc, settings, plan)?;
+    same_text(rt, &again, &text);
+    Ok(certificate)
+}
+
+#[test]
+fn the_greatest_plan_is_annotated_and_checked(rt: HostRuntime) -> Result<(), Fail> {
+    let settings = settings_of(rt.alloc(), 32)?;
+    let plan = Plan::from_text(rt.alloc(), &settings, &greatest_plan(rt.alloc())?)?;
+    let certificate = made_again(&rt, rt.alloc(), &settings, &plan)?;
+    let accepted = check(&settings, plan, &certificate).ok();
+    assert_eq!(rt; accepted.is_some(), true);
+    if let Some(accepted) = accepted {
+        same_number(&rt, accepted.peak(), 32);
+        same_number(&rt, accepted.steps(), 4096);
+        same_number(&rt, accepted.cost(), 12_322);
+        same_number(&rt, u64::from(accepted.layout().frames()), 32);
+        same_number(&rt, accepted.plan().body().len() as u64, 4096);
+    }
+    Ok(())
+}
+
+/// What a program would say of a certificate with so many empty notes and then the last one, under the empty plan.
+fn answer(alloc: Global, settings: &Settings, count: u32, last: &str) -> Result<u8, Fail> {
+    let plan = Plan::from_text(alloc, settings, "{\"body\":[],\"version\":1}")?;
+    let mut text = String::from_str(alloc, "{\"notes\":[{}")?;
+    repeat(&mut text, "{}", count)?;
+    text.push_str(last)?;
+    text.push_str("],\"peak\":0,\"steps\":0}")?;
+    match Certificate::from_text(alloc, settings, &plan, &text) {
+        Ok(_) => Ok(0),
+        Err(error) => Ok(error.number()),
+    }
+}
+
+#[test]
+fn notes_have_their_limit(rt: HostRuntime) -> Result<(), Fail> {
+    let settings = settings_of(rt.alloc(), 3)?;
+    for (count, last, want) in [
+        (69_999u32, "", 0u64),
+        (70_000, "", 24),
+        (69_999, ",0", 24),
+        (69_998, ",0", 22),
+    ] {
+        let got = answer(rt.alloc(), &settings, count, last)?;
+        same_number(&rt, u64::from(got), want);
+    }
+    Ok(())
+}

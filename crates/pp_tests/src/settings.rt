@@ -1,0 +1,212 @@
+//! Settings that are read, and what they say.
+
+use pp_settings::{Extent, RegionKey, Settings, SettingsError, Spot, TopKey};
+use std::alloc::{AllocError, Global};
+use std::process::Abort;
+use std::test::*;
+
+/// Two regions, `root` of the pages 0 to 3 and `leaf` of the pages 16 to 23.
+const TWO_REGIONS: &str = "\
+frames = 3
+page_bytes = 64
+workers = 2
+flushes = 4
+
+[[region]]
+name = \"root\"
+first = 0
+count = 4
+class = 1
+
+[[region]]
+name = \"leaf\"
+first = 16
+count = 8
+class = 2
+";
+
+/// The document's own keys but for `region`, each at its greatest value.
+const HEAD: &str = "frames = 4096\npage_bytes = 65536\nworkers = 32\nflushes = 100000\n";
+
+/// A hundred bytes that say nothing.
+const COMMENT: &str = "\
+# Nothing is said here, and it is said at some length, so that the whole text becomes a long text..
+";
+
+fn number_is(rt: &impl Abort, got: u32, want: u32) {
+    assert_eq!(rt; got, want);
+}
+
+fn answer_is(rt: &impl Abort, got: Option<u8>, want: Option<u8>, page: u32) {
+    assert_eq!(rt; got, want, "page {page}");
+}
+
+fn text_is(rt: &impl Abort, got: &str, want: &str) {
+    assert_eq!(rt; got, want);
+}
+
+fn extent_is(rt: &impl Abort, got: Option<Extent>, want: Option<Extent>) {
+    assert_eq!(rt; got, want);
+}
+
+/// The region and the class of a page, by the settings and by their layout.
+fn page_is(rt: &impl Abort, settings: &Settings, page: u32, region: Option<u8>, class: Option<u8>) {
+    let layout = settings.layout();
+    answer_is(rt, settings.region_of(page), region, page);
+    answer_is(rt, layout.region_of(page), region, page);
+    answer_is(rt, settings.class_of(page), class, page);
+    answer_is(rt, layout.class_of(page), class, page);
+}
+
+/// The region with the name has it.
+fn name_is(rt: &impl Abort, settings: &Settings, name: &str) {
+    if let Some(region) = settings.region(name) {
+        text_is(rt, settings.name(region), name);
+    }
+}
+
+#[test]
+fn two_regions(rt: HostRuntime) -> Result<(), Fail> {
+    let settings = Settings::from_text(rt.alloc(), TWO_REGIONS)?;
+    let layout = settings.layout();
+    for (got, want) in [
+        (settings.frames(), 3),
+        (settings.page_bytes(), 64),
+        (settings.workers(), 2),
+        (settings.flushes(), 4),
+        (settings.pages(), 24),
+        (layout.frames(), 3),
+        (layout.pages(), 24),
+    ] {
+        number_is(&rt, got, want);
+    }
+    for (name, want) in [("root", Some(0)), ("leaf", Some(1)), ("roo", None)] {
+        answer_is(&rt, settings.region(name), want, 0);
+        name_is(&rt, &settings, name);
+    }
+    for (page, region, class) in [
+        (0, Some(0), Some(1)),
+        (3, Some(0), Some(1)),
+        (4, None, None),
+        (15, None, None),
+        (16, Some(1), Some(2)),
+        (23, Some(1), Some(2)),
+        (24, None, None),
+        (u32::MAX, None, None),
+    ] {
+        page_is(&rt, &settings, page, region, class);
+    }
+    let leaf = Extent {
+        first: 16,
+        count: 8,
+        class: 2,
+    };
+    extent_is(&rt, layout.extent(1), Some(leaf));
+    extent_is(&rt, layout.extent(2), None);
+    Ok(())
+}
+
+/// A text of 64 regions that share out all pages, with comments of 1,600 bytes before each.
+fn long_text(alloc: Global) -> Result<String, AllocError> {
+    let mut text = String::from_str(alloc, HEAD)?;
+    for i in 0u32..64 {
+        for _ in 0..16 {
+            text.push_str(COMMENT)?;
+        }
+        let first = 1024 * i;
+        let region = format!(in alloc;
+            "[[region]]\nname = \"r{i}\"\nfirst = {first}\ncount = 1024\nclass = {i}\n"
+        )?;
+        text.push_str(&region)?;
+    }
+    Ok(text)
+}
+
+#[test]
+fn sixty_four_regions_in_a_long_text(rt: HostRuntime) -> Result<(), Fail> {
+    let text = long_text(rt.alloc())?;
+    number_is(&rt, u32::from(text.len() > 100_000), 1);
+    let settings = Settings::from_text(rt.alloc(), &text)?;
+    for (got, want) in [
+        (settings.frames(), 4096),
+        (settings.page_bytes(), 65_536),
+        (settings.workers(), 32),
+        (settings.flushes(), 100_000),
+        (settings.pages(), 65_536),
+    ] {
+        number_is(&rt, got, want);
+    }
+    answer_is(&rt, settings.region("r63"), Some(63), 0);
+    name_is(&rt, &settings, "r63");
+    for (page, region) in [
+        (0, Some(0)),
+        (1023, Some(0)),
+        (1024, Some(1)),
+        (65_535, Some(63)),
+        (65_536, None),
+    ] {
+        page_is(&rt, &settings, page, region, region);
+    }
+    let last = Extent {
+        first: 64_512,
+        count: 1024,
+        class: 63,
+    };
+    extent_is(&rt, settings.layout().extent(63), Some(last));
+    extent_is(&rt, settings.layout().extent(64), None);
+    Ok(())
+}
+
+#[test]
+fn errors_for_people(rt: HostRuntime) -> Result<(), Fail> {
+    for (error, number, name, want) in [
+        (
+            SettingsError::NotToml,
+            1,
+            "NotToml",
+            "the text is not a TOML document",
+        ),
+        (
+            SettingsError::Missing(Spot::InRegion(2, RegionKey::Class)),
+            2,
+            "Missing",
+            "a key is missing: region 2 class",
+        ),
+        (
+            SettingsError::Unknown(None),
+            3,
+            "Unknown",
+            "a key is not known",
+        ),
+        (
+            SettingsError::Range(Spot::Top(TopKey::PageBytes)),
+            4,
+            "Range",
+            "a value is out of its limits, or of another kind: page_bytes",
+        ),
+        (
+            SettingsError::Overlap(1),
+            5,
+            "Overlap",
+            "region 1 has a page of an earlier region",
+        ),
+        (
+            SettingsError::SameName(1),
+            6,
+            "SameName",
+            "region 1 has the name of an earlier region",
+        ),
+        (
+            SettingsError::OutOfMemory,
+            7,
+            "OutOfMemory",
+            "out of memory",
+        ),
+    ] {
+        number_is(&rt, u32::from(error.number()), number);
+        text_is(&rt, error.name(), name);
+        let text = format!(in rt.alloc(); "{error}")?;
+        text_is(&rt, &text, want);
+    }
+    Ok(())
+}

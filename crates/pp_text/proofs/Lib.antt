@@ -1,0 +1,5 @@
+pub mod Steps
+pub mod Trees
+pub mod Keys
+pub mod Values
+pub mod Escapes

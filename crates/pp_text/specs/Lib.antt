@@ -1,0 +1,6 @@
+pub mod Steps
+pub mod Names
+pub mod Objects
+pub mod Words
+pub mod Refusals
+pub mod Views

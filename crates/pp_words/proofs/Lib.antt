@@ -1,0 +1,7 @@
+pub mod Asked
+pub mod Ended
+pub mod PlainWalk
+pub mod PlainCheck
+pub mod PlainAnnotate
+pub mod PlainWords
+pub mod Told

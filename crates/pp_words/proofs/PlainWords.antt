@@ -1,0 +1,7 @@
+-- What a command with plain words asks for.
+use Rattle.pp_words.specs.CommandLine.{PlainWordsAreThePaths}
+use Rattle.pp_words.proofs.PlainAnnotate.{plain_annotate}
+use Rattle.pp_words.proofs.PlainCheck.{plain_check}
+
+pub plain_words : PlainWordsAreThePaths
+plain_words = record { check = plain_check; annotate = plain_annotate }

@@ -1,0 +1,102 @@
+-- The program's command line, as `clap` reads it.
+use Rattle.std.specs.Prelude.{◌≡◌, Bool, true, List, [], ◌∷◌, Option, Some, None, codes, unwrap_or, if◌then◌else◌, not}
+use Rattle.std.specs.Prelude.{◌==◌}
+use Rattle.std.specs.Str.{bytes_eq}
+use Rattle.clap.specs.Walk.{Row, Rule, first_of}
+pub use Rattle.clap.specs.Walk.{Text}
+use Rattle.clap.specs.Simple.{App, new_app, new_rule, on_top, subcommand_of, with_rule, with_subcommand}
+use Rattle.clap.specs.Faults.{fault_of}
+use Rattle.clap.specs.Kinds.{Kinds}
+use Rattle.pp_words.specs.declared.check.CheckPaths.{CheckPaths}
+use Rattle.pp_words.specs.declared.annotate.AnnotatePaths.{AnnotatePaths}
+use Rattle.pp_words.specs.declared.request.Job.{Job}
+use Rattle.pp_words.specs.declared.request.Job.TheVariants.{Check, Annotate}
+
+-- a path that has to be given, as a word of its own
+abbrev pub path_rule : Text → Rule
+path_rule id = record (new_rule id) { required = true; value_names = 1 }
+
+-- `check SETTINGS PLAN CERT`
+abbrev pub check_command : App
+check_command =
+    with_rule (with_rule (with_rule (new_app (codes "check")) (path_rule (codes "settings")))
+    (path_rule (codes "plan"))) (path_rule (codes "certificate"))
+
+-- `annotate SETTINGS PLAN`
+abbrev pub annotate_command : App
+annotate_command =
+    with_rule (with_rule (new_app (codes "annotate")) (path_rule (codes "settings"))) (path_rule (codes "plan"))
+
+-- the program without its commands: it has a version, and wants a command
+abbrev pub program_alone : App
+program_alone = on_top (λ shape. record shape {
+  has_version = true;
+  subcommand_required = true;
+  arg_required_else_help = true;
+}) (new_app (codes "pinpool"))
+
+-- the program with its commands `check` and `annotate`
+abbrev pub program : App
+program = with_subcommand (with_subcommand program_alone check_command.top) annotate_command.top
+
+-- what words ask for: a command with the paths of its files
+pub data Asked : Type 0 where
+  check : (settings plan certificate : Text) → Asked
+  annotate : (settings plan : Text) → Asked
+
+-- a check of three files
+abbrev pub asked_check : CheckPaths → Asked
+asked_check p = check p.settings.now p.plan.now p.certificate.now
+
+-- a certificate made of two files
+abbrev pub asked_annotate : AnnotatePaths → Asked
+asked_annotate p = annotate p.settings.now p.plan.now
+
+-- what a job does
+abbrev pub asked_by : Job → Asked
+asked_by (Check p) = asked_check p
+asked_by (Annotate p) = asked_annotate p
+
+-- the first value of an argument; the arguments of the commands are required, so they have one
+abbrev pub value_among : List Row → Text → Text
+value_among rows id = unwrap_or (first_of id rows) []
+
+-- the values of the three arguments of `check`
+abbrev pub check_among : List Row → Asked
+check_among rows = check (value_among rows (codes "settings")) (value_among rows (codes "plan"))
+    (value_among rows (codes "certificate"))
+
+-- the values of the two arguments of `annotate`
+abbrev pub annotate_among : List Row → Asked
+annotate_among rows = annotate (value_among rows (codes "settings")) (value_among rows (codes "plan"))
+
+-- what a command of this name with the values of its arguments asks for
+abbrev pub asked_of : Option (Text × List Row) → Option Asked
+asked_of None = None
+asked_of (Some command) =
+    if bytes_eq command.0 (codes "check") then Some (check_among command.1)
+    else if bytes_eq command.0 (codes "annotate") then Some (annotate_among command.1)
+    else None
+
+-- what is found, where there is no fault
+abbrev pub unless_faulty : Kinds → Option Asked → Option Asked
+unless_faulty [] found = found
+unless_faulty (kind ∷ kinds) found = None
+
+-- what the words ask for, the program's name first: the command and the paths that `clap` matches, where it
+-- finds no fault in the words
+abbrev pub asked : List Text → Option Asked
+asked words = unless_faulty (fault_of program words) (asked_of (subcommand_of program words))
+
+-- the word doesn't begin with a hyphen, so it is no option
+abbrev pub is_plain_word : Text → Bool
+is_plain_word [] = true
+is_plain_word (first ∷ rest) = not (first == 45)
+
+-- plain words after a command are the paths of its files, in this order
+pub record PlainWordsAreThePaths : Type 0 where
+  pub check : (name settings plan certificate : Text) → is_plain_word settings ≡ true → is_plain_word plan ≡ true
+      → is_plain_word certificate ≡ true
+      → asked (name ∷ codes "check" ∷ settings ∷ plan ∷ certificate ∷ []) ≡ Some (check settings plan certificate)
+  pub annotate : (name settings plan : Text) → is_plain_word settings ≡ true → is_plain_word plan ≡ true
+      → asked (name ∷ codes "annotate" ∷ settings ∷ plan ∷ []) ≡ Some (annotate settings plan)

@@ -1,0 +1,44 @@
+//! The command `annotate SETTINGS PLAN`.
+
+ghost use Rattle.std.specs.Prelude.{◌≡◌, IfOk, false};
+ghost use Rattle.clap.specs.Words.{app_of, found_of, rows_of};
+ghost use Rattle.clap.specs.declared.builder.command.Command.TheViews.{out-Command};
+ghost use Rattle.pp_words.specs.CommandLine.{annotate_among, annotate_command, asked_annotate};
+
+use crate::parts::{plan, settings, value_of};
+use clap::{ArgMatches, Command};
+use std::alloc::{AllocError, Global};
+
+/// The two files of `annotate`, by their paths, in the order of the words.
+#[derive(Clone, Copy, Debug, PartialEq, Eq)]
+pub struct AnnotatePaths<'a> {
+    /// The settings of the pool, a TOML text.
+    pub settings: &'a str,
+    /// The plan, a JSON text.
+    pub plan: &'a str,
+}
+
+impl<'a> AnnotatePaths<'a> {
+    /// The command with its arguments.
+    pub fn command(alloc: Global) -> Result<Command<'a>, AllocError>
+        ensures { IfOk result (λ command. ((out-Command command).has_globals ≡ false)
+            × (app_of command ≡ annotate_command)) }
+    {
+        Command::new(alloc, "annotate")
+            .about(
+                "Makes the least certificate of a plan under the settings of a pool, and prints it.",
+            )
+            .arg(settings(alloc))?
+            .arg(plan(alloc))
+    }
+
+    /// The paths among the matches of the command.
+    pub fn among(matches: &ArgMatches<'a>) -> AnnotatePaths<'a>
+        ensures { asked_annotate result ≡ annotate_among (rows_of (found_of matches.now)) }
+    {
+        AnnotatePaths {
+            settings: value_of(matches, "settings"),
+            plan: value_of(matches, "plan"),
+        }
+    }
+}

@@ -1,0 +1,13 @@
+//! The words of the command line: what they ask for, as `clap` reads them.
+#![tactic(auto)]
+
+mod annotate;
+mod check;
+mod parts;
+mod request;
+mod words;
+
+pub use annotate::AnnotatePaths;
+pub use check::CheckPaths;
+pub use request::{Job, JobError};
+pub use words::job;

@@ -1,0 +1,52 @@
+//! What the commands share: arguments that are paths, and their values.
+
+ghost use Rattle.std.specs.Prelude.{◌≡◌, true, false, codes};
+ghost use Rattle.clap.specs.Words.{found_of, rows_of, rule_of};
+ghost use Rattle.pp_words.specs.CommandLine.{path_rule, value_among};
+
+use clap::{Arg, ArgMatches};
+use std::alloc::Global;
+
+/// The argument `SETTINGS`.
+pub fn settings<'a>(alloc: Global) -> Arg<'a>
+    ensures rule { rule_of result ≡ path_rule (codes "settings") }
+    ensures local { result.global ≡ false }
+{
+    path(
+        alloc,
+        "settings",
+        "SETTINGS",
+        "The settings of the pool: a TOML text",
+    )
+}
+
+/// The argument `PLAN`.
+pub fn plan<'a>(alloc: Global) -> Arg<'a>
+    ensures rule { rule_of result ≡ path_rule (codes "plan") }
+    ensures local { result.global ≡ false }
+{
+    path(
+        alloc,
+        "plan",
+        "PLAN",
+        "The plan, what a worker does with pages: a JSON text",
+    )
+}
+
+/// An argument that is the path of a file and has to be given.
+pub fn path<'a>(alloc: Global, id: &'a str, name: &'a str, help: &'a str) -> Arg<'a>
+    ensures rule { rule_of result ≡ path_rule id.entry.now }
+    ensures local { result.global ≡ false }
+{
+    Arg::new(alloc, id)
+        .required(true)
+        .value_name(name)
+        .help(help)
+}
+
+/// The value of an argument in the matches of a command; no text where it has none, which no required argument has.
+pub fn value_of<'a>(matches: &ArgMatches<'a>, id: &str) -> &'a str
+    ensures { result.now ≡ value_among (rows_of (found_of matches.now)) id.now }
+{
+    matches.get_str(id).unwrap_or("")
+}

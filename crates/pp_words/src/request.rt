@@ -1,0 +1,48 @@
+//! What the program's words ask for, and why they ask for nothing.
+
+ghost use Rattle.std.specs.Prelude.{◌≡◌};
+ghost use Rattle.pp_words.specs.declared.request.JobError.TheVariants.{OutOfMemory};
+
+use crate::annotate::AnnotatePaths;
+use crate::check::CheckPaths;
+use std::alloc::{AllocError, AllocFailed};
+use thiserror::Error;
+
+/// A command with what it works on. The paths are words of the command line.
+#[derive(Clone, Copy, Debug, PartialEq, Eq)]
+pub enum Job<'a> {
+    /// Check a plan's certificate: `check SETTINGS PLAN CERT`.
+    Check(CheckPaths<'a>),
+    /// Make a plan's certificate: `annotate SETTINGS PLAN`.
+    Annotate(AnnotatePaths<'a>),
+}
+
+/// Why words give no job.
+#[derive(Debug, Drop, Error)]
+pub enum JobError {
+    /// The words ask for the help or the version: this text, which ends with a line feed.
+    #[error("{0}")]
+    Shown(String),
+    /// The words are no command of the program: the fault's text with the usage, which ends with a line feed.
+    #[error("{0}")]
+    Words(String),
+    /// Memory ran out. It says nothing of the words.
+    #[error("out of memory")]
+    OutOfMemory,
+}
+
+impl From<AllocError> for JobError {
+    ghost from_gives = { λ _ e. e ≡ OutOfMemory };
+
+    fn from(_refused: AllocError) -> JobError {
+        JobError::OutOfMemory
+    }
+}
+
+impl<T: Drop> From<AllocFailed<T>> for JobError {
+    ghost from_gives = { λ _ e. e ≡ OutOfMemory };
+
+    fn from(_refused: AllocFailed<T>) -> JobError {
+        JobError::OutOfMemory
+    }
+}

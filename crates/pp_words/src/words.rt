@@ -1,0 +1,108 @@
+//! The program's whole command line, and the job that its words ask for.
+
+ghost use Rattle.std.specs.Prelude.{◌≡◌, map, IfOk, IfErr, IfSome, IsSome, string_bytes, option_map, true, Some};
+ghost use Rattle.clap.specs.Words.{app_of, fault_of, kind_of, subcommand_rows_of};
+ghost use Rattle.pp_words.specs.CommandLine.{asked, asked_by, asked_of, program, program_alone, PlainWordsAreThePaths};
+ghost use Rattle.pp_words.specs.Faults.{IsToldAs, IsToldBy};
+ghost use Rattle.pp_words.specs.Texts.{is_ended, with_line_feed, IsSaid};
+
+use crate::annotate::AnnotatePaths;
+use crate::check::CheckPaths;
+use crate::request::{Job, JobError};
+use clap::error::ErrorKind;
+use clap::{ArgMatches, Command};
+use std::alloc::{AllocError, Global};
+use std::convert::AsStr;
+use std::fmt::Display;
+
+/// Reads the program's words, its name first.
+///
+/// # Errors
+///
+/// `Shown` where the words ask for the help or the version, `Words` where they are no command of the program, and
+/// `OutOfMemory`.
+pub fn job<'a, S: AsStr>(alloc: Global, words: &'a [S]) -> Result<Job<'a>, JobError>
+    // The command and its paths are what the matches of the words give, and the words have no fault.
+    ensures ok { IfOk result (λ job. asked (map S.text words.entry.now) ≡ Some (asked_by job)) }
+    // Words that ask for a job are refused only for want of memory.
+    ensures err { IfErr result (λ error. IsSome (asked (map S.text words.entry.now))
+        → error ≡ JobError.OutOfMemory) }
+    // The help and the version are shown only where the words ask for them, and all other faults are told as such.
+    ensures told { IfErr result (IsToldBy (fault_of program (map S.text words.entry.now))) }
+    // The text of a fault, of the help or of the version ends with a line feed, and so is never empty.
+    ensures text { IfErr result IsSaid }
+    // What a command asks for where none of its paths begins with a hyphen.
+    ensures plain { PlainWordsAreThePaths }
+{
+    match command(alloc)?.try_get_matches_from(words) {
+        Ok(matches) => match job_of(&matches) {
+            Some(job) => Ok(job),
+            None => Err(JobError::Words(text_of(alloc, &"error: no command is named")?)),
+        },
+        Err(fault) => Err(refused(alloc, &fault)),
+    }
+}
+
+/// The command line of the program: its commands, one of which has to be named.
+fn command<'a>(alloc: Global) -> Result<Command<'a>, AllocError>
+    ensures { IfOk result (λ command. app_of command ≡ program) }
+{
+    let check = CheckPaths::command(alloc)?;
+    let annotate = AnnotatePaths::command(alloc)?;
+    top(alloc)?.subcommand(check)?.subcommand(annotate)
+}
+
+/// The program's command line without its commands.
+fn top<'a>(alloc: Global) -> Result<Command<'a>, AllocError>
+    ensures { IfOk result (λ command. app_of command ≡ program_alone) }
+{
+    let command = Command::new(alloc, "pinpool")
+        .version("0.1.0")
+        .about("Makes and checks the certificates of plans for a page buffer pool.")
+        .subcommand_required(true)
+        .arg_required_else_help(true);
+    // The name stands in the texts of faults and of the help, whatever the file of the program is called.
+    let named = command.bin_name("pinpool")?;
+    Ok(named)
+}
+
+/// The command that the matches name, with its paths.
+fn job_of<'a>(matches: &ArgMatches<'a>) -> Option<Job<'a>>
+    ensures { option_map asked_by result ≡ asked_of (subcommand_rows_of matches.now) }
+{
+    match matches.subcommand()? {
+        ("check", given) => Some(Job::Check(CheckPaths::among(given))),
+        ("annotate", given) => Some(Job::Annotate(AnnotatePaths::among(given))),
+        _ => None,
+    }
+}
+
+/// Why words with this fault give no job.
+fn refused(alloc: Global, fault: &clap::Error) -> JobError
+    ensures memory { kind_of fault.now ≡ ErrorKind.OutOfMemory → result ≡ JobError.OutOfMemory }
+    // The help and the version are shown, and a mistake is told as one.
+    ensures told { IsToldAs (kind_of fault.now) result }
+    ensures text { IsSaid result }
+{
+    if fault.kind() == ErrorKind::OutOfMemory {
+        return JobError::OutOfMemory;
+    }
+    match text_of(alloc, fault) {
+        Err(_) => JobError::OutOfMemory,
+        Ok(text) if fault.use_stderr() => JobError::Words(text),
+        Ok(text) => JobError::Shown(text),
+    }
+}
+
+/// The text that a value prints, ended by a line feed where it has none at its end.
+#[tactic(auto, using(crate::proofs::Ended::ended_after))]
+fn text_of<D: Display>(alloc: Global, value: &D) -> Result<String, AllocError>
+    ensures said { IfOk result (λ text. IfSome (D.output value.now) (λ said. string_bytes text ≡ with_line_feed said)) }
+    ensures ended { IfOk result (λ text. is_ended (string_bytes text) ≡ true) }
+{
+    let mut text = format!(in alloc; "{value}")?;
+    if !text.as_bytes().ends_with(b"\n") {
+        text.push_str("\n")?;
+    }
+    Ok(text)
+}
