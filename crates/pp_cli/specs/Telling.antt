@@ -12,7 +12,7 @@ IsPlaced bytes_of true text out out-after err err-after =
     Appends (bytes_of out) (bytes_of out-after) text × (err-after ≡ err)
 IsPlaced bytes_of false text out out-after err err-after = out-after ≡ out
 
--- standard output can't be written, or there is too little memory for it
+-- standard output can't be written, by its own word for want of memory or for another fault
 abbrev pub IsFaultOfWriting : Answer → Type 0
 IsFaultOfWriting unwritten = ⊤
 IsFaultOfWriting out_of_memory = ⊤

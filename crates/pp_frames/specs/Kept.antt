@@ -42,8 +42,7 @@ untouched_page =
     }
 
 -- What the code keeps: a record for each page, the number of all pins, the set of the free frames, and the set of the
--- pages
--- that let a flush begin.
+-- pages that let a flush begin.
 pub record Parts : Type 0 where
   pub pages : List Page
   pub pins : ℕ
@@ -64,8 +63,7 @@ pub record IsKept (p : Parts) : Type 0 where
   pub frames_fit : length p.free < 2 ^ 32
 
 -- The marks that a page may get in place of its own: the same frame, no pins without one, no more latches than pins,
--- and no
--- more pins in all than frames.
+-- and no more pins in all than frames.
 pub record Fits (m : PageMap) (page : ℕ) (marks : PageMarks) : Type 0 where
   pub frame : marks.frame ≡ frame_of m page
   pub placed : 0 < marks.pins → IsSome marks.frame

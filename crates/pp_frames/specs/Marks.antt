@@ -50,9 +50,8 @@ without_latch latches = Shared (latch_count latches - 1)
 
 -- ---- the map
 
--- What is noted of one page: the frame that has it, if one has it; how many pins and which latches stand on it; whether
--- its
--- bytes are newer than the disk's; and its stamp, where that is known.
+-- What is noted of one page: the frame that has it, if one has it; how many pins and which latches stand on it;
+-- whether its bytes are newer than the disk's; and its stamp, where that is known.
 pub record PageMarks : Type 0 where
   pub frame : Option ℕ
   pub pins : ℕ
@@ -159,10 +158,8 @@ pub record IsFlushable (m : PageMap) (page : ℕ) : Type 0 where
   pub no_writer : is_exclusive (latches_of m page) ≡ false
 
 -- Whatever calls were made: a page's frame is one of the pool's, no frame has two pages, a page with pins stands in a
--- frame,
--- a page has no more latches than pins, and there are no more pins in all than frames. That the latches of a page are
--- all
--- shared or a single exclusive one lies in the type Latches.
+-- frame, a page has no more latches than pins, and there are no more pins in all than frames. That the latches of a
+-- page are all shared or a single exclusive one lies in the type Latches.
 pub record IsSound (m : PageMap) : Type 0 where
   pub in_range : (page frame : ℕ) → frame_of m page ≡ Some frame → frame < m.frames
   pub no_frame_twice : (p q frame : ℕ) → frame_of m p ≡ Some frame → frame_of m q ≡ Some frame → p ≡ q

@@ -15,8 +15,7 @@ use std::marker::Model;
 /// What a pool notes of its pages, as a map from pages to frame, pins, latches, dirty mark and stamp.
 ///
 /// All its memory is got by [`Marks::new`]; no other call takes any. A page is placed before it is pinned, and pinned
-/// before
-/// it is latched.
+/// before it is latched.
 #[derive(Drop)]
 pub struct Marks {
     /// A record for each page.
@@ -381,8 +380,7 @@ impl Marks {
     }
 
     /// The least page number from this one on that is dirty, in a frame, and not latched X; where there is none from
-    /// this one
-    /// on, the least such page of all.
+    /// this one on, the least such page of all.
     pub fn dirty_from(&self, from: u32) -> Option<u32>
         ensures exact { result ≡ dirty_from self.now from }
         ensures none { IsNone result ↔ ((page : ℕ) → ¬ (IsFlushable self.now page)) }

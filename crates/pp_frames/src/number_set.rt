@@ -11,9 +11,8 @@ use std::marker::Model;
 /// A set of numbers below a limit.
 ///
 /// It keeps a bit for each number, 64 to a word, and above these a smaller set: of the words that have a bit. So a
-/// search
-/// passes over 64 words at once, over 4,096 on the next level, and so on. Two levels serve 4,096 numbers, three serve
-/// 262,144, and six serve all of `u32`.
+/// search passes over 64 words at once, over 4,096 on the next level, and so on. Two levels serve 4,096 numbers,
+/// three serve 262,144, and six serve all of `u32`.
 #[cycle(number_set)]
 #[derive(Drop)]
 pub struct NumberSet {

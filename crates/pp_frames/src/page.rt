@@ -10,8 +10,8 @@ use std::alloc::{AllocError, Global};
 /// What is kept of one page.
 ///
 /// A page has a frame only where `is_placed` is set, a stamp only where `is_stamped` is, and readers only where
-/// `has_writer`
-/// is not: flags beside plain numbers keep the record at 24 bytes, where an `Option` for each would make it 40.
+/// `has_writer` is not: flags beside plain numbers keep the record at 24 bytes, where an `Option` for each would make
+/// it 40.
 #[derive(Clone, Copy)]
 pub(crate) struct Page {
     pub(crate) stamp: u64,

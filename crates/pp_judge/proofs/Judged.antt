@@ -11,21 +11,25 @@ use Rattle.pp_annotate.specs.declared.error.AnnotateError.TheVariants.{Fault, Ou
 use Rattle.pp_judge.specs.declared.judgement.Sources.{Sources}
 use Rattle.pp_judge.specs.declared.refusal.Refusal.{Refusal}
 use Rattle.pp_judge.specs.declared.refusal.Refusal.TheVariants.{Annotate, Check}
-use Rattle.pp_judge.specs.Judgement.{certification, claims_in, judgement, plan_in, settings_in, sources_in, unless, verdict, written}
+use Rattle.pp_judge.specs.Judgement.{certification, claims_in, judgement, plan_in, settings_in, sources_in, unless}
+use Rattle.pp_judge.specs.Judgement.{verdict, written}
 use Rattle.pp_judge.specs.Steps.{is_want_of_memory}
 
 -- ---- the settings and the plan
 
-pub no_settings : (settings plan : List ℕ) (e : Refusal) → settings_in settings ≡ Err e → sources_in settings plan ≡ Err e
+pub no_settings : (settings plan : List ℕ) (e : Refusal) → settings_in settings ≡ Err e
+    → sources_in settings plan ≡ Err e
 unfolding sources_in
 no_settings settings plan e refused = rw refused refl
 
-pub no_plan : (settings plan : List ℕ) (s : Configuration) (e : Refusal) → settings_in settings ≡ Ok s → plan_in s plan ≡ Err e
+pub no_plan : (settings plan : List ℕ) (s : Configuration) (e : Refusal) → settings_in settings ≡ Ok s
+    → plan_in s plan ≡ Err e
     → sources_in settings plan ≡ Err e
 unfolding sources_in
 no_plan settings plan s e is refused = rw (is, refused) refl
 
-pub both_read : (settings plan : List ℕ) (s : Configuration) (p : Terms) → settings_in settings ≡ Ok s → plan_in s plan ≡ Ok p
+pub both_read : (settings plan : List ℕ) (s : Configuration) (p : Terms) → settings_in settings ≡ Ok s
+    → plan_in s plan ≡ Ok p
     → sources_in settings plan ≡ Ok (record { settings = s; plan = p })
 unfolding sources_in
 both_read settings plan s p is read = rw (is, read) refl
@@ -54,17 +58,21 @@ pub accepted : (settings plan certificate : List ℕ) (r : Sources) (c : Claims)
     → first_fault (geometry_of r.settings) c (tests r.plan) ≡ None
     → judgement settings plan certificate ≡ Ok (record { plan = r.plan; peak = c.peak; steps = c.steps })
 accepted settings plan certificate r c is read none =
-    judged settings plan certificate r c is read ∙ ap (λ f. unless f (record { plan = r.plan; peak = c.peak; steps = c.steps })) none
+    judged settings plan certificate r c is read
+    ∙ ap (λ f. unless f (record { plan = r.plan; peak = c.peak; steps = c.steps })) none
 
 pub faulty : (settings plan certificate : List ℕ) (r : Sources) (c : Claims) (fault : CheckError)
     → sources_in settings plan ≡ Ok r → claims_in r.settings r.plan certificate ≡ Ok c
-    → first_fault (geometry_of r.settings) c (tests r.plan) ≡ Some fault → judgement settings plan certificate ≡ Err (Check fault)
+    → first_fault (geometry_of r.settings) c (tests r.plan) ≡ Some fault
+    → judgement settings plan certificate ≡ Err (Check fault)
 faulty settings plan certificate r c fault is read some =
-    judged settings plan certificate r c is read ∙ ap (λ f. unless f (record { plan = r.plan; peak = c.peak; steps = c.steps })) some
+    judged settings plan certificate r c is read
+    ∙ ap (λ f. unless f (record { plan = r.plan; peak = c.peak; steps = c.steps })) some
 
 -- ---- a certificate that is made
 
-pub none_certified : (settings plan : List ℕ) (e : Refusal) → sources_in settings plan ≡ Err e → certification settings plan ≡ Err e
+pub none_certified : (settings plan : List ℕ) (e : Refusal) → sources_in settings plan ≡ Err e
+    → certification settings plan ≡ Err e
 unfolding certification
 none_certified settings plan e refused = rw refused refl
 

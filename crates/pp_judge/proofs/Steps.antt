@@ -1,5 +1,6 @@
 -- Refusals that are handed on, and bytes that are read.
-use Rattle.std.proofs.Common.{◌≡◌, Bool, true, false, List, ℕ, Result, Ok, Err, IsErrAnd, refl, ap, sym, ◌∙◌, if◌then◌else◌}
+use Rattle.std.proofs.Common.{◌≡◌, Bool, true, false, List, ℕ, Result, Ok, Err, IsErrAnd, refl, ap, sym, ◌∙◌}
+use Rattle.std.proofs.Common.{if◌then◌else◌}
 use Rattle.std.specs.Str.{IsUtf8, is_utf8}
 use Rattle.std.proofs.lemmas.Str.{IsUtf8-from_is_utf8, is_utf8-from_IsUtf8}
 use Rattle.pp_judge.specs.declared.refusal.Refusal.{Refusal}
@@ -27,21 +28,24 @@ when_none bytes x y none =
     ap (λ b. if b then x else y) (is_false (is_utf8 bytes) (λ is. none (IsUtf8-from_is_utf8 bytes is)))
 
 -- bytes that are a text are read as it is
-pub read_in : {A E : Type 0} (refusal : E → Refusal) (reading : List ℕ → Result A E) (none : E) (bytes text : List ℕ) (x : A)
+pub read_in : {A E : Type 0} (refusal : E → Refusal) (reading : List ℕ → Result A E) (none : E) (bytes text : List ℕ)
+    (x : A)
     → text ≡ bytes → IsUtf8 bytes → reading text ≡ Ok x
     → refusing refusal (if is_utf8 bytes then reading bytes else Err none) ≡ Ok x
 read_in refusal reading none bytes text x is utf8 read =
     ap (λ r. refusing refusal r) (when_text bytes (reading bytes) (Err none) utf8 ∙ ap reading (sym is) ∙ read)
 
 -- and refused as it is
-pub refused_in : {A E : Type 0} (refusal : E → Refusal) (reading : List ℕ → Result A E) (none : E) (bytes text : List ℕ) (e : E)
+pub refused_in : {A E : Type 0} (refusal : E → Refusal) (reading : List ℕ → Result A E) (none : E) (bytes text : List ℕ)
+    (e : E)
     → text ≡ bytes → IsUtf8 bytes → reading text ≡ Err e
     → refusing refusal (if is_utf8 bytes then reading bytes else Err none) ≡ Err (refusal e)
 refused_in refusal reading none bytes text e is utf8 read =
     ap (λ r. refusing refusal r) (when_text bytes (reading bytes) (Err none) utf8 ∙ ap reading (sym is) ∙ read)
 
 -- bytes that are no text are refused as such
-pub none_in : {A E : Type 0} (refusal : E → Refusal) (reading : List ℕ → Result A E) (none : E) (bytes : List ℕ) → ¬ (IsUtf8 bytes)
+pub none_in : {A E : Type 0} (refusal : E → Refusal) (reading : List ℕ → Result A E) (none : E) (bytes : List ℕ)
+    → ¬ (IsUtf8 bytes)
     → refusing refusal (if is_utf8 bytes then reading bytes else Err none) ≡ Err (refusal none)
 none_in refusal reading none bytes never =
     ap (λ r. refusing refusal r) (when_none bytes (reading bytes) (Err none) never)

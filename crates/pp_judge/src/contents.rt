@@ -48,7 +48,9 @@ pub fn outcome_of<'a>(alloc: Global, contents: Contents<'_>) -> Outcome<'a>
 
 /// What the three files of `check` come to.
 fn checked<'a>(alloc: Global, files: CheckFiles<'_>) -> Outcome<'a>
-    ensures { ComesTo (judgement_answer files.entry.settings.now files.entry.plan.now files.entry.certificate.now) result }
+    ensures { ComesTo
+        (judgement_answer files.entry.settings.now files.entry.plan.now files.entry.certificate.now)
+        result }
 {
     match judge(alloc, files) {
         Ok(accepted) => Outcome::Done(Figures::of(&accepted)),

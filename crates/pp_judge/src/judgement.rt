@@ -51,7 +51,8 @@ pub fn judge(alloc: Global, files: CheckFiles<'_>) -> Result<Accepted, Refusal>
 /// TOML or no JSON.
 pub fn certify(alloc: Global, files: AnnotateFiles<'_>) -> Result<String, Refusal>
     // What is answered is the text of the certificate that is made of the two files, unless memory ran out.
-    ensures exact { Gives is_want_of_memory string_bytes result (certification files.entry.settings.now files.entry.plan.now) }
+    ensures exact { Gives is_want_of_memory string_bytes result
+        (certification files.entry.settings.now files.entry.plan.now) }
     // The judgement on these files and the text that is made accepts the plan.
     ensures accepted { IfOk result (λ text.
         IsOk (judgement files.entry.settings.now files.entry.plan.now (string_bytes text))) }

@@ -38,8 +38,7 @@ abbrev pub listed_at : List ℕ → Data → List Data
 listed_at key d = option_map_or listed (get key d) []
 
 -- The statements directly inside a statement: those of a loop's body, and those of a choice's branches. Another value
--- that
--- has these keys is a fault already.
+-- that has these keys is a fault already.
 abbrev pub inside : Data → List Data
 inside d = listed_at (codes "body") d ++ flat_map listed (listed_at (codes "choice") d)
 
@@ -102,10 +101,8 @@ IsOutOfRange d =
 -- ---- the faults
 
 -- What may be wrong with one statement: it is the 4,097th or later, stands below depth 16, hasn't exactly one of the
--- six first
--- keys, has other keys or values of other kinds, names a slot out of form or no region of the settings, is out of
--- range, or
--- names one slot more than 32.
+-- six first keys, has other keys or values of other kinds, names a slot out of form or no region of the settings, is
+-- out of range, or names one slot more than 32.
 pub data Cause : Type 0 where
   one_too_many : Cause
   too_deep : Cause

@@ -10,18 +10,24 @@ use Rattle.pp_judge.proofs.judgement.certificate_in.Goals as goal
 
 pub returns-in_default : goal.returns-in_default
 unfolding claims_in
-returns-in_default c = none_in Certificate (of c.args.settings.now c.args.plan.now) NotJson c.args.bytes.now c.in_default.ensures.cases.0
+returns-in_default c =
+    none_in Certificate
+    (of c.args.settings.now c.args.plan.now) NotJson c.args.bytes.now c.in_default.ensures.cases.0
 
 pub returns-in_err-from_text : goal.returns-in_err-from_text
 unfolding claims_in
 returns-in_err-from_text c =
-    handed_on _ c.from_residual.result (Certificate c.in_err-from_text.field-0.0) (claims_in c.args.settings.now c.args.plan.now c.args.bytes.now) c.from_residual.ensures.1
-    (λ memory. refused_in Certificate (of c.args.settings.now c.args.plan.now) NotJson c.args.bytes.now c.in-Ok.text.now c.in_err-from_text.field-0.0
+    handed_on _ c.from_residual.result (Certificate c.in_err-from_text.field-0.0)
+    (claims_in c.args.settings.now c.args.plan.now c.args.bytes.now) c.from_residual.ensures.1
+    (λ memory. refused_in Certificate (of c.args.settings.now c.args.plan.now) NotJson c.args.bytes.now c.in-Ok.text.now
+    c.in_err-from_text.field-0.0
     c.in-Ok.ensures.cases.0 c.in-Ok.ensures.cases.1
-    (tells (is_want_of_memory (Certificate c.in_err-from_text.field-0.0)) c.in_err-from_text.field-0.0 (of c.args.settings.now c.args.plan.now c.in-Ok.text.now) c.in_err-from_text.ensures.exact memory))
+    (tells (is_want_of_memory (Certificate c.in_err-from_text.field-0.0)) c.in_err-from_text.field-0.0
+    (of c.args.settings.now c.args.plan.now c.in-Ok.text.now) c.in_err-from_text.ensures.exact memory))
 
 pub returns : goal.returns
 unfolding claims_in
 returns c =
-    read_in Certificate (of c.args.settings.now c.args.plan.now) NotJson c.args.bytes.now c.in-Ok.text.now (claims_of c.in_ok-from_text.field-0) c.in-Ok.ensures.cases.0 c.in-Ok.ensures.cases.1
+    read_in Certificate (of c.args.settings.now c.args.plan.now) NotJson c.args.bytes.now c.in-Ok.text.now
+    (claims_of c.in_ok-from_text.field-0) c.in-Ok.ensures.cases.0 c.in-Ok.ensures.cases.1
     c.in_ok-from_text.ensures.exact
