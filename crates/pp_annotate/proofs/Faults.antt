@@ -1,18 +1,24 @@
 -- What is made of a plan fails no test of how a certificate was written: its first fault is the plan's own.
-use Rattle.std.proofs.Common.{◌≡◌, ℕ, ◌+◌, ◌≤◌, min, true, false, Some, List, [], ◌∷◌, ◌++◌, length, refl, sym, ap, subst, ◌∙◌, arith, inl, inr}
+use Rattle.std.proofs.Common.{◌≡◌, ℕ, ◌+◌, ◌≤◌, min, true, false, Some, List, [], ◌∷◌, ◌++◌, length, refl, sym, ap}
+use Rattle.std.proofs.Common.{subst, ◌∙◌, arith, inl, inr}
 use Rattle.std.specs.Prelude.{◌⊎◌, slice_get, unwrap_or, is_some, if◌then◌else◌, nat_le}
 use Rattle.std.proofs.lemmas.Bool.{leb-true, le-leb}
 use Rattle.pp_settings.specs.Layout.{Geometry}
-use Rattle.pp_plan.specs.Tree.{Step, fix, unfix, latch, unlatch, Statement, step, loop, choice, Sequence, done, andthen, Alternatives, none, either}
+use Rattle.pp_plan.specs.Tree.{Step, fix, unfix, latch, unlatch, Statement, step, loop, choice, Sequence, skip, andthen}
+use Rattle.pp_plan.specs.Tree.{Alternatives, none, either}
 use Rattle.pp_plan.specs.Terms.{Terms}
 use Rattle.pp_cert.specs.declared.check_error.CheckError.{CheckError}
 use Rattle.pp_cert.specs.declared.check_error.CheckError.TheVariants.{StepsTooMany}
 use Rattle.pp_cert.specs.Notes.{Entries, same_note, noted_after}
 use Rattle.pp_cert.specs.Longest.{sequence_longest}
-use Rattle.pp_cert.specs.Walk.{Claims, note_at, Expectation, empty, same, expected_note, outcome, Test, same_settings, loop_keeps, branch_agrees, holds_nothing, no_more_notes, steps_allowed, steps_enough, peak_allowed, passes, fault_of, first_fault, note_tests, step_tests, statement_tests, sequence_tests, later_tests, tests, statement_end, sequence_end, most_steps}
+use Rattle.pp_cert.specs.Walk.{Claims, note_at, Expectation, empty, same, expected_note, outcome, Test, same_settings}
+use Rattle.pp_cert.specs.Walk.{loop_keeps, branch_agrees, holds_nothing, no_more_notes, steps_allowed, steps_enough}
+use Rattle.pp_cert.specs.Walk.{peak_allowed, passes, fault_of, first_fault, note_tests, step_tests, statement_tests}
+use Rattle.pp_cert.specs.Walk.{sequence_tests, later_tests, tests, statement_end, sequence_end, most_steps}
 use Rattle.pp_cert.specs.Limits.{counted}
 use Rattle.pp_cert.proofs.Passing.{note_itself}
-use Rattle.pp_annotate.specs.Made.{after_statement, after_sequence, statement_notes, sequence_notes, branches_notes, made_notes, made}
+use Rattle.pp_annotate.specs.Made.{after_statement, after_sequence, statement_notes, sequence_notes, branches_notes}
+use Rattle.pp_annotate.specs.Made.{made_notes, made}
 use Rattle.pp_annotate.specs.Annotation.{IsPlansFault}
 use Rattle.pp_annotate.proofs.Stands.{Stand, stand_split, stand_itself, statement_places, sequence_places}
 
@@ -100,7 +106,7 @@ module _ (g : Geometry) (c : Claims) where
 
     pub sequence_fair : (k : ℕ) (b : Sequence) (n : Entries) → note_at c k ≡ n → Here (k + 1) (sequence_notes b n)
         → AllFair (sequence_tests k b) × (note_at c (sequence_end k b) ≡ after_sequence b n)
-    sequence_fair k done n e h = (tt, e)
+    sequence_fair k skip n e h = (tt, e)
     sequence_fair k (andthen s b) n e h =
         let next : ℕ = statement_end k s in
         let m : Entries = after_statement s n in

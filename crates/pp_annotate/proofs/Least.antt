@@ -1,14 +1,20 @@
 -- Where some certificate of a plan is accepted, the one that is made is accepted, and is the least.
-use Rattle.std.proofs.Common.{◌≡◌, ℕ, zero, suc, ◌+◌, ◌≤◌, min, true, Some, None, List, [], ◌∷◌, ◌++◌, length, refl, sym, ap, subst, ◌∙◌, arith}
+use Rattle.std.proofs.Common.{◌≡◌, ℕ, zero, suc, ◌+◌, ◌≤◌, min, true, Some, None, List, [], ◌∷◌, ◌++◌, length, refl}
+use Rattle.std.proofs.Common.{sym, ap, subst, ◌∙◌, arith}
 use Rattle.std.specs.Prelude.{slice_get, unwrap_or, if◌then◌else◌}
 use Rattle.std.proofs.lemmas.Bool.{leb-true, le-leb}
 use Rattle.pp_settings.specs.Layout.{Geometry}
-use Rattle.pp_plan.specs.Tree.{Step, fix, unfix, latch, unlatch, Statement, step, loop, choice, Sequence, done, andthen, Alternatives, none, either}
+use Rattle.pp_plan.specs.Tree.{Step, fix, unfix, latch, unlatch, Statement, step, loop, choice, Sequence, skip, andthen}
+use Rattle.pp_plan.specs.Tree.{Alternatives, none, either}
 use Rattle.pp_plan.specs.Terms.{Terms}
 use Rattle.pp_cert.specs.declared.check_error.CheckError.{CheckError}
 use Rattle.pp_cert.specs.Notes.{Entries}
 use Rattle.pp_cert.specs.Longest.{sequence_longest}
-use Rattle.pp_cert.specs.Walk.{Claims, note_at, outcome, Test, same_settings, there, as_expected, within_peak, slot_unused, slot_fixed, slot_unlatched, slot_latched, slot_in_order, loop_keeps, branch_agrees, holds_nothing, no_more_notes, steps_allowed, steps_enough, peak_allowed, Certifies, passes, fault_of, first_fault, note_tests, step_tests, statement_tests, sequence_tests, later_tests, tests, statement_end, sequence_end, most_steps}
+use Rattle.pp_cert.specs.Walk.{Claims, note_at, outcome, Test, same_settings, there, as_expected, within_peak}
+use Rattle.pp_cert.specs.Walk.{slot_unused, slot_fixed, slot_unlatched, slot_latched, slot_in_order, loop_keeps}
+use Rattle.pp_cert.specs.Walk.{branch_agrees, holds_nothing, no_more_notes, steps_allowed, steps_enough, peak_allowed}
+use Rattle.pp_cert.specs.Walk.{Certifies, passes, fault_of, first_fault, note_tests, step_tests, statement_tests}
+use Rattle.pp_cert.specs.Walk.{sequence_tests, later_tests, tests, statement_end, sequence_end, most_steps}
 use Rattle.pp_cert.specs.Limits.{counted}
 use Rattle.pp_cert.proofs.Passing.{first_passes, all_pass}
 use Rattle.pp_annotate.specs.Made.{made_notes, greatest, made}
@@ -64,7 +70,7 @@ mutual
       )
 
   sequence_asks : (m k : ℕ) (b : Sequence) → AllAsk m (sequence_tests k b)
-  sequence_asks m k done = tt
+  sequence_asks m k skip = tt
   sequence_asks m k (andthen s b) =
       let next : ℕ = statement_end k s in
       ask_both m (statement_tests k s ++ note_tests next (outcome k s)) (sequence_tests next b)

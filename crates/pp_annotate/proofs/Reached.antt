@@ -1,17 +1,19 @@
 -- Each note of an accepted certificate is what some beginning of a trace holds.
-use Rattle.std.proofs.Common.{◌≡◌, ℕ, zero, suc, ◌+◌, ◌≤◌, ◌<◌, true, false, Option, Some, None, List, [], ◌∷◌, ◌++◌, length, refl, sym, ap, subst, ◌∙◌, arith, append_assoc}
+use Rattle.std.proofs.Common.{◌≡◌, ℕ, zero, suc, ◌+◌, ◌≤◌, ◌<◌, true, false, Option, Some, None, List, [], ◌∷◌, ◌++◌}
+use Rattle.std.proofs.Common.{length, refl, sym, ap, subst, ◌∙◌, arith, append_assoc}
 use Rattle.std.specs.Prelude.{nat_le}
 use Rattle.std.proofs.lemmas.Bool.{leb-true, leb-false}
 use Rattle.pp_settings.specs.Layout.{Geometry, IsLayout}
 use Rattle.pp_plan.specs.declared.action.Action.{Action}
 use Rattle.pp_plan.specs.declared.action.Action.TheVariants.{Choose}
-use Rattle.pp_plan.specs.Tree.{Statement, step, loop, choice, Sequence, done, andthen, Alternatives, none, either}
+use Rattle.pp_plan.specs.Tree.{Statement, step, loop, choice, Sequence, skip, andthen, Alternatives, none, either}
 use Rattle.pp_plan.specs.Rules.{IsStatement, IsSequence, AreAlternatives}
 use Rattle.pp_plan.specs.Traces.{Repeats, IsStatementTrace, IsTrace, IsBranchTrace, Begins}
 use Rattle.pp_cert.specs.Held.{Holdings, held_next, held_after, held, size_of, pins}
 use Rattle.pp_cert.specs.Notes.{Entries}
 use Rattle.pp_cert.specs.Longest.{sequence_longest}
-use Rattle.pp_cert.specs.Walk.{Claims, note_at, same, outcome, loop_keeps, branch_agrees, first_fault, note_tests, statement_tests, sequence_tests, later_tests, statement_end, sequence_end}
+use Rattle.pp_cert.specs.Walk.{Claims, note_at, same, outcome, loop_keeps, branch_agrees, first_fault, note_tests}
+use Rattle.pp_cert.specs.Walk.{statement_tests, sequence_tests, later_tests, statement_end, sequence_end}
 use Rattle.pp_cert.proofs.Passing.{first_passes, both_pass, note_passes}
 use Rattle.pp_cert.proofs.Fits.{Fits, fits_length}
 use Rattle.pp_cert.proofs.Goes.{goes_held}
@@ -149,7 +151,7 @@ module _ (g : Geometry) (l : IsLayout g) (c : Claims) (slots : ℕ) where
       sequence_reached : (k : ℕ) (b : Sequence) (n : Entries) → note_at c k ≡ n → length (note_at c k) ≤ c.peak
           → first_fault g c (sequence_tests k b) ≡ None → IsSequence slots (length g.extents) b
           → (u : List Action) → At u n → Onward u (IsTrace g b) → AllReached (sequence_notes b n)
-      sequence_reached k done n e small h is u a on = tt
+      sequence_reached k skip n e small h is u a on = tt
       sequence_reached k (andthen s b) n e small h is u a on =
           let next : ℕ = statement_end k s in
           let m : Entries = after_statement s n in

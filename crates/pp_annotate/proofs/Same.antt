@@ -1,18 +1,25 @@
 -- A certificate that is refused for what the plan does is refused as the one that is made.
-use Rattle.std.proofs.Common.{◌≡◌, ℕ, ◌+◌, ◌≤◌, true, false, Some, None, List, [], ◌∷◌, ◌++◌, length, refl, sym, ap, subst, ◌∙◌, arith}
+use Rattle.std.proofs.Common.{◌≡◌, ℕ, ◌+◌, ◌≤◌, true, false, Some, None, List, [], ◌∷◌, ◌++◌, length, refl, sym, ap}
+use Rattle.std.proofs.Common.{subst, ◌∙◌, arith}
 use Rattle.std.specs.Prelude.{slice_get, unwrap_or, is_some, if◌then◌else◌, not, ◌==◌}
 use Rattle.std.proofs.lemmas.Bool.{le-leb}
 use Rattle.pp_settings.specs.Layout.{Geometry}
-use Rattle.pp_plan.specs.Tree.{Step, fix, unfix, latch, unlatch, Statement, step, loop, choice, Sequence, done, andthen, Alternatives, none, either}
+use Rattle.pp_plan.specs.Tree.{Step, fix, unfix, latch, unlatch, Statement, step, loop, choice, Sequence, skip, andthen}
+use Rattle.pp_plan.specs.Tree.{Alternatives, none, either}
 use Rattle.pp_plan.specs.Terms.{Terms}
 use Rattle.pp_cert.specs.declared.check_error.CheckError.{CheckError}
 use Rattle.pp_cert.specs.Held.{is_latched_page}
 use Rattle.pp_cert.specs.Notes.{Entries, noted_at, same_note, is_above_latched}
 use Rattle.pp_cert.specs.Longest.{sequence_longest}
-use Rattle.pp_cert.specs.Walk.{Claims, note_at, Expectation, empty, same, expected_note, outcome, Test, same_settings, there, as_expected, within_peak, slot_unused, slot_fixed, slot_unlatched, slot_latched, slot_in_order, loop_keeps, branch_agrees, holds_nothing, no_more_notes, steps_allowed, steps_enough, peak_allowed, passes, fault_of, first_fault, note_tests, step_tests, statement_tests, sequence_tests, later_tests, tests, statement_end, sequence_end}
+use Rattle.pp_cert.specs.Walk.{Claims, note_at, Expectation, empty, same, expected_note, outcome, Test, same_settings}
+use Rattle.pp_cert.specs.Walk.{there, as_expected, within_peak, slot_unused, slot_fixed, slot_unlatched, slot_latched}
+use Rattle.pp_cert.specs.Walk.{slot_in_order, loop_keeps, branch_agrees, holds_nothing, no_more_notes, steps_allowed}
+use Rattle.pp_cert.specs.Walk.{steps_enough, peak_allowed, passes, fault_of, first_fault, note_tests, step_tests}
+use Rattle.pp_cert.specs.Walk.{statement_tests, sequence_tests, later_tests, tests, statement_end, sequence_end}
 use Rattle.pp_cert.proofs.Faults.{past_first, in_first}
 use Rattle.pp_cert.proofs.Passing.{first_passes, both_pass, note_passes, note_itself}
-use Rattle.pp_annotate.specs.Made.{after_statement, after_sequence, statement_notes, sequence_notes, branches_notes, made_notes, made}
+use Rattle.pp_annotate.specs.Made.{after_statement, after_sequence, statement_notes, sequence_notes, branches_notes}
+use Rattle.pp_annotate.specs.Made.{made_notes, made}
 use Rattle.pp_annotate.specs.Annotation.{IsBeforeLimits}
 use Rattle.pp_annotate.proofs.Stands.{Stand, stand_split, stand_itself, statement_places, sequence_places}
 use Rattle.pp_annotate.proofs.Written.{statement_written, sequence_written}
@@ -159,7 +166,7 @@ module _ (g : Geometry) (d c : Claims) where
 
     sequence_same : (k : ℕ) (b : Sequence) (n : Entries) → note_at d k ≡ n → note_at c k ≡ n
         → Here (k + 1) (sequence_notes b n) → Same (sequence_tests k b)
-    sequence_same k done n e f h = same_none
+    sequence_same k skip n e f h = same_none
     sequence_same k (andthen s b) n e f h =
         let next : ℕ = statement_end k s in
         let m : Entries = after_statement s n in

@@ -7,7 +7,8 @@ use Rattle.pp_cert.specs.declared.note.Entry.{Entry}
 use Rattle.pp_cert.specs.declared.note.Held.{Held}
 use Rattle.pp_cert.specs.Slots.{slot_remove}
 use Rattle.pp_cert.specs.Notes.{Entries, entry_slot, noted_as}
-use Rattle.pp_cert.proofs.Splices.{insert_at, insert_last, insert_within, slot_within, remove_at, remove_absent, update_at, update_absent}
+use Rattle.pp_cert.proofs.Splices.{insert_at, insert_last, insert_within, slot_within, remove_at, remove_absent}
+use Rattle.pp_cert.proofs.Splices.{update_at, update_absent}
 
 pub ruleset inserts = (insert_at, insert_last, insert_within)
 

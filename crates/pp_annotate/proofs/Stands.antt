@@ -1,8 +1,9 @@
 -- Notes that stand in a list from some place on, each of which is within the peak; and how many notes a part of a plan
 -- has.
-use Rattle.std.proofs.Common.{◌≡◌, ℕ, suc, ◌+◌, ◌≤◌, Some, List, [], ◌∷◌, ◌++◌, length, refl, ap, subst, arith, length-append}
+use Rattle.std.proofs.Common.{◌≡◌, ℕ, suc, ◌+◌, ◌≤◌, Some, List, [], ◌∷◌, ◌++◌, length, refl, ap, subst, arith}
+use Rattle.std.proofs.Common.{length-append}
 use Rattle.std.specs.Prelude.{slice_get}
-use Rattle.pp_plan.specs.Tree.{Statement, step, loop, choice, Sequence, done, andthen, Alternatives, none, either}
+use Rattle.pp_plan.specs.Tree.{Statement, step, loop, choice, Sequence, skip, andthen, Alternatives, none, either}
 use Rattle.pp_cert.specs.Notes.{Entries}
 use Rattle.pp_cert.specs.Walk.{statement_end, sequence_end, alternatives_end}
 use Rattle.pp_annotate.specs.Made.{after_statement, statement_notes, sequence_notes, branches_notes, greatest}
@@ -83,7 +84,7 @@ mutual
   statement_places k (choice bs) n = branches_places (k + 1) bs n
 
   pub sequence_places : (k : ℕ) (b : Sequence) (n : Entries) → k + length (sequence_notes b n) ≡ sequence_end k b
-  sequence_places k done n = omega arith
+  sequence_places k skip n = omega arith
   sequence_places k (andthen s b) n =
       omega (
         arith,

@@ -1,5 +1,6 @@
 -- What is made of a plan can be written as a text, where it is accepted.
-use Rattle.std.proofs.Common.{◌≡◌, ℕ, ◌+◌, ◌<◌, ◌≤◌, true, false, cond, Some, None, List, [], ◌∷◌, ◌++◌, length, refl, sym, ap, subst, ◌∙◌, arith}
+use Rattle.std.proofs.Common.{◌≡◌, ℕ, ◌+◌, ◌<◌, ◌≤◌, true, false, cond, Some, None, List, [], ◌∷◌, ◌++◌, length, refl}
+use Rattle.std.proofs.Common.{sym, ap, subst, ◌∙◌, arith}
 use Rattle.std.specs.Prelude.{◌==◌, nat_lt, is_some, if◌then◌else◌, option_map, find, All}
 use Rattle.std.proofs.lemmas.Bool.{not-true, ltb-true}
 use Rattle.std.proofs.lemmas.Bool.Decides.{nat_tests}
@@ -8,7 +9,8 @@ use Rattle.std.proofs.lemmas.List.Elements.{All-nil, All-cons, All-append, All-w
 use Rattle.std.proofs.lemmas.List.Kept.{AllPairs-cons}
 use Rattle.pp_settings.specs.Layout.{Geometry}
 use Rattle.pp_settings.specs.Settings.{Configuration, geometry_of}
-use Rattle.pp_plan.specs.Tree.{Step, fix, unfix, latch, unlatch, Statement, step, loop, choice, Sequence, done, andthen, Alternatives, none, either}
+use Rattle.pp_plan.specs.Tree.{Step, fix, unfix, latch, unlatch, Statement, step, loop, choice, Sequence, skip, andthen}
+use Rattle.pp_plan.specs.Tree.{Alternatives, none, either}
 use Rattle.pp_plan.specs.Rules.{IsStep, IsStatement, IsSequence, AreAlternatives}
 use Rattle.pp_plan.specs.Terms.{Terms, IsPlan}
 use Rattle.pp_cert.specs.declared.note.Held.{Held}
@@ -18,11 +20,14 @@ use Rattle.pp_cert.specs.Claims.{IsEntry, IsNote, AreClaims}
 use Rattle.pp_cert.specs.Slots.{slot_insert, slot_remove}
 use Rattle.pp_cert.specs.Held.{held_in}
 use Rattle.pp_cert.specs.Notes.{Entries, entry_slot, noted_at, noted_as, noted_after}
-use Rattle.pp_cert.specs.Walk.{Claims, note_at, same, outcome, slot_unused, loop_keeps, branch_agrees, first_fault, note_tests, step_tests, statement_tests, sequence_tests, later_tests, statement_end, sequence_end, Certifies}
+use Rattle.pp_cert.specs.Walk.{Claims, note_at, same, outcome, slot_unused, loop_keeps, branch_agrees, first_fault}
+use Rattle.pp_cert.specs.Walk.{note_tests, step_tests, statement_tests, sequence_tests, later_tests, statement_end}
+use Rattle.pp_cert.specs.Walk.{sequence_end, Certifies}
 use Rattle.pp_cert.specs.Limits.{most_entries}
 use Rattle.pp_cert.proofs.Passing.{first_passes, both_pass, note_passes, all_pass}
 use Rattle.pp_cert.proofs.Places.{sequence_end-most}
-use Rattle.pp_annotate.specs.Made.{after_statement, after_sequence, statement_notes, sequence_notes, branches_notes, made_notes, made}
+use Rattle.pp_annotate.specs.Made.{after_statement, after_sequence, statement_notes, sequence_notes, branches_notes}
+use Rattle.pp_annotate.specs.Made.{made_notes, made}
 use Rattle.pp_annotate.proofs.Stands.{sequence_places}
 use Rattle.pp_annotate.proofs.Written.{statement_written}
 
@@ -134,7 +139,7 @@ module _ (slots regions : ℕ) where
       sequence_rises : (k : ℕ) (b : Sequence) (n : Entries) → note_at c k ≡ n
           → first_fault g c (sequence_tests k b) ≡ None → IsSequence slots regions b → Rises 0 n
           → AllRise (sequence_notes b n) × Rises 0 (after_sequence b n)
-      sequence_rises k done n e h is r = (All-nil (Rises 0), r)
+      sequence_rises k skip n e h is r = (All-nil (Rises 0), r)
       sequence_rises k (andthen s b) n e h is r =
           let next : ℕ = statement_end k s in
           let m : Entries = after_statement s n in

@@ -1,13 +1,16 @@
 -- The notes of an accepted certificate are those that are made.
 use Rattle.std.proofs.Common.{◌≡◌, ℕ, ◌+◌, ◌≤◌, Some, None, List, [], ◌∷◌, ◌++◌, length, ap, subst, ◌∙◌, arith}
 use Rattle.pp_settings.specs.Layout.{Geometry}
-use Rattle.pp_plan.specs.Tree.{Statement, step, loop, choice, Sequence, done, andthen, Alternatives, none, either}
+use Rattle.pp_plan.specs.Tree.{Statement, step, loop, choice, Sequence, skip, andthen, Alternatives, none, either}
 use Rattle.pp_plan.specs.Terms.{Terms}
 use Rattle.pp_cert.specs.Notes.{Entries, noted_after}
-use Rattle.pp_cert.specs.Walk.{Claims, note_at, same, expected_note, outcome, loop_keeps, branch_agrees, first_fault, note_tests, statement_tests, sequence_tests, later_tests, statement_end, sequence_end}
+use Rattle.pp_cert.specs.Walk.{Claims, note_at, same, expected_note, outcome, loop_keeps, branch_agrees, first_fault}
+use Rattle.pp_cert.specs.Walk.{note_tests, statement_tests, sequence_tests, later_tests, statement_end, sequence_end}
 use Rattle.pp_cert.proofs.Passing.{first_passes, both_pass, note_passes, AllPass}
-use Rattle.pp_annotate.specs.Made.{after_statement, after_sequence, statement_notes, sequence_notes, branches_notes, made_notes, greatest}
-use Rattle.pp_annotate.proofs.Stands.{Stand, stand_append, stand_whole, stand_greatest, statement_places, sequence_places}
+use Rattle.pp_annotate.specs.Made.{after_statement, after_sequence, statement_notes, sequence_notes, branches_notes}
+use Rattle.pp_annotate.specs.Made.{made_notes, greatest}
+use Rattle.pp_annotate.proofs.Stands.{Stand, stand_append, stand_whole, stand_greatest, statement_places}
+use Rattle.pp_annotate.proofs.Stands.{sequence_places}
 
 module _ (g : Geometry) (c : Claims) where
   abbrev Here : ℕ → List Entries → Type 0
@@ -46,7 +49,7 @@ module _ (g : Geometry) (c : Claims) where
     pub sequence_written : (k : ℕ) (b : Sequence) (n : Entries) → note_at c k ≡ n
         → first_fault g c (sequence_tests k b) ≡ None → Here (k + 1) (sequence_notes b n)
         × (note_at c (sequence_end k b) ≡ after_sequence b n)
-    sequence_written k done n e h = (tt, e)
+    sequence_written k skip n e h = (tt, e)
     sequence_written k (andthen s b) n e h =
         let next : ℕ = statement_end k s in
         let m : Entries = after_statement s n in

@@ -13,20 +13,20 @@ use Rattle.pp_cert.specs.declared.check_error.CheckError.TheVariants.{OverPeak, 
 use Rattle.pp_cert.specs.declared.check_error.CheckError.TheVariants.{StepsTooFew, StepsTooMany, PeakTooBig}
 use Rattle.pp_cert.specs.declared.check_error.CheckError.TheVariants.{OtherSettings}
 use Rattle.pp_cert.specs.Held.{pins}
-use Rattle.pp_cert.specs.Walk.{Claims, claims_of, Certifies, tests, first_fault, unless}
+use Rattle.pp_cert.specs.Walk.{Claims, claims_of, Certifies, tests, first_fault, unless_fault}
 use Rattle.pp_annotate.specs.declared.error.AnnotateError.{AnnotateError}
 use Rattle.pp_annotate.specs.declared.error.AnnotateError.TheVariants.{Fault, OutOfMemory}
 use Rattle.pp_annotate.specs.Made.{made}
 
 -- What is made of the plan where no test of it fails, else the first fault.
 abbrev pub annotation : Geometry → Terms → Result Claims CheckError
-annotation g p = unless (first_fault g (made p) (tests p)) (made p)
+annotation g p = unless_fault (first_fault g (made p) (tests p)) (made p)
 
 -- What the code returned is this; want of memory says nothing of the plan.
-abbrev pub Gives : Result Certificate AnnotateError → Result Claims CheckError → Type 0
-Gives (Ok c) answer = answer ≡ Ok (claims_of c)
-Gives (Err (Fault fault)) answer = answer ≡ Err fault
-Gives (Err OutOfMemory) answer = Unit {0}
+abbrev pub AnswersAs : Result Certificate AnnotateError → Result Claims CheckError → Type 0
+AnswersAs (Ok c) answer = answer ≡ Ok (claims_of c)
+AnswersAs (Err (Fault fault)) answer = answer ≡ Err fault
+AnswersAs (Err OutOfMemory) answer = Unit {0}
 
 -- P of the fault, where the code answered one.
 abbrev pub IfFault : Result Certificate AnnotateError → (CheckError → Type 0) → Type 0

@@ -1,7 +1,7 @@
 -- The certificate that is made of a plan: what is held at each place, noted statement by statement. Nothing is tested
 -- here: a statement that may not happen is noted as if it did.
 use Rattle.std.specs.Prelude.{ℕ, min, max, List, [], ◌∷◌, ◌++◌, length}
-use Rattle.pp_plan.specs.Tree.{Statement, step, loop, choice, Sequence, done, andthen, Alternatives, none, either}
+use Rattle.pp_plan.specs.Tree.{Statement, step, loop, choice, Sequence, skip, andthen, Alternatives, none, either}
 use Rattle.pp_plan.specs.Terms.{Terms}
 use Rattle.pp_cert.specs.Limits.{counted}
 use Rattle.pp_cert.specs.Claims.{Claims}
@@ -18,7 +18,7 @@ abbrev mutual
   after_statement (choice bs) n = after_first bs n
 
   pub after_sequence : Sequence → Entries → Entries
-  after_sequence done n = n
+  after_sequence skip n = n
   after_sequence (andthen s b) n = after_sequence b (after_statement s n)
 
   -- At the end of the first branch; the same as before where there is none.
@@ -37,7 +37,7 @@ abbrev mutual
 
   -- Those of a body after its first one: for each statement the ones inside it, and then the one after it.
   pub sequence_notes : Sequence → Entries → List Entries
-  sequence_notes done n = []
+  sequence_notes skip n = []
   sequence_notes (andthen s b) n = statement_notes s n ++ after_statement s n ∷ sequence_notes b (after_statement s n)
 
   pub branches_notes : Alternatives → Entries → List Entries

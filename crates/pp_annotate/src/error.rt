@@ -22,12 +22,12 @@ pub enum AnnotateError {
 }
 
 impl AnnotateError {
-    ghost use Rattle.pp_text.specs.Views.{row_of as printed};
-    ghost use Rattle.pp_annotate.specs.Refusals.{row_of, place_of};
+    ghost use Rattle.pp_text.specs.Views.{row_of_refusal};
+    ghost use Rattle.pp_annotate.specs.Refusals.{annotate_error_row, annotate_error_place};
 
     /// What the program prints: the number, the name and the place, as in `40 LoopChanges at 2`.
     pub fn refusal(self) -> Refusal
-        ensures { printed result ≡ row_of self }
+        ensures { row_of_refusal result ≡ annotate_error_row self }
     {
         match self {
             AnnotateError::Fault(fault) => fault.refusal(),
@@ -37,21 +37,21 @@ impl AnnotateError {
 
     /// The number of the refusal: 34 to 38, 40 to 42, 44 to 46, and 19 for want of memory.
     pub fn number(self) -> u8
-        ensures { result ≡ (row_of self).number }
+        ensures { result ≡ (annotate_error_row self).number }
     {
         self.refusal().number
     }
 
     /// The name of the refusal, as it is printed.
     pub fn name(self) -> &'static str
-        ensures { result.now ≡ (row_of self).name }
+        ensures { result.now ≡ (annotate_error_row self).name }
     {
         self.refusal().name
     }
 
     /// The place that the refusal is about, if it is about one.
     pub fn place(self) -> Option<u32>
-        ensures { result ≡ place_of self }
+        ensures { result ≡ annotate_error_place self }
     {
         match self {
             AnnotateError::Fault(fault) => fault.place(),

@@ -8,7 +8,8 @@ ghost use Rattle.pp_cert.specs.Claims.{Claims, claims_of, AreClaims};
 ghost use Rattle.pp_cert.specs.Walk.{Certifies, first_fault, tests};
 ghost use Rattle.pp_cert.specs.Longest.{sequence_longest, IsLongest};
 ghost use Rattle.pp_annotate.specs.Made.{greatest, made, sequence_notes};
-ghost use Rattle.pp_annotate.specs.Annotation.{annotation, Gives, IfFault, IsPlansFault, IsBeforeLimits, IsTight, IsLeast, HasNone};
+ghost use Rattle.pp_annotate.specs.Annotation.{annotation, AnswersAs, IfFault, IsPlansFault, IsBeforeLimits, IsTight};
+ghost use Rattle.pp_annotate.specs.Annotation.{IsLeast, HasNone};
 
 use crate::error::AnnotateError;
 use crate::writing::Draft;
@@ -32,7 +33,7 @@ pub fn annotate(
     plan: &Plan,
 ) -> Result<Certificate, AnnotateError>
     // The exact answer, unless memory runs out.
-    ensures exact { Gives result (annotation (geometry_of settings.now) plan.now) }
+    ensures exact { AnswersAs result (annotation (geometry_of settings.now) plan.now) }
     // What is made is accepted.
     ensures accepted { IfOk result (λ c. Certifies (geometry_of settings.now) plan.now (claims_of c)) }
     // Some beginning of a trace holds exactly `peak` slots, and some trace has exactly `steps` actions.
@@ -50,7 +51,7 @@ pub fn annotate(
     ensures same { (d : Claims) (fault : CheckError)
         → first_fault (geometry_of settings.now) d (tests plan.now) ≡ Some fault
         → IsBeforeLimits fault
-        → Gives result (Err fault) }
+        → AnswersAs result (Err fault) }
 {
     let layout = settings.layout();
     let certificate = made(alloc, plan)?;

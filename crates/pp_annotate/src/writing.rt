@@ -2,7 +2,8 @@
 
 ghost use Rattle.std.specs.Prelude.{◌≡◌, ◌++◌, [], ◌∷◌, IfOk, OnOk};
 ghost use Rattle.pp_plan.specs.View.{statement_of, sequence_of, alternatives_of};
-ghost use Rattle.pp_annotate.specs.Made.{after_statement, after_sequence, after_first, statement_notes, sequence_notes, branches_notes};
+ghost use Rattle.pp_annotate.specs.Made.{after_statement, after_sequence, after_first, statement_notes, sequence_notes};
+ghost use Rattle.pp_annotate.specs.Made.{branches_notes};
 
 use crate::entries::{held_as, inserted, removed};
 use pp_cert::{Entry, Held, Note};

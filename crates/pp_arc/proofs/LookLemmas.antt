@@ -1,4 +1,4 @@
--- Lemmas on what is read off the links: a page's place and neighbours, the last page, and the search for a victim.
+-- Lemmas on what is read off the links: a page's list and neighbours, the last page, and the search for a victim.
 use Rattle.std.proofs.Common.{◌≡◌, ◌≢◌, ℕ, ◌+◌, ◌-◌, ◌≤◌, ◌<◌, zero, suc, Bool, true, false, not, List, [], ◌∷◌, ◌++◌}
 use Rattle.std.proofs.Common.{length, drop, reverse, get_or, refl, arith, ap, sym, ◌∙◌, inl, inr, eq-eqb}
 use Rattle.std.specs.Prelude.{Some, None, slice_get, nat_lt}
@@ -21,7 +21,7 @@ use Rattle.pp_arc.proofs.TableLemmas.{absent, once, tag_of, neighbours}
 use Rattle.pp_arc.proofs.WriteLemmas.{read}
 use Rattle.pp_arc.proofs.LinkLemmas.{place-Shows, tagged-in_range, count_is}
 
--- the place of a page
+-- the list of a page
 pub place_at : (d : Content) (s : FourLists) (x : ℕ) (o : Record) → IsSound d → lists_in d ≡ s → x < s.pages
     → o ≡ get_or d.records x o → o.list ≡ place s x
 place_at d s x o h view low eo =
@@ -131,7 +131,7 @@ after_at d s l x o h view low' m eo =
     (λ i k. below d l i h k) (omega arith) (h.shows.rings l)
     (standing d l x h low (rw (← view) at m)))
 
--- the search goes on: one more place
+-- the search goes on: one more node
 pub back_tagged : (d : Content) (l : ListName) (i : ℕ) → IsSound d → (get_or d.records i blank).list ≡ Some l
     → (get_or d.records (get_or d.records i blank).before blank).list ≡ Some l
 back_tagged d l i h m = elim (cases_lt i d.pages) [
@@ -143,7 +143,7 @@ back_tagged d l i h m = elim (cases_lt i d.pages) [
       (rw (times_in-reverse (list_of (lists_in d) l) j) at one)) (back_ring d l h)).0
 ]
   where
-    -- a place that is tagged and no page's is that of the list's head
+    -- a node that is tagged and no page's is that of the list's head
     pick : (j : ℕ) → i ≡ d.pages + j → j < 4 → i ≡ head_at d.pages l
     pick zero e lt = let q : T1 ≡ l = cc (h.shows.heads T1) in rw (← q) e
     pick (suc zero) e lt = let q : T2 ≡ l = cc (h.shows.heads T2) in rw (← q) e
@@ -183,7 +183,7 @@ pub find_begins : (d : Content) (s : FourLists) (l : ListName) (k m : ℕ) (busy
     (list_of s l) busy
 find_begins d s l k m busy h view ck em = ap (find (λ y. not (busy y))) (rw em (back_walk d s l k h view ck))
 
--- the last place of a row stands in it, and a row without it is the row without its last page
+-- the last node of a row stands in it, and a row without it is the row without its last page
 times_in-last : (n p : ℕ → ℕ) (x : ℕ) (xs : List ℕ) (a b : ℕ) → Linked n p a (x ∷ xs) b → 1 ≤ times_in (x ∷ xs) (p b)
 times_in-last n p x [] a b h = rw h.2.1 (omega (arith, times_in-front x []))
 times_in-last n p x (y ∷ ys) a b h = omega (arith, times_in-last n p y ys x b h.2)

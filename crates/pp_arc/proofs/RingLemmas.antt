@@ -1,4 +1,4 @@
--- Lemmas on one row of linked places: what a put in front, a removal, and a walk find.
+-- Lemmas on one row of linked nodes: what a put in front, a removal, and a walk find.
 use Rattle.std.proofs.Common.{◌≡◌, ◌≢◌, ℕ, ◌+◌, ◌≤◌, List, [], ◌∷◌, length, refl, arith, ap, sym, subst, inl, inr}
 use Rattle.std.proofs.lemmas.Bool.Decides.{eqb_tells}
 use Rattle.pp_arc.specs.Pages.{times_in, without}
@@ -29,7 +29,7 @@ Linked-same n p n' p' (x ∷ xs) a b sn sp same h =
     let here : (n' x ≡ n x) × (p' x ≡ p x) = same x (omega (arith, times_in-front x xs)) in
     (cc, cc, Linked-same n p n' p' xs x b here.0 sp (λ i s. same i (omega arith)) h.2)
 
--- what comes after the place from which a row leads
+-- what comes after the node from which a row leads
 pub Linked-after : (P : ℕ → Type 0) (n p : ℕ → ℕ) (xs : List ℕ) (a b : ℕ) → P b → ((i : ℕ) → 1 ≤ times_in xs i → P i)
     → Linked n p a xs b → P (n a) × (p (n a) ≡ a)
 Linked-after P n p [] a b pb all h = (rw h.0 pb, rw h.0 h.1)

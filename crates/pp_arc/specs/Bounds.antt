@@ -1,6 +1,6 @@
 -- What holds of ARC's lists at all times.
--- (The bounds of Megiddo and Modha, FAST 2003, section III. Unlike there, names may be remembered while a frame is free,
--- and a busy page may stay though it is older than one that left.)
+-- (The bounds of Megiddo and Modha, FAST 2003, section III. Unlike there, names may be remembered while a frame is
+-- free, and a busy page may stay though it is older than one that left.)
 use Rattle.std.specs.Prelude.{ℕ, ◌*◌, ◌<◌, ◌≤◌}
 use Rattle.pp_arc.specs.FourLists.{FourLists, cached_count, recent_count, total_count, times_named}
 

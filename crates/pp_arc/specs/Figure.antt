@@ -8,7 +8,8 @@
 -- the other list gives the victim;
 -- where each page that might leave is busy, the answer is AllBusy, and nothing has changed.
 -- `forget` and `bring_back` are no part of that figure.
-use Rattle.std.specs.Prelude.{ℕ, ◌+◌, ◌-◌, ◌*◌, ◌/◌, min, Bool, true, false, ◌&&◌, ◌||◌, ◌==◌, nat_lt, nat_le, ◌∷◌, length, Option, None, Some, if◌then◌else◌}
+use Rattle.std.specs.Prelude.{ℕ, ◌+◌, ◌-◌, ◌*◌, ◌/◌, min, Bool, true, false, ◌&&◌, ◌||◌, ◌==◌, nat_lt, nat_le, ◌∷◌}
+use Rattle.std.specs.Prelude.{length, Option, None, Some, if◌then◌else◌}
 use Rattle.std.specs.Option.{option_or}
 use Rattle.pp_arc.specs.declared.answer.Answer.{Answer}
 use Rattle.pp_arc.specs.declared.answer.Answer.TheVariants.{Hit, Free, Evict, AllBusy}
@@ -49,7 +50,8 @@ lowered_target s =
     let step = if nat_le (length s.b1) (length s.b2) then 1 else length s.b1 / length s.b2 in
     s.target - step
 
--- REPLACE chooses T1 where T1 isn't empty and either is longer than the target, or is as long as the target and x is in B2
+-- REPLACE chooses T1 where T1 isn't empty and either is longer than the target, or is as long as the target and x is
+-- in B2
 abbrev pub chooses_t1 : FourLists → Bool → Bool
 chooses_t1 s in_b2 =
     nat_lt 0 (length s.t1) && (nat_lt s.target (length s.t1) || (in_b2 && (length s.t1 == s.target)))

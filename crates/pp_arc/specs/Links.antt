@@ -26,6 +26,6 @@ without_last_of s T2 = record s { t2 = without_last s.t2 }
 without_last_of s B1 = record s { b1 = without_last s.b1 }
 without_last_of s B2 = record s { b2 = without_last s.b2 }
 
--- the page of a place, which is the place's number; a place from `pages` on is a head's, and has none
+-- the page of a node, which is the node's number; a node from `pages` on is a head's, and has none
 abbrev pub page_at : ℕ → ℕ → Option ℕ
-page_at pages place = if nat_lt place pages then Some place else None
+page_at pages node = if nat_lt node pages then Some node else None

@@ -1,6 +1,6 @@
 -- How a table of linked records keeps the four lists.
 --
--- Place p below `pages` is that of page p; the four places behind them are those of the heads, one of each list.
+-- Node p below `pages` is that of page p; the four nodes behind them are those of the heads, one of each list.
 -- Each list is a ring: from its head over its pages, the most recent first, and back to its head.
 use Rattle.std.specs.Prelude.{◌≡◌, ℕ, zero, suc, ◌+◌, ◌^◌, ◌<◌, ◌≤◌, ◌⊎◌, List, [], ◌∷◌, length, Option, None, Some}
 use Rattle.std.specs.Prelude.{slice_index, slice_index_or}
@@ -12,25 +12,25 @@ use Rattle.pp_arc.specs.Pages.{times_in}
 use Rattle.pp_arc.specs.FourLists.{FourLists, list_of}
 use Rattle.pp_arc.specs.Links.{code}
 
--- the n places that follow a place
+-- the n nodes that follow a node
 abbrev pub follow : (ℕ → ℕ) → ℕ → ℕ → List ℕ
-follow after zero place = []
-follow after (suc n) place = after place ∷ follow after n (after place)
+follow after zero node = []
+follow after (suc n) node = after node ∷ follow after n (after node)
 
--- from place a over the pages to place b, each leads to the next and back
+-- from node a over the pages to node b, each leads to the next and back
 abbrev pub Linked : (ℕ → ℕ) → (ℕ → ℕ) → ℕ → List ℕ → ℕ → Type 0
 Linked after before a [] b = (after a ≡ b) × (before b ≡ a)
 Linked after before a (x ∷ xs) b = (after a ≡ x) × (before x ≡ a) × Linked after before x xs b
 
--- what the records say of each place
+-- what the records say of each node
 pub record Table : Type 0 where
   pub pages : ℕ
-  -- the list whose page or head stands there
+  -- the list whose page or head it is
   pub tag : ℕ → Option ListName
   pub after : ℕ → ℕ
   pub before : ℕ → ℕ
 
--- the place of a list's head
+-- the node of a list's head
 abbrev pub head_at : ℕ → ListName → ℕ
 head_at pages list = pages + code list
 
@@ -96,7 +96,7 @@ lists_in d = record {
 }
 
 pub record IsSound (d : Content) : Type 0 where
-  -- a record for each page and each head, whose places fit 32 bits
+  -- a record for each page and each head, whose numbers fit 32 bits
   pub size : length d.records ≡ d.pages + 4
   pub fits : d.pages + 4 ≤ 2 ^ 32
   pub shows : Shows (table_of d.pages d.records) (lists_in d)

@@ -1,11 +1,16 @@
 //! ARC's directory: the request, a page forgotten, and a victim brought back.
 
-ghost use Rattle.std.specs.Prelude.{◌≡◌, ◌≢◌, ℕ, ◌+◌, ◌*◌, ◌^◌, ◌<◌, ◌≤◌, ◌⊎◌, ◌↔◌, ◌==◌, if◌then◌else◌, is_none, Bool, true, false, List, [], ◌∷◌, length, Option, Some, None, IsTrue, IsFalse, IfOk, slice_get};
+ghost use Rattle.std.specs.Prelude.{◌≡◌, ◌≢◌, ℕ, ◌+◌, ◌*◌, ◌^◌, ◌<◌, ◌≤◌, ◌⊎◌, ◌↔◌, ◌==◌, if◌then◌else◌, is_none, Bool};
+ghost use Rattle.std.specs.Prelude.{true, false, List, [], ◌∷◌, length, Option, Some, None, IsTrue, IsFalse, IfOk};
+ghost use Rattle.std.specs.Prelude.{slice_get};
 ghost use Rattle.pp_arc.specs.Pages.{times_in, contains};
-ghost use Rattle.pp_arc.specs.FourLists.{empty_lists, list_of, cached_count, recent_count, total_count, times_named, is_cached, place, after};
+ghost use Rattle.pp_arc.specs.FourLists.{empty_lists, list_of, cached_count, recent_count, total_count, times_named};
+ghost use Rattle.pp_arc.specs.FourLists.{is_cached, place, after};
 ghost use Rattle.pp_arc.specs.Bounds.{IsWithinBounds};
 ghost use Rattle.pp_arc.specs.Laws.{AllCachedAreBusy, CachesInstead, CachesWithout, CachesAgain};
-ghost use Rattle.pp_arc.specs.Figure.{forget, with_front_of_t1, with_front_of_t2, with_remembered, raised_target, lowered_target, victim, replacement, after_replace, replace_in_t1, room_for_new, without_last_of_b1, without_last_of_b2, is_all_busy, request, bring_back};
+ghost use Rattle.pp_arc.specs.Figure.{forget, with_front_of_t1, with_front_of_t2, with_remembered, raised_target};
+ghost use Rattle.pp_arc.specs.Figure.{lowered_target, victim, replacement, after_replace, replace_in_t1, room_for_new};
+ghost use Rattle.pp_arc.specs.Figure.{without_last_of_b1, without_last_of_b2, is_all_busy, request, bring_back};
 
 use crate::links::Links;
 use crate::{Answer, Busy, List};
@@ -119,9 +124,11 @@ impl Directory {
 
         // which answer comes when
         ensures hit { (result ≡ Answer.Hit) ↔ IsTrue (is_cached self.old page) }
-        ensures free { (result ≡ Answer.Free) ↔ (IsFalse (is_cached self.old page) × (cached_count self.old < self.old.c)) }
+        ensures free { (result ≡ Answer.Free)
+            ↔ (IsFalse (is_cached self.old page) × (cached_count self.old < self.old.c)) }
         ensures all_busy { (result ≡ Answer.AllBusy)
-            ↔ (IsFalse (is_cached self.old page) × (cached_count self.old ≡ self.old.c) × AllCachedAreBusy self.old (B.busy busy.now)) }
+            ↔ (IsFalse (is_cached self.old page) × (cached_count self.old ≡ self.old.c)
+            × AllCachedAreBusy self.old (B.busy busy.now)) }
 
         // what it does
         ensures unchanged { result ≡ Answer.AllBusy → self.new ≡ self.old }

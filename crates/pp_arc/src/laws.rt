@@ -1,6 +1,7 @@
 //! Laws of the figure, on the four lists themselves: they hold whoever keeps the lists, and each is proved.
 
-ghost use Rattle.std.specs.Prelude.{◌≡◌, ◌≢◌, ℕ, Bool, ◌<◌, ◌↔◌, is_none, slice_get, Some, IsTrue, IsFalse, if◌then◌else◌};
+ghost use Rattle.std.specs.Prelude.{◌≡◌, ◌≢◌, ℕ, Bool, ◌<◌, ◌↔◌, is_none, slice_get, Some, IsTrue, IsFalse};
+ghost use Rattle.std.specs.Prelude.{if◌then◌else◌};
 ghost use Rattle.pp_arc.specs.declared.answer.Answer.{Answer};
 ghost use Rattle.pp_arc.specs.FourLists.{FourLists, is_cached, cached_count, place};
 ghost use Rattle.pp_arc.specs.Bounds.{IsWithinBounds};

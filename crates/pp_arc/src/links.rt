@@ -1,6 +1,7 @@
 //! Four lists of page numbers in one table of linked records.
 
-ghost use Rattle.std.specs.Prelude.{◌≡◌, ◌≢◌, ℕ, ◌+◌, ◌^◌, ◌<◌, ◌≤◌, ◌==◌, [], ◌∷◌, length, IfOk, IfSome, slice_get, Some, None};
+ghost use Rattle.std.specs.Prelude.{◌≡◌, ◌≢◌, ℕ, ◌+◌, ◌^◌, ◌<◌, ◌≤◌, ◌==◌, [], ◌∷◌, length, IfOk, IfSome, slice_get};
+ghost use Rattle.std.specs.Prelude.{Some, None};
 ghost use Rattle.pp_arc.specs.Pages.{last_not_busy, next_after};
 ghost use Rattle.pp_arc.specs.FourLists.{empty_lists, list_of, place, after};
 ghost use Rattle.pp_arc.specs.Figure.{forget};
@@ -23,13 +24,13 @@ struct Record {
 
 impl Record {
     /// The head of an empty list, which is its own neighbour.
-    fn head(list: List, place: u32) -> Self
-        ensures { result ≡ record { list = Some list; before = place; after = place } }
+    fn head(list: List, node: u32) -> Self
+        ensures { result ≡ record { list = Some list; before = node; after = node } }
     {
         Record {
             list: Some(list),
-            before: place,
-            after: place,
+            before: node,
+            after: node,
         }
     }
 }
@@ -121,15 +122,11 @@ impl Links {
         self.counts[code_of(list) as usize]
     }
 
-    /// The page at a place, if it isn't a head's.
-    fn page_at(&self, place: u32) -> Option<u32>
-        ensures { result ≡ page_at self.now.pages place }
+    /// The page of a node, if it isn't a head's.
+    fn page_at(&self, node: u32) -> Option<u32>
+        ensures { result ≡ page_at self.now.pages node }
     {
-        if place < self.pages {
-            Some(place)
-        } else {
-            None
-        }
+        if node < self.pages { Some(node) } else { None }
     }
 
     /// The most recent page of the list, if it has one.
@@ -153,11 +150,11 @@ impl Links {
         ensures { result ≡ last_not_busy (list_of self.now list) (B.busy busy.now) }
     {
         let code = code_of(list);
-        let mut place = self.pages + code;
+        let mut node = self.pages + code;
         for _ in 0..self.counts[code as usize] {
-            place = self.records[place as usize].before;
-            if !busy.is_busy(place) {
-                return Some(place);
+            node = self.records[node as usize].before;
+            if !busy.is_busy(node) {
+                return Some(node);
             }
         }
         None

@@ -45,8 +45,8 @@ pub fn frames_beside(alloc: Global) -> anyhow::Result<u64> {
 
 /// How many frames are left to others at any time while the plan runs.
 ///
-/// Nothing is tested, and the difference is never below zero: an `Accepted` is made by `check` alone, and its type keeps
-/// what the checker found.
+/// Nothing is tested, and the difference is never below zero: an `Accepted` is made by `check` alone, and its type
+/// keeps what the checker found.
 fn frames_left(accepted: &Accepted) -> u64
     ensures left { result + accepted.now.peak ≡ accepted.now.plan.layout.frames }
     // Whatever has been done of the plan, it holds no more slots than there are frames.

@@ -1,9 +1,11 @@
-//! Three small callers, to copy from: the checker of certificates alone, ARC's directory alone, marks alone.
+//! Four small callers, to copy from: the checker of certificates alone, ARC's directory alone, marks alone, and a tiny
+//! cache of the directory and the marks together.
 //!
 //! Each stands in a file of its own, asks for nothing else of the pool, and is proved against the public contracts of
-//! the one part that it uses.
+//! the parts that it uses.
 #![tactic(auto)]
 
+mod cache;
 mod checker;
 mod directory;
 mod marks;
@@ -17,5 +19,9 @@ fn main(rt: HostRuntime) -> anyhow::Result<()> {
     if let Some(frame) = marks::load(rt.alloc(), 16)? {
         println!(rt; "marks: page 16 was read in frame {frame}, and is given back")?;
     }
+    let (while_in_use, unfixed) = cache::fourth_page(rt.alloc())?;
+    println!(rt;
+        "cache: page 4 gets {while_in_use:?} while 3 pages are in use, {unfixed:?} once page 1 is unfixed"
+    )?;
     Ok(())
 }

@@ -1,9 +1,12 @@
 -- The refusal that reading gives tells the first fault in the order.
-use Rattle.std.proofs.Common.{◌≡◌, ◌≢◌, inl, inr, ℕ, zero, suc, ◌≤◌, ◌<◌, Bool, true, false, nat_le, List, [], ◌∷◌, ◌++◌, length, Option, Some, None, option_and_then, Result, Ok, Err, codes, refl, sym, ap, subst, ◌∙◌, arith}
+use Rattle.std.proofs.Common.{◌≡◌, ◌≢◌, inl, inr, ℕ, zero, suc, ◌≤◌, ◌<◌, Bool, true, false, nat_le, List, [], ◌∷◌}
+use Rattle.std.proofs.Common.{◌++◌, length, Option, Some, None, option_and_then, Result, Ok, Err, codes, refl, sym, ap}
+use Rattle.std.proofs.Common.{subst, ◌∙◌, arith}
 use Rattle.std.specs.Prelude.{IfOk, IfErr, slice_get}
 use Rattle.std.specs.Option.{ok_or, option_map_or}
 use Rattle.std.proofs.lemmas.Bool.{leb-true, leb-false, false≢true}
-use Rattle.serde_json.specs.Data.{unsigned, Data, number, string, array, object, Items, no_items, item, Members, no_members, member}
+use Rattle.serde_json.specs.Data.{unsigned, Data, number, string, array, object, Items, no_items, item, Members}
+use Rattle.serde_json.specs.Data.{no_members, member}
 use Rattle.serde_json.specs.Events.{items_len, members_len}
 use Rattle.serde_json.specs.Find.{as_array, as_object, as_str, as_number, as_u64, get}
 use Rattle.serde_json.specs.Read.{read}
@@ -20,12 +23,18 @@ use Rattle.pp_cert.specs.declared.note.Entry.{Entry}
 use Rattle.pp_cert.specs.declared.note.Held.{Held}
 use Rattle.pp_cert.specs.declared.error.CertError.{CertError}
 use Rattle.pp_cert.specs.declared.error.CertError.TheVariants.{NotJson, WrongField, UnknownName, TooMany, OutOfMemory}
-use Rattle.pp_cert.specs.CertErrors.{is_memory}
+use Rattle.pp_cert.specs.CertErrors.{is_certificate_memory}
 use Rattle.pp_cert.specs.Limits.{most_notes, most_entries}
 use Rattle.pp_cert.specs.Claims.{Claims, claims_of}
 use Rattle.pp_cert.specs.Words.{held_text, held_of, certificate_keys}
-use Rattle.pp_cert.specs.Reading.{as_two, entry_at, entries_from, note_at, notes_from, list_at, number_at, claims_at, reading}
-use Rattle.pp_cert.specs.Faults.{elements, notes_in, Written, entries_in, EntryFault, other_form, no_slot, no_region, HasEntryFault, EntryBefore, NoteFault, no_object, many_entries, in_entry, HasNoteFault, NoteBefore, Fault, not_json, other_top, many_notes, in_note, IsTopForm, HasFault, IsBefore, entry_error, note_error, IsFirst, TellsFirst}
+use Rattle.pp_cert.specs.Reading.{as_two, read_entry, entries_from, read_note, notes_from, list_at, number_at}
+use Rattle.pp_cert.specs.Reading.{claims_at, reading}
+use Rattle.pp_text.specs.First.{IsFirstBy}
+use Rattle.pp_text.specs.Objects.{elements}
+use Rattle.pp_cert.specs.Faults.{notes_in, Written, entries_in, EntryFault, other_form, no_slot, no_region}
+use Rattle.pp_cert.specs.Faults.{HasEntryFault, EntryBefore, NoteFault, no_object, many_entries, in_entry, HasNoteFault}
+use Rattle.pp_cert.specs.Faults.{NoteBefore, Fault, not_json, other_top, many_notes, in_note, IsTopForm, HasFault}
+use Rattle.pp_cert.specs.Faults.{IsBefore, entry_error, note_error, TellsFirst}
 use Rattle.pp_cert.proofs.Values.{two_is, held_is, held_again}
 use Rattle.pp_cert.proofs.Laws.{entry_found}
 
@@ -58,7 +67,7 @@ abbrev Form : Data → Type 0
 Form d = (name : List ℕ) × (h : Held) × (d ≡ array (item (string name) (item (string (held_text h)) no_items)))
 
 abbrev EntryTold : Configuration → Terms → Written → CertError → Type 0
-EntryTold c p w e = (f : EntryFault) × (entry_error f ≡ e) × IsFirst (HasEntryFault c p w) EntryBefore f
+EntryTold c p w e = (f : EntryFault) × (entry_error f ≡ e) × IsFirstBy (HasEntryFault c p w) EntryBefore f
 
 before_form : (g : EntryFault) → EntryBefore g other_form → ⊥
 before_form other_form b = b
@@ -84,9 +93,9 @@ text_is : (x y : List ℕ) → ◌≡◌ {A = Data} (string x) (string y) → x 
 text_is x y e = cc
 
 module _ (c : Configuration) (p : Terms) where
-  entry_first : (key : List ℕ) (d : Data) (e : CertError) → entry_at c p key d ≡ Err e
+  entry_first : (key : List ℕ) (d : Data) (e : CertError) → read_entry c p key d ≡ Err e
       → EntryTold c p (record { name = key; value = d }) e
-  unfolding entry_at
+  unfolding read_entry
   entry_first key d e h =
       let w : Written = record { name = key; value = d } in
       step (ok_or (as_array d) WrongField) _ e h
@@ -145,7 +154,7 @@ module _ (c : Configuration) (p : Terms) where
       region_before w form slot known no_region b has = b
 
   -- an entry that was read has no fault
-  entry_clear : (key : List ℕ) (d : Data) (x : Entry) → entry_at c p key d ≡ Ok x
+  entry_clear : (key : List ℕ) (d : Data) (x : Entry) → read_entry c p key d ≡ Ok x
       → (f : EntryFault) → ¬ HasEntryFault c p (record { name = key; value = d }) f
   entry_clear key d x h other_form has = let s = entry_found c p key d x h in has (s.name, x.held, s.value)
   entry_clear key d x h no_slot has =
@@ -180,7 +189,7 @@ module _ (c : Configuration) (p : Terms) where
   entries_first earlier no_members e h = absurd cc
   entries_first earlier (member key d ms) e h =
       let w : Written = record { name = key; value = d } in
-      step (entry_at c p key d) _ e h
+      step (read_entry c p key d) _ e h
       (λ bad. record {
         place = 0;
         entry = w;
@@ -204,16 +213,16 @@ module _ (c : Configuration) (p : Terms) where
       → AreClear (entries_in ms)
   entries_clear earlier no_members all h j v is f has = absurd cc
   entries_clear earlier (member key d ms) all h zero v is f has =
-      let (x, ok, h1) = bind_ok (entry_at c p key d) _ all h in
+      let (x, ok, h1) = bind_ok (read_entry c p key d) _ all h in
       clear_head (record { name = key; value = d }) v (entry_clear key d x ok) is f has
   entries_clear earlier (member key d ms) all h (suc j) v is f has =
-      let (x, ok, h1) = bind_ok (entry_at c p key d) _ all h in
+      let (x, ok, h1) = bind_ok (read_entry c p key d) _ all h in
       entries_clear (earlier ++ x ∷ []) ms all h1 j v is f has
 
   -- ---- one note
 
   abbrev NoteTold : Data → CertError → Type 0
-  NoteTold d e = (f : NoteFault) × (note_error f ≡ e) × IsFirst (HasNoteFault c p d) NoteBefore f
+  NoteTold d e = (f : NoteFault) × (note_error f ≡ e) × IsFirstBy (HasNoteFault c p d) NoteBefore f
 
   entries_count : (ms : Members) → length (entries_in ms) ≡ members_len ms
   entries_count no_members = refl
@@ -233,8 +242,8 @@ module _ (c : Configuration) (p : Terms) where
       let same = ap (λ (x : Members). length (entries_in x)) (same_members d ms has.0 is has.1) in
       omega (arith, few, has.2, same, entries_count ms)
 
-  note_first : (d : Data) (e : CertError) → note_at c p d ≡ Err e → NoteTold d e
-  unfolding note_at
+  note_first : (d : Data) (e : CertError) → read_note c p d ≡ Err e → NoteTold d e
+  unfolding read_note
   note_first d e h =
       step (ok_or (as_object d) WrongField) _ e h
       (λ bad.
@@ -277,8 +286,8 @@ module _ (c : Configuration) (p : Terms) where
               let one = some_is t.entry has.2.0 (sym t.there ∙ here) in
               t.told.2.1 g earlier (subst (λ (x : Written). HasEntryFault c p x g) (sym one) has.2.2)
 
-  note_clear : (d : Data) (es : List Entry) → note_at c p d ≡ Ok es → (f : NoteFault) → ¬ HasNoteFault c p d f
-  unfolding note_at
+  note_clear : (d : Data) (es : List Entry) → read_note c p d ≡ Ok es → (f : NoteFault) → ¬ HasNoteFault c p d f
+  unfolding read_note
   note_clear d es h f has =
       let (ms, o, h1) = bind_ok (ok_or (as_object d) WrongField) _ es h in
       let (x, few, h2) = bind_ok (must (nat_le (members_len ms) most_entries) TooMany) _ es h1 in
@@ -310,7 +319,7 @@ module _ (c : Configuration) (p : Terms) where
       → NotesTold (elements ds) e
   notes_first earlier no_items e h = absurd cc
   notes_first earlier (item d ds) e h =
-      step (note_at c p d) _ e h
+      step (read_note c p d) _ e h
       (λ bad. record {
         place = 0;
         note = d;
@@ -335,10 +344,10 @@ module _ (c : Configuration) (p : Terms) where
       → (j : ℕ) (y : Data) → slice_get (elements ds) j ≡ Some y → (f : NoteFault) → ¬ HasNoteFault c p y f
   notes_clear earlier no_items all h j y is f has = absurd cc
   notes_clear earlier (item d ds) all h zero y is f has =
-      let (x, ok, h1) = bind_ok (note_at c p d) _ all h in
+      let (x, ok, h1) = bind_ok (read_note c p d) _ all h in
       note_head d y (note_clear d x ok) is f has
   notes_clear earlier (item d ds) all h (suc j) y is f has =
-      let (x, ok, h1) = bind_ok (note_at c p d) _ all h in
+      let (x, ok, h1) = bind_ok (read_note c p d) _ all h in
       notes_clear (earlier ++ x ∷ []) ds all h1 j y is f has
 
   -- ---- the whole value
@@ -485,17 +494,19 @@ module _ (c : Configuration) (p : Terms) where
       claims_clear d t h1 f (subst (λ (o : Option Data). HasFault c p o f) (ok_or_ok (read text) NotJson d parsed) has)
 
   told_first : (text : List ℕ) (e : CertError) → e ≢ OutOfMemory
-      → Refuses {Y = Claims} (is_memory e) e (reading c p text)
+      → Refuses {Y = Claims} (is_certificate_memory e) e (reading c p text)
       → TellsFirst c p (read text) e
   told_first text OutOfMemory other h = absurd (other refl)
   told_first text e other h = text_first text e h
 
 pub refused_first : (c : Configuration) (p : Terms) (text : List ℕ) (r : Result Certificate CertError)
-    → Gives is_memory claims_of r (reading c p text) → IfErr r (λ e. e ≢ OutOfMemory → TellsFirst c p (read text) e)
+    → Gives is_certificate_memory claims_of r (reading c p text)
+    → IfErr r (λ e. e ≢ OutOfMemory → TellsFirst c p (read text) e)
 refused_first c p text (Ok t) gives = tt
 refused_first c p text (Err e) gives = λ other. told_first c p text e other gives
 
 pub accepted_clear : (c : Configuration) (p : Terms) (text : List ℕ) (r : Result Certificate CertError)
-    → Gives is_memory claims_of r (reading c p text) → IfOk r (λ t. (f : Fault) → ¬ HasFault c p (read text) f)
+    → Gives is_certificate_memory claims_of r (reading c p text)
+    → IfOk r (λ t. (f : Fault) → ¬ HasFault c p (read text) f)
 accepted_clear c p text (Ok t) gives = text_clear c p text (claims_of t) gives
 accepted_clear c p text (Err e) gives = tt

@@ -1,6 +1,8 @@
 -- A note fits what is held: the same slots, each held as the note says, with a page of the entry's region.
-use Rattle.std.proofs.Common.{◌≡◌, ℕ, zero, suc, ◌+◌, ◌<◌, Bool, true, false, cond, Option, Some, List, [], ◌∷◌, length, get_or, refl, sym, ap, subst, ◌∙◌, arith, inl, inr}
-use Rattle.std.specs.Prelude.{◌==◌, ◌||◌, not, nat_lt, nat_le, if◌then◌else◌, option_map, find, slice_get, unwrap_or, All, AllPairs, IsTrue}
+use Rattle.std.proofs.Common.{◌≡◌, ℕ, zero, suc, ◌+◌, ◌<◌, Bool, true, false, cond, Option, Some, List, [], ◌∷◌, length}
+use Rattle.std.proofs.Common.{get_or, refl, sym, ap, subst, ◌∙◌, arith, inl, inr}
+use Rattle.std.specs.Prelude.{◌==◌, ◌||◌, not, nat_lt, nat_le, if◌then◌else◌, option_map, find, slice_get, unwrap_or}
+use Rattle.std.specs.Prelude.{All, AllPairs, IsTrue}
 use Rattle.std.specs.List.{list_all}
 use Rattle.std.proofs.lemmas.Bool.{and_parts, ltb-true, leb-true}
 use Rattle.std.proofs.lemmas.List.Elements.{All-cons}
@@ -9,8 +11,10 @@ use Rattle.pp_settings.specs.Layout.{Geometry, HasPage, IsLayout, IsApart, has_p
 use Rattle.pp_cert.specs.declared.note.Entry.{Entry}
 use Rattle.pp_cert.specs.declared.note.Held.{Held}
 use Rattle.pp_cert.specs.Slots.{slot_insert, slot_remove}
-use Rattle.pp_cert.specs.Held.{Holding, Holdings, holding_slot, holding_at, held_at, holding_as, is_latched, IsClassBelow, IsAboveLatched}
-use Rattle.pp_cert.specs.Notes.{Entries, entry_slot, entry_at, noted_at, noted_as, region_class, slot_class, is_above_latched}
+use Rattle.pp_cert.specs.Held.{Holding, Holdings, holding_slot, holding_at, held_at, holding_as, is_latched}
+use Rattle.pp_cert.specs.Held.{IsClassBelow, IsAboveLatched}
+use Rattle.pp_cert.specs.Notes.{Entries, entry_slot, entry_at, noted_at, noted_as, region_class, slot_class}
+use Rattle.pp_cert.specs.Notes.{is_above_latched}
 
 -- ---- notes and holdings
 

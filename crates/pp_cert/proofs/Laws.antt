@@ -1,5 +1,6 @@
 -- What is read is spelled so, and what is spelled so is read.
-use Rattle.std.proofs.Common.{◌≡◌, ℕ, suc, ◌≤◌, nat_le, List, [], ◌∷◌, ◌++◌, length, Result, Ok, Err, codes, refl, sym, ap, subst, ◌∙◌, append_assoc, arith}
+use Rattle.std.proofs.Common.{◌≡◌, ℕ, suc, ◌≤◌, nat_le, List, [], ◌∷◌, ◌++◌, length, Result, Ok, Err, codes, refl, sym}
+use Rattle.std.proofs.Common.{ap, subst, ◌∙◌, append_assoc, arith}
 use Rattle.std.specs.Prelude.{All, IfOk, option_and_then}
 use Rattle.std.specs.Option.{ok_or}
 use Rattle.std.proofs.lemmas.Bool.{leb-true, le-leb}
@@ -21,11 +22,12 @@ use Rattle.pp_cert.specs.declared.certificate.Certificate.{Certificate}
 use Rattle.pp_cert.specs.declared.note.Entry.{Entry}
 use Rattle.pp_cert.specs.declared.error.CertError.{CertError}
 use Rattle.pp_cert.specs.declared.error.CertError.TheVariants.{NotJson, WrongField, UnknownName, TooMany}
-use Rattle.pp_cert.specs.CertErrors.{is_memory}
+use Rattle.pp_cert.specs.CertErrors.{is_certificate_memory}
 use Rattle.pp_cert.specs.Limits.{most_notes, most_entries}
 use Rattle.pp_cert.specs.Claims.{Claims, claims_of, AreFew}
 use Rattle.pp_cert.specs.Words.{held_text, held_of, certificate_keys}
-use Rattle.pp_cert.specs.Reading.{as_two, entry_at, entries_from, note_at, notes_from, list_at, number_at, claims_at, reading}
+use Rattle.pp_cert.specs.Reading.{as_two, read_entry, entries_from, read_note, notes_from, list_at, number_at}
+use Rattle.pp_cert.specs.Reading.{claims_at, reading}
 use Rattle.pp_cert.specs.Spelling.{SpellsEntry, SpellsEntries, SpellsNotes, Spells, IsText}
 use Rattle.pp_cert.proofs.Values.{two_is, held_is, held_again}
 
@@ -35,9 +37,9 @@ pair_is : (d : Data) (ds : Items) (a b x y : Data) → d ≡ array ds → ds ≡
     → d ≡ array (item x (item y no_items))
 pair_is d ds a b x y is are first second = cc
 
-pub entry_found : (c : Configuration) (p : Terms) (key : List ℕ) (d : Data) (e : Entry) → entry_at c p key d ≡ Ok e
+pub entry_found : (c : Configuration) (p : Terms) (key : List ℕ) (d : Data) (e : Entry) → read_entry c p key d ≡ Ok e
     → SpellsEntry c p key d e
-unfolding entry_at
+unfolding read_entry
 entry_found c p key d e h =
     let (items, a, h1) = bind_ok (ok_or (as_array d) WrongField) _ e h in
     let (two, b, h2) = bind_ok (ok_or (as_two items) WrongField) _ e h1 in
@@ -54,15 +56,15 @@ entry_found c p key d e h =
     (record { slot = ok_or_ok _ _ slot s; name = name; region = ok_or_ok _ _ region r; value = is })
 
 pub entry_again : (c : Configuration) (p : Terms) (key : List ℕ) (d : Data) (e : Entry) → SpellsEntry c p key d e
-    → entry_at c p key d ≡ Ok e
-unfolding entry_at
+    → read_entry c p key d ≡ Ok e
+unfolding read_entry
 entry_again c p key d e s = rw (s.value, held_again e.held, s.slot, s.region) refl
 
 pub entries_found : (c : Configuration) (p : Terms) (earlier : List Entry) (ms : Members) (all : List Entry)
     → entries_from c p earlier ms ≡ Ok all → (es : List Entry) × (all ≡ earlier ++ es) × SpellsEntries c p ms es
 entries_found c p earlier no_members all h = ([], ok_is all earlier (sym h) ∙ sym (append-nil earlier), tt)
 entries_found c p earlier (member key d ms) all h =
-    let (e, next, h1) = bind_ok (entry_at c p key d) _ all h in
+    let (e, next, h1) = bind_ok (read_entry c p key d) _ all h in
     let (es, parts, more) = entries_found c p (earlier ++ e ∷ []) ms all h1 in
     (e ∷ es, parts ∙ append_assoc earlier (e ∷ []) es, (entry_found c p key d e next, more))
 
@@ -84,9 +86,9 @@ entries_length c p (member key d ms) (e ∷ es) s = ap (λ (n : ℕ). suc n) (en
 
 -- ---- notes
 
-pub note_found : (c : Configuration) (p : Terms) (d : Data) (es : List Entry) → note_at c p d ≡ Ok es → (ms : Members)
+pub note_found : (c : Configuration) (p : Terms) (d : Data) (es : List Entry) → read_note c p d ≡ Ok es → (ms : Members)
     × (d ≡ object ms) × SpellsEntries c p ms es × (length es ≤ most_entries)
-unfolding note_at
+unfolding read_note
 note_found c p d es h =
     let (ms, o, h1) = bind_ok (ok_or (as_object d) WrongField) _ es h in
     let (x, few, h2) = bind_ok (must (nat_le (members_len ms) most_entries) TooMany) _ es h1 in
@@ -97,8 +99,8 @@ note_found c p d es h =
     (ms, object_is d ms (ok_or_ok _ _ ms o), is, omega (arith, long, most))
 
 pub note_again : (c : Configuration) (p : Terms) (ms : Members) (es : List Entry) → SpellsEntries c p ms es
-    → length es ≤ most_entries → note_at c p (object ms) ≡ Ok es
-unfolding note_at
+    → length es ≤ most_entries → read_note c p (object ms) ≡ Ok es
+unfolding read_note
 note_again c p ms es s few =
     rw (le-leb (members_len ms) most_entries (omega (arith, entries_length c p ms es s)), entries_again c p [] ms es s)
     refl
@@ -120,7 +122,7 @@ notes_found c p earlier no_items all h = (
   All-nil (λ (note : List Entry). length note ≤ most_entries),
 )
 notes_found c p earlier (item d ds) all h =
-    let (note, next, h1) = bind_ok (note_at c p d) _ all h in
+    let (note, next, h1) = bind_ok (read_note c p d) _ all h in
     let (ms, is, s, few) = note_found c p d note next in
     let (notes, parts, more, rest) = notes_found c p (earlier ++ note ∷ []) ds all h1 in (
       note ∷ notes,
@@ -196,7 +198,7 @@ claims_again c p d t s few =
 -- ---- the text
 
 pub is_found : (c : Configuration) (p : Terms) (text : List ℕ) (r : Result Certificate CertError)
-    → Gives is_memory claims_of r (reading c p text) → IfOk r (λ t. IsText c p text (claims_of t))
+    → Gives is_certificate_memory claims_of r (reading c p text) → IfOk r (λ t. IsText c p text (claims_of t))
 is_found c p text (Ok t) given =
     let (d, parsed, e) = bind_ok (ok_or (read text) NotJson) (claims_at c p) (claims_of t) given in
     let (s, few) = claims_found c p d (claims_of t) e in
@@ -208,6 +210,7 @@ pub text_again : (c : Configuration) (p : Terms) (text : List ℕ) (t : Claims) 
 text_again c p text t (d, parsed, s, few) = rw (parsed, claims_again c p d t s few) refl
 
 pub is_only : (c : Configuration) (p : Terms) (text : List ℕ) (r : Result Certificate CertError) (t : Claims)
-    → Gives is_memory claims_of r (reading c p text) → IsText c p text t → Gives is_memory claims_of r (Ok t)
+    → Gives is_certificate_memory claims_of r (reading c p text) → IsText c p text t
+    → Gives is_certificate_memory claims_of r (Ok t)
 is_only c p text r t given is =
-    subst (λ (x : Result Claims CertError). Gives is_memory claims_of r x) (text_again c p text t is) given
+    subst (λ (x : Result Claims CertError). Gives is_certificate_memory claims_of r x) (text_again c p text t is) given

@@ -1,5 +1,6 @@
 -- No trace is longer than the longest, and one is as long.
-use Rattle.std.proofs.Common.{◌≡◌, ℕ, zero, suc, ◌+◌, ◌*◌, ◌<◌, ◌≤◌, true, false, List, [], ◌∷◌, ◌++◌, length, get_or, refl, ap, ◌∙◌, arith, length-append}
+use Rattle.std.proofs.Common.{◌≡◌, ℕ, zero, suc, ◌+◌, ◌*◌, ◌<◌, ◌≤◌, true, false, List, [], ◌∷◌, ◌++◌, length, get_or}
+use Rattle.std.proofs.Common.{refl, ap, ◌∙◌, arith, length-append}
 use Rattle.std.specs.Prelude.{◌&&◌, nat_le, nat_lt}
 use borrow.Author.Tests.{leb-true, leb-false}
 use Rattle.std.proofs.lemmas.Bool.Decides.{nat_tests}
@@ -8,7 +9,8 @@ use Rattle.pp_settings.specs.declared.extent.Extent.{Extent}
 use Rattle.pp_settings.specs.Layout.{Geometry, HasPage, IsLayout, IsExtent, has_page}
 use Rattle.pp_plan.specs.declared.action.Action.{Action}
 use Rattle.pp_plan.specs.declared.action.Action.TheVariants.{Fix, Unfix, Latch, Unlatch, Choose}
-use Rattle.pp_plan.specs.Tree.{Step, fix, unfix, latch, unlatch, Statement, step, loop, choice, Sequence, done, andthen, Alternatives, none, either, branch_count}
+use Rattle.pp_plan.specs.Tree.{Step, fix, unfix, latch, unlatch, Statement, step, loop, choice, Sequence, skip, andthen}
+use Rattle.pp_plan.specs.Tree.{Alternatives, none, either, branch_count}
 use Rattle.pp_plan.specs.Traces.{Repeats, IsStatementTrace, IsTrace, IsBranchTrace}
 use Rattle.pp_plan.specs.Rules.{IsStatement, IsSequence, AreAlternatives}
 use Rattle.pp_cert.specs.Longest.{statement_longest, sequence_longest, alternatives_longest, IsLongest}
@@ -29,7 +31,7 @@ module _ (g : Geometry) where
     statement_bound (choice bs) t h = let e = ap length h.2 in omega (arith, branch_bound bs h.0 h.1 h.3)
 
     pub sequence_bound : (b : Sequence) (t : List Action) → IsTrace g b t → length t ≤ sequence_longest b
-    sequence_bound done t h = let e = ap length h in omega arith
+    sequence_bound skip t h = let e = ap length h in omega arith
     sequence_bound (andthen s b) t h =
         let e = ap length h.2 in
         omega (arith, length-append h.0 h.1, statement_bound s h.0 h.3, sequence_bound b h.1 h.4)
@@ -85,7 +87,7 @@ module _ (g : Geometry) (l : IsLayout g) (slots : ℕ) where
 
     pub sequence_reached : (b : Sequence) → IsSequence slots (length g.extents) b → (t : List Action)
         × (length t ≡ sequence_longest b) × IsTrace g b t
-    sequence_reached done h = ([], refl, refl)
+    sequence_reached skip h = ([], refl, refl)
     sequence_reached (andthen s b) h =
         let p = statement_reached s h.0 in
         let q = sequence_reached b h.1 in

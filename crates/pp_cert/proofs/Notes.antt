@@ -1,5 +1,6 @@
 -- The notes that a text spells have entries of the plan and the settings, by rising slot.
-use Rattle.std.proofs.Common.{◌≡◌, ℕ, ◌<◌, Bool, false, cond, nat_lt, List, [], ◌∷◌, length, get_or, Option, Some, None, Ordering, Less, Equal, Greater, codes, nat_cmp, sym, ap, subst, ◌∙◌, arith}
+use Rattle.std.proofs.Common.{◌≡◌, ℕ, ◌<◌, Bool, false, cond, nat_lt, List, [], ◌∷◌, length, get_or, Option, Some, None}
+use Rattle.std.proofs.Common.{Ordering, Less, Equal, Greater, codes, nat_cmp, sym, ap, subst, ◌∙◌, arith}
 use Rattle.std.specs.Prelude.{All, AllPairs, IsTrue, IfOk, Result, Ok, Err}
 use Rattle.std.specs.List.{position, position_or_len}
 use Rattle.std.specs.Str.{bytes_eq}
@@ -11,7 +12,8 @@ use Rattle.std.proofs.lemmas.List.Elements.{All-nil, All-cons}
 use Rattle.std.proofs.lemmas.List.Kept.{AllPairs-cons}
 use Rattle.std.proofs.lemmas.List.Quantifiers.{position-Some}
 use Rattle.std.proofs.lemmas.Slice.Eq.{bytes_eq-Decides}
-use Rattle.serde_json.specs.Data.{Data, null, boolean, number, string, array, object, Items, no_items, item, Members, no_members, member}
+use Rattle.serde_json.specs.Data.{Data, null, boolean, number, string, array, object, Items, no_items, item, Members}
+use Rattle.serde_json.specs.Data.{no_members, member}
 use Rattle.serde_json.specs.Find.{get_member}
 use Rattle.pp_text.specs.Steps.{Gives}
 use Rattle.pp_text.specs.Objects.{Holds}
@@ -23,7 +25,7 @@ use Rattle.pp_cert.specs.declared.certificate.Certificate.{Certificate}
 use Rattle.pp_cert.specs.declared.error.CertError.{CertError}
 use Rattle.pp_cert.specs.declared.note.Entry.{Entry}
 use Rattle.pp_cert.specs.Claims.{Claims, claims_of, IsEntry, IsNote, AreClaims}
-use Rattle.pp_cert.specs.CertErrors.{is_memory}
+use Rattle.pp_cert.specs.CertErrors.{is_certificate_memory}
 use Rattle.pp_cert.specs.Reading.{reading}
 use Rattle.pp_cert.specs.Spelling.{SpellsEntries, SpellsNotes, IsText}
 use Rattle.pp_cert.proofs.Laws.{is_found}
@@ -141,6 +143,6 @@ are_claims c p text t plan (d, parsed, s, few) =
     record { few = few; notes = are_notes c p plan ds t.notes order spelled }
 
 pub is_writable : (c : Configuration) (p : Terms) (text : List ℕ) (r : Result Certificate CertError) → IsPlan p
-    → Gives is_memory claims_of r (reading c p text) → IfOk r (λ t. AreClaims c p (claims_of t))
+    → Gives is_certificate_memory claims_of r (reading c p text) → IfOk r (λ t. AreClaims c p (claims_of t))
 is_writable c p text (Ok t) plan given = are_claims c p text (claims_of t) plan (is_found c p text (Ok t) given)
 is_writable c p text (Err e) plan given = tt

@@ -1,5 +1,6 @@
 -- Tests that pass, and notes and layouts that are the same.
-use Rattle.std.proofs.Common.{◌≡◌, ℕ, ◌+◌, ◌≤◌, Bool, true, false, Option, Some, None, List, [], ◌∷◌, ◌++◌, length, refl, ap, ◌∙◌, arith}
+use Rattle.std.proofs.Common.{◌≡◌, ℕ, ◌+◌, ◌≤◌, Bool, true, false, Option, Some, None, List, [], ◌∷◌, ◌++◌, length}
+use Rattle.std.proofs.Common.{refl, ap, ◌∙◌, arith}
 use Rattle.std.specs.Prelude.{◌&&◌, ◌==◌, is_some, if◌then◌else◌, slice_get, unwrap_or}
 use Rattle.std.specs.Cmp.Lexicographic.{pointwise}
 use Rattle.std.proofs.lemmas.Bool.{and_parts, leb-true, eqb-true}
@@ -13,7 +14,10 @@ use Rattle.pp_cert.specs.declared.note.Entry.{Entry}
 use Rattle.pp_cert.specs.declared.check_error.CheckError.{CheckError}
 use Rattle.pp_cert.specs.Notes.{Entries, same_held, same_entry, same_note}
 use Rattle.pp_cert.specs.Longest.{sequence_longest}
-use Rattle.pp_cert.specs.Walk.{Claims, note_at, Expectation, empty, expected_note, Test, same_settings, there, as_expected, within_peak, holds_nothing, no_more_notes, steps_allowed, steps_enough, peak_allowed, passes, fault_of, first_fault, note_tests, sequence_tests, sequence_end, tests, same_extent, same_layout, most_steps}
+use Rattle.pp_cert.specs.Walk.{Claims, note_at, Expectation, empty, expected_note, Test, same_settings, there}
+use Rattle.pp_cert.specs.Walk.{as_expected, within_peak, holds_nothing, no_more_notes, steps_allowed, steps_enough}
+use Rattle.pp_cert.specs.Walk.{peak_allowed, passes, fault_of, first_fault, note_tests, sequence_tests, sequence_end}
+use Rattle.pp_cert.specs.Walk.{tests, same_extent, same_layout, most_steps}
 
 -- ---- tests that pass
 

@@ -1,6 +1,9 @@
 -- How the places of a plan's parts lie, and how many there are.
-use Rattle.std.proofs.Common.{◌≡◌, ℕ, zero, suc, ◌+◌, ◌*◌, ◌<◌, ◌≤◌, List, [], ◌∷◌, length, get_or, drop, refl, ap, arith, add-one, drop-cons}
-use Rattle.pp_plan.specs.Tree.{Statement, step, loop, choice, Sequence, done, andthen, Alternatives, none, either, statement_size, sequence_size, alternatives_size, statement_count, sequence_count, alternatives_count, branch_count}
+use Rattle.std.proofs.Common.{◌≡◌, ℕ, zero, suc, ◌+◌, ◌*◌, ◌<◌, ◌≤◌, List, [], ◌∷◌, length, get_or, drop, refl, ap}
+use Rattle.std.proofs.Common.{arith, add-one, drop-cons}
+use Rattle.pp_plan.specs.Tree.{Statement, step, loop, choice, Sequence, skip, andthen, Alternatives, none, either}
+use Rattle.pp_plan.specs.Tree.{statement_size, sequence_size, alternatives_size, statement_count, sequence_count}
+use Rattle.pp_plan.specs.Tree.{alternatives_count, branch_count}
 use Rattle.pp_plan.specs.Rules.{IsStatement, IsSequence, AreAlternatives}
 use Rattle.pp_plan.specs.View.{statement_of, sequence_of, alternatives_of}
 use Rattle.pp_plan.specs.declared.stmt.Stmt.{Stmt}
@@ -13,7 +16,7 @@ mutual
   statement_end-le k (choice bs) = omega (arith, alternatives_end-le (k + 1) bs)
 
   pub sequence_end-le : (k : ℕ) (b : Sequence) → k ≤ sequence_end k b
-  sequence_end-le k done = omega arith
+  sequence_end-le k skip = omega arith
   sequence_end-le k (andthen s b) = omega (arith, statement_end-le k s, sequence_end-le (statement_end k s) b)
 
   pub alternatives_end-le : (k : ℕ) (bs : Alternatives) → k ≤ alternatives_end k bs
@@ -31,7 +34,7 @@ mutual
 
   pub sequence_end-most : (slots regions k : ℕ) (b : Sequence) → IsSequence slots regions b
       → sequence_end k b ≤ k + 17 * sequence_count b
-  sequence_end-most slots regions k done h = omega arith
+  sequence_end-most slots regions k skip h = omega arith
   sequence_end-most slots regions k (andthen s b) h =
       omega (arith, statement_end-most slots regions k s h.0, sequence_end-most slots regions (statement_end k s) b h.1)
 

@@ -1,19 +1,25 @@
 -- Where the tests of a body pass, each of its traces goes well.
-use Rattle.std.proofs.Common.{◌≡◌, ℕ, zero, suc, ◌+◌, ◌≤◌, Bool, true, false, Option, Some, None, List, [], ◌∷◌, ◌++◌, length, refl, sym, ap, subst, ◌∙◌, arith}
+use Rattle.std.proofs.Common.{◌≡◌, ℕ, zero, suc, ◌+◌, ◌≤◌, Bool, true, false, Option, Some, None, List, [], ◌∷◌, ◌++◌}
+use Rattle.std.proofs.Common.{length, refl, sym, ap, subst, ◌∙◌, arith}
 use Rattle.std.specs.Prelude.{not, is_some, if◌then◌else◌}
 use Rattle.std.proofs.lemmas.Bool.{not-true}
 use Rattle.pp_settings.specs.Layout.{Geometry, IsLayout, HasPage}
 use Rattle.pp_plan.specs.declared.mode.Mode.{Mode}
 use Rattle.pp_plan.specs.declared.action.Action.{Action}
 use Rattle.pp_plan.specs.declared.action.Action.TheVariants.{Fix, Unfix, Latch, Unlatch, Choose}
-use Rattle.pp_plan.specs.Tree.{Step, fix, unfix, latch, unlatch, Statement, step, loop, choice, Sequence, done, andthen, Alternatives, none, either}
+use Rattle.pp_plan.specs.Tree.{Step, fix, unfix, latch, unlatch, Statement, step, loop, choice, Sequence, skip, andthen}
+use Rattle.pp_plan.specs.Tree.{Alternatives, none, either}
 use Rattle.pp_plan.specs.Traces.{Does, Repeats, IsStatementTrace, IsTrace, IsBranchTrace}
 use Rattle.pp_cert.specs.declared.note.Held.{Held}
 use Rattle.pp_cert.specs.declared.note.Held.TheVariants.{Free, S, X}
-use Rattle.pp_cert.specs.Held.{Holding, Holdings, held_in, held_at, held_next, holding_as, holding_slot, is_free_page, is_latched_page}
+use Rattle.pp_cert.specs.Held.{Holding, Holdings, held_in, held_at, held_next, holding_as, holding_slot, is_free_page}
+use Rattle.pp_cert.specs.Held.{is_latched_page}
 use Rattle.pp_cert.specs.Slots.{slot_insert, slot_remove}
 use Rattle.pp_cert.specs.Notes.{Entries, noted_at, noted_after}
-use Rattle.pp_cert.specs.Walk.{Claims, note_at, same, after, outcome, Test, slot_unused, slot_fixed, slot_unlatched, slot_latched, slot_in_order, loop_keeps, branch_agrees, first_fault, note_tests, step_tests, statement_tests, sequence_tests, later_tests, statement_end, sequence_end, alternatives_end}
+use Rattle.pp_cert.specs.Walk.{Claims, note_at, same, after, outcome, Test, slot_unused, slot_fixed, slot_unlatched}
+use Rattle.pp_cert.specs.Walk.{slot_latched, slot_in_order, loop_keeps, branch_agrees, first_fault, note_tests}
+use Rattle.pp_cert.specs.Walk.{step_tests, statement_tests, sequence_tests, later_tests, statement_end, sequence_end}
+use Rattle.pp_cert.specs.Walk.{alternatives_end}
 use Rattle.pp_cert.proofs.Fits.{Fits, fits_length, fits_held, fits_insert, fits_remove, fits_held_as, above_latched}
 use Rattle.pp_cert.proofs.Passing.{first_passes, both_pass, note_same, note_passes}
 use Rattle.pp_cert.proofs.Goes.{Goes, MayDo, goes_on}
@@ -215,7 +221,7 @@ module _ (g : Geometry) (l : IsLayout g) (c : Claims) where
     pub sequence_goes : (k : ℕ) (b : Sequence) → length (note_at c k) ≤ c.peak
         → first_fault g c (sequence_tests k b) ≡ None → (hs : Holdings) → Fits g (note_at c k) hs → (t : List Action)
         → IsTrace g b t → GoesTo (note_at c (sequence_end k b)) hs t
-    sequence_goes k done small h hs f t r =
+    sequence_goes k skip small h hs f t r =
         subst (λ u. GoesTo (note_at c k) hs u) (sym r) (stays (note_at c k) hs f small)
     sequence_goes k (andthen s b) small h hs f t r =
         let next : ℕ = statement_end k s in

@@ -1,23 +1,22 @@
 -- The tree that is written spells the claims, so reading gives them again.
-use Rattle.std.proofs.Common.{◌≡◌, ℕ, ◌<◌, ◌≤◌, Bool, true, List, [], ◌∷◌, length, map, get_or, Some, refl, sym, ap, subst, ◌∙◌, arith}
+use Rattle.std.proofs.Common.{◌≡◌, ℕ, ◌<◌, ◌≤◌, List, [], ◌∷◌, length, map, get_or, Some, refl, sym, ap}
+use Rattle.std.proofs.Common.{subst, ◌∙◌, arith}
 use Rattle.std.specs.Prelude.{All, Ok}
-use Rattle.std.specs.List.{position, position_or_len}
 use Rattle.std.specs.Str.{bytes_eq}
-use Rattle.std.proofs.lemmas.Bool.{false_from_ne_true}
-use Rattle.std.proofs.lemmas.Bool.Decides.{nat_tests}
 use Rattle.std.proofs.lemmas.List.Elements.{All-head, All-tail}
-use Rattle.std.proofs.lemmas.List.Sums.{position_or_len_is}
 use Rattle.std.proofs.lemmas.Option.{unwrap_or-slice_get}
 use Rattle.std.proofs.lemmas.Slice.Eq.{bytes_eq-Decides}
 use Rattle.serde_json.specs.Data.{Data, object, depth}
 use Rattle.serde_json.specs.Read.{read}
 use Rattle.serde_json.specs.View.{items_of}
-use Rattle.pp_settings.specs.Settings.{Configuration, IsConfiguration, region_named}
+use Rattle.pp_settings.specs.Settings.{Configuration, IsConfiguration}
 use Rattle.pp_plan.specs.Terms.{Terms, IsPlan}
 use Rattle.pp_plan.specs.Slots.{slot_named}
 use Rattle.pp_cert.specs.declared.note.Entry.{Entry}
 use Rattle.pp_cert.specs.Claims.{Claims, IsEntry, IsNote, AreClaims}
-use Rattle.pp_cert.specs.Writing.{slot_name, region_name}
+use Rattle.pp_text.proofs.Positions.{position_only, same_text}
+use Rattle.pp_plan.specs.Writing.{slot_name, region_name}
+use Rattle.pp_plan.proofs.Spelled.{region_named_again}
 use Rattle.pp_cert.specs.Tree.{entry_members, note_tree, certificate_members}
 use Rattle.pp_cert.specs.Reading.{reading}
 use Rattle.pp_cert.specs.Spelling.{SpellsEntries, SpellsNotes, Spells}
@@ -25,40 +24,19 @@ use Rattle.pp_cert.proofs.Laws.{text_again}
 use Rattle.pp_cert.proofs.Notes.{not_itself}
 use Rattle.pp_cert.proofs.Order.{IsBefore}
 use Rattle.pp_cert.proofs.Tree.{names_rise}
-use Rattle.pp_cert.proofs.Written.{nameless, region_at, few_levels}
+use Rattle.pp_cert.proofs.Written.{few_levels}
 
 -- ---- names
 
-position_at : {X : Type 0} (q : X → Bool) (xs : List X) (i : ℕ) → position_or_len q xs ≡ i → i < length xs
-    → position q xs ≡ Some i
-position_at q xs i first within = rw first (grind (arith, nat_tests))
-
-position_only : {X : Type 0} (q : X → Bool) (xs : List X) (i : ℕ) (d : X) → i < length xs → q (get_or xs i d) ≡ true
-    → ((k : ℕ) → k < i → q (get_or xs k d) ≡ true → ⊥) → position q xs ≡ Some i
-position_only q xs i d within passes others =
-    position_at q xs i (position_or_len_is q xs i d (omega (arith, within))
-    (λ k below. false_from_ne_true (q (get_or xs k d)) (others k below)) (λ w. passes)) within
-
-same_text : (a b : List ℕ) → bytes_eq a b ≡ true → a ≡ b
-same_text a b = (bytes_eq-Decides a b).0
-
-slot_again : (p : Terms) → IsPlan p → (slot : ℕ) → slot < length p.slots → slot_named p (slot_name p slot) ≡ Some slot
+slot_again : (p : Terms) → IsPlan p → (slot : ℕ) → slot < length p.slots
+    → slot_named p (slot_name p.slots slot) ≡ Some slot
 slot_again p plan slot within =
     let at = λ (k : ℕ). unwrap_or-slice_get p.slots k [] in
-    position_only (λ n. bytes_eq n (slot_name p slot)) p.slots slot [] within
-    ((bytes_eq-Decides (get_or p.slots slot []) (slot_name p slot)).1 (sym (at slot)))
-    (λ k below same. not_itself (slot_name p slot)
-    (subst (λ (x : List ℕ). IsBefore x (slot_name p slot))
-    (at k ∙ same_text (get_or p.slots k []) (slot_name p slot) same) (names_rise p plan k slot below within)))
-
-region_again : (c : Configuration) → IsConfiguration c → (r : ℕ) → r < length c.regions
-    → region_named c (region_name c r) ≡ Some r
-region_again c settings r within =
-    let at = region_at c r within in
-    position_only (λ q. bytes_eq q.name (region_name c r)) c.regions r nameless within
-    ((bytes_eq-Decides (get_or c.regions r nameless).name (region_name c r)).1 (sym at))
-    (λ k below same. settings.regions.names k r nameless below within
-    (same_text (get_or c.regions k nameless).name (region_name c r) same ∙ at))
+    position_only (λ n. bytes_eq n (slot_name p.slots slot)) p.slots slot [] within
+    ((bytes_eq-Decides (get_or p.slots slot []) (slot_name p.slots slot)).1 (sym (at slot)))
+    (λ k below same. not_itself (slot_name p.slots slot)
+    (subst (λ (x : List ℕ). IsBefore x (slot_name p.slots slot))
+    (at k ∙ same_text (get_or p.slots k []) (slot_name p.slots slot) same) (names_rise p plan k slot below within)))
 
 -- ---- the tree
 
@@ -71,7 +49,7 @@ entries_spelled c p settings plan (e ∷ es) are =
         slot = slot_again p plan e.slot is.slot;
         name = region_name c e.region;
         region =
-            region_again c settings e.region is.region;
+            region_named_again c settings e.region is.region;
         value = refl;
       },
       entries_spelled c p settings plan es (All-tail (IsEntry c p) e es are),

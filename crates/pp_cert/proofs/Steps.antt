@@ -8,7 +8,11 @@ use Rattle.pp_cert.specs.declared.check_error.CheckError.{CheckError}
 use Rattle.pp_cert.specs.declared.check_error.CheckError.TheVariants.{LoopChanges, BranchDiffers}
 use Rattle.pp_cert.specs.Notes.{same_note}
 use Rattle.pp_cert.specs.Longest.{sequence_longest}
-use Rattle.pp_cert.specs.Walk.{Claims, claims_of, note_at, Test, empty, same, same_settings, holds_nothing, no_more_notes, steps_allowed, steps_enough, peak_allowed, same_layout, loop_keeps, branch_agrees, passes, fault_of, first_fault, unless, walked, note_tests, statement_tests, sequence_tests, later_tests, outcome, statement_end, sequence_end, alternatives_end}
+use Rattle.pp_cert.specs.Walk.{Claims, claims_of, note_at, Test, empty, same, same_settings, holds_nothing}
+use Rattle.pp_cert.specs.Walk.{no_more_notes, steps_allowed, steps_enough, peak_allowed, same_layout, loop_keeps}
+use Rattle.pp_cert.specs.Walk.{branch_agrees, passes, fault_of, first_fault, unless_fault, walked, note_tests}
+use Rattle.pp_cert.specs.Walk.{statement_tests, sequence_tests, later_tests, outcome, statement_end, sequence_end}
+use Rattle.pp_cert.specs.Walk.{alternatives_end}
 use Rattle.pp_cert.proofs.Faults.{unless_value, past_first, in_first, at_ok, at_err, goes_on, ends_at}
 
 -- one test at the head of a list
@@ -74,7 +78,7 @@ module _ (g : Geometry) (c : Certificate) where
       ap (λ n. same_note (note_at (claims_of c) n) (note_at (claims_of c) k)) (sym at) ∙ d in
       let first : walked g c (inner ++ loop_keeps end k ∷ []) end ≡ Err (LoopChanges end) =
       goes_on g (claims_of c) inner (loop_keeps end k ∷ []) end v end h
-      ∙ ap (λ f. unless f end) (failed g (claims_of c) (loop_keeps end k) [] differs) in
+      ∙ ap (λ f. unless_fault f end) (failed g (claims_of c) (loop_keeps end k) [] differs) in
       ap (λ n. Err (LoopChanges n)) at
       ∙ sym (ends_at g (claims_of c) (inner ++ loop_keeps end k ∷ []) (note_tests (end + 1) (same k)) end (end + 1)
       (LoopChanges end) (sym first))
@@ -93,7 +97,7 @@ module _ (g : Geometry) (c : Certificate) where
       ap (λ n. same_note (note_at (claims_of c) n) (note_at (claims_of c) k)) (sym at) ∙ d in
       let first : walked g c (inner ++ loop_keeps end k ∷ []) end ≡ Ok end =
       goes_on g (claims_of c) inner (loop_keeps end k ∷ []) end v end h
-      ∙ ap (λ f. unless f end) (passed g (claims_of c) (loop_keeps end k) [] keeps) in
+      ∙ ap (λ f. unless_fault f end) (passed g (claims_of c) (loop_keeps end k) [] keeps) in
       ap (λ n. walked g c (note_tests (n + 1) (same k)) (n + 1)) at
       ∙ sym (goes_on g (claims_of c) (inner ++ loop_keeps end k ∷ []) (note_tests (end + 1) (same k)) end end
       (end + 1) (sym first))
@@ -119,7 +123,7 @@ module _ (g : Geometry) (c : Certificate) where
       ap (λ n. Err (BranchDiffers n)) at
       ∙ sym (goes_on g (claims_of c) inner (branch_agrees end first ∷ later_tests before first (end + 1) bs) end v
       (alternatives_end k (either b bs)) h
-      ∙ ap (λ f. unless f (alternatives_end k (either b bs)))
+      ∙ ap (λ f. unless_fault f (alternatives_end k (either b bs)))
       (failed g (claims_of c) (branch_agrees end first) (later_tests before first (end + 1) bs) differs))
 
   pub later_ok : (before first k : ℕ) (b : Sequence) (bs : Alternatives) (v : ℕ)
@@ -136,7 +140,7 @@ module _ (g : Geometry) (c : Certificate) where
       ap (λ n. walked g c (later_tests before first (n + 1) bs) (alternatives_end (n + 1) bs)) at
       ∙ sym (goes_on g (claims_of c) inner (branch_agrees end first ∷ later_tests before first (end + 1) bs) end v
       (alternatives_end k (either b bs)) h
-      ∙ ap (λ f. unless f (alternatives_end k (either b bs)))
+      ∙ ap (λ f. unless_fault f (alternatives_end k (either b bs)))
       (passed g (claims_of c) (branch_agrees end first) (later_tests before first (end + 1) bs) agrees))
 
   pub choice_err : (k : ℕ) (b : Sequence) (bs : Alternatives) (fault : CheckError)

@@ -1,5 +1,6 @@
 -- The tree that is written, entry by entry and note by note.
-use Rattle.std.proofs.Common.{◌≡◌, ℕ, zero, suc, ◌+◌, ◌<◌, ◌≤◌, true, List, [], ◌∷◌, length, map, take, get_or, add-one, Option, Some, Ordering, Less, Equal, Greater, nat_cmp, refl, sym, ap, subst, ◌∙◌, arith}
+use Rattle.std.proofs.Common.{◌≡◌, ℕ, zero, suc, ◌+◌, ◌<◌, ◌≤◌, true, List, [], ◌∷◌, length, map, take, get_or, add-one}
+use Rattle.std.proofs.Common.{Option, Some, Ordering, Less, Equal, Greater, nat_cmp, refl, sym, ap, subst, ◌∙◌, arith}
 use Rattle.std.specs.Prelude.{All, AllPairs, slice_get, unwrap_or}
 use Rattle.std.specs.Ordering.{ordering_reverse, is_lt}
 use Rattle.std.specs.Cmp.Lexicographic.{slice_cmp}
@@ -13,7 +14,7 @@ use Rattle.pp_settings.specs.Settings.{Configuration}
 use Rattle.pp_plan.specs.Terms.{Terms, IsPlan}
 use Rattle.pp_cert.specs.declared.note.Entry.{Entry}
 use Rattle.pp_cert.specs.Claims.{IsEntry, IsNote}
-use Rattle.pp_cert.specs.Writing.{slot_name}
+use Rattle.pp_plan.specs.Writing.{slot_name}
 use Rattle.pp_cert.specs.Tree.{entry_tree, entry_members, note_tree}
 use Rattle.pp_cert.proofs.Order.{IsBefore}
 
@@ -24,7 +25,7 @@ less_when Greater e = absurd cc
 
 -- Names rise with their slots.
 pub names_rise : (p : Terms) → IsPlan p → (a b : ℕ) → a < b → b < length p.slots
-    → IsBefore (slot_name p a) (slot_name p b)
+    → IsBefore (slot_name p.slots a) (slot_name p.slots b)
 names_rise p plan a b l within =
     rw (unwrap_or-slice_get p.slots a [], unwrap_or-slice_get p.slots b []) (less_when _ (plan.order a b [] l within))
 
@@ -38,7 +39,8 @@ AllPairs-tail R x xs h i j d l within = h (suc i) (suc j) d (omega arith) (omega
 -- An entry above all before it goes to the end.
 pub put_entry : (c : Configuration) (p : Terms) → IsPlan p → (es : List Entry) (i : ℕ) (e : Entry)
     → All (IsEntry c p) es → AllPairs (λ x y. x.slot < y.slot) es → i < length es → get_or es i e ≡ e
-    → put (slot_name p e.slot) (entry_tree c e) (entry_members c p (take i es)) ≡ entry_members c p (take (suc i) es)
+    → put (slot_name p.slots e.slot) (entry_tree c e) (entry_members c p (take i es))
+    ≡ entry_members c p (take (suc i) es)
 put_entry c p plan [] i e are rising within is = absurd (omega arith)
 put_entry c p plan (x ∷ es) zero e are rising within is = rw is refl
 put_entry c p plan (x ∷ es) (suc i) e are rising within is =
@@ -47,11 +49,11 @@ put_entry c p plan (x ∷ es) (suc i) e are rising within is =
     let known : e.slot < length p.slots =
     subst (λ (y : Entry). y.slot < length p.slots) is (are (suc i) e within).slot in
     let before = names_rise p plan x.slot e.slot above known in
-    let after : slice_cmp nat_cmp (slot_name p e.slot) (slot_name p x.slot) ≡ Greater =
-    nat_list_cmp_total.antisymm (slot_name p e.slot) (slot_name p x.slot) ∙ ap ordering_reverse before in
-    put_after _ (slot_name p e.slot) (slot_name p x.slot) (entry_tree c e) (entry_tree c x)
+    let after : slice_cmp nat_cmp (slot_name p.slots e.slot) (slot_name p.slots x.slot) ≡ Greater =
+    nat_list_cmp_total.antisymm (slot_name p.slots e.slot) (slot_name p.slots x.slot) ∙ ap ordering_reverse before in
+    put_after _ (slot_name p.slots e.slot) (slot_name p.slots x.slot) (entry_tree c e) (entry_tree c x)
     (entry_members c p (take i es)) refl after
-    ∙ ap (member (slot_name p x.slot) (entry_tree c x))
+    ∙ ap (member (slot_name p.slots x.slot) (entry_tree c x))
     (put_entry c p plan es i e (All-tail (IsEntry c p) x es are)
     (AllPairs-tail (λ (a b : Entry). a.slot < b.slot) x es rising) l is)
 
@@ -78,6 +80,6 @@ pub entry_step : (c : Configuration) (p : Terms) → IsPlan p
     → new ≡ entry_members c p (take (i + 1) es)
 entry_step c p plan es i d k v old new note within fresh value at before =
     let e : Entry = get_or es i d in
-    let named : k ≡ slot_name p e.slot = sym (ap (λ (o : Option (List ℕ)). unwrap_or o []) at) in
+    let named : k ≡ slot_name p.slots e.slot = sym (ap (λ (o : Option (List ℕ)). unwrap_or o []) at) in
     let added = put_entry c p plan es i e note.entries note.rising within (get_or_same es i e d within) in
     rw (fresh, value, named, before, add-one) added

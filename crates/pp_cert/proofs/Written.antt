@@ -1,23 +1,26 @@
 -- What the tree that is written has: no floats, few levels, and the bytes of the text.
-use Rattle.std.proofs.Common.{◌≡◌, ℕ, suc, max, ◌<◌, ◌≤◌, true, false, List, [], ◌∷◌, ◌++◌, length, map, get_or, codes, refl, sym, ap, ◌∙◌, append_assoc, arith}
+use Rattle.std.proofs.Common.{◌≡◌, ℕ, suc, max, ◌≤◌, true, false, List, [], ◌∷◌, ◌++◌, map, codes}
+use Rattle.std.proofs.Common.{refl, sym, ap, ◌∙◌, append_assoc, arith}
 use Rattle.std.specs.Prelude.{All, flat_map}
 use Rattle.std.specs.Fmt.{decimal}
 use Rattle.std.proofs.lemmas.List.Elements.{All-head, All-tail}
-use Rattle.std.proofs.lemmas.Option.{slice_get-get_or, unwrap_or-slice_get}
 use Rattle.json.specs.Print.{escape_byte, quoted}
 use Rattle.serde_json.specs.Data.{Data, string, object, depth, items_depth, members_depth}
 use Rattle.serde_json.specs.View.{items_of}
-use Rattle.serde_json.specs.Written.{has_float, items_have_float, members_have_float, compact_text, items_text, members_text}
+use Rattle.serde_json.specs.Written.{has_float, items_have_float, members_have_float, compact_text, items_text}
+use Rattle.serde_json.specs.Written.{members_text}
 use Rattle.pp_text.specs.Words.{in_quotes, in_brackets}
-use Rattle.pp_text.proofs.Escapes.{quoted_name, joined, list_bytes}
-use Rattle.pp_settings.specs.Settings.{NamedRegion, Configuration, IsConfiguration}
+use Rattle.pp_text.proofs.Escapes.{joined, list_bytes}
+use Rattle.pp_settings.specs.Settings.{Configuration, IsConfiguration}
 use Rattle.pp_plan.specs.Terms.{Terms, IsPlan}
 use Rattle.pp_cert.specs.declared.note.Entry.{Entry}
 use Rattle.pp_cert.specs.declared.note.Held.{Held}
 use Rattle.pp_cert.specs.declared.note.Held.TheVariants.{Free, S, X}
 use Rattle.pp_cert.specs.Claims.{Claims, IsEntry, IsNote, AreClaims}
 use Rattle.pp_cert.specs.Words.{held_text}
-use Rattle.pp_cert.specs.Writing.{slot_name, region_name, entry_text, note_text, certificate_text}
+use Rattle.pp_plan.specs.Writing.{slot_name, region_name}
+use Rattle.pp_plan.proofs.Written.{slot_quoted, region_quoted}
+use Rattle.pp_cert.specs.Writing.{entry_text, note_text, certificate_text}
 use Rattle.pp_cert.specs.Tree.{entry_tree, entry_members, note_tree, certificate_members}
 
 -- ---- no floats
@@ -61,30 +64,10 @@ quoted_held Free = refl
 quoted_held S = refl
 quoted_held X = refl
 
-slot_quoted : (p : Terms) → IsPlan p → (slot : ℕ) → slot < length p.slots
-    → quoted (slot_name p slot) ≡ in_quotes (slot_name p slot)
-slot_quoted p plan slot within =
-    let name = get_or p.slots slot [] in
-    let is : slot_name p slot ≡ name = unwrap_or-slice_get p.slots slot [] in
-    rw is (quoted_name 16 name (plan.names slot [] within))
-
-pub nameless : NamedRegion
-nameless = record { name = []; extent = record { first = 0; count = 0; class = 0 } }
-
-pub region_at : (c : Configuration) (r : ℕ) → r < length c.regions
-    → region_name c r ≡ (get_or c.regions r nameless).name
-region_at c r within = rw (slice_get-get_or c.regions r nameless within) refl
-
-region_quoted : (c : Configuration) → IsConfiguration c → (r : ℕ) → r < length c.regions
-    → quoted (region_name c r) ≡ in_quotes (region_name c r)
-region_quoted c settings r within =
-    let name = (get_or c.regions r nameless).name in
-    rw (region_at c r within) (quoted_name 32 name (settings.regions.each r nameless within).name)
-
 -- ---- bytes
 
 entry_bytes : (c : Configuration) (p : Terms) → IsConfiguration c → IsPlan p → (e : Entry) → IsEntry c p e
-    → quoted (slot_name p e.slot) ++ 58 ∷ compact_text (entry_tree c e) ≡ entry_text c p e
+    → quoted (slot_name p.slots e.slot) ++ 58 ∷ compact_text (entry_tree c e) ≡ entry_text c p e
 entry_bytes c p settings plan e is =
     let words : List Data = string (region_name c e.region) ∷ string (held_text e.held) ∷ [] in
     let name = region_quoted c settings e.region is.region in
@@ -92,8 +75,8 @@ entry_bytes c p settings plan e is =
     let value = list_bytes words (in_quotes (region_name c e.region) ∷ in_quotes (held_text e.held) ∷ [])
     (λ i. name i ∷ held i ∷ []) in
     ap (λ z. z ++ 58 ∷ compact_text (entry_tree c e)) (slot_quoted p plan e.slot is.slot)
-    ∙ ap (λ z. in_quotes (slot_name p e.slot) ++ 58 ∷ z) value
-    ∙ sym (append_assoc (in_quotes (slot_name p e.slot)) (58 ∷ [])
+    ∙ ap (λ z. in_quotes (slot_name p.slots e.slot) ++ 58 ∷ z) value
+    ∙ sym (append_assoc (in_quotes (slot_name p.slots e.slot)) (58 ∷ [])
     (in_brackets (in_quotes (region_name c e.region) ∷ in_quotes (held_text e.held) ∷ [])))
 
 first_bytes : (q d m t r : List ℕ) → q ++ 58 ∷ d ≡ t → m ≡ r → q ++ 58 ∷ (d ++ m) ≡ t ++ r
@@ -106,7 +89,7 @@ entries_bytes c p settings plan [] are = refl
 entries_bytes c p settings plan (e ∷ es) are =
     let more = entries_bytes c p settings plan es (All-tail (IsEntry c p) e es are) in
     let here = entry_bytes c p settings plan e (All-head (IsEntry c p) e es are) in
-    ap (λ z. 44 ∷ z) (first_bytes (quoted (slot_name p e.slot)) (compact_text (entry_tree c e))
+    ap (λ z. 44 ∷ z) (first_bytes (quoted (slot_name p.slots e.slot)) (compact_text (entry_tree c e))
     (members_text true (entry_members c p es)) (entry_text c p e) _ here more)
     ∙ ap (λ z. 44 ∷ z) (sym (append_assoc (entry_text c p e) (flat_map (λ u. 44 ∷ u) (map (entry_text c p) es))
     (125 ∷ [])))
@@ -120,7 +103,7 @@ note_bytes c p settings plan (e ∷ es) are =
     let here = entry_bytes c p settings plan e (All-head (IsEntry c p) e es are) in
     let others = flat_map (λ u. 44 ∷ u) (map (entry_text c p) es) in
     ap (λ z. 123 ∷ z)
-    (first_bytes (quoted (slot_name p e.slot)) (compact_text (entry_tree c e))
+    (first_bytes (quoted (slot_name p.slots e.slot)) (compact_text (entry_tree c e))
     (members_text true (entry_members c p es)) (entry_text c p e) _ here more
     ∙ sym (append_assoc (entry_text c p e) others (125 ∷ []))
     ∙ ap (λ z. z ++ 125 ∷ []) (sym (joined (entry_text c p e) (map (entry_text c p) es))))

@@ -5,17 +5,17 @@ use Rattle.pp_cert.specs.declared.error.CertError.{CertError}
 use Rattle.pp_cert.specs.declared.error.CertError.TheVariants.{NotJson, WrongField, UnknownName, TooMany, OutOfMemory}
 
 -- The number and the name of a refusal; nothing follows them.
-abbrev pub row_of : CertError → Row
-row_of NotJson = row 21 (codes "NotJson") nothing
-row_of WrongField = row 22 (codes "WrongField") nothing
-row_of UnknownName = row 23 (codes "UnknownName") nothing
-row_of TooMany = row 24 (codes "TooMany") nothing
-row_of OutOfMemory = row 19 (codes "OutOfMemory") nothing
+abbrev pub certificate_error_row : CertError → Row
+certificate_error_row NotJson = row 21 (codes "NotJson") nothing
+certificate_error_row WrongField = row 22 (codes "WrongField") nothing
+certificate_error_row UnknownName = row 23 (codes "UnknownName") nothing
+certificate_error_row TooMany = row 24 (codes "TooMany") nothing
+certificate_error_row OutOfMemory = row 19 (codes "OutOfMemory") nothing
 
 -- Want of memory says nothing of the text.
-abbrev pub is_memory : CertError → Bool
-is_memory NotJson = false
-is_memory WrongField = false
-is_memory UnknownName = false
-is_memory TooMany = false
-is_memory OutOfMemory = true
+abbrev pub is_certificate_memory : CertError → Bool
+is_certificate_memory NotJson = false
+is_certificate_memory WrongField = false
+is_certificate_memory UnknownName = false
+is_certificate_memory TooMany = false
+is_certificate_memory OutOfMemory = true

@@ -6,7 +6,8 @@ use Rattle.std.specs.Option.{option_map_or}
 use Rattle.serde_json.specs.Data.{Data, number, unsigned, string, array, object, Items, no_items, item, Members}
 use Rattle.serde_json.specs.Data.{no_members, member}
 use Rattle.serde_json.specs.Find.{get, as_array}
-use Rattle.pp_text.specs.Objects.{HasOnly, Holds}
+use Rattle.pp_text.specs.First.{IsFirstBy}
+use Rattle.pp_text.specs.Objects.{HasOnly, Holds, elements}
 use Rattle.pp_settings.specs.Settings.{Configuration, region_named}
 use Rattle.pp_plan.specs.Terms.{Terms}
 use Rattle.pp_plan.specs.Slots.{slot_named}
@@ -17,11 +18,6 @@ use Rattle.pp_cert.specs.Limits.{most_notes, most_entries}
 use Rattle.pp_cert.specs.Words.{held_text, certificate_keys}
 
 -- ---- where notes and entries stand
-
--- The values of a list.
-abbrev pub elements : Items → List Data
-elements no_items = []
-elements (item d ds) = d ∷ elements ds
 
 -- The values in the list of notes; none where there is no such list.
 abbrev pub notes_in : Data → List Data
@@ -138,10 +134,6 @@ error_of other_top = WrongField
 error_of many_notes = TooMany
 error_of (in_note n f) = note_error f
 
--- f is one, and none before it is one.
-abbrev pub IsFirst : {F : Type 0} → (F → Type 0) → (F → F → Type 0) → F → Type 0
-IsFirst {F} Has Before f = Has f × ((e : F) → Before e f → ¬ Has e)
-
 -- The refusal tells a fault of the text, and the text has none that is told before it.
 abbrev pub TellsFirst : Configuration → Terms → Option Data → CertError → Type 0
-TellsFirst c p document e = (f : Fault) × (error_of f ≡ e) × IsFirst (HasFault c p document) IsBefore f
+TellsFirst c p document e = (f : Fault) × (error_of f ≡ e) × IsFirstBy (HasFault c p document) IsBefore f

@@ -1,7 +1,7 @@
 -- The length of the longest trace of a plan.
 use Rattle.std.specs.Prelude.{◌≡◌, ℕ, ◌+◌, ◌*◌, ◌≤◌, max, List, length}
 use Rattle.pp_settings.specs.Layout.{Geometry}
-use Rattle.pp_plan.specs.Tree.{Statement, step, loop, choice, Sequence, done, andthen, Alternatives, none, either}
+use Rattle.pp_plan.specs.Tree.{Statement, step, loop, choice, Sequence, skip, andthen, Alternatives, none, either}
 use Rattle.pp_plan.specs.Traces.{IsTrace}
 use Rattle.pp_plan.specs.declared.action.Action.{Action}
 
@@ -13,7 +13,7 @@ abbrev mutual
   statement_longest (choice bs) = 1 + alternatives_longest bs
 
   pub sequence_longest : Sequence → ℕ
-  sequence_longest done = 0
+  sequence_longest skip = 0
   sequence_longest (andthen s b) = statement_longest s + sequence_longest b
 
   pub alternatives_longest : Alternatives → ℕ

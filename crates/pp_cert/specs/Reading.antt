@@ -25,8 +25,8 @@ as_two (item a (item b no_items)) = Some (a, b)
 as_two _ = None
 
 -- The entry of one slot: its form first, then the slot's name, then the region's.
-unfoldable pub entry_at : Configuration → Terms → List ℕ → Data → Result Entry CertError
-entry_at c p key d = do
+unfoldable pub read_entry : Configuration → Terms → List ℕ → Data → Result Entry CertError
+read_entry c p key d = do
   items ← ok_or (as_array d) WrongField
   two ← ok_or (as_two items) WrongField
   region_name ← ok_or (as_str two.0) WrongField
@@ -40,11 +40,11 @@ entry_at c p key d = do
 -- The earlier entries and then those of the members, which stand in the byte order of their keys.
 abbrev pub entries_from : Configuration → Terms → List Entry → Members → Result (List Entry) CertError
 entries_from c p earlier no_members = Ok earlier
-entries_from c p earlier (member key d ms) = entry_at c p key d >>= λ e. entries_from c p (earlier ++ e ∷ []) ms
+entries_from c p earlier (member key d ms) = read_entry c p key d >>= λ e. entries_from c p (earlier ++ e ∷ []) ms
 
 -- A note: an object of at most 32 members.
-unfoldable pub note_at : Configuration → Terms → Data → Result (List Entry) CertError
-note_at c p d = do
+unfoldable pub read_note : Configuration → Terms → Data → Result (List Entry) CertError
+read_note c p d = do
   ms ← ok_or (as_object d) WrongField
   few ← must (nat_le (members_len ms) most_entries) TooMany
   entries_from c p [] ms
@@ -52,7 +52,7 @@ note_at c p d = do
 -- The earlier notes and then those of the items, one item after the other.
 abbrev pub notes_from : Configuration → Terms → List (List Entry) → Items → Result (List (List Entry)) CertError
 notes_from c p earlier no_items = Ok earlier
-notes_from c p earlier (item d ds) = note_at c p d >>= λ note. notes_from c p (earlier ++ note ∷ []) ds
+notes_from c p earlier (item d ds) = read_note c p d >>= λ note. notes_from c p (earlier ++ note ∷ []) ds
 
 -- ---- the certificate
 

@@ -5,10 +5,10 @@ use Rattle.serde_json.specs.Data.{member}
 use Rattle.serde_json.specs.View.{items_of}
 use Rattle.pp_settings.specs.Settings.{Configuration}
 use Rattle.pp_plan.specs.Terms.{Terms}
+use Rattle.pp_plan.specs.Writing.{slot_name, region_name}
 use Rattle.pp_cert.specs.declared.note.Entry.{Entry}
 use Rattle.pp_cert.specs.Claims.{Claims}
 use Rattle.pp_cert.specs.Words.{held_text}
-use Rattle.pp_cert.specs.Writing.{slot_name, region_name}
 
 -- The value at a slot's name.
 abbrev pub entry_tree : Configuration → Entry → Data
@@ -17,7 +17,7 @@ entry_tree c e = array (item (string (region_name c e.region)) (item (string (he
 -- One member for each entry, in the same order.
 abbrev pub entry_members : Configuration → Terms → List Entry → Members
 entry_members c p [] = no_members
-entry_members c p (e ∷ es) = member (slot_name p e.slot) (entry_tree c e) (entry_members c p es)
+entry_members c p (e ∷ es) = member (slot_name p.slots e.slot) (entry_tree c e) (entry_members c p es)
 
 abbrev pub note_tree : Configuration → Terms → List Entry → Data
 note_tree c p note = object (entry_members c p note)

@@ -5,7 +5,7 @@ use Rattle.std.specs.Prelude.{Result, Ok, Err, List, [], ◌∷◌, ◌++◌, le
 use Rattle.std.specs.Cmp.Lexicographic.{pointwise}
 use Rattle.pp_settings.specs.Layout.{Geometry}
 use Rattle.pp_settings.specs.declared.extent.Extent.{Extent}
-use Rattle.pp_plan.specs.Tree.{Step, fix, unfix, latch, unlatch, Statement, step, loop, choice, Sequence, done, andthen}
+use Rattle.pp_plan.specs.Tree.{Step, fix, unfix, latch, unlatch, Statement, step, loop, choice, Sequence, skip, andthen}
 use Rattle.pp_plan.specs.Tree.{Alternatives, none, either}
 use Rattle.pp_plan.specs.Terms.{Terms}
 use Rattle.pp_cert.specs.declared.certificate.Certificate.{Certificate}
@@ -39,7 +39,7 @@ abbrev mutual
 
   -- The place at the end of a body whose first place is k.
   pub sequence_end : ℕ → Sequence → ℕ
-  sequence_end k done = k
+  sequence_end k skip = k
   sequence_end k (andthen s b) = sequence_end (statement_end k s) b
 
   -- The next place after those of branches, the first of which begins at place k.
@@ -172,7 +172,7 @@ abbrev mutual
 
   -- Of a body after its first note, at place k: for each statement its own, and then those of the note after it.
   pub sequence_tests : ℕ → Sequence → List Test
-  sequence_tests k done = []
+  sequence_tests k skip = []
   sequence_tests k (andthen s b) =
       statement_tests k s ++ note_tests (statement_end k s) (outcome k s) ++ sequence_tests (statement_end k s) b
 
@@ -211,15 +211,15 @@ abbrev pub Certifies : Geometry → Terms → Claims → Type 0
 Certifies g p c = first_fault g c (tests p) ≡ None
 
 -- The value where there is no fault, else the fault.
-abbrev pub unless : {A : Type 0} → Option CheckError → A → Result A CheckError
-unless None a = Ok a
-unless (Some fault) a = Err fault
+abbrev pub unless_fault : {A : Type 0} → Option CheckError → A → Result A CheckError
+unless_fault None a = Ok a
+unless_fault (Some fault) a = Err fault
 
 -- ---- what the parts of the walk answer
 
 -- What a walk through the tests answers that goes on at place k.
 abbrev pub walked : Geometry → Certificate → List Test → ℕ → Result ℕ CheckError
-walked g c ts k = unless (first_fault g (claims_of c) ts) k
+walked g c ts k = unless_fault (first_fault g (claims_of c) ts) k
 
 -- What the note at place k answers, where it is known whether it is the expected one.
 abbrev pub note_fault : Claims → ℕ → Bool → Option CheckError

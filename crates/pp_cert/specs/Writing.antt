@@ -1,25 +1,18 @@
 -- The text of a certificate: without white space, keys in byte order.
-use Rattle.std.specs.Prelude.{ℕ, List, [], ◌∷◌, ◌++◌, map, codes, slice_get, unwrap_or}
+use Rattle.std.specs.Prelude.{ℕ, List, [], ◌∷◌, ◌++◌, map, codes}
 use Rattle.std.specs.Fmt.{decimal}
 use Rattle.pp_text.specs.Words.{in_quotes, with_commas, in_brackets}
-use Rattle.pp_settings.specs.Settings.{Configuration, name_of}
+use Rattle.pp_settings.specs.Settings.{Configuration}
 use Rattle.pp_plan.specs.Terms.{Terms}
+use Rattle.pp_plan.specs.Writing.{slot_name, region_name}
 use Rattle.pp_cert.specs.declared.note.Entry.{Entry}
 use Rattle.pp_cert.specs.Claims.{Claims}
 use Rattle.pp_cert.specs.Words.{held_text}
 
--- The name of the slot with this number.
-abbrev pub slot_name : Terms → ℕ → List ℕ
-slot_name p slot = unwrap_or (slice_get p.slots slot) []
-
--- The name of the region with this number.
-abbrev pub region_name : Configuration → ℕ → List ℕ
-region_name c region = unwrap_or (name_of c region) []
-
 -- An entry, as in `"a":["root","-"]`.
 abbrev pub entry_text : Configuration → Terms → Entry → List ℕ
 entry_text c p e =
-    in_quotes (slot_name p e.slot)
+    in_quotes (slot_name p.slots e.slot)
     ++ codes ":"
     ++ in_brackets (in_quotes (region_name c e.region) ∷ in_quotes (held_text e.held) ∷ [])
 

@@ -27,7 +27,7 @@ pub struct Certificate {
 impl Certificate {
     ghost use Rattle.std.specs.Prelude.{◌≢◌, IfErr};
     ghost use Rattle.serde_json.specs.Read.{read};
-    ghost use Rattle.pp_cert.specs.CertErrors.{is_memory};
+    ghost use Rattle.pp_cert.specs.CertErrors.{is_certificate_memory};
     ghost use Rattle.pp_cert.specs.Faults.{Fault, HasFault, TellsFirst};
     ghost use Rattle.pp_cert.specs.Claims.{Claims, claims_of, AreClaims};
     ghost use Rattle.pp_cert.specs.Reading.{reading};
@@ -51,14 +51,14 @@ impl Certificate {
         ensures found { IfOk result (λ c. IsText settings.now plan.now text.now (claims_of c)) }
         // What is spelled so is accepted, unless memory runs out.
         ensures only { (t : Claims) → IsText settings.now plan.now text.now t
-            → Gives is_memory claims_of result (Ok t) }
+            → Gives is_certificate_memory claims_of result (Ok t) }
         // A text that is accepted has no fault.
         ensures faultless { IfOk result (λ _. (f : Fault) → ¬ HasFault settings.now plan.now (read text.now) f) }
         // A refusal tells a fault of the text, and the text has none before it in the order, unless memory runs out.
         ensures first { IfErr result (λ e. e ≢ OutOfMemory
             → TellsFirst settings.now plan.now (read text.now) e) }
         // The same as a function of the text.
-        ensures exact { Gives is_memory claims_of result (reading settings.now plan.now text.now) }
+        ensures exact { Gives is_certificate_memory claims_of result (reading settings.now plan.now text.now) }
         // What is accepted can be written again.
         ensures writable { IfOk result (λ c. AreClaims settings.now plan.now (claims_of c)) }
         // Memory is never wanted for an empty text.

@@ -77,12 +77,12 @@ fn about(place: u32) -> About
 }
 
 impl CheckError {
-    ghost use Rattle.pp_text.specs.Views.{row_of as printed};
-    ghost use Rattle.pp_cert.specs.CheckErrors.{row_of, place_of};
+    ghost use Rattle.pp_text.specs.Views.{row_of_refusal};
+    ghost use Rattle.pp_cert.specs.CheckErrors.{check_error_row, check_error_place};
 
     /// What the program prints: the number, the name and the place, as in `31 NotesShort at 8`.
     pub fn refusal(self) -> Refusal
-        ensures { printed result ≡ row_of self }
+        ensures { row_of_refusal result ≡ check_error_row self }
     {
         match self {
             CheckError::NotesShort { place } => Refusal::new(31, "NotesShort", about(place)),
@@ -106,21 +106,21 @@ impl CheckError {
 
     /// The number of the refusal, 31 to 46.
     pub fn number(self) -> u8
-        ensures { result ≡ (row_of self).number }
+        ensures { result ≡ (check_error_row self).number }
     {
         self.refusal().number
     }
 
     /// The name of the refusal, as it is printed.
     pub fn name(self) -> &'static str
-        ensures { result.now ≡ (row_of self).name }
+        ensures { result.now ≡ (check_error_row self).name }
     {
         self.refusal().name
     }
 
     /// The place of the note that the refusal is about, if it is about one.
     pub fn place(self) -> Option<u32>
-        ensures { result ≡ place_of self }
+        ensures { result ≡ check_error_place self }
     {
         match self {
             CheckError::NotesShort { place }

@@ -4,7 +4,9 @@ ghost use Rattle.std.specs.Prelude.{◌≡◌, ◌<◌, ◌+◌, ◌^◌, ◌↔
 ghost use Rattle.pp_settings.specs.Settings.{geometry_of};
 ghost use Rattle.pp_plan.specs.View.{sequence_of};
 ghost use Rattle.pp_plan.specs.Terms.{IsPlan};
-ghost use Rattle.pp_cert.specs.Walk.{claims_of, tests, first_fault, Certifies, walked, note_tests, sequence_tests, sequence_end, empty, same_layout, holds_nothing, no_more_notes, steps_allowed, steps_enough, peak_allowed};
+ghost use Rattle.pp_cert.specs.Walk.{claims_of, tests, first_fault, Certifies, walked, note_tests, sequence_tests};
+ghost use Rattle.pp_cert.specs.Walk.{sequence_end, empty, same_layout, holds_nothing, no_more_notes, steps_allowed};
+ghost use Rattle.pp_cert.specs.Walk.{steps_enough, peak_allowed};
 ghost use Rattle.pp_cert.specs.Longest.{sequence_longest, IsLongest};
 ghost use Rattle.pp_cert.specs.Accepted.{IsAccepted};
 

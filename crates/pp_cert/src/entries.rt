@@ -1,7 +1,8 @@
 //! Reading the entries of one note, and comparing those of two.
 
 ghost use Rattle.std.specs.Prelude.{◌≡◌, ◌++◌, ◌==◌, nat_lt, position};
-ghost use Rattle.pp_cert.specs.Notes.{same_note, region_class, noted_at, slot_class, is_above_latched, entry_slot, noted_as};
+ghost use Rattle.pp_cert.specs.Notes.{same_note, region_class, noted_at, slot_class, is_above_latched, entry_slot};
+ghost use Rattle.pp_cert.specs.Notes.{noted_as};
 ghost use Rattle.pp_cert.specs.Slots.{slot_insert, slot_remove};
 
 use crate::note::{Entry, Held};

@@ -33,12 +33,12 @@ pub enum CertError {
 }
 
 impl CertError {
-    ghost use Rattle.pp_text.specs.Views.{row_of as printed};
-    ghost use Rattle.pp_cert.specs.CertErrors.{row_of};
+    ghost use Rattle.pp_text.specs.Views.{row_of_refusal};
+    ghost use Rattle.pp_cert.specs.CertErrors.{certificate_error_row};
 
     /// What the program prints: the number and the name, as in `22 WrongField`.
     pub fn refusal(self) -> Refusal
-        ensures { printed result ≡ row_of self }
+        ensures { row_of_refusal result ≡ certificate_error_row self }
     {
         match self {
             CertError::NotJson => Refusal::new(21, "NotJson", About::Nothing),
@@ -51,14 +51,14 @@ impl CertError {
 
     /// The number of the refusal: 21 to 24, and 19 for want of memory.
     pub fn number(self) -> u8
-        ensures { result ≡ (row_of self).number }
+        ensures { result ≡ (certificate_error_row self).number }
     {
         self.refusal().number
     }
 
     /// The name of the refusal, as it is printed.
     pub fn name(self) -> &'static str
-        ensures { result.now ≡ (row_of self).name }
+        ensures { result.now ≡ (certificate_error_row self).name }
     {
         self.refusal().name
     }

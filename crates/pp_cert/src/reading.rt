@@ -5,11 +5,12 @@ ghost use Rattle.std.specs.Option.{ok_or};
 ghost use Rattle.serde_json.specs.Read.{read};
 ghost use Rattle.serde_json.specs.View.{view, items_view, members_view};
 ghost use Rattle.pp_text.specs.Steps.{Gives, Reads};
-ghost use Rattle.pp_cert.specs.CertErrors.{is_memory};
+ghost use Rattle.pp_cert.specs.CertErrors.{is_certificate_memory};
 ghost use Rattle.pp_cert.specs.declared.error.CertError.TheVariants.{NotJson, OutOfMemory};
 ghost use Rattle.pp_cert.specs.Claims.{claims_of};
 ghost use Rattle.pp_cert.specs.Words.{held_of};
-ghost use Rattle.pp_cert.specs.Reading.{as_two, entry_at, entries_from, note_at, notes_from, list_at, number_at, claims_at, reading};
+ghost use Rattle.pp_cert.specs.Reading.{as_two, read_entry, entries_from, read_note, notes_from, list_at, number_at};
+ghost use Rattle.pp_cert.specs.Reading.{claims_at, reading};
 
 use crate::certificate::Certificate;
 use crate::error::CertError;
@@ -48,9 +49,14 @@ fn as_two(items: &[Value]) -> Option<(&Value, &Value)>
 }
 
 /// The entry of one slot: its form first, then the slot's name, then the region's.
-#[tactic(auto, unfolding(crate::specs::Reading::entry_at))]
-fn entry_at(settings: &Settings, plan: &Plan, key: &str, value: &Value) -> Result<Entry, CertError>
-    ensures { Reads (λ e. e) result (entry_at settings.now plan.now key.now (view value.now)) }
+#[tactic(auto, unfolding(crate::specs::Reading::read_entry))]
+fn read_entry(
+    settings: &Settings,
+    plan: &Plan,
+    key: &str,
+    value: &Value,
+) -> Result<Entry, CertError>
+    ensures { Reads (λ e. e) result (read_entry settings.now plan.now key.now (view value.now)) }
 {
     let items = value.as_array().ok_or(CertError::WrongField)?;
     let (region, held) = as_two(items).ok_or(CertError::WrongField)?;
@@ -71,25 +77,25 @@ fn entries_of(
     plan: &Plan,
     members: &Map<String, Value>,
 ) -> Result<Vec<Entry>, CertError>
-    ensures { Gives is_memory (λ v. v.items) result
+    ensures { Gives is_certificate_memory (λ v. v.items) result
         (entries_from settings.now plan.now [] (members_view members.now.entries)) }
 {
     let mut entries = Vec::new(alloc);
     for (key, value) in members {
-        entries.push(entry_at(settings, plan, key.as_str(), value)?)?;
+        entries.push(read_entry(settings, plan, key.as_str(), value)?)?;
     }
     Ok(entries)
 }
 
 /// The note that the value spells: an object of few enough entries.
-#[tactic(auto, unfolding(crate::specs::Reading::note_at), using(crate::proofs::Trees::members_length))]
-fn note_at(
+#[tactic(auto, unfolding(crate::specs::Reading::read_note), using(crate::proofs::Trees::members_length))]
+fn read_note(
     alloc: Global,
     settings: &Settings,
     plan: &Plan,
     value: &Value,
 ) -> Result<Note, CertError>
-    ensures { Gives is_memory (λ n. n) result (note_at settings.now plan.now (view value.now)) }
+    ensures { Gives is_certificate_memory (λ n. n) result (read_note settings.now plan.now (view value.now)) }
 {
     let members = value.as_object().ok_or(CertError::WrongField)?;
     if members.len() > MOST_ENTRIES {
@@ -106,11 +112,12 @@ fn notes_of(
     plan: &Plan,
     items: &[Value],
 ) -> Result<Vec<Note>, CertError>
-    ensures { Gives is_memory (λ v. v.items) result (notes_from settings.now plan.now [] (items_view items.now)) }
+    ensures { Gives is_certificate_memory (λ v. v.items) result
+        (notes_from settings.now plan.now [] (items_view items.now)) }
 {
     let mut notes = Vec::new(alloc);
     for value in items {
-        notes.push(note_at(alloc, settings, plan, value)?)?;
+        notes.push(read_note(alloc, settings, plan, value)?)?;
     }
     Ok(notes)
 }
@@ -143,7 +150,7 @@ fn certificate_at(
     plan: &Plan,
     value: &Value,
 ) -> Result<Certificate, CertError>
-    ensures { Gives is_memory claims_of result (claims_at settings.now plan.now (view value.now)) }
+    ensures { Gives is_certificate_memory claims_of result (claims_at settings.now plan.now (view value.now)) }
 {
     if !has_only_keys(&["notes", "peak", "steps"], value) {
         return Err(CertError::WrongField);
@@ -161,7 +168,7 @@ fn certificate_at(
 /// The JSON value that the text is.
 #[tactic(auto, using(crate::proofs::Trees::some_text))]
 fn value_of(alloc: Global, text: &str) -> Result<Value, CertError>
-    ensures gives { Gives is_memory view result (ok_or (read text.now) NotJson) }
+    ensures gives { Gives is_certificate_memory view result (ok_or (read text.now) NotJson) }
     ensures some { IfOk result (λ _. 0 < length text.now) }
     ensures memory { result ≡ Err OutOfMemory → 0 < length text.now }
 {
@@ -179,7 +186,7 @@ pub(crate) fn read(
     plan: &Plan,
     text: &str,
 ) -> Result<Certificate, CertError>
-    ensures gives { Gives is_memory claims_of result (reading settings.now plan.now text.now) }
+    ensures gives { Gives is_certificate_memory claims_of result (reading settings.now plan.now text.now) }
     ensures memory { result ≡ Err OutOfMemory → 0 < length text.now }
 {
     let value = value_of(alloc, text)?;

@@ -24,7 +24,10 @@ pub(crate) struct Walk<'a> {
 }
 
 impl Walk<'_> {
-    ghost use Rattle.pp_cert.specs.Walk.{Test, empty, same, after, slot_fixed, slot_unlatched, claims_of, note_at, walked, note_fault, first_fault, unless, note_tests, step_tests, statement_tests, sequence_tests, later_tests, outcome, statement_end, sequence_end, alternatives_end};
+    ghost use Rattle.pp_cert.specs.Walk.{Test, empty, same, after, slot_fixed, slot_unlatched, claims_of, note_at};
+    ghost use Rattle.pp_cert.specs.Walk.{walked, note_fault, first_fault, unless_fault, note_tests, step_tests};
+    ghost use Rattle.pp_cert.specs.Walk.{statement_tests, sequence_tests, later_tests, outcome, statement_end};
+    ghost use Rattle.pp_cert.specs.Walk.{sequence_end, alternatives_end};
 
     /// The note at a place; the empty one where none is left.
     pub(crate) fn entries(&self, place: u32) -> &[Entry]
@@ -38,7 +41,7 @@ impl Walk<'_> {
 
     /// Tests the note at a place, where it is known whether it is the expected one.
     fn settle(&self, place: u32, is_expected: bool) -> Result<u32, CheckError>
-        ensures { result ≡ unless (note_fault (claims_of self.now.certificate.now) place is_expected) place }
+        ensures { result ≡ unless_fault (note_fault (claims_of self.now.certificate.now) place is_expected) place }
     {
         let Some(note) = self.certificate.notes.get(place as usize) else {
             return Err(CheckError::NotesShort { place });

@@ -1,22 +1,24 @@
 -- What a run comes to: the answer, its status, and where it is told.
-use Rattle.std.specs.Prelude.{◌≡◌, ◌⊎◌, ◌+◌, ◌*◌, ℕ, Bool, true, false, List, Result, Ok, Err, if◌then◌else◌, string_bytes}
+use Rattle.std.specs.Prelude.{◌≡◌, ◌⊎◌, ◌+◌, ◌*◌, ℕ, Bool, true, false, List, Result, Ok, Err, if◌then◌else◌}
+use Rattle.std.specs.Prelude.{string_bytes}
 use Rattle.pp_cert.specs.Accepted.{Acceptance}
 use Rattle.pp_cert.specs.Limits.{step_events, plan_events}
 use Rattle.pp_judge.specs.Judgement.{certification, judgement}
 use Rattle.pp_judge.specs.Steps.{is_want_of_memory}
 use Rattle.pp_judge.specs.declared.contents.Contents.{Contents}
 use Rattle.pp_judge.specs.declared.contents.Contents.TheVariants.{Check, Annotate}
-use Rattle.pp_judge.specs.declared.refusal.Refusal.{Refusal}
+use Rattle.pp_judge.specs.declared.error.JudgeError.{JudgeError}
 use Rattle.pp_judge.specs.declared.outcome.Figures.{Figures}
 use Rattle.pp_judge.specs.declared.outcome.Outcome.{Outcome}
-use Rattle.pp_judge.specs.declared.outcome.Outcome.TheVariants.{Done, Made, Shown, Refused, Misused, Wordless, Unread, Unwritten, OutOfMemory}
+use Rattle.pp_judge.specs.declared.outcome.Outcome.TheVariants.{Done, Made, Shown, Refused, Misused, Wordless, Unread}
+use Rattle.pp_judge.specs.declared.outcome.Outcome.TheVariants.{Unwritten, OutOfMemory}
 
 -- what a run comes to; texts are their bytes
 pub data Answer : Type 0 where
   done : Figures → Answer
   made : (text : List ℕ) → Answer
   shown : (text : List ℕ) → Answer
-  refused : Refusal → Answer
+  refused : JudgeError → Answer
   misused : (text : List ℕ) → Answer
   wordless : Answer
   unread : (path : List ℕ) → Answer
@@ -61,15 +63,19 @@ is_output_of out_of_memory = false
 
 -- the peak and the steps of an accepted plan, and the most events that a journal needs for it
 abbrev pub figures_of : Acceptance → Figures
-figures_of accepted = record { peak = accepted.peak; steps = accepted.steps; cost = step_events * accepted.steps + plan_events }
+figures_of accepted = record {
+  peak = accepted.peak;
+  steps = accepted.steps;
+  cost = step_events * accepted.steps + plan_events;
+}
 
 -- a certificate that is checked: the figures of the accepted plan, or the refusal
-abbrev pub answer_of_check : Result Acceptance Refusal → Answer
+abbrev pub answer_of_check : Result Acceptance JudgeError → Answer
 answer_of_check (Ok accepted) = done (figures_of accepted)
 answer_of_check (Err refusal) = refused refusal
 
 -- a certificate that is made: its text, or the refusal
-abbrev pub answer_of_annotate : Result (List ℕ) Refusal → Answer
+abbrev pub answer_of_annotate : Result (List ℕ) JudgeError → Answer
 answer_of_annotate (Ok text) = made text
 answer_of_annotate (Err refusal) = refused refusal
 
@@ -91,5 +97,5 @@ abbrev pub ComesTo : Answer → Outcome → Type 0
 ComesTo answer outcome = (seen outcome ≡ answer) ⊎ (outcome ≡ OutOfMemory)
 
 -- want of memory is an outcome of its own, and no refusal of a file
-abbrev pub refused_by : Refusal → Outcome
+abbrev pub refused_by : JudgeError → Outcome
 refused_by refusal = if is_want_of_memory refusal then OutOfMemory else Refused refusal

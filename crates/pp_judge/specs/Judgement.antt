@@ -2,13 +2,13 @@
 use Rattle.std.specs.Prelude.{ℕ, if◌then◌else◌, List, Option, None, Some, Result, Ok, Err}
 use Rattle.std.specs.Str.{is_utf8}
 use Rattle.pp_settings.specs.Settings.{Configuration, geometry_of}
-use Rattle.pp_settings.specs.Reading.{reading as settings_of}
+use Rattle.pp_settings.specs.Reading.{reading as read_settings}
 use Rattle.pp_settings.specs.declared.error.SettingsError.TheVariants.{NotToml}
 use Rattle.pp_plan.specs.Terms.{Terms}
-use Rattle.pp_plan.specs.Reading.{reading as plan_of}
+use Rattle.pp_plan.specs.Reading.{reading as read_plan}
 use Rattle.pp_plan.specs.declared.error.PlanError.TheVariants as plan_error
 use Rattle.pp_cert.specs.Claims.{Claims}
-use Rattle.pp_cert.specs.Reading.{reading as claims_of}
+use Rattle.pp_cert.specs.Reading.{reading as read_claims}
 use Rattle.pp_cert.specs.Writing.{certificate_text}
 use Rattle.pp_cert.specs.Walk.{first_fault, tests}
 use Rattle.pp_cert.specs.Accepted.{Acceptance}
@@ -17,56 +17,56 @@ use Rattle.pp_cert.specs.declared.check_error.CheckError.{CheckError}
 use Rattle.pp_annotate.specs.Annotation.{annotation}
 use Rattle.pp_annotate.specs.declared.error.AnnotateError.TheVariants.{Fault}
 use Rattle.pp_judge.specs.declared.judgement.Sources.{Sources}
-use Rattle.pp_judge.specs.declared.refusal.Refusal.{Refusal}
-use Rattle.pp_judge.specs.declared.refusal.Refusal.TheVariants.{Settings, Plan, Certificate, Check, Annotate}
+use Rattle.pp_judge.specs.declared.error.JudgeError.{JudgeError}
+use Rattle.pp_judge.specs.declared.error.JudgeError.TheVariants.{Settings, Plan, Certificate, Check, Annotate}
 use Rattle.pp_text.specs.Steps.{◌>>=◌}
 use Rattle.pp_judge.specs.Steps.{refusing}
 
 -- The settings that bytes spell; what is no text is no TOML.
-unfoldable pub settings_in : List ℕ → Result Configuration Refusal
-settings_in bytes = refusing Settings (if is_utf8 bytes then settings_of bytes else Err NotToml)
+unfoldable pub settings_in : List ℕ → Result Configuration JudgeError
+settings_in bytes = refusing Settings (if is_utf8 bytes then read_settings bytes else Err NotToml)
 
 -- The plan that bytes spell under the settings; what is no text is no JSON.
-unfoldable pub plan_in : Configuration → List ℕ → Result Terms Refusal
-plan_in s bytes = refusing Plan (if is_utf8 bytes then plan_of s bytes else Err plan_error.NotJson)
+unfoldable pub plan_in : Configuration → List ℕ → Result Terms JudgeError
+plan_in s bytes = refusing Plan (if is_utf8 bytes then read_plan s bytes else Err plan_error.NotJson)
 
 -- The claims that bytes spell under the settings and the plan; what is no text is no JSON.
-unfoldable pub claims_in : Configuration → Terms → List ℕ → Result Claims Refusal
-claims_in s p bytes = refusing Certificate (if is_utf8 bytes then claims_of s p bytes else Err cert_error.NotJson)
+unfoldable pub claims_in : Configuration → Terms → List ℕ → Result Claims JudgeError
+claims_in s p bytes = refusing Certificate (if is_utf8 bytes then read_claims s p bytes else Err cert_error.NotJson)
 
 -- The settings and the plan of two files: each is refused in its turn, as no text or for what its text is.
-unfoldable pub sources_in : (settings plan : List ℕ) → Result Sources Refusal
+unfoldable pub sources_in : (settings plan : List ℕ) → Result Sources JudgeError
 sources_in settings plan = do
   s ← settings_in settings
   p ← plan_in s plan
   Ok (record { settings = s; plan = p })
 
 -- What the checker says of claims: the plan is accepted with them, unless a test fails.
-abbrev pub unless : Option CheckError → Acceptance → Result Acceptance Refusal
-unless None accepted = Ok accepted
-unless (Some fault) accepted = Err (Check fault)
+abbrev pub unless_refused : Option CheckError → Acceptance → Result Acceptance JudgeError
+unless_refused None accepted = Ok accepted
+unless_refused (Some fault) accepted = Err (Check fault)
 
-abbrev pub verdict : Sources → Claims → Result Acceptance Refusal
+abbrev pub verdict : Sources → Claims → Result Acceptance JudgeError
 verdict r c =
-    unless (first_fault (geometry_of r.settings) c (tests r.plan))
+    unless_refused (first_fault (geometry_of r.settings) c (tests r.plan))
     (record { plan = r.plan; peak = c.peak; steps = c.steps })
 
 -- What the bytes of three files come to: each is refused in its turn; where all three are read, the certificate is
 -- checked.
-unfoldable pub judgement : (settings plan certificate : List ℕ) → Result Acceptance Refusal
+unfoldable pub judgement : (settings plan certificate : List ℕ) → Result Acceptance JudgeError
 judgement settings plan certificate = do
   r ← sources_in settings plan
   c ← claims_in r.settings r.plan certificate
   verdict r c
 
 -- The text of what the maker of certificates makes, unless the plan has a fault.
-abbrev pub written : Sources → Result Claims CheckError → Result (List ℕ) Refusal
+abbrev pub written : Sources → Result Claims CheckError → Result (List ℕ) JudgeError
 written r (Ok c) = Ok (certificate_text r.settings r.plan c)
 written r (Err fault) = Err (Annotate (Fault fault))
 
 -- What the bytes of two files come to: each is refused in its turn; where both are read, the least certificate of the
 -- plan is made and written.
-unfoldable pub certification : (settings plan : List ℕ) → Result (List ℕ) Refusal
+unfoldable pub certification : (settings plan : List ℕ) → Result (List ℕ) JudgeError
 certification settings plan = do
   r ← sources_in settings plan
   written r (annotation (geometry_of r.settings) r.plan)

@@ -2,27 +2,28 @@
 use Rattle.std.specs.Prelude.{ℕ, List, ◌++◌, codes, string_bytes}
 use Rattle.std.specs.Fmt.{decimal}
 use Rattle.pp_text.specs.Refusals.{Row, refusal_text}
-use Rattle.pp_settings.specs.Refusals.{refusal_row as settings_row}
-use Rattle.pp_plan.specs.Refusals.{row_of as plan_row}
-use Rattle.pp_cert.specs.CertErrors.{row_of as certificate_row}
-use Rattle.pp_cert.specs.CheckErrors.{row_of as check_row}
-use Rattle.pp_annotate.specs.Refusals.{row_of as annotate_row}
-use Rattle.pp_judge.specs.Answers.{Answer, done, made, shown, refused, misused, wordless, unread, unwritten, out_of_memory}
-use Rattle.pp_judge.specs.declared.refusal.Refusal.{Refusal}
-use Rattle.pp_judge.specs.declared.refusal.Refusal.TheVariants.{Settings, Plan, Certificate, Check, Annotate}
+use Rattle.pp_settings.specs.Refusals.{settings_error_row}
+use Rattle.pp_plan.specs.Refusals.{plan_error_row}
+use Rattle.pp_cert.specs.CertErrors.{certificate_error_row}
+use Rattle.pp_cert.specs.CheckErrors.{check_error_row}
+use Rattle.pp_annotate.specs.Refusals.{annotate_error_row}
+use Rattle.pp_judge.specs.Answers.{Answer, done, made, shown, refused, misused, wordless, unread, unwritten}
+use Rattle.pp_judge.specs.Answers.{out_of_memory}
+use Rattle.pp_judge.specs.declared.error.JudgeError.{JudgeError}
+use Rattle.pp_judge.specs.declared.error.JudgeError.TheVariants.{Settings, Plan, Certificate, Check, Annotate}
 use Rattle.pp_judge.specs.declared.outcome.Figures.{Figures}
 
 -- The number and the name of a refusal, and what it is about.
-abbrev pub row_of : Refusal → Row
-row_of (Settings e) = settings_row e
-row_of (Plan e) = plan_row e
-row_of (Certificate e) = certificate_row e
-row_of (Check e) = check_row e
-row_of (Annotate e) = annotate_row e
+abbrev pub judge_error_row : JudgeError → Row
+judge_error_row (Settings e) = settings_error_row e
+judge_error_row (Plan e) = plan_error_row e
+judge_error_row (Certificate e) = certificate_error_row e
+judge_error_row (Check e) = check_error_row e
+judge_error_row (Annotate e) = annotate_error_row e
 
 -- `refused`, and these.
-abbrev pub refusal_line : Refusal → List ℕ
-refusal_line r = codes "refused " ++ refusal_text (row_of r)
+abbrev pub refusal_line : JudgeError → List ℕ
+refusal_line r = codes "refused " ++ refusal_text (judge_error_row r)
 
 -- The three figures of an accepted plan.
 abbrev pub figures_line : Figures → List ℕ

@@ -1,24 +1,24 @@
 -- Refusals of files, among which want of memory says nothing of them.
 use Rattle.std.specs.Prelude.{Bool, false, Result, Ok, Err}
-use Rattle.pp_settings.specs.Refusals.{is_memory as settings_memory}
-use Rattle.pp_plan.specs.Refusals.{is_memory as plan_memory}
-use Rattle.pp_cert.specs.CertErrors.{is_memory as certificate_memory}
-use Rattle.pp_annotate.specs.Refusals.{is_memory as annotate_memory}
-use Rattle.pp_judge.specs.declared.refusal.Refusal.{Refusal}
-use Rattle.pp_judge.specs.declared.refusal.Refusal.TheVariants.{Settings, Plan, Certificate, Check, Annotate}
+use Rattle.pp_settings.specs.Refusals.{is_settings_memory}
+use Rattle.pp_plan.specs.Refusals.{is_plan_memory}
+use Rattle.pp_cert.specs.CertErrors.{is_certificate_memory}
+use Rattle.pp_annotate.specs.Refusals.{is_annotate_memory}
+use Rattle.pp_judge.specs.declared.error.JudgeError.{JudgeError}
+use Rattle.pp_judge.specs.declared.error.JudgeError.TheVariants.{Settings, Plan, Certificate, Check, Annotate}
 
 -- What was done, or the refusal that its fault is.
-abbrev pub refusing : {A E : Type 0} → (E → Refusal) → Result A E → Result A Refusal
+abbrev pub refusing : {A E : Type 0} → (E → JudgeError) → Result A E → Result A JudgeError
 refusing refusal (Ok x) = Ok x
 refusing refusal (Err e) = Err (refusal e)
 
 -- Whether it is no refusal of a file, but want of memory.
-abbrev pub is_want_of_memory : Refusal → Bool
-is_want_of_memory (Settings e) = settings_memory e
-is_want_of_memory (Plan e) = plan_memory e
-is_want_of_memory (Certificate e) = certificate_memory e
+abbrev pub is_want_of_memory : JudgeError → Bool
+is_want_of_memory (Settings e) = is_settings_memory e
+is_want_of_memory (Plan e) = is_plan_memory e
+is_want_of_memory (Certificate e) = is_certificate_memory e
 is_want_of_memory (Check e) = false
-is_want_of_memory (Annotate e) = annotate_memory e
+is_want_of_memory (Annotate e) = is_annotate_memory e
 
 -- A value shows itself.
 abbrev pub same : {A : Type 0} → A → A

@@ -7,7 +7,7 @@ ghost use Rattle.pp_text.specs.Steps.{Gives};
 ghost use Rattle.pp_judge.specs.Steps.{is_want_of_memory, same};
 
 use crate::contents::{AnnotateFiles, CheckFiles};
-use crate::refusal::Refusal;
+use crate::error::JudgeError;
 use pp_annotate::annotate;
 use pp_cert::{Accepted, CertError, Certificate};
 use pp_plan::{Plan, PlanError};
@@ -30,7 +30,7 @@ pub struct Sources {
 ///
 /// The first refusal in that order. A file whose bytes are not UTF-8 is refused in its turn, as one that is no
 /// TOML or no JSON.
-pub fn judge(alloc: Global, files: CheckFiles<'_>) -> Result<Accepted, Refusal>
+pub fn judge(alloc: Global, files: CheckFiles<'_>) -> Result<Accepted, JudgeError>
     // What is answered is the judgement on the three files, unless memory ran out.
     ensures { Gives is_want_of_memory same result
         (judgement files.entry.settings.now files.entry.plan.now files.entry.certificate.now) }
@@ -39,7 +39,7 @@ pub fn judge(alloc: Global, files: CheckFiles<'_>) -> Result<Accepted, Refusal>
     let certificate = certificate_in(alloc, &settings, &plan, files.certificate)?;
     match pp_cert::check(&settings, plan, &certificate) {
         Ok(accepted) => Ok(accepted),
-        Err((_, error)) => Err(Refusal::Check(error)),
+        Err((_, error)) => Err(JudgeError::Check(error)),
     }
 }
 
@@ -49,7 +49,7 @@ pub fn judge(alloc: Global, files: CheckFiles<'_>) -> Result<Accepted, Refusal>
 ///
 /// The first refusal in that order. A file whose bytes are not UTF-8 is refused in its turn, as one that is no
 /// TOML or no JSON.
-pub fn certify(alloc: Global, files: AnnotateFiles<'_>) -> Result<String, Refusal>
+pub fn certify(alloc: Global, files: AnnotateFiles<'_>) -> Result<String, JudgeError>
     // What is answered is the text of the certificate that is made of the two files, unless memory ran out.
     ensures exact { Gives is_want_of_memory string_bytes result
         (certification files.entry.settings.now files.entry.plan.now) }
@@ -63,7 +63,7 @@ pub fn certify(alloc: Global, files: AnnotateFiles<'_>) -> Result<String, Refusa
 }
 
 /// The settings and the plan under them, read in this order.
-fn sources_in(alloc: Global, settings: &[u8], plan: &[u8]) -> Result<Sources, Refusal>
+fn sources_in(alloc: Global, settings: &[u8], plan: &[u8]) -> Result<Sources, JudgeError>
     ensures { Gives is_want_of_memory same result (sources_in settings.now plan.now) }
 {
     let settings = settings_in(alloc, settings)?;
@@ -72,21 +72,21 @@ fn sources_in(alloc: Global, settings: &[u8], plan: &[u8]) -> Result<Sources, Re
 }
 
 /// The settings that the bytes spell.
-fn settings_in(alloc: Global, bytes: &[u8]) -> Result<Settings, Refusal>
+fn settings_in(alloc: Global, bytes: &[u8]) -> Result<Settings, JudgeError>
     ensures { Gives is_want_of_memory same result (settings_in bytes.now) }
 {
     let Ok(text) = str::from_utf8(bytes) else {
-        return Err(Refusal::Settings(SettingsError::NotToml));
+        return Err(JudgeError::Settings(SettingsError::NotToml));
     };
     Ok(Settings::from_text(alloc, text)?)
 }
 
 /// The plan that the bytes spell under the settings.
-fn plan_in(alloc: Global, settings: &Settings, bytes: &[u8]) -> Result<Plan, Refusal>
+fn plan_in(alloc: Global, settings: &Settings, bytes: &[u8]) -> Result<Plan, JudgeError>
     ensures { Gives is_want_of_memory same result (plan_in settings.now bytes.now) }
 {
     let Ok(text) = str::from_utf8(bytes) else {
-        return Err(Refusal::Plan(PlanError::NotJson));
+        return Err(JudgeError::Plan(PlanError::NotJson));
     };
     Ok(Plan::from_text(alloc, settings, text)?)
 }
@@ -97,11 +97,11 @@ fn certificate_in(
     settings: &Settings,
     plan: &Plan,
     bytes: &[u8],
-) -> Result<Certificate, Refusal>
+) -> Result<Certificate, JudgeError>
     ensures { Gives is_want_of_memory claims_of result (claims_in settings.now plan.now bytes.now) }
 {
     let Ok(text) = str::from_utf8(bytes) else {
-        return Err(Refusal::Certificate(CertError::NotJson));
+        return Err(JudgeError::Certificate(CertError::NotJson));
     };
     Ok(Certificate::from_text(alloc, settings, plan, text)?)
 }

@@ -2,11 +2,11 @@
 #![tactic(auto)]
 
 mod contents;
+mod error;
 mod judgement;
 mod outcome;
-mod refusal;
 
 pub use contents::{AnnotateFiles, CheckFiles, Contents, outcome_of};
+pub use error::JudgeError;
 pub use judgement::{certify, judge};
 pub use outcome::{Figures, Outcome};
-pub use refusal::Refusal;

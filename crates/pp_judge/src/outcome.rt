@@ -4,7 +4,7 @@ ghost use Rattle.std.specs.Prelude.{◌≡◌, Some};
 ghost use Rattle.pp_judge.specs.Answers.{figures_of, is_output_of, refused_by, seen, status_of};
 ghost use Rattle.pp_judge.specs.Lines.{figures_line, text_of};
 
-use crate::refusal::Refusal;
+use crate::error::JudgeError;
 use pp_cert::Accepted;
 use std::fmt;
 
@@ -18,7 +18,7 @@ pub enum Outcome<'a> {
     /// The help or the version, which ends with a line feed.
     Shown(String),
     /// A file is refused, or the certificate.
-    Refused(Refusal),
+    Refused(JudgeError),
     /// The words are no command: the fault's text, which ends with a line feed.
     Misused(String),
     /// The words of the command line can't be read.
@@ -113,10 +113,10 @@ impl fmt::Display for Outcome<'_> {
 }
 
 /// Want of memory is an outcome of its own.
-impl From<Refusal> for Outcome<'_> {
+impl From<JudgeError> for Outcome<'_> {
     ghost from_gives = { λ refusal outcome. outcome ≡ refused_by refusal };
 
-    fn from(refusal: Refusal) -> Self {
+    fn from(refusal: JudgeError) -> Self {
         if refusal.is_want_of_memory() {
             Outcome::OutOfMemory
         } else {

@@ -11,7 +11,7 @@ use Rattle.pp_plan.specs.declared.action.Action.{Action}
 use Rattle.pp_plan.specs.declared.action.Action.TheVariants as action
 use Rattle.pp_plan.specs.declared.action.Ask.{Ask}
 use Rattle.pp_plan.specs.declared.action.Ask.TheVariants as ask
-use Rattle.pp_plan.specs.Cursor.{Names}
+use Rattle.pp_plan.specs.Cursor.{NamesAction}
 use Rattle.pp_cert.specs.declared.note.Held.{Held}
 use Rattle.pp_cert.specs.declared.note.Held.TheVariants.{Free, S, X}
 use Rattle.pp_cert.specs.Accepted.{Acceptance}
@@ -56,7 +56,7 @@ pub record IsAt (s : State) (w : ℕ) (r : Running) (g : Stage) : Type 0 where
 -- It acts, and its plan asks the action.
 pub record IsAsked (s : State) (w : ℕ) (r : Running) (a : Action) : Type 0 where
   pub at : IsAt s w r acting
-  pub names : Names r.accepted.plan.layout (asked_by r) a
+  pub names : NamesAction r.accepted.plan.layout (asked_by r) a
 
 -- The page isn't in flight, and ARC answers so.
 pub record IsAnswered (s : State) (page : ℕ) (lists : FourLists) (answer : Answer) : Type 0 where
@@ -125,13 +125,13 @@ pub data Result (s : State) (o : Outcome) : Type 0 where
   refused : is_refusal o.reply ≡ true → o.state ≡ s → Result s o
   done : is_refusal o.reply ≡ false → (c : Change s o.state) → IsReal c → Result s o
 
-asked_is : (r : Running) (x : Ask) (a : Action) → asked_by r ≡ x → Names r.accepted.plan.layout x a
-    → Names r.accepted.plan.layout (asked_by r) a
-asked_is r x a e n = subst (λ y. Names r.accepted.plan.layout y a) (sym e) n
+asked_is : (r : Running) (x : Ask) (a : Action) → asked_by r ≡ x → NamesAction r.accepted.plan.layout x a
+    → NamesAction r.accepted.plan.layout (asked_by r) a
+asked_is r x a e n = subst (λ y. NamesAction r.accepted.plan.layout y a) (sym e) n
 
 -- The slot of a fix is one that the plan asks for the page.
 pub slot_asked : (r : Running) (page slot : ℕ) (x : Ask) → fix_slot r page x ≡ Some slot
-    → Names r.accepted.plan.layout x (action.Fix slot page)
+    → NamesAction r.accepted.plan.layout x (action.Fix slot page)
 slot_asked r page slot (ask.Fix t region) e = go (region_has r.accepted.plan.layout region page) refl e
   where
     go : (b : Bool) → region_has r.accepted.plan.layout region page ≡ b

@@ -4,7 +4,7 @@ use Rattle.std.proofs.Common.{◌≡◌, ◌∙◌, ℕ, ◌+◌, true, Option, 
 use Rattle.std.specs.Prelude.{slice_get, slice_set, sum_by, nat_le}
 use Rattle.pp_plan.specs.declared.action.Action.{Action}
 use Rattle.pp_plan.specs.declared.action.Action.TheVariants as action
-use Rattle.pp_plan.specs.Cursor.{Names}
+use Rattle.pp_plan.specs.Cursor.{NamesAction}
 use Rattle.pp_cert.specs.declared.note.Held.{Held}
 use Rattle.pp_cert.specs.declared.note.Held.TheVariants.{Free, S, X}
 use Rattle.pp_cert.specs.Accepted.{Acceptance}
@@ -21,7 +21,7 @@ use Rattle.pp_model.proofs.Changes.{Change}
 -- ---- one worker
 
 abbrev pub AsksNow : Running → Action → Type 0
-AsksNow r a = Names r.accepted.plan.layout (asked_by r) a
+AsksNow r a = NamesAction r.accepted.plan.layout (asked_by r) a
 
 -- An errand for a fix of the page into the slot.
 abbrev pub IsErrand : (slot page : ℕ) → Stage → Type 0

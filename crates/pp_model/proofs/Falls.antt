@@ -14,7 +14,7 @@ use Rattle.pp_plan.specs.declared.action.Ask.TheVariants as ask
 use Rattle.pp_plan.specs.Traces.{IsTrace, Begins}
 use Rattle.pp_plan.specs.Terms.{Terms, IsPlan}
 use Rattle.pp_plan.specs.PlanTraces.{PlanAsks}
-use Rattle.pp_plan.specs.Cursor.{Names, IsAskOf}
+use Rattle.pp_plan.specs.Cursor.{NamesAction, IsAskOf}
 use Rattle.pp_cert.specs.declared.note.Held.TheVariants.{Free}
 use Rattle.pp_cert.specs.Accepted.{IsAccepted}
 use Rattle.pp_cert.specs.Held.{Holding, Holdings, holding_at, held_next, held_after, held, held_in as held_for}
@@ -39,7 +39,7 @@ abbrev low : ℕ → Holding → ℕ
 low n h = cond (ltb h.slot n) 1 0
 
 asked_slot : (slots regions slot page : ℕ) (t : Terms) (x : Ask) → IsAskOf slots regions x
-    → Names t.layout x (action.Fix slot page) → slot < slots
+    → NamesAction t.layout x (action.Fix slot page) → slot < slots
 asked_slot slots regions slot page t (ask.Fix s r) h n = omega (arith, h.0, n.0)
 asked_slot slots regions slot page t (ask.Unfix s) h n = absurd n
 asked_slot slots regions slot page t (ask.Latch s m) h n = absurd n

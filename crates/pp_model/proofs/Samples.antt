@@ -4,7 +4,7 @@ use Rattle.std.specs.Prelude.{ℕ, List, [], ◌∷◌, codes}
 use Rattle.pp_settings.specs.declared.extent.Extent.{Extent}
 use Rattle.pp_settings.specs.Layout.{Geometry}
 use Rattle.pp_plan.specs.declared.mode.Mode.TheVariants as mode
-use Rattle.pp_plan.specs.Tree.{Step, fix, unfix, latch, unlatch, step, Sequence, done, andthen}
+use Rattle.pp_plan.specs.Tree.{Step, fix, unfix, latch, unlatch, step, Sequence, skip, andthen}
 use Rattle.pp_cert.specs.Accepted.{Acceptance}
 use Rattle.pp_model.specs.Pool.{State, Settings, opening}
 use Rattle.pp_model.specs.Submitting.{after_submit}
@@ -23,7 +23,7 @@ settings_of frames = record { layout = layout_of frames; workers = 2; flushes = 
 
 -- A body of steps alone.
 abbrev straight : List Step → Sequence
-straight [] = done
+straight [] = skip
 straight (s ∷ ss) = andthen (step s) (straight ss)
 
 abbrev plan_of : (frames peak count : ℕ) → List (List ℕ) → List Step → Acceptance

@@ -10,7 +10,7 @@ use Rattle.pp_settings.specs.Layout.{Geometry, has_page, page_count, end_of}
 use Rattle.pp_plan.specs.declared.action.Action.TheVariants as action
 use Rattle.pp_plan.specs.declared.action.Ask.{Ask}
 use Rattle.pp_plan.specs.declared.action.Ask.TheVariants as ask
-use Rattle.pp_plan.specs.Cursor.{Names}
+use Rattle.pp_plan.specs.Cursor.{NamesAction}
 use Rattle.pp_cert.specs.Held.{Holding, Holdings}
 use Rattle.pp_arc.specs.declared.answer.Answer.{Answer}
 use Rattle.pp_arc.specs.declared.answer.Answer.TheVariants as answer
@@ -51,7 +51,7 @@ page_below (x ∷ xs) zero page e f h =
     omega arith
 page_below (x ∷ xs) (suc r) page e f h = omega (arith, page_below xs r page e f h)
 
-pub fixable : (g : Geometry) (slot page : ℕ) (x : Ask) → Names g x (action.Fix slot page) → page < page_count g
+pub fixable : (g : Geometry) (slot page : ℕ) (x : Ask) → NamesAction g x (action.Fix slot page) → page < page_count g
 fixable g slot page (ask.Fix s r) n = page_below g.extents r page n.1.0 n.1.1 n.1.2
 fixable g slot page (ask.Unfix s) n = absurd n
 fixable g slot page (ask.Latch s m) n = absurd n

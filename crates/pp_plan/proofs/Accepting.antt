@@ -8,13 +8,13 @@ use Rattle.serde_json.specs.Read.{read}
 use Rattle.pp_settings.specs.Settings.{Configuration, IsConfiguration, region_named, geometry_of}
 use Rattle.pp_plan.specs.declared.error.PlanError.{PlanError}
 use Rattle.pp_plan.specs.declared.error.PlanError.TheVariants.{NotJson, WrongField, Range}
-use Rattle.pp_plan.specs.Tree.{Sequence, done}
+use Rattle.pp_plan.specs.Tree.{Sequence, skip}
 use Rattle.pp_plan.specs.Progress.{Progress}
 use Rattle.pp_plan.specs.Terms.{Terms, IsPlan}
 use Rattle.pp_text.specs.Steps.{must, Gives}
 use Rattle.pp_text.specs.Objects.{has_only_keys, HasOnly, Holds}
 use Rattle.pp_plan.specs.Keys.{top_keys}
-use Rattle.pp_plan.specs.Refusals.{is_memory}
+use Rattle.pp_plan.specs.Refusals.{is_plan_memory}
 use Rattle.pp_plan.specs.Shapes.{value_at, list_at}
 use Rattle.pp_plan.specs.Numbering.{in_byte_order, place_in}
 use Rattle.pp_plan.specs.Reading.{start, sequence_from, statement_at, is_one, statements_at, plan_of, reading}
@@ -80,7 +80,7 @@ unfolding reading
 reading_found settings within text t e =
     let (d, parsed, e1) = bind_ok (ok_or (read text) NotJson) _ t e in
     let (items, stands, e2) = bind_ok (statements_at d) _ t e1 in
-    let (r, body, e3) = bind_ok (sequence_from (statement_at (region_named settings) 16) done start items) _ t e2 in
+    let (r, body, e3) = bind_ok (sequence_from (statement_at (region_named settings) 16) skip start items) _ t e2 in
     let s = body_found settings items r body in
     let same : plan_of settings r ≡ t = ok_is (plan_of settings r) t e3 in (
       d,
@@ -90,14 +90,14 @@ reading_found settings within text t e =
     )
 
 pub is_found : (settings : Configuration) → (text : List ℕ) (r : Result Terms PlanError)
-    → IfOk r (λ _. IsConfiguration settings) → Gives is_memory (λ (t : Terms). t) r (reading settings text)
+    → IfOk r (λ _. IsConfiguration settings) → Gives is_plan_memory (λ (t : Terms). t) r (reading settings text)
     → IfOk r (IsText settings text)
 is_found settings text (Ok t) within gives = reading_found settings within text t gives
 is_found settings text (Err d) within gives = tt
 
 -- What is read has the layout of the settings.
 pub has_layout : (settings : Configuration) → (text : List ℕ) (r : Result Terms PlanError)
-    → IfOk r (λ _. IsConfiguration settings) → Gives is_memory (λ (t : Terms). t) r (reading settings text)
+    → IfOk r (λ _. IsConfiguration settings) → Gives is_plan_memory (λ (t : Terms). t) r (reading settings text)
     → IfOk r (λ t. t.layout ≡ geometry_of settings)
 has_layout settings text (Ok t) within gives = let (d, parsed, s, is) = reading_found settings within text t gives in
     s.layout

@@ -11,26 +11,26 @@ use Rattle.serde_json.specs.Find.{as_array}
 use Rattle.pp_settings.specs.Settings.{Configuration, region_named}
 use Rattle.pp_plan.specs.declared.mode.Mode.{Mode}
 use Rattle.pp_plan.specs.declared.error.PlanError.{PlanError}
-use Rattle.pp_plan.specs.Tree.{Step, fix, unfix, latch, unlatch, Statement, step, loop, choice, Sequence, done, andthen}
+use Rattle.pp_plan.specs.Tree.{Step, fix, unfix, latch, unlatch, Statement, step, loop, choice, Sequence, skip, andthen}
 use Rattle.pp_plan.specs.Tree.{Alternatives, none, either, statement_count, sequence_count, alternatives_count}
 use Rattle.pp_plan.specs.Tree.{statement_depth, sequence_depth, alternatives_depth}
 use Rattle.pp_plan.specs.Names.{is_slot_name}
 use Rattle.pp_plan.specs.Rules.{IsSome, IsStatement, IsSequence, AreAlternatives}
 use Rattle.pp_plan.specs.Progress.{Progress}
 use Rattle.pp_text.specs.Steps.{◌>>=◌}
-use Rattle.pp_plan.specs.Numbering.{in_byte_order, place_of, place_in, numbered_step, numbered_statement, numbered}
+use Rattle.pp_plan.specs.Numbering.{in_byte_order, position_of, place_in, numbered_step, numbered_statement, numbered}
 use Rattle.pp_plan.specs.Numbering.{numbered_branches}
 use Rattle.pp_plan.specs.Shapes.{Shape, fix_shape, unfix_shape, latch_shape, unlatch_shape, loop_shape, choice_shape}
 use Rattle.pp_plan.specs.Shapes.{shape_of, are_lists}
 use Rattle.pp_plan.specs.Reading.{begun, used_at, used, slot_of, followed_by, with_branch, sequence_from}
-use Rattle.pp_plan.specs.Reading.{alternatives_from, items_in, count_of, fix_by, statement_by, statement_at}
+use Rattle.pp_plan.specs.Reading.{alternatives_from, items_in, item_count, fix_by, statement_by, statement_at}
 use Rattle.pp_plan.specs.Spelling.{SpellsStep, SpellsStatement, SpellsSequence, SpellsAlternatives}
 use Rattle.pp_plan.specs.Faults.{SpellsShape}
 use Rattle.pp_plan.proofs.Places.{Has, has_at, at_has, has_push, Extends, AreApart, place_none}
 use Rattle.pp_plan.proofs.Order.{Rises, rises_apart, rises_short, order_rises, order_length, order_from}
 use Rattle.pp_plan.proofs.Forms.{shape_again}
 use Rattle.pp_plan.proofs.Found.{AreNames, SlotUsed, used_found, push_apart, longer, next, joined, gathered}
-use Rattle.pp_plan.proofs.Found.{joined_done, joined_follow, gathered_none, gathered_with, branches_counted}
+use Rattle.pp_plan.proofs.Found.{joined_skip, joined_follow, gathered_none, gathered_with, branches_counted}
 use Rattle.pp_plan.proofs.Numbered.{placed}
 
 -- ---- slot names
@@ -46,7 +46,7 @@ no_more slots names up apart within =
     let l = order_length names in
     omega (arith, a, l)
 
-used_to : (o : Option ℕ) (slots : List (List ℕ)) (n : ℕ) (p : Progress) (name : List ℕ) → place_of p.names name ≡ o
+used_to : (o : Option ℕ) (slots : List (List ℕ)) (n : ℕ) (p : Progress) (name : List ℕ) → position_of p.names name ≡ o
     → Rises slots → length slots ≤ 32 → AreApart p.names → AreIn slots p.names → Has slots name
     → (u : Progress × ℕ) × (used_at o n p name ≡ Ok u)
 used_to (Some k) slots n p name is up few apart within has = ((p, k), refl)
@@ -63,7 +63,7 @@ used_again : (slots : List (List ℕ)) (n : ℕ) (p : Progress) (name : List ℕ
     → AreApart p.names → AreIn slots p.names → Has slots name → (u : Progress × ℕ) × (used n p name ≡ Ok u)
 unfolding used
 used_again slots n p name up few apart within has =
-    used_to (place_of p.names name) slots n p name refl up few apart within has
+    used_to (position_of p.names name) slots n p name refl up few apart within has
 
 slot_again : (n : ℕ) (p : Progress) (name : List ℕ) (u : Progress × ℕ) → is_slot_name name ≡ true → used n p name ≡ Ok u
     → slot_of n p name ≡ Ok u
@@ -102,7 +102,7 @@ pub record AgainBranches (slots : List (List ℕ)) (earlier : Alternatives) (p :
 
 numbered_follow : (f : ℕ → ℕ) (b : Sequence) (s : Statement)
     → numbered f (followed_by b s) ≡ followed_by (numbered f b) (numbered_statement f s)
-numbered_follow f done s = refl
+numbered_follow f skip s = refl
 numbered_follow f (andthen r b) s = ap (andthen (numbered_statement f r)) (numbered_follow f b s)
 
 numbered_with : (f : ℕ → ℕ) (bs : Alternatives) (b : Sequence)
@@ -187,25 +187,25 @@ unlatch_to region read_one n p slot u e = rw e refl
 
 loop_to : (region : List ℕ → Option ℕ) (read_one : Progress → Data → Result (Progress × Statement) PlanError) (n : ℕ)
     (p : Progress) (count : ℕ) (ds : Items) (b : Progress × Sequence)
-    → ((nat_le 1 count && nat_le count 65535) && not (count_of ds == 0)) ≡ true
-    → sequence_from read_one done p ds ≡ Ok b
+    → ((nat_le 1 count && nat_le count 65535) && not (item_count ds == 0)) ≡ true
+    → sequence_from read_one skip p ds ≡ Ok b
     → statement_by region read_one n p (loop_shape count ds) ≡ Ok (b.0, loop count b.1)
 unfolding statement_by
 loop_to region read_one n p count ds b range e = rw (range, e) refl
 
 choice_to : (region : List ℕ → Option ℕ) (read_one : Progress → Data → Result (Progress × Statement) PlanError) (n : ℕ)
     (p : Progress) (ds : Items) (bs : Progress × Alternatives)
-    → (nat_le 1 (count_of ds) && nat_le (count_of ds) 16) ≡ true → alternatives_from read_one none p ds ≡ Ok bs
+    → (nat_le 1 (item_count ds) && nat_le (item_count ds) 16) ≡ true → alternatives_from read_one none p ds ≡ Ok bs
     → statement_by region read_one n p (choice_shape ds) ≡ Ok (bs.0, choice bs.1)
 unfolding statement_by
 choice_to region read_one n p ds bs range e = rw (range, e) refl
 
 some_again : (settings : Configuration) (slots : List (List ℕ)) (ds : Items) (b : Sequence)
-    → SpellsSequence settings slots ds b → IsSome b → not (count_of ds == 0) ≡ true
-some_again settings slots no_items done h some = absurd some
+    → SpellsSequence settings slots ds b → IsSome b → not (item_count ds == 0) ≡ true
+some_again settings slots no_items skip h some = absurd some
 some_again settings slots (item d ds) (andthen s b) h some = grind (arith, nat_tests)
 some_again settings slots no_items (andthen s b) h some = absurd h
-some_again settings slots (item d ds) done h some = absurd h
+some_again settings slots (item d ds) skip h some = absurd h
 
 range_again : (low high n : ℕ) → low ≤ n → n ≤ high → (nat_le low n && nat_le n high) ≡ true
 range_again low high n a b = grind (arith, nat_tests)
@@ -283,14 +283,14 @@ step_spelled settings slots up are (unlatch k) levels p d names within room (key
 
 -- a loop of a body that is read, and a choice of such branches
 loop_again : (settings : Configuration) (slots : List (List ℕ)) (levels n : ℕ) (b : Sequence) (p : Progress) (d : Data)
-    (ds : Items) (r : Progress × Sequence) → p.count < 4096 → 1 ≤ n → n ≤ 65535 → not (count_of ds == 0) ≡ true
+    (ds : Items) (r : Progress × Sequence) → p.count < 4096 → 1 ≤ n → n ≤ 65535 → not (item_count ds == 0) ≡ true
     → SpellsShape d (loop_shape n ds)
-    → sequence_from (statement_at (region_named settings) levels) done (next p) ds ≡ Ok r
-    → AgainSequence slots done (next p) b r → IsReadAgain settings slots (suc levels) p d (loop n b)
+    → sequence_from (statement_at (region_named settings) levels) skip (next p) ds ≡ Ok r
+    → AgainSequence slots skip (next p) b r → IsReadAgain settings slots (suc levels) p d (loop n b)
 loop_again settings slots levels n b p d ds r room low high some h is a =
     let region = region_named settings in
     let range =
-    and_from (nat_le 1 n && nat_le n 65535) (not (count_of ds == 0)) (range_again 1 65535 n low high) some in
+    and_from (nat_le 1 n && nat_le n 65535) (not (item_count ds == 0)) (range_again 1 65535 n low high) some in
     read_by settings slots levels p d (loop n b) (loop_shape n ds) (r.0, loop n r.1) room h
     (loop_to region (statement_at region levels) p.count (next p) n ds r range is) (record {
       grows = a.grows;
@@ -301,14 +301,14 @@ loop_again settings slots levels n b p d ds r room low high some h is a =
     })
 
 choice_again : (settings : Configuration) (slots : List (List ℕ)) (levels : ℕ) (bs : Alternatives) (p : Progress)
-    (d : Data) (ds : Items) (r : Progress × Alternatives) → p.count < 4096 → 1 ≤ count_of ds → count_of ds ≤ 16
+    (d : Data) (ds : Items) (r : Progress × Alternatives) → p.count < 4096 → 1 ≤ item_count ds → item_count ds ≤ 16
     → SpellsShape d (choice_shape ds)
     → alternatives_from (statement_at (region_named settings) levels) none (next p) ds ≡ Ok r
     → AgainBranches slots none (next p) bs r → IsReadAgain settings slots (suc levels) p d (choice bs)
 choice_again settings slots levels bs p d ds r room low high h is a =
     let region = region_named settings in
     read_by settings slots levels p d (choice bs) (choice_shape ds) (r.0, choice r.1) room h
-    (choice_to region (statement_at region levels) p.count (next p) ds r (range_again 1 16 (count_of ds) low high)
+    (choice_to region (statement_at region levels) p.count (next p) ds r (range_again 1 16 (item_count ds) low high)
     is) (record {
       grows = a.grows;
       names = a.names;
@@ -335,7 +335,7 @@ follow_again slots earlier p s b r all a c = record {
 }
 
 branch_again : (slots : List (List ℕ)) (earlier : Alternatives) (p : Progress) (b : Sequence) (bs : Alternatives)
-    (r : Progress × Sequence) (all : Progress × Alternatives) → AgainSequence slots done p b r
+    (r : Progress × Sequence) (all : Progress × Alternatives) → AgainSequence slots skip p b r
     → AgainBranches slots (with_branch earlier r.1) r.0 bs all → AgainBranches slots earlier p (either b bs) all
 branch_again slots earlier p b bs r all a c = record {
   grows = λ j n e. c.grows j n (a.grows j n e);
@@ -361,11 +361,11 @@ sequence_step read_one earlier p d ds r all is more =
 
 branches_step : (read_one : Progress → Data → Result (Progress × Statement) PlanError) (earlier : Alternatives)
     (p : Progress) (d : Data) (es ds : Items) (r : Progress × Sequence) (all : Progress × Alternatives) → d ≡ array es
-    → sequence_from read_one done p es ≡ Ok r → alternatives_from read_one (with_branch earlier r.1) r.0 ds ≡ Ok all
+    → sequence_from read_one skip p es ≡ Ok r → alternatives_from read_one (with_branch earlier r.1) r.0 ds ≡ Ok all
     → alternatives_from read_one earlier p (item d ds) ≡ Ok all
 branches_step read_one earlier p d es ds r all listed is more =
-    let here : sequence_from read_one done p (items_in d) ≡ Ok r =
-    ap (λ (x : Data). sequence_from read_one done p (items_in x)) listed ∙ is in
+    let here : sequence_from read_one skip p (items_in d) ≡ Ok r =
+    ap (λ (x : Data). sequence_from read_one skip p (items_in x)) listed ∙ is in
     ap (λ (x : Result (Progress × Sequence) PlanError). x >>= λ y. alternatives_from read_one (with_branch earlier y.1)
     y.0 ds) here ∙ more
 
@@ -383,7 +383,7 @@ mutual
   statement_again settings slots up are (loop n b) (suc levels) p d names within most (low, high, some, parts) deep
       (keys, count, (ds, body, h)) =
       let (r, is, a) =
-      sequence_again settings slots up are b levels ds done (next p) names within (omega (arith, most)) parts
+      sequence_again settings slots up are b levels ds skip (next p) names within (omega (arith, most)) parts
       (omega (arith, deep)) h in
       loop_again settings slots levels n b p d ds r (omega (arith, most)) low high
       (some_again settings slots ds b h some) (keys, count, body) is a
@@ -405,7 +405,7 @@ mutual
       → SpellsSequence settings slots ds b
       → (r : Progress × Sequence) × (sequence_from (statement_at (region_named settings) levels) earlier p ds
       ≡ Ok r) × AgainSequence slots earlier p b r
-  sequence_again settings slots up are done levels no_items earlier p names within most parts deep h = (
+  sequence_again settings slots up are skip levels no_items earlier p names within most parts deep h = (
     (p, earlier),
     refl,
     record {
@@ -413,7 +413,7 @@ mutual
       names = names;
       within = within;
       count = omega arith;
-      same = λ names ext. sym (joined_done (numbered (λ k. place_in slots names k) earlier));
+      same = λ names ext. sym (joined_skip (numbered (λ k. place_in slots names k) earlier));
     },
   )
   sequence_again settings slots up are (andthen s b) levels (item d ds) earlier p names within most parts deep h =
@@ -427,7 +427,7 @@ mutual
         sequence_step (statement_at (region_named settings) levels) earlier p d ds r all is more,
         follow_again slots earlier p s b r all a c,
       )
-  sequence_again settings slots up are done levels (item d ds) earlier p names within most parts deep h = absurd h
+  sequence_again settings slots up are skip levels (item d ds) earlier p names within most parts deep h = absurd h
   sequence_again settings slots up are (andthen s b) levels no_items earlier p names within most parts deep h = absurd h
 
   branches_again : (settings : Configuration) (slots : List (List ℕ)) → Rises slots → AreNames slots
@@ -452,7 +452,7 @@ mutual
   branches_again settings slots up are (either b bs) levels (item d ds) earlier p names within most parts deep
       ((es, listed, first), rest) =
       let (r, is, a) =
-      sequence_again settings slots up are b levels es done p names within (omega (arith, most)) parts.0
+      sequence_again settings slots up are b levels es skip p names within (omega (arith, most)) parts.0
       (omega (arith, deep)) first in
       let (all, more, c) =
       branches_again settings slots up are bs levels ds (with_branch earlier r.1) r.0 a.names a.within

@@ -7,7 +7,7 @@ use Rattle.std.proofs.lemmas.List.{append-nil}
 use Rattle.std.specs.Prelude.{◌↔◌, option_map, slice_get, nat_lt}
 use Rattle.pp_settings.specs.declared.extent.Extent.{Extent}
 use Rattle.pp_settings.specs.Layout.{Geometry, HasPage, IsLayout}
-use Rattle.pp_plan.specs.Tree.{Step, fix, unfix, latch, unlatch, step, loop, choice, Sequence, done, andthen}
+use Rattle.pp_plan.specs.Tree.{Step, fix, unfix, latch, unlatch, step, loop, choice, Sequence, skip, andthen}
 use Rattle.pp_plan.specs.Tree.{Alternatives, none, either, branch_count}
 use Rattle.pp_plan.specs.Rules.{IsSome, IsStep, IsSequence, AreAlternatives}
 use Rattle.pp_plan.specs.declared.mode.Mode.{Mode}
@@ -19,7 +19,7 @@ use Rattle.pp_plan.specs.Terms.{Terms, IsPlan}
 use Rattle.pp_plan.specs.Traces.{Does, Repeats, IsTrace, Begins}
 use Rattle.pp_plan.specs.PlanTraces.{IsTraceOf, PlanAsks}
 use Rattle.pp_plan.specs.Left.{◌then◌, branch_at}
-use Rattle.pp_plan.specs.Cursor.{Names, IsAskOf}
+use Rattle.pp_plan.specs.Cursor.{NamesAction, IsAskOf}
 use Rattle.pp_plan.specs.CursorMoves.{Same}
 use Rattle.pp_plan.proofs.Sequences.{split, join, loop_over, loop_turn, step_does, does_step, choice_does, does_choice}
 use Rattle.pp_plan.proofs.Sequences.{step_acts, choice_acts}
@@ -70,21 +70,21 @@ does_is g _ _ h = absurd h
 -- ---- bodies that a plan can have left: as the rules say, but for loops with no turn left
 
 abbrev CanRun : (slots regions : ℕ) → Sequence → Type 0
-CanRun slots regions done = Unit {0}
+CanRun slots regions skip = Unit {0}
 CanRun slots regions (andthen (step s) k) = IsStep slots regions s × CanRun slots regions k
 CanRun slots regions (andthen (loop n b) k) = IsSome b × IsSequence slots regions b × CanRun slots regions k
 CanRun slots regions (andthen (choice bs) k) =
     (1 ≤ branch_count bs) × (branch_count bs ≤ 16) × AreAlternatives slots regions bs × CanRun slots regions k
 
 can_run : (slots regions : ℕ) (b : Sequence) → IsSequence slots regions b → CanRun slots regions b
-can_run slots regions done h = tt
+can_run slots regions skip h = tt
 can_run slots regions (andthen (step s) k) h = (h.0, can_run slots regions k h.1)
 can_run slots regions (andthen (loop n b) k) h = (h.0.2, h.0.3, can_run slots regions k h.1)
 can_run slots regions (andthen (choice bs) k) h = (h.0.0, h.0.1, h.0.2, can_run slots regions k h.1)
 
 then_runs : (slots regions : ℕ) (b c : Sequence) → CanRun slots regions b → CanRun slots regions c
     → CanRun slots regions (b then c)
-then_runs slots regions done c h i = i
+then_runs slots regions skip c h i = i
 then_runs slots regions (andthen (step s) k) c h i = (h.0, then_runs slots regions k c h.1 i)
 then_runs slots regions (andthen (loop n b) k) c h i = (h.0, h.1, then_runs slots regions k c h.2 i)
 then_runs slots regions (andthen (choice bs) k) c h i = (h.0, h.1, h.2, then_runs slots regions k c h.3 i)
@@ -101,11 +101,11 @@ repeats_last P (suc n) h = let r = repeats_last P n h in (h.0 ++ r.0, (h.0, r.0,
 
 -- Such a body has a trace.
 runs_last : (g : Geometry) (slots : ℕ) (b : Sequence) → IsLayout g → CanRun slots (length g.extents) b → Lasts g b
-runs_last g slots done l h = ([], refl)
+runs_last g slots skip l h = ([], refl)
 runs_last g slots (andthen (step s) k) l h =
-    let u = body_lasts g slots (andthen (step s) done) l (h.0, tt) in
+    let u = body_lasts g slots (andthen (step s) skip) l (h.0, tt) in
     let v = runs_last g slots k l h.1 in
-    (u.0 ++ v.0, join g (andthen (step s) done) k (u.0 ++ v.0) (u.0, v.0, refl, u.1, v.1))
+    (u.0 ++ v.0, join g (andthen (step s) skip) k (u.0 ++ v.0) (u.0, v.0, refl, u.1, v.1))
 runs_last g slots (andthen (loop n b) k) l h =
     let u = repeats_last (IsTrace g b) n (body_lasts g slots b l h.1) in
     let v = runs_last g slots k l h.2 in
@@ -125,7 +125,7 @@ no_front [] v e = refl
 no_front (x ∷ u) v e = cc
 
 full : (g : Geometry) (slots regions : ℕ) (b : Sequence) → IsSome b → IsSequence slots regions b → IsTrace g b [] → ⊥
-full g slots regions done some h i = absurd some
+full g slots regions skip some h i = absurd some
 full g slots regions (andthen (step s) k) some h i = step_acts g s k i
 full g slots regions (andthen (choice bs) k) some h i = choice_acts g bs k i
 full g slots regions (andthen (loop zero c) k) some h i = absurd (omega (arith, h.0.0))
@@ -220,7 +220,7 @@ not_chosen g bs k a rest other t = let d = choice_does g bs k a rest t in other 
 
 leads : (g : Geometry) (slots regions : ℕ) (b : Sequence) (a : Action) → CanRun slots regions b
     → Leads g slots regions b a (left_after_one g b a)
-leads g slots regions done a h = λ rest i. cc
+leads g slots regions skip a h = λ rest i. cc
 leads g slots regions (andthen (step s) k) a h = step_leads g slots regions s k a (does g s a) refl h.1
 leads g slots regions (andthen (loop zero b) k) a h =
     same_leads g slots regions (andthen (loop zero b) k) k a (left_after_one g k a) (loop_over g b k)
@@ -240,8 +240,8 @@ leads g slots regions (andthen (choice bs) k) (Unlatch s) h = λ rest t. not_cho
 
 -- Something is left after an action that is asked.
 goes : (g : Geometry) (slots regions : ℕ) (b : Sequence) (a : Action) → CanRun slots regions b
-    → Names g (first_asked b) a → (c : Sequence) × (left_after_one g b a ≡ Some c)
-goes g slots regions done a h n = absurd n
+    → NamesAction g (first_asked b) a → (c : Sequence) × (left_after_one g b a ≡ Some c)
+goes g slots regions skip a h n = absurd n
 goes g slots regions (andthen (step s) k) a h n =
     (k, ap (λ x. cond x (Some k) None) (does_is g s a (named_does g s a n)))
 goes g slots regions (andthen (loop zero b) k) a h n = goes g slots regions k a h.2 n
@@ -261,7 +261,7 @@ some_of f None c e = cc
 some_of f (Some d) c e = (d, refl)
 
 step_asked : (g : Geometry) (s : Step) (k c : Sequence) (a : Action) (b : Bool) → does g s a ≡ b
-    → ◌≡◌ {A = Option Sequence} (cond b (Some k) None) (Some c) → Names g (statement_ask (step s)) a
+    → ◌≡◌ {A = Option Sequence} (cond b (Some k) None) (Some c) → NamesAction g (statement_ask (step s)) a
 step_asked g s k c a true e f = does_named g s a (does_found g s a e)
 step_asked g s k c a false e f = cc
 
@@ -272,8 +272,8 @@ chosen i n d c false e f = cc
 
 -- And an action after which something is left is asked.
 is_asked : (g : Geometry) (slots regions : ℕ) (b c : Sequence) (a : Action) → CanRun slots regions b
-    → left_after_one g b a ≡ Some c → Names g (first_asked b) a
-is_asked g slots regions done c a h e = cc
+    → left_after_one g b a ≡ Some c → NamesAction g (first_asked b) a
+is_asked g slots regions skip c a h e = cc
 is_asked g slots regions (andthen (step s) k) c a h e = step_asked g s k c a (does g s a) refl e
 is_asked g slots regions (andthen (loop zero b) k) c a h e = is_asked g slots regions k c a h.2 e
 is_asked g slots regions (andthen (loop (suc m) b) k) c a h e =
@@ -289,7 +289,7 @@ is_asked g slots regions (andthen (choice bs) k) c (Unlatch s) h e = cc
 -- The end is asked exactly where nothing is left.
 ends : (g : Geometry) (slots regions : ℕ) (b : Sequence) → CanRun slots regions b → first_asked b ≡ ask.End
     → IsTrace g b []
-ends g slots regions done h e = refl
+ends g slots regions skip h e = refl
 ends g slots regions (andthen (step (fix s r)) k) h e = cc
 ends g slots regions (andthen (step (unfix s)) k) h e = cc
 ends g slots regions (andthen (step (latch s m)) k) h e = cc
@@ -301,7 +301,7 @@ ends g slots regions (andthen (choice bs) k) h e = cc
 
 ended : (g : Geometry) (slots regions : ℕ) (b : Sequence) → CanRun slots regions b → IsTrace g b []
     → first_asked b ≡ ask.End
-ended g slots regions done h i = refl
+ended g slots regions skip h i = refl
 ended g slots regions (andthen (step s) k) h i = absurd (step_acts g s k i)
 ended g slots regions (andthen (loop zero b) k) h i = ended g slots regions k h.2 ((loop_over g b k).to [] i)
 ended g slots regions (andthen (loop (suc n) b) k) h i =
@@ -345,12 +345,12 @@ leads_all g slots regions (a ∷ t) b h =
 
 next_is : (g : Geometry) (slots regions : ℕ) (c : Sequence) (a : Action) (rest : List Action) (o : Option Sequence)
     → left_after_one g c a ≡ o → CanRun slots regions c → Leads g slots regions c a o → IsTrace g c (a ∷ rest)
-    → Names g (first_asked c) a
+    → NamesAction g (first_asked c) a
 next_is g slots regions c a rest None e h l i = absurd (l rest i)
 next_is g slots regions c a rest (Some d) e h l i = is_asked g slots regions c d a h e
 
 is_next : (g : Geometry) (slots : ℕ) (c : Sequence) (a : Action) → IsLayout g → CanRun slots (length g.extents) c
-    → Names g (first_asked c) a → (rest : List Action) × IsTrace g c (a ∷ rest)
+    → NamesAction g (first_asked c) a → (rest : List Action) × IsTrace g c (a ∷ rest)
 is_next g slots c a layout h n =
     let r = goes g slots (length g.extents) c a h n in
     let l : Leads g slots (length g.extents) c a (Some r.0) =
@@ -360,7 +360,7 @@ is_next g slots c a layout h n =
 
 asks_by : (g : Geometry) (slots : ℕ) (b : Sequence) (t : List Action) (a : Action) (o : Option Sequence) → IsLayout g
     → LeadsAll g slots (length g.extents) b t o
-    → ((rest : List Action) × IsTrace g b (t ++ a ∷ rest)) ↔ Names g (asked_of o) a
+    → ((rest : List Action) × IsTrace g b (t ++ a ∷ rest)) ↔ NamesAction g (asked_of o) a
 asks_by g slots b t a None layout l = ((λ h. absurd (l (a ∷ h.0) h.1)), (λ n. absurd n))
 asks_by g slots b t a (Some c) layout l = (
   (λ h. next_is g slots (length g.extents) c a h.0 (left_after_one g c a) refl l.1
@@ -377,7 +377,8 @@ ends_by g slots regions b t (Some c) l h = (
 )
 
 -- The plan asks an action exactly where the computed ask names it.
-pub asks_named : (p : Terms) (t : List Action) (a : Action) → IsPlan p → PlanAsks p t a ↔ Names p.layout (asked p t) a
+pub asks_named : (p : Terms) (t : List Action) (a : Action) → IsPlan p
+    → PlanAsks p t a ↔ NamesAction p.layout (asked p t) a
 asks_named p t a h =
     asks_by p.layout (length p.slots) p.body t a (left_after p.layout (Some p.body) t) h.layout
     (leads_all p.layout (length p.slots) (length p.layout.extents) t p.body
@@ -392,7 +393,7 @@ asks_end p t h begins =
     (can_run (length p.slots) (length p.layout.extents) p.body h.body.parts)) begins
 
 within_by : (slots regions : ℕ) (b : Sequence) → CanRun slots regions b → IsAskOf slots regions (first_asked b)
-within_by slots regions done h = tt
+within_by slots regions skip h = tt
 within_by slots regions (andthen (step (fix s r)) k) h = h.0
 within_by slots regions (andthen (step (unfix s)) k) h = h.0
 within_by slots regions (andthen (step (latch s m)) k) h = h.0

@@ -22,8 +22,9 @@ use Rattle.pp_plan.specs.Keys.{keys_of, first_key}
 use Rattle.pp_plan.specs.Shapes.{kinds, has_kind, only_one, kind_of, value_at, text_at, number_at, list_at, mode_named}
 use Rattle.pp_plan.specs.Shapes.{mode_at, are_lists, Shape, fix_shape, unfix_shape, latch_shape, unlatch_shape}
 use Rattle.pp_plan.specs.Shapes.{loop_shape, choice_shape, shape_at, shape_of}
-use Rattle.pp_plan.specs.Reading.{items_in, count_of}
-use Rattle.pp_plan.specs.Faults.{elements, listed, inside, IsOfKind, SpellsShape, NamesSlot, IsOutOfRange}
+use Rattle.pp_plan.specs.Reading.{items_in, item_count}
+use Rattle.pp_text.specs.Objects.{elements}
+use Rattle.pp_plan.specs.Faults.{listed, directly_inside, IsOfKind, SpellsShape, NamesSlot, IsOutOfRange}
 use Rattle.pp_plan.proofs.Forms.{absent, shape_found, shape_again}
 
 pub none_some : {A : Type 0} (o : Option A) (x : A) → o ≡ None → o ≡ Some x → ⊥
@@ -349,14 +350,15 @@ pub no_body : (keys : List (List ℕ)) (d : Data) → is_one_of keys (codes "bod
 no_body keys d a b c only =
     (absent keys (codes "body") a d only, absent keys (codes "choice") b d only, absent keys (codes "loop") c d only)
 
-pub none_inside : (d : Data) → HasNoBody d → inside d ≡ []
+pub none_inside : (d : Data) → HasNoBody d → directly_inside d ≡ []
 none_inside d (body, choices, turns) = rw (body, choices) refl
 
-pub loop_inside : (d : Data) (n : ℕ) (ds : Items) → SpellsShape d (loop_shape n ds) → inside d ≡ elements ds
+pub loop_inside : (d : Data) (n : ℕ) (ds : Items) → SpellsShape d (loop_shape n ds) → directly_inside d ≡ elements ds
 loop_inside d n ds (keys, at, held) =
     rw (held, absent (keys_of Loop) (codes "choice") refl d keys) (append-nil (elements ds))
 
-pub choice_inside : (d : Data) (ds : Items) → SpellsShape d (choice_shape ds) → inside d ≡ flat_map listed (elements ds)
+pub choice_inside : (d : Data) (ds : Items) → SpellsShape d (choice_shape ds)
+    → directly_inside d ≡ flat_map listed (elements ds)
 choice_inside d ds (keys, held, lists) = rw (held, absent (keys_of Choice) (codes "body") refl d keys) refl
 
 pub listed_is : (d : Data) → listed d ≡ elements (items_in d)
@@ -376,7 +378,7 @@ in_range d (body, choices, turns) (inr (inl held)) = none_some (get (codes "body
 in_range d (body, choices, turns) (inr (inr (ds, held, bad))) =
     none_some (get (codes "choice") d) (array ds) choices held
 
-counted : (ds : Items) → count_of ds ≡ length (elements ds)
+counted : (ds : Items) → item_count ds ≡ length (elements ds)
 counted no_items = refl
 counted (item d ds) = let e = counted ds in omega (arith, e)
 
@@ -392,18 +394,19 @@ not_false false e = absurd (false≢true (sym e))
 
 -- the test of a loop
 abbrev pub loop_test : ℕ → Items → Bool
-loop_test n ds = (nat_le 1 n && nat_le n 65535) && not (count_of ds == 0)
+loop_test n ds = (nat_le 1 n && nat_le n 65535) && not (item_count ds == 0)
 
 pub loop_in : (d : Data) (n : ℕ) (ds : Items) → SpellsShape d (loop_shape n ds) → loop_test n ds ≡ true
     → ¬ IsOutOfRange d
 loop_in d n ds (keys, at, held) test (inl (m, there, bad)) =
     let same : n ≡ m = number_is (codes "loop") d n m at there in
-    let (low, high) = within 1 65535 n (and_parts (nat_le 1 n && nat_le n 65535) (not (count_of ds == 0)) test).0 in
+    let (low, high) = within 1 65535 n (and_parts (nat_le 1 n && nat_le n 65535) (not (item_count ds == 0)) test).0 in
     bad (omega (arith, same, low), omega (arith, same, high))
 loop_in d n ds (keys, at, held) test (inr (inl empty)) =
-    let some : not (count_of ds == 0) ≡ true =
-    (and_parts (nat_le 1 n && nat_le n 65535) (not (count_of ds == 0)) test).1 in
-    false≢true (subst (λ (es : Items). not (count_of es == 0) ≡ true) (list_is (codes "body") d ds no_items held empty)
+    let some : not (item_count ds == 0) ≡ true =
+    (and_parts (nat_le 1 n && nat_le n 65535) (not (item_count ds == 0)) test).1 in
+    false≢true
+    (subst (λ (es : Items). not (item_count es == 0) ≡ true) (list_is (codes "body") d ds no_items held empty)
     some)
 loop_in d n ds (keys, at, held) test (inr (inr (es, there, bad))) =
     no_key (keys_of Loop) (codes "choice") refl d keys (array es) there
@@ -413,15 +416,15 @@ pub loop_out : (d : Data) (n : ℕ) (ds : Items) → SpellsShape d (loop_shape n
 loop_out d n no_items (keys, at, held) test = inr (inl held)
 loop_out d n (item e es) (keys, at, held) test = by (nat_le 1 n && nat_le n 65535) refl test
   where
-    by : (b : Bool) → (nat_le 1 n && nat_le n 65535) ≡ b → (b && not (count_of (item e es) == 0)) ≡ false
+    by : (b : Bool) → (nat_le 1 n && nat_le n 65535) ≡ b → (b && not (item_count (item e es) == 0)) ≡ false
         → IsOutOfRange d
-    by true is bad = let none : count_of es + 1 ≡ 0 = eqb-true (count_of es + 1) 0 (not_false _ bad) in
+    by true is bad = let none : item_count es + 1 ≡ 0 = eqb-true (item_count es + 1) 0 (not_false _ bad) in
         absurd (omega (arith, none))
     by false is bad = inl (n, at, without 1 65535 n is)
 
 -- the test of a choice
 abbrev pub choice_test : Items → Bool
-choice_test ds = nat_le 1 (count_of ds) && nat_le (count_of ds) 16
+choice_test ds = nat_le 1 (item_count ds) && nat_le (item_count ds) 16
 
 pub choice_in : (d : Data) (ds : Items) → SpellsShape d (choice_shape ds) → choice_test ds ≡ true → ¬ IsOutOfRange d
 choice_in d ds (keys, held, lists) test (inl (n, there, bad)) =
@@ -429,8 +432,8 @@ choice_in d ds (keys, held, lists) test (inl (n, there, bad)) =
 choice_in d ds (keys, held, lists) test (inr (inl there)) =
     no_key (keys_of Choice) (codes "body") refl d keys (array no_items) there
 choice_in d ds (keys, held, lists) test (inr (inr (es, there, bad))) =
-    let (low, high) = within 1 16 (count_of ds) test in
-    let same : count_of ds ≡ length (elements es) = counted ds
+    let (low, high) = within 1 16 (item_count ds) test in
+    let same : item_count ds ≡ length (elements es) = counted ds
     ∙ ap (λ (xs : Items). length (elements xs)) (list_is (codes "choice") d ds es held there) in
     bad (omega (arith, same, low), omega (arith, same, high))
 
@@ -440,7 +443,7 @@ choice_out d ds (keys, held, lists) test =
       ds,
       held,
       λ h. let same = counted ds in
-          without 1 16 (count_of ds) test (omega (arith, same, h.0), omega (arith, same, h.1)),
+          without 1 16 (item_count ds) test (omega (arith, same, h.0), omega (arith, same, h.1)),
     ))
 
 -- ---- steps

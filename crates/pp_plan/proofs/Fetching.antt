@@ -3,7 +3,7 @@ use Rattle.std.proofs.Common.{◌≡◌, ℕ, zero, suc, ◌+◌, ◌^◌, ◌<�
 use Rattle.std.proofs.Common.{subst, arith, add-one}
 use Rattle.std.specs.Prelude.{slice_get, Some}
 use Rattle.std.proofs.lemmas.Option.{slice_get_read}
-use Rattle.pp_plan.specs.Tree.{Sequence, done, andthen, Alternatives, branch_count}
+use Rattle.pp_plan.specs.Tree.{Sequence, skip, andthen, Alternatives, branch_count}
 use Rattle.pp_plan.specs.View.{statement_of, sequence_of, alternatives_of}
 use Rattle.pp_plan.specs.declared.stmt.Stmt.{Stmt}
 use Rattle.pp_plan.specs.declared.stmt.Stmt.TheVariants.{Choice}
@@ -23,7 +23,7 @@ pub drop_some : (ss : List Stmt) (i : ℕ) (s : Stmt) → s ≡ get_or ss i s �
     → sequence_drop i (sequence_of ss) ≡ andthen (statement_of s) (sequence_drop (i + 1) (sequence_of ss))
 drop_some ss i s e h = rw add-one (drop_suc ss i s (slice_get_read ss (length ss) i s refl h e))
 
-pub drop_none : (ss : List Stmt) (i : ℕ) → length ss ≤ i → sequence_drop i (sequence_of ss) ≡ done
+pub drop_none : (ss : List Stmt) (i : ℕ) → length ss ≤ i → sequence_drop i (sequence_of ss) ≡ skip
 drop_none [] zero h = refl
 drop_none [] (suc i) h = refl
 drop_none (x ∷ ss) zero h = absurd (omega arith)
@@ -39,7 +39,7 @@ pub branch_some : (bs : List Sequence) (i : ℕ) (b : Sequence) → b ≡ get_or
     → branch_at (alternatives_of bs) i ≡ b
 branch_some bs i b e h = branch_get bs i b (slice_get_read bs (length bs) i b refl h e)
 
-pub branch_none : (bs : List Sequence) (i : ℕ) → length bs ≤ i → branch_at (alternatives_of bs) i ≡ done
+pub branch_none : (bs : List Sequence) (i : ℕ) → length bs ≤ i → branch_at (alternatives_of bs) i ≡ skip
 branch_none [] i h = refl
 branch_none (x ∷ bs) zero h = absurd (omega arith)
 branch_none (x ∷ bs) (suc i) h = branch_none bs i (omega arith)
@@ -56,7 +56,7 @@ pub drop_at : (ss : List Stmt) (b : Sequence) (i j : ℕ) (s : Stmt) → sequenc
 drop_at ss b i j s is at e h = rw (← is, ← at) (drop_some ss j s e h)
 
 pub drop_past : (ss : List Stmt) (b : Sequence) (i j : ℕ) → sequence_of ss ≡ b → j ≡ i → length ss ≤ j
-    → sequence_drop i b ≡ done
+    → sequence_drop i b ≡ skip
 drop_past ss b i j is at h = rw (← is, ← at) (drop_none ss j h)
 
 -- ---- what a choice asks

@@ -16,13 +16,13 @@ use Rattle.pp_settings.specs.Settings.{Configuration, region_named}
 use Rattle.pp_plan.specs.declared.error.PlanError.{PlanError}
 use Rattle.pp_plan.specs.declared.error.PlanError.TheVariants.{NotJson, WrongField, NoSuchRegion, Range, TooDeep}
 use Rattle.pp_plan.specs.declared.error.PlanError.TheVariants.{TooMany, OutOfMemory}
-use Rattle.pp_plan.specs.Tree.{Step, fix, unfix, latch, unlatch, Statement, step, loop, choice, Sequence, done}
+use Rattle.pp_plan.specs.Tree.{Step, fix, unfix, latch, unlatch, Statement, step, loop, choice, Sequence, skip}
 use Rattle.pp_plan.specs.Tree.{Alternatives, none}
 use Rattle.pp_plan.specs.Names.{is_slot_name}
 use Rattle.pp_plan.specs.Progress.{Progress}
 use Rattle.pp_plan.specs.Terms.{Terms}
 use Rattle.pp_text.specs.Steps.{◌>>=◌, must, Refuses, Gives}
-use Rattle.pp_plan.specs.Numbering.{in_byte_order, place_of}
+use Rattle.pp_plan.specs.Numbering.{in_byte_order, position_of}
 use Rattle.pp_plan.specs.Shapes.{Shape, fix_shape, unfix_shape, latch_shape, unlatch_shape, loop_shape, choice_shape}
 use Rattle.pp_plan.specs.Shapes.{shape_of, value_at, list_at}
 use Rattle.pp_plan.specs.Reading.{start, begun, used_at, used, slot_of, followed_by, with_branch, sequence_from}
@@ -30,12 +30,14 @@ use Rattle.pp_plan.specs.Reading.{alternatives_from, items_in, fix_by, statement
 use Rattle.pp_plan.specs.Reading.{statements_at, plan_of, reading}
 use Rattle.pp_text.specs.Objects.{has_only_keys, Holds}
 use Rattle.pp_plan.specs.Keys.{top_keys}
-use Rattle.pp_plan.specs.Refusals.{is_memory}
-use Rattle.pp_plan.specs.Faults.{Written, elements, listed, inside, statements_in, statements_of, SpellsShape}
+use Rattle.pp_plan.specs.Refusals.{is_plan_memory}
+use Rattle.pp_plan.specs.Faults.{Written, listed, directly_inside, statements_in, statements_of, SpellsShape}
 use Rattle.pp_plan.specs.Faults.{NamesSlot, IsNamedBefore, IsOutOfRange, Cause, one_too_many, too_deep, no_kind}
 use Rattle.pp_plan.specs.Faults.{other_form, bad_name, no_region, out_of_range, name_too_many, Fault, not_json}
 use Rattle.pp_plan.specs.Faults.{other_top, other_version, in_statement, error_of, HasCause, IsTopForm, HasFault}
-use Rattle.pp_plan.specs.Faults.{causes, at_statements, IsFirst, TellsFirst}
+use Rattle.pp_plan.specs.Faults.{causes, at_statements, TellsFirst}
+use Rattle.pp_text.specs.First.{IsFirst}
+use Rattle.pp_text.specs.Objects.{elements}
 use Rattle.pp_plan.proofs.Places.{Has, has_at, at_has, AreApart, place_some, place_none}
 use Rattle.pp_plan.proofs.Order.{all_of, rises_short, order_rises, order_length, order_from, order_has}
 use Rattle.pp_text.proofs.Steps.{bind_ok, must_ok, ok_or_ok, ok_is}
@@ -316,19 +318,19 @@ module _ (settings : Configuration) (doc : Data) where
       → slice_get (statements_of doc) p.count ≡ Some s → IsStepOf s.value slot → is_slot_name slot ≡ true
       → Walked (in_statement p.count name_too_many ∷ rest (p.count + 1)) p.count (s ∷ []) (used p.count (next p) slot)
   unfolding used
-  slot_walked p s slot at room here is form = by (place_of p.names slot) refl
+  slot_walked p s slot at room here is form = by (position_of p.names slot) refl
     where
       found : (u : Progress × ℕ) → used p.count (next p) slot ≡ Ok u → Passed (rest (p.count + 1)) p.count (s ∷ []) u.0
       found u e = slot_passed p s slot u at room here is (used_found p.count (next p) slot u at.names form e)
 
-      unnamed : place_of p.names slot ≡ None → Has p.names slot → ⊥
+      unnamed : position_of p.names slot ≡ None → Has p.names slot → ⊥
       unnamed new has = let (k, there) = has_at p.names slot has in place_none p.names slot new k there
 
       all_taken : nat_lt (length p.names) 32 ≡ false → length p.names ≡ 32
       all_taken full = let few = at.names.few in let least = no_room (length p.names) 32 full in
           omega (arith, few, least)
 
-      by : (o : Option ℕ) → place_of p.names slot ≡ o
+      by : (o : Option ℕ) → position_of p.names slot ≡ o
           → Walked (in_statement p.count name_too_many ∷ rest (p.count + 1)) p.count (s ∷ [])
           (used_at o p.count (next p) slot)
       by (Some k) there =
@@ -414,7 +416,7 @@ module _ (settings : Configuration) (doc : Data) where
   -- a step has no statements inside it
   alone : {A : Type 0} (fs : List Fault) (n : ℕ) (s : Written) (each : Data → List Written)
       (r : Result (Progress × A) PlanError) → HasNoBody s.value → Walked fs n (s ∷ []) r
-      → Walked fs n (s ∷ flat_map each (inside s.value)) r
+      → Walked fs n (s ∷ flat_map each (directly_inside s.value)) r
   alone fs n s each r body w =
       subst (λ (ds : List Data). Walked fs n (s ∷ flat_map each ds) r) (sym (none_inside s.value body)) w
 
@@ -461,8 +463,8 @@ module _ (settings : Configuration) (doc : Data) where
   branches_walked read_one each walks no_items earlier p at stands = none_walked p earlier at
   branches_walked read_one each walks (item d ds) earlier p at stands =
       then_walked (rest p.count) p.count (flat_map each (elements (items_in d))) (in_lists each ds)
-      (sequence_from read_one done p (items_in d)) _
-      (sequence_walked read_one each walks (items_in d) done p at
+      (sequence_from read_one skip p (items_in d)) _
+      (sequence_walked read_one each walks (items_in d) skip p at
       (left_stands p.count (flat_map each (elements (items_in d))) (in_lists each ds) stands))
       (λ r count more. branches_walked read_one each walks ds (with_branch earlier r.1) r.0 more
       (right_stands p.count r.0.count (flat_map each (elements (items_in d))) (in_lists each ds) count stands))
@@ -489,9 +491,9 @@ module _ (settings : Configuration) (doc : Data) where
 
   -- an unfix, a latch or an unlatch
   slot_step_walked : (each : Data → List Written) (p : Progress) (s : Written) (shape : Shape) (slot : List ℕ)
-      (made : ℕ → Step) → IsAt p → p.count < 4096 → Stands p.count (s ∷ flat_map each (inside s.value))
+      (made : ℕ → Step) → IsAt p → p.count < 4096 → Stands p.count (s ∷ flat_map each (directly_inside s.value))
       → SpellsShape s.value shape → IsStepOf s.value slot → is_fix shape ≡ false
-      → Walked (by_value p.count) p.count (s ∷ flat_map each (inside s.value))
+      → Walked (by_value p.count) p.count (s ∷ flat_map each (directly_inside s.value))
       (slot_of p.count (next p) slot >>= λ u. Ok (u.0, step (made u.1)))
   slot_step_walked each p s shape slot made at room stands h is other =
       alone (by_value p.count) p.count s each _ is.body (
@@ -530,30 +532,31 @@ module _ (settings : Configuration) (doc : Data) where
 
   loop_walked : (read_one : Progress → Data → Result (Progress × Statement) PlanError) (each : Data → List Written)
       → Walks read_one each → (p : Progress) (s : Written) (n : ℕ) (ds : Items) → IsAt p → p.count < 4096
-      → Stands p.count (s ∷ flat_map each (inside s.value)) → SpellsShape s.value (loop_shape n ds)
-      → Walked (by_value p.count) p.count (s ∷ flat_map each (inside s.value))
-      (must (loop_test n ds) (Range p.count) >>= λ range. sequence_from read_one done (next p) ds >>= λ b. Ok
+      → Stands p.count (s ∷ flat_map each (directly_inside s.value)) → SpellsShape s.value (loop_shape n ds)
+      → Walked (by_value p.count) p.count (s ∷ flat_map each (directly_inside s.value))
+      (must (loop_test n ds) (Range p.count) >>= λ range. sequence_from read_one skip (next p) ds >>= λ b. Ok
       (b.0, loop n b.1))
   loop_walked read_one each walks p s n ds at room stands h =
-      let same : inside s.value ≡ elements ds = loop_inside s.value n ds h in
-      ranged_walked p s (loop_shape n ds) (flat_map each (inside s.value)) (loop_test n ds)
-      (sequence_from read_one done (next p) ds) (λ b. loop n b.1) at room (first_stands p.count s _ stands) h refl
+      let same : directly_inside s.value ≡ elements ds = loop_inside s.value n ds h in
+      ranged_walked p s (loop_shape n ds) (flat_map each (directly_inside s.value)) (loop_test n ds)
+      (sequence_from read_one skip (next p) ds) (λ b. loop n b.1) at room (first_stands p.count s _ stands) h refl
       refl (loop_out s.value n ds h) (loop_in s.value n ds h) (λ after.
       subst (λ (es : List Data). Walked (rest (p.count + 1)) (p.count + 1) (flat_map each es)
-      (sequence_from read_one done (next p) ds)) (sym same) (
-      sequence_walked read_one each walks ds done (next p) after
+      (sequence_from read_one skip (next p) ds)) (sym same) (
+      sequence_walked read_one each walks ds skip (next p) after
       (subst (λ (es : List Data). Stands (p.count + 1) (flat_map each es)) same (rest_stands p.count s _ stands))))
 
   choice_walked : (read_one : Progress → Data → Result (Progress × Statement) PlanError) (each : Data → List Written)
       → Walks read_one each → (p : Progress) (s : Written) (ds : Items) → IsAt p → p.count < 4096
-      → Stands p.count (s ∷ flat_map each (inside s.value)) → SpellsShape s.value (choice_shape ds)
-      → Walked (by_value p.count) p.count (s ∷ flat_map each (inside s.value))
+      → Stands p.count (s ∷ flat_map each (directly_inside s.value)) → SpellsShape s.value (choice_shape ds)
+      → Walked (by_value p.count) p.count (s ∷ flat_map each (directly_inside s.value))
       (must (choice_test ds) (Range p.count) >>= λ range. alternatives_from read_one none (next p) ds >>= λ bs. Ok
       (bs.0, choice bs.1))
   choice_walked read_one each walks p s ds at room stands h =
-      let same : flat_map each (inside s.value) ≡ in_lists each ds = ap (flat_map each) (choice_inside s.value ds h)
+      let same : flat_map each (directly_inside s.value) ≡ in_lists each ds =
+      ap (flat_map each) (choice_inside s.value ds h)
       ∙ sym (lists_are each ds) in
-      ranged_walked p s (choice_shape ds) (flat_map each (inside s.value)) (choice_test ds)
+      ranged_walked p s (choice_shape ds) (flat_map each (directly_inside s.value)) (choice_test ds)
       (alternatives_from read_one none (next p) ds) (λ bs. choice bs.1) at room (first_stands p.count s _ stands) h
       refl refl (choice_out s.value ds h) (choice_in s.value ds h) (λ after.
       subst (λ (es : List Written). Walked (rest (p.count + 1)) (p.count + 1) es
@@ -563,8 +566,8 @@ module _ (settings : Configuration) (doc : Data) where
 
   shape_walked : (read_one : Progress → Data → Result (Progress × Statement) PlanError) (each : Data → List Written)
       → Walks read_one each → (p : Progress) (s : Written) (shape : Shape) → IsAt p → p.count < 4096
-      → Stands p.count (s ∷ flat_map each (inside s.value)) → SpellsShape s.value shape
-      → Walked (by_value p.count) p.count (s ∷ flat_map each (inside s.value))
+      → Stands p.count (s ∷ flat_map each (directly_inside s.value)) → SpellsShape s.value shape
+      → Walked (by_value p.count) p.count (s ∷ flat_map each (directly_inside s.value))
       (statement_by (region_named settings) read_one p.count (next p) shape)
   unfolding statement_by
   shape_walked read_one each walks p s (fix_shape slot region) at room stands h =
@@ -584,18 +587,18 @@ module _ (settings : Configuration) (doc : Data) where
 
   form_walked : (read_one : Progress → Data → Result (Progress × Statement) PlanError) (each : Data → List Written)
       → Walks read_one each → (p : Progress) (s : Written) → IsAt p → p.count < 4096
-      → Stands p.count (s ∷ flat_map each (inside s.value))
+      → Stands p.count (s ∷ flat_map each (directly_inside s.value))
       → Walked (in_statement p.count no_kind ∷ in_statement p.count other_form ∷ by_value p.count) p.count
-      (s ∷ flat_map each (inside s.value))
+      (s ∷ flat_map each (directly_inside s.value))
       (shape_of p.count s.value >>= λ shape. statement_by (region_named settings) read_one p.count (next p) shape)
   form_walked read_one each walks p s at room stands = by (shape_of p.count s.value) (form_is p.count s.value)
     where
       here : slice_get (statements_of doc) p.count ≡ Some s
-      here = first_stands p.count s (flat_map each (inside s.value)) stands
+      here = first_stands p.count s (flat_map each (directly_inside s.value)) stands
 
       by : (r : Result Shape PlanError) → FormIs p.count s.value r
           → Walked (in_statement p.count no_kind ∷ in_statement p.count other_form ∷ by_value p.count) p.count
-          (s ∷ flat_map each (inside s.value))
+          (s ∷ flat_map each (directly_inside s.value))
           (r >>= λ shape. statement_by (region_named settings) read_one p.count (next p) shape)
       by (Ok shape) (kind, spelled) =
           passed_on (in_statement p.count no_kind) _ p.count _
@@ -627,9 +630,9 @@ module _ (settings : Configuration) (doc : Data) where
       let here = first_stands p.count s _ stands in
       let read_one = statement_at (region_named settings) levels in
       let each = statements_in (suc levels) (depth + 1) in
-      subst (λ (fs : List Fault). Walked fs p.count (s ∷ flat_map each (inside d))
+      subst (λ (fs : List Fault). Walked fs p.count (s ∷ flat_map each (directly_inside d))
       (statement_at (region_named settings) (suc levels) p d)) (sym (rest_is p.count at.most)) (
-      begun_walked p s _ (s ∷ flat_map each (inside d))
+      begun_walked p s _ (s ∷ flat_map each (directly_inside d))
       (λ q. shape_of p.count d >>= λ shape. statement_by (region_named settings) read_one p.count q shape) here
       (λ room.
       passed_on (in_statement p.count too_deep) _ p.count _
@@ -651,21 +654,21 @@ start_at settings doc =
 
 body_walked : (settings : Configuration) (doc : Data) (items : Items) → Holds doc (codes "body") (array items)
     → Walked settings doc (at_statements 0 4097) 0 (statements_of doc)
-    (sequence_from (statement_at (region_named settings) 16) done start items)
+    (sequence_from (statement_at (region_named settings) 16) skip start items)
 unfolding statements_of
 body_walked settings doc items held =
     let all : flat_map (statements_in 17 1) (elements items) ≡ statements_of doc =
     ap (λ (o : Option Data). flat_map (statements_in 17 1) (option_map_or listed o [])) (sym held) in
     subst (λ (ss : List Written). Walked settings doc (at_statements 0 4097) 0 ss
-    (sequence_from (statement_at (region_named settings) 16) done start items)) all (
+    (sequence_from (statement_at (region_named settings) 16) skip start items)) all (
     sequence_walked settings doc (statement_at (region_named settings) 16) (statements_in 17 1)
-    (statement_walked settings doc 16 1 (omega arith)) items done start (start_at settings doc)
+    (statement_walked settings doc 16 1 (omega arith)) items skip start (start_at settings doc)
     (λ k s is. ap (λ (ss : List Written). slice_get ss (0 + k)) (sym all)
     ∙ ap (slice_get (flat_map (statements_in 17 1) (elements items))) (omega arith) ∙ is))
 
 body_first : (settings : Configuration) (doc : Data) (items : Items) (e : PlanError)
     → Holds doc (codes "body") (array items)
-    → sequence_from (statement_at (region_named settings) 16) done start items ≡ Err e
+    → sequence_from (statement_at (region_named settings) 16) skip start items ≡ Err e
     → Told settings doc (at_statements 0 4097) (Some e)
 body_first settings doc items e held h =
     subst (λ (r : Result (Progress × Sequence) PlanError). Walked settings doc (at_statements 0 4097) 0
@@ -724,7 +727,7 @@ none_of settings doc n k (suc m) c low high clear f = by (cases_lt n k) (none_of
 -- statements that were read have no fault
 body_clear : (settings : Configuration) (doc : Data) (items : Items) (r : Progress × Sequence)
     → Holds doc (codes "body") (array items)
-    → sequence_from (statement_at (region_named settings) 16) done start items ≡ Ok r → (n : ℕ) (c : Cause)
+    → sequence_from (statement_at (region_named settings) 16) skip start items ≡ Ok r → (n : ℕ) (c : Cause)
     → ¬ Faulty settings doc (in_statement n c)
 body_clear settings doc items r held h n c f =
     let w : Passed settings doc (at_statements 0 4097) 0 (statements_of doc) r.0 =
@@ -777,7 +780,7 @@ top_refused d e h =
     (λ y one h4. absurd cc))))
 
 document_first : (settings : Configuration) (d : Data) (e : PlanError)
-    → (statements_at d >>= λ items. sequence_from (statement_at (region_named settings) 16) done start items >>= λ r. Ok
+    → (statements_at d >>= λ items. sequence_from (statement_at (region_named settings) 16) skip start items >>= λ r. Ok
     (plan_of settings r)) ≡ Err e → TellsFirst settings (Some d) e
 document_first settings d e h =
     failed (statements_at d) _ e h
@@ -791,7 +794,7 @@ document_first settings d e h =
     ])
     (λ items stands h1.
     let top = top_found d items stands in
-    failed (sequence_from (statement_at (region_named settings) 16) done start items) _ e h1
+    failed (sequence_from (statement_at (region_named settings) 16) skip start items) _ e h1
     (λ bad.
     let (f, is, first) = (body_first settings d items e top.body bad).told in (
       f,
@@ -807,7 +810,7 @@ document_first settings d e h =
     (λ r made h2. absurd cc))
 
 document_clear : (settings : Configuration) (d : Data) (items : Items) (r : Progress × Sequence)
-    → statements_at d ≡ Ok items → sequence_from (statement_at (region_named settings) 16) done start items ≡ Ok r
+    → statements_at d ≡ Ok items → sequence_from (statement_at (region_named settings) 16) skip start items ≡ Ok r
     → (f : Fault) → ¬ HasFault settings (Some d) f
 document_clear settings d items r stands made not_json has = has
 document_clear settings d items r stands made other_top has = let top = top_found d items stands in
@@ -822,7 +825,7 @@ unfolding reading
 text_clear settings text t e f has =
     let (d, parsed, e1) = bind_ok (ok_or (read text) NotJson) _ t e in
     let (items, stands, e2) = bind_ok (statements_at d) _ t e1 in
-    let (r, made, _) = bind_ok (sequence_from (statement_at (region_named settings) 16) done start items) _ t e2 in
+    let (r, made, _) = bind_ok (sequence_from (statement_at (region_named settings) 16) skip start items) _ t e2 in
     document_clear settings d items r stands made f
     (subst (λ (o : Option Data). HasFault settings o f) (ok_or_ok (read text) NotJson d parsed) has)
 
@@ -832,25 +835,25 @@ unfolding reading
 text_first settings text e h = by (read text) h
   where
     by : (o : Option Data) → (ok_or o NotJson >>= λ d. statements_at d >>= λ items. sequence_from
-        (statement_at (region_named settings) 16) done start items >>= λ r. Ok (plan_of settings r)) ≡ Err e
+        (statement_at (region_named settings) 16) skip start items >>= λ r. Ok (plan_of settings r)) ≡ Err e
         → TellsFirst settings o e
     by None h = (not_json, err_is NotJson e h, inl (refl, tt))
     by (Some d) h = document_first settings d e h
 
 -- what is told is the first fault, unless memory ran out
 told_first : (settings : Configuration) (text : List ℕ) (e : PlanError) → e ≢ OutOfMemory
-    → Refuses {Y = Terms} (is_memory e) e (reading settings text) → TellsFirst settings (read text) e
+    → Refuses {Y = Terms} (is_plan_memory e) e (reading settings text) → TellsFirst settings (read text) e
 told_first settings text OutOfMemory other h = absurd (other refl)
 told_first settings text e other h = text_first settings text e h
 
 pub refused_first : (settings : Configuration) (text : List ℕ) (r : Result Terms PlanError)
-    → Gives is_memory (λ (t : Terms). t) r (reading settings text)
+    → Gives is_plan_memory (λ (t : Terms). t) r (reading settings text)
     → IfErr r (λ e. e ≢ OutOfMemory → TellsFirst settings (read text) e)
 refused_first settings text (Ok t) gives = tt
 refused_first settings text (Err e) gives = λ other. told_first settings text e other gives
 
 pub accepted_clear : (settings : Configuration) (text : List ℕ) (r : Result Terms PlanError)
-    → Gives is_memory (λ (t : Terms). t) r (reading settings text)
+    → Gives is_plan_memory (λ (t : Terms). t) r (reading settings text)
     → IfOk r (λ t. (f : Fault) → ¬ HasFault settings (read text) f)
 accepted_clear settings text (Ok t) gives = text_clear settings text t gives
 accepted_clear settings text (Err e) gives = tt

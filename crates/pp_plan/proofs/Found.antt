@@ -15,18 +15,18 @@ use Rattle.serde_json.specs.Find.{as_array}
 use Rattle.pp_settings.specs.Settings.{NamedRegion, Configuration, region_named}
 use Rattle.pp_plan.specs.declared.error.PlanError.{PlanError}
 use Rattle.pp_plan.specs.declared.error.PlanError.TheVariants.{BadName, NoSuchRegion, Range, TooMany}
-use Rattle.pp_plan.specs.Tree.{Step, fix, unfix, latch, unlatch, Statement, step, loop, choice, Sequence, done, andthen}
+use Rattle.pp_plan.specs.Tree.{Step, fix, unfix, latch, unlatch, Statement, step, loop, choice, Sequence, skip, andthen}
 use Rattle.pp_plan.specs.Tree.{Alternatives, none, either, statement_count, sequence_count, alternatives_count}
 use Rattle.pp_plan.specs.Tree.{statement_depth, sequence_depth, alternatives_depth, branch_count}
 use Rattle.pp_plan.specs.Names.{is_slot_name}
 use Rattle.pp_plan.specs.Rules.{IsSome, IsStep, IsStatement, IsSequence, AreAlternatives}
 use Rattle.pp_plan.specs.Progress.{Progress}
 use Rattle.pp_text.specs.Steps.{must}
-use Rattle.pp_plan.specs.Numbering.{place_of}
+use Rattle.pp_plan.specs.Numbering.{position_of}
 use Rattle.pp_plan.specs.Shapes.{Shape, fix_shape, unfix_shape, latch_shape, unlatch_shape, loop_shape, choice_shape}
 use Rattle.pp_plan.specs.Shapes.{shape_of, are_lists}
 use Rattle.pp_plan.specs.Reading.{begun, used_at, used, slot_of, followed_by, with_branch, sequence_from}
-use Rattle.pp_plan.specs.Reading.{alternatives_from, items_in, count_of, fix_by, statement_by, statement_at}
+use Rattle.pp_plan.specs.Reading.{alternatives_from, items_in, item_count, fix_by, statement_by, statement_at}
 use Rattle.pp_plan.specs.Spelling.{HoldsSlot, SpellsStep, SpellsStatement, SpellsSequence, SpellsAlternatives}
 use Rattle.pp_plan.specs.Rules.{IsUsedBy, IsUsed, IsUsedInBranch}
 use Rattle.pp_plan.specs.Faults.{SpellsShape}
@@ -73,7 +73,7 @@ longer [] y = refl
 longer (x ∷ xs) y = ap suc (longer xs y)
 
 push_names : (xs : List (List ℕ)) (y : List ℕ) → AreNames xs → length xs < 32 → is_slot_name y ≡ true
-    → place_of xs y ≡ None → AreNames (xs ++ y ∷ [])
+    → position_of xs y ≡ None → AreNames (xs ++ y ∷ [])
 push_names xs y are room form new = record {
   few = let l = longer xs y in omega (arith, room, l);
   form =
@@ -82,7 +82,7 @@ push_names xs y are room form new = record {
   apart = push_apart xs y are.apart (place_none xs y new);
 }
 
-used_by : (o : Option ℕ) (n : ℕ) (p : Progress) (name : List ℕ) (u : Progress × ℕ) → place_of p.names name ≡ o
+used_by : (o : Option ℕ) (n : ℕ) (p : Progress) (name : List ℕ) (u : Progress × ℕ) → position_of p.names name ≡ o
     → AreNames p.names → is_slot_name name ≡ true → used_at o n p name ≡ Ok u → SlotUsed p name u
 used_by (Some k) n p name u is are form e =
     subst (λ (v : Progress × ℕ). SlotUsed p name v) (ok_is {A = Progress × ℕ} (p, k) u e) (record {
@@ -109,7 +109,7 @@ used_by None n p name u is are form e =
 pub used_found : (n : ℕ) (p : Progress) (name : List ℕ) (u : Progress × ℕ) → AreNames p.names → is_slot_name name ≡ true
     → used n p name ≡ Ok u → SlotUsed p name u
 unfolding used
-used_found n p name u are form e = used_by (place_of p.names name) n p name u refl are form e
+used_found n p name u are form e = used_by (position_of p.names name) n p name u refl are form e
 
 pub slot_found : (n : ℕ) (p : Progress) (name : List ℕ) (u : Progress × ℕ) → AreNames p.names → slot_of n p name ≡ Ok u
     → SlotUsed p name u
@@ -169,7 +169,7 @@ mutual
   wider_statement m n r h (choice bs) (x, y, a) = (x, y, wider_branches m n r h bs a)
 
   wider_sequence : (m n r : ℕ) → m ≤ n → (b : Sequence) → IsSequence m r b → IsSequence n r b
-  wider_sequence m n r h done a = tt
+  wider_sequence m n r h skip a = tt
   wider_sequence m n r h (andthen s b) (a, c) = (wider_statement m n r h s a, wider_sequence m n r h b c)
 
   wider_branches : (m n r : ℕ) → m ≤ n → (bs : Alternatives) → AreAlternatives m r bs → AreAlternatives n r bs
@@ -198,11 +198,11 @@ mutual
 
   kept_sequence : (settings : Configuration) (xs ys : List (List ℕ)) → Extends xs ys → (ds : Items) (b : Sequence)
       → SpellsSequence settings xs ds b → SpellsSequence settings ys ds b
-  kept_sequence settings xs ys h no_items done a = tt
+  kept_sequence settings xs ys h no_items skip a = tt
   kept_sequence settings xs ys h (item d ds) (andthen s b) (a, c) =
       (kept_statement settings xs ys h d s a, kept_sequence settings xs ys h ds b c)
   kept_sequence settings xs ys h no_items (andthen s b) a = absurd a
-  kept_sequence settings xs ys h (item d ds) done a = absurd a
+  kept_sequence settings xs ys h (item d ds) skip a = absurd a
 
   kept_branches : (settings : Configuration) (xs ys : List (List ℕ)) → Extends xs ys → (ds : Items) (bs : Alternatives)
       → SpellsAlternatives settings xs ds bs → SpellsAlternatives settings ys ds bs
@@ -216,19 +216,19 @@ mutual
 
 -- the second body behind the first
 abbrev pub joined : Sequence → Sequence → Sequence
-joined done b = b
+joined skip b = b
 joined (andthen s a) b = andthen s (joined a b)
 
 abbrev pub gathered : Alternatives → Alternatives → Alternatives
 gathered none bs = bs
 gathered (either b cs) bs = either b (gathered cs bs)
 
-pub joined_done : (a : Sequence) → joined a done ≡ a
-joined_done done = refl
-joined_done (andthen s a) = ap (andthen s) (joined_done a)
+pub joined_skip : (a : Sequence) → joined a skip ≡ a
+joined_skip skip = refl
+joined_skip (andthen s a) = ap (andthen s) (joined_skip a)
 
 pub joined_follow : (a : Sequence) (s : Statement) (b : Sequence) → joined (followed_by a s) b ≡ joined a (andthen s b)
-joined_follow done s b = refl
+joined_follow skip s b = refl
 joined_follow (andthen r a) s b = ap (andthen r) (joined_follow a s b)
 
 pub gathered_none : (bs : Alternatives) → gathered bs none ≡ bs
@@ -253,8 +253,8 @@ pub sequence_found : (settings : Configuration) (levels : ℕ)
 sequence_found settings levels read_one one no_items earlier p all are most e =
     subst (λ (r : Progress × Sequence). (b : Sequence) × (r.1 ≡ joined earlier b)
     × ReadSequence settings levels p no_items (r.0, b)) (ok_is {A = Progress × Sequence} (p, earlier) all e) (
-      done,
-      sym (joined_done earlier),
+      skip,
+      sym (joined_skip earlier),
       record {
         grows = λ j n h. h;
         names = are;
@@ -321,8 +321,8 @@ branches_found settings levels read_one one no_items earlier p all are most list
     )
 branches_found settings levels read_one one (item d ds) earlier p all are most lists e =
     let (here, rest) = and_parts (is_some (as_array d)) (are_lists ds) lists in
-    let (r, first, e1) = bind_ok (sequence_from read_one done p (items_in d)) _ all e in
-    let (c, same, s) = sequence_found settings levels read_one one (items_in d) done p r are most first in
+    let (r, first, e1) = bind_ok (sequence_from read_one skip p (items_in d)) _ all e in
+    let (c, same, s) = sequence_found settings levels read_one one (items_in d) skip p r are most first in
     let (bs, is, more) =
     branches_found settings levels read_one one ds (with_branch earlier r.1) r.0 all s.names s.most rest e1 in (
       either c bs,
@@ -351,9 +351,9 @@ branches_found settings levels read_one one (item d ds) earlier p all are most l
 pub whole_found : (settings : Configuration) (levels : ℕ)
     (read_one : Progress → Data → Result (Progress × Statement) PlanError) → Reads settings levels read_one
     → (ds : Items) (p : Progress) (r : Progress × Sequence) → AreNames p.names → p.count ≤ 4096
-    → sequence_from read_one done p ds ≡ Ok r → ReadSequence settings levels p ds r
+    → sequence_from read_one skip p ds ≡ Ok r → ReadSequence settings levels p ds r
 whole_found settings levels read_one one ds p r are most e =
-    let (b, same, s) = sequence_found settings levels read_one one ds done p r are most e in
+    let (b, same, s) = sequence_found settings levels read_one one ds skip p r are most e in
     subst (λ (x : Sequence). ReadSequence settings levels p ds (r.0, x)) (sym same) s
 
 all_found : (settings : Configuration) (levels : ℕ)
@@ -424,14 +424,14 @@ range_is : (low high n : ℕ) → (nat_le low n && nat_le n high) ≡ true → (
 range_is low high n e = grind (arith, nat_tests)
 
 some_found : (settings : Configuration) (xs : List (List ℕ)) (ds : Items) (b : Sequence)
-    → SpellsSequence settings xs ds b → not (count_of ds == 0) ≡ true → IsSome b
-some_found settings xs no_items done h e = absurd (false≢true e)
+    → SpellsSequence settings xs ds b → not (item_count ds == 0) ≡ true → IsSome b
+some_found settings xs no_items skip h e = absurd (false≢true e)
 some_found settings xs (item d ds) (andthen s b) h e = tt
 some_found settings xs no_items (andthen s b) h e = absurd h
-some_found settings xs (item d ds) done h e = absurd h
+some_found settings xs (item d ds) skip h e = absurd h
 
 pub branches_counted : (settings : Configuration) (xs : List (List ℕ)) (ds : Items) (bs : Alternatives)
-    → SpellsAlternatives settings xs ds bs → count_of ds ≡ branch_count bs
+    → SpellsAlternatives settings xs ds bs → item_count ds ≡ branch_count bs
 branches_counted settings xs no_items none h = refl
 branches_counted settings xs (item d ds) (either b bs) h =
     ap (λ (n : ℕ). n + 1) (branches_counted settings xs ds bs h.1)
@@ -440,7 +440,7 @@ branches_counted settings xs (item d ds) none h = absurd h
 
 -- a loop of the body that was read, and a choice of the branches
 loop_read : (settings : Configuration) (levels n : ℕ) (p : Progress) (d : Data) (ds : Items) (b : Progress × Sequence)
-    → 1 ≤ n → n ≤ 65535 → not (count_of ds == 0) ≡ true → SpellsShape d (loop_shape n ds)
+    → 1 ≤ n → n ≤ 65535 → not (item_count ds == 0) ≡ true → SpellsShape d (loop_shape n ds)
     → ReadSequence settings levels (next p) ds b → ReadStatement settings (suc levels) p d (b.0, loop n b.1)
 loop_read settings levels n p d ds b low high some h s = record {
   grows = s.grows;
@@ -454,7 +454,7 @@ loop_read settings levels n p d ds b low high some h s = record {
 }
 
 choice_read : (settings : Configuration) (levels : ℕ) (p : Progress) (d : Data) (ds : Items)
-    (b : Progress × Alternatives) → 1 ≤ count_of ds → count_of ds ≤ 16 → SpellsShape d (choice_shape ds)
+    (b : Progress × Alternatives) → 1 ≤ item_count ds → item_count ds ≤ 16 → SpellsShape d (choice_shape ds)
     → ReadBranches settings levels (next p) ds b → ReadStatement settings (suc levels) p d (b.0, choice b.1)
 choice_read settings levels p d ds b low high h s =
     let counted = branches_counted settings b.0.names ds b.1 s.spelled in
@@ -497,20 +497,20 @@ shape_read settings levels read_one one p d (unlatch_shape slot) r are room h e 
     (step_read settings levels p d u slot (unlatch u.1) room s (slice_get_within u.0.names u.1 slot s.at)
     (h.0, (slot, h.1, s.at)) (λ j w. w))
 shape_read settings levels read_one one p d (loop_shape n ds) r are room h e =
-    let test : Bool = (nat_le 1 n && nat_le n 65535) && not (count_of ds == 0) in
+    let test : Bool = (nat_le 1 n && nat_le n 65535) && not (item_count ds == 0) in
     let (x, range, e1) = bind_ok (must test (Range p.count)) _ r e in
-    let (b, body, e2) = bind_ok (sequence_from read_one done (next p) ds) _ r e1 in
+    let (b, body, e2) = bind_ok (sequence_from read_one skip (next p) ds) _ r e1 in
     let (within, some) =
-    and_parts (nat_le 1 n && nat_le n 65535) (not (count_of ds == 0)) (must_ok test (Range p.count) x range) in
+    and_parts (nat_le 1 n && nat_le n 65535) (not (item_count ds == 0)) (must_ok test (Range p.count) x range) in
     let (low, high) = range_is 1 65535 n within in
     answered settings (suc levels) p d (b.0, loop n b.1) r e2
     (loop_read settings levels n p d ds b low high some h
     (whole_found settings levels read_one one ds (next p) b are (omega (arith, room)) body))
 shape_read settings levels read_one one p d (choice_shape ds) r are room h e =
-    let test : Bool = nat_le 1 (count_of ds) && nat_le (count_of ds) 16 in
+    let test : Bool = nat_le 1 (item_count ds) && nat_le (item_count ds) 16 in
     let (x, range, e1) = bind_ok (must test (Range p.count)) _ r e in
     let (b, body, e2) = bind_ok (alternatives_from read_one none (next p) ds) _ r e1 in
-    let (low, high) = range_is 1 16 (count_of ds) (must_ok test (Range p.count) x range) in
+    let (low, high) = range_is 1 16 (item_count ds) (must_ok test (Range p.count) x range) in
     answered settings (suc levels) p d (b.0, choice b.1) r e2
     (choice_read settings levels p d ds b low high h
     (all_found settings levels read_one one ds (next p) b are (omega (arith, room)) h.2 body))

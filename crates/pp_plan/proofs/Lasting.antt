@@ -5,14 +5,14 @@ use Rattle.std.specs.Prelude.{IsTrue, slice_get, Some}
 use Rattle.std.proofs.lemmas.Bool.{le-leb, lt-ltb}
 use Rattle.pp_settings.specs.declared.extent.Extent.{Extent}
 use Rattle.pp_settings.specs.Layout.{Geometry, has_page, HasPage, IsExtent, IsLayout}
-use Rattle.pp_plan.specs.Tree.{Step, fix, unfix, latch, unlatch, Statement, step, loop, choice, Sequence, done, andthen}
+use Rattle.pp_plan.specs.Tree.{Step, fix, unfix, latch, unlatch, Statement, step, loop, choice, Sequence, skip, andthen}
 use Rattle.pp_plan.specs.Tree.{Alternatives, none, either, branch_count}
 use Rattle.pp_plan.specs.Rules.{IsStep, IsStatement, IsSequence, AreAlternatives}
 use Rattle.pp_plan.specs.declared.action.Action.{Action}
 use Rattle.pp_plan.specs.declared.action.Action.TheVariants.{Fix, Unfix, Latch, Unlatch, Choose}
 use Rattle.pp_plan.specs.declared.cursor.Entry.{Entry}
 use Rattle.pp_plan.specs.Traces.{Does, Repeats, IsStatementTrace, IsTrace, IsBranchTrace}
-use Rattle.pp_plan.specs.Left.{◌then◌, sequence_drop, after, Place, body_at, outside, left}
+use Rattle.pp_plan.specs.Left.{◌then◌, sequence_drop, first_rest_of, Place, body_at, outside, left}
 use Rattle.pp_plan.proofs.Sequences.{join}
 use Rattle.pp_plan.proofs.Paths.{drop_keeps, body_keeps, rest_keeps}
 
@@ -54,7 +54,7 @@ mutual
 
   pub body_lasts : (g : Geometry) (slots : ℕ) (b : Sequence) → IsLayout g → IsSequence slots (length g.extents) b
       → Lasts g b
-  body_lasts g slots done l h = ([], refl)
+  body_lasts g slots skip l h = ([], refl)
   body_lasts g slots (andthen s b) l h =
       let u = statement_lasts g slots s l h.0 in
       let v = body_lasts g slots b l h.1 in
@@ -69,8 +69,8 @@ then_lasts : (g : Geometry) (b c : Sequence) → Lasts g b → Lasts g c → Las
 then_lasts g b c x y = (x.0 ++ y.0, join g b c (x.0 ++ y.0) (x.0, y.0, refl, x.1, y.1))
 
 after_lasts : (g : Geometry) (slots : ℕ) (d : Sequence) (n : ℕ) → IsLayout g → IsSequence slots (length g.extents) d
-    → Lasts g (after d n)
-after_lasts g slots done n l h = ([], refl)
+    → Lasts g (first_rest_of d n)
+after_lasts g slots skip n l h = ([], refl)
 after_lasts g slots (andthen (step s) k) n l h = body_lasts g slots k l h.1
 after_lasts g slots (andthen (loop m c) k) n l h =
     let u = repeats_last (IsTrace g c) n (body_lasts g slots c l h.0.3) in
@@ -83,7 +83,7 @@ outside_lasts : (g : Geometry) (slots : ℕ) (b : Sequence) (es : List Entry) �
 outside_lasts g slots b [] l h = ([], refl)
 outside_lasts g slots b (e ∷ es) l h =
     let d = sequence_drop e.index (body_at b es) in
-    then_lasts g (after d e.turns) (outside b es)
+    then_lasts g (first_rest_of d e.turns) (outside b es)
     (after_lasts g slots d e.turns l
     (drop_keeps slots (length g.extents) e.index (body_at b es) (body_keeps slots (length g.extents) b es h)))
     (outside_lasts g slots b es l h)

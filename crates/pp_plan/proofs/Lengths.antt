@@ -2,7 +2,7 @@
 use Rattle.std.proofs.Common.{◌≡◌, ◌≢◌, ℕ, zero, suc, ◌+◌, ◌<◌, ◌≤◌, List, [], ◌∷◌, length, refl, ap, ◌∙◌, arith}
 use Rattle.std.proofs.Common.{add-one, get_or-set_other, get_or-set_same}
 use Rattle.std.specs.Prelude.{slice_set, slice_index}
-use Rattle.pp_plan.specs.Tree.{Sequence, done, andthen}
+use Rattle.pp_plan.specs.Tree.{Sequence, skip, andthen}
 use Rattle.pp_plan.specs.View.{sequence_of}
 use Rattle.pp_plan.specs.declared.stmt.Stmt.{Stmt}
 use Rattle.pp_plan.specs.declared.cursor.Entry.{Entry}
@@ -15,17 +15,17 @@ sequence_length-of [] = refl
 sequence_length-of (s ∷ ss) = ap suc (sequence_length-of ss)
 
 -- A body has nothing left past its last statement, and something before.
-pub drop_all : (i : ℕ) (b : Sequence) → sequence_length b ≤ i → sequence_drop i b ≡ done
-drop_all zero done h = refl
+pub drop_all : (i : ℕ) (b : Sequence) → sequence_length b ≤ i → sequence_drop i b ≡ skip
+drop_all zero skip h = refl
 drop_all zero (andthen s b) h = absurd (omega arith)
-drop_all (suc i) done h = refl
+drop_all (suc i) skip h = refl
 drop_all (suc i) (andthen s b) h = drop_all i b (omega arith)
 
-pub drop_done : (i : ℕ) (b : Sequence) → sequence_drop i b ≡ done → sequence_length b ≤ i
-drop_done zero done h = omega arith
-drop_done zero (andthen s b) h = cc
-drop_done (suc i) done h = omega arith
-drop_done (suc i) (andthen s b) h = omega (arith, drop_done i b h)
+pub drop_skip : (i : ℕ) (b : Sequence) → sequence_drop i b ≡ skip → sequence_length b ≤ i
+drop_skip zero skip h = omega arith
+drop_skip zero (andthen s b) h = cc
+drop_skip (suc i) skip h = omega arith
+drop_skip (suc i) (andthen s b) h = omega (arith, drop_skip i b h)
 
 lengths_above : (b : Sequence) (ns : List ℕ) (es : List Entry) (i v : ℕ) → length es < i → AreLengths b ns es
     → AreLengths b (slice_set ns i v) es
@@ -69,18 +69,18 @@ lengths_leave b ns p h = lengths_left_by b ns p p.entries h h
 
 -- The index has reached the innermost body's number of statements exactly at its end.
 pub ended_at : (b : Sequence) (ns : List ℕ) (p : Place) (d : ℕ) → AreLengths b ns p.entries → d ≡ length p.entries
-    → slice_index ns d ≤ p.index → sequence_drop p.index (body_at b p.entries) ≡ done
+    → slice_index ns d ≤ p.index → sequence_drop p.index (body_at b p.entries) ≡ skip
 ended_at b ns p d h at le =
     let i : slice_index ns d ≡ sequence_length (body_at b p.entries) = ap (slice_index ns) at
     ∙ lengths_top b ns p.entries h in
     drop_all p.index (body_at b p.entries) (omega arith)
 
 pub not_ended_at : (b : Sequence) (ns : List ℕ) (p : Place) (d : ℕ) → AreLengths b ns p.entries → d ≡ length p.entries
-    → p.index < slice_index ns d → sequence_drop p.index (body_at b p.entries) ≡ done → ⊥
+    → p.index < slice_index ns d → sequence_drop p.index (body_at b p.entries) ≡ skip → ⊥
 not_ended_at b ns p d h at lt e =
     let i : slice_index ns d ≡ sequence_length (body_at b p.entries) = ap (slice_index ns) at
     ∙ lengths_top b ns p.entries h in
-    let over = drop_done p.index (body_at b p.entries) e in
+    let over = drop_skip p.index (body_at b p.entries) e in
     omega arith
 
 pub ruleset on_lengths = (sequence_length-of, lengths-push)

@@ -6,7 +6,7 @@ use Rattle.std.proofs.lemmas.List.{get_or-map}
 use Rattle.std.proofs.lemmas.Option.{slice_get_within, get_or_from_slice_get}
 use Rattle.serde_json.specs.Data.{Data, Items, no_items, item}
 use Rattle.pp_settings.specs.Settings.{Configuration}
-use Rattle.pp_plan.specs.Tree.{Step, fix, unfix, latch, unlatch, Statement, step, loop, choice, Sequence, done, andthen}
+use Rattle.pp_plan.specs.Tree.{Step, fix, unfix, latch, unlatch, Statement, step, loop, choice, Sequence, skip, andthen}
 use Rattle.pp_plan.specs.Tree.{Alternatives, none, either, statement_count, sequence_count, alternatives_count}
 use Rattle.pp_plan.specs.Tree.{statement_depth, sequence_depth, alternatives_depth, branch_count}
 use Rattle.pp_plan.specs.Rules.{IsSome, IsStep, IsStatement, IsSequence, AreAlternatives}
@@ -25,7 +25,7 @@ mutual
   statement_counted f (choice bs) = ap (λ (k : ℕ). k + 1) (branches_counted f bs)
 
   pub sequence_counted : (f : ℕ → ℕ) (b : Sequence) → sequence_count (numbered f b) ≡ sequence_count b
-  sequence_counted f done = refl
+  sequence_counted f skip = refl
   sequence_counted f (andthen s b) = λ i. statement_counted f s i + sequence_counted f b i
 
   branches_counted : (f : ℕ → ℕ) (bs : Alternatives)
@@ -40,7 +40,7 @@ mutual
   statement_deep f (choice bs) = ap suc (branches_deep f bs)
 
   pub sequence_deep : (f : ℕ → ℕ) (b : Sequence) → sequence_depth (numbered f b) ≡ sequence_depth b
-  sequence_deep f done = refl
+  sequence_deep f skip = refl
   sequence_deep f (andthen s b) = λ i. max (statement_deep f s i) (sequence_deep f b i)
 
   branches_deep : (f : ℕ → ℕ) (bs : Alternatives) → alternatives_depth (numbered_branches f bs) ≡ alternatives_depth bs
@@ -52,7 +52,7 @@ branch_number f none = refl
 branch_number f (either b bs) = ap (λ (k : ℕ). k + 1) (branch_number f bs)
 
 some_numbered : (f : ℕ → ℕ) (b : Sequence) → IsSome b → IsSome (numbered f b)
-some_numbered f done h = h
+some_numbered f skip h = h
 some_numbered f (andthen s b) h = tt
 
 -- ---- the rules are kept
@@ -74,7 +74,7 @@ mutual
 
   pub sequence_parts : (f : ℕ → ℕ) (m n r : ℕ) → ((k : ℕ) → k < m → f k < n) → (b : Sequence) → IsSequence m r b
       → IsSequence n r (numbered f b)
-  sequence_parts f m n r h done a = tt
+  sequence_parts f m n r h skip a = tt
   sequence_parts f m n r h (andthen s b) (a, c) = (statement_parts f m n r h s a, sequence_parts f m n r h b c)
 
   branches_parts : (f : ℕ → ℕ) (m n r : ℕ) → ((k : ℕ) → k < m → f k < n) → (bs : Alternatives) → AreAlternatives m r bs
@@ -111,11 +111,11 @@ mutual
 
   pub moved_sequence : (settings : Configuration) (f : ℕ → ℕ) (xs ys : List (List ℕ)) → Moves f xs ys
       → (ds : Items) (b : Sequence) → SpellsSequence settings xs ds b → SpellsSequence settings ys ds (numbered f b)
-  moved_sequence settings f xs ys h no_items done a = tt
+  moved_sequence settings f xs ys h no_items skip a = tt
   moved_sequence settings f xs ys h (item d ds) (andthen s b) (a, c) =
       (moved_statement settings f xs ys h d s a, moved_sequence settings f xs ys h ds b c)
   moved_sequence settings f xs ys h no_items (andthen s b) a = absurd a
-  moved_sequence settings f xs ys h (item d ds) done a = absurd a
+  moved_sequence settings f xs ys h (item d ds) skip a = absurd a
 
   moved_branches : (settings : Configuration) (f : ℕ → ℕ) (xs ys : List (List ℕ)) → Moves f xs ys
       → (ds : Items) (bs : Alternatives) → SpellsAlternatives settings xs ds bs
@@ -141,7 +141,7 @@ mutual
   statement_used f (choice bs) k h = branches_used f bs k h
 
   pub sequence_used : (f : ℕ → ℕ) (b : Sequence) (k : ℕ) → IsUsed b k → IsUsed (numbered f b) (f k)
-  sequence_used f done k h = h
+  sequence_used f skip k h = h
   sequence_used f (andthen s b) k (inl h) = inl (statement_used f s k h)
   sequence_used f (andthen s b) k (inr h) = inr (sequence_used f b k h)
 
@@ -166,7 +166,7 @@ mutual
   statement_from f (choice bs) j h = branches_from f bs j h
 
   pub used_from : (f : ℕ → ℕ) (b : Sequence) (j : ℕ) → IsUsed (numbered f b) j → (k : ℕ) × IsUsed b k × (f k ≡ j)
-  used_from f done j h = absurd h
+  used_from f skip j h = absurd h
   used_from f (andthen s b) j (inl h) = let (k, is, e) = statement_from f s j h in (k, inl is, e)
   used_from f (andthen s b) j (inr h) = let (k, is, e) = used_from f b j h in (k, inr is, e)
 
@@ -189,7 +189,7 @@ mutual
   statement_within m r (choice bs) k h e = branches_within m r bs k h.2 e
 
   pub used_within : (m r : ℕ) (b : Sequence) (k : ℕ) → IsSequence m r b → IsUsed b k → k < m
-  used_within m r done k h e = absurd e
+  used_within m r skip k h e = absurd e
   used_within m r (andthen s b) k h (inl e) = statement_within m r s k h.0 e
   used_within m r (andthen s b) k h (inr e) = used_within m r b k h.1 e
 

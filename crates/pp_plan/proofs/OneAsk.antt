@@ -13,7 +13,7 @@ use Rattle.pp_plan.specs.declared.action.Ask.{Ask}
 use Rattle.pp_plan.specs.declared.action.Ask.TheVariants.{Fix, Unfix, Latch, Unlatch, Choose, End}
 use Rattle.pp_plan.specs.Terms.{Terms, IsPlan}
 use Rattle.pp_plan.specs.PlanTraces.{PlanAsks}
-use Rattle.pp_plan.specs.Cursor.{Names, IsAskOf}
+use Rattle.pp_plan.specs.Cursor.{NamesAction, IsAskOf}
 use Rattle.pp_plan.specs.Asked.{asked}
 use Rattle.pp_plan.proofs.Asking.{asks_named, asked_within}
 
@@ -50,7 +50,7 @@ one_region g r q page l h k = go (nat_lt r q) (nat_lt q r) refl refl
 
 -- ---- an ask that names an action
 
-fix_is : (g : Geometry) (s r page : ℕ) (y : Ask) → IsLayout g → HasPage g r page → Names g y (action.Fix s page)
+fix_is : (g : Geometry) (s r page : ℕ) (y : Ask) → IsLayout g → HasPage g r page → NamesAction g y (action.Fix s page)
     → Fix s r ≡ y
 fix_is g s r page (Fix t q) l h n = let same : t ≡ s = n.0 in let other = one_region g r q page l h n.1 in cc
 fix_is g s r page (Unfix t) l h n = absurd n
@@ -59,7 +59,7 @@ fix_is g s r page (Unlatch t) l h n = absurd n
 fix_is g s r page (Choose m) l h n = absurd n
 fix_is g s r page End l h n = absurd n
 
-unfix_is : (g : Geometry) (s : ℕ) (y : Ask) → Names g y (action.Unfix s) → Unfix s ≡ y
+unfix_is : (g : Geometry) (s : ℕ) (y : Ask) → NamesAction g y (action.Unfix s) → Unfix s ≡ y
 unfix_is g s (Unfix t) n = ap Unfix (sym n)
 unfix_is g s (Fix t q) n = absurd n
 unfix_is g s (Latch t m) n = absurd n
@@ -67,7 +67,7 @@ unfix_is g s (Unlatch t) n = absurd n
 unfix_is g s (Choose m) n = absurd n
 unfix_is g s End n = absurd n
 
-latch_is : (g : Geometry) (s : ℕ) (m : Mode) (y : Ask) → Names g y (action.Latch s m) → Latch s m ≡ y
+latch_is : (g : Geometry) (s : ℕ) (m : Mode) (y : Ask) → NamesAction g y (action.Latch s m) → Latch s m ≡ y
 latch_is g s m (Latch t k) n = let same : t ≡ s = n.0 in let mode : k ≡ m = n.1 in cc
 latch_is g s m (Fix t q) n = absurd n
 latch_is g s m (Unfix t) n = absurd n
@@ -75,7 +75,7 @@ latch_is g s m (Unlatch t) n = absurd n
 latch_is g s m (Choose k) n = absurd n
 latch_is g s m End n = absurd n
 
-unlatch_is : (g : Geometry) (s : ℕ) (y : Ask) → Names g y (action.Unlatch s) → Unlatch s ≡ y
+unlatch_is : (g : Geometry) (s : ℕ) (y : Ask) → NamesAction g y (action.Unlatch s) → Unlatch s ≡ y
 unlatch_is g s (Unlatch t) n = ap Unlatch (sym n)
 unlatch_is g s (Fix t q) n = absurd n
 unlatch_is g s (Unfix t) n = absurd n
@@ -83,8 +83,8 @@ unlatch_is g s (Latch t m) n = absurd n
 unlatch_is g s (Choose m) n = absurd n
 unlatch_is g s End n = absurd n
 
-choose_is : (g : Geometry) (k : ℕ) (y : Ask) → ((i : ℕ) → i < k → Names g y (action.Choose i))
-    → ((i : ℕ) → Names g y (action.Choose i) → i < k) → 1 ≤ k → Choose k ≡ y
+choose_is : (g : Geometry) (k : ℕ) (y : Ask) → ((i : ℕ) → i < k → NamesAction g y (action.Choose i))
+    → ((i : ℕ) → NamesAction g y (action.Choose i) → i < k) → 1 ≤ k → Choose k ≡ y
 choose_is g k (Choose m) to from some = go (nat_lt k m) (nat_lt m k) refl refl
   where
     go : (a b : Bool) → nat_lt k m ≡ a → nat_lt m k ≡ b → Choose k ≡ Choose m
@@ -99,7 +99,7 @@ choose_is g k (Unlatch t) to from some = absurd (to 0 (omega (arith, some)))
 choose_is g k End to from some = absurd (to 0 (omega (arith, some)))
 
 end_is : (g : Geometry) (slots : ℕ) (y : Ask) → IsLayout g → IsAskOf slots (length g.extents) y
-    → ((a : Action) → Names g y a → ⊥) → End ≡ y
+    → ((a : Action) → NamesAction g y a → ⊥) → End ≡ y
 end_is g slots (Fix s r) l k none = let p = region_page g r l k.1 in absurd (none (action.Fix s p.0) (refl, p.1))
 end_is g slots (Unfix s) l k none = absurd (none (action.Unfix s) refl)
 end_is g slots (Latch s m) l k none = absurd (none (action.Latch s m) (refl, refl))
@@ -108,8 +108,8 @@ end_is g slots (Choose m) l k none = absurd (none (action.Choose 0) (omega (arit
 end_is g slots End l k none = refl
 
 pub one_ask : (g : Geometry) (slots : ℕ) (x y : Ask) → IsLayout g → IsAskOf slots (length g.extents) x
-    → IsAskOf slots (length g.extents) y → ((a : Action) → Names g x a → Names g y a)
-    → ((a : Action) → Names g y a → Names g x a) → x ≡ y
+    → IsAskOf slots (length g.extents) y → ((a : Action) → NamesAction g x a → NamesAction g y a)
+    → ((a : Action) → NamesAction g y a → NamesAction g x a) → x ≡ y
 one_ask g slots (Fix s r) y l h k to from = let p = region_page g r l h.1 in
     fix_is g s r p.0 y l p.1 (to (action.Fix s p.0) (refl, p.1))
 one_ask g slots (Unfix s) y l h k to from = unfix_is g s y (to (action.Unfix s) refl)
@@ -121,7 +121,7 @@ one_ask g slots End y l h k to from = end_is g slots y l k from
 
 -- What a cursor's ask promises makes it the computed ask.
 pub ask_is : (p : Terms) (t : List Action) (x : Ask) → IsPlan p → IsAskOf (length p.slots) (length p.layout.extents) x
-    → ((a : Action) → PlanAsks p t a ↔ Names p.layout x a) → x ≡ asked p t
+    → ((a : Action) → PlanAsks p t a ↔ NamesAction p.layout x a) → x ≡ asked p t
 ask_is p t x h within named =
     one_ask p.layout (length p.slots) x (asked p t) h.layout within (asked_within p t h)
     (λ a n. (asks_named p t a h).0 ((named a).1 n)) (λ a n. (named a).0 ((asks_named p t a h).1 n))

@@ -8,7 +8,7 @@ use Rattle.serde_json.specs.Data.{Data, number, unsigned, Items}
 use Rattle.pp_settings.specs.Layout.{Geometry}
 use Rattle.pp_settings.specs.Settings.{NamedRegion, Configuration, region_named, geometry_of}
 use Rattle.pp_plan.specs.declared.error.PlanError.{PlanError}
-use Rattle.pp_plan.specs.Tree.{Sequence, done}
+use Rattle.pp_plan.specs.Tree.{Sequence, skip}
 use Rattle.pp_plan.specs.Names.{is_slot_name}
 use Rattle.pp_plan.specs.Rules.{IsSequence}
 use Rattle.pp_plan.specs.Progress.{Progress}
@@ -22,7 +22,7 @@ use Rattle.pp_plan.proofs.Places.{Has, has_at, at_has, filled}
 use Rattle.pp_plan.proofs.Order.{Rises, rises_apart, pairs_rise, rises_same, order_rises, order_from, order_has}
 use Rattle.pp_text.proofs.Keys.{only_again}
 use Rattle.pp_plan.specs.Keys.{top_keys}
-use Rattle.pp_plan.specs.Refusals.{is_memory}
+use Rattle.pp_plan.specs.Refusals.{is_plan_memory}
 use Rattle.pp_plan.proofs.Forms.{list_again, value_again}
 use Rattle.pp_plan.proofs.Found.{AreNames}
 use Rattle.pp_plan.proofs.Numbered.{used_from, used_within, placed}
@@ -80,7 +80,7 @@ same_plan settings r t layout slots body =
 
 pub body_again : (settings : Configuration) (d : Data) (t : Terms) → Spells settings d t → IsPlan t
     → (items : Items) × IsTop d items
-    × ((r : Progress × Sequence) × (sequence_from (statement_at (region_named settings) 16) done start items ≡ Ok r)
+    × ((r : Progress × Sequence) × (sequence_from (statement_at (region_named settings) 16) skip start items ≡ Ok r)
     × (plan_of settings r ≡ t))
 body_again settings d t s is =
     let (ds, held, spelled) = s.body in
@@ -90,7 +90,7 @@ body_again settings d t s is =
     subst (λ (m : ℕ). IsSequence (length t.slots) m t.body) regions is.body.parts in
     let up : Rises t.slots = pairs_rise t.slots is.order in
     let (r, e, a) =
-    sequence_again settings t.slots up (slots_of t is) t.body 16 ds done start start_names (λ n h. absurd h)
+    sequence_again settings t.slots up (slots_of t is) t.body 16 ds skip start start_names (λ n h. absurd h)
     (omega (arith, is.body.count)) parts is.body.depth spelled in
     let found = body_found settings ds r e in
     let same : numbered (λ k. place_in t.slots r.0.names k) r.1 ≡ t.body = a.same r.0.names (λ j n w. w) in
@@ -109,8 +109,8 @@ reading_only settings text t (d, parsed, s, is) =
     rw (parsed, top_again d items top, e) (ap (λ (u : Terms). Ok u) same)
 
 pub is_only : (settings : Configuration) (text : List ℕ) (r : Result Terms PlanError) (t : Terms)
-    → Gives is_memory (λ (u : Terms). u) r (reading settings text) → IsText settings text t
-    → Gives is_memory (λ (u : Terms). u) r (Ok t)
+    → Gives is_plan_memory (λ (u : Terms). u) r (reading settings text) → IsText settings text t
+    → Gives is_plan_memory (λ (u : Terms). u) r (Ok t)
 is_only settings text r t gives spelled =
-    subst (λ (x : Result Terms PlanError). Gives is_memory (λ (u : Terms). u) r x)
+    subst (λ (x : Result Terms PlanError). Gives is_plan_memory (λ (u : Terms). u) r x)
     (reading_only settings text t spelled) gives

@@ -1,14 +1,15 @@
 -- Which actions go on from a place, and where they lead.
 use Rattle.std.proofs.Common.{◌≡◌, ℕ, ◌+◌, ◌^◌, ◌<◌, List, ◌∷◌, refl, sym, ap, subst}
 use Rattle.pp_settings.specs.Layout.{Geometry}
-use Rattle.pp_plan.specs.Tree.{Step, fix, unfix, latch, unlatch, step, loop, choice, Sequence, done, andthen}
+use Rattle.pp_plan.specs.Tree.{Step, fix, unfix, latch, unlatch, step, loop, choice, Sequence, skip, andthen}
 use Rattle.pp_plan.specs.Tree.{Alternatives, branch_count}
 use Rattle.pp_plan.specs.Rules.{IsBody}
 use Rattle.pp_plan.specs.declared.action.Action.{Action}
 use Rattle.pp_plan.specs.declared.action.Action.TheVariants.{Fix, Unfix, Latch, Unlatch, Choose}
 use Rattle.pp_plan.specs.Traces.{Does, IsTrace}
-use Rattle.pp_plan.specs.Left.{◌then◌, sequence_drop, branch_at, inside, after, Place, body_at, outside, left}
-use Rattle.pp_plan.specs.Cursor.{CanBeIn, IsPath, Names}
+use Rattle.pp_plan.specs.Left.{◌then◌, sequence_drop, branch_at, first_body_of, first_rest_of, Place, body_at, outside}
+use Rattle.pp_plan.specs.Left.{left}
+use Rattle.pp_plan.specs.Cursor.{CanBeIn, IsPath, NamesAction}
 use Rattle.pp_plan.specs.CursorMoves.{entered, skipped, moved_by, CanPass, first_ask, ask_at}
 use Rattle.pp_plan.specs.Asked.{statement_ask}
 use Rattle.pp_plan.proofs.Sequences.{step_does, does_step, choice_does, does_choice}
@@ -36,13 +37,13 @@ step_follows g b p s k a h d =
     })
 
 -- What a step's ask names is what makes the step.
-pub named_does : (g : Geometry) (s : Step) (a : Action) → Names g (statement_ask (step s)) a → Does g s a
+pub named_does : (g : Geometry) (s : Step) (a : Action) → NamesAction g (statement_ask (step s)) a → Does g s a
 named_does g (fix s r) a h = h
 named_does g (unfix s) a h = h
 named_does g (latch s m) a h = h
 named_does g (unlatch s) a h = h
 
-pub does_named : (g : Geometry) (s : Step) (a : Action) → Does g s a → Names g (statement_ask (step s)) a
+pub does_named : (g : Geometry) (s : Step) (a : Action) → Does g s a → NamesAction g (statement_ask (step s)) a
 does_named g (fix s r) a h = h
 does_named g (unfix s) a h = h
 does_named g (latch s m) a h = h
@@ -77,7 +78,8 @@ choice_follows : (g : Geometry) (b : Sequence) (p : Place) (i : ℕ) (k : Sequen
 choice_follows g b p i k bs h lt =
     let o = outside b p.entries in
     let e : left b p ≡ andthen (choice bs) (k then o) = ap (λ x. x then o) h in
-    let f : left b (entered p 0 i) ≡ branch_at bs i then (k then o) = ap (λ x. inside x i then (after x 0 then o)) h in
+    let f : left b (entered p 0 i) ≡ branch_at bs i then (k then o) =
+    ap (λ x. first_body_of x i then (first_rest_of x 0 then o)) h in
     rw (e, f) (record {
       to = λ t j. let d = choice_does g bs (k then o) (Choose i) t j in let same : d.0 ≡ i = cc (d.1) in
           subst (λ n. IsTrace g (branch_at bs n then (k then o)) t) same d.3;
@@ -94,8 +96,8 @@ pub record Passes (g : Geometry) (b : Sequence) (p : Place) (a : Action) : Type 
 
 passes_by : (g : Geometry) (slots regions : ℕ) (b : Sequence) (p : Place) (a : Action) (d : Sequence)
     → IsBody slots regions b → IsPath b p.entries → sequence_drop p.index (body_at b p.entries) ≡ d
-    → Names g (first_ask d) a → Passes g b p a
-passes_by g slots regions b p a done rules path h n = absurd n
+    → NamesAction g (first_ask d) a → Passes g b p a
+passes_by g slots regions b p a skip rules path h n = absurd n
 passes_by g slots regions b p a (andthen (step s) k) rules path h n =
     let d = named_does g s a n in
     let e = sym (skips g s a p d) in
@@ -119,6 +121,6 @@ passes_by g slots regions b p (Unlatch s) (andthen (choice bs) k) rules path h n
 
 -- An action that is named goes on from the place.
 pub passes : (g : Geometry) (slots regions : ℕ) (b : Sequence) (p : Place) (a : Action) → IsBody slots regions b
-    → IsPath b p.entries → Names g (ask_at b p) a → Passes g b p a
+    → IsPath b p.entries → NamesAction g (ask_at b p) a → Passes g b p a
 passes g slots regions b p a rules path n =
     passes_by g slots regions b p a (sequence_drop p.index (body_at b p.entries)) rules path refl n

@@ -1,11 +1,11 @@
 -- What holds at the places of a plan's body.
 use Rattle.std.proofs.Common.{◌≡◌, ℕ, zero, suc, ◌+◌, ◌^◌, ◌<◌, ◌≤◌, List, [], ◌∷◌, length, refl, ap, subst, arith}
 use Rattle.std.proofs.Common.{add-one}
-use Rattle.pp_plan.specs.Tree.{Statement, step, loop, choice, Sequence, done, andthen, Alternatives, none, either}
+use Rattle.pp_plan.specs.Tree.{Statement, step, loop, choice, Sequence, skip, andthen, Alternatives, none, either}
 use Rattle.pp_plan.specs.Tree.{statement_count, sequence_count, alternatives_count, sequence_depth, alternatives_depth}
 use Rattle.pp_plan.specs.Rules.{IsStatement, IsSequence, AreAlternatives}
 use Rattle.pp_plan.specs.declared.cursor.Entry.{Entry}
-use Rattle.pp_plan.specs.Left.{sequence_drop, branch_at, inside, Place, body_at}
+use Rattle.pp_plan.specs.Left.{sequence_drop, branch_at, first_body_of, Place, body_at}
 use Rattle.pp_plan.specs.Cursor.{CanBeIn, CanEnter, IsPath}
 use Rattle.pp_plan.specs.CursorMoves.{HasNext}
 
@@ -14,9 +14,9 @@ pub drop_next : (i : ℕ) (b : Sequence) (s : Statement) (k : Sequence) → sequ
 drop_next i b s k h = rw add-one (go i b h)
   where
     go : (i : ℕ) (b : Sequence) → sequence_drop i b ≡ andthen s k → sequence_drop (suc i) b ≡ k
-    go zero done h = cc
+    go zero skip h = cc
     go zero (andthen t b) h = cc
-    go (suc i) done h = cc
+    go (suc i) skip h = cc
     go (suc i) (andthen t b) h = go i b h
 
 -- ---- the rules hold inside
@@ -24,7 +24,7 @@ drop_next i b s k h = rw add-one (go i b h)
 pub drop_keeps : (slots regions i : ℕ) (b : Sequence) → IsSequence slots regions b
     → IsSequence slots regions (sequence_drop i b)
 drop_keeps slots regions zero b h = h
-drop_keeps slots regions (suc i) done h = h
+drop_keeps slots regions (suc i) skip h = h
 drop_keeps slots regions (suc i) (andthen s b) h = drop_keeps slots regions i b h.1
 
 branch_keeps : (slots regions : ℕ) (bs : Alternatives) (i : ℕ) → AreAlternatives slots regions bs
@@ -34,8 +34,8 @@ branch_keeps slots regions (either b bs) zero h = h.0
 branch_keeps slots regions (either b bs) (suc i) h = branch_keeps slots regions bs i h.1
 
 inside_keeps : (slots regions : ℕ) (d : Sequence) (i : ℕ) → IsSequence slots regions d
-    → IsSequence slots regions (inside d i)
-inside_keeps slots regions done i h = tt
+    → IsSequence slots regions (first_body_of d i)
+inside_keeps slots regions skip i h = tt
 inside_keeps slots regions (andthen (step s) k) i h = tt
 inside_keeps slots regions (andthen (loop n c) k) i h = h.0.3
 inside_keeps slots regions (andthen (choice bs) k) i h = branch_keeps slots regions bs i h.0.2
@@ -63,7 +63,7 @@ next_keeps slots regions b p s k h is = let r = subst (IsSequence slots regions)
 
 drop_depth : (i : ℕ) (b : Sequence) → sequence_depth (sequence_drop i b) ≤ sequence_depth b
 drop_depth zero b = omega arith
-drop_depth (suc i) done = omega arith
+drop_depth (suc i) skip = omega arith
 drop_depth (suc i) (andthen s b) = omega (arith, drop_depth i b)
 
 branch_depth : (bs : Alternatives) (i : ℕ) → sequence_depth (branch_at bs i) ≤ alternatives_depth bs
@@ -71,8 +71,8 @@ branch_depth none i = omega arith
 branch_depth (either b bs) zero = omega arith
 branch_depth (either b bs) (suc i) = omega (arith, branch_depth bs i)
 
-inside_depth : (d : Sequence) (n i : ℕ) → CanEnter d n i → sequence_depth (inside d i) < sequence_depth d
-inside_depth done n i can = absurd can
+inside_depth : (d : Sequence) (n i : ℕ) → CanEnter d n i → sequence_depth (first_body_of d i) < sequence_depth d
+inside_depth skip n i can = absurd can
 inside_depth (andthen (step s) k) n i can = absurd can
 inside_depth (andthen (loop m c) k) n i can = omega arith
 inside_depth (andthen (choice bs) k) n i can = omega (arith, branch_depth bs i)
@@ -109,7 +109,7 @@ statement_counts (choice bs) = omega arith
 drop_count : (i : ℕ) (b : Sequence) (s : Statement) (k : Sequence) → sequence_drop i b ≡ andthen s k
     → i + sequence_count (andthen s k) ≤ sequence_count b
 drop_count zero b s k h = omega (arith, ap sequence_count h)
-drop_count (suc i) done s k h = cc
+drop_count (suc i) skip s k h = cc
 drop_count (suc i) (andthen t b) s k h = omega (arith, statement_counts t, drop_count i b s k h)
 
 branch_counts : (bs : Alternatives) (i : ℕ) → sequence_count (branch_at bs i) ≤ alternatives_count bs
@@ -117,16 +117,16 @@ branch_counts none i = omega arith
 branch_counts (either b bs) zero = omega arith
 branch_counts (either b bs) (suc i) = omega (arith, branch_counts bs i)
 
-inside_counts : (d : Sequence) (n i : ℕ) → CanEnter d n i → sequence_count (inside d i) ≤ sequence_count d
-inside_counts done n i can = absurd can
+inside_counts : (d : Sequence) (n i : ℕ) → CanEnter d n i → sequence_count (first_body_of d i) ≤ sequence_count d
+inside_counts skip n i can = absurd can
 inside_counts (andthen (step s) k) n i can = absurd can
 inside_counts (andthen (loop m c) k) n i can = omega arith
 inside_counts (andthen (choice bs) k) n i can = omega (arith, branch_counts bs i)
 
 -- An index with a statement at it is below the number of statements.
 enter_counts : (i : ℕ) (c d : Sequence) (n j : ℕ) → sequence_drop i c ≡ d → CanEnter d n j
-    → (i < sequence_count c) × (sequence_count (inside d j) ≤ sequence_count c)
-enter_counts i c done n j h can = absurd can
+    → (i < sequence_count c) × (sequence_count (first_body_of d j) ≤ sequence_count c)
+enter_counts i c skip n j h can = absurd can
 enter_counts i c (andthen s k) n j h can =
     let f = drop_count i c s k h in
     (omega (arith, f, statement_counts s), omega (arith, f, inside_counts (andthen s k) n j can))

@@ -9,7 +9,7 @@ use Rattle.std.proofs.lemmas.List.Quantifiers.{position-Some}
 use Rattle.std.proofs.lemmas.List.Sums.{position_or_len_is}
 use Rattle.std.proofs.lemmas.Option.{slice_get-get_or, slice_get_within, get_or_from_slice_get}
 use Rattle.std.proofs.lemmas.Slice.Eq.{bytes_eq-Decides}
-use Rattle.pp_plan.specs.Numbering.{place_of}
+use Rattle.pp_plan.specs.Numbering.{position_of}
 
 -- the name is one of these
 abbrev pub Has : List (List ℕ) → List ℕ → Type 0
@@ -75,7 +75,7 @@ extends_length xs ys e = not_longer xs ys (length xs) refl e
 abbrev pub AreApart : List (List ℕ) → Type 0
 AreApart xs = (i j : ℕ) (n : List ℕ) → slice_get xs i ≡ Some n → slice_get xs j ≡ Some n → i ≡ j
 
-pub place_some : (xs : List (List ℕ)) (n : List ℕ) (k : ℕ) → place_of xs n ≡ Some k → slice_get xs k ≡ Some n
+pub place_some : (xs : List (List ℕ)) (n : List ℕ) (k : ℕ) → position_of xs n ≡ Some k → slice_get xs k ≡ Some n
 place_some xs n k e =
     let (within, passes, _) = position-Some (λ (x : List ℕ). bytes_eq x n) xs k [] e in
     slice_get-get_or xs k [] within ∙ ap (λ (y : List ℕ). Some y) ((bytes_eq-Decides (get_or xs k []) n).0 passes)
@@ -85,7 +85,7 @@ position_at : (p : List ℕ → Bool) (xs : List (List ℕ)) (i : ℕ) → posit
 position_at p xs i first within = rw first (grind (arith, nat_tests))
 
 pub place_only : (xs : List (List ℕ)) (n : List ℕ) (k : ℕ) → AreApart xs → slice_get xs k ≡ Some n
-    → place_of xs n ≡ Some k
+    → position_of xs n ≡ Some k
 place_only xs n k apart is =
     let within : k < length xs = slice_get_within xs k n is in
     let test = λ (x : List ℕ). bytes_eq x n in
@@ -107,9 +107,9 @@ first_fails p (x ∷ xs) zero n is passes = let same : x ≡ n = cc in let here 
 first_fails p (x ∷ xs) (suc k) n is passes =
     let more = first_fails p xs k n is passes in grind (arith, more)
 
-pub place_none : (xs : List (List ℕ)) (n : List ℕ) → place_of xs n ≡ None → (k : ℕ) → slice_get xs k ≡ Some n → ⊥
+pub place_none : (xs : List (List ℕ)) (n : List ℕ) → position_of xs n ≡ None → (k : ℕ) → slice_get xs k ≡ Some n → ⊥
 place_none xs n e k is =
     let below = first_fails (λ (x : List ℕ). bytes_eq x n) xs k n is ((bytes_eq-Decides n n).1 refl) in
-    let found : place_of xs n ≡ Some (position_or_len (λ (x : List ℕ). bytes_eq x n) xs) =
+    let found : position_of xs n ≡ Some (position_or_len (λ (x : List ℕ). bytes_eq x n) xs) =
     position_at (λ (x : List ℕ). bytes_eq x n) xs _ refl below in
     absurd cc

@@ -10,7 +10,7 @@ use Rattle.serde_json.specs.Read.{read}
 use Rattle.pp_settings.specs.Layout.{IsExtent, IsLayout}
 use Rattle.pp_settings.specs.Settings.{NamedRegion, Configuration, IsConfiguration, region_named, geometry_of}
 use Rattle.pp_plan.specs.declared.error.PlanError.TheVariants.{NotJson}
-use Rattle.pp_plan.specs.Tree.{Sequence, done}
+use Rattle.pp_plan.specs.Tree.{Sequence, skip}
 use Rattle.pp_plan.specs.Names.{is_slot_name}
 use Rattle.pp_plan.specs.Rules.{IsSequence}
 use Rattle.pp_plan.specs.Progress.{Progress}
@@ -98,7 +98,7 @@ read_is_plan settings items r within s =
 
 -- the statements that are read keep the rules, and spell what they are read from
 pub body_found : (settings : Configuration) (items : Items) (r : Progress × Sequence)
-    → sequence_from (statement_at (region_named settings) 16) done start items ≡ Ok r
+    → sequence_from (statement_at (region_named settings) 16) skip start items ≡ Ok r
     → ReadSequence settings 16 start items r
 body_found settings items r e =
     whole_found settings 16 (statement_at (region_named settings) 16) (statement_found settings 16) items start r
@@ -106,7 +106,7 @@ body_found settings items r e =
 
 -- what the reading of the statements gives makes a plan
 pub sequence_is_plan : (settings : Configuration) (items : Items) (r : Progress × Sequence) → IsConfiguration settings
-    → sequence_from (statement_at (region_named settings) 16) done start items ≡ Ok r → IsPlan (plan_of settings r)
+    → sequence_from (statement_at (region_named settings) 16) skip start items ≡ Ok r → IsPlan (plan_of settings r)
 sequence_is_plan settings items r within e = read_is_plan settings items r within (body_found settings items r e)
 
 pub reading_is_plan : (settings : Configuration) (text : List ℕ) (t : Terms) → IsConfiguration settings
@@ -115,5 +115,5 @@ unfolding reading
 reading_is_plan settings text t within e =
     let (d, _, e1) = bind_ok (ok_or (read text) NotJson) _ t e in
     let (items, _, e2) = bind_ok (statements_at d) _ t e1 in
-    let (r, body, e3) = bind_ok (sequence_from (statement_at (region_named settings) 16) done start items) _ t e2 in
+    let (r, body, e3) = bind_ok (sequence_from (statement_at (region_named settings) 16) skip start items) _ t e2 in
     subst IsPlan (ok_is (plan_of settings r) t e3) (sequence_is_plan settings items r within body)

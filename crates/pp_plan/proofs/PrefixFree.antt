@@ -2,7 +2,7 @@
 use Rattle.std.proofs.Common.{◌≡◌, ℕ, zero, suc, List, [], ◌∷◌, ◌++◌, sym, ap, ◌∙◌, append_assoc, subst}
 use Rattle.std.proofs.lemmas.List.{append-nil}
 use Rattle.pp_settings.specs.Layout.{Geometry}
-use Rattle.pp_plan.specs.Tree.{Statement, step, loop, choice, Sequence, done, andthen, Alternatives, none, either}
+use Rattle.pp_plan.specs.Tree.{Statement, step, loop, choice, Sequence, skip, andthen, Alternatives, none, either}
 use Rattle.pp_plan.specs.declared.action.Action.{Action}
 use Rattle.pp_plan.specs.declared.action.Action.TheVariants.{Choose}
 use Rattle.pp_plan.specs.Traces.{Does, Joins, Repeats, IsStatementTrace, IsTrace, IsBranchTrace}
@@ -56,7 +56,7 @@ mutual
   statement_once g (choice bs) = choice_once (IsBranchTrace g bs) (λ i. branch_once g bs i)
 
   body_once : (g : Geometry) (b : Sequence) → BeginsOnce (IsTrace g b)
-  body_once g done = nil_once
+  body_once g skip = nil_once
   body_once g (andthen s b) = joins_once (IsStatementTrace g s) (IsTrace g b) (statement_once g s) (body_once g b)
 
   branch_once : (g : Geometry) (bs : Alternatives) (i : ℕ) → BeginsOnce (IsBranchTrace g bs i)

@@ -1,7 +1,7 @@
 -- Laws of the traces of bodies.
 use Rattle.std.proofs.Common.{◌≡◌, ℕ, zero, suc, ◌<◌, List, [], ◌∷◌, ◌++◌, refl, sym, ap, ◌∙◌, subst, arith}
 use Rattle.pp_settings.specs.Layout.{Geometry}
-use Rattle.pp_plan.specs.Tree.{Step, step, loop, choice, Sequence, done, andthen, Alternatives, none, either}
+use Rattle.pp_plan.specs.Tree.{Step, step, loop, choice, Sequence, skip, andthen, Alternatives, none, either}
 use Rattle.pp_plan.specs.Tree.{branch_count}
 use Rattle.pp_plan.specs.declared.action.Action.{Action}
 use Rattle.pp_plan.specs.declared.action.Action.TheVariants.{Choose}
@@ -10,9 +10,9 @@ use Rattle.pp_plan.specs.Left.{◌then◌, branch_at}
 use Rattle.pp_plan.specs.CursorMoves.{Same}
 use Rattle.pp_plan.proofs.Joined.{Joins-assoc, Joins-back, Joins-rest, Joins-nil}
 
-pub then-done : (b : Sequence) → b then done ≡ b
-then-done done = refl
-then-done (andthen s b) = ap (andthen s) (then-done b)
+pub then-skip : (b : Sequence) → b then skip ≡ b
+then-skip skip = refl
+then-skip (andthen s b) = ap (andthen s) (then-skip b)
 
 pub same_self : (g : Geometry) (b : Sequence) → Same g b b
 same_self g b = record { to = λ t h. h; from = λ t h. h }
@@ -23,7 +23,7 @@ same_then_same g b c d x y = record { to = λ t h. y.to t (x.to t h); from = λ 
 -- The traces of one body after another.
 pub split : (g : Geometry) (b c : Sequence) (t : List Action) → IsTrace g (b then c) t
     → Joins (IsTrace g b) (IsTrace g c) t
-split g done c t h = ([], t, refl, refl, h)
+split g skip c t h = ([], t, refl, refl, h)
 split g (andthen s b) c t h =
     Joins-back (IsStatementTrace g s) (IsTrace g b) (IsTrace g c) t
     (Joins-rest (IsStatementTrace g s) (IsTrace g (b then c)) (Joins (IsTrace g b) (IsTrace g c)) t
@@ -31,7 +31,7 @@ split g (andthen s b) c t h =
 
 pub join : (g : Geometry) (b c : Sequence) (t : List Action) → Joins (IsTrace g b) (IsTrace g c) t
     → IsTrace g (b then c) t
-join g done c t h = Joins-nil (IsTrace g c) t h
+join g skip c t h = Joins-nil (IsTrace g c) t h
 join g (andthen s b) c t h =
     Joins-rest (IsStatementTrace g s) (Joins (IsTrace g b) (IsTrace g c)) (IsTrace g (b then c)) t (λ u. join g b c u)
     (Joins-assoc (IsStatementTrace g s) (IsTrace g b) (IsTrace g c) t h)

@@ -1,20 +1,18 @@
 -- The value that is written spells the plan, so reading gives the plan again.
-use Rattle.std.proofs.Common.{◌≡◌, ℕ, ◌<◌, ◌≤◌, Bool, true, false, List, [], length, get_or, Some, refl, sym, ap, subst}
+use Rattle.std.proofs.Common.{◌≡◌, ℕ, ◌<◌, ◌≤◌, List, [], length, get_or, Some, refl, sym, ap, subst}
 use Rattle.std.proofs.Common.{◌∙◌, arith}
 use Rattle.std.specs.Prelude.{Ok, slice_get}
-use Rattle.std.specs.List.{position, position_or_len}
 use Rattle.std.specs.Str.{bytes_eq}
-use Rattle.std.proofs.lemmas.Bool.Decides.{nat_tests}
 use Rattle.std.proofs.lemmas.List.{length-map}
-use Rattle.std.proofs.lemmas.List.Sums.{position_or_len_is}
 use Rattle.std.proofs.lemmas.Option.{slice_get-get_or, unwrap_or-slice_get}
 use Rattle.std.proofs.lemmas.Slice.Eq.{bytes_eq-Decides}
 use Rattle.serde_json.specs.Data.{Data, object, depth}
 use Rattle.serde_json.specs.Read.{read}
 use Rattle.serde_json.specs.View.{items_of}
+use Rattle.pp_text.proofs.Positions.{position_only, same_text}
 use Rattle.pp_settings.specs.Layout.{Geometry}
 use Rattle.pp_settings.specs.Settings.{NamedRegion, Configuration, IsConfiguration, region_named, geometry_of}
-use Rattle.pp_plan.specs.Tree.{Step, fix, unfix, latch, unlatch, Statement, step, loop, choice, Sequence, done, andthen}
+use Rattle.pp_plan.specs.Tree.{Step, fix, unfix, latch, unlatch, Statement, step, loop, choice, Sequence, skip, andthen}
 use Rattle.pp_plan.specs.Tree.{Alternatives, none, either}
 use Rattle.pp_plan.specs.Rules.{IsStep, IsStatement, IsSequence, AreAlternatives}
 use Rattle.pp_plan.specs.Terms.{Terms, IsPlan}
@@ -31,26 +29,10 @@ slot_at : (slots : List (List ℕ)) (k : ℕ) → k < length slots → slice_get
 slot_at slots k within = slice_get-get_or slots k [] within
     ∙ ap (λ (n : List ℕ). Some n) (sym (unwrap_or-slice_get slots k []))
 
-false_from_not : (b : Bool) → (b ≡ true → ⊥) → b ≡ false
-false_from_not true h = absurd (h refl)
-false_from_not false h = refl
-
-position_at : {X : Type 0} (q : X → Bool) (xs : List X) (i : ℕ) → position_or_len q xs ≡ i → i < length xs
-    → position q xs ≡ Some i
-position_at q xs i first within = rw first (grind (arith, nat_tests))
-
-position_only : {X : Type 0} (q : X → Bool) (xs : List X) (i : ℕ) (d : X) → i < length xs → q (get_or xs i d) ≡ true
-    → ((k : ℕ) → k < i → q (get_or xs k d) ≡ true → ⊥) → position q xs ≡ Some i
-position_only q xs i d within passes others =
-    position_at q xs i (position_or_len_is q xs i d (omega (arith, within))
-    (λ k below. false_from_not (q (get_or xs k d)) (others k below)) (λ w. passes)) within
-
-same_text : (a b : List ℕ) → bytes_eq a b ≡ true → a ≡ b
-same_text a b = (bytes_eq-Decides a b).0
-
-region_again : (c : Configuration) → IsConfiguration c → (r : ℕ) → r < length c.regions
+-- The name of a region gives its number again.
+pub region_named_again : (c : Configuration) → IsConfiguration c → (r : ℕ) → r < length c.regions
     → region_named c (region_name c r) ≡ Some r
-region_again c settings r within =
+region_named_again c settings r within =
     let at = region_at c r within in
     position_only (λ q. bytes_eq q.name (region_name c r)) c.regions r nameless within
     ((bytes_eq-Decides (get_or c.regions r nameless).name (region_name c r)).1 (sym at))
@@ -64,7 +46,7 @@ step_spelled : (c : Configuration) (ss : List (List ℕ)) → IsConfiguration c 
 step_spelled c ss settings (fix k r) (within, there) = (
   (_, refl, ((0, omega arith, refl), ((1, omega arith, refl), tt))),
   (slot_name ss k, refl, slot_at ss k within),
-  (region_name c r, refl, region_again c settings r there),
+  (region_name c r, refl, region_named_again c settings r there),
 )
 step_spelled c ss settings (unfix k) within =
     ((_, refl, ((0, omega arith, refl), tt)), (slot_name ss k, refl, slot_at ss k within))
@@ -92,7 +74,7 @@ mutual
 
   sequence_spelled : (c : Configuration) (ss : List (List ℕ)) → IsConfiguration c → (b : Sequence)
       → IsSequence (length ss) (length c.regions) b → SpellsSequence c ss (items_of (statement_values c ss b)) b
-  sequence_spelled c ss settings done keeps = tt
+  sequence_spelled c ss settings skip keeps = tt
   sequence_spelled c ss settings (andthen s b) keeps =
       (statement_spelled c ss settings s keeps.0, sequence_spelled c ss settings b keeps.1)
 

@@ -3,7 +3,7 @@ use Rattle.std.proofs.Common.{◌≡◌, ℕ, List, [], ◌∷◌, ◌++◌, len
 use Rattle.std.specs.Prelude.{◌↔◌}
 use Rattle.std.proofs.lemmas.List.{append-nil}
 use Rattle.pp_settings.specs.Layout.{Geometry}
-use Rattle.pp_plan.specs.Tree.{fix, unfix, latch, unlatch, Statement, step, loop, choice, Sequence, done, andthen}
+use Rattle.pp_plan.specs.Tree.{fix, unfix, latch, unlatch, Statement, step, loop, choice, Sequence, skip, andthen}
 use Rattle.pp_plan.specs.Rules.{IsStatement, IsSequence}
 use Rattle.pp_plan.specs.Terms.{Terms, IsPlan}
 use Rattle.pp_plan.specs.declared.action.Action.{Action}
@@ -13,10 +13,10 @@ use Rattle.pp_plan.specs.declared.cursor.Entry.{Entry}
 use Rattle.pp_plan.specs.Traces.{IsTrace}
 use Rattle.pp_plan.specs.Left.{◌then◌, sequence_drop, Place, body_at, outside, left}
 use Rattle.pp_plan.specs.PlanTraces.{IsTraceOf, PlanAsks}
-use Rattle.pp_plan.specs.Cursor.{IsReady, IsReadyAt, IsAt, StandsFor, Names, IsAskOf}
+use Rattle.pp_plan.specs.Cursor.{IsReady, IsReadyAt, IsAt, StandsFor, NamesAction, IsAskOf}
 use Rattle.pp_plan.specs.CursorMoves.{moved_by, Same, first_ask, ask_at, IsActive}
 use Rattle.pp_plan.specs.Asked.{statement_ask}
-use Rattle.pp_plan.proofs.Sequences.{then-done, step_does, choice_does, step_acts, choice_acts}
+use Rattle.pp_plan.proofs.Sequences.{then-skip, step_does, choice_does, step_acts, choice_acts}
 use Rattle.pp_plan.proofs.Paths.{rest_keeps, next_keeps}
 use Rattle.pp_plan.proofs.Lasting.{body_lasts, left_lasts}
 use Rattle.pp_plan.proofs.Passing.{Passes, passes, does_named}
@@ -26,30 +26,30 @@ use Rattle.pp_plan.proofs.Passing.{Passes, passes, does_named}
 -- A body that begins with a step or a choice, or that is empty at the end of the outermost one, goes on only with
 -- what its ask names.
 named_by : (g : Geometry) (d o : Sequence) (es : List Entry) (a : Action) (rest : List Action) → IsReady d es
-    → (es ≡ [] → o ≡ done) → IsTrace g (d then o) (a ∷ rest) → Names g (first_ask d) a
-named_by g done o [] a rest ready out h =
+    → (es ≡ [] → o ≡ skip) → IsTrace g (d then o) (a ∷ rest) → NamesAction g (first_ask d) a
+named_by g skip o [] a rest ready out h =
     absurd (let e : a ∷ rest ≡ [] = subst (λ c. IsTrace g c (a ∷ rest)) (out refl) h in cc)
-named_by g done o (e ∷ es) a rest ready out h = absurd ready
+named_by g skip o (e ∷ es) a rest ready out h = absurd ready
 named_by g (andthen (step s) k) o es a rest ready out h = does_named g s a (step_does g s (k then o) a rest h).0
 named_by g (andthen (loop n c) k) o es a rest ready out h = absurd ready
 named_by g (andthen (choice bs) k) o es a rest ready out h =
     let d = choice_does g bs (k then o) a rest h in
-    subst (λ x. Names g (statement_ask (choice bs)) x) (sym d.1) d.2
+    subst (λ x. NamesAction g (statement_ask (choice bs)) x) (sym d.1) d.2
 
-outside-nil : (b : Sequence) (es : List Entry) → es ≡ [] → outside b es ≡ done
+outside-nil : (b : Sequence) (es : List Entry) → es ≡ [] → outside b es ≡ skip
 outside-nil b es h = ap (outside b) h
 
 pub goes_named : (g : Geometry) (b : Sequence) (p : Place) (a : Action) (rest : List Action) → IsAt b p
-    → IsTrace g (left b p) (a ∷ rest) → Names g (ask_at b p) a
+    → IsTrace g (left b p) (a ∷ rest) → NamesAction g (ask_at b p) a
 goes_named g b p a rest at h =
     named_by g (sequence_drop p.index (body_at b p.entries)) (outside b p.entries) p.entries a rest at.ready
     (outside-nil b p.entries) h
 
 -- The end is asked exactly where nothing is left.
-ended_by : (g : Geometry) (d o : Sequence) (es : List Entry) → IsReady d es → (es ≡ [] → o ≡ done)
+ended_by : (g : Geometry) (d o : Sequence) (es : List Entry) → IsReady d es → (es ≡ [] → o ≡ skip)
     → (first_ask d ≡ ask.End) ↔ IsTrace g (d then o) []
-ended_by g done o [] ready out = ((λ _. subst (λ c. IsTrace g c []) (sym (out refl)) refl), (λ _. refl))
-ended_by g done o (e ∷ es) ready out = absurd ready
+ended_by g skip o [] ready out = ((λ _. subst (λ c. IsTrace g c []) (sym (out refl)) refl), (λ _. refl))
+ended_by g skip o (e ∷ es) ready out = absurd ready
 ended_by g (andthen (step (fix s r)) k) o es ready out = ((λ e. cc), (λ h. absurd (step_acts g (fix s r) (k then o) h)))
 ended_by g (andthen (step (unfix s)) k) o es ready out = ((λ e. cc), (λ h. absurd (step_acts g (unfix s) (k then o) h)))
 ended_by g (andthen (step (latch s m)) k) o es ready out =
@@ -74,7 +74,7 @@ asks_end plan p before s =
     )
 
 pub asks_named : (plan : Terms) (p : Place) (before : List Action) (a : Action) → IsPlan plan → StandsFor plan p before
-    → PlanAsks plan before a ↔ Names plan.layout (ask_at plan.body p) a
+    → PlanAsks plan before a ↔ NamesAction plan.layout (ask_at plan.body p) a
 asks_named plan p before a facts s = (
   (λ h. goes_named plan.layout plan.body p a h.0 s.at (s.to (a ∷ h.0) h.1)),
   (λ n.
@@ -86,12 +86,12 @@ asks_named plan p before a facts s = (
 
 -- The same of an answer that is the ask at the place.
 pub answers_named : (plan : Terms) (p : Place) (x : Ask) (before : List Action) (a : Action) → IsPlan plan
-    → x ≡ ask_at plan.body p → StandsFor plan p before → PlanAsks plan before a ↔ Names plan.layout x a
+    → x ≡ ask_at plan.body p → StandsFor plan p before → PlanAsks plan before a ↔ NamesAction plan.layout x a
 answers_named plan p x before a facts is s =
-    subst (λ y. PlanAsks plan before a ↔ Names plan.layout y a) (sym is) (asks_named plan p before a facts s)
+    subst (λ y. PlanAsks plan before a ↔ NamesAction plan.layout y a) (sym is) (asks_named plan p before a facts s)
 
 known_by : (slots regions : ℕ) (d : Sequence) → IsSequence slots regions d → IsAskOf slots regions (first_ask d)
-known_by slots regions done h = tt
+known_by slots regions skip h = tt
 known_by slots regions (andthen (step (fix s r)) k) h = h.0
 known_by slots regions (andthen (step (unfix s)) k) h = h.0
 known_by slots regions (andthen (step (latch s m)) k) h = h.0
@@ -110,7 +110,7 @@ asks_known plan p facts =
 pub stands_at_start : (plan : Terms) (q : Place) → IsPlan plan → IsAt plan.body q
     → Same plan.layout (left plan.body (record { entries = []; index = 0 })) (left plan.body q) → StandsFor plan q []
 stands_at_start plan q facts at same =
-    let e : left plan.body (record { entries = []; index = 0 }) ≡ plan.body = then-done plan.body in
+    let e : left plan.body (record { entries = []; index = 0 }) ≡ plan.body = then-skip plan.body in
     record {
       at = at;
       begins = body_lasts plan.layout (length plan.slots) plan.body facts.layout facts.body.parts;
@@ -137,12 +137,12 @@ stands_after plan p r a facts f same at before s =
 
 -- A named action is gone past, and then its place is settled.
 pub stands_followed : (plan : Terms) (p q r : Place) (x : Ask) (a : Action) → IsPlan plan → x ≡ ask_at plan.body p
-    → Names plan.layout x a → q ≡ moved_by a p → Same plan.layout (left plan.body q) (left plan.body r)
+    → NamesAction plan.layout x a → q ≡ moved_by a p → Same plan.layout (left plan.body q) (left plan.body r)
     → IsAt plan.body r → (before : List Action) → StandsFor plan p before → StandsFor plan r (before ++ a ∷ [])
 stands_followed plan p q r x a facts is named moved same at before s =
     let f =
     passes plan.layout (length plan.slots) (length plan.layout.extents) plan.body p a facts.body s.at.path
-    (subst (λ y. Names plan.layout y a) is named) in
+    (subst (λ y. NamesAction plan.layout y a) is named) in
     stands_after plan p r a facts f (subst (λ o. Same plan.layout (left plan.body o) (left plan.body r)) moved same) at
     before s
 

@@ -9,15 +9,15 @@ use Rattle.serde_json.specs.View.{view, items_view}
 use Rattle.std.specs.List.{position, position_or_len}
 use Rattle.std.proofs.lemmas.List.{length-map}
 use Rattle.pp_plan.specs.Shapes.{are_lists}
-use Rattle.pp_plan.specs.Reading.{count_of}
+use Rattle.pp_plan.specs.Reading.{item_count}
 
 pub are_lists_view : (vs : List Value) → list_all (λ v. is_some (as_array (view v))) vs ≡ are_lists (items_view vs)
 are_lists_view [] = refl
 are_lists_view (v ∷ vs) = ap (λ b. is_some (as_array (view v)) && b) (are_lists_view vs)
 
-pub count_of_view : (vs : List Value) → count_of (items_view vs) ≡ length vs
-count_of_view [] = refl
-count_of_view (v ∷ vs) = omega (arith, count_of_view vs)
+pub item_count_view : (vs : List Value) → item_count (items_view vs) ≡ length vs
+item_count_view [] = refl
+item_count_view (v ∷ vs) = omega (arith, item_count_view vs)
 
 pub position_or_len-map : {A B : Type 0} (p : B → Bool) (f : A → B) (xs : List A)
     → position_or_len p (map f xs) ≡ position_or_len (λ x. p (f x)) xs

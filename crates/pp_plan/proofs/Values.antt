@@ -7,7 +7,7 @@ use Rattle.serde_json.specs.Data.{Data, array}
 use Rattle.serde_json.specs.View.{view, items_of}
 use Rattle.pp_settings.specs.Settings.{Configuration}
 use Rattle.pp_plan.specs.declared.stmt.Stmt.{Stmt}
-use Rattle.pp_plan.specs.Tree.{Statement, Sequence, done, andthen, Alternatives, none, either, statement_size}
+use Rattle.pp_plan.specs.Tree.{Statement, Sequence, skip, andthen, Alternatives, none, either, statement_size}
 use Rattle.pp_plan.specs.Tree.{sequence_size, alternatives_size}
 use Rattle.pp_plan.specs.View.{statement_of, sequence_of, alternatives_of}
 use Rattle.pp_plan.specs.Rules.{IsStatement, IsSequence, AreAlternatives}
@@ -51,7 +51,7 @@ branch_falls (a ∷ bs) (suc i) b is within = let more = branch_falls bs i b is 
 
 statement_values-followed_by : (c : Configuration) (slots : List (List ℕ)) (b : Sequence) (s : Statement)
     → statement_values c slots (followed_by b s) ≡ statement_values c slots b ++ statement_value c slots s ∷ []
-statement_values-followed_by c slots done s = refl
+statement_values-followed_by c slots skip s = refl
 statement_values-followed_by c slots (andthen r b) s =
     ap (λ (ds : List Data). statement_value c slots r ∷ ds) (statement_values-followed_by c slots b s)
 

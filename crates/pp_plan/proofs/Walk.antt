@@ -8,7 +8,7 @@ use Rattle.serde_json.specs.View.{view, items_view}
 use Rattle.pp_plan.specs.declared.error.PlanError.{PlanError}
 use Rattle.pp_plan.specs.Progress.{Progress}
 use Rattle.pp_plan.specs.declared.stmt.Stmt.{Stmt}
-use Rattle.pp_plan.specs.Tree.{Statement, Sequence, done, andthen, Alternatives, either}
+use Rattle.pp_plan.specs.Tree.{Statement, Sequence, skip, andthen, Alternatives, either}
 use Rattle.pp_plan.specs.View.{statement_of, sequence_of, alternatives_of}
 use Rattle.pp_text.specs.Steps.{◌>>=◌}
 use Rattle.pp_plan.specs.Shapes.{Shape, shape_of}
@@ -48,7 +48,7 @@ sequence_turn f all e p q vs i v s is h one walk =
 pub alternatives_turn : (f : Progress → Data → Result (Progress × Statement) PlanError)
     (all : Result (Progress × Alternatives) PlanError) (e : Alternatives) (p q : Progress) (vs : List Value) (i : ℕ)
     (v : Value) (b : Sequence) → v ≡ get_or vs i v → i < length vs
-    → sequence_from f done p (items_in (view v)) ≡ Ok (q, b) → alternatives_from f e p (items_view (drop i vs)) ≡ all
+    → sequence_from f skip p (items_in (view v)) ≡ Ok (q, b) → alternatives_from f e p (items_view (drop i vs)) ≡ all
     → alternatives_from f (with_branch e b) q (items_view (drop (i + 1) vs)) ≡ all
 alternatives_turn f all e p q vs i v b is h one walk =
     sym (ap (λ (ds : Items). alternatives_from f e p ds) (item_drop vs i v is h)

@@ -13,7 +13,7 @@ use Rattle.pp_settings.specs.Settings.{NamedRegion, Configuration, IsConfigurati
 use Rattle.pp_plan.specs.Limits.{longest_name}
 use Rattle.pp_plan.specs.declared.mode.Mode.{Mode}
 use Rattle.pp_plan.specs.declared.mode.Mode.TheVariants.{S, X}
-use Rattle.pp_plan.specs.Tree.{Step, fix, unfix, latch, unlatch, Statement, step, loop, choice, Sequence, done, andthen}
+use Rattle.pp_plan.specs.Tree.{Step, fix, unfix, latch, unlatch, Statement, step, loop, choice, Sequence, skip, andthen}
 use Rattle.pp_plan.specs.Tree.{Alternatives, none, either, statement_depth, sequence_depth, alternatives_depth}
 use Rattle.pp_plan.specs.Rules.{IsStep, IsStatement, IsSequence, AreAlternatives}
 use Rattle.pp_plan.specs.Terms.{Terms, IsPlan}
@@ -39,7 +39,7 @@ mutual
 
   sequence_plain : (c : Configuration) (ss : List (List ℕ)) (b : Sequence)
       → items_have_float (items_of (statement_values c ss b)) ≡ false
-  sequence_plain c ss done = refl
+  sequence_plain c ss skip = refl
   sequence_plain c ss (andthen s b) = rw (statement_plain c ss s) (sequence_plain c ss b)
 
   branches_plain : (c : Configuration) (ss : List (List ℕ)) (bs : Alternatives)
@@ -74,7 +74,7 @@ mutual
 
   sequence_levels : (c : Configuration) (ss : List (List ℕ)) (b : Sequence)
       → items_depth (items_of (statement_values c ss b)) ≤ 3 * sequence_depth b
-  sequence_levels c ss done = omega arith
+  sequence_levels c ss skip = omega arith
   sequence_levels c ss (andthen s b) =
       max_below (depth (statement_value c ss s)) (items_depth (items_of (statement_values c ss b))) (statement_depth s)
       (sequence_depth b) (statement_levels c ss s) (sequence_levels c ss b)
@@ -97,7 +97,8 @@ unfolding escape_byte
 quoted_letter S = refl
 quoted_letter X = refl
 
-slot_quoted : (t : Terms) → IsPlan t → (k : ℕ) → k < length t.slots
+-- The JSON writer puts a slot's and a region's name between quotes as they are.
+pub slot_quoted : (t : Terms) → IsPlan t → (k : ℕ) → k < length t.slots
     → quoted (slot_name t.slots k) ≡ in_quotes (slot_name t.slots k)
 slot_quoted t plan k within =
     let name = get_or t.slots k [] in
@@ -111,7 +112,7 @@ pub region_at : (c : Configuration) (r : ℕ) → r < length c.regions
     → region_name c r ≡ (get_or c.regions r nameless).name
 region_at c r within = rw (slice_get-get_or c.regions r nameless within) refl
 
-region_quoted : (c : Configuration) → IsConfiguration c → (r : ℕ) → r < length c.regions
+pub region_quoted : (c : Configuration) → IsConfiguration c → (r : ℕ) → r < length c.regions
     → quoted (region_name c r) ≡ in_quotes (region_name c r)
 region_quoted c settings r within =
     let name = (get_or c.regions r nameless).name in
@@ -162,7 +163,7 @@ mutual
   sequence_bytes : (c : Configuration) (t : Terms) → IsConfiguration c → IsPlan t → (b : Sequence)
       → IsSequence (length t.slots) (length c.regions) b
       → map compact_text (statement_values c t.slots b) ≡ statement_texts c t.slots b
-  sequence_bytes c t settings plan done keeps = refl
+  sequence_bytes c t settings plan skip keeps = refl
   sequence_bytes c t settings plan (andthen s b) keeps =
       λ i. statement_bytes c t settings plan s keeps.0 i ∷ sequence_bytes c t settings plan b keeps.1 i
 

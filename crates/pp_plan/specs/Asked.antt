@@ -10,7 +10,7 @@ use Rattle.pp_plan.specs.declared.action.Action.TheVariants.{Fix, Unfix, Latch, 
 use Rattle.pp_plan.specs.declared.action.Ask.{Ask}
 use Rattle.pp_plan.specs.declared.action.Ask.TheVariants as ask
 use Rattle.pp_plan.specs.Tree.{Step, fix, unfix, latch, unlatch, Statement, step, loop, choice}
-use Rattle.pp_plan.specs.Tree.{Sequence, done, andthen, Alternatives, branch_count}
+use Rattle.pp_plan.specs.Tree.{Sequence, skip, andthen, Alternatives, branch_count}
 use Rattle.pp_plan.specs.Left.{◌then◌, branch_at}
 use Rattle.pp_plan.specs.Terms.{Terms}
 
@@ -44,7 +44,7 @@ branch_after bs k _ = None
 
 -- What is left of a body after an action; None where the body doesn't begin with it.
 abbrev pub left_after_one : Geometry → Sequence → Action → Option Sequence
-left_after_one g done a = None
+left_after_one g skip a = None
 left_after_one g (andthen (step s) k) a = if does g s a then Some k else None
 left_after_one g (andthen (loop zero b) k) a = left_after_one g k a
 left_after_one g (andthen (loop (suc n) b) k) a = option_map (λ d. d then andthen (loop n b) k) (left_after_one g b a)
@@ -69,7 +69,7 @@ statement_ask (choice bs) = ask.Choose (branch_count bs)
 
 -- What a body asks first.
 abbrev pub first_asked : Sequence → Ask
-first_asked done = ask.End
+first_asked skip = ask.End
 first_asked (andthen (step s) k) = statement_ask (step s)
 first_asked (andthen (loop zero b) k) = first_asked k
 first_asked (andthen (loop (suc n) b) k) = first_asked b

@@ -6,7 +6,7 @@ use base.Stored.{Gv, gnil, gnum, gcons}
 use denote.Struct.Codes.{itself}
 use Rattle.pp_plan.specs.declared.mode.Mode.{Mode}
 use Rattle.pp_plan.specs.declared.mode.Mode.TheVariants.{S, X}
-use Rattle.pp_plan.specs.Tree.{Step, fix, unfix, latch, unlatch, Statement, step, loop, choice, Sequence, done, andthen}
+use Rattle.pp_plan.specs.Tree.{Step, fix, unfix, latch, unlatch, Statement, step, loop, choice, Sequence, skip, andthen}
 use Rattle.pp_plan.specs.Tree.{Alternatives, none, either}
 
 abbrev mode_to : Mode → Gv
@@ -45,7 +45,7 @@ abbrev mutual
   statement_to (choice bs) = gcons (gcons gnil gnil) (alternatives_to bs)
 
   sequence_to : Sequence → Gv
-  sequence_to done = gnil
+  sequence_to skip = gnil
   sequence_to (andthen s b) = gcons (statement_to s) (sequence_to b)
 
   alternatives_to : Alternatives → Gv
@@ -61,8 +61,8 @@ abbrev mutual
   statement_from (gcons (gcons a b) g) = choice (alternatives_from g)
 
   sequence_from : Gv → Sequence
-  sequence_from gnil = done
-  sequence_from (gnum n) = done
+  sequence_from gnil = skip
+  sequence_from (gnum n) = skip
   sequence_from (gcons a b) = andthen (statement_from a) (sequence_from b)
 
   alternatives_from : Gv → Alternatives
@@ -77,7 +77,7 @@ mutual
   statement_back (choice bs) = ap choice (alternatives_back bs)
 
   pub sequence_back : (b : Sequence) → sequence_from (sequence_to b) ≡ b
-  sequence_back done = refl
+  sequence_back skip = refl
   sequence_back (andthen s b) = λ i. andthen (statement_back s i) (sequence_back b i)
 
   pub alternatives_back : (bs : Alternatives) → alternatives_from (alternatives_to bs) ≡ bs

@@ -2,7 +2,7 @@
 use Rattle.std.specs.Prelude.{◌≡◌, ◌<◌, ◌≤◌, ℕ, List, [], ◌∷◌, ◌++◌}
 use Rattle.pp_settings.specs.Layout.{Geometry}
 use Rattle.pp_plan.specs.Limits.{most_branches}
-use Rattle.pp_plan.specs.Tree.{fix, unfix, latch, unlatch, Statement, step, loop, choice, Sequence, done, andthen}
+use Rattle.pp_plan.specs.Tree.{fix, unfix, latch, unlatch, Statement, step, loop, choice, Sequence, skip, andthen}
 use Rattle.pp_plan.specs.Tree.{branch_count}
 use Rattle.pp_plan.specs.Terms.{Terms}
 use Rattle.pp_plan.specs.Traces.{Does, IsTrace, Begins}
@@ -23,7 +23,7 @@ CanBeIn (choice bs) turns branch = (turns ≡ 0) × (branch < branch_count bs)
 
 -- The same of a body's first statement.
 abbrev pub CanEnter : Sequence → (turns branch : ℕ) → Type 0
-CanEnter done turns branch = ⊥
+CanEnter skip turns branch = ⊥
 CanEnter (andthen s k) turns branch = CanBeIn s turns branch
 
 -- The entries lead from the body inwards, each through a statement that a worker may be inside so.
@@ -33,8 +33,8 @@ IsPath b (e ∷ es) = CanEnter (sequence_drop e.index (body_at b es)) e.turns e.
 
 -- An action comes next, or it is the end of the outermost body.
 abbrev pub IsReady : Sequence → List Entry → Type 0
-IsReady done [] = Unit {0}
-IsReady done (e ∷ es) = ⊥
+IsReady skip [] = Unit {0}
+IsReady skip (e ∷ es) = ⊥
 IsReady (andthen (step s) k) es = Unit {0}
 IsReady (andthen (loop n b) k) es = ⊥
 IsReady (andthen (choice bs) k) es = Unit {0}
@@ -68,14 +68,14 @@ IsCursorOf plan cursor = (before : List Action) × StandsFor plan cursor before
 
 -- The action is one that the ask names: for a step each action that makes this step, so for a fix each fix of the
 -- slot with a page of the region; for a choice each branch below their number; for the end none.
-abbrev pub Names : Geometry → Ask → Action → Type 0
-Names g (ask.Fix s r) a = Does g (fix s r) a
-Names g (ask.Unfix s) a = Does g (unfix s) a
-Names g (ask.Latch s m) a = Does g (latch s m) a
-Names g (ask.Unlatch s) a = Does g (unlatch s) a
-Names g (ask.Choose n) (Choose i) = i < n
-Names g (ask.Choose n) _ = ⊥
-Names g ask.End a = ⊥
+abbrev pub NamesAction : Geometry → Ask → Action → Type 0
+NamesAction g (ask.Fix s r) a = Does g (fix s r) a
+NamesAction g (ask.Unfix s) a = Does g (unfix s) a
+NamesAction g (ask.Latch s m) a = Does g (latch s m) a
+NamesAction g (ask.Unlatch s) a = Does g (unlatch s) a
+NamesAction g (ask.Choose n) (Choose i) = i < n
+NamesAction g (ask.Choose n) _ = ⊥
+NamesAction g ask.End a = ⊥
 
 -- What is asked is within the plan: a slot and a region that it has, 1 to 16 branches.
 abbrev pub IsAskOf : (slots regions : ℕ) → Ask → Type 0

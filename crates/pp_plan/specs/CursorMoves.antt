@@ -3,7 +3,7 @@ use Rattle.std.specs.Prelude.{◌≡◌, ◌<◌, ◌^◌, ℕ, zero, suc, ◌+�
 use Rattle.std.specs.Prelude.{slice_index_or}
 use Rattle.pp_settings.specs.Layout.{Geometry}
 use Rattle.pp_plan.specs.Limits.{most_depth}
-use Rattle.pp_plan.specs.Tree.{Statement, step, loop, choice, Sequence, done, andthen}
+use Rattle.pp_plan.specs.Tree.{Statement, step, loop, choice, Sequence, skip, andthen}
 use Rattle.pp_plan.specs.Tree.{branch_count}
 use Rattle.pp_plan.specs.Traces.{IsTrace}
 use Rattle.pp_plan.specs.Asked.{statement_ask}
@@ -63,18 +63,18 @@ pub record Same (g : Geometry) (b c : Sequence) : Type 0 where
 
 -- The place is at the end of a body only where this is the outermost one.
 abbrev pub EndsOutermost : Sequence → Place → Type 0
-EndsOutermost b p = sequence_drop p.index (body_at b p.entries) ≡ done → p.entries ≡ []
+EndsOutermost b p = sequence_drop p.index (body_at b p.entries) ≡ skip → p.entries ≡ []
 
 -- The count and the body of a body's first statement, where this is a loop.
 abbrev pub first_loop : Sequence → Option (ℕ × Sequence)
-first_loop done = None
+first_loop skip = None
 first_loop (andthen (step s) k) = None
 first_loop (andthen (loop n b) k) = Some (n, b)
 first_loop (andthen (choice bs) k) = None
 
 -- How many statements a body has, those inside them not among them.
 abbrev pub sequence_length : Sequence → ℕ
-sequence_length done = 0
+sequence_length skip = 0
 sequence_length (andthen s k) = suc (sequence_length k)
 
 -- The numbers of statements of the bodies that the entries lead through, the outermost first.
@@ -87,7 +87,7 @@ AreLengths b ns (e ∷ es) =
 
 -- What is asked where this is the rest of the body: what its first statement asks, or the end.
 abbrev pub first_ask : Sequence → Ask
-first_ask done = ask.End
+first_ask skip = ask.End
 first_ask (andthen s k) = statement_ask s
 
 -- What is asked at a place.

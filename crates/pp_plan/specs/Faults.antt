@@ -2,9 +2,10 @@
 use Rattle.std.specs.Prelude.{◌≡◌, ◌≢◌, ◌⊎◌, ℕ, zero, suc, ◌+◌, ◌≤◌, ◌<◌, List, [], ◌∷◌, ◌++◌, length, map, flat_map}
 use Rattle.std.specs.Prelude.{slice_get, All, AllPairs, IsTrue, Option, None, Some, codes, true}
 use Rattle.std.specs.Option.{option_map_or}
-use Rattle.serde_json.specs.Data.{Data, number, unsigned, string, array, Items, no_items, item}
+use Rattle.serde_json.specs.Data.{Data, number, unsigned, string, array, Items, no_items}
 use Rattle.serde_json.specs.Find.{get, as_array}
-use Rattle.pp_text.specs.Objects.{HasOnly, Holds}
+use Rattle.pp_text.specs.First.{IsFirst}
+use Rattle.pp_text.specs.Objects.{HasOnly, Holds, elements}
 use Rattle.pp_settings.specs.Settings.{Configuration, region_named}
 use Rattle.pp_plan.specs.declared.kind.Kind.{Kind}
 use Rattle.pp_plan.specs.declared.kind.Kind.TheVariants as kind
@@ -25,10 +26,6 @@ pub record Written : Type 0 where
   pub depth : ℕ
   pub value : Data
 
-abbrev pub elements : Items → List Data
-elements no_items = []
-elements (item d ds) = d ∷ elements ds
-
 -- The elements of a list; another value has none.
 abbrev pub listed : Data → List Data
 listed d = option_map_or elements (as_array d) []
@@ -39,14 +36,14 @@ listed_at key d = option_map_or listed (get key d) []
 
 -- The statements directly inside a statement: those of a loop's body, and those of a choice's branches. Another value
 -- that has these keys is a fault already.
-abbrev pub inside : Data → List Data
-inside d = listed_at (codes "body") d ++ flat_map listed (listed_at (codes "choice") d)
+abbrev pub directly_inside : Data → List Data
+directly_inside d = listed_at (codes "body") d ++ flat_map listed (listed_at (codes "choice") d)
 
 -- A statement, and then those inside it, so many levels in all.
 abbrev pub statements_in : (levels depth : ℕ) → Data → List Written
 statements_in zero depth d = []
 statements_in (suc levels) depth d =
-    (record { depth = depth; value = d }) ∷ flat_map (statements_in levels (depth + 1)) (inside d)
+    (record { depth = depth; value = d }) ∷ flat_map (statements_in levels (depth + 1)) (directly_inside d)
 
 -- The statements of a document in the order in which they begin: a statement's number is its place here. What stands
 -- inside a statement of depth 17 is left out, since that one is a fault already.
@@ -175,11 +172,6 @@ at_statements n (suc m) = map (in_statement n) causes ++ at_statements (n + 1) m
 -- All faults of a text, in the order in which they are told. The 4,097th statement is one too many.
 abbrev pub order : List Fault
 order = not_json ∷ other_top ∷ other_version ∷ at_statements 0 (most_statements + 1)
-
--- f is the first of the list that holds.
-abbrev pub IsFirst : (Fault → Type 0) → List Fault → Fault → Type 0
-IsFirst Has [] f = ⊥
-IsFirst Has (g ∷ gs) f = ((g ≡ f) × Has g) ⊎ ((¬ Has g) × IsFirst Has gs f)
 
 -- The refusal tells the first fault of the text.
 abbrev pub TellsFirst : Configuration → Option Data → PlanError → Type 0

@@ -1,6 +1,6 @@
 -- Where a cursor is in a plan's statements, and what it has left of them.
 use Rattle.std.specs.Prelude.{ℕ, zero, suc, List, [], ◌∷◌}
-use Rattle.pp_plan.specs.Tree.{Statement, step, loop, choice, Sequence, done, andthen, Alternatives, none, either}
+use Rattle.pp_plan.specs.Tree.{Statement, step, loop, choice, Sequence, skip, andthen, Alternatives, none, either}
 use Rattle.pp_plan.specs.declared.cursor.Entry.{Entry}
 
 -- ---- bodies
@@ -8,24 +8,24 @@ use Rattle.pp_plan.specs.declared.cursor.Entry.{Entry}
 -- One body after another.
 infixr 6 ◌then◌
 abbrev pub ◌then◌ : Sequence → Sequence → Sequence
-done then c = c
+skip then c = c
 (andthen s b) then c = andthen s (b then c)
 
 -- The statements of a body from the n-th on.
 abbrev pub sequence_drop : ℕ → Sequence → Sequence
 sequence_drop zero b = b
-sequence_drop (suc n) done = done
+sequence_drop (suc n) skip = skip
 sequence_drop (suc n) (andthen s b) = sequence_drop n b
 
 -- The branch of this number, from 0; past the last, the empty body.
 abbrev pub branch_at : Alternatives → ℕ → Sequence
-branch_at none i = done
+branch_at none i = skip
 branch_at (either b bs) zero = b
 branch_at (either b bs) (suc i) = branch_at bs i
 
 -- The body that is done inside a statement: a loop's body, or a choice's branch of this number.
 abbrev pub body_of : Statement → ℕ → Sequence
-body_of (step s) i = done
+body_of (step s) i = skip
 body_of (loop n c) i = c
 body_of (choice bs) i = branch_at bs i
 
@@ -36,14 +36,14 @@ rest_of (loop m c) n k = andthen (loop n c) k
 rest_of (choice bs) n k = k
 
 -- The body that is done inside a body's first statement.
-abbrev pub inside : Sequence → ℕ → Sequence
-inside done i = done
-inside (andthen s k) i = body_of s i
+abbrev pub first_body_of : Sequence → ℕ → Sequence
+first_body_of skip i = skip
+first_body_of (andthen s k) i = body_of s i
 
 -- What is left after that body.
-abbrev pub after : Sequence → ℕ → Sequence
-after done n = done
-after (andthen s k) n = rest_of s n k
+abbrev pub first_rest_of : Sequence → ℕ → Sequence
+first_rest_of skip n = skip
+first_rest_of (andthen s k) n = rest_of s n k
 
 -- ---- places
 
@@ -57,12 +57,12 @@ pub record Place : Type 0 where
 -- The innermost body.
 abbrev pub body_at : Sequence → List Entry → Sequence
 body_at b [] = b
-body_at b (e ∷ es) = inside (sequence_drop e.index (body_at b es)) e.branch
+body_at b (e ∷ es) = first_body_of (sequence_drop e.index (body_at b es)) e.branch
 
 -- What is left outside it.
 abbrev pub outside : Sequence → List Entry → Sequence
-outside b [] = done
-outside b (e ∷ es) = after (sequence_drop e.index (body_at b es)) e.turns then outside b es
+outside b [] = skip
+outside b (e ∷ es) = first_rest_of (sequence_drop e.index (body_at b es)) e.turns then outside b es
 
 -- What is left of a body at a place: the rest of the innermost body, and then what is left outside it. It is a body
 -- again.

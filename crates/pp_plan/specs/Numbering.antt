@@ -2,13 +2,13 @@
 use Rattle.std.specs.Prelude.{ℕ, List, [], map, insert, fold, position, unwrap_or, Option, slice_index_or}
 use Rattle.std.specs.List.{position_or_len}
 use Rattle.std.specs.Str.{bytes_eq}
-use Rattle.pp_plan.specs.Tree.{Step, fix, unfix, latch, unlatch, Statement, step, loop, choice, Sequence, done, andthen}
+use Rattle.pp_plan.specs.Tree.{Step, fix, unfix, latch, unlatch, Statement, step, loop, choice, Sequence, skip, andthen}
 use Rattle.pp_plan.specs.Tree.{Alternatives, none, either}
 use Rattle.pp_plan.specs.Names.{comes_before}
 
 -- The place of a name among names.
-abbrev pub place_of : List (List ℕ) → List ℕ → Option ℕ
-place_of names name = position (λ n. bytes_eq n name) names
+abbrev pub position_of : List (List ℕ) → List ℕ → Option ℕ
+position_of names name = position (λ n. bytes_eq n name) names
 
 -- A name put in among names in byte order: before the first that it comes before.
 abbrev pub put_in : List (List ℕ) → List ℕ → List (List ℕ)
@@ -20,7 +20,7 @@ in_byte_order names = fold put_in [] names
 
 -- The new number of the k-th name: its place among the ordered names.
 abbrev pub new_number : (ordered : List (List ℕ)) → List ℕ → ℕ
-new_number ordered name = unwrap_or (place_of ordered name) 0
+new_number ordered name = unwrap_or (position_of ordered name) 0
 
 abbrev pub place_in : (ordered names : List (List ℕ)) → ℕ → ℕ
 place_in ordered names k = slice_index_or (map (new_number ordered) names) k 0
@@ -40,7 +40,7 @@ abbrev mutual
   numbered_statement new (choice bs) = choice (numbered_branches new bs)
 
   pub numbered : (ℕ → ℕ) → Sequence → Sequence
-  numbered new done = done
+  numbered new skip = skip
   numbered new (andthen s b) = andthen (numbered_statement new s) (numbered new b)
 
   pub numbered_branches : (ℕ → ℕ) → Alternatives → Alternatives

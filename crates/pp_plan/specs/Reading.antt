@@ -12,7 +12,7 @@ use Rattle.pp_settings.specs.Settings.{Configuration, region_named, geometry_of}
 use Rattle.pp_plan.specs.declared.error.PlanError.{PlanError}
 use Rattle.pp_plan.specs.declared.error.PlanError.TheVariants.{NotJson, WrongField, BadName, NoSuchRegion, Range}
 use Rattle.pp_plan.specs.declared.error.PlanError.TheVariants.{TooDeep, TooMany}
-use Rattle.pp_plan.specs.Tree.{fix, unfix, latch, unlatch, Statement, step, loop, choice, Sequence, done, andthen}
+use Rattle.pp_plan.specs.Tree.{fix, unfix, latch, unlatch, Statement, step, loop, choice, Sequence, skip, andthen}
 use Rattle.pp_plan.specs.Tree.{Alternatives, none, either}
 use Rattle.pp_plan.specs.Names.{is_slot_name}
 use Rattle.pp_plan.specs.Progress.{Progress}
@@ -21,7 +21,7 @@ use Rattle.pp_plan.specs.Keys.{top_keys}
 use Rattle.pp_plan.specs.Limits.{most_statements, most_depth, most_slots, most_turns, most_branches}
 use Rattle.pp_plan.specs.Shapes.{Shape, fix_shape, unfix_shape, latch_shape, unlatch_shape, loop_shape, choice_shape}
 use Rattle.pp_plan.specs.Shapes.{shape_of, value_at, list_at}
-use Rattle.pp_plan.specs.Numbering.{in_byte_order, place_of, place_in, numbered}
+use Rattle.pp_plan.specs.Numbering.{in_byte_order, position_of, place_in, numbered}
 
 -- ---- statements and slot names are counted as they come
 
@@ -42,7 +42,7 @@ used_at None n p name =
     (record { names = p.names ++ name ∷ []; count = p.count }, length p.names)
 
 unfoldable pub used : ℕ → Progress → List ℕ → Result (Progress × ℕ) PlanError
-used n p name = used_at (place_of p.names name) n p name
+used n p name = used_at (position_of p.names name) n p name
 
 -- The same of a name that has to be in form.
 unfoldable pub slot_of : ℕ → Progress → List ℕ → Result (Progress × ℕ) PlanError
@@ -52,7 +52,7 @@ slot_of n p name = must (is_slot_name name) (BadName n) >>= λ form. used n p na
 
 -- The body with one statement more, and the branches with one more.
 abbrev pub followed_by : Sequence → Statement → Sequence
-followed_by done s = andthen s done
+followed_by skip s = andthen s skip
 followed_by (andthen r b) s = andthen r (followed_by b s)
 
 abbrev pub with_branch : Alternatives → Sequence → Alternatives
@@ -75,14 +75,14 @@ abbrev pub alternatives_from : (Progress → Data → Result (Progress × Statem
     → Items → Result (Progress × Alternatives) PlanError
 alternatives_from read_one earlier p no_items = Ok (p, earlier)
 alternatives_from read_one earlier p (item d ds) =
-    sequence_from read_one done p (items_in d) >>= λ r. alternatives_from read_one (with_branch earlier r.1) r.0 ds
+    sequence_from read_one skip p (items_in d) >>= λ r. alternatives_from read_one (with_branch earlier r.1) r.0 ds
 
 -- ---- one statement
 
 -- How many items.
-abbrev pub count_of : Items → ℕ
-count_of no_items = 0
-count_of (item d ds) = count_of ds + 1
+abbrev pub item_count : Items → ℕ
+item_count no_items = 0
+item_count (item d ds) = item_count ds + 1
 
 -- A fix: first the form of the slot's name, then the region, and then the slot.
 unfoldable pub fix_by : (List ℕ → Option ℕ) → ℕ → Progress → (slot region : List ℕ)
@@ -107,11 +107,11 @@ statement_by region read_one n p (unlatch_shape slot) = do
   u ← slot_of n p slot
   Ok (u.0, step (unlatch u.1))
 statement_by region read_one n p (loop_shape count body) = do
-  range ← must ((nat_le 1 count && nat_le count most_turns) && not (count_of body == 0)) (Range n)
-  b ← sequence_from read_one done p body
+  range ← must ((nat_le 1 count && nat_le count most_turns) && not (item_count body == 0)) (Range n)
+  b ← sequence_from read_one skip p body
   Ok (b.0, loop count b.1)
 statement_by region read_one n p (choice_shape branches) = do
-  range ← must (nat_le 1 (count_of branches) && nat_le (count_of branches) most_branches) (Range n)
+  range ← must (nat_le 1 (item_count branches) && nat_le (item_count branches) most_branches) (Range n)
   bs ← alternatives_from read_one none p branches
   Ok (bs.0, choice bs.1)
 
@@ -146,5 +146,5 @@ unfoldable pub reading : Configuration → List ℕ → Result Terms PlanError
 reading settings text = do
   d ← ok_or (read text) NotJson
   items ← statements_at d
-  r ← sequence_from (statement_at (region_named settings) most_depth) done start items
+  r ← sequence_from (statement_at (region_named settings) most_depth) skip start items
   Ok (plan_of settings r)

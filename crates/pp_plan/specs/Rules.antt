@@ -1,12 +1,12 @@
 -- Which trees a plan may have.
 use Rattle.std.specs.Prelude.{◌≡◌, ◌⊎◌, ℕ, ◌<◌, ◌≤◌}
 use Rattle.pp_plan.specs.Limits.{most_statements, most_depth, most_turns, most_branches}
-use Rattle.pp_plan.specs.Tree.{Step, fix, unfix, latch, unlatch, Statement, step, loop, choice, Sequence, done, andthen}
+use Rattle.pp_plan.specs.Tree.{Step, fix, unfix, latch, unlatch, Statement, step, loop, choice, Sequence, skip, andthen}
 use Rattle.pp_plan.specs.Tree.{Alternatives, none, either, sequence_count, sequence_depth, branch_count}
 
 -- The body has a statement.
 abbrev pub IsSome : Sequence → Type 0
-IsSome done = ⊥
+IsSome skip = ⊥
 IsSome (andthen s b) = Unit {0}
 
 -- The step's slot is one of so many, and its region too.
@@ -25,7 +25,7 @@ abbrev mutual
       (1 ≤ branch_count bs) × (branch_count bs ≤ most_branches) × AreAlternatives slots regions bs
 
   pub IsSequence : (slots regions : ℕ) → Sequence → Type 0
-  IsSequence slots regions done = Unit {0}
+  IsSequence slots regions skip = Unit {0}
   IsSequence slots regions (andthen s b) = IsStatement slots regions s × IsSequence slots regions b
 
   pub AreAlternatives : (slots regions : ℕ) → Alternatives → Type 0
@@ -48,7 +48,7 @@ abbrev mutual
 
   -- The body has a step of the slot.
   pub IsUsed : Sequence → ℕ → Type 0
-  IsUsed done k = ⊥
+  IsUsed skip k = ⊥
   IsUsed (andthen s b) k = IsUsedBy s k ⊎ IsUsed b k
 
   -- Some branch has a step of the slot.

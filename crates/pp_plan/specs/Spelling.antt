@@ -8,7 +8,7 @@ use Rattle.pp_plan.specs.declared.mode.Mode.{Mode}
 use Rattle.pp_plan.specs.declared.mode.Mode.TheVariants.{S, X}
 use Rattle.pp_plan.specs.declared.kind.Kind.TheVariants as kind
 use Rattle.pp_plan.specs.Keys.{top_keys, keys_of}
-use Rattle.pp_plan.specs.Tree.{Step, fix, unfix, latch, unlatch, Statement, step, loop, choice, Sequence, done, andthen}
+use Rattle.pp_plan.specs.Tree.{Step, fix, unfix, latch, unlatch, Statement, step, loop, choice, Sequence, skip, andthen}
 use Rattle.pp_plan.specs.Tree.{Alternatives, none, either}
 use Rattle.pp_plan.specs.Terms.{Terms, IsPlan}
 
@@ -51,7 +51,7 @@ abbrev mutual
 
   -- There is one value for each statement, in the same order.
   pub SpellsSequence : Configuration → (slots : List (List ℕ)) → Items → Sequence → Type 0
-  SpellsSequence settings slots no_items done = Unit {0}
+  SpellsSequence settings slots no_items skip = Unit {0}
   SpellsSequence settings slots (item d ds) (andthen s b) =
       SpellsStatement settings slots d s × SpellsSequence settings slots ds b
   SpellsSequence settings slots _ _ = ⊥

@@ -1,7 +1,7 @@
 -- What a plan does: the lists of actions that are its traces, and what it asks after a list.
 use Rattle.std.specs.Prelude.{◌≡◌, ℕ, zero, suc, List, [], ◌∷◌, ◌++◌}
 use Rattle.pp_settings.specs.Layout.{Geometry, HasPage}
-use Rattle.pp_plan.specs.Tree.{Step, fix, unfix, latch, unlatch, Statement, step, loop, choice, Sequence, done, andthen}
+use Rattle.pp_plan.specs.Tree.{Step, fix, unfix, latch, unlatch, Statement, step, loop, choice, Sequence, skip, andthen}
 use Rattle.pp_plan.specs.Tree.{Alternatives, none, either}
 use Rattle.pp_plan.specs.declared.action.Action.{Action}
 use Rattle.pp_plan.specs.declared.action.Action.TheVariants.{Fix, Unfix, Latch, Unlatch, Choose}
@@ -33,7 +33,7 @@ abbrev mutual
 
   -- The traces of a body: of its first statement, and then of the others. The empty body has the empty one alone.
   pub IsTrace : Geometry → Sequence → List Action → Type 0
-  IsTrace g done t = t ≡ []
+  IsTrace g skip t = t ≡ []
   IsTrace g (andthen s b) t = Joins (IsStatementTrace g s) (IsTrace g b) t
 
   -- The traces of branch i.

@@ -18,7 +18,7 @@ mutual
 
   -- A body: statements, one after another.
   pub data Sequence : Type 0 where
-    done : Sequence
+    skip : Sequence
     andthen : Statement → Sequence → Sequence
 
   -- The branches of a choice.
@@ -34,7 +34,7 @@ abbrev mutual
   statement_size (choice bs) = alternatives_size bs + 1
 
   pub sequence_size : Sequence → ℕ
-  sequence_size done = 0
+  sequence_size skip = 0
   sequence_size (andthen s b) = statement_size s + 1 + sequence_size b
 
   pub alternatives_size : Alternatives → ℕ
@@ -49,7 +49,7 @@ abbrev mutual
   statement_count (choice bs) = alternatives_count bs + 1
 
   pub sequence_count : Sequence → ℕ
-  sequence_count done = 0
+  sequence_count skip = 0
   sequence_count (andthen s b) = statement_count s + sequence_count b
 
   pub alternatives_count : Alternatives → ℕ
@@ -64,7 +64,7 @@ abbrev mutual
   statement_depth (choice bs) = suc (alternatives_depth bs)
 
   pub sequence_depth : Sequence → ℕ
-  sequence_depth done = 0
+  sequence_depth skip = 0
   sequence_depth (andthen s b) = max (statement_depth s) (sequence_depth b)
 
   pub alternatives_depth : Alternatives → ℕ

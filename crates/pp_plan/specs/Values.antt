@@ -3,7 +3,7 @@ use Rattle.std.specs.Prelude.{ℕ, List, [], ◌∷◌, codes}
 use Rattle.serde_json.specs.Data.{unsigned, Data, number, string, array, object, Members, no_members, member}
 use Rattle.serde_json.specs.View.{items_of}
 use Rattle.pp_settings.specs.Settings.{Configuration}
-use Rattle.pp_plan.specs.Tree.{Step, fix, unfix, latch, unlatch, Statement, step, loop, choice, Sequence, done, andthen}
+use Rattle.pp_plan.specs.Tree.{Step, fix, unfix, latch, unlatch, Statement, step, loop, choice, Sequence, skip, andthen}
 use Rattle.pp_plan.specs.Tree.{Alternatives, none, either}
 use Rattle.pp_plan.specs.Terms.{Terms}
 use Rattle.pp_plan.specs.Spelling.{letter_of}
@@ -30,7 +30,7 @@ abbrev mutual
 
   -- One value for each statement, in order.
   pub statement_values : Configuration → (slots : List (List ℕ)) → Sequence → List Data
-  statement_values settings slots done = []
+  statement_values settings slots skip = []
   statement_values settings slots (andthen s b) = statement_value settings slots s ∷ statement_values settings slots b
 
   -- One list for each branch, in order.

@@ -1,6 +1,6 @@
 -- What the statements of the program are seen as.
 use Rattle.std.specs.Prelude.{List, [], ◌∷◌}
-use Rattle.pp_plan.specs.Tree.{fix, unfix, latch, unlatch, Statement, step, loop, choice, Sequence, done, andthen}
+use Rattle.pp_plan.specs.Tree.{fix, unfix, latch, unlatch, Statement, step, loop, choice, Sequence, skip, andthen}
 use Rattle.pp_plan.specs.Tree.{Alternatives, none, either}
 use Rattle.pp_plan.specs.declared.stmt.Stmt.{Stmt}
 use Rattle.pp_plan.specs.declared.stmt.Stmt.TheVariants.{Fix, Unfix, Latch, Unlatch, Loop, Choice}
@@ -16,7 +16,7 @@ statement_of (Choice bs) = choice bs
 
 -- Statements in order.
 abbrev pub sequence_of : List Stmt → Sequence
-sequence_of [] = done
+sequence_of [] = skip
 sequence_of (s ∷ ss) = andthen (statement_of s) (sequence_of ss)
 
 -- Branches in order.

@@ -3,7 +3,7 @@ use Rattle.std.specs.Prelude.{ℕ, List, [], ◌∷◌, ◌++◌, codes, slice_g
 use Rattle.std.specs.Fmt.{decimal}
 use Rattle.pp_text.specs.Words.{in_quotes, in_brackets}
 use Rattle.pp_settings.specs.Settings.{Configuration, name_of}
-use Rattle.pp_plan.specs.Tree.{Step, fix, unfix, latch, unlatch, Statement, step, loop, choice, Sequence, done, andthen}
+use Rattle.pp_plan.specs.Tree.{Step, fix, unfix, latch, unlatch, Statement, step, loop, choice, Sequence, skip, andthen}
 use Rattle.pp_plan.specs.Tree.{Alternatives, none, either}
 use Rattle.pp_plan.specs.Terms.{Terms}
 use Rattle.pp_plan.specs.Spelling.{letter_of}
@@ -38,7 +38,7 @@ abbrev mutual
 
   -- The text of each statement of a body, in order.
   pub statement_texts : Configuration → (slots : List (List ℕ)) → Sequence → List (List ℕ)
-  statement_texts settings slots done = []
+  statement_texts settings slots skip = []
   statement_texts settings slots (andthen s b) = statement_text settings slots s ∷ statement_texts settings slots b
 
   -- The text of each branch, in order.

@@ -6,9 +6,9 @@ ghost use Rattle.pp_settings.specs.Layout.{HasPage};
 ghost use Rattle.pp_plan.specs.declared.action.Action.{Action};
 ghost use Rattle.pp_plan.specs.View.{sequence_of, statement_of};
 ghost use Rattle.pp_plan.specs.Terms.{IsPlan};
-ghost use Rattle.pp_plan.specs.Left.{body_at, body_of, inside, sequence_drop, left};
+ghost use Rattle.pp_plan.specs.Left.{body_at, body_of, first_body_of, sequence_drop, left};
 ghost use Rattle.pp_plan.specs.PlanTraces.{IsTraceOf, PlanAsks};
-ghost use Rattle.pp_plan.specs.Cursor.{IsPath, IsAt, StandsFor, IsCursorOf, Names, IsAskOf};
+ghost use Rattle.pp_plan.specs.Cursor.{IsPath, IsAt, StandsFor, IsCursorOf, NamesAction, IsAskOf};
 ghost use Rattle.pp_plan.specs.CursorMoves.{HasNext, entered, skipped, left_by, moved_by, first_loop, CanPass};
 ghost use Rattle.pp_plan.specs.CursorMoves.{EndsOutermost, AreLengths, Same, first_ask, ask_at, IsActive};
 ghost use Rattle.pp_plan.specs.Asked.{statement_ask, asked};
@@ -79,7 +79,7 @@ impl Cursor {
             (result ≡ Ask.End) ↔ IsTraceOf plan.now before }
         // The actions that the plan asks after the list are exactly those that the answer names.
         ensures asked { (before : List Action) (a : Action) → StandsFor plan.now self.now before →
-            PlanAsks plan.now before a ↔ Names plan.now.layout result a }
+            PlanAsks plan.now before a ↔ NamesAction plan.now.layout result a }
         // Slots and regions are the plan's, and there are 1 to 16 branches to choose from.
         ensures within { IsAskOf (length plan.now.slots) (length plan.now.layout.extents) result }
     {
@@ -278,7 +278,7 @@ impl Cursor {
 /// The statements of the body that an entry leads into.
 #[tactic(auto, using(crate::proofs::Fetching::on_reads))]
 fn stmts_inside<'p>(stmts: &'p [Stmt], entry: Entry) -> &'p [Stmt]
-    ensures { sequence_of result.now ≡ inside (sequence_drop entry.index (sequence_of stmts.now)) entry.branch }
+    ensures { sequence_of result.now ≡ first_body_of (sequence_drop entry.index (sequence_of stmts.now)) entry.branch }
 {
     match stmts.get(entry.index) {
         Some(stmt) => stmts_of(stmt, entry.branch),
@@ -340,7 +340,7 @@ fn ask_of(stmt: &Stmt) -> Ask
 
 /// Whether the action is one that the ask names.
 fn is_named(plan: &Plan, ask: Ask, action: Action) -> bool
-    ensures { IsTrue result ↔ Names plan.now.layout ask action }
+    ensures { IsTrue result ↔ NamesAction plan.now.layout ask action }
 {
     match ask {
         Ask::Fix { slot, region } => match action {

@@ -2,9 +2,9 @@
 
 ghost use Rattle.std.specs.Prelude.{◌≡◌};
 ghost use Rattle.pp_text.specs.Refusals.{row, at as statement_at};
-ghost use Rattle.pp_text.specs.Views.{row_of as printed};
+ghost use Rattle.pp_text.specs.Views.{row_of_refusal};
 ghost use Rattle.pp_plan.specs.declared.error.PlanError.TheVariants.{OutOfMemory};
-ghost use Rattle.pp_plan.specs.Refusals.{row_of, number_of, name_of, statement_of};
+ghost use Rattle.pp_plan.specs.Refusals.{plan_error_row, plan_error_number, plan_error_name, plan_error_statement};
 
 use pp_text::{About, Refusal};
 use std::alloc::{AllocError, AllocFailed};
@@ -51,7 +51,7 @@ pub enum PlanError {
 impl PlanError {
     /// The refusal as a program prints it, as in `11 NotJson` and `16 Range at 0`.
     pub fn refusal(self) -> Refusal
-        ensures { printed result ≡ row_of self }
+        ensures { row_of_refusal result ≡ plan_error_row self }
     {
         match self {
             PlanError::NotJson => Refusal::new(11, "NotJson", About::Nothing),
@@ -68,21 +68,21 @@ impl PlanError {
 
     /// The number of the refusal, 11 to 19.
     pub fn number(self) -> u8
-        ensures { result ≡ number_of self }
+        ensures { result ≡ plan_error_number self }
     {
         self.refusal().number
     }
 
     /// The name of the refusal, as the program prints it.
     pub fn name(self) -> &'static str
-        ensures { result.now ≡ name_of self }
+        ensures { result.now ≡ plan_error_name self }
     {
         self.refusal().name
     }
 
     /// The number of the statement at fault, where one is.
     pub fn statement(self) -> Option<u32>
-        ensures { result ≡ statement_of self }
+        ensures { result ≡ plan_error_statement self }
     {
         match self {
             PlanError::NoSuchStatement(n)
@@ -99,7 +99,7 @@ impl PlanError {
 
 /// The refusal of the statement with this number.
 fn at(number: u8, name: &'static str, statement: u32) -> Refusal
-    ensures { printed result ≡ row number name.now (statement_at statement) }
+    ensures { row_of_refusal result ≡ row number name.now (statement_at statement) }
 {
     Refusal::new(number, name, About::At(u64::from(statement)))
 }

@@ -4,7 +4,7 @@ ghost use Rattle.std.specs.Prelude.{◌≡◌, ◌↔◌, List, length};
 ghost use Rattle.pp_plan.specs.declared.action.Action.{Action};
 ghost use Rattle.pp_plan.specs.declared.action.Ask.TheVariants.{End};
 ghost use Rattle.pp_plan.specs.Asked.{asked};
-ghost use Rattle.pp_plan.specs.Cursor.{Names, IsAskOf};
+ghost use Rattle.pp_plan.specs.Cursor.{NamesAction, IsAskOf};
 ghost use Rattle.pp_plan.specs.PlanTraces.{IsTraceOf, PlanAsks};
 ghost use Rattle.pp_plan.specs.Terms.{Terms, IsPlan};
 ghost use Rattle.pp_plan.specs.Traces.{Begins};
@@ -13,7 +13,7 @@ ghost use Rattle.pp_plan.specs.Traces.{Begins};
 pub fn asked_is_what_traces_say()
     // The plan asks an action if and only if the function's value names it.
     ensures named { (p : Terms) (t : List Action) (a : Action) → IsPlan p
-        → PlanAsks p t a ↔ Names p.layout (asked p t) a }
+        → PlanAsks p t a ↔ NamesAction p.layout (asked p t) a }
     // A list that begins a trace is a whole trace if and only if the value is the end.
     ensures ended { (p : Terms) (t : List Action) → IsPlan p → Begins p.layout p.body t
         → IsTraceOf p t ↔ (asked p t ≡ End) }

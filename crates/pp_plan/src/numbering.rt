@@ -5,7 +5,7 @@ ghost use Rattle.pp_plan.specs.Numbering.{in_byte_order, place_in, numbered, num
 ghost use Rattle.pp_plan.specs.View.{statement_of};
 
 use crate::limits::MOST_SLOTS;
-use crate::progress::place_of;
+use crate::progress::position_of;
 use crate::stmt::{Body, Branches, Stmt};
 use std::alloc::AllocError;
 
@@ -28,7 +28,7 @@ pub(crate) fn new_numbers(ordered: &[String], names: &[String]) -> [u8; MOST_SLO
 {
     let mut numbers = [0; MOST_SLOTS];
     for slot in 0..names.len() {
-        numbers[slot] = place_of(ordered, names[slot].as_str()).unwrap_or(0);
+        numbers[slot] = position_of(ordered, names[slot].as_str()).unwrap_or(0);
     }
     numbers
 }

@@ -14,7 +14,7 @@ ghost use Rattle.pp_plan.specs.Faults.{Fault, HasFault, TellsFirst};
 ghost use Rattle.pp_plan.specs.View.{sequence_of};
 ghost use Rattle.pp_plan.specs.PlanTraces.{IsTraceOf};
 ghost use Rattle.pp_plan.specs.declared.action.Action.{Action};
-ghost use Rattle.pp_plan.specs.Refusals.{is_memory};
+ghost use Rattle.pp_plan.specs.Refusals.{is_plan_memory};
 ghost use Rattle.pp_text.specs.Steps.{Gives};
 ghost use Rattle.pp_plan.specs.Reading.{reading};
 ghost use Rattle.pp_plan.specs.Writing.{plan_text};
@@ -22,7 +22,7 @@ ghost use Rattle.pp_plan.specs.Writing.{plan_text};
 use crate::error::PlanError;
 use crate::limits::MOST_DEPTH;
 use crate::numbering::{in_byte_order, new_numbers, renumber};
-use crate::progress::{Progress, place_of};
+use crate::progress::{Progress, position_of};
 use crate::reading::read_body;
 use crate::shape::statements_at;
 use crate::stmt::{Body, Stmt};
@@ -59,7 +59,7 @@ impl Model for Plan {
 
 /// The JSON value that the text is.
 fn value_of(alloc: Global, text: &str) -> Result<Value, PlanError>
-    ensures { Gives is_memory view result (ok_or (read text.now) NotJson) }
+    ensures { Gives is_plan_memory view result (ok_or (read text.now) NotJson) }
 {
     match Value::from_str(alloc, text) {
         Ok(value) => Ok(value),
@@ -71,7 +71,7 @@ fn value_of(alloc: Global, text: &str) -> Result<Value, PlanError>
 /// The plan that the text spells, or the first refusal.
 #[tactic(auto, unfolding(crate::specs::Reading::reading))]
 fn read_plan(alloc: Global, settings: &Settings, text: &str) -> Result<Plan, PlanError>
-    ensures gives { Gives is_memory (λ (t : Terms). t) result (reading settings.now text.now) }
+    ensures gives { Gives is_plan_memory (λ (t : Terms). t) result (reading settings.now text.now) }
     // What holds of all settings.
     ensures settings { IfOk result (λ _. IsConfiguration settings.now) }
 {
@@ -98,13 +98,14 @@ impl Plan {
         // What is read is spelled so, each statement and nothing else, and keeps the rules.
         ensures found { IfOk result (IsText settings.now text.now) }
         // What is spelled so and keeps the rules is read, unless memory runs out.
-        ensures only { (t : Terms) → IsText settings.now text.now t → Gives is_memory (λ (u : Terms). u) result (Ok t) }
+        ensures only { (t : Terms) → IsText settings.now text.now t
+            → Gives is_plan_memory (λ (u : Terms). u) result (Ok t) }
         // A text that is accepted has no fault.
         ensures faultless { IfOk result (λ _. (f : Fault) → ¬ HasFault settings.now (read text.now) f) }
         // A refusal tells a fault of the text, the first one in the order, unless memory runs out.
         ensures first { IfErr result (λ e. e ≢ OutOfMemory → TellsFirst settings.now (read text.now) e) }
         // The same as a function of the text.
-        ensures exact { Gives is_memory (λ (u : Terms). u) result (reading settings.now text.now) }
+        ensures exact { Gives is_plan_memory (λ (u : Terms). u) result (reading settings.now text.now) }
         // The plan is one of the settings' layout.
         ensures layout { IfOk result (λ t. t.layout ≡ geometry_of settings.now) }
     {
@@ -167,6 +168,6 @@ impl Plan {
     pub fn slot(&self, name: &str) -> Option<u8>
         ensures { result ≡ slot_named self.now name.now }
     {
-        place_of(&self.slots, name)
+        position_of(&self.slots, name)
     }
 }

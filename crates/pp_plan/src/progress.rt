@@ -1,9 +1,9 @@
 //! How far the reading of a plan is.
 
 ghost use Rattle.std.specs.Prelude.{◌≡◌, ◌≤◌, IfOk, length, map, string_bytes, ℕ};
-ghost use Rattle.pp_plan.specs.Refusals.{is_memory};
+ghost use Rattle.pp_plan.specs.Refusals.{is_plan_memory};
 ghost use Rattle.pp_text.specs.Steps.{Gives, Reads};
-ghost use Rattle.pp_plan.specs.Numbering.{place_of};
+ghost use Rattle.pp_plan.specs.Numbering.{position_of};
 ghost use Rattle.pp_plan.specs.Reading.{start, begun, used, slot_of};
 ghost use Rattle.pp_plan.specs.Names.{is_slot_name};
 
@@ -32,9 +32,9 @@ impl Model for Progress {
 }
 
 /// The place of the name among the names.
-pub(crate) fn place_of(names: &[String], name: &str) -> Option<u8>
+pub(crate) fn position_of(names: &[String], name: &str) -> Option<u8>
     requires { length names.now ≤ 256 }
-    ensures { result ≡ place_of (map string_bytes names.now) name.now }
+    ensures { result ≡ position_of (map string_bytes names.now) name.now }
 {
     match names.iter().position(|n| n.as_str() == name) {
         Some(place) => Some(place as u8),
@@ -75,9 +75,9 @@ impl Progress {
         number: u32,
         name: &str,
     ) -> Result<u8, PlanError>
-        ensures { Gives is_memory (λ k. (self.new, k)) result (used number self.old name.now) }
+        ensures { Gives is_plan_memory (λ k. (self.new, k)) result (used number self.old name.now) }
     {
-        if let Some(place) = place_of(&self.names, name) {
+        if let Some(place) = position_of(&self.names, name) {
             return Ok(place);
         }
         let place = self.names.len();
@@ -92,7 +92,7 @@ impl Progress {
     /// The same of a name that has to be in form.
     #[tactic(auto, unfolding(crate::specs::Reading::slot_of))]
     pub(crate) fn slot(&mut self, alloc: Global, number: u32, name: &str) -> Result<u8, PlanError>
-        ensures { Gives is_memory (λ k. (self.new, k)) result (slot_of number self.old name.now) }
+        ensures { Gives is_plan_memory (λ k. (self.new, k)) result (slot_of number self.old name.now) }
     {
         if !is_slot_name(name) {
             return Err(PlanError::BadName(number));

@@ -3,13 +3,13 @@
 ghost use Rattle.std.specs.Prelude.{◌≡◌, ◌&&◌, ◌==◌, not, nat_le, ℕ, Ok};
 ghost use Rattle.serde_json.specs.View.{view, items_view};
 ghost use Rattle.pp_settings.specs.Settings.{region_named};
-ghost use Rattle.pp_plan.specs.Refusals.{is_memory};
+ghost use Rattle.pp_plan.specs.Refusals.{is_plan_memory};
 ghost use Rattle.pp_text.specs.Steps.{Gives};
-ghost use Rattle.pp_plan.specs.Tree.{Statement, Sequence, done, none};
+ghost use Rattle.pp_plan.specs.Tree.{Statement, Sequence, skip, none};
 ghost use Rattle.pp_plan.specs.View.{statement_of};
 ghost use Rattle.pp_plan.specs.ShapeView.{shape_view};
 ghost use Rattle.pp_plan.specs.Reading.{sequence_from, alternatives_from, fix_by, statement_by, statement_at, items_in};
-ghost use Rattle.pp_plan.specs.Reading.{count_of};
+ghost use Rattle.pp_plan.specs.Reading.{item_count};
 
 use crate::error::PlanError;
 use crate::limits::{MOST_BRANCHES, MOST_TURNS};
@@ -22,17 +22,17 @@ use serde_json::Value;
 use std::alloc::Global;
 
 /// A loop of this count and body may stand.
-#[tactic(auto, using(crate::proofs::Trees::count_of_view))]
+#[tactic(auto, using(crate::proofs::Trees::item_count_view))]
 fn is_loop(count: u64, body: &[Value]) -> bool
-    ensures { result ≡ ((nat_le 1 count && nat_le count MOST_TURNS) && not (count_of (items_view body.now) == 0)) }
+    ensures { result ≡ ((nat_le 1 count && nat_le count MOST_TURNS) && not (item_count (items_view body.now) == 0)) }
 {
     1 <= count && count <= u64::from(MOST_TURNS) && !body.is_empty()
 }
 
 /// A choice of these branches may stand.
-#[tactic(auto, using(crate::proofs::Trees::count_of_view))]
+#[tactic(auto, using(crate::proofs::Trees::item_count_view))]
 fn is_choice(branches: &[Value]) -> bool
-    ensures { let n = count_of (items_view branches.now) in result ≡ (nat_le 1 n && nat_le n MOST_BRANCHES) }
+    ensures { let n = item_count (items_view branches.now) in result ≡ (nat_le 1 n && nat_le n MOST_BRANCHES) }
 {
     1 <= branches.len() && branches.len() <= MOST_BRANCHES
 }
@@ -57,8 +57,8 @@ pub(crate) fn read_body(
     progress: &mut Progress,
     items: &[Value],
 ) -> Result<Body, PlanError>
-    ensures { Gives is_memory (λ b. (progress.new, b)) result
-        (sequence_from (statement_at (region_named settings.now) levels) done progress.old (items_view items.now)) }
+    ensures { Gives is_plan_memory (λ b. (progress.new, b)) result
+        (sequence_from (statement_at (region_named settings.now) levels) skip progress.old (items_view items.now)) }
 {
     let mut stmts = Vec::new(alloc);
     for value in items {
@@ -78,7 +78,7 @@ fn read_branches(
     progress: &mut Progress,
     lists: &[Value],
 ) -> Result<Branches, PlanError>
-    ensures { Gives is_memory (λ b. (progress.new, b)) result
+    ensures { Gives is_plan_memory (λ b. (progress.new, b)) result
         (alternatives_from (statement_at (region_named settings.now) levels) none progress.old (items_view lists.now)) }
 {
     let mut bodies = Vec::new(alloc);
@@ -98,7 +98,7 @@ fn read_statement(
     progress: &mut Progress,
     value: &Value,
 ) -> Result<Stmt, PlanError>
-    ensures { Gives is_memory (λ s. (progress.new, statement_of s)) result
+    ensures { Gives is_plan_memory (λ s. (progress.new, statement_of s)) result
         (statement_at (region_named settings.now) levels progress.old (view value.now)) }
 {
     let number = progress.begin()?;
@@ -119,7 +119,7 @@ fn read_fix(
     slot: &str,
     region: &str,
 ) -> Result<Stmt, PlanError>
-    ensures { Gives is_memory (λ s. (progress.new, statement_of s)) result
+    ensures { Gives is_plan_memory (λ s. (progress.new, statement_of s)) result
         (fix_by (region_named settings.now) number progress.old slot.now region.now) }
 {
     if !is_slot_name(slot) {
@@ -143,7 +143,7 @@ fn read_shape(
     number: u32,
     shape: Shape<'_>,
 ) -> Result<Stmt, PlanError>
-    ensures { Gives is_memory (λ s. (progress.new, statement_of s)) result
+    ensures { Gives is_plan_memory (λ s. (progress.new, statement_of s)) result
         (statement_by (region_named settings.now) (statement_at (region_named settings.now) levels) number progress.old
         (shape_view shape.entry)) }
 {

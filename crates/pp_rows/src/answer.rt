@@ -1,7 +1,7 @@
 //! The answers to questions.
 
 use crate::row::Question;
-use pp_judge::{AnnotateFiles, CheckFiles, Contents, Refusal, outcome_of};
+use pp_judge::{AnnotateFiles, CheckFiles, Contents, JudgeError, outcome_of};
 use pp_plan::{Plan, PlanError};
 use pp_settings::{Settings, SettingsError};
 use std::alloc::Global;
@@ -47,10 +47,10 @@ fn settings_answer(alloc: Global, bytes: &[u8]) -> anyhow::Result<String> {
 }
 
 /// The settings of the bytes.
-fn settings_in(alloc: Global, bytes: &[u8]) -> Result<Settings, Refusal> {
+fn settings_in(alloc: Global, bytes: &[u8]) -> Result<Settings, JudgeError> {
     match str::from_utf8(bytes) {
         Ok(text) => Ok(Settings::from_text(alloc, text)?),
-        Err(_) => Err(Refusal::Settings(SettingsError::NotToml)),
+        Err(_) => Err(JudgeError::Settings(SettingsError::NotToml)),
     }
 }
 
@@ -61,11 +61,11 @@ fn plan_answer(alloc: Global, settings: &[u8], plan: &[u8]) -> anyhow::Result<St
         Err(refusal) => return Ok(format!(in alloc; "{refusal}")?),
     };
     let Ok(text) = str::from_utf8(plan) else {
-        return Ok(format!(in alloc; "{}", Refusal::Plan(PlanError::NotJson))?);
+        return Ok(format!(in alloc; "{}", JudgeError::Plan(PlanError::NotJson))?);
     };
     match Plan::from_text(alloc, &settings, text) {
         Ok(plan) => Ok(plan.to_text(alloc, &settings)?),
-        Err(error) => Ok(format!(in alloc; "{}", Refusal::Plan(error))?),
+        Err(error) => Ok(format!(in alloc; "{}", JudgeError::Plan(error))?),
     }
 }
 

@@ -20,7 +20,7 @@ use Rattle.pp_settings.specs.declared.key.Spot.TheVariants.{Top, InRegion}
 use Rattle.pp_settings.specs.Keys.{key_of, known_keys}
 use Rattle.pp_settings.specs.Layout.{IsApart}
 use Rattle.pp_settings.specs.Settings.{NamedRegion, Configuration, IsNamedRegion, IsConfiguration}
-use Rattle.pp_settings.specs.Refusals.{is_memory}
+use Rattle.pp_settings.specs.Refusals.{is_settings_memory}
 use Rattle.pp_settings.specs.Reading.{configuration_of, reading}
 use Rattle.pp_settings.specs.Spelling.{HasOnly, Holds, SpellsRegion, SpellsRegions, Spells}
 use Rattle.pp_settings.specs.Faults.{table_of, home_of, value_of, IsAllowed, HasPageAt, HasFault}
@@ -221,7 +221,7 @@ text_clear text c gives f =
 
 -- a text that was accepted has none
 pub accepted_clear : (text : List ℕ) (r : Result Configuration SettingsError)
-    → Gives is_memory (λ (c : Configuration). c) r (reading text)
+    → Gives is_settings_memory (λ (c : Configuration). c) r (reading text)
     → IfOk r (λ c. (f : SettingsError) → ¬ HasFault (parse_document text) f)
 accepted_clear text (Ok c) gives = text_clear text c gives
 accepted_clear text (Err e) gives = tt

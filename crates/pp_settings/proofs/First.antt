@@ -14,7 +14,7 @@ use Rattle.toml.specs.Data.{Data, string, integer, array, table, Items, no_items
 use Rattle.toml.specs.Data.{as_table, as_array}
 use Rattle.pp_text.proofs.Steps.{must_ok}
 use Rattle.pp_settings.specs.declared.extent.Extent.{Extent}
-use Rattle.pp_settings.specs.Refusals.{is_memory}
+use Rattle.pp_settings.specs.Refusals.{is_settings_memory}
 use Rattle.pp_settings.specs.declared.error.SettingsError.{SettingsError}
 use Rattle.pp_settings.specs.declared.error.SettingsError.TheVariants.{NotToml, Missing, Unknown, Range, SameName}
 use Rattle.pp_settings.specs.declared.error.SettingsError.TheVariants.{Overlap, OutOfMemory}
@@ -28,12 +28,12 @@ use Rattle.pp_settings.specs.Settings.{NamedRegion, Configuration, IsNamedRegion
 use Rattle.pp_text.specs.Steps.{◌>>=◌, must, Refuses, Gives}
 use Rattle.pp_settings.specs.Reading.{keys_known, only_known, value_at, as_number, number_at, as_name, name_at}
 use Rattle.pp_settings.specs.Reading.{extent_at, region_at, has_name, shares_page_with, beside, next_region}
-use Rattle.pp_settings.specs.Reading.{regions_from, are_tables, count_of, as_tables, tables_at, configuration_of}
+use Rattle.pp_settings.specs.Reading.{regions_from, are_tables, table_count, as_tables, tables_at, configuration_of}
 use Rattle.pp_settings.specs.Reading.{reading}
 use Rattle.pp_settings.specs.Spelling.{HasOnly, Holds, SpellsRegion}
 use Rattle.pp_settings.specs.Faults.{table_of, home_of, IsNumber, IsNameText, IsCount, AreRegionTables}
 use Rattle.pp_settings.specs.Faults.{IsAllowed, HasPageAt, HasFault, at_key, at_region, at_regions, in_document, order}
-use Rattle.pp_settings.specs.Faults.{IsFirst}
+use Rattle.pp_text.specs.First.{IsFirst}
 use Rattle.pp_settings.proofs.Laws.{known_found, known_again, as_number_again, number_found, name_found, region_found}
 use Rattle.pp_settings.proofs.Clear.{nameless, some_is, value_is, not_missing, IsClear, key_clear, region_clear}
 use Rattle.pp_settings.proofs.Clear.{SpellsAt, name_there, first_there, count_there, names_clear, pages_clear}
@@ -103,8 +103,9 @@ name_none d none is = none_some (as_name d) is.0 none (ap as_name is.1 ∙ passe
 tables_none : (d : Data) → as_tables d ≡ None → ¬ AreRegionTables d
 tables_none d none is = none_some (as_tables d) is.0 none (ap as_tables is.1 ∙ passes is.0 is.2 is.3 is.4)
   where
-    passes : (ds : Items) → 1 ≤ count_of ds → count_of ds ≤ 64 → IsTrue (are_tables ds) → as_tables (array ds) ≡ Some ds
-    passes ds a b c = rw (counted_again 1 64 (count_of ds) (are_tables ds) a b c) refl
+    passes : (ds : Items) → 1 ≤ table_count ds → table_count ds ≤ 64 → IsTrue (are_tables ds)
+        → as_tables (array ds) ≡ Some ds
+    passes ds a b c = rw (counted_again 1 64 (table_count ds) (are_tables ds) a b c) refl
 
 number_refused : (ms t : Members) (spot : Spot) (low high : ℕ) (rest : List SettingsError) (e : SettingsError)
     → table_of ms (home_of spot) ≡ Some t → ((d : Data) → as_number low high d ≡ None → ¬ IsAllowed ms spot d)
@@ -325,7 +326,7 @@ earlier_more ms earlier r before here j below = elim (cases_lt j (length earlier
 regions_first : (ms : Members) (all : Items) (earlier : List NamedRegion) (ds : Items) (n : ℕ) (e : SettingsError)
     → Holds ms (codes "region") (array all) → are_tables ds ≡ true
     → ((k : ℕ) → get_item (length earlier + k) all ≡ get_item k ds)
-    → Earlier ms earlier → AreRegions earlier → count_of ds ≤ n → regions_from earlier ds ≡ Err e
+    → Earlier ms earlier → AreRegions earlier → table_count ds ≤ n → regions_from earlier ds ≡ Err e
     → Told ms (at_regions (length earlier) n) e
 unfolding at_regions
 regions_first ms all earlier no_items n e held tables left before are room h = absurd cc
@@ -381,13 +382,13 @@ text_first text e h = by_document (parse_document text) h
     by_document (Some ms) h = inr (λ fault. fault, (document_first ms e h).told)
 
 -- what is told is the first fault, unless memory ran out
-pub told_first : (text : List ℕ) (e : SettingsError) → e ≢ OutOfMemory → Refuses (is_memory e) e (reading text)
+pub told_first : (text : List ℕ) (e : SettingsError) → e ≢ OutOfMemory → Refuses (is_settings_memory e) e (reading text)
     → IsFirst (HasFault (parse_document text)) order e
 told_first text OutOfMemory other h = absurd (other refl)
 told_first text e other h = text_first text e h
 
 pub refused_first : (text : List ℕ) (r : Result Configuration SettingsError)
-    → Gives is_memory (λ (c : Configuration). c) r (reading text)
+    → Gives is_settings_memory (λ (c : Configuration). c) r (reading text)
     → IfErr r (λ e. e ≢ OutOfMemory → IsFirst (HasFault (parse_document text)) order e)
 refused_first text (Ok c) gives = tt
 refused_first text (Err e) gives = λ other. told_first text e other gives

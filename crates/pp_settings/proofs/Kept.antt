@@ -18,7 +18,7 @@ use Rattle.pp_settings.specs.Places.{unused, in_use, AreFilled}
 use Rattle.pp_settings.specs.Settings.{NamedRegion, Configuration, AreRegions, IsConfiguration, named, geometry_of}
 use Rattle.pp_settings.specs.Settings.{region_named, name_of}
 use Rattle.pp_settings.proofs.Named.{kept_extents}
-use Rattle.pp_settings.proofs.Pages.{position_only}
+use Rattle.pp_text.proofs.Positions.{position_only}
 
 -- ---- names
 

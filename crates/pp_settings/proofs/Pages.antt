@@ -1,23 +1,19 @@
 -- Which region has a page.
-use Rattle.std.proofs.Common.{◌≡◌, ℕ, ◌<◌, ◌≤◌, ◌+◌, ◌-◌, zero, suc, [], ◌∷◌, max, drop, All, Bool, true, false, List}
+use Rattle.std.proofs.Common.{◌≡◌, ℕ, ◌<◌, ◌≤◌, ◌+◌, ◌-◌, zero, suc, [], ◌∷◌, max, drop, All, true, List}
 use Rattle.std.proofs.Common.{length, get_or, Option, Some, None, option_map, nat_lt, arith, inl, inr, AllPairs, IsTrue}
 use Rattle.std.proofs.Common.{subst, refl, sym, ap, ◌∙◌}
-use Rattle.std.specs.List.{position, position_or_len, find, slice_get}
+use Rattle.std.specs.List.{position_or_len, find, slice_get}
 use Rattle.std.proofs.lemmas.Bool.{cases_lt}
 use Rattle.std.proofs.lemmas.Bool.Decides.{nat_tests}
 use Rattle.std.proofs.lemmas.List.{drop_all}
 use Rattle.std.proofs.lemmas.List.Quantifiers.{position-Some}
 use Rattle.std.proofs.lemmas.List.Folds.{find_at}
-use Rattle.std.proofs.lemmas.List.Sums.{position_or_len_is}
 use Rattle.std.proofs.lemmas.Option.{cond_some, slice_get-get_or, slice_get_within, get_or_from_slice_get}
+use Rattle.pp_text.proofs.Positions.{position_at, position_only}
 use Rattle.pp_settings.specs.declared.extent.Extent.{Extent}
 use Rattle.pp_settings.specs.Places.{unused}
 use Rattle.pp_settings.specs.Layout.{Geometry, has_page, region_of, class_of, end_of, page_count, HasPage, TellsClass}
 use Rattle.pp_settings.specs.Layout.{IsExtent, IsApart, IsLayout}
-
-false_from_not : (b : Bool) → ¬ (b ≡ true) → b ≡ false
-false_from_not true h = absurd (h refl)
-false_from_not false h = refl
 
 -- no page lies in two extents that are apart
 apart_shares : (d e : Extent) (page : ℕ) → IsApart d e → has_page page d ≡ true → has_page page e ≡ true → ⊥
@@ -27,22 +23,10 @@ apart_shares d e page (inr h) a b = grind (arith, nat_tests)
 none_some : {A : Type 0} (o : Option A) (x : A) → o ≡ None → o ≡ Some x → ⊥
 none_some o x a b = absurd cc
 
--- the first place that passes is the position
-position_at : {X : Type 0} (p : X → Bool) (xs : List X) (i : ℕ) → position_or_len p xs ≡ i → i < length xs
-    → position p xs ≡ Some i
-position_at p xs i first within = rw first (grind (arith, nat_tests))
-
 pub region_has : (g : Geometry) (page r : ℕ) → region_of g page ≡ Some r → HasPage g r page
 region_has g page r is =
     let (within, passes, _) = position-Some (has_page page) g.extents r unused is in
     (get_or g.extents r unused, slice_get-get_or g.extents r unused within, passes)
-
--- the one place that passes is the position
-pub position_only : {X : Type 0} (p : X → Bool) (xs : List X) (i : ℕ) (d : X) → i < length xs
-    → p (get_or xs i d) ≡ true → ((k : ℕ) → k < i → p (get_or xs k d) ≡ true → ⊥) → position p xs ≡ Some i
-position_only p xs i d within passes others =
-    position_at p xs i (position_or_len_is p xs i d (omega (arith, within))
-    (λ k below. false_from_not (p (get_or xs k d)) (others k below)) (λ w. passes)) within
 
 pub region_only : (g : Geometry) (page r : ℕ) → AllPairs IsApart g.extents → HasPage g r page
     → region_of g page ≡ Some r

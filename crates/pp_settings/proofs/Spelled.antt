@@ -18,7 +18,7 @@ use Rattle.toml.specs.Data.{Data, string, integer, float, boolean, datetime, arr
 use Rattle.toml.specs.Data.{Members, as_table}
 use Rattle.pp_text.proofs.Steps.{bind_ok, must_ok, ok_or_ok, ok_is}
 use Rattle.pp_settings.specs.declared.extent.Extent.{Extent}
-use Rattle.pp_settings.specs.Refusals.{is_memory}
+use Rattle.pp_settings.specs.Refusals.{is_settings_memory}
 use Rattle.pp_settings.specs.declared.error.SettingsError.{SettingsError}
 use Rattle.pp_settings.specs.declared.error.SettingsError.TheVariants.{NotToml, SameName, Range}
 use Rattle.pp_settings.specs.declared.key.TopKey.TheVariants.{Frames, PageBytes, Workers, Flushes, Region}
@@ -27,7 +27,7 @@ use Rattle.pp_settings.specs.Layout.{IsApart, shares_page}
 use Rattle.pp_settings.specs.Settings.{NamedRegion, Configuration, IsNamedRegion, AreRegions, IsConfiguration}
 use Rattle.pp_text.specs.Steps.{must, Gives}
 use Rattle.pp_settings.specs.Reading.{only_known, number_at, value_at, region_at, has_name, shares_page_with, beside}
-use Rattle.pp_settings.specs.Reading.{next_region, regions_from, are_tables, count_of, are_regions, as_tables}
+use Rattle.pp_settings.specs.Reading.{next_region, regions_from, are_tables, table_count, are_regions, as_tables}
 use Rattle.pp_settings.specs.Reading.{tables_at, configuration_of, reading}
 use Rattle.pp_settings.specs.Spelling.{Holds, SpellsRegion, SpellsRegions, Spells, IsText}
 use Rattle.pp_settings.proofs.Laws.{known_found, known_again, number_found, number_again, region_found, region_again}
@@ -192,11 +192,11 @@ pub counted_again : (low high n : ℕ) (b : Bool) → low ≤ n → n ≤ high �
 counted_again low high n b p q e = grind (arith, nat_tests)
 
 pub tables_is : (d : Data) (ds : Items) → as_tables d ≡ Some ds
-    → (d ≡ array ds) × (1 ≤ count_of ds) × (count_of ds ≤ 64) × (are_tables ds ≡ true)
+    → (d ≡ array ds) × (1 ≤ table_count ds) × (table_count ds ≤ 64) × (are_tables ds ≡ true)
 tables_is (array es) ds e =
     let (passed, is) = cond_some (are_regions es) es ds e in
-    let (a, b, c) = counted 1 64 (count_of es) (are_tables es) passed in
-    subst (λ (x : Items). (array es ≡ array x) × (1 ≤ count_of x) × (count_of x ≤ 64) × (are_tables x ≡ true)) is
+    let (a, b, c) = counted 1 64 (table_count es) (are_tables es) passed in
+    subst (λ (x : Items). (array es ≡ array x) × (1 ≤ table_count x) × (table_count x ≤ 64) × (are_tables x ≡ true)) is
     (refl, a, b, c)
 tables_is (integer z) ds e = absurd cc
 tables_is (string z) ds e = absurd cc
@@ -206,7 +206,7 @@ tables_is (datetime z) ds e = absurd cc
 tables_is (table z) ds e = absurd cc
 
 pub tables_found : (ms : Members) (ds : Items) → tables_at (Top Region) ms ≡ Ok ds
-    → Holds ms (codes "region") (array ds) × (1 ≤ count_of ds) × (count_of ds ≤ 64) × (are_tables ds ≡ true)
+    → Holds ms (codes "region") (array ds) × (1 ≤ table_count ds) × (table_count ds ≤ 64) × (are_tables ds ≡ true)
 unfolding tables_at
 tables_found ms ds e =
     let (d, found, tested) = bind_ok (value_at (Top Region) ms) _ ds e in
@@ -214,16 +214,16 @@ tables_found ms ds e =
     (ok_or_ok _ _ d found ∙ ap (λ (x : Data). Some x) is, a, b, t)
 
 pub spelled_tables : (ds : Items) (rs : List NamedRegion) → SpellsRegions ds rs
-    → (are_tables ds ≡ true) × (count_of ds ≡ length rs)
+    → (are_tables ds ≡ true) × (table_count ds ≡ length rs)
 spelled_tables no_items [] s = (refl, refl)
 spelled_tables no_items (r ∷ rs) s = absurd s
 spelled_tables (item (table ms) ds) (r ∷ rs) s = let (a, b) = spelled_tables ds rs s.1 in (a, omega (arith, b))
 spelled_tables (item d ds) rs s = absurd s
 
 tables_again : (ms : Members) (ds : Items) → Holds ms (codes "region") (array ds) → are_tables ds ≡ true
-    → 1 ≤ count_of ds → count_of ds ≤ 64 → tables_at (Top Region) ms ≡ Ok ds
+    → 1 ≤ table_count ds → table_count ds ≤ 64 → tables_at (Top Region) ms ≡ Ok ds
 unfolding tables_at
-tables_again ms ds held are a b = rw (held, counted_again 1 64 (count_of ds) (are_tables ds) a b are) refl
+tables_again ms ds held are a b = rw (held, counted_again 1 64 (table_count ds) (are_tables ds) a b are) refl
 
 pub configuration_found : (ms : Members) (c : Configuration) → configuration_of ms ≡ Ok c
     → Spells ms c × IsConfiguration c
@@ -284,7 +284,7 @@ configuration_again ms c s h =
 -- ---- the text
 
 pub text_found : (text : List ℕ) (r : Result Configuration SettingsError)
-    → Gives is_memory (λ (c : Configuration). c) r (reading text) → IfOk r (IsText text)
+    → Gives is_settings_memory (λ (c : Configuration). c) r (reading text) → IfOk r (IsText text)
 text_found text (Ok c) gives =
     let (ms, parsed, e) = bind_ok (ok_or (parse_document text) NotToml) configuration_of c gives in
     let (s, h) = configuration_found ms c e in
@@ -292,8 +292,9 @@ text_found text (Ok c) gives =
 text_found text (Err d) gives = tt
 
 pub text_only : (text : List ℕ) (r : Result Configuration SettingsError) (c : Configuration)
-    → Gives is_memory (λ (c : Configuration). c) r (reading text) → IsText text c
-    → Gives is_memory (λ (c : Configuration). c) r (Ok c)
+    → Gives is_settings_memory (λ (c : Configuration). c) r (reading text) → IsText text c
+    → Gives is_settings_memory (λ (c : Configuration). c) r (Ok c)
 text_only text r c gives (ms, parsed, s, h) =
     let read : reading text ≡ Ok c = rw (parsed, configuration_again ms c s h) refl in
-    subst (λ (x : Result Configuration SettingsError). Gives is_memory (λ (c : Configuration). c) r x) read gives
+    subst (λ (x : Result Configuration SettingsError). Gives is_settings_memory (λ (c : Configuration). c) r x) read
+    gives

@@ -16,7 +16,7 @@ use Rattle.pp_settings.specs.declared.key.Spot.{Spot}
 use Rattle.pp_settings.specs.declared.error.SettingsError.TheVariants.{Missing}
 use Rattle.pp_settings.specs.Keys.{key_of}
 use Rattle.pp_text.specs.Steps.{Reads}
-use Rattle.pp_settings.specs.Reading.{is_known, keys_known, value_at, are_tables, count_of}
+use Rattle.pp_settings.specs.Reading.{is_known, keys_known, value_at, are_tables, table_count}
 
 known_in : (region : Option ℕ) (es : List (String Global × Value))
     → list_all (λ k. is_known region (string_bytes k)) (keys_of es) ≡ keys_known region (members_view es)
@@ -44,9 +44,9 @@ pub are_tables_view : (vs : List Value) → list_all (λ v. is_some (as_table (v
 are_tables_view [] = refl
 are_tables_view (v ∷ vs) = ap (λ b. is_some (as_table (view v)) && b) (are_tables_view vs)
 
-pub count_of_view : (vs : List Value) → count_of (items_view vs) ≡ length vs
-count_of_view [] = refl
-count_of_view (v ∷ vs) = omega (arith, count_of_view vs)
+pub table_count_view : (vs : List Value) → table_count (items_view vs) ≡ length vs
+table_count_view [] = refl
+table_count_view (v ∷ vs) = omega (arith, table_count_view vs)
 
 position_or_len_map : {A B : Type 0} (p : B → Bool) (f : A → B) (xs : List A)
     → position_or_len p (map f xs) ≡ position_or_len (λ x. p (f x)) xs

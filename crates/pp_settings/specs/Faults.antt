@@ -1,5 +1,5 @@
 -- The faults of a document, each said by itself, and the order in which they are told: the refusal is the first.
-use Rattle.std.specs.Prelude.{◌≡◌, ◌⊎◌, ℕ, zero, suc, ◌+◌, ◌≤◌, ◌<◌, pos, List, [], ◌∷◌, IsTrue, Option, None, Some}
+use Rattle.std.specs.Prelude.{◌≡◌, ℕ, zero, suc, ◌+◌, ◌≤◌, ◌<◌, pos, List, [], ◌∷◌, IsTrue, Option, None, Some}
 use Rattle.std.specs.Prelude.{option_and_then, codes}
 use Rattle.toml.specs.Data.{Data, string, integer, array, Items, Members, get_member, get_item, as_table, as_array}
 use Rattle.pp_settings.specs.declared.key.TopKey.TheVariants.{Frames, PageBytes, Workers, Flushes, Region}
@@ -10,8 +10,10 @@ use Rattle.pp_settings.specs.declared.error.SettingsError.{SettingsError}
 use Rattle.pp_settings.specs.declared.error.SettingsError.TheVariants.{NotToml, Missing, Unknown, Range, Overlap}
 use Rattle.pp_settings.specs.declared.error.SettingsError.TheVariants.{SameName}
 use Rattle.pp_settings.specs.Keys.{key_of, known_keys}
+use Rattle.pp_settings.specs.Limits.{most_frames, fewest_page_bytes, most_page_bytes, most_workers, most_flushes}
+use Rattle.pp_settings.specs.Limits.{most_regions, page_numbers, greatest_page, greatest_class}
 use Rattle.pp_settings.specs.Settings.{is_region_name}
-use Rattle.pp_settings.specs.Reading.{count_of, are_tables}
+use Rattle.pp_settings.specs.Reading.{table_count, are_tables}
 use Rattle.pp_settings.specs.Spelling.{HasOnly}
 
 -- ---- where a value stands
@@ -45,22 +47,23 @@ IsNameText d = (name : List ℕ) × (d ≡ string name) × IsTrue (is_region_nam
 abbrev pub IsCount : Members → ℕ → Data → Type 0
 IsCount ms i d =
     (first n : ℕ) × (value_of ms (InRegion i First) ≡ Some (integer (pos first))) × (d ≡ integer (pos n)) × (1 ≤ n)
-    × (first + n ≤ 65536)
+    × (first + n ≤ page_numbers)
 
 -- An array of 1 to 64 tables.
 abbrev pub AreRegionTables : Data → Type 0
-AreRegionTables d = (ds : Items) × (d ≡ array ds) × (1 ≤ count_of ds) × (count_of ds ≤ 64) × IsTrue (are_tables ds)
+AreRegionTables d =
+    (ds : Items) × (d ≡ array ds) × (1 ≤ table_count ds) × (table_count ds ≤ most_regions) × IsTrue (are_tables ds)
 
 abbrev pub IsAllowed : Members → Spot → Data → Type 0
-IsAllowed ms (Top Frames) d = IsNumber 1 4096 d
-IsAllowed ms (Top PageBytes) d = IsNumber 64 65536 d
-IsAllowed ms (Top Workers) d = IsNumber 1 32 d
-IsAllowed ms (Top Flushes) d = IsNumber 0 100000 d
+IsAllowed ms (Top Frames) d = IsNumber 1 most_frames d
+IsAllowed ms (Top PageBytes) d = IsNumber fewest_page_bytes most_page_bytes d
+IsAllowed ms (Top Workers) d = IsNumber 1 most_workers d
+IsAllowed ms (Top Flushes) d = IsNumber 0 most_flushes d
 IsAllowed ms (Top Region) d = AreRegionTables d
 IsAllowed ms (InRegion i Name) d = IsNameText d
-IsAllowed ms (InRegion i First) d = IsNumber 0 65535 d
+IsAllowed ms (InRegion i First) d = IsNumber 0 greatest_page d
 IsAllowed ms (InRegion i Count) d = IsCount ms i d
-IsAllowed ms (InRegion i Class) d = IsNumber 0 63 d
+IsAllowed ms (InRegion i Class) d = IsNumber 0 greatest_class d
 
 -- ---- the faults
 
@@ -106,13 +109,8 @@ abbrev pub in_document : List SettingsError
 in_document =
     Unknown None ∷ at_key (Top Frames) (at_key (Top PageBytes)
     (at_key (Top Workers) (at_key (Top Flushes) (at_key (Top Region)
-    (at_regions 0 64)))))
+    (at_regions 0 most_regions)))))
 
 -- All refusals of a text, in the order in which they are told.
 abbrev pub order : List SettingsError
 order = NotToml ∷ in_document
-
--- e is the first of the list that holds.
-abbrev pub IsFirst : (SettingsError → Type 0) → List SettingsError → SettingsError → Type 0
-IsFirst Has [] e = ⊥
-IsFirst Has (f ∷ fs) e = ((f ≡ e) × Has f) ⊎ ((¬ Has f) × IsFirst Has fs e)

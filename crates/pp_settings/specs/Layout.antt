@@ -1,6 +1,7 @@
 -- A layout: the frames of a pool, and the regions of pages, each a run of page numbers with a class.
 use Rattle.std.specs.Prelude.{◌≡◌, ℕ, ◌+◌, ◌≤◌, ◌&&◌, ◌⊎◌, nat_le, nat_lt, Bool, Option, option_map, List, [], ◌∷◌, max}
 use Rattle.std.specs.Prelude.{length, All, AllPairs, IsTrue, slice_get, position, find, Some, None}
+use Rattle.pp_settings.specs.Limits.{most_frames, most_regions, page_numbers, greatest_class}
 use Rattle.pp_settings.specs.declared.extent.Extent.{Extent}
 
 -- The number of frames, and the regions' extents; a region's number is its place in this list.
@@ -54,8 +55,8 @@ page_count g = end_of g.extents
 -- A region has a page at least, its pages are numbered below 65,536, and its class is below 64.
 pub record IsExtent (e : Extent) : Type 0 where
   pub some : 1 ≤ e.count
-  pub ends : e.first + e.count ≤ 65536
-  pub class : e.class ≤ 63
+  pub ends : e.first + e.count ≤ page_numbers
+  pub class : e.class ≤ greatest_class
 
 -- Two regions share no page.
 abbrev pub IsApart : Extent → Extent → Type 0
@@ -63,7 +64,7 @@ IsApart d e = (d.first + d.count ≤ e.first) ⊎ (e.first + e.count ≤ d.first
 
 -- 1 to 4,096 frames, and 1 to 64 regions, disjoint.
 pub record IsLayout (g : Geometry) : Type 0 where
-  pub frames : (1 ≤ g.frames) × (g.frames ≤ 4096)
-  pub count : (1 ≤ length g.extents) × (length g.extents ≤ 64)
+  pub frames : (1 ≤ g.frames) × (g.frames ≤ most_frames)
+  pub count : (1 ≤ length g.extents) × (length g.extents ≤ most_regions)
   pub extents : All IsExtent g.extents
   pub apart : AllPairs IsApart g.extents

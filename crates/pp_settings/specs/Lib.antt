@@ -1,3 +1,4 @@
+pub mod Limits
 pub mod Layout
 pub mod Places
 pub mod Keys

@@ -17,6 +17,8 @@ use Rattle.pp_settings.specs.declared.error.SettingsError.{SettingsError}
 use Rattle.pp_settings.specs.declared.error.SettingsError.TheVariants.{NotToml, Missing, Unknown, Range, Overlap}
 use Rattle.pp_settings.specs.declared.error.SettingsError.TheVariants.{SameName}
 use Rattle.pp_settings.specs.Keys.{key_of, known_keys}
+use Rattle.pp_settings.specs.Limits.{most_frames, fewest_page_bytes, most_page_bytes, most_workers, most_flushes}
+use Rattle.pp_settings.specs.Limits.{most_regions, page_numbers, greatest_page, greatest_class}
 use Rattle.pp_settings.specs.Layout.{shares_page}
 use Rattle.pp_settings.specs.Settings.{NamedRegion, Configuration, is_region_name}
 
@@ -64,9 +66,9 @@ name_at spot ms = do
 -- Where the region with number i lies.
 unfoldable pub extent_at : ℕ → Members → Result Extent SettingsError
 extent_at i ms = do
-  first ← number_at (InRegion i First) 0 65535 ms
-  count ← number_at (InRegion i Count) 1 (65536 - first) ms
-  class ← number_at (InRegion i Class) 0 63 ms
+  first ← number_at (InRegion i First) 0 greatest_page ms
+  count ← number_at (InRegion i Count) 1 (page_numbers - first) ms
+  class ← number_at (InRegion i Class) 0 greatest_class ms
   Ok (record { first = first; count = count; class = class })
 
 -- The region with number i.
@@ -110,13 +112,13 @@ abbrev pub are_tables : Items → Bool
 are_tables no_items = true
 are_tables (item d ds) = is_some (as_table d) && are_tables ds
 
-abbrev pub count_of : Items → ℕ
-count_of no_items = 0
-count_of (item d ds) = count_of ds + 1
+abbrev pub table_count : Items → ℕ
+table_count no_items = 0
+table_count (item d ds) = table_count ds + 1
 
 -- An array of 1 to 64 tables.
 abbrev pub are_regions : Items → Bool
-are_regions ds = (nat_le 1 (count_of ds) && nat_le (count_of ds) 64) && are_tables ds
+are_regions ds = (nat_le 1 (table_count ds) && nat_le (table_count ds) most_regions) && are_tables ds
 
 abbrev pub as_tables : Data → Option Items
 as_tables (array ds) = if are_regions ds then Some ds else None
@@ -130,10 +132,10 @@ tables_at spot ms = do
 unfoldable pub configuration_of : Members → Result Configuration SettingsError
 configuration_of ms = do
   known ← only_known None ms
-  frames ← number_at (Top Frames) 1 4096 ms
-  page_bytes ← number_at (Top PageBytes) 64 65536 ms
-  workers ← number_at (Top Workers) 1 32 ms
-  flushes ← number_at (Top Flushes) 0 100000 ms
+  frames ← number_at (Top Frames) 1 most_frames ms
+  page_bytes ← number_at (Top PageBytes) fewest_page_bytes most_page_bytes ms
+  workers ← number_at (Top Workers) 1 most_workers ms
+  flushes ← number_at (Top Flushes) 0 most_flushes ms
   tables ← tables_at (Top Region) ms
   regions ← regions_from [] tables
   Ok (record { frames = frames; page_bytes = page_bytes; workers = workers; flushes = flushes; regions = regions })

@@ -15,20 +15,20 @@ spot_matter (Top k) = key (top_key k)
 spot_matter (InRegion i k) = key_of_region i (region_key k)
 
 -- The number of each refusal, its name, and what it is about.
-abbrev pub refusal_row : SettingsError → Row
-refusal_row NotToml = row 1 (codes "NotToml") nothing
-refusal_row (Missing spot) = row 2 (codes "Missing") (spot_matter spot)
-refusal_row (Unknown None) = row 3 (codes "Unknown") top
-refusal_row (Unknown (Some i)) = row 3 (codes "Unknown") (region i)
-refusal_row (Range spot) = row 4 (codes "Range") (spot_matter spot)
-refusal_row (Overlap i) = row 5 (codes "Overlap") (region i)
-refusal_row (SameName i) = row 6 (codes "SameName") (region i)
-refusal_row OutOfMemory = row 7 (codes "OutOfMemory") nothing
+abbrev pub settings_error_row : SettingsError → Row
+settings_error_row NotToml = row 1 (codes "NotToml") nothing
+settings_error_row (Missing spot) = row 2 (codes "Missing") (spot_matter spot)
+settings_error_row (Unknown None) = row 3 (codes "Unknown") top
+settings_error_row (Unknown (Some i)) = row 3 (codes "Unknown") (region i)
+settings_error_row (Range spot) = row 4 (codes "Range") (spot_matter spot)
+settings_error_row (Overlap i) = row 5 (codes "Overlap") (region i)
+settings_error_row (SameName i) = row 6 (codes "SameName") (region i)
+settings_error_row OutOfMemory = row 7 (codes "OutOfMemory") nothing
 
 -- Want of memory, which says nothing of the text.
-abbrev pub is_memory : SettingsError → Bool
-is_memory OutOfMemory = true
-is_memory _ = false
+abbrev pub is_settings_memory : SettingsError → Bool
+is_settings_memory OutOfMemory = true
+is_settings_memory _ = false
 
 -- A spot for people: its key, with its region before it.
 abbrev pub spot_text : Spot → List ℕ

@@ -3,6 +3,8 @@ use Rattle.std.specs.Prelude.{◌≢◌, ℕ, ◌≤◌, List, [], ◌∷◌, le
 use Rattle.std.specs.Prelude.{slice_get, position}
 use Rattle.std.specs.Str.{bytes_eq}
 use Rattle.pp_text.specs.Names.{is_name}
+use Rattle.pp_settings.specs.Limits.{most_frames, fewest_page_bytes, most_page_bytes, most_workers, most_flushes}
+use Rattle.pp_settings.specs.Limits.{most_regions, longest_region_name}
 use Rattle.pp_settings.specs.declared.extent.Extent.{Extent}
 use Rattle.pp_settings.specs.Layout.{Geometry, IsExtent, IsApart}
 
@@ -46,7 +48,7 @@ name_of c region = option_map (λ r. r.name) (slice_get c.regions region)
 
 -- A region's name has 1 to 32 bytes: a letter, and then letters, digits and underscores.
 abbrev pub is_region_name : List ℕ → Bool
-is_region_name name = is_name 32 name
+is_region_name name = is_name longest_region_name name
 
 -- The name is in form, and the extent within the limits.
 pub record IsNamedRegion (r : NamedRegion) : Type 0 where
@@ -61,9 +63,9 @@ pub record AreRegions (rs : List NamedRegion) : Type 0 where
 
 -- 1 to 4,096 frames, pages of 64 to 65,536 bytes, 1 to 32 workers, at most 100,000 flushes, and 1 to 64 regions.
 pub record IsConfiguration (c : Configuration) : Type 0 where
-  pub frames : (1 ≤ c.frames) × (c.frames ≤ 4096)
-  pub page_bytes : (64 ≤ c.page_bytes) × (c.page_bytes ≤ 65536)
-  pub workers : (1 ≤ c.workers) × (c.workers ≤ 32)
-  pub flushes : c.flushes ≤ 100000
-  pub count : (1 ≤ length c.regions) × (length c.regions ≤ 64)
+  pub frames : (1 ≤ c.frames) × (c.frames ≤ most_frames)
+  pub page_bytes : (fewest_page_bytes ≤ c.page_bytes) × (c.page_bytes ≤ most_page_bytes)
+  pub workers : (1 ≤ c.workers) × (c.workers ≤ most_workers)
+  pub flushes : c.flushes ≤ most_flushes
+  pub count : (1 ≤ length c.regions) × (length c.regions ≤ most_regions)
   pub regions : AreRegions c.regions

@@ -39,12 +39,12 @@ pub enum SettingsError {
 }
 
 impl SettingsError {
-    ghost use Rattle.pp_text.specs.Views.{row_of};
-    ghost use Rattle.pp_settings.specs.Refusals.{refusal_row};
+    ghost use Rattle.pp_text.specs.Views.{row_of_refusal};
+    ghost use Rattle.pp_settings.specs.Refusals.{settings_error_row};
 
     /// The refusal as programs print it: its number from 1 to 7, its name, and the key, the table or the region.
     pub fn refusal(self) -> Refusal
-        ensures { row_of result ≡ refusal_row self }
+        ensures { row_of_refusal result ≡ settings_error_row self }
     {
         match self {
             SettingsError::NotToml => Refusal::new(1, "NotToml", About::Nothing),
@@ -60,14 +60,14 @@ impl SettingsError {
 
     /// The number of the refusal, from 1 to 7.
     pub fn number(self) -> u8
-        ensures { result ≡ (refusal_row self).number }
+        ensures { result ≡ (settings_error_row self).number }
     {
         self.refusal().number
     }
 
     /// The name of the refusal, as programs print it.
     pub fn name(self) -> &'static str
-        ensures { result.now ≡ (refusal_row self).name }
+        ensures { result.now ≡ (settings_error_row self).name }
     {
         self.refusal().name
     }

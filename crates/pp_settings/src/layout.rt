@@ -71,7 +71,7 @@ impl Layout {
     }
 
     /// Where among the regions the page's one stands.
-    fn place_of(&self, page: u32) -> Option<usize>
+    fn region_position(&self, page: u32) -> Option<usize>
         ensures is { result ≡ region_of self.now page }
         ensures below { IfSome result (λ place. place < length self.now.extents) }
         ensures facts { IsLayout self.now }
@@ -87,7 +87,7 @@ impl Layout {
         ensures has { IfSome result (λ r. HasPage self.now r page) }
         ensures only { (r : ℕ) → HasPage self.now r page → result ≡ Some r }
     {
-        let place = self.place_of(page)?;
+        let place = self.region_position(page)?;
         Some(place as u8)
     }
 

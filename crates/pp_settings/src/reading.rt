@@ -9,7 +9,7 @@ ghost use Rattle.toml.specs.View.{view, table_view, items_view};
 ghost use Rattle.pp_text.specs.Steps.{Gives, Reads};
 ghost use Rattle.pp_settings.specs.declared.error.SettingsError.TheVariants.{NotToml};
 ghost use Rattle.pp_settings.specs.Settings.{NamedRegion};
-ghost use Rattle.pp_settings.specs.Refusals.{is_memory};
+ghost use Rattle.pp_settings.specs.Refusals.{is_settings_memory};
 ghost use Rattle.pp_settings.specs.Views.{drafted, entered};
 ghost use Rattle.pp_settings.specs.Reading.{is_known, only_known, value_at, number_at, name_at, extent_at, region_at};
 ghost use Rattle.pp_settings.specs.Reading.{has_name, shares_page_with, beside, next_region, regions_from, are_tables};
@@ -150,7 +150,7 @@ fn next_region<'a>(earlier: &Regions, value: &'a Value) -> Result<Entry<'a>, Set
 
 fn regions_of(alloc: Global, items: &[Value]) -> Result<Regions, SettingsError>
     requires { length items.now ≤ 64 }
-    ensures { Gives is_memory (λ (rs : List NamedRegion). rs) result (regions_from [] (items_view items.now)) }
+    ensures { Gives is_settings_memory (λ (rs : List NamedRegion). rs) result (regions_from [] (items_view items.now)) }
 {
     let mut regions = Regions::new(alloc);
     for value in items {
@@ -166,7 +166,7 @@ fn are_tables(items: &[Value]) -> bool
     items.iter().all(|value| value.is_table())
 }
 
-#[tactic(auto, using(crate::proofs::Trees::count_of_view))]
+#[tactic(auto, using(crate::proofs::Trees::table_count_view))]
 fn are_regions(items: &[Value]) -> bool
     ensures is { result ≡ are_regions (items_view items.now) }
     ensures within { IsTrue result → length items.now ≤ 64 }
@@ -190,7 +190,7 @@ fn tables_at(table: &Table, spot: Spot) -> Result<&[Value], SettingsError>
 
 #[tactic(auto, unfolding(crate::specs::Reading::configuration_of))]
 pub(crate) fn draft_of(alloc: Global, table: &Table) -> Result<Draft, SettingsError>
-    ensures { Gives is_memory drafted result (configuration_of (table_view table.now)) }
+    ensures { Gives is_settings_memory drafted result (configuration_of (table_view table.now)) }
 {
     only_known(table, None)?;
     let frames = number_at(table, Spot::Top(TopKey::Frames), 1, MOST_FRAMES)?;
@@ -215,7 +215,7 @@ pub(crate) fn draft_of(alloc: Global, table: &Table) -> Result<Draft, SettingsEr
 
 /// The text's document, as the TOML reader gives it.
 pub(crate) fn document_of(alloc: Global, text: &str) -> Result<Table, SettingsError>
-    ensures { Gives is_memory table_view result (ok_or (parse_document text.now) NotToml) }
+    ensures { Gives is_settings_memory table_view result (ok_or (parse_document text.now) NotToml) }
 {
     match toml::table_from_str(alloc, text) {
         Ok(table) => Ok(table),

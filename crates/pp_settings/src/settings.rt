@@ -3,14 +3,15 @@
 ghost use Rattle.std.specs.Prelude.{◌≡◌, ◌≢◌, ◌-◌, ◌≤◌, ◌<◌, ℕ, Ok, Some, IfOk, IfErr, IfSome, length};
 ghost use Rattle.toml.specs.Parse.{parse_document};
 ghost use Rattle.pp_text.specs.Steps.{Gives};
+ghost use Rattle.pp_text.specs.First.{IsFirst};
 ghost use Rattle.pp_settings.specs.declared.error.SettingsError.{SettingsError};
 ghost use Rattle.pp_settings.specs.declared.error.SettingsError.TheVariants.{OutOfMemory};
-ghost use Rattle.pp_settings.specs.Faults.{HasFault, IsFirst, order};
+ghost use Rattle.pp_settings.specs.Faults.{HasFault, order};
 ghost use Rattle.pp_settings.specs.Layout.{HasPage, TellsClass, IsLayout, region_of, class_of, page_count};
 ghost use Rattle.pp_settings.specs.Settings.{Configuration, IsConfiguration, geometry_of, region_named, name_of};
 ghost use Rattle.pp_settings.specs.Spelling.{IsText};
 ghost use Rattle.pp_settings.specs.Reading.{reading};
-ghost use Rattle.pp_settings.specs.Refusals.{is_memory};
+ghost use Rattle.pp_settings.specs.Refusals.{is_settings_memory};
 ghost use Rattle.pp_settings.specs.Views.{drafted};
 
 use crate::error::SettingsError;
@@ -46,7 +47,7 @@ impl Model for Settings {
 }
 
 fn read(alloc: Global, text: &str) -> Result<Settings, SettingsError>
-    ensures { Gives is_memory (λ (c : Configuration). c) result (reading text.now) }
+    ensures { Gives is_settings_memory (λ (c : Configuration). c) result (reading text.now) }
 {
     let document = document_of(alloc, text)?;
     let draft = draft_of(alloc, &document)?;
@@ -78,13 +79,13 @@ impl Settings {
         ensures found { IfOk result (IsText text.now) }
         // What is spelled so is accepted, unless memory runs out.
         ensures only { (c : Configuration) → IsText text.now c
-            → Gives is_memory (λ (c : Configuration). c) result (Ok c) }
+            → Gives is_settings_memory (λ (c : Configuration). c) result (Ok c) }
         // A refusal tells a fault of the text, the first one in the order, unless memory runs out.
         ensures first { IfErr result (λ e. e ≢ OutOfMemory → IsFirst (HasFault (parse_document text.now)) order e) }
         // A text that is accepted has none of the faults.
         ensures faultless { IfOk result (λ _. (f : SettingsError) → ¬ HasFault (parse_document text.now) f) }
         // The same as a function of the text.
-        ensures exact { Gives is_memory (λ (c : Configuration). c) result (reading text.now) }
+        ensures exact { Gives is_settings_memory (λ (c : Configuration). c) result (reading text.now) }
     {
         read(alloc, text)
     }

@@ -1,5 +1,6 @@
 //! Certificates: how they are made, written, read and checked at their limits, and how refusals are told.
 
+use crate::common::{same_text, two_regions};
 use pp_annotate::{AnnotateError, annotate};
 use pp_cert::{
     CertError, Certificate, CheckError, Entry, Held, Note, check, fault_under, longest_trace,
@@ -9,36 +10,6 @@ use pp_settings::Settings;
 use std::alloc::Global;
 use std::process::Abort;
 use std::test::*;
-
-/// Settings of two regions, `root` of class 1 and `leaf` of class 2, behind their number of frames.
-const REGIONS: &str = "
-page_bytes = 64
-workers = 2
-flushes = 4
-
-[[region]]
-name = \"root\"
-first = 0
-count = 4
-class = 1
-
-[[region]]
-name = \"leaf\"
-first = 16
-count = 8
-class = 2
-";
-
-/// The settings with this many frames.
-fn settings_of(alloc: Global, frames: u32) -> Result<Settings, Fail> {
-    let text = format!(in alloc; "frames = {frames}{REGIONS}")?;
-    Ok(Settings::from_text(alloc, &text)?)
-}
-
-/// Compares two texts.
-fn same_text(rt: &impl Abort, got: &str, want: &str) {
-    assert_eq!(rt; got, want);
-}
 
 /// Compares two numbers.
 fn same_number(rt: &impl Abort, got: u64, want: u64) {
@@ -163,8 +134,8 @@ fn a_note_gives_its_entries_back(rt: HostRuntime) -> Result<(), Fail> {
 
 #[test]
 fn a_refused_plan_comes_back(rt: HostRuntime) -> Result<(), Fail> {
-    let settings = settings_of(rt.alloc(), 3)?;
-    let others = settings_of(rt.alloc(), 2)?;
+    let settings = two_regions(rt.alloc(), 3)?;
+    let others = two_regions(rt.alloc(), 2)?;
     let text = "{\"body\":[{\"unfix\":\"a\"}],\"version\":1}";
     let plan = Plan::from_text(rt.alloc(), &settings, text)?;
     let certificate = Certificate {
@@ -233,7 +204,7 @@ fn made_again(
 
 #[test]
 fn the_greatest_plan_is_annotated_and_checked(rt: HostRuntime) -> Result<(), Fail> {
-    let settings = settings_of(rt.alloc(), 32)?;
+    let settings = two_regions(rt.alloc(), 32)?;
     let plan = Plan::from_text(rt.alloc(), &settings, &greatest_plan(rt.alloc())?)?;
     let certificate = made_again(&rt, rt.alloc(), &settings, &plan)?;
     let accepted = check(&settings, plan, &certificate).ok();
@@ -263,7 +234,7 @@ fn answer(alloc: Global, settings: &Settings, count: u32, last: &str) -> Result<
 
 #[test]
 fn notes_have_their_limit(rt: HostRuntime) -> Result<(), Fail> {
-    let settings = settings_of(rt.alloc(), 3)?;
+    let settings = two_regions(rt.alloc(), 3)?;
     for (count, last, want) in [
         (69_999u32, "", 0u64),
         (70_000, "", 24),

@@ -1,11 +1,13 @@
 //! Tests of the crates below by their public calls, in a crate of their own so that no library is proved twice.
 //!
-//! They are of what no clause says: worked rows, that calls succeed up to their limits, texts for people, and runs beside
-//! plain programs. Texts with the answers expected of them are rows of data (crates/pp_rows).
+//! They are of what no clause says: worked rows, that calls succeed up to their limits, texts for people, and runs
+//! beside plain programs. Texts with the answers expected of them are rows of data (crates/pp_rows).
 #![tactic(auto)]
 
 #[cfg(test)]
 mod certificate;
+#[cfg(test)]
+mod common;
 #[cfg(test)]
 mod directory;
 #[cfg(test)]

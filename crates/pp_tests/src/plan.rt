@@ -2,31 +2,11 @@
 
 ghost use Rattle.pp_plan.specs.Cursor.{IsCursorOf};
 
+use crate::common::{same_text, two_regions};
 use pp_plan::{Action, Ask, Cursor, Plan, PlanError, Stmt};
-use pp_settings::Settings;
 use std::alloc::Global;
 use std::process::Abort;
 use std::test::*;
-
-/// Two regions, `root` of the pages 0 to 3 and `leaf` of the pages 16 to 23.
-const TWO_REGIONS: &str = "\
-frames = 3
-page_bytes = 64
-workers = 2
-flushes = 4
-
-[[region]]
-name = \"root\"
-first = 0
-count = 4
-class = 1
-
-[[region]]
-name = \"leaf\"
-first = 16
-count = 8
-class = 2
-";
 
 /// Twice: fix a root, then nothing or go on to a leaf, unfix. Then three times two choices of one empty branch.
 const WALK: &str = "\
@@ -52,7 +32,7 @@ fn walk(rt: &impl Abort, plan: &Plan, cursor: &mut Cursor, turns: &[(Ask, Action
 
 #[test]
 fn a_walk_is_followed(rt: HostRuntime) -> Result<(), Fail> {
-    let settings = Settings::from_text(rt.alloc(), TWO_REGIONS)?;
+    let settings = two_regions(rt.alloc(), 3)?;
     let plan = Plan::from_text(rt.alloc(), &settings, WALK)?;
     let mut cursor = Cursor::new(&plan);
     let root = Ask::Fix { slot: 0, region: 0 };
@@ -90,11 +70,6 @@ fn a_walk_is_followed(rt: HostRuntime) -> Result<(), Fail> {
     Ok(())
 }
 
-/// Compares two texts.
-fn same(rt: &impl Abort, got: &str, want: &str) {
-    assert_eq!(rt; got, want);
-}
-
 /// A plan of 32 names, `s0` to `s31` in this order, each in an unfix.
 fn many_names(alloc: Global) -> Result<String, Fail> {
     let mut text = String::from_str(alloc, "{\"body\":[")?;
@@ -110,7 +85,7 @@ fn many_names(alloc: Global) -> Result<String, Fail> {
 
 #[test]
 fn slots_have_the_byte_order_of_their_names(rt: HostRuntime) -> Result<(), Fail> {
-    let settings = Settings::from_text(rt.alloc(), TWO_REGIONS)?;
+    let settings = two_regions(rt.alloc(), 3)?;
     let text = many_names(rt.alloc())?;
     let plan = Plan::from_text(rt.alloc(), &settings, text.as_str())?;
     for (slot, name) in [
@@ -122,7 +97,7 @@ fn slots_have_the_byte_order_of_their_names(rt: HostRuntime) -> Result<(), Fail>
         (31, "s9"),
     ] {
         if slot < plan.slots() {
-            same(&rt, plan.slot_name(slot), name);
+            same_text(&rt, plan.slot_name(slot), name);
         }
         let found = plan.slot(name);
         assert_eq!(rt; found, Some(slot));
@@ -132,7 +107,7 @@ fn slots_have_the_byte_order_of_their_names(rt: HostRuntime) -> Result<(), Fail>
         _ => 255,
     };
     assert_eq!(rt; (plan.slots(), plan.slot("s32"), last), (32u8, None, 25u8));
-    same(
+    same_text(
         &rt,
         plan.to_text(rt.alloc(), &settings)?.as_str(),
         text.as_str(),
@@ -142,7 +117,7 @@ fn slots_have_the_byte_order_of_their_names(rt: HostRuntime) -> Result<(), Fail>
 
 #[test]
 fn bodies_and_branches_are_seen(rt: HostRuntime) -> Result<(), Fail> {
-    let settings = Settings::from_text(rt.alloc(), TWO_REGIONS)?;
+    let settings = two_regions(rt.alloc(), 3)?;
     let plan = Plan::from_text(rt.alloc(), &settings, WALK)?;
     let seen = match plan.body() {
         [Stmt::Loop { count, body }, _] => match body.stmts() {
@@ -225,8 +200,8 @@ fn refusals_have_rows_and_words(rt: HostRuntime) -> Result<(), Fail> {
     ] {
         let got = (error.number(), error.statement());
         assert_eq!(rt; got, (number, statement));
-        same(&rt, error.name(), name);
-        same(&rt, format!(in rt.alloc(); "{error}")?.as_str(), words);
+        same_text(&rt, error.name(), name);
+        same_text(&rt, format!(in rt.alloc(); "{error}")?.as_str(), words);
     }
     Ok(())
 }

@@ -1,29 +1,10 @@
 //! Settings that are read, and what they say.
 
+use crate::common::{same_text, two_regions};
 use pp_settings::{Extent, RegionKey, Settings, SettingsError, Spot, TopKey};
 use std::alloc::{AllocError, Global};
 use std::process::Abort;
 use std::test::*;
-
-/// Two regions, `root` of the pages 0 to 3 and `leaf` of the pages 16 to 23.
-const TWO_REGIONS: &str = "\
-frames = 3
-page_bytes = 64
-workers = 2
-flushes = 4
-
-[[region]]
-name = \"root\"
-first = 0
-count = 4
-class = 1
-
-[[region]]
-name = \"leaf\"
-first = 16
-count = 8
-class = 2
-";
 
 /// The document's own keys but for `region`, each at its greatest value.
 const HEAD: &str = "frames = 4096\npage_bytes = 65536\nworkers = 32\nflushes = 100000\n";
@@ -39,10 +20,6 @@ fn number_is(rt: &impl Abort, got: u32, want: u32) {
 
 fn answer_is(rt: &impl Abort, got: Option<u8>, want: Option<u8>, page: u32) {
     assert_eq!(rt; got, want, "page {page}");
-}
-
-fn text_is(rt: &impl Abort, got: &str, want: &str) {
-    assert_eq!(rt; got, want);
 }
 
 fn extent_is(rt: &impl Abort, got: Option<Extent>, want: Option<Extent>) {
@@ -61,13 +38,13 @@ fn page_is(rt: &impl Abort, settings: &Settings, page: u32, region: Option<u8>, 
 /// The region with the name has it.
 fn name_is(rt: &impl Abort, settings: &Settings, name: &str) {
     if let Some(region) = settings.region(name) {
-        text_is(rt, settings.name(region), name);
+        same_text(rt, settings.name(region), name);
     }
 }
 
 #[test]
-fn two_regions(rt: HostRuntime) -> Result<(), Fail> {
-    let settings = Settings::from_text(rt.alloc(), TWO_REGIONS)?;
+fn settings_of_two_regions(rt: HostRuntime) -> Result<(), Fail> {
+    let settings = two_regions(rt.alloc(), 3)?;
     let layout = settings.layout();
     for (got, want) in [
         (settings.frames(), 3),
@@ -204,9 +181,9 @@ fn errors_for_people(rt: HostRuntime) -> Result<(), Fail> {
         ),
     ] {
         number_is(&rt, u32::from(error.number()), number);
-        text_is(&rt, error.name(), name);
+        same_text(&rt, error.name(), name);
         let text = format!(in rt.alloc(); "{error}")?;
-        text_is(&rt, &text, want);
+        same_text(&rt, &text, want);
     }
     Ok(())
 }

@@ -3,3 +3,4 @@ pub mod Trees
 pub mod Keys
 pub mod Values
 pub mod Escapes
+pub mod Positions

@@ -1,5 +1,6 @@
 -- The JSON library's values beside their trees.
-use Rattle.std.proofs.Common.{◌≡◌, ℕ, ◌+◌, Bool, ◌&&◌, false, length, arith, List, [], ◌∷◌, Option, Some, None, String, BTreeMap, Global, string_bytes, refl, ap, sym, ◌∙◌}
+use Rattle.std.proofs.Common.{◌≡◌, ℕ, ◌+◌, Bool, ◌&&◌, false, length, arith, List, [], ◌∷◌, Option, Some, None, String}
+use Rattle.std.proofs.Common.{BTreeMap, Global, string_bytes, refl, ap, sym, ◌∙◌}
 use Rattle.std.specs.List.{list_all}
 use Rattle.std.specs.Map.{keys_of}
 use Rattle.std.specs.BTreeMap.{keys}

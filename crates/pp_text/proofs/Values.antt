@@ -1,6 +1,7 @@
 -- What a JSON value is, where a look into it found something.
 use Rattle.std.proofs.Common.{◌≡◌, ℕ, List, Option, Some, None, option_and_then, ap}
-use Rattle.serde_json.specs.Data.{unsigned, negative, float, Data, null, boolean, number, string, array, object, Items, Members}
+use Rattle.serde_json.specs.Data.{unsigned, negative, float, Data, null, boolean, number, string, array, object, Items}
+use Rattle.serde_json.specs.Data.{Members}
 use Rattle.serde_json.specs.Find.{as_array, as_object, as_str, as_number, as_u64}
 
 pub array_is : (d : Data) (ds : Items) → as_array d ≡ Some ds → d ≡ array ds

@@ -1,9 +1,9 @@
--- What stands in a JSON object: as tests, and as facts.
-use Rattle.std.specs.Prelude.{◌≡◌, ℕ, List, Contains, Bool, true, false, ◌&&◌, Some}
+-- What stands in a JSON object, as tests and as facts, and in a JSON list.
+use Rattle.std.specs.Prelude.{◌≡◌, ℕ, List, [], ◌∷◌, Contains, Bool, true, false, ◌&&◌, Some}
 use Rattle.std.specs.Option.{option_map_or}
 use Rattle.std.specs.List.{list_any}
 use Rattle.std.specs.Str.{bytes_eq}
-use Rattle.serde_json.specs.Data.{Data, object, Members, no_members, member}
+use Rattle.serde_json.specs.Data.{Data, object, Items, no_items, item, Members, no_members, member}
 use Rattle.serde_json.specs.Find.{get, get_member, as_object}
 
 -- ---- tests
@@ -35,3 +35,10 @@ HasOnly known d = (ms : Members) × (d ≡ object ms) × AreAmong known ms
 -- The value is an object that has this value at the key.
 abbrev pub Holds : Data → List ℕ → Data → Type 0
 Holds d key v = get key d ≡ Some v
+
+-- ---- lists
+
+-- The values of a list.
+abbrev pub elements : Items → List Data
+elements no_items = []
+elements (item d ds) = d ∷ elements ds

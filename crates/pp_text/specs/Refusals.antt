@@ -2,7 +2,8 @@
 use Rattle.std.specs.Prelude.{ℕ, List, [], ◌++◌, codes}
 use Rattle.std.specs.Fmt.{decimal}
 
--- What a refusal is about: nothing, a key of the document, a key of a region, the document, a region, a place, or a worker.
+-- What a refusal is about: nothing, a key of the document, a key of a region, the document, a region, a place, or a
+-- worker.
 pub data Matter : Type 0 where
   nothing : Matter
   key : (name : List ℕ) → Matter

@@ -19,5 +19,5 @@ matter_of (Region i) = region i
 matter_of (At place) = at place
 matter_of (Worker w) = worker w
 
-abbrev pub row_of : Inside → Row
-row_of r = record { number = r.number; name = r.name.now; about = matter_of r.about }
+abbrev pub row_of_refusal : Inside → Row
+row_of_refusal r = record { number = r.number; name = r.name.now; about = matter_of r.about }

@@ -1,4 +1,5 @@
-//! What the readers and writers of all texts share: names, the keys of JSON objects, and refusals as programs print them.
+//! What the readers and writers of all texts share: names, the keys of JSON objects, and refusals as programs print
+//! them.
 //!
 //! The crate's definitions are for the contracts of the crates above: work in steps of which the first that fails
 //! answers (`specs/Steps.antt`), what stands in a JSON object (`specs/Objects.antt`), words in quotes and lists in

@@ -38,11 +38,11 @@ pub struct Refusal {
 
 impl Refusal {
     ghost use Rattle.pp_text.specs.Refusals.{row};
-    ghost use Rattle.pp_text.specs.Views.{row_of, matter_of};
+    ghost use Rattle.pp_text.specs.Views.{row_of_refusal, matter_of};
 
     /// The refusal with this number and name, about this.
     pub fn new(number: u8, name: &'static str, about: About) -> Refusal
-        ensures { row_of result ≡ row number name.now (matter_of about) }
+        ensures { row_of_refusal result ≡ row number name.now (matter_of about) }
     {
         Refusal {
             number,
@@ -55,9 +55,9 @@ impl Refusal {
 /// Writes the number, the name, and what the refusal is about.
 impl fmt::Display for Refusal {
     ghost use Rattle.pp_text.specs.Refusals.{refusal_text};
-    ghost use Rattle.pp_text.specs.Views.{row_of};
+    ghost use Rattle.pp_text.specs.Views.{row_of_refusal};
 
-    ghost output = { λ refusal. Some (refusal_text (row_of refusal)) };
+    ghost output = { λ refusal. Some (refusal_text (row_of_refusal refusal)) };
 
     fn fmt<W: fmt::Write>(&self, f: &mut fmt::Formatter<W>) -> fmt::Result {
         let Refusal {

@@ -1,7 +1,7 @@
 use Rattle.pp_cert.specs.Reading.{reading as of}
 use Rattle.pp_cert.specs.declared.error.CertError.TheVariants.{NotJson}
 use Rattle.pp_cert.specs.Claims.{claims_of}
-use Rattle.pp_judge.specs.declared.refusal.Refusal.TheVariants.{Certificate}
+use Rattle.pp_judge.specs.declared.error.JudgeError.TheVariants.{Certificate}
 use Rattle.pp_judge.specs.Judgement.{claims_in}
 use Rattle.pp_judge.specs.Steps.{is_want_of_memory}
 use Rattle.pp_judge.proofs.Refusals.{tells}

@@ -3,7 +3,7 @@ use Rattle.std.proofs.lemmas.Str.{IsUtf8-string_bytes}
 use Rattle.pp_cert.specs.Reading.{reading as of}
 use Rattle.pp_cert.specs.declared.error.CertError.TheVariants.{NotJson}
 use Rattle.pp_cert.specs.Claims.{claims_of}
-use Rattle.pp_judge.specs.declared.refusal.Refusal.TheVariants.{Annotate, Certificate}
+use Rattle.pp_judge.specs.declared.error.JudgeError.TheVariants.{Annotate, Certificate}
 use Rattle.pp_judge.specs.Judgement.{certification, claims_in}
 use Rattle.pp_judge.proofs.Judged.{accepted, certified, none_certified, not_certified}
 use Rattle.pp_judge.specs.Steps.{is_want_of_memory}

@@ -12,7 +12,9 @@ returns-in_err-settings c =
     handed_on _ c.from_residual.result c.in_err-settings.field-0.0
     (judgement c.args.files.settings.now c.args.files.plan.now c.args.files.certificate.now) c.from_residual.ensures.1
     (λ memory. no_sources c.args.files.settings.now c.args.files.plan.now c.args.files.certificate.now
-    c.in_err-settings.field-0.0 (tells (is_want_of_memory c.in_err-settings.field-0.0) c.in_err-settings.field-0.0 _ c.in_err-settings.ensures memory))
+    c.in_err-settings.field-0.0
+    (tells (is_want_of_memory c.in_err-settings.field-0.0) c.in_err-settings.field-0.0 _ c.in_err-settings.ensures
+    memory))
 
 pub returns-in_err-certificate : goal.returns-in_err-certificate
 returns-in_err-certificate c =
@@ -21,7 +23,8 @@ returns-in_err-certificate c =
     c.from_residual-in_err-certificate.ensures.1
     (λ memory. no_claims c.args.files.settings.now c.args.files.plan.now c.args.files.certificate.now
     c.in_ok-settings.field-0 c.in_err-certificate.field-0.0 c.in_ok-settings.ensures
-    (tells (is_want_of_memory c.in_err-certificate.field-0.0) c.in_err-certificate.field-0.0 _ c.in_err-certificate.ensures memory))
+    (tells (is_want_of_memory c.in_err-certificate.field-0.0) c.in_err-certificate.field-0.0 _
+    c.in_err-certificate.ensures memory))
 
 pub returns-in-Ok : goal.returns-in-Ok
 returns-in-Ok c =

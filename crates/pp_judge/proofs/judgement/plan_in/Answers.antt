@@ -1,6 +1,6 @@
 use Rattle.pp_plan.specs.Reading.{reading as of}
 use Rattle.pp_plan.specs.declared.error.PlanError.TheVariants.{NotJson}
-use Rattle.pp_judge.specs.declared.refusal.Refusal.TheVariants.{Plan}
+use Rattle.pp_judge.specs.declared.error.JudgeError.TheVariants.{Plan}
 use Rattle.pp_judge.specs.Judgement.{plan_in}
 use Rattle.pp_judge.specs.Steps.{is_want_of_memory}
 use Rattle.pp_judge.proofs.Refusals.{tells}

@@ -1,6 +1,6 @@
 use Rattle.pp_settings.specs.Reading.{reading as of}
 use Rattle.pp_settings.specs.declared.error.SettingsError.TheVariants.{NotToml}
-use Rattle.pp_judge.specs.declared.refusal.Refusal.TheVariants.{Settings}
+use Rattle.pp_judge.specs.declared.error.JudgeError.TheVariants.{Settings}
 use Rattle.pp_judge.specs.Judgement.{settings_in}
 use Rattle.pp_judge.specs.Steps.{is_want_of_memory}
 use Rattle.pp_judge.proofs.Refusals.{tells}

@@ -2,7 +2,7 @@ use Rattle.std.proofs.Common.{◌≡◌, arith, ap, ◌∙◌, map, take, List, 
 use Rattle.std.proofs.Common.{string_bytes}
 use Rattle.std.proofs.lemmas.List.{length-set, take_all}
 use Rattle.std.specs.Option.{unwrap_or}
-use Rattle.pp_plan.specs.Numbering.{place_of, new_number}
+use Rattle.pp_plan.specs.Numbering.{position_of, new_number}
 use Rattle.pp_plan.proofs.Renumbering.{filled_more, table_is}
 use Rattle.pp_plan.proofs.numbering.new_numbers.Goals as goal
 
@@ -10,7 +10,8 @@ pub loop-slot-preserved : goal.loop-slot-preserved
 loop-slot-preserved c =
     let ordered = map string_bytes c.args.ordered.now in
     let number : c.unwrap_or.result ≡ new_number ordered (string_bytes c.index-names-slot.result) =
-    c.unwrap_or.ensures ∙ ap (λ o. unwrap_or o 0) (c.place_of.ensures ∙ ap (place_of ordered) c.as_str.ensures.value) in
+    c.unwrap_or.ensures
+    ∙ ap (λ o. unwrap_or o 0) (c.position_of.ensures ∙ ap (position_of ordered) c.as_str.ensures.value) in
     record {
       long = length-set c.loop-slot.numbers c.loop-slot.slot c.unwrap_or.result ∙ c.loop-slot.invariant.long;
       filled =

@@ -1,7 +1,7 @@
 use Rattle.std.proofs.Common.{◌≡◌, ◌+◌, ◌*◌, drop}
 use Rattle.serde_json.specs.View.{items_view}
 use Rattle.pp_settings.specs.Settings.{region_named}
-use Rattle.pp_plan.specs.Tree.{done, none}
+use Rattle.pp_plan.specs.Tree.{skip, none}
 use Rattle.pp_plan.specs.View.{sequence_of, alternatives_of}
 use Rattle.pp_plan.specs.Reading.{sequence_from, alternatives_from, statement_at}
 use Rattle.pp_plan.proofs.reading.+reading.Given as goal
@@ -22,7 +22,7 @@ abbrev pub invariant-read_body-loop-value : goal.invariant-read_body-loop-value
 invariant-read_body-loop-value l =
     sequence_from (statement_at (region_named l.settings) l.levels) (sequence_of l.stmts.items) l.progress
     (items_view (drop l.value-index l.items))
-    ≡ sequence_from (statement_at (region_named l.settings) l.levels) done l.initial.progress (items_view l.items)
+    ≡ sequence_from (statement_at (region_named l.settings) l.levels) skip l.initial.progress (items_view l.items)
 
 abbrev pub invariant-read_branches-loop-list : goal.invariant-read_branches-loop-list
 invariant-read_branches-loop-list l =

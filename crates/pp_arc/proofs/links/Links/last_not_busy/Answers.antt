@@ -19,34 +19,34 @@ loop-init g c = record {
 pub index-requires : goal.index-requires
 index-requires g c = omega (
   arith,
-  tagged-in_range c.self.inside.records.items c.loop.place c.args.list
+  tagged-in_range c.self.inside.records.items c.loop.node c.args.list
       c.loop.invariant.tagged,
 )
 
 pub returns-then-not-is_busy : goal.returns-then-not-is_busy
 returns-then-not-is_busy g c =
-    let e : c.index.result.now ≡ get_or c.self.inside.records.items c.loop.place blank = read
-    c.self.inside.records.items c.loop.place c.index.result.now
-    (tagged-in_range c.self.inside.records.items c.loop.place c.args.list c.loop.invariant.tagged)
+    let e : c.index.result.now ≡ get_or c.self.inside.records.items c.loop.node blank = read
+    c.self.inside.records.items c.loop.node c.index.result.now
+    (tagged-in_range c.self.inside.records.items c.loop.node c.args.list c.loop.invariant.tagged)
     c.index.ensures in
     sym (find_free (table_of c.self.inside.pages c.self.inside.records.items).before
-    (get_or c.self.inside.counts c.code_of-code.result 0 - c.loop.counter) c.loop.place c.index.result.now.before
+    (get_or c.self.inside.counts c.code_of-code.result 0 - c.loop.counter) c.loop.node c.index.result.now.before
     (g.B.Busy.busy c.args.busy.now)
     (omega arith) (ap (λ (w : Record). w.before) e) (sym c.is_busy.ensures ∙ c.if-not-is_busy.true)) ∙
     c.loop.invariant.rest
 
 pub loop-preserved : goal.loop-preserved
 loop-preserved g c =
-    let e : c.index.result.now ≡ get_or c.self.inside.records.items c.loop.place blank = read
-    c.self.inside.records.items c.loop.place c.index.result.now
-    (tagged-in_range c.self.inside.records.items c.loop.place c.args.list c.loop.invariant.tagged)
+    let e : c.index.result.now ≡ get_or c.self.inside.records.items c.loop.node blank = read
+    c.self.inside.records.items c.loop.node c.index.result.now
+    (tagged-in_range c.self.inside.records.items c.loop.node c.args.list c.loop.invariant.tagged)
     c.index.ensures in
     record {
-      tagged = rw e (back_tagged (content_of c.self.inside) c.args.list c.loop.place c.self.invariant
+      tagged = rw e (back_tagged (content_of c.self.inside) c.args.list c.loop.node c.self.invariant
           c.loop.invariant.tagged);
       rest = sym (find_busy (table_of c.self.inside.pages c.self.inside.records.items).before
           (get_or c.self.inside.counts c.code_of-code.result 0 - c.loop.counter)
-          (get_or c.self.inside.counts c.code_of-code.result 0 - (c.loop.counter + 1)) c.loop.place
+          (get_or c.self.inside.counts c.code_of-code.result 0 - (c.loop.counter + 1)) c.loop.node
           c.index.result.now.before (g.B.Busy.busy c.args.busy.now)
           (omega arith) (ap (λ (w : Record). w.before) e) (sym c.is_busy.ensures ∙ c.if-not-is_busy.false)) ∙
           c.loop.invariant.rest;
@@ -54,5 +54,5 @@ loop-preserved g c =
 
 pub returns : goal.returns
 returns g c = sym (find_none (table_of c.self.inside.pages c.self.inside.records.items).before
-    (get_or c.self.inside.counts c.code_of-code.result 0 - c.loop.counter) c.loop.place (g.B.Busy.busy c.args.busy.now)
+    (get_or c.self.inside.counts c.code_of-code.result 0 - c.loop.counter) c.loop.node (g.B.Busy.busy c.args.busy.now)
     (omega arith)) ∙ c.loop.invariant.rest

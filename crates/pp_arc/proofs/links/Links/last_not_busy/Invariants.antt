@@ -9,8 +9,8 @@ use Rattle.pp_arc.proofs.links.Links.last_not_busy.Given as goal
 
 abbrev pub invariant-loop : goal.invariant-loop
 invariant-loop g l = record {
-  tagged : (slice_index_or l.self-inside.records.items l.place blank).list ≡ Some l.fn.list;
+  tagged : (slice_index_or l.self-inside.records.items l.node blank).list ≡ Some l.fn.list;
   rest : find (λ y. not (g.B.Busy.busy l.busy y))
-      (follow (table_of l.self-inside.pages l.self-inside.records.items).before (l.end - l.counter) l.place)
+      (follow (table_of l.self-inside.pages l.self-inside.records.items).before (l.end - l.counter) l.node)
       ≡ last_not_busy (list_of l.fn.self l.fn.list) (g.B.Busy.busy l.busy);
 }

@@ -5,7 +5,9 @@ use Rattle.pp_plan.specs.View.{statement_of, sequence_of, alternatives_of}
 use Rattle.pp_cert.specs.Notes.{same_note}
 use Rattle.pp_cert.specs.Walk.{claims_of, note_at, walked, sequence_tests, sequence_end, later_tests, alternatives_end}
 use Rattle.pp_cert.proofs.Places.{sequence_of-drop, alternatives_of-drop, alternatives_end-le}
-use Rattle.pp_cert.proofs.Steps.{sequence_err, sequence_ok, turns_err, turns_changed, turns_ok, later_err, later_differs, later_ok, choice_err, choice_later_err, choice_ok, sequence_end_is, inside_end, choice_walk}
+use Rattle.pp_cert.proofs.Steps.{sequence_err, sequence_ok, turns_err, turns_changed, turns_ok, later_err}
+use Rattle.pp_cert.proofs.Steps.{later_differs, later_ok, choice_err, choice_later_err, choice_ok, sequence_end_is}
+use Rattle.pp_cert.proofs.Steps.{inside_end, choice_walk}
 use Rattle.pp_cert.proofs.walk.Walk.+walk.Goals as goal
 
 pub sequence-returns-in_err-place : goal.sequence-returns-in_err-place

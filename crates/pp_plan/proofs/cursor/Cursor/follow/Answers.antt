@@ -1,5 +1,5 @@
 use Rattle.std.proofs.Common.{◌≡◌, true, false, refl, subst}
-use Rattle.pp_plan.specs.Cursor.{Names}
+use Rattle.pp_plan.specs.Cursor.{NamesAction}
 use Rattle.pp_plan.proofs.Passing.{passes}
 use Rattle.pp_plan.proofs.Standing.{answers_named, stands_followed}
 use Rattle.pp_plan.proofs.cursor.Cursor.follow.Goals as goal
@@ -16,7 +16,7 @@ pub go_past-requires : goal.go_past-requires
 go_past-requires c =
     let plan = c.args.plan.now in
     let named =
-    subst (λ x. Names plan.layout x c.args.action) c.next_ask-ask.ensures.is (c.if-not-is_named.ensures.0 refl) in
+    subst (λ x. NamesAction plan.layout x c.args.action) c.next_ask-ask.ensures.is (c.if-not-is_named.ensures.0 refl) in
     (passes plan.layout _ _ plan.body c.args.self.now c.args.action c.next_ask-ask.ensures.facts.body
     c.requires.1.at.path named).can
 

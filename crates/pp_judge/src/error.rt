@@ -2,9 +2,9 @@
 
 ghost use Rattle.std.specs.Prelude.{◌≡◌, Some};
 ghost use Rattle.pp_judge.specs.Steps.{is_want_of_memory};
-ghost use Rattle.pp_text.specs.Views.{row_of as printed};
-ghost use Rattle.pp_judge.specs.Lines.{refusal_line, row_of};
-ghost use Rattle.pp_judge.specs.declared.refusal.Refusal.TheVariants.{Settings, Plan, Certificate, Annotate};
+ghost use Rattle.pp_text.specs.Views.{row_of_refusal};
+ghost use Rattle.pp_judge.specs.Lines.{refusal_line, judge_error_row};
+ghost use Rattle.pp_judge.specs.declared.error.JudgeError.TheVariants.{Settings, Plan, Certificate, Annotate};
 
 use pp_annotate::AnnotateError;
 use pp_cert::{CertError, CheckError};
@@ -14,7 +14,7 @@ use std::fmt;
 
 /// Why the files of a command are refused: the first refusal, in the order of the files.
 #[derive(Clone, Copy, Debug, PartialEq, Eq)]
-pub enum Refusal {
+pub enum JudgeError {
     /// The first file gives no settings.
     Settings(SettingsError),
     /// The second file gives no plan under these settings.
@@ -27,37 +27,37 @@ pub enum Refusal {
     Annotate(AnnotateError),
 }
 
-impl Refusal {
+impl JudgeError {
     /// Whether this is no refusal of a file, but want of memory.
     pub fn is_want_of_memory(&self) -> bool
         ensures { result ≡ is_want_of_memory self.now }
     {
         matches!(
             self,
-            Refusal::Settings(SettingsError::OutOfMemory)
-                | Refusal::Plan(PlanError::OutOfMemory)
-                | Refusal::Certificate(CertError::OutOfMemory)
-                | Refusal::Annotate(AnnotateError::OutOfMemory)
+            JudgeError::Settings(SettingsError::OutOfMemory)
+                | JudgeError::Plan(PlanError::OutOfMemory)
+                | JudgeError::Certificate(CertError::OutOfMemory)
+                | JudgeError::Annotate(AnnotateError::OutOfMemory)
         )
     }
 
     /// The number, the name and what the refusal is about.
     fn printed(&self) -> pp_text::Refusal
-        ensures { printed result ≡ row_of self.now }
+        ensures { row_of_refusal result ≡ judge_error_row self.now }
     {
         match self {
-            Refusal::Settings(error) => error.refusal(),
-            Refusal::Plan(error) => error.refusal(),
-            Refusal::Certificate(error) => error.refusal(),
-            Refusal::Check(error) => error.refusal(),
-            Refusal::Annotate(error) => error.refusal(),
+            JudgeError::Settings(error) => error.refusal(),
+            JudgeError::Plan(error) => error.refusal(),
+            JudgeError::Certificate(error) => error.refusal(),
+            JudgeError::Check(error) => error.refusal(),
+            JudgeError::Annotate(error) => error.refusal(),
         }
     }
 }
 
 /// The line without its line feed: `refused`, the number, the name and what it is about, as in
 /// `refused 4 Range frames`, `refused 31 NotesShort at 8` and `refused 43 StepsTooFew`.
-impl fmt::Display for Refusal {
+impl fmt::Display for JudgeError {
     ghost output = { λ refusal. Some (refusal_line refusal) };
 
     fn fmt<W: fmt::Write>(&self, f: &mut fmt::Formatter<W>) -> fmt::Result {
@@ -66,34 +66,34 @@ impl fmt::Display for Refusal {
     }
 }
 
-impl From<SettingsError> for Refusal {
+impl From<SettingsError> for JudgeError {
     ghost from_gives = { λ error refusal. refusal ≡ Settings error };
 
-    fn from(error: SettingsError) -> Refusal {
-        Refusal::Settings(error)
+    fn from(error: SettingsError) -> JudgeError {
+        JudgeError::Settings(error)
     }
 }
 
-impl From<PlanError> for Refusal {
+impl From<PlanError> for JudgeError {
     ghost from_gives = { λ error refusal. refusal ≡ Plan error };
 
-    fn from(error: PlanError) -> Refusal {
-        Refusal::Plan(error)
+    fn from(error: PlanError) -> JudgeError {
+        JudgeError::Plan(error)
     }
 }
 
-impl From<CertError> for Refusal {
+impl From<CertError> for JudgeError {
     ghost from_gives = { λ error refusal. refusal ≡ Certificate error };
 
-    fn from(error: CertError) -> Refusal {
-        Refusal::Certificate(error)
+    fn from(error: CertError) -> JudgeError {
+        JudgeError::Certificate(error)
     }
 }
 
-impl From<AnnotateError> for Refusal {
+impl From<AnnotateError> for JudgeError {
     ghost from_gives = { λ error refusal. refusal ≡ Annotate error };
 
-    fn from(error: AnnotateError) -> Refusal {
-        Refusal::Annotate(error)
+    fn from(error: AnnotateError) -> JudgeError {
+        JudgeError::Annotate(error)
     }
 }
