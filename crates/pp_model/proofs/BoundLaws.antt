@@ -33,13 +33,13 @@ use Rattle.pp_model.proofs.Falls.{left_at, acts_left, loads_left, loses_left, gi
 
 -- ---- sums
 
-next_cost : (ps : List Acceptance) (k : ℕ) (a : Acceptance) → slice_get ps k ≡ Some a
+pub next_cost : (ps : List Acceptance) (k : ℕ) (a : Acceptance) → slice_get ps k ≡ Some a
     → sum_by cost_of (drop (suc k) ps) + cost_of a ≡ sum_by cost_of (drop k ps)
 next_cost [] k a e = cc
 next_cost (p ∷ ps) zero a e = let same : p ≡ a = cc in omega (arith, sum_by-cons cost_of p ps, ap cost_of same)
 next_cost (p ∷ ps) (suc k) a e = next_cost ps k a e
 
-released_bound : (s : State) (h : Held) (page w : ℕ) (y : Option Running)
+pub released_bound : (s : State) (h : Held) (page w : ℕ) (y : Option Running)
     → bound (with_seat (released s h page) w y) ≡ bound (with_seat s w y)
 released_bound s Free page w y = refl
 released_bound s S page w y = refl
@@ -157,7 +157,7 @@ released_plans s S page = refl
 released_plans s X page = refl
 
 -- No more plans were taken than were submitted.
-abbrev Taken : State → Type 0
+abbrev pub Taken : State → Type 0
 Taken s = s.taken ≤ length s.plans
 
 same_taken : (s t : State) → t.taken ≡ s.taken → t.plans ≡ s.plans → Taken s → Taken t
@@ -196,14 +196,14 @@ taken_moves s t (change.flushes page can e) h = same_taken s t (ap (λ x. x.take
 taken_moves s t (change.cleans f is e) h = same_taken s t (ap (λ x. x.taken) e) (ap (λ x. x.plans) e) h
 taken_moves s t (change.drops f is e) h = same_taken s t (ap (λ x. x.taken) e) (ap (λ x. x.plans) e) h
 
-taken_kept : IsKept Taken
+pub taken_kept : IsKept Taken
 taken_kept = record {
   opens = λ k ok. omega arith;
   moves = taken_moves;
   submits = λ s a ok e h. omega (arith, length-append s.plans (a ∷ []), h);
 }
 
-drop_more : (k : ℕ) (ps : List Acceptance) (a : Acceptance) → k ≤ length ps
+pub drop_more : (k : ℕ) (ps : List Acceptance) (a : Acceptance) → k ≤ length ps
     → sum_by cost_of (drop k (ps ++ a ∷ [])) ≡ sum_by cost_of (drop k ps) + cost_of a
 drop_more zero ps a le = omega (arith, sum_by-append cost_of ps (a ∷ []), sum_by-cons cost_of a [])
 drop_more (suc k) [] a le = absurd (omega (arith, le))

@@ -29,7 +29,7 @@ true_more plans s (e ∷ es) fs h k = (h.0, true_more plans (after_event plans s
 
 -- ---- moves
 
-turn_plans : (c d : Crew) → Turn c d → (d.plans ≡ c.plans) × (d.settings ≡ c.settings)
+pub turn_plans : (c d : Crew) → Turn c d → (d.plans ≡ c.plans) × (d.settings ≡ c.settings)
 turn_plans c d (stays e) = (ap (λ x. x.plans) e, ap (λ x. x.settings) e)
 turn_plans c d (turns w r x has g e) = (ap (λ x. x.plans) e, ap (λ x. x.settings) e)
 turn_plans c d (takes w k a x idle next fits begun e) = (ap (λ x. x.plans) e, ap (λ x. x.settings) e)

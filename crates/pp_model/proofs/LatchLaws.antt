@@ -76,12 +76,12 @@ free_one : (is : Held → Bool) (q : ℕ) (h : Holding) → is Free ≡ false
 free_one is q h e = alone (latched_on is q) (as_held Free h) ∙ ap {B = ℕ} (λ b. cond b (cond (eqb h.page q) 1 0) 0) e
 
 -- The readers and writers that a latch finds, by the test that it passed.
-no_writer : (readers writers : ℕ) (b : Bool) → nat_lt 0 writers ≡ b
+pub no_writer : (readers writers : ℕ) (b : Bool) → nat_lt 0 writers ≡ b
     → is_compatible latch_mode.S (cond b Exclusive (Shared readers)) ≡ true → writers ≡ 0
 no_writer readers writers true e f = cc
 no_writer readers writers false e f = grind (arith, nat_tests)
 
-nobody : (readers writers : ℕ) (b : Bool) → nat_lt 0 writers ≡ b
+pub nobody : (readers writers : ℕ) (b : Bool) → nat_lt 0 writers ≡ b
     → is_compatible latch_mode.X (cond b Exclusive (Shared readers)) ≡ true → (writers ≡ 0) × (readers ≡ 0)
 nobody readers writers true e f = cc
 nobody readers writers false e f = (grind (arith, nat_tests), grind (arith, nat_tests))

@@ -38,7 +38,7 @@ idle_loads : (q n : ℕ) → sum_by (λ x. times q (seat_loads x)) (replicate n 
 idle_loads q zero = refl
 idle_loads q (suc n) = omega (arith, sum_by-cons (λ x. times q (seat_loads x)) None (replicate n None), idle_loads q n)
 
-idle_victims : (q n : ℕ) → sum_by (λ x. times q (seat_victims x)) (replicate n None) ≡ 0
+pub idle_victims : (q n : ℕ) → sum_by (λ x. times q (seat_victims x)) (replicate n None) ≡ 0
 idle_victims q zero = refl
 idle_victims q (suc n) = omega (
   arith,

@@ -36,13 +36,10 @@ use Rattle.pp_model.proofs.Changes.{slot_asked}
 use Rattle.pp_model.proofs.Room.{room}
 use Rattle.pp_model.proofs.Seats.{IsSeat, OkSeat, Sends, asks_now, begins_more, good}
 use Rattle.pp_model.proofs.Effects.{all_held, has_held, asked_handles}
+use Rattle.pp_model.proofs.Falls.{size_is}
 use Rattle.pp_model.proofs.Soundness.{sound}
 
 -- ---- what one worker takes
-
-size_is : (hs : Holdings) → sum_by (λ h. 1) hs ≡ length hs
-size_is [] = refl
-size_is (h ∷ hs) = omega (arith, sum_by-cons (λ k. 1) h hs, size_is hs)
 
 -- What is held after a beginning of a trace is at most the peak.
 begun_held : (g : Geometry) (r : Running) → IsSeat g r → given_back r.stage ≡ [] → length (holdings r) ≤ r.accepted.peak
@@ -51,7 +48,7 @@ begun_held g r h none =
     omega (arith, ap length (all_held r before.0 none before.1), ap size_of before.1, h.accepted.pins r.done h.begun)
 
 -- At a fix that is asked one slot more fits the peak.
-fix_fits : (g : Geometry) (r : Running) (slot page : ℕ) → IsSeat g r → given_back r.stage ≡ []
+pub fix_fits : (g : Geometry) (r : Running) (slot page : ℕ) → IsSeat g r → given_back r.stage ≡ []
     → Asks r (action.Fix slot page)
     → suc (length (holdings r)) ≤ r.accepted.peak
 fix_fits g r slot page h none asks =
@@ -92,21 +89,21 @@ peak_at g r (leaving given) e h = omega (arith, kept_few r, h.accepted.pins r.do
 pub within_peaks : (s : State) → IsReached s → WithinPeaks s
 within_peaks s h w r e = peak_at s.settings.layout r r.stage refl ((good s h).seats w (Some r) e)
 
-takes_length : (r : Running) → length (takes (Some r)) ≡ length (holdings r) + length (loading r.stage)
+pub takes_length : (r : Running) → length (takes (Some r)) ≡ length (holdings r) + length (loading r.stage)
 takes_length r =
     omega (arith, length-append (held_pages (holdings r)) (loading r.stage), length-map (holdings r) (λ h. h.page))
 
-seat_takes : (g : Geometry) (x : Option Running) → OkSeat g x → length (takes x) ≤ peak_of x
+pub seat_takes : (g : Geometry) (x : Option Running) → OkSeat g x → length (takes x) ≤ peak_of x
 seat_takes g None h = omega arith
 seat_takes g (Some r) h = omega (arith, takes_length r, peak_at g r r.stage refl h)
 
 -- ---- all workers together
 
 -- The pages that the workers take, in one list.
-abbrev taken_pages : List (Option Running) → List ℕ
+abbrev pub taken_pages : List (Option Running) → List ℕ
 taken_pages seats = flat_map takes seats
 
-times_taken : (q : ℕ) (seats : List (Option Running))
+pub times_taken : (q : ℕ) (seats : List (Option Running))
     → times q (taken_pages seats) ≡ sum_by (λ x. times q (takes x)) seats
 times_taken q [] = refl
 times_taken q (x ∷ xs) =
@@ -122,7 +119,7 @@ times_is : (q : ℕ) (xs : List ℕ) → times q xs ≡ times_in xs q
 times_is q [] = refl
 times_is q (x ∷ xs) = omega (arith, times-cons q x xs, times_is q xs)
 
-cached_times : (l : FourLists) (q : ℕ) → times q (l.t1 ++ l.t2) ≡ times_in l.t1 q + times_in l.t2 q
+pub cached_times : (l : FourLists) (q : ℕ) → times q (l.t1 ++ l.t2) ≡ times_in l.t1 q + times_in l.t2 q
 cached_times l q = omega (arith, times-append q l.t1 l.t2, times_is q l.t1, times_is q l.t2)
 
 -- Where every cached page is taken, a page of T1 or T2 is.

@@ -190,7 +190,7 @@ none_there (y ∷ ys) slot e = go (y.slot == slot) refl e (none_there ys slot)
     go true f e all = cc
     go false f e all = omega (arith, sum_by-cons (in_slot slot) y ys, all e, ap {B = ℕ} (λ b. cond b 1 0) f)
 
-unmapped : (o : Option Holding) → option_map (λ h. h.held) o ≡ None → o ≡ None
+pub unmapped : (o : Option Holding) → option_map (λ h. h.held) o ≡ None → o ≡ None
 unmapped None e = refl
 unmapped (Some h) e = cc
 

@@ -1,5 +1,6 @@
 -- Who holds what: computed from the actions that each worker has done.
-use Rattle.std.specs.Prelude.{ℕ, Bool, true, false, not, ◌||◌, ◌==◌, nat_lt, if◌then◌else◌, Option, None, Some, option_map}
+use Rattle.std.specs.Prelude.{ℕ, Bool, true, false, not, ◌||◌, ◌==◌, nat_lt, if◌then◌else◌, Option, None, Some}
+use Rattle.std.specs.Prelude.{option_map}
 use Rattle.std.specs.Prelude.{unwrap_or, List, [], ◌∷◌, ◌++◌, map, filter, sum_by, count_by}
 use Rattle.std.specs.List.{list_any}
 use Rattle.pp_cert.specs.declared.note.Held.{Held}

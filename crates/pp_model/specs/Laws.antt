@@ -1,28 +1,29 @@
 -- Laws of reached states, in the words of those who use a pool.
-use Rattle.std.specs.Prelude.{◌≡◌, ◌≢◌, ◌⊎◌, ℕ, ◌+◌, ◌<◌, ◌≤◌, false, None, Some, List, [], ◌∷◌, ◌++◌, length}
-use Rattle.std.specs.Prelude.{All, IsTrue}
+use Rattle.std.specs.Prelude.{◌≡◌, ◌≢◌, ◌⊎◌, ◌↔◌, ℕ, ◌+◌, ◌^◌, ◌<◌, ◌≤◌, true, false, None, Some, List, [], ◌∷◌}
+use Rattle.std.specs.Prelude.{◌++◌, length, All, IsTrue, IsSome}
 use Rattle.pp_plan.specs.declared.mode.Mode.{Mode}
 use Rattle.pp_plan.specs.declared.action.Action.TheVariants as action
-use Rattle.pp_cert.specs.Held.{IsAboveLatched}
+use Rattle.pp_cert.specs.Held.{Holding, holding_at, IsAboveLatched}
 use Rattle.pp_cert.specs.Accepted.{Acceptance, IsAccepted}
 use Rattle.pp_arc.specs.FourLists.{is_cached, cached_count}
-use Rattle.pp_frames.specs.Marks.{marks_of, with_marks}
+use Rattle.pp_frames.specs.Marks.{marks_of, with_marks, all_pins, least_free}
 use Rattle.pp_model.specs.declared.event.Event.{Event}
 use Rattle.pp_model.specs.declared.event.Event.TheVariants.{Submit, Step}
+use Rattle.pp_model.specs.declared.turn.Turn.{Turn}
 use Rattle.pp_model.specs.declared.moves.Move.{Move}
 use Rattle.pp_model.specs.declared.moves.Move.TheVariants as moves
 use Rattle.pp_model.specs.declared.refusals.Delay.TheVariants.{FlushHolds}
 use Rattle.pp_model.specs.declared.reply.Reply.TheVariants.{NotNow}
-use Rattle.pp_model.specs.Pool.{acting, Running, Flush, State}
+use Rattle.pp_model.specs.Pool.{acting, writing, Running, Flush, State, frame_of, is_dirty, known_mark}
 use Rattle.pp_model.specs.Holders.{holdings, loading, is_taken, readers_of, writers_of, errands_of}
 use Rattle.pp_model.specs.Budget.{cost_of, bound}
 use Rattle.pp_model.specs.Moves.{seat_of, reply_of, next_of, is_possible, IsPossible}
-use Rattle.pp_model.specs.Submitting.{submit_error, after_submit}
+use Rattle.pp_model.specs.Submitting.{most_events, submit_error, after_submit}
 use Rattle.pp_model.specs.Runs.{Input, plan, move, run, state_after, count_done}
 use Rattle.pp_model.specs.Journals.{IsJournalOf}
 use Rattle.pp_model.specs.Reached.{IsReached}
 use Rattle.pp_model.specs.Marks.{marks_at, marks}
-use Rattle.pp_model.specs.Turns.{Asks}
+use Rattle.pp_model.specs.Turns.{Asks, IsOpen, next_turn, IsUnderWay}
 
 -- ---- all frames fixed
 
@@ -116,6 +117,43 @@ JournalTakesIn s =
     (es : List Event) (a : Acceptance) → IsJournalOf s es → submit_error s a ≡ None
     → IsJournalOf (after_submit s a) (es ++ Submit (length s.plans) ∷ [])
 
+-- ---- frames and marks
+
+-- A page has a frame exactly where it is cached.
+abbrev pub CachedAreFramed : State → Type 0
+CachedAreFramed s = (page : ℕ) → IsTrue (is_cached s.lists page) ↔ IsSome (frame_of s page)
+
+-- Where the cache isn't full, a frame is free.
+abbrev pub FrameIsLeft : State → Type 0
+FrameIsLeft s = cached_count s.lists < s.settings.layout.frames → IsSome (least_free (marks s))
+
+-- Where a worker's plan asks a fix, there are fewer pins in all than frames.
+abbrev pub PinIsLeft : State → Type 0
+PinIsLeft s =
+    (w slot page : ℕ) (r : Running) → IsActing s w r → Asks r (action.Fix slot page)
+    → all_pins (marks s) < s.settings.layout.frames
+
+-- For some worker the page is written back as a victim.
+abbrev pub IsWrittenBack : State → (victim : ℕ) → Type 0
+IsWrittenBack s victim =
+    (w : ℕ) × (r : Running) × (slot : ℕ) × (page : ℕ) × (seat_of s w ≡ Some (Some r))
+    × (r.stage ≡ writing slot page victim)
+
+-- A page that is newer than the device's is cached, or it is written back as a victim.
+abbrev pub DirtyAreKept : State → Type 0
+DirtyAreKept s = (page : ℕ) → is_dirty s page ≡ true → IsTrue (is_cached s.lists page) ⊎ IsWrittenBack s page
+
+-- A page that a slot holds has a known mark.
+abbrev pub HeldAreKnown : State → Type 0
+HeldAreKnown s =
+    (w : ℕ) (r : Running) (slot : ℕ) (h : Holding) → seat_of s w ≡ Some (Some r)
+    → holding_at (holdings r) slot ≡ Some h → IsSome (known_mark s h.page)
+
+-- No mark comes near 2^64: a mark and the bound on the moves that are left come together to at most 2^62 and the most
+-- events of a journal.
+abbrev pub MarksAreSmall : State → Type 0
+MarksAreSmall s = (page mark : ℕ) → known_mark s page ≡ Some mark → mark + bound s ≤ 2 ^ 62 + most_events
+
 -- ---- the marks of all pages
 
 -- The map has of each page what is marked of it.
@@ -127,3 +165,13 @@ abbrev pub OnePageChanges : (s t : State) → Type 0
 OnePageChanges s t =
     (page : ℕ) → ((q : ℕ) → q ≢ page → marks_at t q ≡ marks_at s q)
     → marks t ≡ with_marks (marks s) page (marks_at t page)
+
+-- ---- turns
+
+-- There is a next turn if and only if a plan waits, some worker isn't idle, or a flush is in flight.
+abbrev pub NextWhileUnderWay : State → Type 0
+NextWhileUnderWay s = IsSome (next_turn s) ↔ IsUnderWay s
+
+-- The next turn is open: its moves are possible, whatever is decided in them.
+abbrev pub NextIsOpen : State → Type 0
+NextIsOpen s = (turn : Turn) → next_turn s ≡ Some turn → IsOpen s turn

@@ -12,6 +12,7 @@ pub mod Leaving
 pub mod Flushing
 pub mod Moves
 pub mod Submitting
+pub mod SubmitErrors
 pub mod Runs
 pub mod Journals
 pub mod JournalMarks
@@ -19,4 +20,3 @@ pub mod WorkerParts
 pub mod Turns
 pub mod Reached
 pub mod Laws
-pub mod StandsFor

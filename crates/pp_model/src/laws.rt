@@ -2,12 +2,16 @@
 
 ghost use Rattle.std.specs.Prelude.{◌≡◌, ◌≤◌, length};
 ghost use Rattle.pp_arc.specs.Bounds.{IsWithinBounds};
+ghost use Rattle.pp_frames.specs.Marks.{IsSound};
 ghost use Rattle.pp_model.specs.Pool.{State, Settings, opening};
 ghost use Rattle.pp_model.specs.Budget.{running_peaks};
 ghost use Rattle.pp_model.specs.Reached.{IsSettings, IsReached};
+ghost use Rattle.pp_model.specs.Marks.{marks};
 ghost use Rattle.pp_model.specs.Laws.{WithinPeaks, NoneStuck, FlushHoldsAlone, InOrder, LatchesAgree, OneErrand};
 ghost use Rattle.pp_model.specs.Laws.{BoundFalls, RefusedLeaves, BoundRises, DoneWithinBound, StaysReached};
-ghost use Rattle.pp_model.specs.Laws.{JournalGrows, JournalTakesIn, MarksTell, OnePageChanges};
+ghost use Rattle.pp_model.specs.Laws.{JournalGrows, JournalTakesIn, MarksTell, OnePageChanges, CachedAreFramed};
+ghost use Rattle.pp_model.specs.Laws.{FrameIsLeft, PinIsLeft, DirtyAreKept, HeldAreKnown, MarksAreSmall};
+ghost use Rattle.pp_model.specs.Laws.{NextWhileUnderWay, NextIsOpen};
 
 /// Room: the peaks of all plans that run sum to at most the frames, and each worker holds and loads at most its peak.
 pub fn peaks_fit()
@@ -56,9 +60,34 @@ pub fn runs_stay_reached()
     ensures submits { (s : State) → JournalTakesIn s }
 {}
 
+/// A page has a frame exactly where it is cached. No frame has two pages, each is one of the pool's, there are no more
+/// pins in all than frames, and no page has more latches than pins: the map of the marks is sound. Where the cache
+/// isn't full a frame is free, and where a plan asks a fix there is room for its pin.
+pub fn frames_are_apart()
+    ensures framed { (s : State) → IsReached s → CachedAreFramed s }
+    ensures sound { (s : State) → IsReached s → IsSound (marks s) }
+    ensures frame { (s : State) → IsReached s → FrameIsLeft s }
+    ensures pin { (s : State) → IsReached s → PinIsLeft s }
+{}
+
+/// A page that is newer than the device's is cached, or it is written back as a victim. A page that a slot holds has a
+/// known mark. No mark comes near 2^64, now or after the moves that are left.
+pub fn marks_are_kept()
+    ensures dirty { (s : State) → IsReached s → DirtyAreKept s }
+    ensures held { (s : State) → IsReached s → HeldAreKnown s }
+    ensures small { (s : State) → IsReached s → MarksAreSmall s }
+{}
+
 /// The map of the marks has of each page what the state says of it, and changes as the state does, page by page.
 pub fn marks_go_by_page()
     ensures tell { (s : State) → MarksTell s }
     ensures change { (s t : State) → s.settings.layout.frames ≡ t.settings.layout.frames
         → length s.notes ≡ length t.notes → OnePageChanges s t }
+{}
+
+/// There is a next turn while a plan waits, a worker has a plan or a flush is in flight, and only then. It is open: its
+/// moves are possible, whatever is decided in them. So neither latches nor full frames ever stop all who could move.
+pub fn next_turn_is_open()
+    ensures some { (s : State) → IsReached s → NextWhileUnderWay s }
+    ensures possible { (s : State) → IsReached s → NextIsOpen s }
 {}

@@ -1,7 +1,8 @@
 //! Why a move or a plan is refused.
 
-ghost use Rattle.std.specs.Prelude.{Some};
+ghost use Rattle.std.specs.Prelude.{◌≡◌, Some};
 
+use pp_text::{About, Refusal};
 use std::fmt;
 
 /// Why a move isn't possible now. It may become possible without the mover's doing.
@@ -16,7 +17,8 @@ pub enum Delay {
     InFlight,
     /// Every page that could leave the cache is taken, or is the one being flushed.
     FlushHolds,
-    /// A latch stands on the page that doesn't go with the one that is asked for, or an X latch, where a flush would begin.
+    /// A latch stands on the page that doesn't go with the one that is asked for, or an X latch, where a flush would
+    /// begin.
     LatchHeld,
     /// A flush is in flight.
     FlushBusy,
@@ -97,4 +99,34 @@ pub enum SubmitError {
     /// The events of all plans and flushes would not fit a journal.
     #[error("the journal of all plans and flushes would be too long")]
     JournalLimit,
+}
+
+impl SubmitError {
+    ghost use Rattle.pp_text.specs.Views.{row_of_refusal};
+    ghost use Rattle.pp_model.specs.SubmitErrors.{submit_error_row};
+
+    /// What a program prints: the number and the name, as in `52 JournalLimit`.
+    pub fn refusal(self) -> Refusal
+        ensures { row_of_refusal result ≡ submit_error_row self }
+    {
+        match self {
+            SubmitError::OtherSettings => Refusal::new(53, "OtherSettings", About::Nothing),
+            SubmitError::TooManyPlans => Refusal::new(51, "TooManyPlans", About::Nothing),
+            SubmitError::JournalLimit => Refusal::new(52, "JournalLimit", About::Nothing),
+        }
+    }
+
+    /// The number of the refusal: 51 to 53.
+    pub fn number(self) -> u8
+        ensures { result ≡ (submit_error_row self).number }
+    {
+        self.refusal().number
+    }
+
+    /// The name of the refusal, as it is printed.
+    pub fn name(self) -> &'static str
+        ensures { result.now ≡ (submit_error_row self).name }
+    {
+        self.refusal().name
+    }
 }

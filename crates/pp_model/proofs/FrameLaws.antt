@@ -1,0 +1,124 @@
+-- Frames and marks of reached states, in the words of the laws; and the map of the marks is sound.
+use Rattle.std.proofs.Common.{◌≡◌, ◌∙◌, ◌⊎◌, ℕ, suc, ◌<◌, ◌≤◌, Option, Some, None, List, [], ◌∷◌, length, refl, sym, ap}
+use Rattle.std.proofs.Common.{subst, inl, inr, arith}
+use Rattle.std.specs.Prelude.{slice_get, sum_by, IsSome}
+use Rattle.std.proofs.lemmas.Bool.{cases_lt}
+use Rattle.std.proofs.lemmas.List.{get_or_past}
+use Rattle.std.proofs.lemmas.List.Sums.{sum_by-cons}
+use Rattle.pp_frames.specs.Marks as map
+use Rattle.pp_frames.specs.Marks.{PageMarks}
+use Rattle.pp_model.specs.Pool.{Stage, acting, writing, reading, leaving, Running, State}
+use Rattle.pp_model.specs.Holders.{times, takes}
+use Rattle.pp_model.specs.Budget.{peak_of}
+use Rattle.pp_model.specs.Reached.{IsReached}
+use Rattle.pp_model.specs.Marks.{marks}
+use Rattle.pp_model.specs.Laws.{IsWrittenBack, CachedAreFramed, FrameIsLeft, DirtyAreKept, HeldAreKnown}
+use Rattle.pp_model.proofs.Sums.{sum_by-le}
+use Rattle.pp_model.proofs.Seats.{good}
+use Rattle.pp_model.proofs.Room.{room}
+use Rattle.pp_model.proofs.Requests.{Which, same, other, which}
+use Rattle.pp_model.proofs.Totals.{victims_of, seat_victims, sent_in, pins_are}
+use Rattle.pp_model.proofs.Soundness.{sound}
+use Rattle.pp_model.proofs.Stuck.{seat_takes}
+use Rattle.pp_model.proofs.MarkChanges.{count_told, pins_told, latches_fit, listed_other}
+use Rattle.pp_model.proofs.FreeFrames.{frame_is}
+use Rattle.pp_model.proofs.Framed.{framed, held_one, some_free}
+use Rattle.pp_model.proofs.PinRoom.{pins_few}
+use Rattle.pp_model.proofs.KnownMarks.{held_is_known}
+
+-- ---- a victim has a worker
+
+some_seat : (f : Option Running → ℕ) (xs : List (Option Running)) → 0 < sum_by f xs
+    → (i : ℕ) × (x : Option Running) × (slice_get xs i ≡ Some x) × (0 < f x)
+some_seat f [] some = absurd (omega (arith, some))
+some_seat f (x ∷ xs) some = go (cases_lt 0 (f x)) (some_seat f xs)
+  where
+    go : (0 < f x) ⊎ (f x ≤ 0)
+        → (0 < sum_by f xs → (i : ℕ) × (y : Option Running) × (slice_get xs i ≡ Some y) × (0 < f y))
+        → (i : ℕ) × (y : Option Running) × (slice_get (x ∷ xs) i ≡ Some y) × (0 < f y)
+    go (inl lt) all = (0, x, refl, lt)
+    go (inr le) all =
+        let later = all (omega (arith, some, sum_by-cons f x xs, le)) in
+        (suc later.0, later.1, later.2, later.3)
+
+sent_for : (q : ℕ) (g : Stage) → 0 < times q (sent_in g) → (slot : ℕ) × (page : ℕ) × (g ≡ writing slot page q)
+sent_for q acting some = absurd (omega (arith, some))
+sent_for q (writing slot page v) some = go (which v q)
+  where
+    go : Which v q → (t : ℕ) × (p : ℕ) × (writing slot page v ≡ writing t p q)
+    go (same e f) = (slot, page, ap (writing slot page) e)
+    go (other e f) = absurd (omega (arith, some, listed_other v q e))
+sent_for q (reading slot page) some = absurd (omega (arith, some))
+sent_for q (leaving given) some = absurd (omega (arith, some))
+
+written_back : (s : State) (q : ℕ) → 0 < victims_of s q → IsWrittenBack s q
+written_back s q some =
+    let seat = some_seat (λ x. times q (seat_victims x)) s.seats some in go seat.0 seat.1 seat.2 seat.3
+  where
+    go : (w : ℕ) (x : Option Running) → slice_get s.seats w ≡ Some x → 0 < times q (seat_victims x)
+        → IsWrittenBack s q
+    go w None e lt = absurd (omega (arith, lt))
+    go w (Some r) e lt =
+        let stage = sent_for q r.stage lt in (w, r, stage.0, stage.1, e, stage.2)
+
+-- ---- the laws
+
+pub cached_are_framed : (s : State) → IsReached s → CachedAreFramed s
+cached_are_framed s h q = ((framed s h).placed q, (framed s h).cached q)
+
+pub frame_is_left : (s : State) → IsReached s → FrameIsLeft s
+frame_is_left s h few =
+    subst (λ (o : Option ℕ). IsSome o) (sym (some_free s h (omega (arith, few, (sound s h).c)))) refl
+
+pub dirty_are_kept : (s : State) → IsReached s → DirtyAreKept s
+dirty_are_kept s h q e =
+    elim ((framed s h).changed q e) [ inl here ↦ inl here | inr some ↦ inr (written_back s q some) ]
+
+pub held_are_known : (s : State) → IsReached s → HeldAreKnown s
+held_are_known s h w r slot x seat found = held_is_known s h x.page (held_one s w r slot x seat found)
+
+-- ---- the map is sound
+
+pinned_placed : (s : State) → IsReached s → (q : ℕ) → 0 < map.pins_of (marks s) q
+    → IsSome (map.frame_of (marks s) q)
+pinned_placed s h q some =
+    elim (cases_lt q (length s.notes)) [
+      | inl lt ↦
+          let here = (sound s h).cached q (omega (arith, some, pins_told s q lt, pins_are s q)) in
+          subst (λ (o : Option ℕ). IsSome o) (sym (frame_is s q)) ((framed s h).placed q here)
+      | inr le ↦
+          absurd (omega (
+            arith,
+            some,
+            ap (λ (x : PageMarks). x.pins)
+                (get_or_past (marks s).pages q map.untouched_marks (omega (arith, le, count_told s))),
+          ))
+    ]
+
+latched_pinned : (s : State) (q : ℕ) → map.latch_count (map.latches_of (marks s) q) ≤ map.pins_of (marks s) q
+latched_pinned s q =
+    elim (cases_lt q (length s.notes)) [
+      | inl lt ↦ latches_fit s q lt
+      | inr le ↦
+          let past = get_or_past (marks s).pages q map.untouched_marks (omega (arith, le, count_told s)) in
+          omega (arith, ap (λ (x : PageMarks). map.latch_count x.latches) past)
+    ]
+
+pub map_is_sound : (s : State) → IsReached s → map.IsSound (marks s)
+map_is_sound s h =
+    let layout = s.settings.layout in
+    let each : (v : ℕ) (x : Option Running) → slice_get s.seats v ≡ Some x → length (takes x) ≤ peak_of x =
+    λ v x e. seat_takes layout x ((good s h).seats v x e) in
+    record {
+      in_range = λ q f e. (framed s h).in_range q f (sym (frame_is s q) ∙ e);
+      no_frame_twice = λ p q f e g.
+          (framed s h).no_frame_twice p q f (sym (frame_is s p) ∙ e) (sym (frame_is s q) ∙ g);
+      pinned_is_placed = pinned_placed s h;
+      latched_is_pinned = latched_pinned s;
+      pins_fit = omega (
+        arith,
+        pins_few s,
+        sum_by-le (λ x. length (takes x)) peak_of s.seats each,
+        room s h,
+      );
+    }
