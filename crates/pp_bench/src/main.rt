@@ -1,12 +1,15 @@
 //! The program `pp_bench`: plays a trace to a part of the pool, and prints what it counted.
 //!
 //! `pp_bench directory hit|skew|loop|mixed OPS [FRAMES]` prints how many of the requests missed, and
-//! `pp_bench marks OPS [FRAMES]` how many pages were brought in, each in place of another.
+//! `pp_bench marks OPS [FRAMES]` how many pages were brought in, each in place of another. `pp_bench moves
+//! hit|skew|loop|mixed OPS` plays fixes, latches, unlatches and unfixes to the core, and prints how many pages were
+//! read.
 //! How long a run takes is for the caller to measure.
 #![tactic(auto)]
 
 mod directory;
 mod marks;
+mod moves;
 mod trace;
 mod trouble;
 
@@ -35,6 +38,7 @@ fn play(rt: &HostRuntime) -> Result<(), Trouble> {
     match part.as_str() {
         "directory" => directory::play(rt, &words[2..]),
         "marks" => marks::play(rt, &words[2..]),
+        "moves" => moves::play(rt, &words[2..]),
         _ => Err(Trouble::Words),
     }
 }

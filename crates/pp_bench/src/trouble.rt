@@ -11,6 +11,8 @@ pub enum Trouble {
     Words,
     /// Memory could not be had.
     Memory,
+    /// The core refused a move that its plan asks, or the plan.
+    Refused,
     /// The words could not be read, or the count could not be written.
     Io(io::Error),
 }
@@ -20,7 +22,7 @@ impl Trouble {
     pub fn status(&self) -> u8 {
         match self {
             Trouble::Words => 2,
-            Trouble::Memory | Trouble::Io(_) => 1,
+            Trouble::Memory | Trouble::Refused | Trouble::Io(_) => 1,
         }
     }
 }
@@ -31,10 +33,12 @@ impl Display for Trouble {
             Trouble::Words => {
                 write!(
                     f,
-                    "usage: pp_bench directory hit|skew|loop|mixed OPS [FRAMES], or pp_bench marks OPS [FRAMES]"
+                    "usage: pp_bench directory hit|skew|loop|mixed OPS [FRAMES], pp_bench marks OPS [FRAMES], \
+                    or pp_bench moves hit|skew|loop|mixed OPS, of at most 200000"
                 )
             }
             Trouble::Memory => write!(f, "out of memory"),
+            Trouble::Refused => write!(f, "the core refused a move"),
             Trouble::Io(error) => write!(f, "{error}"),
         }
     }

@@ -1,0 +1,256 @@
+-- An action of a worker that its plan asks: the core can do it, and its seats then fit those of the state.
+use Rattle.std.proofs.Common.{◌≡◌, ◌∙◌, ℕ, ◌+◌, ◌<◌, ◌≤◌, ◌^◌, Option, Some, None, List, [], ◌∷◌, ◌++◌, length, refl}
+use Rattle.std.proofs.Common.{sym, ap}
+use Rattle.std.proofs.Common.{subst, arith}
+use Rattle.std.specs.Prelude.{slice_get, slice_set}
+use Rattle.std.proofs.lemmas.List.{length-append}
+use Rattle.pp_plan.specs.declared.mode.Mode.{Mode}
+use Rattle.pp_plan.specs.declared.action.Action.{Action}
+use Rattle.pp_plan.specs.declared.action.Action.TheVariants as action
+use Rattle.pp_plan.specs.Terms.{Terms}
+use Rattle.pp_plan.specs.PlanTraces.{PlanAsks}
+use Rattle.pp_plan.specs.Left.{Place}
+use Rattle.pp_plan.specs.Cursor.{StandsFor as CursorStandsFor}
+use Rattle.pp_cert.specs.Accepted.{Acceptance}
+use Rattle.pp_cert.specs.Held.{Holding, holding_at}
+use Rattle.pp_model.specs.Pool.{Stage, acting, writing, reading, leaving, Running, State}
+use Rattle.pp_model.specs.Holders.{holdings}
+use Rattle.pp_model.specs.Outcome.{having_done}
+use Rattle.pp_model.specs.Moves.{seat_of}
+use Rattle.pp_model.proofs.Changes.{IsAt, IsAsked}
+use Rattle.pp_model.proofs.HoldingSteps as steps
+use Rattle.pp_model.proofs.BoundSteps as numbers
+use Rattle.pp_core.specs.declared.seat.Hold.{Hold}
+use Rattle.pp_core.specs.declared.seat.Seat.{Seat}
+use Rattle.pp_core.specs.Slots.{slots_after, count_after}
+use Rattle.pp_core.specs.Seats.{FitsSlots, Did}
+use Rattle.pp_core.specs.Parts.{Parts}
+use Rattle.pp_core.specs.StandsFor.{FitsRunning, FitsSeat, FitsCrew, StandsFor}
+use Rattle.pp_core.specs.Effects.{IsIn, CanAct, Acted}
+use Rattle.pp_core.proofs.Crew.{seat_to, seat_set}
+use Rattle.pp_core.proofs.Asking.{both, runs}
+use Rattle.pp_core.proofs.SlotTies.{Tell, tell_set, tell_as, acted_fits}
+
+-- ---- one worker on both sides
+
+-- The core has a seat for the worker.
+pub record Kept (f : Parts) (s : State) (w : ℕ) (r : Running) : Type 0 where
+  pub seat : Seat
+  pub is_in : IsIn f w seat
+  pub fits : FitsRunning s.plans seat r
+
+kept_of : (f : Parts) (s : State) (w : ℕ) (r : Running) (x : Option Seat) → slice_get f.seats w ≡ Some x
+    → FitsSeat s.plans x (Some r) → Kept f s w r
+kept_of f s w r None e h = absurd h
+kept_of f s w r (Some x) e h = record { seat = x; is_in = e; fits = h }
+
+pub kept : (f : Parts) (s : State) (w : ℕ) (r : Running) → StandsFor f s → seat_of s w ≡ Some (Some r) → Kept f s w r
+kept f s w r st e =
+    let there = seat_to s.plans f.seats s.seats w (Some r) st.seats e in
+    kept_of f s w r there.0 there.1 there.2
+
+same_running : (o : Option (Option Running)) (r q : Running) → o ≡ Some (Some r) → o ≡ Some (Some q) → q ≡ r
+same_running o r q e f = cc
+
+pub fits_running : (f : Parts) (s : State) (w : ℕ) (x : Seat) (r : Running) → StandsFor f s → IsIn f w x
+    → seat_of s w ≡ Some (Some r) → FitsRunning s.plans x r
+fits_running f s w x r st is_in e =
+    let two = both f s w x st is_in in
+    subst (FitsRunning s.plans x) (same_running (seat_of s w) r two.running e two.there) two.fits
+
+same_plan : (o : Option Acceptance) (a b : Acceptance) → o ≡ Some a → o ≡ Some b → a ≡ b
+same_plan o a b e f = cc
+
+same_seat : (o : Option (Option Seat)) (x y : Seat) → o ≡ Some (Some x) → o ≡ Some (Some y) → x ≡ y
+same_seat o x y e f = cc
+
+pub one_seat : (f : Parts) (w : ℕ) (x y : Seat) → IsIn f w x → IsIn f w y → x ≡ y
+one_seat f w x y e f' = same_seat (slice_get f.seats w) x y e f'
+
+-- ---- cursors
+
+-- Where a cursor stands for two lists, the plan asks the same after both.
+asks_same : (p : Terms) (c : Place) (t u : List Action) (a : Action) → CursorStandsFor p c t → CursorStandsFor p c u
+    → PlanAsks p t a → PlanAsks p u a
+asks_same p c t u a h k asks = (asks.0, k.from (a ∷ asks.0) (h.to (a ∷ asks.0) asks.1))
+
+-- A worker at this stage follows its plan.
+abbrev pub IsOnPlan : Stage → Type 0
+IsOnPlan acting = Unit {0}
+IsOnPlan (writing slot page victim) = Unit {0}
+IsOnPlan (reading slot page) = Unit {0}
+IsOnPlan (leaving given) = ⊥
+
+pub cursor_of : (plans : List Acceptance) (x : Seat) (r : Running) → FitsRunning plans x r → IsOnPlan r.stage
+    → CursorStandsFor r.accepted.plan x.cursor r.done
+cursor_of plans x r fits on = fits.cursor
+
+-- ---- before the action
+
+-- What the state says of an action that the core is about to do.
+pub record IsDue (r : Running) (a : Action) : Type 0 where
+  pub on : IsOnPlan r.stage
+  pub asks : PlanAsks r.accepted.plan r.done a
+  pub few : length r.done < 1000000
+  pub slots : FitsSlots a (length (holdings r)) 32
+
+pub can_act : (f : Parts) (s : State) (w : ℕ) (r : Running) (a : Action) → StandsFor f s → seat_of s w ≡ Some (Some r)
+    → IsDue r a → CanAct f w a
+can_act f s w r a st e due =
+    let k = kept f s w r st e in
+    let x = k.seat in
+    let cursor = cursor_of s.plans x r k.fits due.on in
+    let slots = subst (λ (n : ℕ). FitsSlots a n (length x.slots)) (sym k.fits.holds)
+    (subst (λ (n : ℕ). FitsSlots a (length (holdings r)) n) (sym k.fits.width) due.slots) in
+    let room : x.actions + 1 < 2 ^ 32 = omega (arith, k.fits.actions, due.few) in
+    record {
+      seat = x;
+      accepted = r.accepted;
+      runs = runs f s w x r st k.is_in k.fits;
+      can = record {
+        cursor = (r.done, cursor);
+        asks = λ before h. asks_same r.accepted.plan x.cursor r.done before a cursor h due.asks;
+        actions = room;
+        slots = slots;
+      };
+    }
+
+-- ---- after it
+
+-- The worker's slots say after the action what its holdings say.
+abbrev pub SlotsFollow : Running → Action → Type 0
+SlotsFollow r a =
+    (xs : List (Option Hold)) (n : ℕ) → length xs ≡ 32 → Tell xs (holdings r) → n ≡ length (holdings r)
+    → (count_after a n ≡ length (holdings (having_done r a))) × Tell (slots_after a xs) (holdings (having_done r a))
+
+pub acted_crew : (f g : Parts) (s : State) (w : ℕ) (r : Running) (a : Action) → StandsFor f s → Acted f g w a
+    → seat_of s w ≡ Some (Some r) → IsOnPlan r.stage → SlotsFollow r a
+    → FitsCrew s.plans g.seats (slice_set s.seats w (Some (having_done r a)))
+acted_crew f g s w r a st acted e on follow =
+    let x = acted.seat in
+    let fits = fits_running f s w x r st acted.runs.is_in e in
+    let plan : acted.accepted ≡ r.accepted =
+    same_plan (slice_get f.plans x.plan) acted.accepted r.accepted acted.runs.plan
+    (runs f s w x r st acted.runs.is_in fits).plan in
+    let did : Did r.accepted.plan x acted.after a =
+    subst (λ (b : Acceptance). Did b.plan x acted.after a) plan acted.did in
+    let slots = follow x.slots x.holds fits.width fits.slots fits.holds in
+    let more : length r.done + 1 ≡ length (r.done ++ a ∷ []) = omega (arith, length-append r.done (a ∷ [])) in
+    let after = acted_fits s.plans x acted.after r a fits (cursor_of s.plans x r fits on) did slots.0 slots.1 more in
+    subst (λ (xs : List (Option Seat)). FitsCrew s.plans xs (slice_set s.seats w (Some (having_done r a))))
+    (sym acted.seats) (seat_set s.plans f.seats s.seats w (Some acted.after) (Some (having_done r a)) st.seats after)
+
+-- ---- each action
+
+module _ (f : Parts) (s : State) (w : ℕ) (r : Running) (st : StandsFor f s) where
+  on_acting : (g : Stage) → g ≡ acting → IsOnPlan g
+  on_acting g e = subst IsOnPlan (sym e) tt
+
+  pub acting_on : (a : Action) → IsAsked s w r a → IsOnPlan r.stage
+  acting_on a asked = on_acting r.stage asked.at.stage
+
+  pub reading_on : (slot page : ℕ) → IsAt s w r (reading slot page) → IsOnPlan r.stage
+  reading_on slot page at = subst IsOnPlan (sym at.stage) tt
+
+  limited : seat_of s w ≡ Some (Some r) → length r.done < r.accepted.steps → length r.done < 1000000
+  limited e few = omega (arith, (steps.seat_is s st.reached w r e).accepted.limit)
+
+  held_few : seat_of s w ≡ Some (Some r) → length (holdings r) ≤ 32
+  held_few e = steps.slots_are_few s st.reached w r e
+
+  asked_due : (a : Action) → IsAsked s w r a → FitsSlots a (length (holdings r)) 32 → IsDue r a
+  asked_due a asked fits = record {
+    on = acting_on a asked;
+    asks = steps.asks_it s st.reached w r a asked;
+    few = limited asked.at.seat (numbers.asked_few s st.reached w r a asked);
+    slots = fits;
+  }
+
+  pub fix_due : (slot page : ℕ) → IsAsked s w r (action.Fix slot page) → IsDue r (action.Fix slot page)
+  fix_due slot page asked =
+      asked_due (action.Fix slot page) asked
+      ((steps.fix_finds s st.reached w r slot page asked).few, held_few asked.at.seat)
+
+  pub load_due : (slot page : ℕ) → IsAt s w r (reading slot page) → IsDue r (action.Fix slot page)
+  load_due slot page at = record {
+    on = reading_on slot page at;
+    asks = steps.reading_asks s st.reached w r slot page at;
+    few = limited at.seat (numbers.reading_few s st.reached w r slot page at);
+    slots = ((steps.reading_finds s st.reached w r slot page at).few, held_few at.seat);
+  }
+
+  found_few : (slot : ℕ) (h : Holding) → seat_of s w ≡ Some (Some r) → holding_at (holdings r) slot ≡ Some h → slot < 32
+  found_few slot h e found = (steps.slots_are_within s st.reached w r e slot h found).few
+
+  pub unfix_due : (slot : ℕ) → IsAsked s w r (action.Unfix slot) → IsDue r (action.Unfix slot)
+  unfix_due slot asked =
+      let finds = steps.unfix_finds s st.reached w r slot asked in
+      let some : 0 < length (holdings r) = omega (arith, steps.unfix_length s st.reached w r slot asked) in
+      asked_due (action.Unfix slot) asked (found_few slot finds.0 asked.at.seat finds.1.found, some)
+
+  pub latch_due : (slot : ℕ) (m : Mode) → IsAsked s w r (action.Latch slot m) → IsDue r (action.Latch slot m)
+  latch_due slot m asked =
+      let finds = steps.latch_finds s st.reached w r slot m asked in
+      asked_due (action.Latch slot m) asked (found_few slot finds.0 asked.at.seat finds.1.found)
+
+  pub unlatch_due : (slot : ℕ) → IsAsked s w r (action.Unlatch slot) → IsDue r (action.Unlatch slot)
+  unlatch_due slot asked =
+      let finds = steps.unlatch_finds s st.reached w r slot asked in
+      asked_due (action.Unlatch slot) asked (found_few slot finds.0 asked.at.seat finds.1.found)
+
+  pub choose_due : (i : ℕ) → IsAsked s w r (action.Choose i) → IsDue r (action.Choose i)
+  choose_due i asked = asked_due (action.Choose i) asked tt
+
+  -- The slots after it.
+  pub fix_follow : (slot page : ℕ) → IsAsked s w r (action.Fix slot page) → SlotsFollow r (action.Fix slot page)
+  fix_follow slot page asked xs n wide tell e =
+      let few = (steps.fix_finds s st.reached w r slot page asked).few in (
+        omega (arith, e, steps.fix_length s st.reached w r slot page asked),
+        tell_set xs (holdings r) (holdings (having_done r (action.Fix slot page))) slot _ _ (omega
+            (arith, few, wide)) refl tell
+            (steps.fix_holds s st.reached w r slot page asked),
+      )
+
+  pub load_follow : (slot page : ℕ) → IsAt s w r (reading slot page) → SlotsFollow r (action.Fix slot page)
+  load_follow slot page at xs n wide tell e =
+      let few = (steps.reading_finds s st.reached w r slot page at).few in (
+        omega (arith, e, steps.loaded_length s st.reached w r slot page at),
+        tell_set xs (holdings r) (holdings (having_done r (action.Fix slot page))) slot _ _ (omega
+            (arith, few, wide)) refl tell
+            (steps.loaded_holds s st.reached w r slot page at),
+      )
+
+  pub unfix_follow : (slot : ℕ) → IsAsked s w r (action.Unfix slot) → SlotsFollow r (action.Unfix slot)
+  unfix_follow slot asked xs n wide tell e =
+      let finds = steps.unfix_finds s st.reached w r slot asked in
+      let few = found_few slot finds.0 asked.at.seat finds.1.found in (
+        omega (arith, e, steps.unfix_length s st.reached w r slot asked),
+        tell_set xs (holdings r) (holdings (having_done r (action.Unfix slot))) slot None None (omega
+            (arith, few, wide)) refl tell
+            (steps.unfix_holds s st.reached w r slot asked),
+      )
+
+  pub latch_follow : (slot : ℕ) (m : Mode) → IsAsked s w r (action.Latch slot m) → SlotsFollow r (action.Latch slot m)
+  latch_follow slot m asked xs n wide tell e =
+      let finds = steps.latch_finds s st.reached w r slot m asked in
+      let few = found_few slot finds.0 asked.at.seat finds.1.found in (
+        omega (arith, e, steps.latch_length s st.reached w r slot m asked),
+        tell_as xs (holdings r) (holdings (having_done r (action.Latch slot m))) slot finds.0 _ (omega
+            (arith, few, wide)) finds.1.found tell
+            (steps.latch_holds s st.reached w r slot m asked finds.0 finds.1.found),
+      )
+
+  pub unlatch_follow : (slot : ℕ) → IsAsked s w r (action.Unlatch slot) → SlotsFollow r (action.Unlatch slot)
+  unlatch_follow slot asked xs n wide tell e =
+      let finds = steps.unlatch_finds s st.reached w r slot asked in
+      let few = found_few slot finds.0 asked.at.seat finds.1.found in (
+        omega (arith, e, steps.unlatch_length s st.reached w r slot asked),
+        tell_as xs (holdings r) (holdings (having_done r (action.Unlatch slot))) slot finds.0 _ (omega
+            (arith, few, wide)) finds.1.found tell
+            (steps.unlatch_holds s st.reached w r slot asked finds.0 finds.1.found),
+      )
+
+  pub choose_follow : (i : ℕ) → IsAsked s w r (action.Choose i) → SlotsFollow r (action.Choose i)
+  choose_follow i asked xs n wide tell e =
+      let same = steps.choose_holds s st.reached w r i asked in
+      (e ∙ ap length (sym same), subst (Tell xs) (sym same) tell)

@@ -1,0 +1,21 @@
+-- An action of a worker, in two steps: the cursor goes on, and the counters and slots are changed.
+use Rattle.std.proofs.Common.{◌≡◌, ◌+◌, List, [], ◌∷◌, ◌++◌, refl, sym, ap, subst}
+use Rattle.pp_plan.specs.declared.action.Action.{Action}
+use Rattle.pp_plan.specs.Terms.{Terms}
+use Rattle.pp_plan.specs.Cursor.{StandsFor}
+use Rattle.pp_core.specs.declared.seat.Seat.{Seat}
+use Rattle.pp_core.specs.Slots.{slots_after, count_after}
+use Rattle.pp_core.specs.Seats.{Did, counted}
+
+pub did : (plan : Terms) (x y z : Seat) (a : Action)
+    → ((before : List Action) → StandsFor plan x.cursor before → StandsFor plan y.cursor (before ++ a ∷ []))
+    → y ≡ record x { cursor = y.cursor } → z ≡ counted a y → Did plan x z a
+did plan x y z a goes same e =
+    subst (λ (v : Seat). Did plan x v a) (sym e) (record {
+      number = ap (λ (v : Seat). v.plan) same;
+      cursor = goes;
+      actions = ap (λ (v : Seat). v.actions + 1) same;
+      holds = ap (λ (v : Seat). count_after a v.holds) same;
+      slots = ap (λ (v : Seat). slots_after a v.slots) same;
+      phase = refl;
+    })

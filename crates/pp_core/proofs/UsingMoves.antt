@@ -1,0 +1,348 @@
+-- Unfix, latch, unlatch and choose, where they are done: what the core's calls need, and that its parts stand for the
+-- next state.
+use Rattle.std.proofs.Common.{◌≡◌, ◌∙◌, ℕ, ◌+◌, ◌-◌, ◌<◌, ◌≤◌, ◌^◌, Bool, true, false, Option, Some, None, List, refl}
+use Rattle.std.proofs.Common.{sym, ap}
+use Rattle.std.proofs.Common.{subst, arith}
+use Rattle.std.specs.Prelude.{slice_set, option_map, unwrap_or, length}
+use Rattle.pp_plan.specs.declared.mode.Mode.{Mode}
+use Rattle.pp_plan.specs.declared.mode.Mode.TheVariants as mode
+use Rattle.pp_plan.specs.declared.action.Action.{Action}
+use Rattle.pp_plan.specs.declared.action.Action.TheVariants as action
+use Rattle.pp_plan.specs.declared.action.Ask.{Ask}
+use Rattle.pp_plan.specs.declared.action.Ask.TheVariants as ask
+use Rattle.pp_cert.specs.declared.note.Held.{Held}
+use Rattle.pp_cert.specs.declared.note.Held.TheVariants.{Free}
+use Rattle.pp_cert.specs.Held.{Holding, holding_at}
+use Rattle.pp_frames.specs.Marks as map
+use Rattle.pp_frames.specs.declared.mode.Mode.TheVariants as latch_mode
+use Rattle.pp_frames.specs.Marks.{PageMap, PageMarks}
+use Rattle.pp_model.specs.declared.moves.Move.TheVariants as move
+use Rattle.pp_model.specs.declared.reply.Reply.TheVariants.{Did, Latched, NotNow}
+use Rattle.pp_model.specs.declared.refusals.Delay.TheVariants.{LatchHeld}
+use Rattle.pp_model.specs.Pool.{acting, Running, State, known_mark, mark_at}
+use Rattle.pp_model.specs.Holders.{holdings, page_in, held_in}
+use Rattle.pp_model.specs.Budget.{running_peaks, bound, left_to}
+use Rattle.pp_model.proofs.Sums.{sum_by-term}
+use Rattle.pp_model.proofs.Falls.{left_at}
+use Rattle.pp_model.specs.Marks.{marks}
+use Rattle.pp_model.specs.Outcome.{having_done, did}
+use Rattle.pp_model.specs.Moves.{asked_by, seat_of}
+use Rattle.pp_model.specs.Reached.{IsReached}
+use Rattle.pp_model.specs.Using.{unfix_asked, goes_with, latch_asked, latch_where}
+use Rattle.pp_model.proofs.HoldingSteps as steps
+use Rattle.pp_model.proofs.Framed.{notes_length}
+use Rattle.pp_model.proofs.MarkChanges.{latches_told}
+use Rattle.pp_model.proofs.MarkParts.{marks_is}
+use Rattle.pp_model.proofs.MarkBounds.{marks_are_small}
+use Rattle.pp_model.proofs.MarkSteps.{latch_mode_of}
+use Rattle.pp_model.proofs.Changes.{IsAsked}
+use Rattle.pp_model.proofs.MarkSteps as marked
+use Rattle.pp_model.proofs.BoundSteps as numbers
+use Rattle.pp_model.proofs.FlightSteps as flights
+use Rattle.pp_core.specs.declared.seat.Seat.{Seat}
+use Rattle.pp_core.specs.declared.seat.Hold.{Hold}
+use Rattle.pp_core.specs.Slots.{hold_of}
+use Rattle.pp_core.specs.Parts.{Parts}
+use Rattle.pp_core.specs.StandsFor.{FitsCrew, StandsFor, IsKept, Moves, Asks}
+use Rattle.pp_core.specs.Effects.{IsIn, IsPageIn, IsHeldIn, CanUnfix, CanSpend, Spent, unpinned}
+use Rattle.pp_core.specs.Effects.{mark_at as mark_in}
+use Rattle.pp_core.proofs.Ties.{Leads, moves_by, refuses, acted_outcome, is_asked, SameRest, stands_on}
+use Rattle.pp_core.proofs.ActTies.{kept, can_act, acted_crew, IsDue, SlotsFollow, acting_on}
+use Rattle.pp_core.proofs.ActTies.{unfix_due, latch_due}
+use Rattle.pp_core.proofs.ActTies.{unfix_follow, latch_follow}
+
+-- ---- slots
+
+same_page : (o : Option Holding)
+    → unwrap_or (option_map (λ (h : Hold). h.page) (option_map hold_of o)) 0 ≡ unwrap_or (option_map (λ h. h.page) o) 0
+same_page None = refl
+same_page (Some h) = refl
+
+same_held : (o : Option Holding)
+    → unwrap_or (option_map (λ (h : Hold). h.held) (option_map hold_of o)) Free
+    ≡ unwrap_or (option_map (λ h. h.held) o) Free
+same_held None = refl
+same_held (Some h) = refl
+
+pub page_is : (f : Parts) (s : State) (w slot page : ℕ) (r : Running) → StandsFor f s → seat_of s w ≡ Some (Some r)
+    → IsPageIn f w slot page → page ≡ page_in r slot
+page_is f s w slot page r st e told =
+    let k = kept f s w r st e in
+    told k.seat k.is_in
+    ∙ ap (λ (o : Option Hold). unwrap_or (option_map (λ (h : Hold). h.page) o) 0) (k.fits.slots slot)
+    ∙ same_page (holding_at (holdings r) slot)
+
+pub held_is : (f : Parts) (s : State) (w slot : ℕ) (held : Held) (r : Running) → StandsFor f s
+    → seat_of s w ≡ Some (Some r) → IsHeldIn f w slot held → held ≡ held_in r slot
+held_is f s w slot held r st e told =
+    let k = kept f s w r st e in
+    told k.seat k.is_in
+    ∙ ap (λ (o : Option Hold). unwrap_or (option_map (λ (h : Hold). h.held) o) Free) (k.fits.slots slot)
+    ∙ same_held (holding_at (holdings r) slot)
+
+-- The worker has a seat.
+pub has_seat : (f : Parts) (w : ℕ) (x : Ask) → IsKept f → Asks f w x → (seat : Seat) × IsIn f w seat
+has_seat f w x k asks =
+    let a = asks k.state k.stands in
+    let there = kept f k.state w a.0 k.stands a.1.seat in
+    (there.seat, there.is_in)
+
+-- ---- what an action needs
+
+-- The state that is at hand, and what the plan asks in it.
+pub record Asked (f : Parts) (w : ℕ) (a : Action) : Type 0 where
+  pub state : State
+  pub stands : StandsFor f state
+  pub running : Running
+  pub asked : IsAsked state w running a
+
+-- Where an action is asked, the bound is 3 at least.
+pub asked_bound : (s : State) (w : ℕ) (r : Running) (a : Action) → IsReached s → IsAsked s w r a → 3 ≤ bound s
+asked_bound s w r a h asked =
+    omega (
+      arith,
+      sum_by-term left_to s.seats w (Some r) asked.at.seat,
+      left_at r acting asked.at.stage,
+      numbers.asked_few s h w r a asked,
+    )
+
+pub spend_needs : (f : Parts) (w : ℕ) (a : Action) (h : Asked f w a) → IsDue h.running a → CanSpend f w a
+spend_needs f w a h due = record {
+  can = can_act f h.state w h.running a h.stands h.asked.at.seat due;
+  budget = omega (arith, h.stands.budget, asked_bound h.state w h.running a h.stands.reached h.asked);
+}
+
+pub unfix_asked_of : (f : Parts) (w slot : ℕ) → IsKept f → Asks f w (ask.Unfix slot) → Asked f w (action.Unfix slot)
+unfix_asked_of f w slot k asks =
+    let a = asks k.state k.stands in
+    record {
+      state = k.state;
+      stands = k.stands;
+      running = a.0;
+      asked = is_asked k.state w a.0 (ask.Unfix slot) (action.Unfix slot) a.1 a.2 refl;
+    }
+
+pub can_unfix : (f : Parts) (w slot page : ℕ) → IsKept f → Asks f w (ask.Unfix slot) → IsPageIn f w slot page
+    → CanUnfix f w slot page
+can_unfix f w slot page k asks told =
+    let h = unfix_asked_of f w slot k asks in
+    let s = h.state in
+    let r = h.running in
+    let st = h.stands in
+    let spends = spend_needs f w (action.Unfix slot) h (unfix_due f s w r st slot h.asked) in
+    let at = page_is f s w slot page r st h.asked.at.seat told in
+    let spare = marked.unfix_spares s st.reached w r slot h.asked in
+    record {
+      can = spends.can;
+      spare = subst (λ (m : PageMap). map.latch_count (map.latches_of m page) < map.pins_of m page) (sym st.marks)
+          (subst (λ (p : ℕ). map.latch_count (map.latches_of (marks s) p) < map.pins_of (marks s) p) (sym at) spare);
+      budget = spends.budget;
+    }
+
+-- ---- what an action leads to
+
+-- The parts after an action stand for the next state.
+pub spent_stands : (f g : Parts) (s t : State) (w : ℕ) (r : Running) (a : Action) (m : PageMap) → StandsFor f s
+    → IsReached t → IsAsked s w r a → Spent f g w a m → SlotsFollow r a → SameRest s t
+    → t.seats ≡ slice_set s.seats w (Some (having_done r a)) → m ≡ marks t → running_peaks t ≡ running_peaks s
+    → bound t + 3 ≡ bound s → StandsFor g t
+spent_stands f g s t w r a m st reached asked spent follow same seats marked_so peaks bounded =
+    let crew = acted_crew f g s w r a st spent.acted asked.at.seat (acting_on f s w r st a asked) follow in
+    let budget : f.budget - 3 ≡ bound t = omega (arith, st.budget, bounded) in
+    subst (λ (z : Parts). StandsFor z t) (sym spent.rest)
+    (stands_on f s t g.seats m f.running (f.budget - 3) st reached same
+    (subst (λ (ys : List (Option Running)). FitsCrew s.plans g.seats ys) (sym seats) crew) marked_so (st.running
+    ∙ sym peaks) budget)
+
+-- ---- unfix
+
+pub unfix_moves : (f g : Parts) (w slot page : ℕ) → Asks f w (ask.Unfix slot) → IsPageIn f w slot page
+    → Spent f g w (action.Unfix slot) (unpinned f.marks page) → Moves f (move.Unfix w) Did g
+unfix_moves f g w slot page asks told spent = moves_by f g (move.Unfix w) Did leads
+  where
+    leads : (s : State) → StandsFor f s → Leads s (move.Unfix w) Did g
+    leads s st =
+        let a = asks s st in
+        let r = a.0 in
+        let d = action.Unfix slot in
+        let asked = is_asked s w r (ask.Unfix slot) d a.1 a.2 refl in
+        let t = did s w r d in
+        let at = page_is f s w slot page r st asked.at.seat told in
+        let same : SameRest s t = record {
+          settings = refl;
+          plans = refl;
+          taken = refl;
+          lists = refl;
+          notes = refl;
+          flush = refl;
+          flushes_left = refl;
+          in_flight = flights.unfix_flight s st.reached w r slot asked;
+        } in
+        let m : unpinned f.marks page ≡ marks t =
+        ap (λ (z : PageMap). unpinned z page) st.marks ∙ ap (unpinned (marks s)) at
+        ∙ sym (marked.unfix_marks s st.reached w r slot asked) in
+        record {
+          after = record { reply = Did; state = t };
+          is = acted_outcome s w r (λ q. unfix_asked s w q (asked_by q)) a.1 ∙ ap (unfix_asked s w r) a.2;
+          replies = refl;
+          stands = λ reached. spent_stands f g s t w r d (unpinned f.marks page) st reached asked spent
+              (unfix_follow f s w r st slot asked) same refl m (numbers.unfix_peaks s st.reached w r slot asked)
+              (numbers.unfix_bound s st.reached w r slot asked);
+        }
+
+-- ---- marks as they are told
+
+-- The mark that the map has of a page is the state's.
+pub mark_told : (s : State) (q : ℕ) → q < length s.notes → mark_in (marks s) q ≡ mark_at s q
+mark_told s q low = ap (λ (x : PageMarks). unwrap_or x.stamp 0) (marks_is s q low)
+
+room_of : (s : State) → IsReached s → (q : ℕ) (o : Option ℕ) → known_mark s q ≡ o → unwrap_or o 0 + 1 < 2 ^ 64
+room_of s h q None e = omega arith
+room_of s h q (Some m) e = omega (arith, marks_are_small s h q m e)
+
+-- A mark can be raised.
+pub mark_room : (s : State) → IsReached s → (q : ℕ) → mark_at s q + 1 < 2 ^ 64
+mark_room s h q = room_of s h q (known_mark s q) refl
+
+-- ---- other marks under way
+
+pub can_spend_marked : (f : Parts) (m : PageMap) (w : ℕ) (a : Action) → CanSpend f w a
+    → CanSpend (record f { marks = m }) w a
+can_spend_marked f m w a h = record {
+  can = record {
+    seat = h.can.seat;
+    accepted = h.can.accepted;
+    runs = record { is_in = h.can.runs.is_in; plan = h.can.runs.plan };
+    can = h.can.can;
+  };
+  budget = h.budget;
+}
+
+pub spent_marked : (f g : Parts) (m n : PageMap) (w : ℕ) (a : Action) → Spent (record f { marks = m }) g w a n
+    → Spent f g w a n
+spent_marked f g m n w a h = record {
+  acted = record {
+    seat = h.acted.seat;
+    accepted = h.acted.accepted;
+    runs = record { is_in = h.acted.runs.is_in; plan = h.acted.runs.plan };
+    after = h.acted.after;
+    did = h.acted.did;
+    seats = h.acted.seats;
+  };
+  rest = h.rest;
+}
+
+-- ---- latch
+
+-- A page in a slot is one of the pool's.
+pub page_low : (s : State) (w slot : ℕ) (r : Running) (h : Holding) → IsReached s → seat_of s w ≡ Some (Some r)
+    → holding_at (holdings r) slot ≡ Some h → h.page < length s.notes
+page_low s w slot r h reached e found =
+    omega (arith, (steps.slots_are_within s reached w r e slot h found).page, notes_length s reached)
+
+goes_told : (s : State) (m : Mode) (page : ℕ) → page < length s.notes
+    → goes_with s m page ≡ map.is_compatible (latch_mode_of m) (map.latches_of (marks s) page)
+goes_told s mode.S page low = ap (map.is_compatible latch_mode.S) (sym (latches_told s page low))
+goes_told s mode.X page low = ap (map.is_compatible latch_mode.X) (sym (latches_told s page low))
+
+module _ (f : Parts) (w slot page : ℕ) (m : Mode) (asks : Asks f w (ask.Latch slot m))
+    (told : IsPageIn f w slot page) where
+  abbrev latch_of : (s : State) → StandsFor f s → Asked f w (action.Latch slot m)
+  latch_of s st =
+      let a = asks s st in
+      record {
+        state = s;
+        stands = st;
+        running = a.0;
+        asked = is_asked s w a.0 (ask.Latch slot m) (action.Latch slot m) a.1 a.2 (refl, refl);
+      }
+
+  latch_low : (h : Asked f w (action.Latch slot m)) → page_in h.running slot < length h.state.notes
+  latch_low h =
+      let finds = steps.latch_finds h.state h.stands.reached w h.running slot m h.asked in
+      omega (
+        arith,
+        finds.1.page_is,
+        page_low h.state w slot h.running finds.0 h.stands.reached h.asked.at.seat
+            finds.1.found,
+      )
+
+  pub can_grant : IsKept f → map.latch_count (map.latches_of f.marks page) < map.pins_of f.marks page
+  can_grant k =
+      let h = latch_of k.state k.stands in
+      let at = page_is f h.state w slot page h.running h.stands h.asked.at.seat told in
+      let spare = marked.latch_spares h.state h.stands.reached w h.running slot m h.asked in
+      subst (λ (z : PageMap). map.latch_count (map.latches_of z page) < map.pins_of z page) (sym h.stands.marks)
+      (subst (λ (p : ℕ). map.latch_count (map.latches_of (marks h.state) p) < map.pins_of (marks h.state) p)
+      (sym at) spare)
+
+  pub can_latch : IsKept f → (n : PageMap) → CanSpend (record f { marks = n }) w (action.Latch slot m)
+  can_latch k n =
+      let h = latch_of k.state k.stands in
+      can_spend_marked f n w (action.Latch slot m)
+      (spend_needs f w (action.Latch slot m) h (latch_due f h.state w h.running h.stands slot m h.asked))
+
+  goes : (s : State) (st : StandsFor f s) (b : Bool)
+      → b ≡ map.is_compatible (latch_mode_of m) (map.latches_of f.marks page)
+      → goes_with s m (page_in (asks s st).0 slot) ≡ b
+  goes s st b e =
+      let h = latch_of s st in
+      let at = page_is f s w slot page h.running st h.asked.at.seat told in
+      goes_told s m (page_in h.running slot) (latch_low h)
+      ∙ ap (λ (p : ℕ). map.is_compatible (latch_mode_of m) (map.latches_of (marks s) p)) (sym at)
+      ∙ ap (λ (z : PageMap). map.is_compatible (latch_mode_of m) (map.latches_of z page)) (sym st.marks)
+      ∙ sym e
+
+  pub latch_refused : (n : PageMap) → false ≡ map.is_compatible (latch_mode_of m) (map.latches_of f.marks page)
+      → n ≡ f.marks → Moves f (move.Latch w) (NotNow LatchHeld) (record f { marks = n })
+  latch_refused n e same =
+      subst (λ (z : PageMap). Moves f (move.Latch w) (NotNow LatchHeld) (record f { marks = z })) (sym same)
+      (refuses f (move.Latch w) (NotNow LatchHeld) (λ s st.
+      acted_outcome s w (asks s st).0 (λ q. latch_asked s w q (asked_by q)) (asks s st).1
+      ∙ ap (latch_asked s w (asks s st).0) (asks s st).2
+      ∙ ap (latch_where s w (asks s st).0 slot m) (goes s st false e)))
+
+  pub latch_moves : (g : Parts) (n : PageMap) (mark : ℕ)
+      → true ≡ map.is_compatible (latch_mode_of m) (map.latches_of f.marks page)
+      → n ≡ map.with_latches f.marks page (map.with_latch (latch_mode_of m) (map.latches_of f.marks page))
+      → Spent (record f { marks = n }) g w (action.Latch slot m) n → mark ≡ mark_in g.marks page
+      → Moves f (move.Latch w) (Latched mark) g
+  latch_moves g n mark e is spent tells = moves_by f g (move.Latch w) (Latched mark) leads
+    where
+      leads : (s : State) → StandsFor f s → Leads s (move.Latch w) (Latched mark) g
+      leads s st =
+          let h = latch_of s st in
+          let r = h.running in
+          let d = action.Latch slot m in
+          let t = did s w r d in
+          let at = page_is f s w slot page r st h.asked.at.seat told in
+          let fit = goes s st true e in
+          let same : SameRest s t = record {
+            settings = refl;
+            plans = refl;
+            taken = refl;
+            lists = refl;
+            notes = refl;
+            flush = refl;
+            flushes_left = refl;
+            in_flight = flights.latch_flight s st.reached w r slot m h.asked;
+          } in
+          let now : n ≡ marks t =
+          is ∙ ap (λ (z : PageMap). map.with_latches z page (map.with_latch (latch_mode_of m)
+          (map.latches_of z page))) st.marks
+          ∙ ap (λ (p : ℕ). map.with_latches (marks s) p (map.with_latch (latch_mode_of m) (map.latches_of
+          (marks s) p))) at
+          ∙ sym (marked.latch_marks s st.reached w r slot m h.asked fit) in
+          let spent_here = spent_marked f g n n w d spent in
+          let here : g.marks ≡ marks t = ap (λ (z : Parts). z.marks) spent.rest ∙ now in
+          record {
+            after = record { reply = Latched (mark_at s (page_in r slot)); state = t };
+            is = acted_outcome s w r (λ q. latch_asked s w q (asked_by q)) (asks s st).1
+                ∙ ap (latch_asked s w r) (asks s st).2 ∙ ap (latch_where s w r slot m) fit;
+            replies = ap Latched (tells ∙ ap (λ (z : PageMap). mark_in z page) here ∙ ap (mark_in (marks t)) at
+                ∙ mark_told t (page_in r slot) (latch_low h));
+            stands = λ reached. spent_stands f g s t w r d n st reached h.asked spent_here
+                (latch_follow f s w r st slot m h.asked) same refl now (numbers.latch_peaks s
+                st.reached w r slot m h.asked)
+                (numbers.latch_bound s st.reached w r slot m h.asked);
+          }

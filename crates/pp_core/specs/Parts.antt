@@ -1,0 +1,41 @@
+-- What clauses see of a core: what it keeps, without the capacities of its vectors.
+use Rattle.std.specs.Prelude.{ℕ, Bool, Option, List}
+use Rattle.pp_settings.specs.Layout.{Geometry}
+use Rattle.pp_cert.specs.Accepted.{Acceptance}
+use Rattle.pp_arc.specs.FourLists.{FourLists}
+use Rattle.pp_frames.specs.Marks.{PageMap}
+use Rattle.pp_core.specs.declared.seat.Seat.{Seat}
+use Rattle.pp_core.specs.declared.table.Flush.{Flush}
+use Rattle.pp_core.specs.declared.table.Table.{Table}
+
+pub record Parts : Type 0 where
+  pub layout : Geometry
+  pub flushes : ℕ
+  pub flushes_left : ℕ
+  pub plans : List Acceptance
+  pub taken : ℕ
+  pub seats : List (Option Seat)
+  pub lists : FourLists
+  pub marks : PageMap
+  pub in_flight : List Bool
+  pub flush : Option Flush
+  pub running : ℕ
+  pub need : ℕ
+  pub budget : ℕ
+
+abbrev pub parts_of : Table → Parts
+parts_of t = record {
+  layout = t.layout;
+  flushes = t.flushes;
+  flushes_left = t.flushes_left;
+  plans = t.plans.items;
+  taken = t.taken;
+  seats = t.seats.items;
+  lists = t.directory;
+  marks = t.marks;
+  in_flight = t.in_flight.items;
+  flush = t.flush;
+  running = t.running;
+  need = t.need;
+  budget = t.budget;
+}

@@ -1,0 +1,123 @@
+-- What a core tells of its state.
+use Rattle.std.specs.Prelude.{ℕ, Bool, true, false, Option, None, Some, option_map, length}
+use Rattle.pp_plan.specs.declared.action.Ask.{Ask}
+use Rattle.pp_cert.specs.declared.note.Held.{Held}
+use Rattle.pp_cert.specs.Held.{Holding, holding_at}
+use Rattle.pp_model.specs.Pool.{Stage, acting, writing, reading, leaving, Running, State}
+use Rattle.pp_model.specs.Holders.{holdings}
+use Rattle.pp_model.specs.Moves.{asked_by, seat_of}
+use Rattle.pp_core.specs.declared.seat.Hold.{Hold}
+use Rattle.pp_core.specs.declared.seat.Phase.{Phase}
+use Rattle.pp_core.specs.declared.seat.Phase.TheVariants.{Acting, Writing, Reading, Leaving}
+use Rattle.pp_core.specs.declared.seat.Seat.{Seat}
+use Rattle.pp_core.specs.Slots.{hold_at}
+
+-- ---- of a worker in the state; there may be no worker of this number, and it may be idle
+
+-- Whether worker w is idle.
+abbrev pub idle_by : Option (Option Running) → Bool
+idle_by None = false
+idle_by (Some None) = true
+idle_by (Some (Some r)) = false
+
+abbrev pub is_idle : State → (w : ℕ) → Bool
+is_idle s w = idle_by (seat_of s w)
+
+-- Whether worker w leaves its plan after a fix that failed.
+abbrev pub leaves : Stage → Bool
+leaves acting = false
+leaves (writing slot page victim) = false
+leaves (reading slot page) = false
+leaves (leaving given) = true
+
+abbrev pub leaving_by : Option (Option Running) → Bool
+leaving_by None = false
+leaving_by (Some None) = false
+leaving_by (Some (Some r)) = leaves r.stage
+
+abbrev pub is_leaving : State → (w : ℕ) → Bool
+is_leaving s w = leaving_by (seat_of s w)
+
+-- What the plan of worker w asks next, where the worker acts in it.
+abbrev pub ask_in : Running → Stage → Option Ask
+ask_in r acting = Some (asked_by r)
+ask_in r (writing slot page victim) = None
+ask_in r (reading slot page) = None
+ask_in r (leaving given) = None
+
+abbrev pub ask_by : Option (Option Running) → Option Ask
+ask_by None = None
+ask_by (Some None) = None
+ask_by (Some (Some r)) = ask_in r r.stage
+
+abbrev pub ask_of : State → (w : ℕ) → Option Ask
+ask_of s w = ask_by (seat_of s w)
+
+-- The page that a slot of worker w holds, and how, where it holds one.
+abbrev pub held_by : Option (Option Running) → (slot : ℕ) → Option (ℕ × Held)
+held_by None slot = None
+held_by (Some None) slot = None
+held_by (Some (Some r)) slot = option_map (λ (h : Holding). (h.page, h.held)) (holding_at (holdings r) slot)
+
+abbrev pub held_of : State → (w slot : ℕ) → Option (ℕ × Held)
+held_of s w slot = held_by (seat_of s w) slot
+
+-- The errand that is out for worker w: the slot, the page that is loaded into it, and the victim that is written back
+-- before, where one is.
+abbrev pub errand_in : Stage → Option (ℕ × ℕ × Option ℕ)
+errand_in acting = None
+errand_in (writing slot page victim) = Some (slot, page, Some victim)
+errand_in (reading slot page) = Some (slot, page, None)
+errand_in (leaving given) = None
+
+abbrev pub errand_by : Option (Option Running) → Option (ℕ × ℕ × Option ℕ)
+errand_by None = None
+errand_by (Some None) = None
+errand_by (Some (Some r)) = errand_in r.stage
+
+abbrev pub errand_of : State → (w : ℕ) → Option (ℕ × ℕ × Option ℕ)
+errand_of s w = errand_by (seat_of s w)
+
+-- ---- of the whole state
+
+-- The page that is being flushed.
+abbrev pub flushed_page : State → Option ℕ
+flushed_page s = option_map (λ f. f.page) s.flush
+
+-- How many plans were submitted.
+abbrev pub plan_count : State → ℕ
+plan_count s = length s.plans
+
+-- ---- the same of what the core keeps of a worker
+
+abbrev pub idle_seat : Option (Option Seat) → Bool
+idle_seat None = false
+idle_seat (Some None) = true
+idle_seat (Some (Some x)) = false
+
+abbrev pub leaves_at : Phase → Bool
+leaves_at Acting = false
+leaves_at (Writing slot page victim) = false
+leaves_at (Reading slot page) = false
+leaves_at Leaving = true
+
+abbrev pub leaving_seat : Option (Option Seat) → Bool
+leaving_seat None = false
+leaving_seat (Some None) = false
+leaving_seat (Some (Some x)) = leaves_at x.phase
+
+abbrev pub held_seat : Option (Option Seat) → (slot : ℕ) → Option (ℕ × Held)
+held_seat None slot = None
+held_seat (Some None) slot = None
+held_seat (Some (Some x)) slot = option_map (λ (h : Hold). (h.page, h.held)) (hold_at x.slots slot)
+
+abbrev pub errand_at : Phase → Option (ℕ × ℕ × Option ℕ)
+errand_at Acting = None
+errand_at (Writing slot page victim) = Some (slot, page, Some victim)
+errand_at (Reading slot page) = Some (slot, page, None)
+errand_at Leaving = None
+
+abbrev pub errand_seat : Option (Option Seat) → Option (ℕ × ℕ × Option ℕ)
+errand_seat None = None
+errand_seat (Some None) = None
+errand_seat (Some (Some x)) = errand_at x.phase

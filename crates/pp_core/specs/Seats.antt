@@ -1,0 +1,53 @@
+-- A worker in its plan, as the core keeps it, and what its calls need and do.
+use Rattle.std.specs.Prelude.{◌≡◌, ℕ, ◌+◌, ◌<◌, ◌≤◌, ◌^◌, None, List, [], ◌∷◌, ◌++◌, length, replicate}
+use Rattle.pp_plan.specs.declared.action.Action.{Action}
+use Rattle.pp_plan.specs.declared.action.Action.TheVariants.{Fix, Unfix, Latch, Unlatch, Choose}
+use Rattle.pp_plan.specs.Terms.{Terms}
+use Rattle.pp_plan.specs.PlanTraces.{PlanAsks}
+use Rattle.pp_plan.specs.Cursor.{StandsFor, IsCursorOf}
+use Rattle.pp_core.specs.declared.seat.Seat.{Seat}
+use Rattle.pp_core.specs.declared.seat.Phase.TheVariants.{Acting}
+use Rattle.pp_core.specs.Slots.{slots_after, count_after}
+
+-- A worker that has done nothing of the plan of this number.
+pub record IsBegun (plan : Terms) (k : ℕ) (x : Seat) : Type 0 where
+  pub number : x.plan ≡ k
+  pub cursor : StandsFor plan x.cursor []
+  pub actions : x.actions ≡ 0
+  pub holds : x.holds ≡ 0
+  pub slots : x.slots ≡ replicate 32 None
+  pub phase : x.phase ≡ Acting
+
+-- The slot that an action needs, and how many slots hold a page before it.
+abbrev pub FitsSlots : Action → (count slots : ℕ) → Type 0
+FitsSlots (Fix slot page) count slots = (slot < slots) × (count ≤ 32)
+FitsSlots (Unfix slot) count slots = (slot < slots) × (0 < count)
+FitsSlots (Latch slot m) count slots = slot < slots
+FitsSlots (Unlatch slot) count slots = slot < slots
+FitsSlots (Choose i) count slots = Unit {0}
+
+-- The plan asks the action of the worker, and its counters have room for it.
+pub record CanDo (plan : Terms) (x : Seat) (a : Action) : Type 0 where
+  pub cursor : IsCursorOf plan x.cursor
+  pub asks : (before : List Action) → StandsFor plan x.cursor before → PlanAsks plan before a
+  pub actions : x.actions + 1 < 2 ^ 32
+  pub slots : FitsSlots a x.holds (length x.slots)
+
+-- The action is counted, and its slot is filled, emptied or held in another way.
+abbrev pub counted : Action → Seat → Seat
+counted a x =
+    record x {
+      actions = x.actions + 1;
+      phase = Acting;
+      holds = count_after a x.holds;
+      slots = slots_after a x.slots;
+    }
+
+-- The worker y is x after the action.
+pub record Did (plan : Terms) (x y : Seat) (a : Action) : Type 0 where
+  pub number : y.plan ≡ x.plan
+  pub cursor : (before : List Action) → StandsFor plan x.cursor before → StandsFor plan y.cursor (before ++ a ∷ [])
+  pub actions : y.actions ≡ x.actions + 1
+  pub holds : y.holds ≡ count_after a x.holds
+  pub slots : y.slots ≡ slots_after a x.slots
+  pub phase : y.phase ≡ Acting

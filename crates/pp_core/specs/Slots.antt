@@ -1,0 +1,36 @@
+-- What a worker's slots hold, as the core keeps it: at place k what slot k holds.
+use Rattle.std.specs.Prelude.{ℕ, ◌+◌, ◌-◌, Option, None, Some, option_map, List, slice_index_or, slice_set}
+use Rattle.pp_plan.specs.declared.action.Action.{Action}
+use Rattle.pp_plan.specs.declared.action.Action.TheVariants.{Fix, Unfix, Latch, Unlatch, Choose}
+use Rattle.pp_cert.specs.declared.note.Held.{Held}
+use Rattle.pp_cert.specs.declared.note.Held.TheVariants.{Free}
+use Rattle.pp_cert.specs.Held.{Holding, held_in}
+use Rattle.pp_core.specs.declared.seat.Hold.{Hold}
+
+-- What the slot holds. A slot past the last one holds nothing.
+abbrev pub hold_at : List (Option Hold) → ℕ → Option Hold
+hold_at slots slot = slice_index_or slots slot None
+
+-- A holding without its slot.
+abbrev pub hold_of : Holding → Hold
+hold_of h = record { page = h.page; held = h.held }
+
+-- The slot's page, if it holds one, is held so from now on.
+abbrev pub held_as : Held → ℕ → List (Option Hold) → List (Option Hold)
+held_as held slot slots =
+    slice_set slots slot (option_map (λ h. record { page = h.page; held = held }) (hold_at slots slot))
+
+-- The slots after an action, and how many of them hold a page.
+abbrev pub slots_after : Action → List (Option Hold) → List (Option Hold)
+slots_after (Fix slot page) slots = slice_set slots slot (Some (record { page = page; held = Free }))
+slots_after (Unfix slot) slots = slice_set slots slot None
+slots_after (Latch slot m) slots = held_as (held_in m) slot slots
+slots_after (Unlatch slot) slots = held_as Free slot slots
+slots_after (Choose i) slots = slots
+
+abbrev pub count_after : Action → ℕ → ℕ
+count_after (Fix slot page) count = count + 1
+count_after (Unfix slot) count = count - 1
+count_after (Latch slot m) count = count
+count_after (Unlatch slot) count = count
+count_after (Choose i) count = count

@@ -1,0 +1,176 @@
+//! Fix: a page that is cached is pinned at once; another gets a frame, that of a victim where none is free, and an
+//! errand of the device is sent out.
+
+ghost use Rattle.std.specs.Prelude.{◌≡◌, ◌<◌, ◌≤◌, ◌-◌, ℕ, IsTrue, Some};
+ghost use Rattle.pp_plan.specs.Asked.{region_has};
+ghost use Rattle.pp_arc.specs.Figure.{request};
+ghost use Rattle.pp_model.specs.Moves.{is_refusal};
+ghost use Rattle.pp_core.specs.declared.seat.Seat.{Seat};
+ghost use Rattle.pp_core.specs.declared.seat.Phase.TheVariants.{Writing, Reading};
+ghost use Rattle.pp_core.specs.Parts.{parts_of};
+ghost use Rattle.pp_core.specs.StandsFor.{IsKept, Moves};
+ghost use Rattle.pp_core.specs.Effects.{IsIn, Spent, frame_at, mark_at, pinned, is_flying, flushed_page, is_busy};
+ghost use Rattle.pp_core.specs.Fixing.{CanHit, CanFill, CanEvict, CanSend, CanTakeOver, filled, evicted, sent};
+ghost use Rattle.pp_core.specs.Fixing.{taken_over};
+ghost use Rattle.pp_core.specs.Fixing.{free_frame};
+
+use crate::busy::BusyPages;
+use crate::seat::Phase;
+use crate::table::Table;
+use pp_arc::Answer;
+use pp_model::{Cause, Delay, Move, Reply};
+use pp_plan::{Action, Ask};
+
+impl Table {
+    /// Whether the region has the page.
+    fn has_page(&self, region: u8, page: u32) -> bool
+        ensures { result ≡ region_has self.now.layout region page }
+    {
+        match self.layout.extent(region) {
+            Some(extent) => extent.has(page),
+            None => false,
+        }
+    }
+
+    /// Whether the page is loaded for a worker or written back as a victim. A page past the last one isn't.
+    fn is_flying(&self, page: u32) -> bool
+        ensures { result ≡ is_flying (parts_of self.now) page }
+    {
+        self.in_flight.get(page as usize).copied().unwrap_or(false)
+    }
+
+    /// The page that is being flushed.
+    pub(crate) fn flushed(&self) -> Option<u32>
+        ensures { result ≡ flushed_page (parts_of self.now) }
+    {
+        self.flush.map(|flush| flush.page)
+    }
+
+    /// A worker fixes a page into the slot that its plan names.
+    pub(crate) fn fix(&mut self, worker: u32, page: u32) -> Reply
+        requires { IsKept (parts_of self.old) }
+        ensures moves { Moves (parts_of self.old) (Move.Fix worker page) result (parts_of self.new) }
+        ensures refusal { IsTrue (is_refusal result) → parts_of self.new ≡ parts_of self.old }
+    {
+        let ask = match self.asked(worker) {
+            Ok(ask) => ask,
+            Err(cause) => return Reply::OffPlan(cause),
+        };
+        let Ask::Fix { slot, region } = ask else {
+            return Reply::OffPlan(Cause::NotAsked);
+        };
+        if !self.has_page(region, page) {
+            return Reply::OffPlan(Cause::NotAsked);
+        }
+        if self.is_flying(page) {
+            return Reply::NotNow(Delay::InFlight);
+        }
+        match self.request(page) {
+            Answer::Hit => self.hit(worker, slot, page),
+            Answer::Free => self.fill(worker, slot, page),
+            Answer::Evict(victim) => {
+                if self.marks.is_dirty(victim) {
+                    self.send(worker, slot, page, victim)
+                } else {
+                    self.evict(worker, slot, page, victim)
+                }
+            }
+            Answer::AllBusy => Reply::NotNow(Delay::FlushHolds),
+        }
+    }
+
+    /// Asks ARC for the page. The pages that are taken, and the one that is being flushed, may not leave the cache.
+    fn request(&mut self, page: u32) -> Answer
+        requires { page < self.old.directory.pages }
+        ensures answer { result ≡ (request self.old.directory page (is_busy (parts_of self.old))).0 }
+        ensures parts { parts_of self.new ≡ record (parts_of self.old) {
+          lists = (request self.old.directory page (is_busy (parts_of self.old))).1;
+        } }
+    {
+        let flushed = self.flushed();
+        let busy = BusyPages {
+            marks: &self.marks,
+            flushed,
+        };
+        self.directory.request(page, &busy)
+    }
+
+    /// The page is cached: it is fixed at once.
+    fn hit(&mut self, worker: u32, slot: u8, page: u32) -> Reply
+        requires { CanHit (parts_of self.old) worker slot page }
+        ensures spent { Spent (parts_of self.old) (parts_of self.new) worker (Action.Fix slot page)
+            (pinned self.old.marks page) }
+        ensures reply { result ≡ Reply.Hit (frame_at self.old.marks page) (mark_at self.old.marks page) }
+    {
+        let reply = Reply::Hit {
+            frame: self.frame_at(page),
+            mark: self.mark_at(page),
+        };
+        self.act(worker, Action::Fix { slot, page });
+        self.marks.pin(page);
+        self.budget -= 3;
+        reply
+    }
+
+    /// The page gets the least free frame, and has to be read.
+    fn fill(&mut self, worker: u32, slot: u8, page: u32) -> Reply
+        requires { CanFill (parts_of self.old) worker page }
+        ensures parts { (x : Seat) → IsIn (parts_of self.old) worker x →
+            parts_of self.new ≡ filled (parts_of self.old) worker x slot page }
+        ensures reply { result ≡ Reply.MustRead (free_frame self.old.marks) }
+    {
+        let frame = match self.marks.least_free() {
+            Some(frame) => frame,
+            None => unreachable!(),
+        };
+        self.place(page, frame);
+        self.in_flight[page as usize] = true;
+        self.budget -= 2;
+        self.set_phase(worker, Phase::Reading { slot, page });
+        Reply::MustRead { frame }
+    }
+
+    /// The page gets the frame of a clean victim, and has to be read.
+    fn evict(&mut self, worker: u32, slot: u8, page: u32, victim: u32) -> Reply
+        requires { CanEvict (parts_of self.old) worker page victim }
+        ensures parts { (x : Seat) → IsIn (parts_of self.old) worker x →
+            parts_of self.new ≡ evicted (parts_of self.old) worker x slot page victim }
+        ensures reply { result ≡ Reply.MustRead (frame_at self.old.marks victim) }
+    {
+        let frame = self.take_over(page, victim);
+        self.in_flight[page as usize] = true;
+        self.budget -= 2;
+        self.set_phase(worker, Phase::Reading { slot, page });
+        Reply::MustRead { frame }
+    }
+
+    /// The page gets the frame of a changed victim, which has to be written back first.
+    fn send(&mut self, worker: u32, slot: u8, page: u32, victim: u32) -> Reply
+        requires { CanSend (parts_of self.old) worker page victim }
+        ensures parts { (x : Seat) → IsIn (parts_of self.old) worker x →
+            parts_of self.new ≡ sent (parts_of self.old) worker x slot page victim }
+        ensures reply { result ≡ Reply.MustWrite (frame_at self.old.marks victim) victim }
+    {
+        let frame = self.take_over(page, victim);
+        self.in_flight[page as usize] = true;
+        self.in_flight[victim as usize] = true;
+        self.budget -= 1;
+        let phase = Phase::Writing { slot, page, victim };
+        self.set_phase(worker, phase);
+        Reply::MustWrite { frame, victim }
+    }
+
+    /// The page stands in the victim's frame from now on, and is pinned.
+    fn take_over(&mut self, page: u32, victim: u32) -> u32
+        requires { CanTakeOver self.old.marks page victim }
+        ensures parts { parts_of self.new ≡ record (parts_of self.old) {
+          marks = taken_over self.old.marks page victim;
+        } }
+        ensures frame { result ≡ frame_at self.old.marks victim }
+    {
+        let frame = self.frame_at(victim);
+        self.marks.clear(victim);
+        self.place(page, frame);
+        frame
+    }
+}

@@ -1,0 +1,23 @@
+//! What holds of a pool whatever comes to it.
+
+ghost use Rattle.std.specs.Prelude.{List, All};
+ghost use Rattle.pp_model.specs.Pool.{State, Settings, opening};
+ghost use Rattle.pp_model.specs.Runs.{Input, run};
+ghost use Rattle.pp_model.specs.Reached.{IsSettings, IsReached};
+ghost use Rattle.pp_model.specs.Laws.{IsAcceptedInput};
+ghost use Rattle.pp_core.specs.Headline.{Headline};
+
+/// From a new pool, and from every state that a pool can be in, whatever comes to it, moves that are possible or
+/// refused and plans that the checker accepted, leads to states of which the headline holds.
+///
+/// In these states no worker can find all frames fixed at a fix that its plan asks, and none asks a latch against the
+/// order of the classes; a fix is told that a flush holds the frames only while a page is flushed that no slot holds or
+/// loads; the running peaks fit the frames, and a worker holds and loads at most its peak; the latches on a page are
+/// all S or a single X; a page has one errand of a worker at most; while a plan waits or isn't ended, or a flush is in
+/// flight, some actor's next move is possible; and each done move lowers the bound.
+pub fn headline()
+    ensures from_new { (k : Settings) (inputs : List Input) → IsSettings k → All IsAcceptedInput inputs
+        → Headline (run (opening k) inputs) }
+    ensures from_any { (s : State) (inputs : List Input) → All IsAcceptedInput inputs → IsReached s
+        → Headline (run s inputs) }
+{}

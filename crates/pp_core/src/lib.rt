@@ -1,0 +1,25 @@
+//! The core of a buffer pool: a machine over moves, without pages, devices or threads.
+#![tactic(auto)]
+
+pub use error::CoreError;
+pub use machine::{Core, PlanId};
+pub use pp_cert::{Accepted, Held};
+pub use pp_model::{Came, Cause, Delay, Ending, Event, Failure, Move, Reply, SubmitError, Turn};
+pub use pp_plan::Ask;
+
+mod answering;
+mod busy;
+mod error;
+mod fixing;
+mod flushing;
+pub mod laws;
+mod leaving;
+mod machine;
+mod moves;
+mod opening;
+mod queries;
+mod seat;
+mod submitting;
+mod table;
+mod taking;
+mod using;

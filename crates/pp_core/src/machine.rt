@@ -1,0 +1,267 @@
+//! The core: a new one, plans that are submitted, moves, and what it tells of its state.
+
+ghost use Rattle.std.specs.Prelude.{◌≡◌, ◌+◌, ◌≤◌, Some, IfOk, IfErr, OnOk, OnErr, IsTrue, if◌then◌else◌};
+ghost use Rattle.pp_frames.specs.Marks.{dirty_from};
+ghost use Rattle.pp_model.specs.Pool.{State, opening, frame_of, known_mark, dirty_pages};
+ghost use Rattle.pp_model.specs.Budget.{bound};
+ghost use Rattle.pp_model.specs.Marks.{marks};
+ghost use Rattle.pp_model.specs.Submitting.{submit_error};
+ghost use Rattle.pp_model.specs.Moves.{is_refusal};
+ghost use Rattle.pp_core.specs.StandsFor.{StandsFor, IsKept, Moves};
+ghost use Rattle.pp_core.specs.Opening.{kept_of};
+ghost use Rattle.pp_core.specs.Submits.{TakesIn};
+ghost use Rattle.pp_core.specs.Runs.{MovesAll};
+ghost use Rattle.pp_core.specs.Queries.{is_idle, is_leaving, ask_of, held_of, errand_of, flushed_page, plan_count};
+ghost use Rattle.pp_core.specs.Headline.{HeadlineHolds};
+
+use crate::error::CoreError;
+use crate::table::Table;
+use pp_cert::{Accepted, Held};
+use pp_model::{Move, Reply, SubmitError};
+use pp_plan::Ask;
+use pp_settings::Settings;
+use std::alloc::Global;
+use std::marker::Model;
+
+/// A plan's number: how many plans were submitted before it.
+#[derive(Clone, Copy, Debug, PartialEq, Eq)]
+pub struct PlanId(u32);
+
+impl Model for PlanId {
+    ghost use Rattle.std.specs.Prelude.{ℕ};
+
+    ghost Value = { ℕ };
+
+    ghost view = { λ id. id.0 };
+
+    ghost inverse = { λ n. record { 0 = n } };
+}
+
+impl PlanId {
+    /// The number, from 0.
+    pub fn number(self) -> u32
+        ensures { result ≡ self }
+    {
+        self.0
+    }
+}
+
+/// The core of a pool, as a machine over moves: it decides which move is possible, answers it, and keeps what follows.
+/// It has no pages, devices or threads; whoever runs it does what the replies say.
+///
+/// What to do at a reply, for whoever runs it: at [`Reply::MustRead`] read the page into the frame, and say
+/// [`Move::ReadDone`]. At [`Reply::MustWrite`] write the victim's bytes, which stand in that frame, with their
+/// [`Core::mark`] as stamp, and say [`Move::WriteDone`]; if that is answered `MustRead`, read. At [`Reply::Unlatched`]
+/// after X, put the new stamp into the page's head. At [`Reply::Flushing`] copy the bytes, write them with this stamp,
+/// and say [`Move::FlushDone`]. At [`Reply::Failed`] say [`Move::Unwind`] for each slot that [`Core::held`] tells, then
+/// [`Move::Finish`]. At [`Reply::NotNow`] ask again after some other move. [`Reply::OffPlan`] is the caller's slip.
+///
+/// Contracts see it as the record `Parts`. Every core stands for a state of the model that can be reached
+/// (`StandsFor`), and each call says what it answers and leads to from each state that the core stands for. Of all
+/// these states the headline holds (`HeadlineHolds`): no worker can find all frames fixed at a fix that its plan asks,
+/// none asks a latch against the order of the classes, the running peaks fit the frames, and while a plan waits or
+/// isn't ended some actor's next move is possible.
+///
+/// Workers, plans, slots, pages and frames are numbered from 0; slots by their names in byte order. All its memory is
+/// got by [`Core::new`]; no other call takes any for the core. There are no locks in it.
+#[derive(Drop)]
+pub struct Core {
+    table: Table,
+}
+
+impl Model for Core {
+    ghost use Rattle.pp_core.specs.Parts.{Parts, parts_of};
+    ghost use Rattle.pp_core.specs.StandsFor.{IsKept};
+    ghost use Rattle.pp_core.specs.Coding.{coded_parts};
+
+    ghost Value = { Parts };
+
+    ghost coded = { coded_parts };
+
+    ghost view = { λ c. parts_of c.table };
+
+    ghost invariant = { λ c. IsKept (parts_of c.table) };
+}
+
+impl Core {
+    /// A core with these settings: every worker is idle, no plan was submitted, and no page is cached.
+    ///
+    /// It gets all the memory that the core ever needs: room for 256 plans, for the workers, and for what is noted of
+    /// each page number. Of the settings it keeps the layout, the workers and the flushes.
+    ///
+    /// # Errors
+    ///
+    /// Only where that memory can't be had.
+    pub fn new(alloc: Global, settings: &Settings) -> Result<Core, CoreError>
+        ensures opens { IfOk result (λ core. StandsFor core (opening (kept_of settings.now))) }
+        ensures kept { IfOk result IsKept }
+        ensures headline { IfOk result HeadlineHolds }
+    {
+        let table = Table::new(alloc, settings)?;
+        Ok(Core { table })
+    }
+
+    /// Does nothing. It tells that the core stands for a state that can be reached, and that the headline holds of
+    /// each state that it stands for.
+    pub fn known(&self)
+        ensures kept { IsKept self.now }
+        ensures headline { HeadlineHolds self.now }
+    {
+        let _ = &self.table;
+    }
+
+    /// Takes a plan in, which waits behind the others, and answers its number.
+    ///
+    /// Plans start in the order of submission: one whose peak doesn't fit yet holds up all behind it. Plans that were
+    /// ended still count among the 256, and keep their memory.
+    ///
+    /// # Errors
+    ///
+    /// The first of these that applies: [`SubmitError::OtherSettings`] where the plan was accepted under another layout
+    /// than the pool's, [`SubmitError::TooManyPlans`] where 256 plans were submitted, [`SubmitError::JournalLimit`]
+    /// where the costs of all plans and twice the flushes would be more than 4,000,000. Then the plan comes back, and
+    /// nothing has changed.
+    pub fn submit(&mut self, accepted: Accepted) -> Result<PlanId, (Accepted, SubmitError)>
+        ensures ok { IfOk result (λ id. TakesIn self.old accepted id self.new) }
+        ensures error { IfErr result (λ e. (s : State) → StandsFor self.old s → submit_error s accepted ≡ Some e.1) }
+        ensures back { IfErr result (λ e. e.0 ≡ accepted) }
+        ensures unchanged { OnErr result (self.new ≡ self.old) }
+        ensures kept { IsKept self.new }
+        ensures headline { HeadlineHolds self.new }
+    {
+        let number = self.table.submit(accepted)?;
+        Ok(PlanId(number))
+    }
+
+    /// Does the move and answers it; or refuses it, with the cause, and changes nothing.
+    ///
+    /// The answer and what follows are the model's. A move that isn't possible now is answered [`Reply::NotNow`], and
+    /// one that may not be asked here [`Reply::OffPlan`], also where there is no such worker, page or slot. A move that
+    /// is done lowers [`Core::budget`] by 1 at least.
+    pub fn step(&mut self, asked: &Move) -> Reply
+        ensures moves { Moves self.old asked.now result self.new }
+        ensures refusal { IsTrue (is_refusal result) → self.new ≡ self.old }
+        ensures kept { IsKept self.new }
+        ensures headline { HeadlineHolds self.new }
+        ensures budget { self.new.budget + (if is_refusal result then 0 else 1) ≤ self.old.budget }
+    {
+        self.table.step(asked)
+    }
+
+    /// Does the moves in turn, each as [`Core::step`] does, and adds their replies to those that are there.
+    ///
+    /// Room for all replies is got first. A refused move doesn't end the run.
+    ///
+    /// # Errors
+    ///
+    /// Only where that room can't be had. Then no move is done.
+    pub fn run(&mut self, moves: &[Move], replies: &mut Vec<Reply>) -> Result<(), CoreError>
+        ensures moves { OnOk result (MovesAll self.old moves.now replies.old.items self.new replies.new.items) }
+        ensures err { OnErr result ((self.new ≡ self.old) × (replies.new.items ≡ replies.old.items)) }
+        ensures kept { IsKept self.new }
+        ensures headline { HeadlineHolds self.new }
+    {
+        self.known();
+        replies.reserve(moves.len())?;
+        for asked in moves {
+            let reply = self.step(asked);
+            replies.push_reserved(reply);
+        }
+        Ok(())
+    }
+
+    // ---- what the state has
+
+    /// The bound on the moves that are left: each move that is done lowers it by 1 at least, and [`Core::submit`]
+    /// raises it by the plan's cost. A new core has twice the flushes.
+    pub fn budget(&self) -> u64
+        ensures bound { (s : State) → StandsFor self.now s → result ≡ bound s }
+        ensures value { result ≡ self.now.budget }
+    {
+        self.table.budget
+    }
+
+    /// How many plans were submitted, those that were ended among them.
+    pub fn plans(&self) -> u32
+        ensures { (s : State) → StandsFor self.now s → result ≡ plan_count s }
+    {
+        self.table.plan_count()
+    }
+
+    /// Whether the worker is idle; false also where there is no such worker.
+    pub fn is_idle(&self, worker: u32) -> bool
+        ensures { (s : State) → StandsFor self.now s → result ≡ is_idle s worker }
+    {
+        self.table.is_idle(worker)
+    }
+
+    /// Whether the worker leaves its plan after a fix that failed.
+    pub fn is_leaving(&self, worker: u32) -> bool
+        ensures { (s : State) → StandsFor self.now s → result ≡ is_leaving s worker }
+    {
+        self.table.is_leaving(worker)
+    }
+
+    /// What the plan of a worker that acts asks next, [`Ask::End`] at its end. None where the worker doesn't act.
+    pub fn ask(&self, worker: u32) -> Option<Ask>
+        ensures { (s : State) → StandsFor self.now s → result ≡ ask_of s worker }
+    {
+        match self.table.asked(worker) {
+            Ok(ask) => Some(ask),
+            Err(_) => None,
+        }
+    }
+
+    /// The page that the worker's slot holds, and how it is latched. None where it holds none now, where the page is
+    /// still being loaded (see [`Core::errand`]), and where there is no such worker or slot.
+    pub fn held(&self, worker: u32, slot: u32) -> Option<(u32, Held)>
+        ensures { (s : State) → StandsFor self.now s → result ≡ held_of s worker slot }
+    {
+        self.table.held(worker, slot)
+    }
+
+    /// The errand that is out for the worker: the slot, the page that is loaded into it, and the victim while that is
+    /// written back. None where no device works for the worker.
+    pub fn errand(&self, worker: u32) -> Option<(u32, u32, Option<u32>)>
+        ensures { (s : State) → StandsFor self.now s → result ≡ errand_of s worker }
+    {
+        self.table.errand(worker)
+    }
+
+    /// The page that is being flushed, if one is.
+    pub fn flushing(&self) -> Option<u32>
+        ensures { (s : State) → StandsFor self.now s → result ≡ flushed_page s }
+    {
+        self.table.flushed()
+    }
+
+    /// The frame of the page, if it has one, also while its bytes are still being read.
+    pub fn frame_of(&self, page: u32) -> Option<u32>
+        ensures { (s : State) → StandsFor self.now s → result ≡ frame_of s page }
+    {
+        self.table.marks.frame_of(page)
+    }
+
+    /// The mark of the page, if one is known.
+    pub fn mark(&self, page: u32) -> Option<u64>
+        ensures { (s : State) → StandsFor self.now s → result ≡ known_mark s page }
+    {
+        self.table.marks.stamp(page)
+    }
+
+    /// How many pages are newer than the device's. It looks at every page.
+    pub fn dirty(&self) -> u32
+        ensures { (s : State) → StandsFor self.now s → result ≡ dirty_pages s }
+    {
+        self.table.dirty()
+    }
+
+    /// The least page from this number on that lets a flush begin; where there is none, the least of all that do. Such
+    /// a page is newer than the device's, has a frame, and isn't latched X: `FlushBegin` of it is refused only where a
+    /// flush is in flight, or none is left.
+    pub fn dirty_from(&self, number: u32) -> Option<u32>
+        ensures { (s : State) → StandsFor self.now s → result ≡ dirty_from (marks s) number }
+    {
+        self.table.marks.dirty_from(number)
+    }
+}

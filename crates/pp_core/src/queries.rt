@@ -1,0 +1,74 @@
+//! What the table tells.
+
+ghost use Rattle.std.specs.Prelude.{◌≡◌, ◌≤◌, length, slice_get, count_by};
+ghost use Rattle.pp_core.specs.Queries.{idle_seat, held_seat, errand_seat};
+
+use crate::seat::Phase;
+use crate::table::Table;
+use pp_cert::Held;
+
+impl Table {
+    /// How many plans were submitted.
+    pub(crate) fn plan_count(&self) -> u32
+        requires { length self.now.plans.items ≤ 256 }
+        ensures { result ≡ length self.now.plans.items }
+    {
+        self.plans.len() as u32
+    }
+
+    /// Whether the worker is idle.
+    pub(crate) fn is_idle(&self, worker: u32) -> bool
+        ensures { result ≡ idle_seat (slice_get self.now.seats.items worker) }
+    {
+        match self.seats.get(worker as usize) {
+            Some(None) => true,
+            _ => false,
+        }
+    }
+
+    /// The page that the worker's slot holds, and how.
+    pub(crate) fn held(&self, worker: u32, slot: u32) -> Option<(u32, Held)>
+        ensures { result ≡ held_seat (slice_get self.now.seats.items worker) slot }
+    {
+        match self.seats.get(worker as usize) {
+            Some(Some(seat)) => seat
+                .slots
+                .get(slot as usize)
+                .copied()
+                .flatten()
+                .map(|hold| (hold.page, hold.held)),
+            _ => None,
+        }
+    }
+
+    /// The errand that is out for the worker.
+    pub(crate) fn errand(&self, worker: u32) -> Option<(u32, u32, Option<u32>)>
+        ensures { result ≡ errand_seat (slice_get self.now.seats.items worker) }
+    {
+        match self.seats.get(worker as usize) {
+            Some(Some(seat)) => match seat.phase {
+                Phase::Writing { slot, page, victim } => Some((
+                    u32::from(slot),
+                    page,
+                    Some(victim),
+                )),
+                Phase::Reading { slot, page } => Some((u32::from(slot), page, None)),
+                _ => None,
+            },
+            _ => None,
+        }
+    }
+
+    /// How many pages are newer than the device's.
+    pub(crate) fn dirty(&self) -> u32
+        ensures { result ≡ count_by (λ m. m.dirty) self.now.marks.pages }
+    {
+        let mut count = 0;
+        for page in 0..self.marks.pages() {
+            if self.marks.is_dirty(page) {
+                count += 1;
+            }
+        }
+        count
+    }
+}

@@ -1,0 +1,145 @@
+//! A worker in its plan.
+
+ghost use Rattle.std.specs.Prelude.{◌≡◌, ◌<◌, ◌≤◌, ◌+◌, ◌-◌, ◌^◌, Some, None, List, [], ◌∷◌, ◌++◌, length, slice_set};
+ghost use Rattle.pp_plan.specs.Cursor.{StandsFor};
+ghost use Rattle.pp_plan.specs.declared.action.Action.{Action};
+ghost use Rattle.pp_cert.specs.declared.note.Held.TheVariants.{Free};
+ghost use Rattle.pp_core.specs.Slots.{held_as};
+ghost use Rattle.pp_core.specs.Seats.{IsBegun, FitsSlots, CanDo, Did, counted};
+
+use pp_cert::Held;
+use pp_plan::{Action, Cursor, Plan};
+
+/// The most slots that a plan has.
+pub(crate) const MOST_SLOTS: usize = 32;
+
+/// A page that a slot holds, and how.
+#[derive(Clone, Copy, Debug, PartialEq, Eq)]
+pub struct Hold {
+    pub(crate) page: u32,
+    pub(crate) held: Held,
+}
+
+/// What a worker in its plan is at.
+#[derive(Clone, Copy, Debug, PartialEq, Eq)]
+pub enum Phase {
+    /// It runs its plan.
+    Acting,
+    /// A device writes the victim back, so that the page can have its frame and then be fixed into the slot.
+    Writing { slot: u8, page: u32, victim: u32 },
+    /// A device reads the page, which is then fixed into the slot.
+    Reading { slot: u8, page: u32 },
+    /// A fix failed, and the worker leaves its plan.
+    Leaving,
+}
+
+/// A worker in its plan.
+#[derive(Debug, Drop)]
+pub struct Seat {
+    /// The plan's number.
+    pub(crate) plan: u32,
+    /// Where the worker is in the plan, as long as it follows it.
+    pub(crate) cursor: Cursor,
+    /// How many of the plan's actions were done.
+    pub(crate) actions: u32,
+    /// How many slots hold a page.
+    pub(crate) holds: u32,
+    /// What each slot holds.
+    pub(crate) slots: [Option<Hold>; MOST_SLOTS],
+    /// What the worker is at.
+    pub(crate) phase: Phase,
+}
+
+impl Seat {
+    /// A worker before the first action of the plan of this number.
+    pub(crate) fn new(number: u32, plan: &Plan) -> Seat
+        ensures { IsBegun plan.now number result }
+    {
+        Seat {
+            plan: number,
+            cursor: Cursor::new(plan),
+            actions: 0,
+            holds: 0,
+            slots: [None; MOST_SLOTS],
+            phase: Phase::Acting,
+        }
+    }
+
+    /// Does an action that the plan asks.
+    pub(crate) fn act(&mut self, plan: &Plan, action: Action)
+        requires { CanDo plan.now self.old action }
+        ensures { Did plan.now self.old self.new action }
+    {
+        self.follow(plan, action);
+        self.count(action);
+    }
+
+    /// The cursor goes past an action that the plan asks.
+    fn follow(&mut self, plan: &Plan, action: Action)
+        requires { CanDo plan.now self.old action }
+        ensures cursor { (before : List Action) → StandsFor plan.now self.old.cursor before →
+            StandsFor plan.now self.new.cursor (before ++ action ∷ []) }
+        ensures rest { self.new ≡ record self.old { cursor = self.new.cursor } }
+    {
+        match self.cursor.follow(plan, action) {
+            Ok(()) => {}
+            Err(_) => unreachable!(),
+        }
+    }
+
+    /// The action is counted, and its slot is filled, emptied or held in another way.
+    fn count(&mut self, action: Action)
+        requires actions { self.old.actions + 1 < 2 ^ 32 }
+        requires slots { FitsSlots action self.old.holds (length self.old.slots) }
+        ensures { self.new ≡ counted action self.old }
+    {
+        self.actions += 1;
+        self.phase = Phase::Acting;
+        match action {
+            Action::Fix { slot, page } => self.fill(slot, page),
+            Action::Unfix { slot } => self.empty(slot),
+            Action::Latch { slot, mode } => self.hold_as(slot, Held::from(mode)),
+            Action::Unlatch { slot } => self.hold_as(slot, Held::Free),
+            Action::Choose { .. } => {}
+        }
+    }
+
+    /// The slot holds the page from now on.
+    fn fill(&mut self, slot: u8, page: u32)
+        requires slot { slot < length self.old.slots }
+        requires room { self.old.holds ≤ 32 }
+        ensures { self.new ≡ record self.old {
+          slots = slice_set self.old.slots slot (Some (record { page = page; held = Free }));
+          holds = self.old.holds + 1;
+        } }
+    {
+        self.slots[usize::from(slot)] = Some(Hold {
+            page,
+            held: Held::Free,
+        });
+        self.holds += 1;
+    }
+
+    /// The slot, which holds a page, holds none from now on.
+    pub(crate) fn empty(&mut self, slot: u8)
+        requires slot { slot < length self.old.slots }
+        requires some { 0 < self.old.holds }
+        ensures { self.new ≡ record self.old {
+          slots = slice_set self.old.slots slot None;
+          holds = self.old.holds - 1;
+        } }
+    {
+        self.slots[usize::from(slot)] = None;
+        self.holds -= 1;
+    }
+
+    /// The slot's page, if it holds one, is held so from now on.
+    fn hold_as(&mut self, slot: u8, held: Held)
+        requires { slot < length self.old.slots }
+        ensures { self.new ≡ record self.old { slots = held_as held slot self.old.slots } }
+    {
+        if let Some(hold) = &mut self.slots[usize::from(slot)] {
+            hold.held = held;
+        }
+    }
+}

@@ -1,0 +1,194 @@
+//! What a core keeps. A table has no invariant of its own.
+
+ghost use Rattle.std.specs.Prelude.{◌≡◌, ◌<◌, ◌≤◌, ◌+◌, ◌-◌, ◌^◌, ℕ, IfOk, IfErr, IfSome, Some, None, List, length};
+ghost use Rattle.std.specs.Prelude.{slice_get, vec_capacity};
+ghost use Rattle.pp_plan.specs.declared.action.Action.{Action};
+ghost use Rattle.pp_plan.specs.Asked.{asked};
+ghost use Rattle.pp_plan.specs.Cursor.{StandsFor};
+ghost use Rattle.pp_cert.specs.Accepted.{Acceptance};
+ghost use Rattle.pp_frames.specs.Marks.{IsFree, frame_of, pins_of, all_pins, latch_count, latches_of};
+ghost use Rattle.pp_core.specs.declared.seat.Seat.{Seat};
+ghost use Rattle.pp_core.specs.Slots.{hold_at};
+
+use crate::busy::BusyPages;
+use crate::seat::{Hold, Phase, Seat};
+use pp_arc::{Answer, Directory};
+use pp_cert::{Accepted, Held};
+use pp_frames::{Marks, Mode};
+use pp_model::{Cause, Delay, Move, Reply};
+use pp_plan::{Action, Ask};
+use pp_settings::{Layout, Settings};
+use std::alloc::{AllocError, Global};
+
+/// The most plans that a pool keeps.
+pub(crate) const MOST_PLANS: usize = 256;
+
+/// The most events besides submits that a pool's journal may have to hold.
+pub(crate) const MOST_EVENTS: u64 = 4_000_000;
+
+/// A flush in flight: its page, and the mark that the page had as it began.
+#[derive(Clone, Copy, Debug, PartialEq, Eq)]
+pub struct Flush {
+    pub(crate) page: u32,
+    pub(crate) began: u64,
+}
+
+/// What a core keeps.
+#[derive(Drop)]
+pub struct Table {
+    /// The layout of all plans.
+    pub(crate) layout: Layout,
+    /// How many flushes a run may begin, and how many of them are left.
+    pub(crate) flushes: u32,
+    pub(crate) flushes_left: u32,
+    /// All plans that were submitted, in order, and how many of them were taken.
+    pub(crate) plans: Vec<Accepted>,
+    pub(crate) taken: u32,
+    /// At place w worker w: in its plan, or idle.
+    pub(crate) seats: Vec<Option<Seat>>,
+    /// ARC's lists.
+    pub(crate) directory: Directory,
+    /// What is noted of each page, with its pins and latches.
+    pub(crate) marks: Marks,
+    /// At place p whether page p is loaded for a worker or written back as a victim.
+    pub(crate) in_flight: Vec<bool>,
+    /// The flush in flight.
+    pub(crate) flush: Option<Flush>,
+    /// The peaks of all plans that run, together.
+    pub(crate) running: u64,
+    /// The events besides submits that the journal of all plans and flushes may need.
+    pub(crate) need: u64,
+    /// The bound on the moves that are left.
+    pub(crate) budget: u64,
+    /// There is room for all plans that a pool keeps.
+    ghost room: { 256 ≤ vec_capacity plans },
+}
+
+impl Table {
+    ghost use Rattle.pp_core.specs.Parts.{parts_of};
+    ghost use Rattle.pp_core.specs.Effects.{phase_of, IsIn, Runs, IsFollowing, CanAct, Acted, with_seat, at_phase};
+    ghost use Rattle.pp_core.specs.Effects.{frame_at, mark_at, placed, displaced, released, IsLatched};
+
+    // ---- one worker
+
+    /// What the worker is at: `None` where there is no such worker, `Some(None)` where it is idle.
+    pub(crate) fn phase(&self, worker: u32) -> Option<Option<Phase>>
+        ensures { result ≡ phase_of (parts_of self.now) worker }
+    {
+        match self.seats.get(worker as usize) {
+            None => None,
+            Some(None) => Some(None),
+            Some(Some(seat)) => Some(Some(seat.phase)),
+        }
+    }
+
+    /// What the plan of a worker that follows it asks.
+    pub(crate) fn next_ask(&self, worker: u32) -> Ask
+        requires { IsFollowing (parts_of self.now) worker }
+        ensures { (x : Seat) (a : Acceptance) (before : List Action) → Runs (parts_of self.now) worker x a →
+            StandsFor a.plan x.cursor before → result ≡ asked a.plan before }
+    {
+        match self.seats.get(worker as usize) {
+            Some(Some(seat)) => {
+                let plan = self.plans[seat.plan as usize].plan();
+                seat.cursor.ask(plan)
+            }
+            _ => unreachable!(),
+        }
+    }
+
+    /// What the slot of a worker in its plan holds.
+    pub(crate) fn hold(&self, worker: u32, slot: u32) -> Option<Hold>
+        requires { (x : Seat) × IsIn (parts_of self.now) worker x }
+        ensures { (x : Seat) → IsIn (parts_of self.now) worker x → result ≡ hold_at x.slots slot }
+    {
+        match self.seats.get(worker as usize) {
+            Some(Some(seat)) => seat.slots.get(slot as usize).copied().flatten(),
+            _ => unreachable!(),
+        }
+    }
+
+    /// The worker does an action that its plan asks.
+    pub(crate) fn act(&mut self, worker: u32, action: Action)
+        requires { CanAct (parts_of self.old) worker action }
+        ensures acted { Acted (parts_of self.old) (parts_of self.new) worker action }
+        ensures rest { parts_of self.new ≡ record (parts_of self.old) { seats = self.new.seats.items } }
+    {
+        match &mut self.seats[worker as usize] {
+            Some(seat) => {
+                let plan = self.plans[seat.plan as usize].plan();
+                seat.act(plan, action);
+            }
+            None => unreachable!(),
+        }
+    }
+
+    /// The worker is at another phase.
+    pub(crate) fn set_phase(&mut self, worker: u32, phase: Phase)
+        requires { (x : Seat) × IsIn (parts_of self.old) worker x }
+        ensures { (x : Seat) → IsIn (parts_of self.old) worker x →
+            parts_of self.new ≡ at_phase (parts_of self.old) worker x phase }
+    {
+        match &mut self.seats[worker as usize] {
+            Some(seat) => seat.phase = phase,
+            None => unreachable!(),
+        }
+    }
+
+    // ---- pages
+
+    /// The frame of a page that has one.
+    pub(crate) fn frame_at(&self, page: u32) -> u32
+        ensures { result ≡ frame_at self.now.marks page }
+    {
+        self.marks.frame_of(page).unwrap_or(0)
+    }
+
+    /// The mark of a page that has one.
+    pub(crate) fn mark_at(&self, page: u32) -> u64
+        ensures { result ≡ mark_at self.now.marks page }
+    {
+        self.marks.stamp(page).unwrap_or(0)
+    }
+
+    /// Puts the page into the frame, and pins it.
+    pub(crate) fn place(&mut self, page: u32, frame: u32)
+        requires page { page < length self.old.marks.pages }
+        requires frame { frame < self.old.marks.frames }
+        requires free { IsFree self.old.marks frame }
+        requires unpinned { pins_of self.old.marks page ≡ 0 }
+        requires room { all_pins self.old.marks < self.old.marks.frames }
+        ensures { parts_of self.new ≡ record (parts_of self.old) { marks = placed self.old.marks page frame } }
+    {
+        self.marks.place(page, frame);
+        self.marks.pin(page);
+    }
+
+    /// Takes the one pin off the page, and the page out of its frame.
+    pub(crate) fn displace(&mut self, page: u32)
+        requires pin { pins_of self.old.marks page ≡ 1 }
+        requires unlatched { latch_count (latches_of self.old.marks page) ≡ 0 }
+        ensures parts { parts_of self.new ≡ record (parts_of self.old) { marks = displaced self.old.marks page } }
+        ensures freed { (frame : ℕ) → frame_of self.old.marks page ≡ Some frame → IsFree self.new.marks frame }
+    {
+        self.marks.unpin(page);
+        self.marks.clear(page);
+    }
+
+    /// A latch of this kind goes off the page. Where that was X, the page was changed.
+    pub(crate) fn release(&mut self, held: Held, page: u32)
+        requires { IsLatched held self.old.marks page }
+        ensures { parts_of self.new ≡ record (parts_of self.old) { marks = released held self.old.marks page } }
+    {
+        match held {
+            Held::Free => {}
+            Held::S => self.marks.release(page, Mode::S),
+            Held::X => {
+                let mark = self.mark_at(page);
+                self.marks.release(page, Mode::X);
+                self.marks.set_dirty(page);
+                self.marks.set_stamp(page, mark + 1);
+            }
+        }
+    }
+}

@@ -1,0 +1,119 @@
+//! What the tests share: sample settings and plans, cores with plans that wait, and how replies are compared.
+
+use pp_annotate::annotate;
+use pp_cert::{Accepted, check};
+use pp_core::{Core, Move, Reply};
+use pp_plan::Plan;
+use pp_settings::Settings;
+use std::alloc::Global;
+use std::process::Abort;
+use std::test::*;
+
+/// The sample settings' regions: `root` of the pages 0 to 3 and class 1, and `leaf` of the pages 16 to 23 and class 2.
+const REGIONS: &str = "
+page_bytes = 64
+workers = 2
+
+[[region]]
+name = \"root\"
+first = 0
+count = 4
+class = 1
+
+[[region]]
+name = \"leaf\"
+first = 16
+count = 8
+class = 2
+";
+
+/// Fixes a root and a leaf, and gives both back.
+pub const TWO: &str =
+    "{\"body\":[{\"fix\":\"a\",\"region\":\"root\"},{\"fix\":\"b\",\"region\":\"leaf\"},\
+{\"unfix\":\"b\"},{\"unfix\":\"a\"}],\"version\":1}";
+
+/// Writes a leaf.
+pub const WRITE: &str =
+    "{\"body\":[{\"fix\":\"a\",\"region\":\"leaf\"},{\"latch\":\"a\",\"mode\":\"X\"},\
+{\"unlatch\":\"a\"},{\"unfix\":\"a\"}],\"version\":1}";
+
+/// Reads a leaf.
+pub const READ: &str =
+    "{\"body\":[{\"fix\":\"a\",\"region\":\"leaf\"},{\"latch\":\"a\",\"mode\":\"S\"},\
+{\"unlatch\":\"a\"},{\"unfix\":\"a\"}],\"version\":1}";
+
+/// Fixes a root and gives it back.
+pub const TOUCH: &str =
+    "{\"body\":[{\"fix\":\"a\",\"region\":\"root\"},{\"unfix\":\"a\"}],\"version\":1}";
+
+/// Does nothing.
+pub const NOTHING: &str = "{\"body\":[],\"version\":1}";
+
+/// The sample settings with this many frames, two workers and this many flushes.
+pub fn settings_of(alloc: Global, frames: u32, flushes: u32) -> Result<Settings, Fail> {
+    let text = format!(in alloc; "frames = {frames}\nflushes = {flushes}{REGIONS}")?;
+    Ok(Settings::from_text(alloc, &text)?)
+}
+
+/// The plan of this text, with its certificate accepted.
+pub fn accepted(
+    rt: &impl Abort,
+    alloc: Global,
+    settings: &Settings,
+    text: &str,
+) -> Result<Accepted, Fail> {
+    let plan = Plan::from_text(alloc, settings, text)?;
+    let certificate = annotate(alloc, settings, &plan)?;
+    match check(settings, plan, &certificate) {
+        Ok(accepted) => Ok(accepted),
+        Err(_) => panic!(rt; "not accepted: {text}"),
+    }
+}
+
+/// A new core in which these plans wait.
+pub fn core_with(
+    rt: &impl Abort,
+    alloc: Global,
+    settings: &Settings,
+    plans: &[&str],
+) -> Result<Core, Fail> {
+    let mut core = Core::new(alloc, settings)?;
+    for text in plans {
+        let accepted = accepted(rt, alloc, settings, text)?;
+        let is_taken_in = core.submit(accepted).is_ok();
+        assert!(rt; is_taken_in, "not taken in: {text}");
+    }
+    Ok(core)
+}
+
+/// What the moves are answered in turn.
+pub fn replies(alloc: Global, core: &mut Core, moves: &[Move]) -> Result<Vec<Reply>, Fail> {
+    let mut replies = Vec::new(alloc);
+    core.run(moves, &mut replies)?;
+    Ok(replies)
+}
+
+/// Compares replies. Where they differ, the test fails and tells both.
+pub fn same_replies(rt: &impl Abort, got: &[Reply], want: &[Reply]) {
+    assert_eq!(rt; got, want, "got {got:?}, wanted {want:?}");
+}
+
+/// Compares the reply to a move. Where it is another, the test fails and tells the move and both.
+fn same_reply(rt: &impl Abort, line: u32, asked: Move, got: Reply, want: Reply) {
+    assert_eq!(rt;
+        got,
+        want,
+        "at line {line}, {asked:?}: got {got:?}, wanted {want:?}"
+    );
+}
+
+/// Makes the moves in turn, and compares what each is answered.
+pub fn follow(rt: &impl Abort, core: &mut Core, rows: &[(Move, Reply)]) {
+    let mut line: u32 = 0;
+    for row in rows {
+        let (asked, want) = *row;
+        let got = core.step(&asked);
+        same_reply(rt, line, asked, got, want);
+        line = line.saturating_add(1);
+    }
+}
