@@ -7,24 +7,25 @@ use Rattle.std.proofs.lemmas.List.{get_or_past}
 use Rattle.std.proofs.lemmas.List.Sums.{sum_by-cons}
 use Rattle.pp_frames.specs.Marks as map
 use Rattle.pp_frames.specs.Marks.{PageMarks}
-use Rattle.pp_model.specs.Pool.{Stage, acting, writing, reading, leaving, Running, State}
-use Rattle.pp_model.specs.Holders.{times, takes}
+use Rattle.pp_model.specs.Pool.{Stage, acting, writing, reading, leaving, Running, State, known_mark}
+use Rattle.pp_model.specs.Holders.{times, takes, loading}
 use Rattle.pp_model.specs.Budget.{peak_of}
 use Rattle.pp_model.specs.Reached.{IsReached}
 use Rattle.pp_model.specs.Marks.{marks}
-use Rattle.pp_model.specs.Laws.{IsWrittenBack, CachedAreFramed, FrameIsLeft, DirtyAreKept, HeldAreKnown}
+use Rattle.pp_model.specs.Laws.{IsWrittenBack, CachedAreFramed, FrameIsLeft, DirtyAreKept, HeldAreKnown, IsLoading}
+use Rattle.pp_model.specs.Laws.{LoadedAreKnown}
 use Rattle.pp_model.proofs.Sums.{sum_by-le}
 use Rattle.pp_model.proofs.Seats.{good}
 use Rattle.pp_model.proofs.Room.{room}
 use Rattle.pp_model.proofs.Requests.{Which, same, other, which}
-use Rattle.pp_model.proofs.Totals.{victims_of, seat_victims, sent_in, pins_are}
+use Rattle.pp_model.proofs.Totals.{loads_of, seat_loads, victims_of, seat_victims, sent_in, pins_are}
 use Rattle.pp_model.proofs.Soundness.{sound}
 use Rattle.pp_model.proofs.Stuck.{seat_takes}
 use Rattle.pp_model.proofs.MarkChanges.{count_told, pins_told, latches_fit, listed_other}
 use Rattle.pp_model.proofs.FreeFrames.{frame_is}
 use Rattle.pp_model.proofs.Framed.{framed, held_one, some_free}
 use Rattle.pp_model.proofs.PinRoom.{pins_few}
-use Rattle.pp_model.proofs.KnownMarks.{held_is_known}
+use Rattle.pp_model.proofs.KnownMarks.{loaded_is_known, held_is_known}
 
 -- ---- a victim has a worker
 
@@ -61,6 +62,26 @@ written_back s q some =
     go w (Some r) e lt =
         let stage = sent_for q r.stage lt in (w, r, stage.0, stage.1, e, stage.2)
 
+-- ---- a page that is loaded has a worker
+
+loaded_once : (q page : ℕ) → 0 < times q (page ∷ []) → Which page q → page ∷ [] ≡ q ∷ []
+loaded_once q page some (same e f) = ap (λ p. p ∷ []) e
+loaded_once q page some (other e f) = absurd (omega (arith, some, listed_other page q e))
+
+loaded_for : (q : ℕ) (g : Stage) → 0 < times q (loading g) → loading g ≡ q ∷ []
+loaded_for q acting some = absurd (omega (arith, some))
+loaded_for q (writing slot page v) some = loaded_once q page some (which page q)
+loaded_for q (reading slot page) some = loaded_once q page some (which page q)
+loaded_for q (leaving given) some = absurd (omega (arith, some))
+
+loading_for : (s : State) (q : ℕ) → 0 < loads_of s q → IsLoading s q
+loading_for s q some =
+    let seat = some_seat (λ x. times q (seat_loads x)) s.seats some in go seat.0 seat.1 seat.2 seat.3
+  where
+    go : (w : ℕ) (x : Option Running) → slice_get s.seats w ≡ Some x → 0 < times q (seat_loads x) → IsLoading s q
+    go w None e lt = absurd (omega (arith, lt))
+    go w (Some r) e lt = (w, r, e, loaded_for q r.stage lt)
+
 -- ---- the laws
 
 pub cached_are_framed : (s : State) → IsReached s → CachedAreFramed s
@@ -76,6 +97,13 @@ dirty_are_kept s h q e =
 
 pub held_are_known : (s : State) → IsReached s → HeldAreKnown s
 held_are_known s h w r slot x seat found = held_is_known s h x.page (held_one s w r slot x seat found)
+
+pub loaded_are_known : (s : State) → IsReached s → LoadedAreKnown s
+loaded_are_known s h q here away = go (cases_lt 0 (loads_of s q))
+  where
+    go : (0 < loads_of s q) ⊎ (loads_of s q ≤ 0) → IsSome (known_mark s q)
+    go (inl some) = absurd (away (loading_for s q some))
+    go (inr none) = loaded_is_known s h q here (omega (arith, none))
 
 -- ---- the map is sound
 

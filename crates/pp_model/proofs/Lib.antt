@@ -35,6 +35,7 @@ pub mod MarkSteps
 pub mod PinRoom
 pub mod MarkBounds
 pub mod KnownMarks
+pub mod ToldMarks
 pub mod MarkReadings
 pub mod FrameLaws
 pub mod TurnsErrands

@@ -6,6 +6,7 @@ use Rattle.pp_plan.specs.declared.action.Ask.{Ask}
 use Rattle.pp_plan.specs.declared.action.Ask.TheVariants as ask
 use Rattle.pp_cert.specs.Accepted.{Acceptance}
 use Rattle.pp_cert.specs.Held.{Holding, holding_at}
+use Rattle.pp_model.specs.declared.moves.Came.TheVariants.{Image}
 use Rattle.pp_model.specs.declared.moves.Move.TheVariants.{ReadDone, Unlatch, Unwind}
 use Rattle.pp_model.specs.declared.reply.Reply.TheVariants.{Loaded, Unlatched}
 use Rattle.pp_model.specs.declared.event.Event.{Event}
@@ -64,9 +65,9 @@ stamp_written s (Step (Unlatch w) (Unlatched mark)) page = if_about (written_unl
 stamp_written s (Step (Unwind w slot) (Unlatched mark)) page = if_about (written_unwound slot (seat_of s w)) mark page
 stamp_written s _ page = None
 
--- The stamp with which the event finds the page on the device.
+-- The stamp of the image of the page that came, where the reading was good.
 abbrev pub stamp_read : State → Event → (page : ℕ) → Option ℕ
-stamp_read s (Step (ReadDone w came) (Loaded mark)) page = if_about (read_for (seat_of s w)) mark page
+stamp_read s (Step (ReadDone w (Image named stamp)) (Loaded mark)) page = if_about (read_for (seat_of s w)) stamp page
 stamp_read s _ page = None
 
 -- ---- a journal

@@ -14,13 +14,14 @@ use Rattle.pp_model.specs.declared.moves.Move.{Move}
 use Rattle.pp_model.specs.declared.moves.Move.TheVariants as moves
 use Rattle.pp_model.specs.declared.refusals.Delay.TheVariants.{FlushHolds}
 use Rattle.pp_model.specs.declared.reply.Reply.TheVariants.{NotNow}
-use Rattle.pp_model.specs.Pool.{acting, writing, Running, Flush, State, frame_of, is_dirty, known_mark}
+use Rattle.pp_model.specs.Pool.{acting, writing, Running, Flush, State, opening, frame_of, is_dirty, known_mark}
 use Rattle.pp_model.specs.Holders.{holdings, loading, is_taken, readers_of, writers_of, errands_of}
 use Rattle.pp_model.specs.Budget.{cost_of, bound}
 use Rattle.pp_model.specs.Moves.{seat_of, reply_of, next_of, is_possible, IsPossible}
 use Rattle.pp_model.specs.Submitting.{most_events, submit_error, after_submit}
 use Rattle.pp_model.specs.Runs.{Input, plan, move, run, state_after, count_done}
 use Rattle.pp_model.specs.Journals.{IsJournalOf}
+use Rattle.pp_model.specs.JournalMarks.{journal_mark}
 use Rattle.pp_model.specs.Reached.{IsReached}
 use Rattle.pp_model.specs.Marks.{marks_at, marks}
 use Rattle.pp_model.specs.Turns.{Asks, IsOpen, next_turn, IsUnderWay}
@@ -148,6 +149,22 @@ abbrev pub HeldAreKnown : State → Type 0
 HeldAreKnown s =
     (w : ℕ) (r : Running) (slot : ℕ) (h : Holding) → seat_of s w ≡ Some (Some r)
     → holding_at (holdings r) slot ≡ Some h → IsSome (known_mark s h.page)
+
+-- For some worker the page is being loaded: its victim is written back, or it is read.
+abbrev pub IsLoading : State → (page : ℕ) → Type 0
+IsLoading s page =
+    (w : ℕ) × (r : Running) × (seat_of s w ≡ Some (Some r)) × (loading r.stage ≡ page ∷ [])
+
+-- A page that is cached, and not being loaded, has a known mark.
+abbrev pub LoadedAreKnown : State → Type 0
+LoadedAreKnown s =
+    (page : ℕ) → IsTrue (is_cached s.lists page) → ¬ IsLoading s page → IsSome (known_mark s page)
+
+-- The known mark of each page is the one that any journal of the state tells of it.
+abbrev pub MarksAreTheJournals : State → Type 0
+MarksAreTheJournals s =
+    (es : List Event) (page : ℕ) → IsJournalOf s es
+    → known_mark s page ≡ journal_mark s.plans (opening s.settings) es page
 
 -- No mark comes near 2^64: a mark and the bound on the moves that are left come together to at most 2^62 and the most
 -- events of a journal.

@@ -10,7 +10,8 @@ ghost use Rattle.pp_model.specs.Marks.{marks};
 ghost use Rattle.pp_model.specs.Laws.{WithinPeaks, NoneStuck, FlushHoldsAlone, InOrder, LatchesAgree, OneErrand};
 ghost use Rattle.pp_model.specs.Laws.{BoundFalls, RefusedLeaves, BoundRises, DoneWithinBound, StaysReached};
 ghost use Rattle.pp_model.specs.Laws.{JournalGrows, JournalTakesIn, MarksTell, OnePageChanges, CachedAreFramed};
-ghost use Rattle.pp_model.specs.Laws.{FrameIsLeft, PinIsLeft, DirtyAreKept, HeldAreKnown, MarksAreSmall};
+ghost use Rattle.pp_model.specs.Laws.{FrameIsLeft, PinIsLeft, DirtyAreKept, HeldAreKnown, LoadedAreKnown};
+ghost use Rattle.pp_model.specs.Laws.{MarksAreTheJournals, MarksAreSmall};
 ghost use Rattle.pp_model.specs.Laws.{NextWhileUnderWay, NextIsOpen};
 
 /// Room: the peaks of all plans that run sum to at most the frames, and each worker holds and loads at most its peak.
@@ -71,10 +72,14 @@ pub fn frames_are_apart()
 {}
 
 /// A page that is newer than the device's is cached, or it is written back as a victim. A page that a slot holds has a
-/// known mark. No mark comes near 2^64, now or after the moves that are left.
+/// known mark, and so has one that is cached and not being loaded. The known mark of a page is the one that any journal
+/// of the state tells of it: the stamp of the last unlatch or unwinding of X on it, else of its first good reading,
+/// else none. No mark comes near 2^64, now or after the moves that are left.
 pub fn marks_are_kept()
     ensures dirty { (s : State) → IsReached s → DirtyAreKept s }
     ensures held { (s : State) → IsReached s → HeldAreKnown s }
+    ensures cached { (s : State) → IsReached s → LoadedAreKnown s }
+    ensures journals { (s : State) → IsReached s → MarksAreTheJournals s }
     ensures small { (s : State) → IsReached s → MarksAreSmall s }
 {}
 
