@@ -65,7 +65,7 @@ step_told s es m h p =
 -- ---- plans
 
 -- A longer list of plans tells the same of the plans that it had.
-get_more : (ps qs : List Acceptance) (k : ℕ) (a : Acceptance) → slice_get ps k ≡ Some a
+pub get_more : (ps qs : List Acceptance) (k : ℕ) (a : Acceptance) → slice_get ps k ≡ Some a
     → slice_get (ps ++ qs) k ≡ Some a
 get_more [] qs k a e = cc
 get_more (p ∷ ps) qs zero a e = e

@@ -36,6 +36,7 @@ pub mod PinRoom
 pub mod MarkBounds
 pub mod KnownMarks
 pub mod ToldMarks
+pub mod Accounts
 pub mod MarkReadings
 pub mod FrameLaws
 pub mod TurnsErrands

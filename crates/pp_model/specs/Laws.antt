@@ -1,6 +1,6 @@
 -- Laws of reached states, in the words of those who use a pool.
 use Rattle.std.specs.Prelude.{◌≡◌, ◌≢◌, ◌⊎◌, ◌↔◌, ℕ, ◌+◌, ◌^◌, ◌<◌, ◌≤◌, true, false, None, Some, List, [], ◌∷◌}
-use Rattle.std.specs.Prelude.{◌++◌, length, All, IsTrue, IsSome}
+use Rattle.std.specs.Prelude.{◌++◌, ◌==◌, Bool, Option, length, count_by, slice_get, All, IsTrue, IsSome}
 use Rattle.pp_plan.specs.declared.mode.Mode.{Mode}
 use Rattle.pp_plan.specs.declared.action.Action.TheVariants as action
 use Rattle.pp_cert.specs.Held.{Holding, holding_at, IsAboveLatched}
@@ -14,7 +14,8 @@ use Rattle.pp_model.specs.declared.moves.Move.{Move}
 use Rattle.pp_model.specs.declared.moves.Move.TheVariants as moves
 use Rattle.pp_model.specs.declared.refusals.Delay.TheVariants.{FlushHolds}
 use Rattle.pp_model.specs.declared.reply.Reply.TheVariants.{NotNow}
-use Rattle.pp_model.specs.Pool.{acting, writing, Running, Flush, State, opening, frame_of, is_dirty, known_mark}
+use Rattle.pp_model.specs.Pool.{acting, writing, Running, Finished, Flush, State, opening, frame_of, is_dirty}
+use Rattle.pp_model.specs.Pool.{known_mark}
 use Rattle.pp_model.specs.Holders.{holdings, loading, is_taken, readers_of, writers_of, errands_of}
 use Rattle.pp_model.specs.Budget.{cost_of, bound}
 use Rattle.pp_model.specs.Moves.{seat_of, reply_of, next_of, is_possible, IsPossible}
@@ -117,6 +118,35 @@ abbrev pub JournalTakesIn : State → Type 0
 JournalTakesIn s =
     (es : List Event) (a : Acceptance) → IsJournalOf s es → submit_error s a ≡ None
     → IsJournalOf (after_submit s a) (es ++ Submit (length s.plans) ∷ [])
+
+-- ---- the plans that were taken
+
+-- Whether a seat has the plan of this number, and whether an ending is of it.
+abbrev pub is_with : (number : ℕ) → Option Running → Bool
+is_with number None = false
+is_with number (Some r) = r.number == number
+
+abbrev pub is_end_of : (number : ℕ) → Finished → Bool
+is_end_of number f = f.number == number
+
+-- How many workers have the plan, and how often it was ended.
+abbrev pub workers_with : State → (number : ℕ) → ℕ
+workers_with s number = count_by (is_with number) s.seats
+
+abbrev pub endings_of : State → (number : ℕ) → ℕ
+endings_of s number = count_by (is_end_of number) s.finished
+
+-- Plans are taken in order, and one that was taken is with exactly one worker, or it was ended exactly once. So a plan
+-- that isn't ended waits, or it is with a worker.
+pub record PlansAreAccounted (s : State) : Type 0 where
+  -- each plan below `taken` is with one worker and not ended, or with none and ended once
+  pub taken : (number : ℕ) → number < s.taken → workers_with s number + endings_of s number ≡ 1
+  -- no other plan is with a worker or was ended
+  pub others : (number : ℕ) → s.taken ≤ number → workers_with s number + endings_of s number ≡ 0
+  -- what was taken was submitted
+  pub submitted : s.taken ≤ length s.plans
+  -- the plan that a worker runs is the submitted one of its number
+  pub named : (w : ℕ) (r : Running) → seat_of s w ≡ Some (Some r) → slice_get s.plans r.number ≡ Some r.accepted
 
 -- ---- frames and marks
 

@@ -11,7 +11,7 @@ ghost use Rattle.pp_model.specs.Laws.{WithinPeaks, NoneStuck, FlushHoldsAlone, I
 ghost use Rattle.pp_model.specs.Laws.{BoundFalls, RefusedLeaves, BoundRises, DoneWithinBound, StaysReached};
 ghost use Rattle.pp_model.specs.Laws.{JournalGrows, JournalTakesIn, MarksTell, OnePageChanges, CachedAreFramed};
 ghost use Rattle.pp_model.specs.Laws.{FrameIsLeft, PinIsLeft, DirtyAreKept, HeldAreKnown, LoadedAreKnown};
-ghost use Rattle.pp_model.specs.Laws.{MarksAreTheJournals, MarksAreSmall};
+ghost use Rattle.pp_model.specs.Laws.{MarksAreTheJournals, MarksAreSmall, PlansAreAccounted};
 ghost use Rattle.pp_model.specs.Laws.{NextWhileUnderWay, NextIsOpen};
 
 /// Room: the peaks of all plans that run sum to at most the frames, and each worker holds and loads at most its peak.
@@ -59,6 +59,12 @@ pub fn runs_stay_reached()
     ensures goes_on { (s : State) → IsReached s → StaysReached s }
     ensures steps { (s : State) → JournalGrows s }
     ensures submits { (s : State) → JournalTakesIn s }
+{}
+
+/// The plans are accounted for: each that was taken is with exactly one worker, or was ended exactly once, and no other
+/// is with a worker or was ended. So a plan that isn't ended waits or is with a worker.
+pub fn plans_are_accounted()
+    ensures each { (s : State) → IsReached s → PlansAreAccounted s }
 {}
 
 /// A page has a frame exactly where it is cached. No frame has two pages, each is one of the pool's, there are no more
