@@ -13,6 +13,7 @@ use Rattle.pp_model.proofs.LatchLaws.{in_order, latches_agree}
 use Rattle.pp_model.proofs.Room.{room}
 use Rattle.pp_model.proofs.Soundness.{sound}
 use Rattle.pp_model.proofs.Stuck.{none_stuck, flush_holds_alone, within_peaks}
+use Rattle.pp_model.proofs.ToldMarks.{marks_are_the_journals}
 use Rattle.pp_model.proofs.Totals.{errands_are}
 use Rattle.pp_model.proofs.Turns.{next_while_under_way, next_is_open}
 use Rattle.pp_core.specs.Parts.{Parts}
@@ -29,6 +30,7 @@ headline_of s h = record {
   within_its_peak = within_peaks s h;
   peaks_fit_the_frames = room s h;
   one_errand_a_page = λ q. omega (arith, errands_are s q, (sound s h).alone q);
+  known_marks_are_the_journals = marks_are_the_journals s h;
   someone_moves_next = next_while_under_way s h;
   next_turn_is_open = next_is_open s h;
   bound_falls = bound_falls s h;

@@ -3,7 +3,7 @@ use Rattle.std.specs.Prelude.{◌≤◌}
 use Rattle.pp_model.specs.Pool.{State}
 use Rattle.pp_model.specs.Budget.{running_peaks}
 use Rattle.pp_model.specs.Laws.{NoneStuck, FlushHoldsAlone, InOrder, LatchesAgree, WithinPeaks, OneErrand, BoundFalls}
-use Rattle.pp_model.specs.Laws.{NextWhileUnderWay, NextIsOpen}
+use Rattle.pp_model.specs.Laws.{MarksAreTheJournals, NextWhileUnderWay, NextIsOpen}
 use Rattle.pp_core.specs.Parts.{Parts}
 use Rattle.pp_core.specs.StandsFor.{StandsFor}
 
@@ -22,6 +22,8 @@ pub record Headline (s : State) : Type 0 where
   pub peaks_fit_the_frames : running_peaks s ≤ s.settings.layout.frames
   -- no page has two errands of workers out
   pub one_errand_a_page : OneErrand s
+  -- the known mark of each page is the one that any journal of the state tells of it
+  pub known_marks_are_the_journals : MarksAreTheJournals s
   -- while a plan waits or isn't ended, or a flush is in flight, there is a next turn, and only then
   pub someone_moves_next : NextWhileUnderWay s
   -- the moves of the next turn are possible, whatever is decided in them
