@@ -3,7 +3,7 @@
 use Rattle.std.specs.Prelude.{◌≡◌, true, false, Some, None, List, [], ◌∷◌, replicate, refl}
 use Rattle.pp_model.specs.declared.moves.Move.{Move}
 use Rattle.pp_model.specs.declared.moves.Move.TheVariants.{Take, Fix, WriteDone, ReadDone, Unfix, Latch, Unlatch}
-use Rattle.pp_model.specs.declared.moves.Move.TheVariants.{Finish}
+use Rattle.pp_model.specs.declared.moves.Move.TheVariants.{Unwind, Finish}
 use Rattle.pp_model.specs.declared.moves.Move.TheVariants.{FlushBegin, FlushDone}
 use Rattle.pp_model.specs.declared.moves.Came.TheVariants.{Fault, Image}
 use Rattle.pp_model.specs.declared.turn.Turn.TheVariants.{Act}
@@ -25,7 +25,8 @@ use Rattle.pp_model.specs.Runs.{replies_to, state_after}
 use Rattle.pp_model.specs.Journals.{replay, IsNextPlan, IsTrueFrom}
 use Rattle.pp_model.specs.JournalMarks.{journal_mark}
 use Rattle.pp_model.specs.Turns.{next_turn}
-use Rattle.pp_model.proofs.Samples.{settings_of, two, write, read, touch, nothing, long, with_plans, start}
+use Rattle.pp_model.proofs.Samples.{settings_of, two, write, read, touch, write_and_fix, nothing, long, with_plans}
+use Rattle.pp_model.proofs.Samples.{start}
 
 -- Two plans of peak 2 in three frames: the second waits until the first gives its room back.
 abbrev room_start : State
@@ -261,3 +262,39 @@ written_lines =
 
 written_lines_mark : journal_mark (write 3 ∷ []) (opening (settings_of 3)) written_lines 16 ≡ Some 1
 written_lines_mark = refl
+
+-- So has one whose latch went when its worker left the plan; and a page that wasn't read has none.
+abbrev unwound_lines : List Event
+unwound_lines =
+    Submit 0 ∷ Step (Take 0) (Taken 0) ∷ Step (Fix 0 1) (MustRead 0) ∷ Step (ReadDone 0 (Image 1 7)) (Loaded 7) ∷
+    Step (Latch 0) (Latched 7) ∷ Step (Fix 0 16) (MustRead 1) ∷ Step (ReadDone 0 Fault) (Failed ReadFault) ∷
+    Step (Unwind 0 0) (Unlatched 8) ∷ Step (Finish 0) (Finished Gone) ∷ []
+
+unwound_lines_are_true : IsTrueFrom (write_and_fix 3 ∷ []) (opening (settings_of 3)) unwound_lines
+unwound_lines_are_true =
+    let next : IsNextPlan (write_and_fix 3 ∷ []) (opening (settings_of 3)) 0 =
+    record { next = refl; plan = write_and_fix 3; named = refl; taken_in = refl } in (
+      next,
+      (
+        (refl, refl),
+        ((refl, refl), ((refl, refl), ((refl, refl), ((refl, refl), ((refl, refl), ((refl, refl), ((refl, refl), tt))))))),
+      ),
+    )
+
+unwound_lines_mark : journal_mark (write_and_fix 3 ∷ []) (opening (settings_of 3)) unwound_lines 1 ≡ Some 8
+unwound_lines_mark = refl
+
+unwound_lines_no_mark : journal_mark (write_and_fix 3 ∷ []) (opening (settings_of 3)) unwound_lines 16 ≡ None
+unwound_lines_no_mark = refl
+
+-- A misread marks neither the page that was asked for nor the one that the image names.
+abbrev misread_lines : List Event
+misread_lines =
+    Submit 0 ∷ Step (Take 0) (Taken 0) ∷ Step (Fix 0 1) (MustRead 0) ∷
+    Step (ReadDone 0 (Image 2 0)) (Failed Misread) ∷ []
+
+misread_lines_no_mark : journal_mark (touch 3 ∷ []) (opening (settings_of 3)) misread_lines 1 ≡ None
+misread_lines_no_mark = refl
+
+misread_lines_none_named : journal_mark (touch 3 ∷ []) (opening (settings_of 3)) misread_lines 2 ≡ None
+misread_lines_none_named = refl

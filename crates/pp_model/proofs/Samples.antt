@@ -46,6 +46,12 @@ read frames = plan_of frames 1 4 (codes "a" ∷ []) (fix 0 1 ∷ latch 0 mode.S 
 abbrev pub touch : (frames : ℕ) → Acceptance
 touch frames = plan_of frames 1 2 (codes "a" ∷ []) (fix 0 0 ∷ unfix 0 ∷ [])
 
+-- A page latched X while another is fixed.
+abbrev pub write_and_fix : (frames : ℕ) → Acceptance
+write_and_fix frames =
+    plan_of frames 2 6 (codes "a" ∷ codes "b" ∷ [])
+    (fix 0 0 ∷ latch 0 mode.X ∷ fix 1 1 ∷ unfix 1 ∷ unlatch 0 ∷ unfix 0 ∷ [])
+
 -- The plan without a statement.
 abbrev pub nothing : (frames : ℕ) → Acceptance
 nothing frames = plan_of frames 0 0 [] []
