@@ -19,3 +19,4 @@ mod OpeningTies
 mod SubmitTies
 mod RunTies
 mod QueryTies
+mod TurnTies

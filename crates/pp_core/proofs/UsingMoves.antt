@@ -282,10 +282,11 @@ module _ (f : Parts) (w slot page : ℕ) (m : Mode) (asks : Asks f w (ask.Latch 
       can_spend_marked f n w (action.Latch slot m)
       (spend_needs f w (action.Latch slot m) h (latch_due f h.state w h.running h.stands slot m h.asked))
 
-  goes : (s : State) (st : StandsFor f s) (b : Bool)
+  -- Whether the latch goes with those that stand on the page, as the map tells it.
+  pub latch_goes : (s : State) (st : StandsFor f s) (b : Bool)
       → b ≡ map.is_compatible (latch_mode_of m) (map.latches_of f.marks page)
       → goes_with s m (page_in (asks s st).0 slot) ≡ b
-  goes s st b e =
+  latch_goes s st b e =
       let h = latch_of s st in
       let at = page_is f s w slot page h.running st h.asked.at.seat told in
       goes_told s m (page_in h.running slot) (latch_low h)
@@ -300,7 +301,7 @@ module _ (f : Parts) (w slot page : ℕ) (m : Mode) (asks : Asks f w (ask.Latch 
       (refuses f (move.Latch w) (NotNow LatchHeld) (λ s st.
       acted_outcome s w (asks s st).0 (λ q. latch_asked s w q (asked_by q)) (asks s st).1
       ∙ ap (latch_asked s w (asks s st).0) (asks s st).2
-      ∙ ap (latch_where s w (asks s st).0 slot m) (goes s st false e)))
+      ∙ ap (latch_where s w (asks s st).0 slot m) (latch_goes s st false e)))
 
   pub latch_moves : (g : Parts) (n : PageMap) (mark : ℕ)
       → true ≡ map.is_compatible (latch_mode_of m) (map.latches_of f.marks page)
@@ -316,7 +317,7 @@ module _ (f : Parts) (w slot page : ℕ) (m : Mode) (asks : Asks f w (ask.Latch 
           let d = action.Latch slot m in
           let t = did s w r d in
           let at = page_is f s w slot page r st h.asked.at.seat told in
-          let fit = goes s st true e in
+          let fit = latch_goes s st true e in
           let same : SameRest s t = record {
             settings = refl;
             plans = refl;

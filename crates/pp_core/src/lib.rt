@@ -22,4 +22,5 @@ mod seat;
 mod submitting;
 mod table;
 mod taking;
+mod turns;
 mod using;

@@ -1,12 +1,14 @@
 //! The core: a new one, plans that are submitted, moves, and what it tells of its state.
 
-ghost use Rattle.std.specs.Prelude.{◌≡◌, ◌+◌, ◌≤◌, Some, IfOk, IfErr, OnOk, OnErr, IsTrue, if◌then◌else◌};
+ghost use Rattle.std.specs.Prelude.{◌≡◌, ◌↔◌, ◌+◌, ◌≤◌, Some, IsSome, IfSome, IfOk, IfErr, OnOk, OnErr, IsTrue};
+ghost use Rattle.std.specs.Prelude.{if◌then◌else◌};
 ghost use Rattle.pp_frames.specs.Marks.{dirty_from};
 ghost use Rattle.pp_model.specs.Pool.{State, opening, frame_of, known_mark, dirty_pages};
 ghost use Rattle.pp_model.specs.Budget.{bound};
 ghost use Rattle.pp_model.specs.Marks.{marks};
 ghost use Rattle.pp_model.specs.Submitting.{submit_error};
 ghost use Rattle.pp_model.specs.Moves.{is_refusal};
+ghost use Rattle.pp_model.specs.Turns.{IsOpen, next_turn, IsUnderWay};
 ghost use Rattle.pp_core.specs.StandsFor.{StandsFor, IsKept, Moves};
 ghost use Rattle.pp_core.specs.Opening.{kept_of};
 ghost use Rattle.pp_core.specs.Submits.{TakesIn};
@@ -17,7 +19,7 @@ ghost use Rattle.pp_core.specs.Headline.{HeadlineHolds};
 use crate::error::CoreError;
 use crate::table::Table;
 use pp_cert::{Accepted, Held};
-use pp_model::{Move, Reply, SubmitError};
+use pp_model::{Move, Reply, SubmitError, Turn};
 use pp_plan::Ask;
 use pp_settings::Settings;
 use std::alloc::Global;
@@ -168,6 +170,26 @@ impl Core {
             replies.push_reserved(reply);
         }
         Ok(())
+    }
+
+    // ---- who moves next
+
+    /// Who moves next, the first of these that there is: the device, which answers the least worker with an errand out;
+    /// the device, which answers the flusher; the least worker that leaves its plan, or runs it and isn't stopped by a
+    /// latch; the least idle worker, where a plan waits.
+    ///
+    /// The moves of this turn are possible, whatever is decided in them: any answer of the device; any action that the
+    /// worker's plan asks, with any page of the region and any branch, or `Finish` at its end; for a worker that leaves,
+    /// `Unwind` of each slot that it holds, or `Finish` where it holds none; `Take`.
+    ///
+    /// None if and only if no plan waits, every worker is idle, and no flush is in flight. It looks at each worker at
+    /// most once a kind, and at no page but those that the workers' plans ask to latch.
+    pub fn next_possible(&self) -> Option<Turn>
+        ensures turn { (s : State) → StandsFor self.now s → result ≡ next_turn s }
+        ensures some { (s : State) → StandsFor self.now s → IsSome result ↔ IsUnderWay s }
+        ensures open { IfSome result (λ turn. (s : State) → StandsFor self.now s → IsOpen s turn) }
+    {
+        self.table.next_turn()
     }
 
     // ---- what the state has

@@ -32,7 +32,7 @@ fn why_not_acting(phase: Option<Option<Phase>>) -> Option<Cause>
 }
 
 /// A mode of a plan as one of the marks.
-fn latch_mode(mode: Mode) -> LatchMode
+pub(crate) fn latch_mode(mode: Mode) -> LatchMode
     ensures { result ≡ latch_mode_of mode }
 {
     match mode {
