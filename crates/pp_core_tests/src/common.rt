@@ -2,7 +2,7 @@
 
 use pp_annotate::annotate;
 use pp_cert::{Accepted, check};
-use pp_core::{Core, Move, Reply};
+use pp_core::{Core, Move, Reply, Turn};
 use pp_plan::Plan;
 use pp_settings::Settings;
 use std::alloc::Global;
@@ -114,6 +114,29 @@ pub fn follow(rt: &impl Abort, core: &mut Core, rows: &[(Move, Reply)]) {
         let (asked, want) = *row;
         let got = core.step(&asked);
         same_reply(rt, line, asked, got, want);
+        line = line.saturating_add(1);
+    }
+}
+
+/// Compares the turn that comes next. Where it is another, the test fails and tells both.
+fn same_turn(rt: &impl Abort, line: u32, got: Option<Turn>, want: Option<Turn>) {
+    assert_eq!(rt; got, want, "at line {line}: got {got:?}, wanted {want:?}");
+}
+
+/// Compares the turn that comes next, and the bound on the moves that are left.
+pub fn same_left(rt: &impl Abort, core: &Core, want: (Option<Turn>, u64)) {
+    same_turn(rt, 0, core.next_possible(), want.0);
+    let budget = core.budget();
+    assert!(rt; budget == want.1, "the budget is {budget}");
+}
+
+/// Makes the moves in turn, and compares what turn comes next after each.
+pub fn take_turns(rt: &impl Abort, core: &mut Core, rows: &[(Move, Option<Turn>)]) {
+    let mut line: u32 = 0;
+    for row in rows {
+        let (asked, want) = *row;
+        core.step(&asked);
+        same_turn(rt, line, core.next_possible(), want);
         line = line.saturating_add(1);
     }
 }

@@ -1,7 +1,7 @@
 //! Tests of the core by its public calls, in a crate of their own so that no library is proved twice.
 //!
 //! They are of what no clause says: that lists of moves get the replies that somebody worked out by hand, that plans
-//! are refused where they should be, and that each refusal of each move comes in its turn.
+//! are refused where they should be, that each refusal of each move comes in its turn, and whose turn is next.
 #![tactic(auto)]
 
 #[cfg(test)]
@@ -12,3 +12,5 @@ mod common;
 mod lists;
 #[cfg(test)]
 mod submits;
+#[cfg(test)]
+mod turns;

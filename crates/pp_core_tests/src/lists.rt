@@ -1,6 +1,6 @@
-//! Lists of moves with their replies, worked out by hand.
+//! Lists of moves with their replies, the turn that comes next and the bound that is left, worked out by hand.
 
-use crate::common::{TOUCH, TWO, WRITE, core_with, replies, same_replies, settings_of};
+use crate::common::{TOUCH, TWO, WRITE, core_with, replies, same_left, same_replies, settings_of};
 use pp_core::Came::Image;
 use pp_core::Cause::NoErrand;
 use pp_core::Delay::{InFlight, LatchHeld, NoRoom};
@@ -10,23 +10,25 @@ use pp_core::Move::{Finish, Fix, FlushDone, Latch, ReadDone, Take, Unfix};
 use pp_core::Reply::{
     Did, Failed, Finished, Hit, Latched, Loaded, MustRead, NotNow, OffPlan, Taken,
 };
-use pp_core::{Move, Reply};
+use pp_core::{Move, Reply, Turn};
 use std::alloc::Global;
 use std::process::Abort;
 use std::test::*;
 
-/// A core of three frames with these plans answers the moves so.
+/// A core of three frames with these plans answers the moves so, and then has this turn next and this bound.
 fn answers(
     rt: &impl Abort,
     alloc: Global,
     plans: &[&str],
     moves: &[Move],
     want: &[Reply],
+    left: (Option<Turn>, u64),
 ) -> Result<(), Fail> {
     let settings = settings_of(alloc, 3, 4)?;
     let mut core = core_with(rt, alloc, &settings, plans)?;
     let got = replies(alloc, &mut core, moves)?;
     same_replies(rt, &got, want);
+    same_left(rt, &core, left);
     Ok(())
 }
 
@@ -68,7 +70,14 @@ static ROOM_REPLIES: [Reply; 10] = [
 /// Two plans of peak 2 in three frames: the second begins where the first has given its room back.
 #[test]
 fn a_plan_waits_for_room(rt: HostRuntime) -> Result<(), Fail> {
-    answers(&rt, rt.alloc(), &[TWO, TWO], &ROOM_MOVES, &ROOM_REPLIES)
+    answers(
+        &rt,
+        rt.alloc(),
+        &[TWO, TWO],
+        &ROOM_MOVES,
+        &ROOM_REPLIES,
+        (Some(Turn::Act(1)), 53),
+    )
 }
 
 static MISREAD_MOVES: [Move; 8] = [
@@ -108,6 +117,7 @@ fn another_page_came(rt: HostRuntime) -> Result<(), Fail> {
         &[TOUCH, TOUCH],
         &MISREAD_MOVES,
         &MISREAD_REPLIES,
+        (Some(Turn::Act(1)), 44),
     )
 }
 
@@ -151,6 +161,7 @@ fn a_page_has_one_writer(rt: HostRuntime) -> Result<(), Fail> {
         &[WRITE, WRITE],
         &WRITER_MOVES,
         &WRITER_REPLIES,
+        (Some(Turn::Act(1)), 89),
     )
 }
 
@@ -176,5 +187,12 @@ static TOUCH_REPLIES: [Reply; 5] = [
 /// A plan from its begin to its end.
 #[test]
 fn a_plan_is_done(rt: HostRuntime) -> Result<(), Fail> {
-    answers(&rt, rt.alloc(), &[TOUCH], &TOUCH_MOVES, &TOUCH_REPLIES)
+    answers(
+        &rt,
+        rt.alloc(),
+        &[TOUCH],
+        &TOUCH_MOVES,
+        &TOUCH_REPLIES,
+        (None, 8),
+    )
 }
