@@ -20,3 +20,5 @@ mod SubmitTies
 mod RunTies
 mod QueryTies
 mod TurnTies
+mod DrainTies
+mod DrainRuns

@@ -16,3 +16,4 @@ pub mod Opening
 pub mod Submits
 pub mod Runs
 pub mod Queries
+pub mod Draining

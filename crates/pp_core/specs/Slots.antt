@@ -1,5 +1,7 @@
 -- What a worker's slots hold, as the core keeps it: at place k what slot k holds.
 use Rattle.std.specs.Prelude.{ℕ, ◌+◌, ◌-◌, Option, None, Some, option_map, List, slice_index_or, slice_set}
+use Rattle.std.specs.Prelude.{position}
+use Rattle.std.specs.Option.{is_some}
 use Rattle.pp_plan.specs.declared.action.Action.{Action}
 use Rattle.pp_plan.specs.declared.action.Action.TheVariants.{Fix, Unfix, Latch, Unlatch, Choose}
 use Rattle.pp_cert.specs.declared.note.Held.{Held}
@@ -10,6 +12,10 @@ use Rattle.pp_core.specs.declared.seat.Hold.{Hold}
 -- What the slot holds. A slot past the last one holds nothing.
 abbrev pub hold_at : List (Option Hold) → ℕ → Option Hold
 hold_at slots slot = slice_index_or slots slot None
+
+-- The least slot that holds a page.
+abbrev pub first_filled : List (Option Hold) → Option ℕ
+first_filled slots = position is_some slots
 
 -- A holding without its slot.
 abbrev pub hold_of : Holding → Hold

@@ -1,6 +1,7 @@
 //! The core of a buffer pool: a machine over moves, without pages, devices or threads.
 #![tactic(auto)]
 
+pub use draining::Decide;
 pub use error::CoreError;
 pub use machine::{Core, PlanId};
 pub use pp_cert::{Accepted, Held};
@@ -9,6 +10,7 @@ pub use pp_plan::Ask;
 
 mod answering;
 mod busy;
+mod draining;
 mod error;
 mod fixing;
 mod flushing;

@@ -13,9 +13,11 @@ ghost use Rattle.pp_core.specs.StandsFor.{StandsFor, IsKept, Moves};
 ghost use Rattle.pp_core.specs.Opening.{kept_of};
 ghost use Rattle.pp_core.specs.Submits.{TakesIn};
 ghost use Rattle.pp_core.specs.Runs.{MovesAll};
+ghost use Rattle.pp_core.specs.Draining.{IsMoveOf, IsOpenIn, CanBeMade, Drains, Rests};
 ghost use Rattle.pp_core.specs.Queries.{is_idle, is_leaving, ask_of, held_of, errand_of, flushed_page, plan_count};
 ghost use Rattle.pp_core.specs.Headline.{HeadlineHolds};
 
+use crate::draining::Decide;
 use crate::error::CoreError;
 use crate::table::Table;
 use pp_cert::{Accepted, Held};
@@ -190,6 +192,38 @@ impl Core {
         ensures open { IfSome result (λ turn. (s : State) → StandsFor self.now s → IsOpen s turn) }
     {
         self.table.next_turn()
+    }
+
+    /// Drives the pool to its end, and answers how many moves that took: it does a move of the turn that
+    /// [`Core::next_possible`] names, as it is decided, until that is None. A worker that leaves its plan gives back its
+    /// least slot that holds a page, or finishes where none does.
+    ///
+    /// Each of the moves is possible, whatever is decided, and there are at most as many as [`Core::budget`] tells at
+    /// the start. In the end every plan is finished, and no flush is in flight.
+    pub fn drain(&mut self, decide: &mut impl Decide) -> u64
+        ensures within { result + self.new.budget ≤ self.old.budget }
+        ensures rest { Rests self.new }
+        ensures moved { (s : State) → StandsFor self.old s → Drains s self.new result }
+        ensures kept { IsKept self.new }
+        ensures headline { HeadlineHolds self.new }
+    {
+        self.known();
+        let mut count = 0;
+        while let Some(turn) = self.next_possible() {
+            let asked = self.decided(turn, decide);
+            self.step(&asked);
+            count += 1;
+        }
+        count
+    }
+
+    /// The move of an open turn, as it is decided.
+    fn decided(&self, turn: Turn, decide: &mut impl Decide) -> Move
+        requires { IsOpenIn self.now turn }
+        ensures possible { CanBeMade self.now result }
+        ensures of_turn { IsMoveOf turn result }
+    {
+        self.table.decided(turn, decide)
     }
 
     // ---- what the state has

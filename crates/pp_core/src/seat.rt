@@ -1,10 +1,10 @@
 //! A worker in its plan.
 
-ghost use Rattle.std.specs.Prelude.{◌≡◌, ◌<◌, ◌≤◌, ◌+◌, ◌-◌, ◌^◌, Some, None, List, [], ◌∷◌, ◌++◌, length, slice_set};
+ghost use Rattle.std.specs.Prelude.{◌≡◌, ◌<◌, ◌≤◌, ◌+◌, ◌-◌, ◌^◌, IfSome, Some, None, List, [], ◌∷◌, ◌++◌, length, slice_set};
 ghost use Rattle.pp_plan.specs.Cursor.{StandsFor};
 ghost use Rattle.pp_plan.specs.declared.action.Action.{Action};
 ghost use Rattle.pp_cert.specs.declared.note.Held.TheVariants.{Free};
-ghost use Rattle.pp_core.specs.Slots.{held_as};
+ghost use Rattle.pp_core.specs.Slots.{held_as, first_filled};
 ghost use Rattle.pp_core.specs.Seats.{IsBegun, FitsSlots, CanDo, Did, counted};
 
 use pp_cert::Held;
@@ -141,5 +141,20 @@ impl Seat {
         if let Some(hold) = &mut self.slots[usize::from(slot)] {
             hold.held = held;
         }
+    }
+    /// The place of the least slot that holds a page.
+    fn first_place(&self) -> Option<usize>
+        ensures is { result ≡ first_filled self.now.slots }
+        ensures below { IfSome result (λ slot. slot < length self.now.slots) }
+    {
+        self.slots.iter().position(|slot| slot.is_some())
+    }
+
+    /// The least slot that holds a page.
+    pub(crate) fn first_held(&self) -> Option<u32>
+        ensures { result ≡ first_filled self.now.slots }
+    {
+        let place = self.first_place()?;
+        Some(place as u32)
     }
 }

@@ -1,0 +1,105 @@
+-- A run by turns, and where it ends.
+use Rattle.std.proofs.Common.{◌≡◌, ◌∙◌, ℕ, ◌+◌, ◌<◌, ◌≤◌, ◌^◌, Bool, true, false, cond, Option, Some, None, List, []}
+use Rattle.std.proofs.Common.{◌∷◌, ◌++◌, length, not, refl, sym, ap, subst, inl, inr, arith, length-append}
+use Rattle.std.specs.Prelude.{◌↔◌, IsSome, nat_lt}
+use Rattle.std.proofs.lemmas.Bool.Decides.{nat_tests}
+use Rattle.pp_model.specs.declared.moves.Move.{Move}
+use Rattle.pp_model.specs.declared.reply.Reply.{Reply}
+use Rattle.pp_model.specs.declared.turn.Turn.{Turn}
+use Rattle.pp_model.specs.Pool.{Running, Flush as FlushInFlight, State}
+use Rattle.pp_model.specs.Moves.{seat_of, is_refusal, reply_of, next_of}
+use Rattle.pp_model.specs.Runs.{state_after}
+use Rattle.pp_model.specs.Turns.{next_turn, IsUnderWay}
+use Rattle.pp_model.proofs.Reaching.{holds}
+use Rattle.pp_model.proofs.BoundLaws.{Taken, taken_kept}
+use Rattle.pp_model.proofs.MarkBounds.{need_is_small, bound_within}
+use Rattle.pp_core.specs.Parts.{Parts}
+use Rattle.pp_core.specs.StandsFor.{StandsFor, IsKept, Moves}
+use Rattle.pp_core.specs.Draining.{IsMoveOf, IsNextMove, GoesByTurns, Drains, Rests, CanBeMade}
+
+-- ---- one move more
+
+after_more : (s : State) (ms : List Move) (m : Move)
+    → state_after s (ms ++ m ∷ []) ≡ next_of (state_after s ms) m
+after_more s [] m = refl
+after_more s (n ∷ ms) m = after_more (next_of s n) ms m
+
+turns_more : (s : State) (ms : List Move) (m : Move) → GoesByTurns s ms → IsNextMove (state_after s ms) m
+    → GoesByTurns s (ms ++ m ∷ [])
+turns_more s [] m goes next = (next, tt)
+turns_more s (n ∷ ms) m goes next = (goes.0, turns_more (next_of s n) ms m goes.1 next)
+
+-- So many moves lead from each state at the start to what is kept now.
+abbrev pub Leads : (old new : Parts) → (count : ℕ) → Type 0
+Leads old new count = (s : State) → StandsFor old s → Drains s new count
+
+pub leads_nowhere : (f : Parts) → Leads f f 0
+leads_nowhere f = λ s st. record { moves = []; many = refl; by_turns = tt; leads = st }
+
+pub leads_on : (old f g : Parts) (count : ℕ) (turn : Turn) (m : Move) (reply : Reply) → Leads old f count
+    → ((s : State) → StandsFor f s → Some turn ≡ next_turn s) → CanBeMade f m → IsMoveOf turn m → Moves f m reply g
+    → Leads old g (count + 1)
+leads_on old f g count turn m reply leads next can is step = λ s st.
+    let d = leads s st in
+    let mid = state_after s d.moves in
+    record {
+      moves = d.moves ++ m ∷ [];
+      many = omega (arith, d.many, length-append d.moves (m ∷ []));
+      by_turns = turns_more s d.moves m d.by_turns (record {
+        possible = can mid d.leads;
+        turn = turn;
+        next = sym (next mid d.leads);
+        of_turn = is;
+      });
+      leads = subst (StandsFor g) (sym (after_more s d.moves m)) (step.stands mid d.leads);
+    }
+
+-- A move that can be made isn't refused, so the bound falls.
+pub spends : (f g : Parts) (m : Move) (reply : Reply) → IsKept f → CanBeMade f m → Moves f m reply g
+    → g.budget + cond (is_refusal reply) 0 1 ≤ f.budget → g.budget + 1 ≤ f.budget
+spends f g m reply kept can step le =
+    let s = kept.state in
+    let st = kept.stands in
+    let there : not (is_refusal (reply_of s m)) ≡ true = can s st in
+    let same : is_refusal reply ≡ is_refusal (reply_of s m) = ap is_refusal (step.replies s st) in
+    let done : is_refusal reply ≡ false = same ∙ not_true (is_refusal (reply_of s m)) there in
+    subst (λ (b : Bool). g.budget + cond b 0 1 ≤ f.budget) done le
+  where
+    not_true : (b : Bool) → not b ≡ true → b ≡ false
+    not_true true e = cc
+    not_true false e = refl
+
+-- The bound is small.
+pub budget_small : (f : Parts) → IsKept f → f.budget < 2 ^ 62
+budget_small f kept =
+    let s = kept.state in
+    let st = kept.stands in
+    omega (arith, st.budget, bound_within s st.reached, need_is_small s st.reached)
+
+-- ---- the end
+
+idle_now : (s : State) (w : ℕ) (x : Option Running) → (IsUnderWay s → ⊥) → seat_of s w ≡ Some x → x ≡ None
+idle_now s w None over at = refl
+idle_now s w (Some r) over at = absurd (over (inr (inl (w, r, at))))
+
+flush_now : (s : State) (o : Option FlushInFlight) → (IsUnderWay s → ⊥) → s.flush ≡ o → o ≡ None
+flush_now s None over e = refl
+flush_now s (Some x) over e = absurd (over (inr (inr (subst (λ o. IsSome o) (sym e) refl))))
+
+all_taken : (s : State) (b : Bool) → nat_lt s.taken (length s.plans) ≡ b → s.taken ≤ length s.plans
+    → (IsUnderWay s → ⊥) → s.taken ≡ length s.plans
+all_taken s true e le over =
+    let lt : s.taken < length s.plans = grind (arith, nat_tests) in absurd (over (inl lt))
+all_taken s false e le over = grind (arith, nat_tests)
+
+-- Where there is no next turn, all is at rest.
+pub rests : (f : Parts) (o : Option Turn) → o ≡ None → ((s : State) → StandsFor f s → IsSome o ↔ IsUnderWay s)
+    → Rests f
+rests f o none is = λ s st.
+    let over : IsUnderWay s → ⊥ = (λ u. let some : IsSome o = (is s st).1 u in cc) in
+    let le : s.taken ≤ length s.plans = holds Taken s taken_kept st.reached in
+    record {
+      none_waits = all_taken s (nat_lt s.taken (length s.plans)) refl le over;
+      all_idle = λ w x at. idle_now s w x over at;
+      no_flush = flush_now s s.flush over refl;
+    }

@@ -1,0 +1,38 @@
+use Rattle.std.proofs.Common.{◌≡◌, ◌∙◌, Some, refl, sym, subst}
+use Rattle.std.specs.Prelude.{slice_get}
+use Rattle.pp_plan.specs.declared.action.Action.TheVariants as action
+use Rattle.pp_plan.specs.Cursor.{NamesAction}
+use Rattle.pp_core.specs.Parts.{parts_of}
+use Rattle.pp_core.specs.StandsFor.{Asks}
+use Rattle.pp_core.proofs.DrainTies.{asked_action, some_region, page_asked, some_branch}
+use Rattle.pp_core.proofs.table.Table.do_asked.Goals as goal
+
+pub unreachable-requires : goal.unreachable-requires
+unreachable-requires g c =
+    let f = parts_of c.args.self.now in
+    let asks = subst (Asks f c.args.worker) c.in-Fix.is c.requires.asks in
+    some_region f c.args.worker c.in-Fix.slot c.in-Fix.region c.requires.kept asks (sym c.extent.ensures ∙ c.in-None.is)
+
+pub branch-decide-requires : goal.branch-decide-requires
+branch-decide-requires g c =
+    let f = parts_of c.args.self.now in
+    some_branch f c.args.worker c.in-Choose.branches c.requires.kept
+    (subst (Asks f c.args.worker) c.in-Choose.is c.requires.asks)
+
+pub returns-in-Some-clause-possible : goal.returns-in-Some-clause-possible
+returns-in-Some-clause-possible g c =
+    let f = parts_of c.args.self.now in
+    let slot = c.in-Fix.slot in
+    let region = c.in-Fix.region in
+    let page = c.page.result in
+    let there : slice_get f.layout.extents region ≡ Some c.in-Some.extent = sym c.extent.ensures ∙ c.in-Some.is in
+    asked_action f c.args.worker c.args.ask (action.Fix slot page) c.requires.open c.requires.asks
+    (subst (λ a. NamesAction f.layout a (action.Fix slot page)) (sym c.in-Fix.is)
+    (page_asked f.layout slot region page c.in-Some.extent there c.page.ensures.from c.page.ensures.below))
+
+pub returns-in-Latch-clause-possible : goal.returns-in-Latch-clause-possible
+returns-in-Latch-clause-possible g c =
+    let f = parts_of c.args.self.now in
+    let a = action.Latch c.in-Latch.slot c.in-Latch.mode in
+    asked_action f c.args.worker c.args.ask a c.requires.open c.requires.asks
+    (subst (λ x. NamesAction f.layout x a) (sym c.in-Latch.is) (refl, refl))
