@@ -1,8 +1,8 @@
 -- How a move changes a state: the twelve moves have nineteen ways to be done, and where they are refused the state
 -- stays.
-use Rattle.std.proofs.Common.{◌≡◌, ℕ, ◌<◌, Bool, true, false, cond, Option, Some, None, List, [], ◌∷◌, refl, sym}
+use Rattle.std.proofs.Common.{◌≡◌, ◌⊎◌, ℕ, ◌<◌, Bool, true, false, cond, Option, Some, None, List, [], ◌∷◌, refl, sym}
 use Rattle.std.proofs.Common.{ap}
-use Rattle.std.proofs.Common.{subst, arith}
+use Rattle.std.proofs.Common.{subst, inl, inr, arith}
 use Rattle.std.specs.Prelude.{slice_get, nat_lt, not, ◌==◌, ◌&&◌, ◌||◌}
 use Rattle.std.proofs.lemmas.Bool.Decides.{nat_tests}
 use Rattle.pp_settings.specs.Layout.{HasPage}
@@ -26,9 +26,13 @@ use Rattle.pp_model.specs.declared.moves.Move.TheVariants as move
 use Rattle.pp_model.specs.declared.moves.Came.{Came}
 use Rattle.pp_model.specs.declared.moves.Came.TheVariants.{Fault, Image}
 use Rattle.pp_model.specs.declared.reply.Ending.TheVariants.{Done, Gone}
+use Rattle.pp_model.specs.declared.reply.Failure.TheVariants.{WriteFault, ReadFault, Misread}
+use Rattle.pp_model.specs.declared.reply.Reply.{Reply}
+use Rattle.pp_model.specs.declared.reply.Reply.TheVariants.{Taken, Hit, MustRead, MustWrite, Failed, Loaded, Did}
+use Rattle.pp_model.specs.declared.reply.Reply.TheVariants.{Latched, Unlatched, Finished, Flushing, Flushed}
 use Rattle.pp_plan.specs.Asked.{region_has}
 use Rattle.pp_model.specs.Pool.{Stage, acting, writing, reading, leaving, Running, Flush, State, is_dirty, known_mark}
-use Rattle.pp_model.specs.Pool.{mark_at}
+use Rattle.pp_model.specs.Pool.{frame_at, mark_at}
 use Rattle.pp_model.specs.Holders.{holdings, is_in_flight, is_busy, latches_of, page_in}
 use Rattle.pp_model.specs.Outcome.{Outcome, with_stage, did, with_lists, with_frame, with_dirty, with_mark, released}
 use Rattle.pp_model.specs.Taking.{has_room, began, take_where, take_by}
@@ -42,7 +46,7 @@ use Rattle.pp_model.specs.Leaving.{unwound as unwound_reply, unwind_where, unwin
 use Rattle.pp_model.specs.Leaving.{finish_holding, finish_in}
 use Rattle.pp_model.specs.Leaving.{finish_by}
 use Rattle.pp_model.specs.Flushing.{flush_begun, flush_where, flush_by, flush_over, is_clean, flushed_where, flushed_by}
-use Rattle.pp_model.specs.Moves.{asked_by, act_in, act_by, seat_of, outcome_of, next_of, is_refusal, is_possible}
+use Rattle.pp_model.specs.Moves.{asked_by, act_in, act_by, seat_of, outcome_of, reply_of, next_of, is_refusal, is_possible}
 use Rattle.pp_model.specs.Moves.{IsPossible}
 use Rattle.pp_plan.proofs.Asking.{region_found}
 
@@ -120,10 +124,35 @@ abbrev pub IsReal : {s t : State} → Change s t → Type 0
 IsReal (stays e) = ⊥
 IsReal _ = Unit {0}
 
--- The move was refused, and the state stays; or it was done in one of the ways.
+-- What a move that is done so is answered.
+abbrev pub Tells : {s t : State} → Change s t → Reply → Type 0
+Tells {s} {t} (stays e) x = ⊥
+Tells {s} {t} (takes w a idle next fits e) x = x ≡ Taken s.taken
+Tells {s} {t} (hits w r slot page l asked is e) x = x ≡ Hit (frame_at s page) (mark_at s page)
+Tells {s} {t} (fills w r slot page l asked is e) x = x ≡ MustRead (free_frame s)
+Tells {s} {t} (evicts w r slot page v l asked is clean e) x = x ≡ MustRead (frame_at s v)
+Tells {s} {t} (sends w r slot page v l asked is dirty e) x = x ≡ MustWrite (frame_at s v) v
+Tells {s} {t} (writes w r slot page v at e) x = x ≡ MustRead (frame_at s page)
+Tells {s} {t} (brings w r slot page v at e) x = x ≡ Failed WriteFault
+Tells {s} {t} (forgets w r slot page at e) x = (x ≡ Failed ReadFault) ⊎ (x ≡ Failed Misread)
+Tells {s} {t} (loads w r slot page stamp at known e) x = x ≡ Loaded stamp
+Tells {s} {t} (unfixes w r slot asked e) x = x ≡ Did
+Tells {s} {t} (latches w r slot m asked goes e) x = x ≡ Latched (mark_at s (page_in r slot))
+Tells {s} {t} (unlatches w r slot asked e) x =
+    x ≡ Unlatched (mark_at (unlatched s r slot) (page_in r slot))
+Tells {s} {t} (chooses w r i asked e) x = x ≡ Did
+Tells {s} {t} (unwinds w r slot given h at found e) x =
+    x ≡ unwound_reply h.held (mark_at (released s h.held h.page) h.page)
+Tells {s} {t} (ends w r at asked e) x = x ≡ Finished Done
+Tells {s} {t} (leaves w r given at none e) x = x ≡ Finished Gone
+Tells {s} {t} (flushes page can e) x = x ≡ Flushing (mark_at s page)
+Tells {s} {t} (cleans f is e) x = x ≡ Flushed true
+Tells {s} {t} (drops f is e) x = x ≡ Flushed false
+
+-- The move was refused, and the state stays; or it was done in one of the ways, and answered so.
 pub data Result (s : State) (o : Outcome) : Type 0 where
   refused : is_refusal o.reply ≡ true → o.state ≡ s → Result s o
-  done : is_refusal o.reply ≡ false → (c : Change s o.state) → IsReal c → Result s o
+  done : is_refusal o.reply ≡ false → (c : Change s o.state) → IsReal c → Tells c o.reply → Result s o
 
 asked_is : (r : Running) (x : Ask) (a : Action) → asked_by r ≡ x → NamesAction r.accepted.plan.layout x a
     → NamesAction r.accepted.plan.layout (asked_by r) a
@@ -148,13 +177,13 @@ slot_asked r page slot ask.End e = cc
 evicted : (s : State) (w : ℕ) (r : Running) (slot page v : ℕ) (l : FourLists) (b : Bool)
     → IsAsked s w r (action.Fix slot page) → IsAnswered s page l (answer.Evict v) → is_dirty s v ≡ b
     → Result s (evict_where (with_lists s l) w r slot page v b)
-evicted s w r slot page v l true asked is e = done refl (sends w r slot page v l asked is e refl) tt
-evicted s w r slot page v l false asked is e = done refl (evicts w r slot page v l asked is e refl) tt
+evicted s w r slot page v l true asked is e = done refl (sends w r slot page v l asked is e refl) tt refl
+evicted s w r slot page v l false asked is e = done refl (evicts w r slot page v l asked is e refl) tt refl
 
 fix_answered : (s : State) (w : ℕ) (r : Running) (slot page : ℕ) (l : FourLists) (x : Answer)
     → IsAsked s w r (action.Fix slot page) → IsAnswered s page l x → Result s (fix_by s l w r slot page x)
-fix_answered s w r slot page l answer.Hit asked is = done refl (hits w r slot page l asked is refl) tt
-fix_answered s w r slot page l answer.Free asked is = done refl (fills w r slot page l asked is refl) tt
+fix_answered s w r slot page l answer.Hit asked is = done refl (hits w r slot page l asked is refl) tt refl
+fix_answered s w r slot page l answer.Free asked is = done refl (fills w r slot page l asked is refl) tt refl
 fix_answered s w r slot page l (answer.Evict v) asked is = evicted s w r slot page v l (is_dirty s v) asked is refl
 fix_answered s w r slot page l answer.AllBusy asked is = refused refl refl
 
@@ -176,13 +205,13 @@ unfixed : (s : State) (w : ℕ) (r : Running) (x : Ask) → asked_by r ≡ x →
     → Result s (unfix_asked s w r x)
 unfixed s w r (ask.Unfix slot) e at =
     done refl (unfixes w r slot (record { at = at; names = asked_is r (ask.Unfix slot) (action.Unfix slot) e refl })
-    refl) tt
+    refl) tt refl
 unfixed s w r _ e at = refused refl refl
 
 latch_tested : (s : State) (w : ℕ) (r : Running) (slot : ℕ) (m : Mode) (b : Bool)
     → goes_with s m (page_in r slot) ≡ b → IsAsked s w r (action.Latch slot m)
     → Result s (latch_where s w r slot m b)
-latch_tested s w r slot m true e asked = done refl (latches w r slot m asked e refl) tt
+latch_tested s w r slot m true e asked = done refl (latches w r slot m asked e refl) tt refl
 latch_tested s w r slot m false e asked = refused refl refl
 
 latched : (s : State) (w : ℕ) (r : Running) (x : Ask) → asked_by r ≡ x → IsAt s w r acting
@@ -199,14 +228,14 @@ unlatches_asked s w r (ask.Unlatch slot) e at =
       at = at;
       names = asked_is r (ask.Unlatch slot)
           (action.Unlatch slot) e refl;
-    }) refl) tt
+    }) refl) tt refl
 unlatches_asked s w r _ e at = refused refl refl
 
 choose_tested : (s : State) (w : ℕ) (r : Running) (i n : ℕ) (b : Bool) → nat_lt i n ≡ b → asked_by r ≡ ask.Choose n
     → IsAt s w r acting → Result s (choose_where s w r i b)
 choose_tested s w r i n true lt e at =
     let names : i < n = grind (arith, nat_tests) in
-    done refl (chooses w r i (record { at = at; names = asked_is r (ask.Choose n) (action.Choose i) e names }) refl) tt
+    done refl (chooses w r i (record { at = at; names = asked_is r (ask.Choose n) (action.Choose i) e names }) refl) tt refl
 choose_tested s w r i n false lt e at = refused refl refl
 
 chose : (s : State) (w : ℕ) (r : Running) (i : ℕ) (x : Ask) → asked_by r ≡ x → IsAt s w r acting
@@ -231,8 +260,8 @@ acts s w act (Some (Some r)) e all = act_changes s act r r.stage (λ g. all r (r
 
 written : (s : State) (w : ℕ) (r : Running) (slot page v : ℕ) (ok : Bool) → IsAt s w r (writing slot page v)
     → Result s (write_where s w r slot page v ok)
-written s w r slot page v true at = done refl (writes w r slot page v at refl) tt
-written s w r slot page v false at = done refl (brings w r slot page v at refl) tt
+written s w r slot page v true at = done refl (writes w r slot page v at refl) tt refl
+written s w r slot page v false at = done refl (brings w r slot page v at refl) tt refl
 
 write_stage : (s : State) (w : ℕ) (ok : Bool) (r : Running) (g : Stage) → IsAt s w r g → Result s (write_in s w ok r g)
 write_stage s w ok r acting at = refused refl refl
@@ -254,14 +283,14 @@ good_stamp false b e = e
 stamp_tested : (s : State) (w : ℕ) (r : Running) (slot page named stamp : ℕ) (b : Bool)
     → is_misread s page named stamp ≡ b → IsAt s w r (reading slot page)
     → Result s (read_where s w r slot page stamp b)
-stamp_tested s w r slot page named stamp true e at = done refl (forgets w r slot page at refl) tt
+stamp_tested s w r slot page named stamp true e at = done refl (forgets w r slot page at refl) tt (inr refl)
 stamp_tested s w r slot page named stamp false e at =
     done refl (loads w r slot page stamp at (good_stamp (not (named == page)) (is_other (known_mark s page) stamp) e)
-    refl) tt
+    refl) tt refl
 
 came_in : (s : State) (w : ℕ) (r : Running) (slot page : ℕ) (came : Came) → IsAt s w r (reading slot page)
     → Result s (read_came s w r slot page came)
-came_in s w r slot page Fault at = done refl (forgets w r slot page at refl) tt
+came_in s w r slot page Fault at = done refl (forgets w r slot page at refl) tt (inl refl)
 came_in s w r slot page (Image named stamp) at =
     stamp_tested s w r slot page named stamp (is_misread s page named stamp) refl at
 
@@ -287,7 +316,7 @@ unwound : (s : State) (w : ℕ) (r : Running) (slot : ℕ) (given : List ℕ) (o
     → holding_at (holdings r) slot ≡ o → IsAt s w r (leaving given) → Result s (unwind_where s w r slot given o)
 unwound s w r slot given None e at = refused refl refl
 unwound s w r slot given (Some h) e at =
-    done (unwound_done h.held (mark_at (released s h.held h.page) h.page)) (unwinds w r slot given h at e refl) tt
+    done (unwound_done h.held (mark_at (released s h.held h.page) h.page)) (unwinds w r slot given h at e refl) tt refl
 
 unwind_stage : (s : State) (w slot : ℕ) (r : Running) (g : Stage) → IsAt s w r g → Result s (unwind_in s w slot r g)
 unwind_stage s w slot r acting at = refused refl refl
@@ -303,12 +332,12 @@ unwind_seat s w slot (Some (Some r)) e = unwind_stage s w slot r r.stage (record
 
 end_asked : (s : State) (w : ℕ) (r : Running) (x : Ask) → asked_by r ≡ x → IsAt s w r acting
     → Result s (finish_asked s w r x)
-end_asked s w r ask.End e at = done refl (ends w r at e refl) tt
+end_asked s w r ask.End e at = done refl (ends w r at e refl) tt refl
 end_asked s w r _ e at = refused refl refl
 
 left_holding : (s : State) (w : ℕ) (r : Running) (given : List ℕ) (hs : Holdings) → holdings r ≡ hs
     → IsAt s w r (leaving given) → Result s (finish_holding s w r hs)
-left_holding s w r given [] e at = done refl (leaves w r given at e refl) tt
+left_holding s w r given [] e at = done refl (leaves w r given at e refl) tt refl
 left_holding s w r given (h ∷ hs) e at = refused refl refl
 
 finish_stage : (s : State) (w : ℕ) (r : Running) (g : Stage) → IsAt s w r g → Result s (finish_in s w r g)
@@ -331,15 +360,15 @@ flush_tested s page false b c n e f g = refused refl refl
 flush_tested s page true false c n e f g = refused refl refl
 flush_tested s page true true true n e f g = refused refl refl
 flush_tested s page true true false n e f g =
-    done refl (flushes page (record { none = n; changed = e; some = f; unwritten = g }) refl) tt
+    done refl (flushes page (record { none = n; changed = e; some = f; unwritten = g }) refl) tt refl
 
 flush_changes : (s : State) (page : ℕ) (o : Option Flush) → s.flush ≡ o → Result s (flush_by s page o)
 flush_changes s page (Some f) e = refused refl refl
 flush_changes s page None e = flush_tested s page _ _ _ e refl refl refl
 
 flushed_clean : (s : State) (f : Flush) (b : Bool) → s.flush ≡ Some f → Result s (flushed_where s f.page b)
-flushed_clean s f true e = done refl (cleans f e refl) tt
-flushed_clean s f false e = done refl (drops f e refl) tt
+flushed_clean s f true e = done refl (cleans f e refl) tt refl
+flushed_clean s f false e = done refl (drops f e refl) tt refl
 
 flushed_changes : (s : State) (ok : Bool) (o : Option Flush) → s.flush ≡ o → Result s (flushed_by s ok o)
 flushed_changes s ok None e = refused refl refl
@@ -349,7 +378,7 @@ flushed_changes s ok (Some f) e = flushed_clean s f (is_clean s ok f) e
 
 take_tested : (s : State) (w : ℕ) (a : Acceptance) (b : Bool) → seat_of s w ≡ Some None
     → slice_get s.plans s.taken ≡ Some a → has_room s a ≡ b → Result s (take_where s w a b)
-take_tested s w a true e f g = done refl (takes w a e f g refl) tt
+take_tested s w a true e f g = done refl (takes w a e f g refl) tt refl
 take_tested s w a false e f g = refused refl refl
 
 take_seat : (s : State) (w : ℕ) (o : Option (Option Running)) (next : Option Acceptance) → seat_of s w ≡ o
@@ -381,7 +410,7 @@ change s m = go (result s m)
   where
     go : Result s (outcome_of s m) → Change s (next_of s m)
     go (refused r e) = stays e
-    go (done r c real) = c
+    go (done r c real told) = c
 
 -- A refused move does nothing.
 pub refused_by : (s : State) (m : Move) → is_possible s m ≡ false → next_of s m ≡ s
@@ -389,16 +418,17 @@ refused_by s m p = go (result s m)
   where
     go : Result s (outcome_of s m) → next_of s m ≡ s
     go (refused r e) = e
-    go (done r c real) = let yes : is_possible s m ≡ true = ap not r in cc
+    go (done r c real told) = let yes : is_possible s m ≡ true = ap not r in cc
 
 -- A possible move is done in one of the ways.
 pub record DoneBy (s : State) (m : Move) : Type 0 where
   pub by : Change s (next_of s m)
   pub real : IsReal by
+  pub told : Tells by (reply_of s m)
 
 pub done_by : (s : State) (m : Move) → IsPossible s m → DoneBy s m
 done_by s m p = go (result s m)
   where
     go : Result s (outcome_of s m) → DoneBy s m
     go (refused r e) = let isnt : is_possible s m ≡ false = ap not r in cc
-    go (done r c real) = record { by = c; real = real }
+    go (done r c real told) = record { by = c; real = real; told = told }

@@ -287,3 +287,8 @@ pub held_is_known : (s : State) → IsReached s → (q : ℕ) → 0 < weight s (
 held_is_known s h q some =
     let ok = sound s h in
     loaded_is_known s h q (ok.cached q (omega (arith, some))) (unloaded s q ok some)
+
+-- So has a victim that is written back.
+pub sent_is_known : (s : State) → IsReached s → (q : ℕ) → 0 < victims_of s q → IsSome (known_mark s q)
+sent_is_known s h q some =
+    (holds (λ x. Ready x × Knows x) s (both Ready Knows ready_kept knows_under) h).1 q (inr some)

@@ -37,6 +37,8 @@ pub mod MarkBounds
 pub mod KnownMarks
 pub mod ToldMarks
 pub mod Accounts
+pub mod ReadySteps
+pub mod ReadyLaws
 pub mod MarkReadings
 pub mod FrameLaws
 pub mod TurnsErrands

@@ -52,7 +52,7 @@ latched_on is q h = cond (is h.held) (cond (eqb h.page q) 1 0) 0
 
 -- ---- the definitions' counts are these totals
 
-same_sums : {A : Type 0} (f g : A → ℕ) (xs : List A) → ((x : A) → f x ≡ g x) → sum_by f xs ≡ sum_by g xs
+pub same_sums : {A : Type 0} (f g : A → ℕ) (xs : List A) → ((x : A) → f x ≡ g x) → sum_by f xs ≡ sum_by g xs
 same_sums f g [] e = refl
 same_sums f g (x ∷ xs) e = omega (arith, sum_by-cons f x xs, sum_by-cons g x xs, e x, same_sums f g xs e)
 

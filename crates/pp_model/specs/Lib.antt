@@ -20,3 +20,4 @@ pub mod WorkerParts
 pub mod Turns
 pub mod Reached
 pub mod Laws
+pub mod Ready
