@@ -826,6 +826,11 @@ framed s h =
       changed = λ q e. elim (all.1 q e) [ inl a ↦ inl a.0 | inr b ↦ inr b ];
     }
 
+-- A page that is dirty isn't being loaded.
+pub dirty_unloaded : (s : State) → IsReached s → (q : ℕ) → is_dirty s q ≡ true → loads_of s q ≡ 0
+dirty_unloaded s h q e =
+    elim ((kept s h).1 q e) [ inl a ↦ a.1 | inr b ↦ omega (arith, b, (sound s h).alone q) ]
+
 -- Where the cache isn't full, a frame is free.
 pub free_frame_of : (s : State) → IsReached s → cached_count s.lists < s.lists.c → HasFree s
 free_frame_of s h few = has_free s (kept s h).0 (omega (arith, few, (sound s h).c))

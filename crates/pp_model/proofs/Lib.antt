@@ -39,6 +39,7 @@ pub mod ToldMarks
 pub mod Accounts
 pub mod ReadySteps
 pub mod ReadyLaws
+pub mod ReadyAnswers
 pub mod MarkReadings
 pub mod FrameLaws
 pub mod TurnsErrands

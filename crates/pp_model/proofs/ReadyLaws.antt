@@ -10,25 +10,20 @@ use Rattle.pp_arc.specs.FourLists.{is_cached}
 use Rattle.pp_model.specs.declared.moves.Move.TheVariants as moves
 use Rattle.pp_model.specs.declared.refusals.SubmitError.{SubmitError}
 use Rattle.pp_model.specs.declared.reply.Reply.{Reply}
-use Rattle.pp_model.specs.declared.reply.Reply.TheVariants.{MustRead, MustWrite, Failed}
-use Rattle.pp_model.specs.declared.refusals.Cause.TheVariants.{NoWorker, NoErrand}
-use Rattle.pp_model.specs.declared.reply.Failure.TheVariants.{WriteFault}
-use Rattle.pp_model.specs.declared.reply.Reply.TheVariants.{OffPlan}
-use Rattle.pp_model.specs.Pool.{Stage, acting, writing, reading, leaving, Running, State, frame_of}
+use Rattle.pp_model.specs.declared.reply.Reply.TheVariants.{MustRead, MustWrite}
+use Rattle.pp_model.specs.Pool.{Stage, writing, Running, State, frame_of}
 use Rattle.pp_model.specs.Pool.{frame_at, mark_at}
 use Rattle.pp_model.specs.Holders.{loading, is_exclusive, writers_of}
-use Rattle.pp_model.specs.Outcome.{Outcome, with_stage, with_lists}
+use Rattle.pp_model.specs.Outcome.{with_stage, with_lists}
 use Rattle.pp_model.specs.Fixing.{with_frame_moved}
-use Rattle.pp_model.specs.Answers.{write_where, write_in, write_by}
 use Rattle.pp_model.specs.Leaving.{unwound}
 use Rattle.pp_model.specs.Submitting.{submit_error, submitted_unless}
-use Rattle.pp_model.specs.Moves.{seat_of, outcome_of, reply_of, next_of, is_refusal}
+use Rattle.pp_model.specs.Moves.{outcome_of, reply_of, next_of, is_refusal}
 use Rattle.pp_model.specs.Reached.{IsReached}
 use Rattle.pp_model.specs.Ready.{is_loading, is_written, is_away, Standing, ready_at, standing_of}
-use Rattle.pp_model.specs.Ready.{NoneReadyIn, Keeps, Leaves, Enters, Vacates, empty, takes, ReadyAreCached}
+use Rattle.pp_model.specs.Ready.{NoneReadyIn, Keeps, Leaves, Vacates, empty, takes, ReadyAreCached}
 use Rattle.pp_model.specs.Ready.{ReadyStand, ReadyAreApart, AwayAreApart, SharedAreReady, ExclusiveAreAway}
-use Rattle.pp_model.specs.Ready.{LoadingAreAway, is_still, StillKeeps, ReadVacates, WriteLeaves, WrittenKeeps}
-use Rattle.pp_model.specs.Ready.{UnwrittenEnters}
+use Rattle.pp_model.specs.Ready.{LoadingAreAway, is_still, StillKeeps, ReadVacates, WriteLeaves}
 use Rattle.pp_model.specs.Ready.{SubmitKeeps}
 use Rattle.pp_model.proofs.Changes as change
 use Rattle.pp_model.proofs.Changes.{Change, IsAt, IsAsked, IsReal, Tells, Result, refused, done, result}
@@ -45,7 +40,7 @@ or_false : (a b : Bool) → (a || b) ≡ false → (a ≡ false) × (b ≡ false
 or_false true b e = cc
 or_false false b e = (refl, e)
 
-zero_of : (n : ℕ) → nat_lt 0 n ≡ false → n ≡ 0
+pub zero_of : (n : ℕ) → nat_lt 0 n ≡ false → n ≡ 0
 zero_of n e = grind (arith, nat_tests)
 
 some_of_some : (o : Option Standing) → IsSome o → (x : Standing) × (o ≡ Some x)
@@ -120,11 +115,11 @@ isnt_still : (x y : Reply) → x ≡ y → is_still y ≡ false → IsTrue (is_s
 isnt_still x y e isnt ok = false≢true (sym isnt ∙ sym (ap is_still e) ∙ ok)
 
 -- The frame that a reply tells to read into, and what it tells to write.
-abbrev read_into : Reply → Option ℕ
+abbrev pub read_into : Reply → Option ℕ
 read_into (MustRead frame) = Some frame
 read_into _ = None
 
-not_read : (x y : Reply) (frame : ℕ) → x ≡ y → x ≡ MustRead frame → read_into y ≡ None → ⊥
+pub not_read : (x y : Reply) (frame : ℕ) → x ≡ y → x ≡ MustRead frame → read_into y ≡ None → ⊥
 not_read x y frame e f isnt =
     let is : ◌≡◌ {A = Option ℕ} None (Some frame) = sym isnt ∙ ap read_into (sym e ∙ f) in absurd (cc)
 
@@ -272,51 +267,3 @@ write_leaves s h w page frame victim is = go (result s (moves.Fix w page))
     go (refused isnt e) = absurd (false≢true (sym (ap is_refusal is) ∙ isnt))
     go (done isnt c real told) =
         sends s (next_of s (moves.Fix w page)) h (reply_of s (moves.Fix w page)) frame victim c real told is
-
--- ---- a device answers
-
--- A worker whose victim is written. Another's device has nothing to tell.
-write_stage : (s : State) (w : ℕ) (ok : Bool) (r : Running) (g : Stage) (frame : ℕ)
-    → (write_in s w ok r g).reply ≡ MustRead frame → (slot : ℕ) × (page : ℕ) × (v : ℕ) × (g ≡ writing slot page v)
-write_stage s w ok r acting frame is = absurd (not_read (OffPlan NoErrand) _ frame refl is refl)
-write_stage s w ok r (writing slot page v) frame is = (slot, page, v, refl)
-write_stage s w ok r (reading slot page) frame is = absurd (not_read (OffPlan NoErrand) _ frame refl is refl)
-write_stage s w ok r (leaving given) frame is = absurd (not_read (OffPlan NoErrand) _ frame refl is refl)
-
--- What comes of a victim that is written is computed from the worker's seat and stage.
-write_outcome : (s : State) (w : ℕ) (ok : Bool) (r : Running) (slot page v : ℕ) → IsAt s w r (writing slot page v)
-    → outcome_of s (moves.WriteDone w ok) ≡ write_where s w r slot page v ok
-write_outcome s w ok r slot page v at = ap (write_by s w ok) at.seat ∙ ap (write_in s w ok r) at.stage
-
-written_keeps_at : (s : State) → IsReached s → (w frame : ℕ) (ok : Bool) (r : Running) (slot page v : ℕ)
-    → IsAt s w r (writing slot page v) → (write_where s w r slot page v ok).reply ≡ MustRead frame
-    → Keeps s (write_where s w r slot page v ok).state
-written_keeps_at s h w frame true r slot page v at is = steps.write_keeps s h w r slot page v at
-written_keeps_at s h w frame false r slot page v at is =
-    absurd (not_read (Failed WriteFault) _ frame refl is refl)
-
-written_keeps_by : (s : State) → IsReached s → (w frame : ℕ) (ok : Bool) (o : Option (Option Running))
-    → seat_of s w ≡ o → (write_by s w ok o).reply ≡ MustRead frame → Keeps s (write_by s w ok o).state
-written_keeps_by s h w frame ok None e is = absurd (not_read (OffPlan NoWorker) _ frame refl is refl)
-written_keeps_by s h w frame ok (Some None) e is = absurd (not_read (OffPlan NoErrand) _ frame refl is refl)
-written_keeps_by s h w frame ok (Some (Some r)) e is =
-    let at = write_stage s w ok r r.stage frame is in
-    let same = ap (write_in s w ok r) at.3 in
-    subst (λ (o : Outcome). Keeps s o.state) (sym same)
-    (written_keeps_at s h w frame ok r at.0 at.1 at.2 (record { seat = e; stage = at.3 })
-    (sym (ap (λ (o : Outcome). o.reply) same) ∙ is))
-
-pub written_keeps : (s : State) → IsReached s → WrittenKeeps s
-written_keeps s h w frame ok is = written_keeps_by s h w frame ok (seat_of s w) refl is
-
-pub unwritten_enters : (s : State) → IsReached s → UnwrittenEnters s
-unwritten_enters s h w slot page v r ok seat stage is =
-    let at : IsAt s w r (writing slot page v) = record { seat = seat; stage = stage } in
-    let same = write_outcome s w ok r slot page v at in
-    subst (λ (o : Outcome). Enters s o.state v (record { frame = frame_at s page; mark = mark_at s v })) (sym same)
-    (go ok at (sym (ap (λ (o : Outcome). o.reply) same) ∙ is))
-  where
-    go : (b : Bool) → IsAt s w r (writing slot page v) → (write_where s w r slot page v b).reply ≡ Failed WriteFault
-        → Enters s (write_where s w r slot page v b).state v (record { frame = frame_at s page; mark = mark_at s v })
-    go true at is = absurd (not_read (MustRead (frame_at s page)) _ (frame_at s page) is refl refl)
-    go false at is = steps.bring_enters s h w r slot page v at

@@ -1,7 +1,7 @@
 -- What each way in which a move is done does to the pages that are ready.
 use Rattle.std.proofs.Common.{◌≡◌, ◌≢◌, ◌∙◌, ℕ, ◌+◌, ◌<◌, Bool, true, false, Option, Some, None, List, []}
 use Rattle.std.proofs.Common.{◌∷◌, length, get_or, cond, refl, sym, ap, subst, inl, inr, arith}
-use Rattle.std.specs.Prelude.{sum_by, nat_lt, ◌||◌, IsSome}
+use Rattle.std.specs.Prelude.{sum_by, nat_lt, ◌||◌, IsSome, unwrap_or}
 use Rattle.std.proofs.lemmas.Bool.{false≢true}
 use Rattle.std.proofs.lemmas.Bool.Decides.{nat_tests}
 use Rattle.pp_plan.specs.declared.mode.Mode.TheVariants as mode
@@ -457,6 +457,13 @@ module _ (s : State) (h : IsReached s) (w : ℕ) (r : Running) (slot : ℕ) (x :
         | inr a ↦ a.0
       ]
 
+  -- Where the latch X goes off it, its mark is one more.
+  pub raised_mark : mark_at (raised s x.page) x.page ≡ mark_at s x.page + 1
+  raised_mark =
+      ap (λ (y : Note). unwrap_or y.mark 0)
+      (note_here s x.page (record (note_of s x.page) { mark = Some (mark_at s x.page + 1); dirty = true })
+      (cached_low s h x.page held_cached))
+
   -- The page of a slot that is latched X is ready again when the latch goes off it.
   raised_enters : (t : State) (into : Holdings) → x.held ≡ X → Totals s t (x ∷ []) into [] [] [] []
       → sum_by (latched_on is_exclusive x.page) into ≡ 0
@@ -560,7 +567,13 @@ module _ (s : State) (h : IsReached s) (w : ℕ) (r : Running) (slot : ℕ) wher
         (no_writes q does.0 (ap is_exclusive (sym k.held_is ∙ e)) ∙ sym (no_writes q (as_held Free does.0) refl))
         refl refl
 
-    -- An X latch goes off a page that is away.
+    -- An X latch goes off a page that is away. Its mark is then one more.
+    pub unlatch_mark : mark_at (raised s (page_in r slot)) (page_in r slot) ≡ mark_at s (page_in r slot) + 1
+    unlatch_mark =
+        let does = totals.asked_does s s w r (good s h) (action.Unlatch slot) asked in
+        subst (λ q. mark_at (raised s q) q ≡ mark_at s q + 1) (sym (holds_at r slot does.0 does.1).page_is)
+        (raised_mark s h w r slot does.0 asked.at.seat does.1)
+
     pub unlatch_enters : held_in r slot ≡ X
         → Enters s (did (unlatched s r slot) w r (action.Unlatch slot)) (page_in r slot)
         (record { frame = frame_at s (page_in r slot); mark = mark_at s (page_in r slot) + 1 })
