@@ -37,9 +37,12 @@ pub mod MarkBounds
 pub mod KnownMarks
 pub mod ToldMarks
 pub mod Accounts
+pub mod Images
+pub mod ReadyPages
 pub mod ReadySteps
 pub mod ReadyLaws
 pub mod ReadyAnswers
+pub mod AwayMarks
 pub mod MarkReadings
 pub mod FrameLaws
 pub mod TurnsErrands

@@ -18,6 +18,7 @@ use Rattle.pp_model.specs.declared.moves.Came.{Came}
 use Rattle.pp_model.specs.declared.moves.Came.TheVariants.{Fault, Image}
 use Rattle.pp_model.specs.declared.moves.Move.TheVariants as moves
 use Rattle.pp_model.specs.declared.refusals.Cause.TheVariants.{NoWorker, NoErrand}
+use Rattle.pp_model.specs.declared.reply.Failure.{Failure}
 use Rattle.pp_model.specs.declared.reply.Failure.TheVariants.{WriteFault}
 use Rattle.pp_model.specs.declared.reply.Reply.{Reply}
 use Rattle.pp_model.specs.declared.reply.Reply.TheVariants.{MustRead, Failed, Loaded, Latched, Unlatched, Flushing}
@@ -39,7 +40,8 @@ use Rattle.pp_model.proofs.Changes.{IsAt, IsAsked}
 use Rattle.pp_model.proofs.HoldingSteps.{holds_at}
 use Rattle.pp_model.proofs.Framed.{dirty_unloaded}
 use Rattle.pp_model.proofs.ReadySteps as steps
-use Rattle.pp_model.proofs.ReadySteps.{cached_ready}
+use Rattle.pp_model.specs.Ready.{ReadyStay, ImageComes, UnreadReturns}
+use Rattle.pp_model.proofs.ReadyPages.{keeps, cached_ready}
 use Rattle.pp_model.proofs.ReadyLaws.{zero_of, not_read}
 
 -- ---- a device answers
@@ -60,7 +62,7 @@ write_outcome s w ok r slot page v at = ap (write_by s w ok) at.seat ∙ ap (wri
 written_keeps_at : (s : State) → IsReached s → (w frame : ℕ) (ok : Bool) (r : Running) (slot page v : ℕ)
     → IsAt s w r (writing slot page v) → (write_where s w r slot page v ok).reply ≡ MustRead frame
     → Keeps s (write_where s w r slot page v ok).state
-written_keeps_at s h w frame true r slot page v at is = steps.write_keeps s h w r slot page v at
+written_keeps_at s h w frame true r slot page v at is = keeps s _ (steps.write_stays s h w r slot page v at)
 written_keeps_at s h w frame false r slot page v at is =
     absurd (not_read (Failed WriteFault) _ frame refl is refl)
 
@@ -122,7 +124,7 @@ loaded_at : (s : State) → IsReached s → (w mark : ℕ) (r : Running) (slot p
 loaded_at s h w mark r slot page stamp at true is = absurd (not_told mark (ap mark_told is))
 loaded_at s h w mark r slot page stamp at false is =
     let told = told_same stamp mark (ap mark_told is) in
-    enters_with s _ page (frame_at s page) stamp mark told (steps.load_enters s h w r slot page stamp at)
+    enters_with s _ page (frame_at s page) stamp mark told (steps.load_enters s h w r slot page at stamp)
 
 loaded_by : (s : State) → IsReached s → (w mark : ℕ) (r : Running) (slot page : ℕ) (came : Came)
     → IsAt s w r (reading slot page) → (read_came s w r slot page came).reply ≡ Loaded mark
@@ -137,6 +139,34 @@ loaded_enters s h w slot page mark r came seat stage is =
     ap (read_by s w came) seat ∙ ap (read_in s w came r) stage in
     subst (λ (o : Outcome). Enters s o.state page (record { frame = frame_at s page; mark = mark })) (sym same)
     (loaded_by s h w mark r slot page came (record { seat = seat; stage = stage })
+    (sym (ap (λ (o : Outcome). o.reply) same) ∙ is))
+
+-- ---- a page was not read
+
+unread_where : (s : State) → IsReached s → (w : ℕ) (r : Running) (slot page stamp : ℕ) (failure : Failure)
+    → IsAt s w r (reading slot page) → (misread : Bool)
+    → (read_where s w r slot page stamp misread).reply ≡ Failed failure
+    → ReadyStay s (read_where s w r slot page stamp misread).state
+    × ImageComes s (read_where s w r slot page stamp misread).state (frame_at s page)
+unread_where s h w r slot page stamp failure at true is =
+    (steps.forget_ready s h w r slot page at, steps.forget_comes s h w r slot page at)
+unread_where s h w r slot page stamp failure at false is = absurd (not_told stamp (sym (ap mark_told is)))
+
+unread_by : (s : State) → IsReached s → (w : ℕ) (r : Running) (slot page : ℕ) (came : Came) (failure : Failure)
+    → IsAt s w r (reading slot page) → (read_came s w r slot page came).reply ≡ Failed failure
+    → ReadyStay s (read_came s w r slot page came).state
+    × ImageComes s (read_came s w r slot page came).state (frame_at s page)
+unread_by s h w r slot page Fault failure at is =
+    (steps.forget_ready s h w r slot page at, steps.forget_comes s h w r slot page at)
+unread_by s h w r slot page (Image named stamp) failure at is =
+    unread_where s h w r slot page stamp failure at (is_misread s page named stamp) is
+
+pub unread_returns : (s : State) → IsReached s → UnreadReturns s
+unread_returns s h w slot page r came failure seat stage is =
+    let same : outcome_of s (moves.ReadDone w came) ≡ read_came s w r slot page came =
+    ap (read_by s w came) seat ∙ ap (read_in s w came r) stage in
+    subst (λ (o : Outcome). ReadyStay s o.state × ImageComes s o.state (frame_at s page)) (sym same)
+    (unread_by s h w r slot page came failure (record { seat = seat; stage = stage })
     (sym (ap (λ (o : Outcome). o.reply) same) ∙ is))
 
 -- ---- latches
@@ -214,7 +244,7 @@ module _ (s : State) (h : IsReached s) (w slot mark : ℕ) (r : Running) where
       let p = page_in r slot in
       let told = told_same (mark_at s p) mark (ap mark_told is) in (
         same_place s p (mark_at s p) mark told (steps.shared_ready s h w r slot asked goes),
-        steps.shared_keeps s h w r slot asked,
+        keeps s _ (steps.shared_stays s h w r slot asked),
       )
   shared_at asked false goes is = absurd (not_told mark (ap mark_told is))
 
@@ -236,7 +266,7 @@ module _ (s : State) (h : IsReached s) (w slot mark : ℕ) (r : Running) where
       let was = ap (λ k. mark_at (released s k p) p) held in
       let told = told_same (mark_at (released s (held_in r slot) p) p) mark (ap mark_told is) in (
         same_place s p (mark_at s p) mark (sym was ∙ told) (steps.unshared_ready s h w r slot asked held),
-        steps.unshared_keeps s h w r slot asked held,
+        keeps s _ (steps.unshared_stays s h w r slot asked held),
       )
 
   unlatched_at : IsAsked s w r (action.Unlatch slot) → held_in r slot ≡ X

@@ -1,6 +1,7 @@
 -- Ready frames: those in which the image of their page stands; and what a move does to them.
-use Rattle.std.specs.Prelude.{◌≡◌, ◌≢◌, ◌↔◌, ℕ, ◌<◌, Bool, true, false, ◌||◌, nat_lt, Option, None, Some, IsSome, List}
-use Rattle.std.specs.Prelude.{[], ◌∷◌, ◌+◌, sum_by, IsTrue}
+use Rattle.std.specs.Prelude.{◌≡◌, ◌≢◌, ◌⊎◌, ◌↔◌, ℕ, ◌+◌, ◌<◌, Bool, true, false, ◌||◌, ◌==◌, nat_lt}
+use Rattle.std.specs.Prelude.{if◌then◌else◌, Option, None, Some, IsSome, List, [], ◌∷◌, length, sum_by, IsTrue}
+use Rattle.std.specs.List.{list_any, range_with_len}
 use Rattle.pp_plan.specs.declared.mode.Mode.TheVariants as mode
 use Rattle.pp_plan.specs.declared.action.Ask.TheVariants as ask
 use Rattle.pp_cert.specs.declared.note.Held.TheVariants.{S, X}
@@ -11,14 +12,16 @@ use Rattle.pp_model.specs.declared.moves.Came.{Came}
 use Rattle.pp_model.specs.declared.moves.Move.{Move}
 use Rattle.pp_model.specs.declared.moves.Move.TheVariants as moves
 use Rattle.pp_model.specs.declared.reply.Failure.{Failure}
-use Rattle.pp_model.specs.declared.reply.Failure.TheVariants.{WriteFault, ReadFault, Misread}
+use Rattle.pp_model.specs.declared.reply.Failure.TheVariants.{WriteFault}
 use Rattle.pp_model.specs.declared.reply.Reply.{Reply}
 use Rattle.pp_model.specs.declared.reply.Reply.TheVariants.{MustRead, MustWrite, Failed, Loaded, Latched, Unlatched}
 use Rattle.pp_model.specs.declared.reply.Reply.TheVariants.{Flushing}
-use Rattle.pp_model.specs.Pool.{writing, reading, Running, State, frame_of, known_mark, frame_at, mark_at}
+use Rattle.pp_model.specs.Pool.{writing, reading, Running, State, Settings, opening, frame_of, known_mark}
+use Rattle.pp_model.specs.Pool.{frame_at, mark_at}
 use Rattle.pp_model.specs.Holders.{times, holdings, loading, page_in, held_in, writers_of}
 use Rattle.pp_model.specs.Moves.{asked_by, seat_of, reply_of, next_of}
 use Rattle.pp_model.specs.Submitting.{after_submit}
+use Rattle.pp_model.specs.Laws.{IsWrittenBack}
 
 -- ---- ready pages
 
@@ -68,38 +71,77 @@ standing_of s page = record { frame = frame_at s page; mark = mark_at s page }
 abbrev pub NoneReadyIn : State → (frame : ℕ) → Type 0
 NoneReadyIn s frame = (page : ℕ) (x : Standing) → ready_at s page ≡ Some x → x.frame ≢ frame
 
--- The frame is a page's, and that page's image is away.
-abbrev pub AwayAt : State → (frame : ℕ) → Type 0
-AwayAt s frame = (page : ℕ) × (frame_of s page ≡ Some frame) × IsTrue (is_away s page)
+-- The frame that a page's image is away from, if it is.
+abbrev pub frame_if : (away : Bool) → Option ℕ → Option ℕ
+frame_if true frame = frame
+frame_if false frame = None
 
--- ---- what can become of ready pages from one state to another
+abbrev pub away_from : State → ℕ → Option ℕ
+away_from s page = frame_if (is_away s page) (frame_of s page)
 
--- All other pages stand as before.
+-- Whether it is this frame.
+abbrev pub is_frame : (frame : ℕ) → Option ℕ → Bool
+is_frame frame None = false
+is_frame frame (Some f) = f == frame
+
+-- Whether the image of a page is away from the frame. In each other frame an image stands: of the page that is ready
+-- there, or a spare one where no page is.
+abbrev pub is_away_at : State → (frame : ℕ) → Bool
+is_away_at s frame = list_any (λ page. is_frame frame (away_from s page)) (range_with_len 0 (length s.notes))
+
+-- ---- what a move can do
+
+-- The same pages are ready, where they were.
+abbrev pub ReadyStay : (s t : State) → Type 0
+ReadyStay s t = (page : ℕ) → ready_at t page ≡ ready_at s page
+
 abbrev pub OthersStay : (s t : State) → (page : ℕ) → Type 0
 OthersStay s t page = (q : ℕ) → q ≢ page → ready_at t q ≡ ready_at s q
 
--- All pages stand as before.
-abbrev pub Keeps : (s t : State) → Type 0
-Keeps s t = (page : ℕ) → ready_at t page ≡ ready_at s page
+-- The same frames have their images away.
+abbrev pub AwayStay : (s t : State) → Type 0
+AwayStay s t = (frame : ℕ) → is_away_at t frame ≡ is_away_at s frame
 
--- The page stood ready there, and doesn't any more; all others stand as before.
+-- An image goes away from the frame, and from no other; or it comes back to it, and to no other.
+pub record ImageGoes (s t : State) (frame : ℕ) : Type 0 where
+  pub was : is_away_at s frame ≡ false
+  pub now : (f : ℕ) → is_away_at t f ≡ (if f == frame then true else is_away_at s f)
+
+pub record ImageComes (s t : State) (frame : ℕ) : Type 0 where
+  pub was : is_away_at s frame ≡ true
+  pub now : (f : ℕ) → is_away_at t f ≡ (if f == frame then false else is_away_at s f)
+
+-- All is as before.
+pub record Keeps (s t : State) : Type 0 where
+  pub ready : ReadyStay s t
+  pub away : AwayStay s t
+
+-- The page stood ready there, and doesn't any more; all others do as before. Its image goes.
 pub record Leaves (s t : State) (page : ℕ) (x : Standing) : Type 0 where
   pub was : ready_at s page ≡ Some x
   pub gone : ready_at t page ≡ None
   pub others : OthersStay s t page
+  pub image : ImageGoes s t x.frame
 
--- The page wasn't ready, and stands ready there now; all others stand as before.
+-- The page wasn't ready, and stands ready there now; all others do as before. Its image comes.
 pub record Enters (s t : State) (page : ℕ) (x : Standing) : Type 0 where
   pub none : ready_at s page ≡ None
   pub is : ready_at t page ≡ Some x
   pub others : OthersStay s t page
+  pub image : ImageComes s t x.frame
 
--- A frame is given to another page: none was ready in it, and all pages stand as before; or one was, and leaves.
+-- The image in a frame is given to another page: no page was ready there, and a spare image goes; or one was, and
+-- leaves.
 pub data Vacates (s t : State) (frame : ℕ) : Type 0 where
-  empty : NoneReadyIn s frame → Keeps s t → Vacates s t frame
+  empty : NoneReadyIn s frame → ReadyStay s t → ImageGoes s t frame → Vacates s t frame
   takes : (victim mark : ℕ) → Leaves s t victim (record { frame = frame; mark = mark }) → Vacates s t frame
 
 -- ---- laws: which pages are ready
+
+-- In a new pool no page is ready, and no image is away.
+abbrev pub OpensEmpty : Settings → Type 0
+OpensEmpty k =
+    ((page : ℕ) → ready_at (opening k) page ≡ None) × ((frame : ℕ) → is_away_at (opening k) frame ≡ false)
 
 -- A page is ready exactly where it is cached, not being loaded, and not latched X.
 abbrev pub ReadyAreCached : State → Type 0
@@ -121,11 +163,21 @@ abbrev pub ReadyAreApart : State → Type 0
 ReadyAreApart s =
     (p q : ℕ) (x y : Standing) → ready_at s p ≡ Some x → ready_at s q ≡ Some y → x.frame ≡ y.frame → p ≡ q
 
--- None is ready in a frame whose page's image is away.
-abbrev pub AwayAreApart : State → Type 0
-AwayAreApart s = (frame : ℕ) → AwayAt s frame → NoneReadyIn s frame
+-- A page that has a frame is ready there, or its image is away from it.
+abbrev pub FramedAreReadyOrAway : State → Type 0
+FramedAreReadyOrAway s =
+    (page frame : ℕ) → frame_of s page ≡ Some frame
+    → (ready_at s page ≡ Some (record { frame = frame; mark = mark_at s page })) ⊎ (away_from s page ≡ Some frame)
 
--- A page that a slot has latched S is ready; the frame of one that a slot has latched X is away.
+-- An image is away from a frame exactly where it is a page's. Then no page is ready there.
+abbrev pub AwayAreOfPages : State → Type 0
+AwayAreOfPages s =
+    (frame : ℕ) → (is_away_at s frame ≡ true) ↔ ((page : ℕ) × (away_from s page ≡ Some frame))
+
+abbrev pub AwayAreApart : State → Type 0
+AwayAreApart s = (frame : ℕ) → is_away_at s frame ≡ true → NoneReadyIn s frame
+
+-- A page that a slot has latched S is ready; the image of one that a slot has latched X is away.
 abbrev pub SharedAreReady : State → Type 0
 SharedAreReady s =
     (w slot : ℕ) (r : Running) (h : Holding) → seat_of s w ≡ Some (Some r) → holding_at (holdings r) slot ≡ Some h
@@ -134,28 +186,24 @@ SharedAreReady s =
 abbrev pub ExclusiveAreAway : State → Type 0
 ExclusiveAreAway s =
     (w slot : ℕ) (r : Running) (h : Holding) → seat_of s w ≡ Some (Some r) → holding_at (holdings r) slot ≡ Some h
-    → h.held ≡ X → AwayAt s (frame_at s h.page)
+    → h.held ≡ X → away_from s h.page ≡ Some (frame_at s h.page)
 
--- The frame of a page that is loaded for a worker is away.
+-- The image of a page that is loaded for a worker is away.
 abbrev pub LoadingAreAway : State → Type 0
 LoadingAreAway s =
-    (w page : ℕ) (r : Running) → seat_of s w ≡ Some (Some r) → loading r.stage ≡ page ∷ [] → AwayAt s (frame_at s page)
+    (w page : ℕ) (r : Running) → seat_of s w ≡ Some (Some r) → loading r.stage ≡ page ∷ []
+    → away_from s page ≡ Some (frame_at s page)
 
 -- ---- laws: what a move that is answered so does to them
 
-abbrev pub is_reading_fault : Failure → Bool
-is_reading_fault WriteFault = false
-is_reading_fault ReadFault = true
-is_reading_fault Misread = true
-
--- The replies after which all pages stand as before, whatever was asked.
+-- The replies after which all is as before, whatever was asked.
 abbrev pub is_still : Reply → Bool
 is_still (MustRead frame) = false
 is_still (MustWrite frame victim) = false
+is_still (Failed failure) = false
 is_still (Loaded mark) = false
 is_still (Latched mark) = false
 is_still (Unlatched mark) = false
-is_still (Failed failure) = is_reading_fault failure
 is_still _ = true
 
 abbrev pub StillKeeps : State → Type 0
@@ -184,6 +232,13 @@ UnwrittenEnters s =
     → r.stage ≡ writing slot page victim → reply_of s (moves.WriteDone w ok) ≡ Failed WriteFault
     → Enters s (next_of s (moves.WriteDone w ok)) victim
     (record { frame = frame_at s page; mark = mark_at s victim })
+
+-- A page that was not read isn't ready, and the image comes back to the frame that it had.
+abbrev pub UnreadReturns : State → Type 0
+UnreadReturns s =
+    (w slot page : ℕ) (r : Running) (came : Came) (failure : Failure) → seat_of s w ≡ Some (Some r)
+    → r.stage ≡ reading slot page → reply_of s (moves.ReadDone w came) ≡ Failed failure
+    → ReadyStay s (next_of s (moves.ReadDone w came)) × ImageComes s (next_of s (moves.ReadDone w came)) (frame_at s page)
 
 -- A page that was read is ready with the stamp that came.
 abbrev pub LoadedEnters : State → Type 0
@@ -235,6 +290,17 @@ abbrev pub FlushedAreReady : State → Type 0
 FlushedAreReady s =
     (page mark : ℕ) → reply_of s (moves.FlushBegin page) ≡ Flushing mark
     → ready_at s page ≡ Some (record { frame = frame_at s page; mark = mark })
+
+-- While a page's image is away, the page keeps its frame and its mark. And so does a victim that is written back keep
+-- its mark, whether it is written or not.
+abbrev pub AwayKeep : State → Type 0
+AwayKeep s =
+    (m : Move) (page : ℕ) → is_away s page ≡ true → is_away (next_of s m) page ≡ true
+    → (frame_of (next_of s m) page ≡ frame_of s page) × (known_mark (next_of s m) page ≡ known_mark s page)
+
+abbrev pub VictimsKeep : State → Type 0
+VictimsKeep s =
+    (m : Move) (victim : ℕ) → IsWrittenBack s victim → known_mark (next_of s m) victim ≡ known_mark s victim
 
 -- A plan that is taken in or refused changes nothing.
 abbrev pub SubmitKeeps : State → Type 0

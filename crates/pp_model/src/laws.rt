@@ -13,6 +13,12 @@ ghost use Rattle.pp_model.specs.Laws.{JournalGrows, JournalTakesIn, MarksTell, O
 ghost use Rattle.pp_model.specs.Laws.{FrameIsLeft, PinIsLeft, DirtyAreKept, HeldAreKnown, LoadedAreKnown};
 ghost use Rattle.pp_model.specs.Laws.{MarksAreTheJournals, MarksAreSmall, PlansAreAccounted};
 ghost use Rattle.pp_model.specs.Laws.{NextWhileUnderWay, NextIsOpen};
+ghost use Rattle.pp_model.specs.Ready.{OpensEmpty, ReadyAreCached, ReadyStand, ReadyAreApart, FramedAreReadyOrAway};
+ghost use Rattle.pp_model.specs.Ready.{AwayAreOfPages, AwayAreApart, SharedAreReady, ExclusiveAreAway, LoadingAreAway};
+ghost use Rattle.pp_model.specs.Ready.{StillKeeps, ReadVacates, WriteLeaves, WrittenKeeps, UnwrittenEnters};
+ghost use Rattle.pp_model.specs.Ready.{LoadedEnters, UnreadReturns, SharedStays, ExclusiveLeaves, SharedGoes};
+ghost use Rattle.pp_model.specs.Ready.{ExclusiveEnters, UnwoundEnters, FlushedAreReady, SubmitKeeps, AwayKeep};
+ghost use Rattle.pp_model.specs.Ready.{VictimsKeep};
 
 /// Room: the peaks of all plans that run sum to at most the frames, and each worker holds and loads at most its peak.
 pub fn peaks_fit()
@@ -94,6 +100,54 @@ pub fn marks_go_by_page()
     ensures tell { (s : State) → MarksTell s }
     ensures change { (s t : State) → s.settings.layout.frames ≡ t.settings.layout.frames
         → length s.notes ≡ length t.notes → OnePageChanges s t }
+{}
+
+/// A page is ready where it is cached, not being loaded and not latched X, and no other page is: it stands in its
+/// frame, which is its alone, with its known mark. A page that has a frame and isn't ready has its image away from
+/// there. In a new pool no page is ready and no image is away.
+pub fn frames_are_ready()
+    ensures opens { (k : Settings) → OpensEmpty k }
+    ensures cached { (s : State) → IsReached s → ReadyAreCached s }
+    ensures stand { (s : State) → IsReached s → ReadyStand s }
+    ensures apart { (s : State) → IsReached s → ReadyAreApart s }
+    ensures or_away { (s : State) → IsReached s → FramedAreReadyOrAway s }
+    ensures away { (s : State) → AwayAreOfPages s }
+    ensures away_apart { (s : State) → IsReached s → AwayAreApart s }
+    ensures shared { (s : State) → IsReached s → SharedAreReady s }
+    ensures exclusive { (s : State) → IsReached s → ExclusiveAreAway s }
+    ensures loading { (s : State) → IsReached s → LoadingAreAway s }
+{}
+
+/// What a fix and its errand do to the ready pages and the images, by what they are answered. Most replies leave all as
+/// it was. A victim leaves, and enters again where it could not be written; a page that was read enters, and one that
+/// was not leaves its frame to nobody.
+pub fn fixes_move_images()
+    ensures still { (s : State) → IsReached s → StillKeeps s }
+    ensures read { (s : State) → IsReached s → ReadVacates s }
+    ensures write { (s : State) → IsReached s → WriteLeaves s }
+    ensures written { (s : State) → IsReached s → WrittenKeeps s }
+    ensures unwritten { (s : State) → IsReached s → UnwrittenEnters s }
+    ensures loaded { (s : State) → IsReached s → LoadedEnters s }
+    ensures unread { (s : State) → IsReached s → UnreadReturns s }
+    ensures submit { (s : State) → SubmitKeeps s }
+{}
+
+/// What latches and their ends do to them. Where a page gets latched, or its flush begins, it is ready; under X it
+/// leaves, and when that latch ends it enters again with its raised mark.
+pub fn latches_move_images()
+    ensures shared_stays { (s : State) → IsReached s → SharedStays s }
+    ensures shared_goes { (s : State) → IsReached s → SharedGoes s }
+    ensures exclusive_leaves { (s : State) → IsReached s → ExclusiveLeaves s }
+    ensures exclusive_enters { (s : State) → IsReached s → ExclusiveEnters s }
+    ensures unwound_enters { (s : State) → IsReached s → UnwoundEnters s }
+    ensures flushed { (s : State) → IsReached s → FlushedAreReady s }
+{}
+
+/// While a page's image is away, the page keeps its frame and its mark, and a victim that is written back keeps its
+/// mark.
+pub fn images_away_keep_marks()
+    ensures away { (s : State) → IsReached s → AwayKeep s }
+    ensures victims { (s : State) → IsReached s → VictimsKeep s }
 {}
 
 /// There is a next turn while a plan waits, a worker has a plan or a flush is in flight, and only then. It is open: its
