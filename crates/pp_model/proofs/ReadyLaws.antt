@@ -1,6 +1,6 @@
 -- Ready frames of reached states, in the words of the laws: which pages are ready and which images away, and what fixes
 -- and all moves do to them after which they stay.
-use Rattle.std.proofs.Common.{◌≡◌, ◌∙◌, ◌⊎◌, ℕ, Bool, true, false, Option, Some, None, refl, sym, ap, subst, inl, inr}
+use Rattle.std.proofs.Common.{◌≡◌, ◌∙◌, ◌⊎◌, ℕ, ◌<◌, Bool, true, false, Option, Some, None, refl, sym, ap, subst, inl, inr}
 use Rattle.std.proofs.Common.{arith}
 use Rattle.std.specs.Prelude.{nat_lt, ◌||◌, IsSome, IsTrue, unwrap_or}
 use Rattle.std.proofs.lemmas.Bool.{false≢true}
@@ -107,7 +107,7 @@ ready_are_apart s h p q x y e f same =
     ((stands_ready s q y f).frame_is ∙ ap Some (sym same))
 
 pub framed_are_ready_or_away : (s : State) → IsReached s → FramedAreReadyOrAway s
-framed_are_ready_or_away s h page frame e = go (is_away s page) refl
+framed_are_ready_or_away s h page frame e = ((framed s h).in_range page frame e, go (is_away s page) refl)
   where
     go : (b : Bool) → is_away s page ≡ b
         → (ready_at s page ≡ Some (record { frame = frame; mark = mark_at s page }))
@@ -217,9 +217,11 @@ still_keeps s h m ok = go (result s m)
 pub submit_keeps : (s : State) → SubmitKeeps s
 submit_keeps s a = go (submit_error s a)
   where
-    go : (o : Option SubmitError) → Keeps s (submitted_unless o s a)
-    go None = record { ready = λ q. refl; away = λ f. refl }
-    go (Some error) = record { ready = λ q. refl; away = λ f. refl }
+    go : (o : Option SubmitError)
+        → Keeps s (submitted_unless o s a) × ((submitted_unless o s a).notes ≡ s.notes)
+        × ((submitted_unless o s a).seats ≡ s.seats)
+    go None = (record { ready = λ q. refl; away = λ f. refl }, refl, refl)
+    go (Some error) = (record { ready = λ q. refl; away = λ f. refl }, refl, refl)
 
 -- ---- a page is fixed that isn't cached
 
@@ -239,7 +241,8 @@ written_same x a b c d e f =
 
 -- What a fix is answered tells of the pages.
 record FixTells (s : State) (o : Outcome) : Type 0 where
-  reads : (frame : ℕ) → o.reply ≡ MustRead frame → Vacates s o.state frame
+  reads : (frame : ℕ) → o.reply ≡ MustRead frame
+      → (frame < s.settings.layout.frames) × Vacates s o.state frame
   writes : (frame victim : ℕ) → o.reply ≡ MustWrite frame victim
       → Leaves s o.state victim (record { frame = frame; mark = mark_at s victim })
 
@@ -268,7 +271,8 @@ module _ (s : State) (h : IsReached s) (w : ℕ) (r : Running) (page : ℕ) wher
       record {
         reads = λ frame told.
             let same = read_same (MustRead (frame_at s v)) _ _ refl told in
-            takes v (mark_at s v) (subst (Leaves s t v) (same_standing s v frame same) leaves);
+            let left = subst (Leaves s t v) (same_standing s v frame same) leaves in
+            ((ready_stand s h v (record { frame = frame; mark = mark_at s v }) left.was).low, takes v (mark_at s v) left);
         writes = λ frame victim told. absurd (not_written (MustRead (frame_at s v)) _ frame victim refl told refl);
       }
 
@@ -278,10 +282,12 @@ module _ (s : State) (h : IsReached s) (w : ℕ) (r : Running) (page : ℕ) wher
       let t = with_stage (with_frame (with_lists s l) page (Some (free_frame s))) w r (reading slot page) in
       record {
         reads = λ frame told.
-            let same = read_same (MustRead (free_frame s)) _ _ refl told in
-            empty (subst (NoneReadyIn s) same (steps.fill_none s h w r slot page l asked is))
-            (steps.fill_ready s h w r slot page l asked is)
-            (subst (ImageGoes s t) same (steps.fill_goes s h w r slot page l asked is));
+            let same = read_same (MustRead (free_frame s)) _ _ refl told in (
+              omega (arith, same, steps.fill_low s h w r slot page l asked is),
+              empty (subst (NoneReadyIn s) same (steps.fill_none s h w r slot page l asked is))
+                  (steps.fill_ready s h w r slot page l asked is)
+                  (subst (ImageGoes s t) same (steps.fill_goes s h w r slot page l asked is)),
+            );
         writes = λ frame victim told. absurd (not_written (MustRead (free_frame s)) _ frame victim refl told refl);
       }
 

@@ -154,6 +154,11 @@ module _ (s : State) (h : IsReached s) (w : ℕ) (r : Running) (slot page : ℕ)
         let room = ((RequestAnswers-request s.lists page (is_busy s) (sound s h).bounds).free.0 is.is).1 in
         (free_frame_of s h (omega (arith, room))).nobody
 
+    pub fill_low : free_frame s < s.settings.layout.frames
+    fill_low =
+        let room = ((RequestAnswers-request s.lists page (is_busy s) (sound s h).bounds).free.0 is.is).1 in
+        (free_frame_of s h (omega (arith, room))).low
+
     pub fill_ready : ReadyStay s filled
     fill_ready q =
         elim (which q page) [

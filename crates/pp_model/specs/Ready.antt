@@ -163,11 +163,12 @@ abbrev pub ReadyAreApart : State → Type 0
 ReadyAreApart s =
     (p q : ℕ) (x y : Standing) → ready_at s p ≡ Some x → ready_at s q ≡ Some y → x.frame ≡ y.frame → p ≡ q
 
--- A page that has a frame is ready there, or its image is away from it.
+-- A page that has a frame, which is one of the pool's, is ready there, or its image is away from it.
 abbrev pub FramedAreReadyOrAway : State → Type 0
 FramedAreReadyOrAway s =
     (page frame : ℕ) → frame_of s page ≡ Some frame
-    → (ready_at s page ≡ Some (record { frame = frame; mark = mark_at s page })) ⊎ (away_from s page ≡ Some frame)
+    → (frame < s.settings.layout.frames)
+    × ((ready_at s page ≡ Some (record { frame = frame; mark = mark_at s page })) ⊎ (away_from s page ≡ Some frame))
 
 -- An image is away from a frame exactly where it is a page's. Then no page is ready there.
 abbrev pub AwayAreOfPages : State → Type 0
@@ -209,11 +210,11 @@ is_still _ = true
 abbrev pub StillKeeps : State → Type 0
 StillKeeps s = (m : Move) → IsTrue (is_still (reply_of s m)) → Keeps s (next_of s m)
 
--- A fix that has to read takes a frame; one that has to write back first takes the victim's.
+-- A fix that has to read takes the image of a frame; one that has to write back first takes the victim's.
 abbrev pub ReadVacates : State → Type 0
 ReadVacates s =
     (w page frame : ℕ) → reply_of s (moves.Fix w page) ≡ MustRead frame
-    → Vacates s (next_of s (moves.Fix w page)) frame
+    → (frame < s.settings.layout.frames) × Vacates s (next_of s (moves.Fix w page)) frame
 
 abbrev pub WriteLeaves : State → Type 0
 WriteLeaves s =
@@ -302,6 +303,8 @@ abbrev pub VictimsKeep : State → Type 0
 VictimsKeep s =
     (m : Move) (victim : ℕ) → IsWrittenBack s victim → known_mark (next_of s m) victim ≡ known_mark s victim
 
--- A plan that is taken in or refused changes nothing.
+-- A plan that is taken in or refused changes nothing: the pages' notes and the workers' seats stay.
 abbrev pub SubmitKeeps : State → Type 0
-SubmitKeeps s = (a : Acceptance) → Keeps s (after_submit s a)
+SubmitKeeps s =
+    (a : Acceptance) → Keeps s (after_submit s a) × ((after_submit s a).notes ≡ s.notes)
+    × ((after_submit s a).seats ≡ s.seats)
