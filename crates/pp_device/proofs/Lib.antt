@@ -1,0 +1,2 @@
+mod DiskLemmas
+mod Heads

@@ -1,0 +1,5 @@
+-- What the contracts of this crate cite.
+pub mod Answers
+pub mod Disk
+pub mod Image
+pub mod Troubled

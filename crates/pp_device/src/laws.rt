@@ -1,0 +1,28 @@
+//! Laws of the definitions: what was written is read.
+
+ghost use Rattle.std.specs.Prelude.{◌≡◌, ◌≢◌, ℕ, ◌^◌, ◌<◌, ◌≤◌, List, length, All, Ok};
+ghost use Rattle.pp_device.specs.Image.{with_head, head_of, body_of};
+ghost use Rattle.pp_device.specs.Disk.{Disk, DiskReads, DiskWrites, image_of};
+
+use crate::image::HEAD;
+
+/// A head is read as it was written, and the body stays; writing the head that stands there changes nothing.
+pub fn heads_are_read_as_written()
+    ensures head { (image : List ℕ) (page stamp : ℕ) → page < 2 ^ 32 → stamp < 2 ^ 64
+        → head_of (with_head image page stamp) ≡ (page, stamp) }
+    ensures body { (image : List ℕ) (page stamp : ℕ) → body_of (with_head image page stamp) ≡ body_of image }
+    ensures length { (image : List ℕ) (page stamp : ℕ) → HEAD ≤ length image
+        → length (with_head image page stamp) ≡ length image }
+    ensures again { (image : List ℕ) → HEAD ≤ length image → All (λ byte. byte < 2 ^ 8) image
+        → with_head image (head_of image).0 (head_of image).1 ≡ image }
+{}
+
+/// A page of a device in memory is read as it was written, and other pages stay.
+pub fn pages_are_read_as_written()
+    ensures page { (d e f : Disk) (page : ℕ) (image slice given : List ℕ) → DiskWrites d page image (Ok tt) e
+        → DiskReads e page slice (Ok tt) given f → given ≡ image }
+    ensures others { (d e : Disk) (page other : ℕ) (image : List ℕ) → DiskWrites d page image (Ok tt) e
+        → other ≢ page → image_of e other ≡ image_of d other }
+    ensures readings { (d e : Disk) (page other : ℕ) (slice given : List ℕ)
+        → DiskReads d page slice (Ok tt) given e → image_of e other ≡ image_of d other }
+{}
