@@ -64,7 +64,7 @@ impl PlanId {
 /// (`StandsFor`), and each call says what it answers and leads to from each state that the core stands for. Of all
 /// these states the headline holds (`HeadlineHolds`): no worker can find all frames fixed at a fix that its plan asks,
 /// none asks a latch against the order of the classes, the running peaks fit the frames, and while a plan waits or
-/// isn't ended some actor's next move is possible.
+/// isn't ended some actor's next move is possible ([`Core::next_possible`] names the actor).
 ///
 /// Workers, plans, slots, pages and frames are numbered from 0; slots by their names in byte order. All its memory is
 /// got by [`Core::new`]; no other call takes any for the core. There are no locks in it.
