@@ -9,6 +9,8 @@ mod cells;
 #[cfg(test)]
 mod common;
 #[cfg(test)]
+mod drains;
+#[cfg(test)]
 mod lists;
 #[cfg(test)]
 mod submits;
