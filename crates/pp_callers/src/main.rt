@@ -1,5 +1,5 @@
-//! Four small callers, to copy from: the checker of certificates alone, ARC's directory alone, marks alone, and a tiny
-//! cache of the directory and the marks together.
+//! Five small callers, to copy from: the checker of certificates alone, ARC's directory alone, marks alone, a tiny cache
+//! of the directory and the marks together, and devices alone.
 //!
 //! Each stands in a file of its own, asks for nothing else of the pool, and is proved against the public contracts of
 //! the parts that it uses.
@@ -7,6 +7,7 @@
 
 mod cache;
 mod checker;
+mod device;
 mod directory;
 mod marks;
 
@@ -23,5 +24,7 @@ fn main(rt: HostRuntime) -> anyhow::Result<()> {
     println!(rt;
         "cache: page 4 gets {while_in_use:?} while 3 pages are in use, {unfixed:?} once page 1 is unfixed"
     )?;
+    let [failed, other, found] = device::three_readings(rt.alloc())?;
+    println!(rt; "device: page 1 is read as {failed:?}, as {other:?}, and as {found:?}")?;
     Ok(())
 }
