@@ -21,7 +21,7 @@ pub trait Device {
 
     ghost write_leaves: { Self → ℕ → List ℕ → Answer → Self → Type 0 };
 
-    /// Reads the image of the page into the slice. What the slice holds after a failure is `read_gives`'s to say.
+    /// Reads the image of the page into the slice. After a failure the slice holds what `read_gives` says.
     ///
     /// # Errors
     ///
