@@ -22,3 +22,9 @@ mod QueryTies
 mod TurnTies
 mod DrainTies
 mod DrainRuns
+pub mod MoveWays
+pub mod AfterSeats
+pub mod AfterFixes
+pub mod AfterActs
+pub mod AfterOthers
+pub mod AfterMoves

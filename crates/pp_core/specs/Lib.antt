@@ -17,3 +17,4 @@ pub mod Submits
 pub mod Runs
 pub mod Queries
 pub mod Draining
+pub mod AfterMoves

@@ -6,6 +6,7 @@ ghost use Rattle.pp_model.specs.Runs.{Input, run};
 ghost use Rattle.pp_model.specs.Reached.{IsSettings, IsReached};
 ghost use Rattle.pp_model.specs.Laws.{IsAcceptedInput};
 ghost use Rattle.pp_core.specs.Headline.{Headline};
+ghost use Rattle.pp_core.specs.AfterMoves.{AfterMoves};
 
 /// From a new pool, and from every state that a pool can be in, whatever comes to it, moves that are possible or
 /// refused and plans that the checker accepted, leads to states of which the headline holds.
@@ -22,4 +23,11 @@ pub fn headline()
         → Headline (run (opening k) inputs) }
     ensures from_any { (s : State) (inputs : List Input) → All IsAcceptedInput inputs → IsReached s
         → Headline (run s inputs) }
+{}
+
+/// What a worker has after a move, told by what the move was answered and in the words of the core's queries: what it
+/// asks, what its slots hold, the errand that is out for it, whether it leaves or is idle, and the marks of the pages
+/// that it holds. Other workers have what they had.
+pub fn workers_after_moves()
+    ensures each { (s : State) → IsReached s → AfterMoves s }
 {}
