@@ -7,7 +7,8 @@ use Rattle.pp_core.proofs.AfterFixes.{taken_acts, hit_fixes, fix_sends, fix_send
 use Rattle.pp_core.proofs.AfterFixes.{read_loads, read_fails}
 use Rattle.pp_core.proofs.AfterActs.{unfix_empties, latch_holds, unlatch_frees, choose_acts, unwind_empties}
 use Rattle.pp_core.proofs.AfterActs.{finish_idles}
-use Rattle.pp_core.proofs.AfterOthers.{done_found, other_workers_stay, plans_leave_workers, exclusive_alone}
+use Rattle.pp_core.proofs.AfterFlushes.{flush_begins, flush_ends, workers_leave_flush}
+use Rattle.pp_core.proofs.AfterOthers.{shared_keeps_mark, done_found, other_workers_stay, plans_leave_workers, exclusive_alone}
 use Rattle.pp_core.proofs.AfterOthers.{exclusive_keeps_mark, victim_keeps_mark, mark_stays}
 
 pub after_moves : (s : State) → IsReached s → AfterMoves s
@@ -28,10 +29,14 @@ after_moves s h = record {
   chosen = choose_acts s h;
   unwound = unwind_empties s h;
   finished = finish_idles s h;
+  flush_begun = flush_begins s;
+  flush_ended = flush_ends s;
+  flush_left = workers_leave_flush s;
   others = other_workers_stay s;
   plans = plans_leave_workers s;
   alone = exclusive_alone s h;
   exclusive_mark = exclusive_keeps_mark s h;
+  shared_mark = shared_keeps_mark s h;
   victim_mark = victim_keeps_mark s h;
   mark = mark_stays s h;
 }

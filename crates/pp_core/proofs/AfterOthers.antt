@@ -1,7 +1,7 @@
 -- What a done move found; what the other workers have after it; and which marks it leaves.
 use Rattle.std.proofs.Common.{◌≡◌, ◌≢◌, ◌∙◌, ◌⊎◌, ◌<◌, ◌≤◌, ℕ, zero, suc, ◌+◌, Bool, true, false, eqb, cond, Option}
 use Rattle.std.proofs.Common.{Some, None, List, [], ◌∷◌, length, refl, sym, ap, subst, inl, inr, arith}
-use Rattle.std.specs.Prelude.{slice_get, slice_set, slice_index_or, sum_by, ◌==◌}
+use Rattle.std.specs.Prelude.{slice_get, slice_set, slice_index_or, option_map, sum_by, ◌==◌}
 use Rattle.std.proofs.lemmas.Bool.{cases_lt, false≢true}
 use Rattle.std.proofs.lemmas.Bool.Decides.{nat_tests}
 use Rattle.std.proofs.lemmas.List.{set_past}
@@ -21,7 +21,7 @@ use Rattle.pp_model.specs.declared.refusals.SubmitError.{SubmitError}
 use Rattle.pp_model.specs.declared.reply.Ending.{Ending}
 use Rattle.pp_model.specs.declared.reply.Ending.TheVariants as ending
 use Rattle.pp_model.specs.declared.reply.Reply.TheVariants as reply
-use Rattle.pp_model.specs.Pool.{reading, writing, Running, Note, State, untouched, note_of, frame_of, known_mark}
+use Rattle.pp_model.specs.Pool.{Flush, reading, writing, Running, Note, State, untouched, note_of, frame_of, known_mark}
 use Rattle.pp_model.specs.Pool.{mark_at}
 use Rattle.pp_model.specs.Holders.{holdings, is_shared, is_exclusive, page_in, held_in, writers_of}
 use Rattle.pp_model.specs.Outcome.{Outcome, with_note, with_frame, with_dirty, with_mark, with_lists, released}
@@ -41,12 +41,16 @@ use Rattle.pp_model.proofs.Sums.{sum_by-term}
 use Rattle.pp_model.proofs.Totals.{weight, seat_weight, on_page, loads_of, victims_of, latched_on, readers_are, writers_are}
 use Rattle.pp_core.specs.Queries.{idle_by, held_of}
 use Rattle.pp_core.specs.AfterMoves.{WorkerStays, EndsBy, Found, DoneFound, OtherWorkersStay, PlansLeaveWorkers}
-use Rattle.pp_core.specs.AfterMoves.{ExclusiveAlone, Releases, ExclusiveKeepsMark, VictimKeepsMark, MarkStays}
+use Rattle.pp_core.specs.AfterMoves.{ExclusiveAlone, Releases, ExclusiveKeepsMark, SharedKeepsMark, VictimKeepsMark, MarkStays}
 use Rattle.pp_core.proofs.MoveWays.{OfRefusals, not_negated, named, of_take, of_fix, of_write, of_read, of_unfix, of_latch}
 use Rattle.pp_core.proofs.MoveWays.{of_unlatch, of_choose, of_unwind, of_finish, of_flush, of_flushed}
 use Rattle.pp_core.proofs.AfterSeats.{set_apart, stays_by, asked_at, leaving_at, errand_at, held_found, HoldsSo, holds_so}
-use Rattle.pp_core.proofs.AfterSeats.{some_same, writes, released_apart}
+use Rattle.pp_core.proofs.AfterSeats.{same_held, some_same, writes, released_apart}
 use Rattle.pp_core.proofs.AfterActs.{held_known}
+
+-- The page of a flush.
+abbrev page_of : Option Flush → Option ℕ
+page_of o = option_map (λ (f : Flush). f.page) o
 
 -- ---- what a done move found
 
@@ -113,8 +117,13 @@ module _ (s : State) (h : IsReached s) where
         ends = λ r asking e. (ending.Done, refl, asked_at s w r ask.End asking);
         leaves = λ r given at empty e. (ending.Gone, refl, leaving_at s w r given at);
       })
-  done_found (move.FlushBegin page) = λ e. tt
-  done_found (move.FlushDone ok) = λ e. tt
+  done_found (move.FlushBegin page) =
+      of_flush s _ (not_done (Found s (move.FlushBegin page))) page (λ none e. ap page_of none)
+  done_found (move.FlushDone ok) =
+      of_flushed s _ (not_done (Found s (move.FlushDone ok))) ok (record {
+        cleans = λ f is e. (f.page, ap page_of is);
+        drops = λ f is e. (f.page, ap page_of is);
+      })
 
 -- ---- the other workers
 
@@ -202,10 +211,10 @@ module _ (s : State) where
   other_workers_stay (move.Unwind w slot) v apart = unwind_stays s w v apart slot
   other_workers_stay (move.Finish w) v apart = finish_stays s w v apart
   other_workers_stay (move.FlushBegin page) v apart =
-      of_flush s (Stays s v) (flush_refused v) page (stays_by s _ v refl)
+      of_flush s (Stays s v) (flush_refused v) page (λ none. stays_by s _ v refl)
   other_workers_stay (move.FlushDone ok) v apart =
       of_flushed s (Stays s v) (flush_refused v) ok
-      (record { cleans = λ page. stays_by s _ v refl; drops = λ page. stays_by s _ v refl })
+      (record { cleans = λ f is. stays_by s _ v refl; drops = λ f is. stays_by s _ v refl })
 
   pub plans_leave_workers : PlansLeaveWorkers s
   plans_leave_workers a v = go (submit_error s a)
@@ -452,10 +461,11 @@ module _ (s : State) (h : IsReached s) (q : ℕ) where
       of_finish s (Deals (move.Finish w)) (refusals_leave (move.Finish w)) w
       (record { ends = λ r asking. stays refl; leaves = λ r given at empty. stays refl })
   mark_way (move.FlushBegin page) =
-      of_flush s (Deals (move.FlushBegin page)) (refusals_leave (move.FlushBegin page)) page (stays refl)
+      of_flush s (Deals (move.FlushBegin page)) (refusals_leave (move.FlushBegin page)) page
+      (λ none. stays refl)
   mark_way (move.FlushDone ok) =
       of_flushed s (Deals (move.FlushDone ok)) (refusals_leave (move.FlushDone ok)) ok
-      (record { cleans = λ page. stays (cleaned (flush_over s) page false q); drops = λ page. stays refl })
+      (record { cleans = λ f is. stays (cleaned (flush_over s) f.page false q); drops = λ f is. stays refl })
 
 -- A stamp that isn't another mark is the mark.
 known_stamp : (o : Option ℕ) (mark stamp : ℕ) → o ≡ Some mark → is_other o stamp ≡ false → stamp ≡ mark
@@ -484,6 +494,19 @@ module _ (s : State) (h : IsReached s) where
       (λ w k rel told.
       let one = exclusive_alone s h v slot w k page holds X (λ e. cc) told in
       not_freed (subst (λ n. Releases s m v n) one.1 (subst (λ n. Releases s m n k) one.0 rel)))
+      ∙ sym known
+
+  pub shared_keeps_mark : SharedKeepsMark s
+  shared_keeps_mark m v slot page holds =
+      let a = holds_so s v slot page S holds in
+      let known = subst (λ p. known_mark s p ≡ Some (mark_at s p)) a.page_is
+      (held_known s h v a.by slot a.holding a.seat a.found) in
+      mark_stays m page (mark_at s page) known
+      (λ w k rel told.
+      let one = exclusive_alone s h w k v slot page told S (λ e. cc) holds in
+      let there : held_of s v slot ≡ Some (page, X) = (λ i. held_of s (one.0 i) (one.1 i)) ∙ told in
+      let both : S ≡ X = same_held page page S X (sym holds ∙ there) in
+      cc)
       ∙ sym known
 
   pub victim_keeps_mark : VictimKeepsMark s

@@ -92,7 +92,7 @@ some_same x y e = cc
 pub same_page : (a b : ℕ) (x y : Held) → ◌≡◌ {A = Option (ℕ × Held)} (Some (a, x)) (Some (b, y)) → a ≡ b
 same_page a b x y e = ap (λ p. p.0) (some_same (a, x) (b, y) e)
 
-same_held : (a b : ℕ) (x y : Held) → ◌≡◌ {A = Option (ℕ × Held)} (Some (a, x)) (Some (b, y)) → x ≡ y
+pub same_held : (a b : ℕ) (x y : Held) → ◌≡◌ {A = Option (ℕ × Held)} (Some (a, x)) (Some (b, y)) → x ≡ y
 same_held a b x y e = ap (λ p. p.1) (some_same (a, x) (b, y) e)
 
 in_holdings : (s : State) (w slot page : ℕ) (how : Held) (r : Running) (o : Option Holding)

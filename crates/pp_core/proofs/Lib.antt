@@ -27,4 +27,10 @@ pub mod AfterSeats
 pub mod AfterFixes
 pub mod AfterActs
 pub mod AfterOthers
+mod MoveWays
+mod AfterSeats
+mod AfterFixes
+mod AfterActs
+mod AfterOthers
+mod AfterFlushes
 pub mod AfterMoves

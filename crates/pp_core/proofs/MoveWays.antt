@@ -360,24 +360,26 @@ module _ (s : State) (P : Outcome → Type 0) (refused : OfRefusals s P) where
   flush_tests page true true true p = refused.delay _
   flush_tests page true true false p = p
 
-  flush_cases : (page : ℕ) (o : Option Flush) → P (flush_where s page true true false) → P (flush_by s page o)
-  flush_cases page (Some f) p = refused.delay _
-  flush_cases page None p = flush_tests page _ _ _ p
+  flush_cases : (page : ℕ) (o : Option Flush) → s.flush ≡ o → (s.flush ≡ None → P (flush_where s page true true false))
+      → P (flush_by s page o)
+  flush_cases page (Some f) e p = refused.delay _
+  flush_cases page None e p = flush_tests page _ _ _ (p e)
 
-  pub of_flush : (page : ℕ) → P (flush_where s page true true false) → P (outcome_of s (move.FlushBegin page))
-  of_flush page p = flush_cases page s.flush p
+  pub of_flush : (page : ℕ) → (s.flush ≡ None → P (flush_where s page true true false))
+      → P (outcome_of s (move.FlushBegin page))
+  of_flush page p = flush_cases page s.flush refl p
 
   pub record OfFlushed : Type 0 where
-    pub cleans : (page : ℕ) → P (flushed_where s page true)
-    pub drops : (page : ℕ) → P (flushed_where s page false)
+    pub cleans : (f : Flush) → s.flush ≡ Some f → P (flushed_where s f.page true)
+    pub drops : (f : Flush) → s.flush ≡ Some f → P (flushed_where s f.page false)
 
-  clean_cases : (page : ℕ) (b : Bool) → OfFlushed → P (flushed_where s page b)
-  clean_cases page true p = p.cleans page
-  clean_cases page false p = p.drops page
+  clean_cases : (f : Flush) (b : Bool) → s.flush ≡ Some f → OfFlushed → P (flushed_where s f.page b)
+  clean_cases f true e p = p.cleans f e
+  clean_cases f false e p = p.drops f e
 
-  flushed_cases : (ok : Bool) (o : Option Flush) → OfFlushed → P (flushed_by s ok o)
-  flushed_cases ok None p = refused.fault _
-  flushed_cases ok (Some f) p = clean_cases f.page (is_clean s ok f) p
+  flushed_cases : (ok : Bool) (o : Option Flush) → s.flush ≡ o → OfFlushed → P (flushed_by s ok o)
+  flushed_cases ok None e p = refused.fault _
+  flushed_cases ok (Some f) e p = clean_cases f (is_clean s ok f) e p
 
   pub of_flushed : (ok : Bool) → OfFlushed → P (outcome_of s (move.FlushDone ok))
-  of_flushed ok p = flushed_cases ok s.flush p
+  of_flushed ok p = flushed_cases ok s.flush refl p

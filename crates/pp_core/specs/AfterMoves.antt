@@ -15,12 +15,12 @@ use Rattle.pp_model.specs.declared.reply.Ending.TheVariants as ending
 use Rattle.pp_model.specs.declared.reply.Failure.{Failure}
 use Rattle.pp_model.specs.declared.reply.Reply.{Reply}
 use Rattle.pp_model.specs.declared.reply.Reply.TheVariants as reply
-use Rattle.pp_model.specs.Pool.{State, known_mark}
+use Rattle.pp_model.specs.Pool.{State, known_mark, mark_at}
 use Rattle.pp_model.specs.Moves.{reply_of, next_of, is_refusal}
 use Rattle.pp_model.specs.Submitting.{after_submit}
 use Rattle.pp_model.specs.Laws.{RefusedLeaves}
 use Rattle.pp_model.specs.WorkerParts.{worker_of}
-use Rattle.pp_core.specs.Queries.{is_idle, is_leaving, ask_of, held_of, errand_of}
+use Rattle.pp_core.specs.Queries.{is_idle, is_leaving, ask_of, held_of, errand_of, flushed_page}
 
 -- ---- words
 
@@ -50,7 +50,7 @@ abbrev pub EndsBy : State → (w : ℕ) → Ending → Type 0
 EndsBy s w ending.Done = ask_of s w ≡ Some ask.End
 EndsBy s w ending.Gone = is_leaving s w ≡ true
 
--- What the queries told, before a move that is done, of the worker that makes it. (Of the flusher's moves: nothing.)
+-- What the queries told, before a move that is done, of the worker that makes it, and of the flush before the flusher's.
 abbrev pub Found : State → Move → Type 0
 Found s (move.Take w) = is_idle s w ≡ true
 Found s (move.Fix w page) = (slot : ℕ) × (region : ℕ) × (ask_of s w ≡ Some (ask.Fix slot region))
@@ -70,8 +70,8 @@ Found s (move.Unwind w slot) =
     (page : ℕ) × (held : Held) × (is_leaving s w ≡ true) × (held_of s w slot ≡ Some (page, held))
 Found s (move.Finish w) =
     (by : Ending) × (reply_of s (move.Finish w) ≡ reply.Finished by) × EndsBy s w by
-Found s (move.FlushBegin page) = Unit {0}
-Found s (move.FlushDone ok) = Unit {0}
+Found s (move.FlushBegin page) = flushed_page s ≡ None
+Found s (move.FlushDone ok) = (page : ℕ) × (flushed_page s ≡ Some page)
 
 abbrev pub DoneFound : State → Type 0
 DoneFound s = (m : Move) → is_refusal (reply_of s m) ≡ false → Found s m
@@ -228,6 +228,28 @@ FinishIdles s =
     (w : ℕ) (by : Ending) → reply_of s (move.Finish w) ≡ reply.Finished by
     → HasFinished s (next_of s (move.Finish w)) w by
 
+-- ---- the flusher
+
+-- The page is being flushed, and this is its mark (0 where none is known).
+pub record IsFlushing (t : State) (page mark : ℕ) : Type 0 where
+  pub flushed : flushed_page t ≡ Some page
+  pub marked : mark_at t page ≡ mark
+
+abbrev pub FlushBegins : State → Type 0
+FlushBegins s =
+    (page mark : ℕ) → reply_of s (move.FlushBegin page) ≡ reply.Flushing mark
+    → IsFlushing (next_of s (move.FlushBegin page)) page mark
+
+abbrev pub FlushEnds : State → Type 0
+FlushEnds s =
+    (ok clean : Bool) → reply_of s (move.FlushDone ok) ≡ reply.Flushed clean
+    → flushed_page (next_of s (move.FlushDone ok)) ≡ None
+
+-- The moves of workers leave the flush.
+abbrev pub WorkersLeaveFlush : State → Type 0
+WorkersLeaveFlush s =
+    (m : Move) (w : ℕ) → worker_of m ≡ Some w → flushed_page (next_of s m) ≡ flushed_page s
+
 -- ---- the others
 
 -- A move leaves all workers but the one that makes it; the flusher's moves leave all, and so does a plan that comes.
@@ -253,6 +275,12 @@ Releases s _ v slot = ⊥
 abbrev pub ExclusiveKeepsMark : State → Type 0
 ExclusiveKeepsMark s =
     (m : Move) (v slot page : ℕ) → held_of s v slot ≡ Some (page, X) → ¬ Releases s m v slot
+    → known_mark (next_of s m) page ≡ known_mark s page
+
+-- A page that a slot holds S keeps its mark through each move.
+abbrev pub SharedKeepsMark : State → Type 0
+SharedKeepsMark s =
+    (m : Move) (v slot page : ℕ) → held_of s v slot ≡ Some (page, S)
     → known_mark (next_of s m) page ≡ known_mark s page
 
 -- A victim that is written back keeps its mark through each move.
@@ -286,9 +314,13 @@ pub record AfterMoves (s : State) : Type 0 where
   pub chosen : ChooseActs s
   pub unwound : UnwindEmpties s
   pub finished : FinishIdles s
+  pub flush_begun : FlushBegins s
+  pub flush_ended : FlushEnds s
+  pub flush_left : WorkersLeaveFlush s
   pub others : OtherWorkersStay s
   pub plans : PlansLeaveWorkers s
   pub alone : ExclusiveAlone s
   pub exclusive_mark : ExclusiveKeepsMark s
+  pub shared_mark : SharedKeepsMark s
   pub victim_mark : VictimKeepsMark s
   pub mark : MarkStays s
