@@ -45,6 +45,7 @@ pub mod ReadyAnswers
 pub mod AwayMarks
 pub mod MarkReadings
 pub mod FrameLaws
+pub mod Shapes
 pub mod TurnsErrands
 pub mod TurnsLeaving
 pub mod TurnsActing

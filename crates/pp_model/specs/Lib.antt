@@ -21,3 +21,4 @@ pub mod Turns
 pub mod Reached
 pub mod Laws
 pub mod Ready
+pub mod Shapes

@@ -19,6 +19,7 @@ ghost use Rattle.pp_model.specs.Ready.{StillKeeps, ReadVacates, WriteLeaves, Wri
 ghost use Rattle.pp_model.specs.Ready.{LoadedEnters, UnreadReturns, SharedStays, ExclusiveLeaves, SharedGoes};
 ghost use Rattle.pp_model.specs.Ready.{ExclusiveEnters, UnwoundEnters, FlushedAreReady, SubmitKeeps, AwayKeep};
 ghost use Rattle.pp_model.specs.Ready.{VictimsKeep};
+ghost use Rattle.pp_model.specs.Shapes.{RepliesFit};
 
 /// Room: the peaks of all plans that run sum to at most the frames, and each worker holds and loads at most its peak.
 pub fn peaks_fit()
@@ -148,6 +149,11 @@ pub fn latches_move_images()
 pub fn images_away_keep_marks()
     ensures away { (s : State) → IsReached s → AwayKeep s }
     ensures victims { (s : State) → IsReached s → VictimsKeep s }
+{}
+
+/// Each move is refused, or answered as a move of its kind is when it is done.
+pub fn replies_fit()
+    ensures fit { (s : State) → RepliesFit s }
 {}
 
 /// There is a next turn while a plan waits, a worker has a plan or a flush is in flight, and only then. It is open: its
