@@ -46,6 +46,7 @@ pub mod AwayMarks
 pub mod MarkReadings
 pub mod FrameLaws
 pub mod Shapes
+pub mod Alone
 pub mod TurnsErrands
 pub mod TurnsLeaving
 pub mod TurnsActing

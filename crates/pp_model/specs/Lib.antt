@@ -22,3 +22,4 @@ pub mod Reached
 pub mod Laws
 pub mod Ready
 pub mod Shapes
+pub mod Alone

@@ -20,6 +20,8 @@ ghost use Rattle.pp_model.specs.Ready.{LoadedEnters, UnreadReturns, SharedStays,
 ghost use Rattle.pp_model.specs.Ready.{ExclusiveEnters, UnwoundEnters, FlushedAreReady, SubmitKeeps, AwayKeep};
 ghost use Rattle.pp_model.specs.Ready.{VictimsKeep};
 ghost use Rattle.pp_model.specs.Shapes.{RepliesFit};
+ghost use Rattle.pp_model.specs.Alone.{FlushStays, FlushStarts, FlushEnds, SettingsStay, OthersSit, AllSit};
+ghost use Rattle.pp_model.specs.Alone.{SubmitLeaves};
 
 /// Room: the peaks of all plans that run sum to at most the frames, and each worker holds and loads at most its peak.
 pub fn peaks_fit()
@@ -154,6 +156,22 @@ pub fn images_away_keep_marks()
 /// Each move is refused, or answered as a move of its kind is when it is done.
 pub fn replies_fit()
     ensures fit { (s : State) → RepliesFit s }
+{}
+
+/// The flush in flight is the flusher's alone: it begins and ends by the flusher's moves, and workers' moves leave it.
+pub fn flushes_go_by_flushers()
+    ensures stays { (s : State) → FlushStays s }
+    ensures starts { (s : State) → FlushStarts s }
+    ensures ends { (s : State) → FlushEnds s }
+{}
+
+/// A worker's move leaves the seats of all others, one of the flusher's leaves all seats, and none changes the settings.
+/// A plan that is submitted leaves the seats, the flush and the settings.
+pub fn moves_leave_others()
+    ensures others { (s : State) → OthersSit s }
+    ensures flusher { (s : State) → AllSit s }
+    ensures settings { (s : State) → SettingsStay s }
+    ensures submit { (s : State) → SubmitLeaves s }
 {}
 
 /// There is a next turn while a plan waits, a worker has a plan or a flush is in flight, and only then. It is open: its
