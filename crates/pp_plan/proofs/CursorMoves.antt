@@ -1,15 +1,17 @@
 -- Each move without an action leaves the same.
-use Rattle.std.proofs.Common.{◌≡◌, ℕ, zero, suc, ◌+◌, ◌-◌, ◌<◌, ◌≤◌, List, [], ◌∷◌, length, refl, sym, ap, ◌∙◌, arith}
-use Rattle.std.specs.Prelude.{Some, slice_index}
+use Rattle.std.proofs.Common.{◌≡◌, ℕ, zero, suc, ◌+◌, ◌-◌, ◌*◌, ◌<◌, ◌≤◌, List, [], ◌∷◌, length, refl, sym, ap, ◌∙◌}
+use Rattle.std.proofs.Common.{arith, subst}
 use Rattle.pp_settings.specs.Layout.{Geometry}
 use Rattle.pp_plan.specs.Tree.{Statement, step, loop, choice, Sequence, skip, andthen}
 use Rattle.pp_plan.specs.Rules.{IsSome, IsSequence, IsBody}
+use Rattle.pp_plan.specs.declared.action.Ask.{Ask}
+use Rattle.pp_plan.specs.declared.action.Ask.TheVariants.{End}
 use Rattle.pp_plan.specs.declared.cursor.Entry.{Entry}
+use Rattle.pp_plan.specs.declared.cursor.Next.TheVariants.{Enter, Leave, Asks}
 use Rattle.pp_plan.specs.Left.{◌then◌, sequence_drop, first_body_of, first_rest_of, Place, body_at, outside, left}
-use Rattle.pp_plan.specs.Cursor.{CanBeIn, CanEnter, IsPath}
-use Rattle.pp_plan.specs.CursorMoves.{entered, left_to, left_by, HasNext, EndsOutermost, AreLengths, first_loop, Same}
+use Rattle.pp_plan.specs.Cursor.{CanBeIn, CanEnter, IsPath, IsReady}
+use Rattle.pp_plan.specs.CursorMoves.{entered, left_to, left_by, HasNext, Same, first_ask, next_by, next_at}
 use Rattle.pp_plan.proofs.Sequences.{same_self, loop_over, loop_turn}
-use Rattle.pp_plan.proofs.Lengths.{ended_at, lengths_leave}
 use Rattle.pp_plan.proofs.Paths.{drop_next, drop_keeps, body_keeps, next_keeps, room_to_enter, path_has_next}
 
 -- How often a body at its end may still be left, where the rest of the innermost body is this.
@@ -132,71 +134,124 @@ leave_path_of b p (e ∷ es) from path =
 pub leave_path : (b : Sequence) (p : Place) → IsPath b p.entries → IsPath b (left_by p p.entries).entries
 leave_path b p path = leave_path_of b p p.entries path path
 
+-- ---- what is next
+
+loop_of : (d : Sequence) (es : List Entry) (n : ℕ) → next_by d es ≡ Enter n
+    → (c : Sequence) × ((k : Sequence) × (d ≡ andthen (loop n c) k))
+loop_of skip [] n h = absurd cc
+loop_of skip (e ∷ es) n h = absurd cc
+loop_of (andthen (step s) k) es n h = absurd cc
+loop_of (andthen (loop m c) k) es n h = (c, (k, ap (λ x. andthen (loop x c) k) (same_turns h)))
+  where
+    same_turns : Enter m ≡ Enter n → m ≡ n
+    same_turns h = cc
+loop_of (andthen (choice bs) k) es n h = absurd cc
+
+end_of : (d : Sequence) (es : List Entry) → next_by d es ≡ Leave → (d ≡ skip) × (0 < length es)
+end_of skip [] h = absurd cc
+end_of skip (e ∷ es) h = (refl, omega arith)
+end_of (andthen (step s) k) es h = absurd cc
+end_of (andthen (loop m c) k) es h = absurd cc
+end_of (andthen (choice bs) k) es h = absurd cc
+
+pub same_ask : (x y : Ask) → Asks x ≡ Asks y → y ≡ x
+same_ask x y h = cc
+
+-- Where something is asked, an action comes next or it is the end, and this is what is asked.
+pub waits : (d : Sequence) (es : List Entry) (x : Ask) → next_by d es ≡ Asks x → IsReady d es × (x ≡ first_ask d)
+waits skip [] x h = (tt, same_ask End x h)
+waits skip (e ∷ es) x h = absurd cc
+waits (andthen (step s) k) es x h = (tt, same_ask (first_ask (andthen (step s) k)) x h)
+waits (andthen (loop n c) k) es x h = absurd cc
+waits (andthen (choice bs) k) es x h = (tt, same_ask (first_ask (andthen (choice bs) k)) x h)
+
+pub ready_asks : (d : Sequence) (es : List Entry) → IsReady d es → next_by d es ≡ Asks (first_ask d)
+ready_asks skip [] ready = refl
+ready_asks skip (e ∷ es) ready = absurd ready
+ready_asks (andthen (step s) k) es ready = refl
+ready_asks (andthen (loop n c) k) es ready = absurd ready
+ready_asks (andthen (choice bs) k) es ready = refl
+
+-- At the end of a body.
+pub leaves_at_end : (d : Sequence) (es : List Entry) → d ≡ skip → 0 < length es → Leave ≡ next_by d es
+leaves_at_end d [] h inner = absurd (omega arith)
+leaves_at_end d (e ∷ es) h inner = ap (λ x. next_by x (e ∷ es)) (sym h)
+
+pub asks_at_end : (d : Sequence) (es : List Entry) → d ≡ skip → length es ≡ 0 → Asks End ≡ next_by d es
+asks_at_end d [] h outer = ap (λ x. next_by x []) (sym h)
+asks_at_end d (e ∷ es) h outer = absurd (omega arith)
+
 -- ---- the two moves with all that holds of them
 
-loop_of : (d : Sequence) (n : ℕ) (c : Sequence) → first_loop d ≡ Some (n, c)
-    → (k : Sequence) × (d ≡ andthen (loop n c) k)
-loop_of skip n c h = cc
-loop_of (andthen (step s) k) n c h = cc
-loop_of (andthen (loop m e) k) n c h =
-    let f : (m, e) ≡ (n, c) = some_same (m, e) (n, c) h in
-    (k, λ i. andthen (loop (f i).0 (f i).1) k)
-  where
-    some_same : (x y : ℕ × Sequence) → Some x ≡ Some y → x ≡ y
-    some_same x y h = cc
-loop_of (andthen (choice bs) k) n c h = cc
+-- How many moves without an action there may still be. One out of a body counts double, since it makes room for a loop.
+abbrev pub moves_left : Sequence → Place → ℕ
+moves_left b p = 2 * leaves_left b p + (16 - length p.entries)
+
+-- A move without an action: the same is left, and fewer such moves.
+pub record Nears (g : Geometry) (b : Sequence) (p q : Place) : Type 0 where
+  pub path : IsPath b q.entries
+  pub same : Same g (left b p) (left b q)
+  pub nearer : moves_left b q < moves_left b p
 
 -- Into the loop at the place.
-pub record Enters (g : Geometry) (b : Sequence) (p : Place) (n : ℕ) (c : Sequence) : Type 0 where
+pub record Enters (g : Geometry) (b : Sequence) (p : Place) (n : ℕ) : Type 0 where
   pub some : 1 ≤ n
   pub room : length p.entries < 16
-  pub path : IsPath b (entered p (n - 1) 0).entries
-  pub ends : EndsOutermost b (entered p (n - 1) 0)
-  pub same : Same g (left b p) (left b (entered p (n - 1) 0))
-  pub body : c ≡ body_at b (entered p (n - 1) 0).entries
+  pub nears : Nears g b p (entered p (n - 1) 0)
 
-not_skip : (c : Sequence) → IsSome c → c ≡ skip → ⊥
-not_skip skip h e = h
-not_skip (andthen s k) h e = cc
+nearer_inside : (l m d : ℕ) → m ≡ 0 → d < 16 → 2 * m + (16 - suc d) < 2 * l + (16 - d)
+nearer_inside l m d none room = omega arith
 
--- The loop that is read among the statements of the innermost body is entered.
-pub enters : (g : Geometry) (slots regions : ℕ) (b : Sequence) (p : Place) (ss : Sequence) (i n : ℕ) (c : Sequence)
-    → IsBody slots regions b → IsPath b p.entries → ss ≡ body_at b p.entries → i ≡ p.index
-    → first_loop (sequence_drop i ss) ≡ Some (n, c) → Enters g b p n c
-enters g slots regions b p ss i n c rules path is at h =
-    let next : first_loop (sequence_drop p.index (body_at b p.entries)) ≡ Some (n, c) = rw (← is, ← at) h in
-    let f = loop_of (sequence_drop p.index (body_at b p.entries)) n c next in
-    let keeps = next_keeps slots regions b p (loop n c) f.0 rules.parts f.1 in
+pub enters : (g : Geometry) (slots regions : ℕ) (b : Sequence) (p : Place) (n : ℕ) → IsBody slots regions b
+    → IsPath b p.entries → next_at b p ≡ Enter n → Enters g b p n
+enters g slots regions b p n rules path h =
+    let (c, (k, at)) = loop_of (sequence_drop p.index (body_at b p.entries)) p.entries n h in
+    let keeps = next_keeps slots regions b p (loop n c) k rules.parts at in
     let some : 1 ≤ n = keeps.0 in
     let positive : n ≡ suc (n - 1) = omega arith in
     let turns : n - 1 < n = omega arith in
-    let head = f.1 ∙ ap (λ m. andthen (loop m c) f.0) positive in
-    let body : c ≡ body_at b (entered p (n - 1) 0).entries = sym (ap (λ d. first_body_of d 0) f.1) in
+    let room = room_to_enter b p (loop n c) (n - 1) 0 k rules.depth path at turns in
+    let body : c ≡ body_at b (entered p (n - 1) 0).entries = sym (ap (λ d. first_body_of d 0) at) in
+    let none : leaves_left b (entered p (n - 1) 0) ≡ 0 =
+    subst (λ d. leaves_before d (suc (length p.entries)) ≡ 0) body (leaves_none c (suc (length p.entries)) keeps.2) in
     record {
       some = some;
-      room = room_to_enter b p (loop n c) (n - 1) 0 f.0 rules.depth path f.1 turns;
-      path = enter_path b p (loop n c) (n - 1) 0 f.0 f.1 turns path;
-      ends = λ e. absurd (not_skip c keeps.2 (body ∙ e));
-      same = enter_same g b p (n - 1) c f.0 head;
-      body = body;
+      room = room;
+      nears = record {
+        path = enter_path b p (loop n c) (n - 1) 0 k at turns path;
+        same = enter_same g b p (n - 1) c k (at ∙ ap (λ m. andthen (loop m c) k) positive);
+        nearer = nearer_inside (leaves_left b p) (leaves_left b (entered p (n - 1) 0)) (length p.entries) none room;
+      };
     }
 
 -- Out of the body that ends at the place.
-pub record Ended (g : Geometry) (b : Sequence) (ns : List ℕ) (p : Place) : Type 0 where
+pub record Ended (g : Geometry) (b : Sequence) (p : Place) : Type 0 where
   pub has : HasNext p.entries
-  pub path : IsPath b (left_by p p.entries).entries
-  pub lengths : AreLengths b ns (left_by p p.entries).entries
-  pub leaves : Leaves g b p (left_by p p.entries)
+  pub nears : Nears g b p (left_by p p.entries)
 
--- A body is left whose number of statements the index has reached.
-pub ended : (g : Geometry) (slots regions : ℕ) (b : Sequence) (ns : List ℕ) (p : Place) (d : ℕ) → IsBody slots regions b
-    → IsPath b p.entries → AreLengths b ns p.entries → d ≡ length p.entries → 0 < d → slice_index ns d ≤ p.index
-    → Ended g b ns p
-ended g slots regions b ns p d rules path lengths at deep le =
-    let inner : 0 < length p.entries = omega arith in
+left_length_to : (e : Entry) (es : List Entry) (t : ℕ) → suc (length es) ≤ suc (length (left_to t e es).entries)
+left_length_to e es zero = omega arith
+left_length_to e es (suc t) = omega arith
+
+left_length : (p : Place) (es : List Entry) → length es ≤ suc (length (left_by p es).entries)
+left_length p [] = omega arith
+left_length p (e ∷ es) = left_length_to e es e.turns
+
+nearer_outside : (l m d e : ℕ) → m < l → d ≤ suc e → 2 * m + (16 - e) < 2 * l + (16 - d)
+nearer_outside l m d e falls deep = omega arith
+
+pub ended : (g : Geometry) (slots regions : ℕ) (b : Sequence) (p : Place) → IsBody slots regions b
+    → IsPath b p.entries → next_at b p ≡ Leave → Ended g b p
+ended g slots regions b p rules path h =
+    let (end, inner) = end_of (sequence_drop p.index (body_at b p.entries)) p.entries h in
+    let leaves = leave_moves g slots regions b p rules.parts inner path end in
     record {
       has = path_has_next b p.entries rules.count path inner;
-      path = leave_path b p path;
-      lengths = lengths_leave b ns p lengths;
-      leaves = leave_moves g slots regions b p rules.parts inner path (ended_at b ns p d lengths at le);
+      nears = record {
+        path = leave_path b p path;
+        same = leaves.same;
+        nearer =
+            nearer_outside (leaves_left b p) (leaves_left b (left_by p p.entries)) (length p.entries)
+            (length (left_by p p.entries).entries) leaves.falls (left_length p p.entries);
+      };
     }

@@ -8,8 +8,8 @@ use Rattle.pp_plan.specs.View.{statement_of, sequence_of, alternatives_of}
 use Rattle.pp_plan.specs.declared.stmt.Stmt.{Stmt}
 use Rattle.pp_plan.specs.declared.stmt.Stmt.TheVariants.{Choice}
 use Rattle.pp_plan.specs.declared.action.Ask.TheVariants.{Choose}
-use Rattle.pp_plan.specs.CursorMoves.{IsActive}
-use Rattle.pp_plan.specs.Asked.{statement_ask}
+use Rattle.pp_plan.specs.declared.cursor.Next.TheVariants.{Asks}
+use Rattle.pp_plan.specs.CursorMoves.{statement_next, HasFewBranches}
 use Rattle.pp_plan.specs.Left.{sequence_drop, branch_at}
 
 drop_suc : (ss : List Stmt) (i : ℕ) (s : Stmt) → slice_get ss i ≡ Some s
@@ -62,12 +62,12 @@ drop_past ss b i j is at h = rw (← is, ← at) (drop_none ss j h)
 -- ---- what a choice asks
 
 pub choice_asks : (s : Stmt) (bs : List Sequence) (c : Alternatives) → s ≡ Choice c → alternatives_of bs ≡ c
-    → Choose (length bs) ≡ statement_ask (statement_of s)
-choice_asks s bs c h is = rw h (ap Choose (sym (branch_count-of bs) ∙ ap branch_count is))
+    → Asks (Choose (length bs)) ≡ statement_next (statement_of s)
+choice_asks s bs c h is = rw h (ap (λ n. Asks (Choose n)) (sym (branch_count-of bs) ∙ ap branch_count is))
 
 pub choice_fits : (s : Stmt) (bs : List Sequence) (c : Alternatives) → s ≡ Choice c → alternatives_of bs ≡ c
-    → IsActive (statement_of s) → length bs < 2 ^ 16
-choice_fits s bs c h is active =
-    let few : branch_count c < 2 ^ 16 = subst (λ x. IsActive (statement_of x)) h active in
+    → HasFewBranches (statement_of s) → length bs < 2 ^ 16
+choice_fits s bs c h is few =
+    let fits : branch_count c < 2 ^ 16 = subst (λ x. HasFewBranches (statement_of x)) h few in
     let same : branch_count c ≡ length bs = sym (ap branch_count is) ∙ branch_count-of bs in
     omega arith

@@ -17,7 +17,6 @@ pub mod First
 pub mod Joined
 pub mod Sequences
 pub mod Stack
-pub mod Lengths
 pub mod Fetching
 pub mod Paths
 pub mod CursorMoves

@@ -13,13 +13,14 @@ use Rattle.pp_plan.specs.declared.cursor.Entry.{Entry}
 use Rattle.pp_plan.specs.Traces.{IsTrace}
 use Rattle.pp_plan.specs.Left.{◌then◌, sequence_drop, Place, body_at, outside, left}
 use Rattle.pp_plan.specs.PlanTraces.{IsTraceOf, PlanAsks}
-use Rattle.pp_plan.specs.Cursor.{IsReady, IsReadyAt, IsAt, StandsFor, NamesAction, IsAskOf}
-use Rattle.pp_plan.specs.CursorMoves.{moved_by, Same, first_ask, ask_at, IsActive}
-use Rattle.pp_plan.specs.Asked.{statement_ask}
+use Rattle.pp_plan.specs.Cursor.{IsReady, IsAt, StandsFor, NamesAction, IsAskOf}
+use Rattle.pp_plan.specs.CursorMoves.{moved_by, Same, first_ask, ask_at, HasFewBranches}
+use Rattle.pp_plan.specs.Asked.{statement_ask, asked}
 use Rattle.pp_plan.proofs.Sequences.{then-skip, step_does, choice_does, step_acts, choice_acts}
 use Rattle.pp_plan.proofs.Paths.{rest_keeps, next_keeps}
 use Rattle.pp_plan.proofs.Lasting.{body_lasts, left_lasts}
 use Rattle.pp_plan.proofs.Passing.{Passes, passes, does_named}
+use Rattle.pp_plan.proofs.OneAsk.{ask_is}
 
 -- ---- what is next
 
@@ -135,28 +136,33 @@ stands_after plan p r a facts f same at before s =
       from = from;
     }
 
--- A named action is gone past, and then its place is settled.
-pub stands_followed : (plan : Terms) (p q r : Place) (x : Ask) (a : Action) → IsPlan plan → x ≡ ask_at plan.body p
-    → NamesAction plan.layout x a → q ≡ moved_by a p → Same plan.layout (left plan.body q) (left plan.body r)
-    → IsAt plan.body r → (before : List Action) → StandsFor plan p before → StandsFor plan r (before ++ a ∷ [])
-stands_followed plan p q r x a facts is named moved same at before s =
+-- An action that is asked is gone past, and then the place is settled.
+pub stands_passed : (plan : Terms) (p q r : Place) (a : Action) (after : List Action) → IsPlan plan
+    → StandsFor plan p after → PlanAsks plan after a → q ≡ moved_by a p
+    → Same plan.layout (left plan.body q) (left plan.body r) → IsAt plan.body r → (before : List Action)
+    → StandsFor plan p before → StandsFor plan r (before ++ a ∷ [])
+stands_passed plan p q r a after facts t asks moved same at before s =
     let f =
     passes plan.layout (length plan.slots) (length plan.layout.extents) plan.body p a facts.body s.at.path
-    (subst (λ y. NamesAction plan.layout y a) is named) in
+    ((asks_named plan p after a facts t).0 asks) in
     stands_after plan p r a facts f (subst (λ o. Same plan.layout (left plan.body o) (left plan.body r)) moved same) at
     before s
 
+-- What is asked after a named action, at the place that is settled.
+pub asked_after : (plan : Terms) (r : Place) (x : Ask) (after : List Action) → IsPlan plan → x ≡ ask_at plan.body r
+    → StandsFor plan r after → x ≡ asked plan after
+asked_after plan r x after facts is s =
+    let within =
+    subst (λ y. IsAskOf (length plan.slots) (length plan.layout.extents) y) (sym is) (asks_known plan r facts) in
+    ask_is plan after x facts within (λ a. answers_named plan r x after a facts is s)
+
 -- ---- the next statement
 
-active_by : (slots regions : ℕ) (s : Statement) (k : Sequence) (es : List Entry) → IsStatement slots regions s
-    → IsReady (andthen s k) es → IsActive s
-active_by slots regions (step s) k es rules ready = tt
-active_by slots regions (loop n c) k es rules ready = absurd ready
-active_by slots regions (choice bs) k es rules ready = let few = rules.1 in omega arith
+few_branches : (slots regions : ℕ) (s : Statement) → IsStatement slots regions s → HasFewBranches s
+few_branches slots regions (step s) rules = tt
+few_branches slots regions (loop n c) rules = tt
+few_branches slots regions (choice bs) rules = let few = rules.1 in omega arith
 
-pub next_active : (slots regions : ℕ) (b : Sequence) (p : Place) (s : Statement) (k : Sequence)
-    → IsSequence slots regions b → sequence_drop p.index (body_at b p.entries) ≡ andthen s k → IsReadyAt b p
-    → IsActive s
-next_active slots regions b p s k rules h ready =
-    active_by slots regions s k p.entries (next_keeps slots regions b p s k rules h)
-    (subst (λ d. IsReady d p.entries) h ready)
+pub next_has_few : (slots regions : ℕ) (b : Sequence) (p : Place) (s : Statement) (k : Sequence)
+    → IsSequence slots regions b → sequence_drop p.index (body_at b p.entries) ≡ andthen s k → HasFewBranches s
+next_has_few slots regions b p s k rules h = few_branches slots regions s (next_keeps slots regions b p s k rules h)

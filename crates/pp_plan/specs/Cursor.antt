@@ -6,6 +6,7 @@ use Rattle.pp_plan.specs.Tree.{fix, unfix, latch, unlatch, Statement, step, loop
 use Rattle.pp_plan.specs.Tree.{branch_count}
 use Rattle.pp_plan.specs.Terms.{Terms}
 use Rattle.pp_plan.specs.Traces.{Does, IsTrace, Begins}
+use Rattle.pp_plan.specs.PlanTraces.{PlanAsks}
 use Rattle.pp_plan.specs.Left.{sequence_drop, Place, body_at, left}
 use Rattle.pp_plan.specs.declared.cursor.Entry.{Entry}
 use Rattle.pp_plan.specs.declared.action.Action.{Action}
@@ -63,6 +64,10 @@ pub record StandsFor (plan : Terms) (cursor : Place) (before : List Action) : Ty
 -- The cursor is one of this plan: it stands for some list.
 abbrev pub IsCursorOf : Terms → Place → Type 0
 IsCursorOf plan cursor = (before : List Action) × StandsFor plan cursor before
+
+-- The plan asks the action after a list that the cursor stands for.
+abbrev pub IsAsked : Terms → Place → Action → Type 0
+IsAsked plan cursor a = (before : List Action) × (StandsFor plan cursor before × PlanAsks plan before a)
 
 -- ---- what is asked
 

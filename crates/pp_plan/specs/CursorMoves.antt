@@ -1,6 +1,5 @@
 -- How a cursor moves: the words of its private parts.
-use Rattle.std.specs.Prelude.{◌≡◌, ◌<◌, ◌^◌, ℕ, zero, suc, ◌+◌, Option, Some, None, List, [], ◌∷◌, length, slice_index}
-use Rattle.std.specs.Prelude.{slice_index_or}
+use Rattle.std.specs.Prelude.{◌<◌, ◌^◌, ℕ, zero, suc, ◌+◌, List, [], ◌∷◌, length, slice_index_or}
 use Rattle.pp_settings.specs.Layout.{Geometry}
 use Rattle.pp_plan.specs.Limits.{most_depth}
 use Rattle.pp_plan.specs.Tree.{Statement, step, loop, choice, Sequence, skip, andthen}
@@ -9,6 +8,8 @@ use Rattle.pp_plan.specs.Traces.{IsTrace}
 use Rattle.pp_plan.specs.Asked.{statement_ask}
 use Rattle.pp_plan.specs.Left.{sequence_drop, Place, body_at}
 use Rattle.pp_plan.specs.declared.cursor.Entry.{Entry}
+use Rattle.pp_plan.specs.declared.cursor.Next.{Next}
+use Rattle.pp_plan.specs.declared.cursor.Next.TheVariants.{Enter, Leave, Asks}
 use Rattle.pp_plan.specs.declared.action.Action.{Action}
 use Rattle.pp_plan.specs.declared.action.Action.TheVariants.{Choose}
 use Rattle.pp_plan.specs.declared.action.Ask.{Ask}
@@ -61,28 +62,6 @@ pub record Same (g : Geometry) (b c : Sequence) : Type 0 where
   pub to : (t : List Action) → IsTrace g b t → IsTrace g c t
   pub from : (t : List Action) → IsTrace g c t → IsTrace g b t
 
--- The place is at the end of a body only where this is the outermost one.
-abbrev pub EndsOutermost : Sequence → Place → Type 0
-EndsOutermost b p = sequence_drop p.index (body_at b p.entries) ≡ skip → p.entries ≡ []
-
--- The count and the body of a body's first statement, where this is a loop.
-abbrev pub first_loop : Sequence → Option (ℕ × Sequence)
-first_loop skip = None
-first_loop (andthen (step s) k) = None
-first_loop (andthen (loop n b) k) = Some (n, b)
-first_loop (andthen (choice bs) k) = None
-
--- How many statements a body has, those inside them not among them.
-abbrev pub sequence_length : Sequence → ℕ
-sequence_length skip = 0
-sequence_length (andthen s k) = suc (sequence_length k)
-
--- The numbers of statements of the bodies that the entries lead through, the outermost first.
-abbrev pub AreLengths : Sequence → List ℕ → List Entry → Type 0
-AreLengths b ns [] = slice_index ns 0 ≡ sequence_length b
-AreLengths b ns (e ∷ es) =
-    (slice_index ns (suc (length es)) ≡ sequence_length (body_at b (e ∷ es))) × AreLengths b ns es
-
 -- ---- what is asked
 
 -- What is asked where this is the rest of the body: what its first statement asks, or the end.
@@ -94,8 +73,26 @@ first_ask (andthen s k) = statement_ask s
 abbrev pub ask_at : Sequence → Place → Ask
 ask_at b p = first_ask (sequence_drop p.index (body_at b p.entries))
 
--- The statement makes an action, and the number of its branches fits its type.
-abbrev pub IsActive : Statement → Type 0
-IsActive (step s) = Unit {0}
-IsActive (loop n b) = ⊥
-IsActive (choice bs) = branch_count bs < 2 ^ 16
+-- ---- what is next
+
+-- A loop is entered, and another statement asks.
+abbrev pub statement_next : Statement → Next
+statement_next (step s) = Asks (statement_ask (step s))
+statement_next (loop n b) = Enter n
+statement_next (choice bs) = Asks (statement_ask (choice bs))
+
+-- The same where this is the rest of the innermost body: at its end the body is left, if it is inside another.
+abbrev pub next_by : Sequence → List Entry → Next
+next_by skip [] = Asks ask.End
+next_by skip (e ∷ es) = Leave
+next_by (andthen s k) es = statement_next s
+
+-- What is next at a place.
+abbrev pub next_at : Sequence → Place → Next
+next_at b p = next_by (sequence_drop p.index (body_at b p.entries)) p.entries
+
+-- The number of the statement's branches fits its type.
+abbrev pub HasFewBranches : Statement → Type 0
+HasFewBranches (step s) = Unit {0}
+HasFewBranches (loop n b) = Unit {0}
+HasFewBranches (choice bs) = branch_count bs < 2 ^ 16

@@ -8,23 +8,20 @@ ghost use Rattle.pp_plan.specs.View.{sequence_of, statement_of};
 ghost use Rattle.pp_plan.specs.Terms.{IsPlan};
 ghost use Rattle.pp_plan.specs.Left.{body_at, body_of, first_body_of, sequence_drop, left};
 ghost use Rattle.pp_plan.specs.PlanTraces.{IsTraceOf, PlanAsks};
-ghost use Rattle.pp_plan.specs.Cursor.{IsPath, IsAt, StandsFor, IsCursorOf, NamesAction, IsAskOf};
-ghost use Rattle.pp_plan.specs.CursorMoves.{HasNext, entered, skipped, left_by, moved_by, first_loop, CanPass};
-ghost use Rattle.pp_plan.specs.CursorMoves.{EndsOutermost, AreLengths, Same, first_ask, ask_at, IsActive};
-ghost use Rattle.pp_plan.specs.Asked.{statement_ask, asked};
+ghost use Rattle.pp_plan.specs.Cursor.{IsPath, IsAt, StandsFor, IsCursorOf, IsAsked, NamesAction, IsAskOf};
+ghost use Rattle.pp_plan.specs.CursorMoves.{HasNext, entered, skipped, left_by, moved_by, CanPass, Same, ask_at};
+ghost use Rattle.pp_plan.specs.CursorMoves.{statement_next, next_at, HasFewBranches};
+ghost use Rattle.pp_plan.specs.Asked.{asked};
 
 use crate::action::{Action, Ask, OffPlan};
 use crate::limits::MOST_DEPTH;
 use crate::mode::Mode;
 use crate::plan::Plan;
-use crate::stmt::{Body, Stmt};
+use crate::stmt::Stmt;
 use std::marker::Model;
 
 /// How many loops and choices a place may be inside.
 const MOST_ENTRIES: usize = MOST_DEPTH as usize;
-
-/// How many bodies may be around a place, the outermost among them.
-const MOST_BODIES: usize = MOST_ENTRIES + 1;
 
 /// A loop or a choice that a worker is inside: which statement of its body it is, how many turns of it come after
 /// this one, and which of its branches is done.
@@ -33,6 +30,17 @@ struct Entry {
     index: usize,
     turns: u16,
     branch: u16,
+}
+
+/// What is next at a place.
+#[derive(Clone, Copy, Debug)]
+enum Next {
+    /// A loop of so many turns, which is entered.
+    Enter(u16),
+    /// The end of a body inside another, which is left.
+    Leave,
+    /// What the plan asks: an action, or the end.
+    Asks(Ask),
 }
 
 /// Where a worker is in its plan: between two actions, before the first, or after the last.
@@ -106,9 +114,23 @@ impl Cursor {
         if !is_named(plan, ask, action) {
             return Err(OffPlan);
         }
-        self.go_past(action);
-        self.settle(plan);
+        self.pass(plan, action);
         Ok(())
+    }
+
+    /// Does an action that the plan asks, with no test of it, and tells what the plan asks then.
+    pub fn pass(&mut self, plan: &Plan, action: Action) -> Ask
+        requires { IsAsked plan.now self.old action }
+        ensures passed { (before : List Action) → StandsFor plan.now self.old before →
+            StandsFor plan.now self.new (before ++ action ∷ []) }
+        ensures next { (before : List Action) → StandsFor plan.now self.old before →
+            result ≡ asked plan.now (before ++ action ∷ []) }
+        ensures kept { IsCursorOf plan.now self.new }
+    {
+        // What holds of every plan leaves room to go past the action.
+        let _ = plan.body();
+        self.go_past(action);
+        self.settle(plan)
     }
 
     /// What the statement at the place asks.
@@ -117,64 +139,39 @@ impl Cursor {
         ensures is { result ≡ ask_at plan.now.body self.now }
         ensures facts { IsPlan plan.now }
     {
+        match self.next(plan) {
+            Next::Asks(ask) => ask,
+            Next::Enter(_) | Next::Leave => unreachable!(),
+        }
+    }
+
+    /// Goes to where the next action is made, or to the end, and tells what is asked there.
+    fn settle(&mut self, plan: &Plan) -> Ask
+        requires { IsPath plan.now.body self.old.entries }
+        ensures at { IsAt plan.now.body self.new }
+        ensures same { Same plan.now.layout (left plan.now.body self.old) (left plan.now.body self.new) }
+        ensures ask { result ≡ ask_at plan.now.body self.new }
+        ensures facts { IsPlan plan.now }
+    {
+        loop {
+            match self.next(plan) {
+                Next::Enter(count) => self.enter(count - 1, 0),
+                Next::Leave => self.leave(),
+                Next::Asks(ask) => return ask,
+            }
+        }
+    }
+
+    /// What is next at the place.
+    fn next(&self, plan: &Plan) -> Next
+        ensures is { result ≡ next_at plan.now.body self.now }
+        ensures facts { IsPlan plan.now }
+    {
         match self.stmts(plan).get(self.index()) {
-            Some(stmt) => ask_of(stmt),
-            None => Ask::End,
+            Some(stmt) => next_of(stmt),
+            None if self.depth() > 0 => Next::Leave,
+            None => Next::Asks(Ask::End),
         }
-    }
-
-    /// Goes to where the next action is made, or to the end.
-    fn settle(&mut self, plan: &Plan)
-        requires { IsPath plan.now.body self.old.entries }
-        ensures at { IsAt plan.now.body self.new }
-        ensures same { Same plan.now.layout (left plan.now.body self.old) (left plan.now.body self.new) }
-        ensures facts { IsPlan plan.now }
-    {
-        self.leave_ended(plan);
-        self.enter_loops(plan);
-    }
-
-    /// Goes out of the bodies that are at their end.
-    fn leave_ended(&mut self, plan: &Plan)
-        requires { IsPath plan.now.body self.old.entries }
-        ensures path { IsPath plan.now.body self.new.entries }
-        ensures same { Same plan.now.layout (left plan.now.body self.old) (left plan.now.body self.new) }
-        ensures ends { EndsOutermost plan.now.body self.new }
-    {
-        let lengths = self.lengths(plan);
-        while self.depth() > 0 && self.index() >= lengths[self.depth()] {
-            self.leave();
-        }
-    }
-
-    /// Goes into loops, as far as a loop is next.
-    fn enter_loops(&mut self, plan: &Plan)
-        requires path { IsPath plan.now.body self.old.entries }
-        requires ends { EndsOutermost plan.now.body self.old }
-        ensures at { IsAt plan.now.body self.new }
-        ensures same { Same plan.now.layout (left plan.now.body self.old) (left plan.now.body self.new) }
-        ensures facts { IsPlan plan.now }
-    {
-        let mut stmts = self.stmts(plan);
-        while let Some((count, body)) = loop_at(stmts, self.index()) {
-            self.enter(count - 1, 0);
-            stmts = body.stmts();
-        }
-    }
-
-    /// How many statements each of the bodies around the place has, the outermost first.
-    #[tactic(auto, using(crate::proofs::Lengths::on_lengths))]
-    fn lengths(&self, plan: &Plan) -> [usize; MOST_BODIES]
-        ensures are { AreLengths plan.now.body result self.now.entries }
-        ensures facts { IsPlan plan.now }
-    {
-        let mut stmts = plan.body();
-        let mut lengths = [stmts.len(); MOST_BODIES];
-        for level in 0..self.depth {
-            stmts = stmts_inside(stmts, self.entries[level]);
-            lengths[level + 1] = stmts.len();
-        }
-        lengths
     }
 
     /// The statements of the innermost body.
@@ -301,40 +298,26 @@ fn stmts_of<'p>(stmt: &'p Stmt, branch: u16) -> &'p [Stmt]
     }
 }
 
-/// The count and the body of the loop at the place among the statements, if a loop is there.
-#[tactic(auto, using(crate::proofs::Fetching::on_reads))]
-fn loop_at<'p>(stmts: &'p [Stmt], index: usize) -> Option<(u16, &'p Body)>
-    ensures found { IfSome result (λ x.
-        first_loop (sequence_drop index (sequence_of stmts.now)) ≡ Some (x.0, x.1.now)) }
-    ensures none { IfNone result (first_loop (sequence_drop index (sequence_of stmts.now)) ≡ None) }
-{
-    match stmts.get(index) {
-        Some(Stmt::Loop { count, body }) => Some((*count, body)),
-        Some(_) => None,
-        None => None,
-    }
-}
-
-/// What a statement asks that makes an action, which a loop doesn't.
-fn ask_of(stmt: &Stmt) -> Ask
-    requires { IsActive (statement_of stmt.now) }
-    ensures { result ≡ statement_ask (statement_of stmt.now) }
+/// What is next where this is the statement.
+fn next_of(stmt: &Stmt) -> Next
+    requires { HasFewBranches (statement_of stmt.now) }
+    ensures { result ≡ statement_next (statement_of stmt.now) }
 {
     match stmt {
-        Stmt::Fix { slot, region } => Ask::Fix {
+        Stmt::Fix { slot, region } => Next::Asks(Ask::Fix {
             slot: *slot,
             region: *region,
-        },
-        Stmt::Unfix { slot } => Ask::Unfix { slot: *slot },
-        Stmt::Latch { slot, mode } => Ask::Latch {
+        }),
+        Stmt::Unfix { slot } => Next::Asks(Ask::Unfix { slot: *slot }),
+        Stmt::Latch { slot, mode } => Next::Asks(Ask::Latch {
             slot: *slot,
             mode: *mode,
-        },
-        Stmt::Unlatch { slot } => Ask::Unlatch { slot: *slot },
-        Stmt::Choice { branches } => Ask::Choose {
+        }),
+        Stmt::Unlatch { slot } => Next::Asks(Ask::Unlatch { slot: *slot }),
+        Stmt::Loop { count, .. } => Next::Enter(*count),
+        Stmt::Choice { branches } => Next::Asks(Ask::Choose {
             branches: branches.bodies().len() as u16,
-        },
-        Stmt::Loop { .. } => Ask::End,
+        }),
     }
 }
 

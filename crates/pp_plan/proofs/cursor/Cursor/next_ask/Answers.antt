@@ -1,32 +1,25 @@
-use Rattle.std.proofs.Common.{ap, sym, ◌∙◌}
-use Rattle.pp_plan.specs.Left.{body_at}
-use Rattle.pp_plan.specs.CursorMoves.{first_ask}
-use Rattle.pp_plan.proofs.Fetching.{drop_at, drop_past}
-use Rattle.pp_plan.proofs.Standing.{next_active}
+use Rattle.std.proofs.Common.{◌≡◌, inl, inr, sym, ◌∙◌}
+use Rattle.pp_plan.specs.Left.{body_at, sequence_drop}
+use Rattle.pp_plan.specs.declared.cursor.Next.TheVariants.{Enter, Leave, Asks}
+use Rattle.pp_plan.specs.CursorMoves.{ask_at}
+use Rattle.pp_plan.proofs.CursorMoves.{ready_asks, same_ask}
 use Rattle.pp_plan.proofs.cursor.Cursor.next_ask.Goals as goal
 
-pub ask_of-requires : goal.ask_of-requires
-ask_of-requires c =
+pub unreachable-requires : goal.unreachable-requires
+unreachable-requires c =
+    let b = c.args.plan.now.body in
     let p = c.args.self.now in
-    let found = c.in-Some.ensures.lookup in
-    let at =
-    drop_at c.stmts.result.now (body_at c.args.plan.now.body p.entries) p.index c.index.result c.in-Some.stmt.now
-    c.stmts.ensures.are c.index.ensures found.1 found.3.0 in
-    next_active _ _ c.args.plan.now.body p _ _ c.stmts.ensures.facts.body.parts at c.requires.ready
+    let asks : c.next.result ≡ Asks (ask_at b p) = c.next.ensures.is
+    ∙ ready_asks (sequence_drop p.index (body_at b p.entries)) p.entries c.requires.ready in
+    elim c.in-Enter.is [
+      | inl h ↦ (let wrong : Enter h.0 ≡ Asks (ask_at b p) = sym h.1 ∙ asks in cc)
+      | inr h ↦ (let wrong : Leave ≡ Asks (ask_at b p) = sym h ∙ asks in cc)
+    ]
 
-pub returns-in-Some-clause-is : goal.returns-in-Some-clause-is
-returns-in-Some-clause-is c =
+pub returns-clause-is : goal.returns-clause-is
+returns-clause-is c =
+    let b = c.args.plan.now.body in
     let p = c.args.self.now in
-    let found = c.in-Some.ensures.lookup in
-    let at =
-    drop_at c.stmts.result.now (body_at c.args.plan.now.body p.entries) p.index c.index.result c.in-Some.stmt.now
-    c.stmts.ensures.are c.index.ensures found.1 found.3.0 in
-    c.ask_of.ensures ∙ sym (ap first_ask at)
-
-pub returns-in-None-clause-is : goal.returns-in-None-clause-is
-returns-in-None-clause-is c =
-    let p = c.args.self.now in
-    let end =
-    drop_past c.stmts.result.now (body_at c.args.plan.now.body p.entries) p.index c.index.result c.stmts.ensures.are
-    c.index.ensures c.in-None.ensures.lookup.3 in
-    sym (ap first_ask end)
+    same_ask (ask_at b p) c.in-Asks.ask
+    (sym (ready_asks (sequence_drop p.index (body_at b p.entries)) p.entries c.requires.ready)
+    ∙ sym c.next.ensures.is ∙ c.in-Asks.is)

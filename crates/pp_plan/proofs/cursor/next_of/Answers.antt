@@ -1,6 +1,6 @@
 use Rattle.std.proofs.Common.{arith}
 use Rattle.pp_plan.proofs.Fetching.{choice_asks, choice_fits}
-use Rattle.pp_plan.proofs.cursor.ask_of.Goals as goal
+use Rattle.pp_plan.proofs.cursor.next_of.Goals as goal
 
 pub overflow_cast-result : goal.overflow_cast-result
 overflow_cast-result c =
