@@ -1,10 +1,7 @@
 -- What a worker is at, on the core's side and on the state's.
 use Rattle.std.proofs.Common.{◌≡◌, ◌∙◌, ℕ, Option, Some, None, List, refl, sym, ap}
 use Rattle.std.specs.Prelude.{slice_get, option_map}
-use Rattle.pp_plan.specs.declared.action.Action.{Action}
 use Rattle.pp_plan.specs.declared.action.Ask.{Ask}
-use Rattle.pp_plan.specs.Asked.{asked}
-use Rattle.pp_plan.specs.Cursor.{StandsFor as CursorStandsFor}
 use Rattle.pp_cert.specs.Accepted.{Acceptance}
 use Rattle.pp_model.specs.declared.refusals.Cause.{Cause}
 use Rattle.pp_model.specs.Pool.{Stage, acting, writing, reading, leaving, Running, State}
@@ -14,8 +11,8 @@ use Rattle.pp_core.specs.declared.seat.Phase.{Phase}
 use Rattle.pp_core.specs.declared.seat.Phase.TheVariants.{Acting, Writing, Reading, Leaving}
 use Rattle.pp_core.specs.declared.seat.Seat.{Seat}
 use Rattle.pp_core.specs.Parts.{Parts}
-use Rattle.pp_core.specs.StandsFor.{FitsStage, FitsRunning, FitsSeat, StandsFor, IsKept, Asks, CannotAct}
-use Rattle.pp_core.specs.Effects.{phase_of, acting_fault, Runs, IsIn, IsFollowing}
+use Rattle.pp_core.specs.StandsFor.{FitsStage, FitsRunning, FitsSeat, StandsFor, Asks, CannotAct}
+use Rattle.pp_core.specs.Effects.{phase_of, acting_fault, Runs, IsIn}
 use Rattle.pp_core.proofs.Crew.{seat_from, seat_none}
 
 -- ---- phases
@@ -70,28 +67,15 @@ runs f s w x r st is_in fits = record {
       st.plans ∙ fits.plan;
 }
 
-pub following : (f : Parts) (w : ℕ) → IsKept f → Some (Some Acting) ≡ phase_of f w → IsFollowing f w
-following f w kept e =
-    let at = in_phase f w Acting e in
-    let two = both f kept.state w at.seat kept.stands at.is_in in
-    record {
-      seat = at.seat;
-      accepted = two.running.accepted;
-      runs = runs f kept.state w at.seat two.running kept.stands at.is_in two.fits;
-      cursor = (two.running.done, two.fits.cursor);
-    }
-
 pub asks_this : (f : Parts) (w : ℕ) (ask : Ask) → Some (Some Acting) ≡ phase_of f w
-    → ((x : Seat) (a : Acceptance) (before : List Action) → Runs f w x a → CursorStandsFor a.plan x.cursor before
-    → ask ≡ asked a.plan before) → Asks f w ask
+    → ((x : Seat) → IsIn f w x → ask ≡ x.ask) → Asks f w ask
 asks_this f w ask e tells = λ s st.
     let at = in_phase f w Acting e in
     let two = both f s w at.seat st at.is_in in
     let r = two.running in (
       r,
       record { seat = two.there; stage = stage_acts at.seat.phase r.stage at.phase two.fits.phase },
-      sym (tells at.seat r.accepted r.done (runs f s w at.seat r st at.is_in two.fits)
-          two.fits.cursor),
+      sym (tells at.seat at.is_in ∙ two.fits.ask),
     )
 
 -- ---- not acting

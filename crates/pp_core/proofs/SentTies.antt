@@ -27,6 +27,7 @@ staged_fits plans x r p g fits same stage =
       number = fits.number;
       plan = fits.plan;
       cursor = fits.cursor;
+      ask = fits.ask;
       actions = fits.actions;
       holds = fits.holds ∙ ap length (sym holds);
       width = fits.width;

@@ -77,6 +77,7 @@ acted_fits plans x y r a fits cursor did count tell more = record {
   number = did.number ∙ fits.number;
   plan = fits.plan;
   cursor = did.cursor r.done cursor;
+  ask = did.ask r.done cursor;
   actions = omega (arith, did.actions, fits.actions, more);
   holds = did.holds ∙ count;
   width = ap length did.slots ∙ slots_width a x.slots ∙ fits.width;

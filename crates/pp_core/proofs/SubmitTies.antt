@@ -70,6 +70,7 @@ more_running ps qs x r h = record {
   number = h.number;
   plan = get_before ps qs r.number r.accepted h.plan;
   cursor = h.cursor;
+  ask = h.ask;
   actions = h.actions;
   holds = h.holds;
   width = h.width;

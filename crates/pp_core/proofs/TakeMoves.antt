@@ -43,6 +43,7 @@ begun_fits s k x a number next begun = record {
   number = begun.number ∙ number;
   plan = next;
   cursor = begun.cursor;
+  ask = begun.ask;
   actions = begun.actions;
   holds = begun.holds;
   width = ap length begun.slots;

@@ -151,6 +151,7 @@ emptied_fits s w slot x r given k h fits phase at found =
       number = fits.number;
       plan = fits.plan;
       cursor = fits.cursor;
+      ask = fits.ask;
       actions = fits.actions;
       holds = omega (arith, fits.holds, steps.unwind_length s h w r slot given k at found);
       width = set_length x.slots slot None ∙ fits.width;

@@ -1,9 +1,12 @@
 -- The codes of what a core keeps, by which proofs tell its values apart: each record is stored as its fields, and each
 -- value of an enum as the case that it is of and what it holds.
-use Rattle.std.specs.Prelude.{◌≡◌, ℕ, Bool, true, false, Option, None, Some, List, refl}
+use Rattle.std.specs.Prelude.{◌≡◌, ℕ, zero, suc, Bool, true, false, Option, None, Some, List, refl}
 use Rattle.std.specs.Coded.{Coded, code_by, coded×, coded_ℕ, coded_bool, coded_list, coded_option}
 use Rattle.pp_settings.specs.declared.extent.Extent.{Extent}
 use Rattle.pp_settings.specs.Layout.{Geometry}
+use Rattle.pp_plan.specs.declared.mode.Mode.TheVariants as mode
+use Rattle.pp_plan.specs.declared.action.Ask.{Ask}
+use Rattle.pp_plan.specs.declared.action.Ask.TheVariants as ask
 use Rattle.pp_plan.specs.declared.cursor.Entry.{Entry}
 use Rattle.pp_plan.specs.Left.{Place}
 use Rattle.pp_cert.specs.declared.note.Held.{Held}
@@ -41,6 +44,45 @@ abbrev coded_place : Coded Place
 coded_place =
     code_by (List Entry × ℕ) (coded× (coded_list coded_entry) coded_ℕ) (λ p. (p.entries, p.index))
     (λ p. record { entries = p.0; index = p.1 }) (λ _. refl)
+
+-- Nothing for the end; else which pair of kinds it is of, its slot or number, and what else it has.
+abbrev AskParts : Type 0
+AskParts = Option (Option Bool × (ℕ × Option ℕ))
+
+abbrev ask_to : Ask → AskParts
+ask_to (ask.Fix slot region) = Some (None, (slot, Some region))
+ask_to (ask.Unfix slot) = Some (None, (slot, None))
+ask_to (ask.Latch slot mode.S) = Some (Some false, (slot, Some 0))
+ask_to (ask.Latch slot mode.X) = Some (Some false, (slot, Some 1))
+ask_to (ask.Unlatch slot) = Some (Some false, (slot, None))
+ask_to (ask.Choose branches) = Some (Some true, (branches, None))
+ask_to ask.End = None
+
+abbrev action_from : Option Bool → ℕ → Option ℕ → Ask
+action_from None slot (Some region) = ask.Fix slot region
+action_from None slot None = ask.Unfix slot
+action_from (Some false) slot (Some zero) = ask.Latch slot mode.S
+action_from (Some false) slot (Some (suc n)) = ask.Latch slot mode.X
+action_from (Some false) slot None = ask.Unlatch slot
+action_from (Some true) branches rest = ask.Choose branches
+
+abbrev ask_from : AskParts → Ask
+ask_from None = ask.End
+ask_from (Some p) = action_from p.0 p.1.0 p.1.1
+
+pub ask_back : (a : Ask) → ask_from (ask_to a) ≡ a
+ask_back (ask.Fix slot region) = refl
+ask_back (ask.Unfix slot) = refl
+ask_back (ask.Latch slot mode.S) = refl
+ask_back (ask.Latch slot mode.X) = refl
+ask_back (ask.Unlatch slot) = refl
+ask_back (ask.Choose branches) = refl
+ask_back ask.End = refl
+
+abbrev coded_ask : Coded Ask
+coded_ask =
+    code_by AskParts (coded_option (coded× (coded_option coded_bool) (coded× coded_ℕ (coded_option coded_ℕ)))) ask_to
+    ask_from ask_back
 
 abbrev held_to : Held → Option Bool
 held_to Free = None
@@ -97,17 +139,18 @@ coded_phase =
 
 abbrev coded_seat : Coded Seat
 coded_seat =
-    code_by (ℕ × (Place × (ℕ × (ℕ × (List (Option Hold) × Phase)))))
-    (coded× coded_ℕ (coded× coded_place (coded× coded_ℕ (coded× coded_ℕ (coded× (coded_list (coded_option coded_hold))
-    coded_phase)))))
-    (λ x. (x.plan, (x.cursor, (x.actions, (x.holds, (x.slots, x.phase))))))
+    code_by (ℕ × (Place × (Ask × (ℕ × (ℕ × (List (Option Hold) × Phase))))))
+    (coded× coded_ℕ (coded× coded_place (coded× coded_ask (coded× coded_ℕ (coded× coded_ℕ
+    (coded× (coded_list (coded_option coded_hold)) coded_phase))))))
+    (λ x. (x.plan, (x.cursor, (x.ask, (x.actions, (x.holds, (x.slots, x.phase)))))))
     (λ p. record {
       plan = p.0;
       cursor = p.1.0;
-      actions = p.1.1.0;
-      holds = p.1.1.1.0;
-      slots = p.1.1.1.1.0;
-      phase = p.1.1.1.1.1;
+      ask = p.1.1.0;
+      actions = p.1.1.1.0;
+      holds = p.1.1.1.1.0;
+      slots = p.1.1.1.1.1.0;
+      phase = p.1.1.1.1.1.1;
     }) (λ _. refl)
 
 -- ---- pages

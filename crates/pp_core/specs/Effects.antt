@@ -3,7 +3,6 @@ use Rattle.std.specs.Prelude.{◌≡◌, ℕ, ◌+◌, ◌-◌, ◌<◌, ◌≤�
 use Rattle.std.specs.Prelude.{unwrap_or, length, slice_get, slice_set}
 use Rattle.pp_plan.specs.declared.action.Action.{Action}
 use Rattle.pp_plan.specs.declared.action.Action.TheVariants as action
-use Rattle.pp_plan.specs.Cursor.{IsCursorOf}
 use Rattle.pp_cert.specs.declared.note.Held.{Held}
 use Rattle.pp_cert.specs.declared.note.Held.TheVariants.{Free, S, X}
 use Rattle.pp_cert.specs.Accepted.{Acceptance}
@@ -46,13 +45,6 @@ IsIn f w x = slice_get f.seats w ≡ Some (Some x)
 pub record Runs (f : Parts) (w : ℕ) (x : Seat) (a : Acceptance) : Type 0 where
   pub is_in : IsIn f w x
   pub plan : slice_get f.plans x.plan ≡ Some a
-
--- Worker w follows its plan.
-pub record IsFollowing (f : Parts) (w : ℕ) : Type 0 where
-  pub seat : Seat
-  pub accepted : Acceptance
-  pub runs : Runs f w seat accepted
-  pub cursor : IsCursorOf accepted.plan seat.cursor
 
 -- Worker w can do the action.
 pub record CanAct (f : Parts) (w : ℕ) (a : Action) : Type 0 where

@@ -4,6 +4,7 @@ use Rattle.pp_plan.specs.declared.action.Action.{Action}
 use Rattle.pp_plan.specs.declared.action.Action.TheVariants.{Fix, Unfix, Latch, Unlatch, Choose}
 use Rattle.pp_plan.specs.Terms.{Terms}
 use Rattle.pp_plan.specs.PlanTraces.{PlanAsks}
+use Rattle.pp_plan.specs.Asked.{asked}
 use Rattle.pp_plan.specs.Cursor.{StandsFor, IsCursorOf}
 use Rattle.pp_core.specs.declared.seat.Seat.{Seat}
 use Rattle.pp_core.specs.declared.seat.Phase.TheVariants.{Acting}
@@ -13,6 +14,7 @@ use Rattle.pp_core.specs.Slots.{slots_after, count_after}
 pub record IsBegun (plan : Terms) (k : ℕ) (x : Seat) : Type 0 where
   pub number : x.plan ≡ k
   pub cursor : StandsFor plan x.cursor []
+  pub ask : x.ask ≡ asked plan []
   pub actions : x.actions ≡ 0
   pub holds : x.holds ≡ 0
   pub slots : x.slots ≡ replicate 32 None
@@ -47,6 +49,7 @@ counted a x =
 pub record Did (plan : Terms) (x y : Seat) (a : Action) : Type 0 where
   pub number : y.plan ≡ x.plan
   pub cursor : (before : List Action) → StandsFor plan x.cursor before → StandsFor plan y.cursor (before ++ a ∷ [])
+  pub ask : (before : List Action) → StandsFor plan x.cursor before → y.ask ≡ asked plan (before ++ a ∷ [])
   pub actions : y.actions ≡ x.actions + 1
   pub holds : y.holds ≡ count_after a x.holds
   pub slots : y.slots ≡ slots_after a x.slots

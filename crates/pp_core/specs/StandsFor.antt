@@ -38,6 +38,8 @@ pub record FitsRunning (plans : List Acceptance) (x : Seat) (r : Running) : Type
   pub plan : slice_get plans r.number ≡ Some r.accepted
   -- the cursor stands for the actions that the worker has done, also while it leaves its plan
   pub cursor : cursor.StandsFor r.accepted.plan x.cursor r.done
+  -- what the plan asks after them
+  pub ask : x.ask ≡ asked_by r
   pub actions : x.actions ≡ length r.done
   pub holds : x.holds ≡ length (holdings r)
   -- a slot holds what the worker holds in it

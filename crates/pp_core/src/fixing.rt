@@ -96,6 +96,7 @@ impl Table {
     }
 
     /// The page is cached: it is fixed at once.
+    #[inline(always)]
     fn hit(&mut self, worker: u32, slot: u8, page: u32) -> Reply
         requires { CanHit (parts_of self.old) worker slot page }
         ensures spent { Spent (parts_of self.old) (parts_of self.new) worker (Action.Fix slot page)

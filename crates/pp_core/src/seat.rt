@@ -2,13 +2,14 @@
 
 ghost use Rattle.std.specs.Prelude.{◌≡◌, ◌<◌, ◌≤◌, ◌+◌, ◌-◌, ◌^◌, IfSome, Some, None, List, [], ◌∷◌, ◌++◌, length, slice_set};
 ghost use Rattle.pp_plan.specs.Cursor.{StandsFor};
+ghost use Rattle.pp_plan.specs.Asked.{asked};
 ghost use Rattle.pp_plan.specs.declared.action.Action.{Action};
 ghost use Rattle.pp_cert.specs.declared.note.Held.TheVariants.{Free};
 ghost use Rattle.pp_core.specs.Slots.{held_as, first_filled};
 ghost use Rattle.pp_core.specs.Seats.{IsBegun, FitsSlots, CanDo, Did, counted};
 
 use pp_cert::Held;
-use pp_plan::{Action, Cursor, Plan};
+use pp_plan::{Action, Ask, Cursor, Plan};
 
 /// The most slots that a plan has.
 pub(crate) const MOST_SLOTS: usize = 32;
@@ -40,6 +41,8 @@ pub struct Seat {
     pub(crate) plan: u32,
     /// Where the worker is in the plan, as long as it follows it.
     pub(crate) cursor: Cursor,
+    /// What the plan asks there.
+    pub(crate) ask: Ask,
     /// How many of the plan's actions were done.
     pub(crate) actions: u32,
     /// How many slots hold a page.
@@ -55,9 +58,12 @@ impl Seat {
     pub(crate) fn new(number: u32, plan: &Plan) -> Seat
         ensures { IsBegun plan.now number result }
     {
+        let cursor = Cursor::new(plan);
+        let ask = cursor.ask(plan);
         Seat {
             plan: number,
-            cursor: Cursor::new(plan),
+            cursor,
+            ask,
             actions: 0,
             holds: 0,
             slots: [None; MOST_SLOTS],
@@ -79,12 +85,11 @@ impl Seat {
         requires { CanDo plan.now self.old action }
         ensures cursor { (before : List Action) → StandsFor plan.now self.old.cursor before →
             StandsFor plan.now self.new.cursor (before ++ action ∷ []) }
-        ensures rest { self.new ≡ record self.old { cursor = self.new.cursor } }
+        ensures ask { (before : List Action) → StandsFor plan.now self.old.cursor before →
+            self.new.ask ≡ asked plan.now (before ++ action ∷ []) }
+        ensures rest { self.new ≡ record self.old { cursor = self.new.cursor; ask = self.new.ask } }
     {
-        match self.cursor.follow(plan, action) {
-            Ok(()) => {}
-            Err(_) => unreachable!(),
-        }
+        self.ask = self.cursor.pass(plan, action);
     }
 
     /// The action is counted, and its slot is filled, emptied or held in another way.

@@ -2,10 +2,6 @@
 
 ghost use Rattle.std.specs.Prelude.{◌≡◌, ◌<◌, ◌≤◌, ◌+◌, ◌-◌, ◌^◌, ℕ, IfOk, IfErr, IfSome, Some, None, List, length};
 ghost use Rattle.std.specs.Prelude.{slice_get, vec_capacity};
-ghost use Rattle.pp_plan.specs.declared.action.Action.{Action};
-ghost use Rattle.pp_plan.specs.Asked.{asked};
-ghost use Rattle.pp_plan.specs.Cursor.{StandsFor};
-ghost use Rattle.pp_cert.specs.Accepted.{Acceptance};
 ghost use Rattle.pp_frames.specs.Marks.{IsFree, frame_of, pins_of, all_pins, latch_count, latches_of};
 ghost use Rattle.pp_core.specs.declared.seat.Seat.{Seat};
 ghost use Rattle.pp_core.specs.Slots.{hold_at};
@@ -66,7 +62,7 @@ pub struct Table {
 
 impl Table {
     ghost use Rattle.pp_core.specs.Parts.{parts_of};
-    ghost use Rattle.pp_core.specs.Effects.{phase_of, IsIn, Runs, IsFollowing, CanAct, Acted, with_seat, at_phase};
+    ghost use Rattle.pp_core.specs.Effects.{phase_of, IsIn, CanAct, Acted, with_seat, at_phase};
     ghost use Rattle.pp_core.specs.Effects.{frame_at, mark_at, placed, displaced, released, IsLatched};
 
     // ---- one worker
@@ -82,17 +78,13 @@ impl Table {
         }
     }
 
-    /// What the plan of a worker that follows it asks.
+    /// What the plan of a worker in it asks.
     pub(crate) fn next_ask(&self, worker: u32) -> Ask
-        requires { IsFollowing (parts_of self.now) worker }
-        ensures { (x : Seat) (a : Acceptance) (before : List Action) → Runs (parts_of self.now) worker x a →
-            StandsFor a.plan x.cursor before → result ≡ asked a.plan before }
+        requires { (x : Seat) × IsIn (parts_of self.now) worker x }
+        ensures { (x : Seat) → IsIn (parts_of self.now) worker x → result ≡ x.ask }
     {
         match self.seats.get(worker as usize) {
-            Some(Some(seat)) => {
-                let plan = self.plans[seat.plan as usize].plan();
-                seat.cursor.ask(plan)
-            }
+            Some(Some(seat)) => seat.ask,
             _ => unreachable!(),
         }
     }
@@ -109,6 +101,7 @@ impl Table {
     }
 
     /// The worker does an action that its plan asks.
+    #[inline(always)]
     pub(crate) fn act(&mut self, worker: u32, action: Action)
         requires { CanAct (parts_of self.old) worker action }
         ensures acted { Acted (parts_of self.old) (parts_of self.new) worker action }
@@ -176,6 +169,7 @@ impl Table {
     }
 
     /// A latch of this kind goes off the page. Where that was X, the page was changed.
+    #[inline(always)]
     pub(crate) fn release(&mut self, held: Held, page: u32)
         requires { IsLatched held self.old.marks page }
         ensures { parts_of self.new ≡ record (parts_of self.old) { marks = released held self.old.marks page } }

@@ -43,6 +43,7 @@ pub(crate) fn latch_mode(mode: Mode) -> LatchMode
 
 impl Table {
     /// What the plan of a worker that acts asks; or why it doesn't act.
+    #[inline(always)]
     pub(crate) fn asked(&self, worker: u32) -> Result<Ask, Cause>
         requires { IsKept (parts_of self.now) }
         ensures asks { IfOk result (Asks (parts_of self.now) worker) }

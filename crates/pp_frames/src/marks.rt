@@ -121,6 +121,7 @@ impl Marks {
     }
 
     /// Gives the page these marks, in the frame that it is in.
+    #[inline(always)]
     fn write(&mut self, page: u32, to: Page)
         requires page { page < page_count self.old }
         requires fits { Fits self.old page (marks_at to) }

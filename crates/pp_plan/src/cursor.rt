@@ -146,6 +146,7 @@ impl Cursor {
     }
 
     /// Goes to where the next action is made, or to the end, and tells what is asked there.
+    #[inline(always)]
     fn settle(&mut self, plan: &Plan) -> Ask
         requires { IsPath plan.now.body self.old.entries }
         ensures at { IsAt plan.now.body self.new }
