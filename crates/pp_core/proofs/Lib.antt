@@ -14,7 +14,7 @@ mod FlushMoves
 mod LeaveMoves
 mod TakeMoves
 mod UnwindMoves
-mod Standing
+pub mod Standing
 mod OpeningTies
 mod SubmitTies
 mod RunTies
