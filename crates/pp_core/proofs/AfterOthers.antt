@@ -21,7 +21,7 @@ use Rattle.pp_model.specs.declared.refusals.SubmitError.{SubmitError}
 use Rattle.pp_model.specs.declared.reply.Ending.{Ending}
 use Rattle.pp_model.specs.declared.reply.Ending.TheVariants as ending
 use Rattle.pp_model.specs.declared.reply.Reply.TheVariants as reply
-use Rattle.pp_model.specs.Pool.{Flush, reading, writing, Running, Note, State, untouched, note_of, frame_of, known_mark}
+use Rattle.pp_model.specs.Pool.{reading, writing, Running, Note, Flush, State, untouched, note_of, frame_of, known_mark}
 use Rattle.pp_model.specs.Pool.{mark_at}
 use Rattle.pp_model.specs.Holders.{holdings, is_shared, is_exclusive, page_in, held_in, writers_of}
 use Rattle.pp_model.specs.Outcome.{Outcome, with_note, with_frame, with_dirty, with_mark, with_lists, released}
@@ -118,7 +118,7 @@ module _ (s : State) (h : IsReached s) where
         leaves = λ r given at empty e. (ending.Gone, refl, leaving_at s w r given at);
       })
   done_found (move.FlushBegin page) =
-      of_flush s _ (not_done (Found s (move.FlushBegin page))) page (λ none e. ap page_of none)
+      of_flush s _ (not_done (Found s (move.FlushBegin page))) page (λ can e. ap page_of can.none)
   done_found (move.FlushDone ok) =
       of_flushed s _ (not_done (Found s (move.FlushDone ok))) ok (record {
         cleans = λ f is e. (f.page, ap page_of is);
@@ -211,7 +211,7 @@ module _ (s : State) where
   other_workers_stay (move.Unwind w slot) v apart = unwind_stays s w v apart slot
   other_workers_stay (move.Finish w) v apart = finish_stays s w v apart
   other_workers_stay (move.FlushBegin page) v apart =
-      of_flush s (Stays s v) (flush_refused v) page (λ none. stays_by s _ v refl)
+      of_flush s (Stays s v) (flush_refused v) page (λ can. stays_by s _ v refl)
   other_workers_stay (move.FlushDone ok) v apart =
       of_flushed s (Stays s v) (flush_refused v) ok
       (record { cleans = λ f is. stays_by s _ v refl; drops = λ f is. stays_by s _ v refl })
@@ -268,7 +268,7 @@ two_slots f (z ∷ hs) k l x y ne a b =
     go false false e g a b all = omega (arith, sum_by-cons f z hs, all a b)
 
 -- A latched page counts once for its slot.
-counts_once : (is : Held → Bool) (page : ℕ) (x : Holding) → x.page ≡ page → is x.held ≡ true
+pub counts_once : (is : Held → Bool) (page : ℕ) (x : Holding) → x.page ≡ page → is x.held ≡ true
     → latched_on is page x ≡ 1
 counts_once is page x on latched = ap (λ b. cond b (on_page page x) 0) latched ∙ on_page_once page x on
 
@@ -462,7 +462,7 @@ module _ (s : State) (h : IsReached s) (q : ℕ) where
       (record { ends = λ r asking. stays refl; leaves = λ r given at empty. stays refl })
   mark_way (move.FlushBegin page) =
       of_flush s (Deals (move.FlushBegin page)) (refusals_leave (move.FlushBegin page)) page
-      (λ none. stays refl)
+      (λ can. stays refl)
   mark_way (move.FlushDone ok) =
       of_flushed s (Deals (move.FlushDone ok)) (refusals_leave (move.FlushDone ok)) ok
       (record { cleans = λ f is. stays (cleaned (flush_over s) f.page false q); drops = λ f is. stays refl })

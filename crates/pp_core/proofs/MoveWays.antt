@@ -1,7 +1,7 @@
 -- What holds of each refusal and of each way in which a move is done holds of what the move comes to.
 use Rattle.std.proofs.Common.{◌≡◌, ◌<◌, ℕ, Bool, true, false, cond, Option, Some, None, List, [], ◌∷◌, refl, sym, subst}
 use Rattle.std.proofs.Common.{ap, arith}
-use Rattle.std.specs.Prelude.{slice_get, nat_lt, not, ◌==◌, ◌||◌}
+use Rattle.std.specs.Prelude.{slice_get, nat_lt, not, ◌==◌, ◌||◌, ◌&&◌}
 use Rattle.std.proofs.lemmas.Bool.Decides.{nat_tests}
 use Rattle.pp_plan.specs.declared.mode.Mode.{Mode}
 use Rattle.pp_plan.specs.declared.action.Action.{Action}
@@ -15,8 +15,9 @@ use Rattle.pp_cert.specs.Accepted.{Acceptance}
 use Rattle.pp_cert.specs.Held.{Holding, Holdings, holding_at}
 use Rattle.pp_arc.specs.declared.answer.Answer.{Answer}
 use Rattle.pp_arc.specs.declared.answer.Answer.TheVariants as answer
-use Rattle.pp_arc.specs.FourLists.{FourLists}
+use Rattle.pp_arc.specs.FourLists.{FourLists, is_cached}
 use Rattle.pp_arc.specs.Figure.{request}
+use Rattle.pp_frames.specs.Marks.{is_exclusive}
 use Rattle.pp_model.specs.declared.moves.Move.TheVariants as move
 use Rattle.pp_model.specs.declared.moves.Came.{Came}
 use Rattle.pp_model.specs.declared.moves.Came.TheVariants.{Fault, Image}
@@ -26,7 +27,7 @@ use Rattle.pp_model.specs.declared.reply.Failure.TheVariants.{ReadFault, Misread
 use Rattle.pp_model.specs.declared.reply.Failure.{Failure}
 use Rattle.pp_model.specs.declared.reply.Ending.TheVariants.{Done, Gone}
 use Rattle.pp_model.specs.Pool.{Stage, acting, writing, reading, leaving, Running, Flush, State, is_dirty, known_mark}
-use Rattle.pp_model.specs.Holders.{holdings, is_in_flight, is_busy, page_in}
+use Rattle.pp_model.specs.Holders.{holdings, is_in_flight, is_busy, latches_of, page_in}
 use Rattle.pp_model.specs.Outcome.{Outcome, not_now, off_plan, with_lists}
 use Rattle.pp_model.specs.Taking.{has_room, take_where, take_by}
 use Rattle.pp_model.specs.Fixing.{fix_slot, evict_where, fix_by, fix_where, fix_asked}
@@ -38,7 +39,7 @@ use Rattle.pp_model.specs.Leaving.{unwind_where, unwind_in, unwind_by, ended, fi
 use Rattle.pp_model.specs.Leaving.{finish_in, finish_by}
 use Rattle.pp_model.specs.Flushing.{flush_where, flush_by, is_clean, flushed_where, flushed_by}
 use Rattle.pp_model.specs.Moves.{asked_by, act_in, act_by, seat_of, outcome_of}
-use Rattle.pp_model.proofs.Changes.{IsAt, IsAsked, IsAnswered}
+use Rattle.pp_model.proofs.Changes.{IsAt, IsAsked, IsAnswered, CanFlush}
 
 -- It holds of all refusals.
 pub record OfRefusals (s : State) (P : Outcome → Type 0) : Type 0 where
@@ -354,18 +355,20 @@ module _ (s : State) (P : Outcome → Type 0) (refused : OfRefusals s P) where
 
   -- ---- the flusher
 
-  flush_tests : (page : ℕ) (a b c : Bool) → P (flush_where s page true true false) → P (flush_where s page a b c)
-  flush_tests page false b c p = refused.fault _
-  flush_tests page true false c p = refused.fault _
-  flush_tests page true true true p = refused.delay _
-  flush_tests page true true false p = p
+  flush_tests : (page : ℕ) (a b c : Bool) → s.flush ≡ None → (is_cached s.lists page && is_dirty s page) ≡ a
+      → nat_lt 0 s.flushes_left ≡ b → is_exclusive (latches_of s page) ≡ c
+      → (CanFlush s page → P (flush_where s page true true false)) → P (flush_where s page a b c)
+  flush_tests page false b c n e f g p = refused.fault _
+  flush_tests page true false c n e f g p = refused.fault _
+  flush_tests page true true true n e f g p = refused.delay _
+  flush_tests page true true false n e f g p = p (record { none = n; changed = e; some = f; unwritten = g })
 
-  flush_cases : (page : ℕ) (o : Option Flush) → s.flush ≡ o → (s.flush ≡ None → P (flush_where s page true true false))
-      → P (flush_by s page o)
+  flush_cases : (page : ℕ) (o : Option Flush) → s.flush ≡ o
+      → (CanFlush s page → P (flush_where s page true true false)) → P (flush_by s page o)
   flush_cases page (Some f) e p = refused.delay _
-  flush_cases page None e p = flush_tests page _ _ _ (p e)
+  flush_cases page None e p = flush_tests page _ _ _ e refl refl refl p
 
-  pub of_flush : (page : ℕ) → (s.flush ≡ None → P (flush_where s page true true false))
+  pub of_flush : (page : ℕ) → (CanFlush s page → P (flush_where s page true true false))
       → P (outcome_of s (move.FlushBegin page))
   of_flush page p = flush_cases page s.flush refl p
 

@@ -15,7 +15,7 @@ use Rattle.pp_model.specs.declared.reply.Ending.TheVariants as ending
 use Rattle.pp_model.specs.declared.reply.Failure.{Failure}
 use Rattle.pp_model.specs.declared.reply.Reply.{Reply}
 use Rattle.pp_model.specs.declared.reply.Reply.TheVariants as reply
-use Rattle.pp_model.specs.Pool.{State, known_mark, mark_at}
+use Rattle.pp_model.specs.Pool.{State, known_mark}
 use Rattle.pp_model.specs.Moves.{reply_of, next_of, is_refusal}
 use Rattle.pp_model.specs.Submitting.{after_submit}
 use Rattle.pp_model.specs.Laws.{RefusedLeaves}
@@ -230,15 +230,17 @@ FinishIdles s =
 
 -- ---- the flusher
 
--- The page is being flushed, and this is its mark (0 where none is known).
-pub record IsFlushing (t : State) (page mark : ℕ) : Type 0 where
+-- The page is being flushed, and this is its mark. As the flush began no worker loaded the page, and no slot held it X.
+pub record IsFlushing (s t : State) (page mark : ℕ) : Type 0 where
   pub flushed : flushed_page t ≡ Some page
-  pub marked : mark_at t page ≡ mark
+  pub marked : known_mark t page ≡ Some mark
+  pub unloaded : (w slot : ℕ) (victim : Option ℕ) → errand_of s w ≢ Some (slot, page, victim)
+  pub unwritten : (w slot : ℕ) → held_of s w slot ≢ Some (page, X)
 
 abbrev pub FlushBegins : State → Type 0
 FlushBegins s =
     (page mark : ℕ) → reply_of s (move.FlushBegin page) ≡ reply.Flushing mark
-    → IsFlushing (next_of s (move.FlushBegin page)) page mark
+    → IsFlushing s (next_of s (move.FlushBegin page)) page mark
 
 abbrev pub FlushEnds : State → Type 0
 FlushEnds s =

@@ -838,3 +838,12 @@ free_frame_of s h few = has_free s (kept s h).0 (omega (arith, few, (sound s h).
 pub some_free : (s : State) → IsReached s → cached_count s.lists < s.lists.c
     → map.least_free (marks s) ≡ Some (free_frame s)
 some_free s h few = (free_frame_of s h few).is
+
+-- A page that is cached and newer than the device's isn't being loaded.
+pub changed_unloaded : (s : State) → IsReached s → (q : ℕ) → is_dirty s q ≡ true → is_cached s.lists q ≡ true
+    → loads_of s q ≡ 0
+changed_unloaded s h q dirty here =
+    elim ((kept s h).1 q dirty) [
+      | inl a ↦ a.1
+      | inr b ↦ absurd (false≢true (sym ((sound s h).away q b).0 ∙ here))
+    ]
