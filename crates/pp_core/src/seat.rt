@@ -147,6 +147,7 @@ impl Seat {
             hold.held = held;
         }
     }
+
     /// The place of the least slot that holds a page.
     fn first_place(&self) -> Option<usize>
         ensures is { result ≡ first_filled self.now.slots }
