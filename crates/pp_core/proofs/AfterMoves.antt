@@ -5,6 +5,7 @@ use Rattle.pp_model.proofs.Changes.{refused_by}
 use Rattle.pp_core.specs.AfterMoves.{AfterMoves}
 use Rattle.pp_core.proofs.AfterFixes.{taken_acts, hit_fixes, fix_sends, fix_sends_victim, written_reads, write_fails}
 use Rattle.pp_core.proofs.AfterFixes.{read_loads, read_fails}
+use Rattle.pp_core.proofs.AfterFrames.{hit_frame, fix_frame, fix_victim_frame, written_frame}
 use Rattle.pp_core.proofs.AfterActs.{unfix_empties, latch_holds, unlatch_frees, choose_acts, unwind_empties}
 use Rattle.pp_core.proofs.AfterActs.{finish_idles}
 use Rattle.pp_core.proofs.AfterFlushes.{flush_begins, flush_ends, workers_leave_flush}
@@ -23,6 +24,10 @@ after_moves s h = record {
   not_written = write_fails s h;
   loaded = read_loads s h;
   not_read = read_fails s h;
+  hit_frame = hit_frame s h;
+  sent_frame = fix_frame s h;
+  sent_victim_frame = fix_victim_frame s h;
+  written_frame = written_frame s h;
   unfixed = unfix_empties s h;
   latched = latch_holds s h;
   unlatched = unlatch_frees s h;

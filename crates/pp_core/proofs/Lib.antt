@@ -30,6 +30,7 @@ pub mod AfterOthers
 mod MoveWays
 mod AfterSeats
 mod AfterFixes
+mod AfterFrames
 mod AfterActs
 mod AfterOthers
 mod AfterFlushes

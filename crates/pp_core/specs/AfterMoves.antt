@@ -15,7 +15,7 @@ use Rattle.pp_model.specs.declared.reply.Ending.TheVariants as ending
 use Rattle.pp_model.specs.declared.reply.Failure.{Failure}
 use Rattle.pp_model.specs.declared.reply.Reply.{Reply}
 use Rattle.pp_model.specs.declared.reply.Reply.TheVariants as reply
-use Rattle.pp_model.specs.Pool.{State, known_mark}
+use Rattle.pp_model.specs.Pool.{State, frame_of, known_mark}
 use Rattle.pp_model.specs.Moves.{reply_of, next_of, is_refusal}
 use Rattle.pp_model.specs.Submitting.{after_submit}
 use Rattle.pp_model.specs.Laws.{RefusedLeaves}
@@ -148,6 +148,30 @@ abbrev pub ReadFails : State → Type 0
 ReadFails s =
     (w : ℕ) (came : Came) (failure : Failure) → reply_of s (move.ReadDone w came) ≡ reply.Failed failure
     → HasLost s (next_of s (move.ReadDone w came)) w
+
+-- ---- frames
+
+-- The frame that is told of a fix is the page's.
+abbrev pub HitFrame : State → Type 0
+HitFrame s =
+    (w page frame mark : ℕ) → reply_of s (move.Fix w page) ≡ reply.Hit frame mark
+    → frame_of (next_of s (move.Fix w page)) page ≡ Some frame
+
+abbrev pub FixFrame : State → Type 0
+FixFrame s =
+    (w page frame : ℕ) → reply_of s (move.Fix w page) ≡ reply.MustRead frame
+    → frame_of (next_of s (move.Fix w page)) page ≡ Some frame
+
+abbrev pub FixVictimFrame : State → Type 0
+FixVictimFrame s =
+    (w page frame victim : ℕ) → reply_of s (move.Fix w page) ≡ reply.MustWrite frame victim
+    → frame_of (next_of s (move.Fix w page)) page ≡ Some frame
+
+abbrev pub WrittenFrame : State → Type 0
+WrittenFrame s =
+    (w : ℕ) (ok : Bool) (slot page victim frame : ℕ) → reply_of s (move.WriteDone w ok) ≡ reply.MustRead frame
+    → errand_of s w ≡ Some (slot, page, Some victim)
+    → frame_of (next_of s (move.WriteDone w ok)) page ≡ Some frame
 
 -- ---- Unfix, Latch, Unlatch, Choose
 
@@ -310,6 +334,10 @@ pub record AfterMoves (s : State) : Type 0 where
   pub not_written : WriteFails s
   pub loaded : ReadLoads s
   pub not_read : ReadFails s
+  pub hit_frame : HitFrame s
+  pub sent_frame : FixFrame s
+  pub sent_victim_frame : FixVictimFrame s
+  pub written_frame : WrittenFrame s
   pub unfixed : UnfixEmpties s
   pub latched : LatchHolds s
   pub unlatched : UnlatchFrees s
