@@ -22,11 +22,6 @@ mod QueryTies
 mod TurnTies
 mod DrainTies
 mod DrainRuns
-pub mod MoveWays
-pub mod AfterSeats
-pub mod AfterFixes
-pub mod AfterActs
-pub mod AfterOthers
 mod MoveWays
 mod AfterSeats
 mod AfterFixes
