@@ -1,0 +1,8 @@
+//! Files that keep the pages of a device: the images of all its pages, that of page p at byte p times the bytes of a
+//! page.
+#![tactic(auto)]
+
+mod format;
+pub mod laws;
+
+pub use format::format_onto;
