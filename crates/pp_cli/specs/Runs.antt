@@ -1,9 +1,12 @@
 -- What a whole run of the program may come to. No contract can say what a file holds when it is read, so its contents
 -- are some bytes here.
-use Rattle.std.specs.Prelude.{◌≡◌, ◌⊎◌, ℕ, true, List, [], ◌∷◌, Option, None, Some, ⊤}
+use Rattle.std.specs.Prelude.{◌≡◌, ◌⊎◌, ℕ, true, List, [], ◌∷◌, Option, None, Some, Result, Ok, Err, ⊤}
 use Rattle.std.specs.List.{Contains}
-use Rattle.pp_judge.specs.Answers.{Answer, certification_answer, judgement_answer, shown, misused, status_of, unread}
-use Rattle.pp_judge.specs.Answers.{out_of_memory}
+use Rattle.pp_judge.specs.declared.device.DeviceSize.{DeviceSize}
+use Rattle.pp_judge.specs.declared.error.JudgeError.{JudgeError}
+use Rattle.pp_judge.specs.Judgement.{device_size_in}
+use Rattle.pp_judge.specs.Answers.{Answer, certification_answer, judgement_answer, refused, shown, misused, status_of}
+use Rattle.pp_judge.specs.Answers.{formatted, out_of_memory, unread, unwritten}
 use Rattle.pp_words.specs.CommandLine.{Asked, Text, asked}
 use Rattle.pp_words.specs.Faults.{IsMistaken, asks_for_help}
 use Rattle.pp_words.specs.Texts.{is_ended}
@@ -22,6 +25,19 @@ IsStopped paths (unread path) = Contains paths path
 IsStopped paths out_of_memory = ⊤
 IsStopped paths _ = ⊥
 
+-- what writing a device may come to: it is done, the file can't be written, or memory ran out
+abbrev pub ComesOfWriting : (device : Text) → DeviceSize → Answer → Type 0
+ComesOfWriting device size (formatted pages) = pages ≡ size.pages
+ComesOfWriting device size (unwritten path) = path ≡ device
+ComesOfWriting device size out_of_memory = ⊤
+ComesOfWriting device size _ = ⊥
+
+-- what `format` may come to with settings of this size, or that are refused; only where they aren't, the device is
+-- written
+abbrev pub ComesOfFormat : (device : Text) → Result DeviceSize JudgeError → Answer → Type 0
+ComesOfFormat device (Ok size) answer = ComesOfWriting device size answer
+ComesOfFormat device (Err refusal) answer = answer ≡ refused refusal
+
 -- what a command may come to: a file of it can't be read, or it is what some bytes come to as the contents of its
 -- files, one string of bytes for each path, in the order of the words
 abbrev pub ComesOf : Asked → Answer → Type 0
@@ -29,6 +45,8 @@ ComesOf (Asked.check settings plan certificate) answer = IsStopped (settings ∷
     ⊎ ((s p c : List ℕ) × (answer ≡ judgement_answer s p c))
 ComesOf (Asked.annotate settings plan) answer = IsStopped (settings ∷ plan ∷ []) answer
     ⊎ ((s p : List ℕ) × (answer ≡ certification_answer s p))
+ComesOf (Asked.format settings device) answer = IsStopped (settings ∷ []) answer
+    ⊎ ((s : List ℕ) × ComesOfFormat device (device_size_in s) answer)
 
 -- what words may come to that ask for no command: the help or the version where they ask for that, a bad command line
 -- where there is a mistake in them; the text ends with a line feed

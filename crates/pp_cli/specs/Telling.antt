@@ -1,5 +1,5 @@
 -- How an answer is told on two writers.
-use Rattle.std.specs.Prelude.{◌≡◌, ◌⊎◌, ℕ, Bool, true, false, List, Option, ⊤}
+use Rattle.std.specs.Prelude.{◌≡◌, ◌⊎◌, ℕ, Bool, true, false, List, Option, codes, ⊤}
 use Rattle.std.specs.Io.KnownBytes.{Appends}
 use Rattle.pp_judge.specs.Answers.{Answer, is_output_of, unwritten, out_of_memory}
 use Rattle.pp_judge.specs.Lines.{text_of}
@@ -14,7 +14,7 @@ IsPlaced bytes_of false text out out-after err err-after = out-after ≡ out
 
 -- standard output can't be written, by its own word for want of memory or for another fault
 abbrev pub IsFaultOfWriting : Answer → Type 0
-IsFaultOfWriting unwritten = ⊤
+IsFaultOfWriting (unwritten path) = path ≡ codes "-"
 IsFaultOfWriting out_of_memory = ⊤
 IsFaultOfWriting _ = ⊥
 

@@ -1,14 +1,20 @@
-//! Reading the files that a job names, and what the job comes to.
+//! Reading and writing the files that a job names, and what the job comes to.
 
-ghost use Rattle.std.specs.Prelude.{◌∷◌, [], IfErr, MatchResult};
-ghost use Rattle.pp_judge.specs.Answers.{seen};
-ghost use Rattle.pp_words.specs.CommandLine.{asked_annotate, asked_by, asked_check};
-ghost use Rattle.pp_cli.specs.Runs.{ComesOf, IsStopped, stopped_by};
+ghost use Rattle.std.specs.Prelude.{◌≡◌, ◌≤◌, ◌∷◌, [], IfErr, MatchResult};
+ghost use Rattle.std.specs.Io.KnownBytes.{Appends};
+ghost use Rattle.pp_format.specs.DeviceFile.{blank_file};
+ghost use Rattle.pp_judge.specs.Answers.{formatted, seen};
+ghost use Rattle.pp_words.specs.CommandLine.{asked_annotate, asked_by, asked_check, asked_format};
+ghost use Rattle.pp_cli.specs.Runs.{ComesOf, ComesOfWriting, IsStopped, stopped_by};
 
-use pp_judge::{AnnotateFiles, CheckFiles, Contents, Outcome, outcome_of};
-use pp_words::{AnnotatePaths, CheckPaths, Job};
+use crate::fault::fault;
+use pp_device::image::HEAD;
+use pp_format::format_onto;
+use pp_judge::{AnnotateFiles, CheckFiles, Contents, DeviceSize, Outcome, device_size, outcome_of};
+use pp_words::{AnnotatePaths, CheckPaths, FormatPaths, Job};
+use std::alloc::Global;
 use std::fs;
-use std::io::ErrorKind;
+use std::io::{ErrorKind, Write};
 use std::rt::Files;
 
 /// Why the bytes of a job's files aren't there.
@@ -27,6 +33,7 @@ pub fn perform<'a, R: Files + AllocGlobal>(rt: &R, job: Job<'a>) -> Outcome<'a>
     let ended = match job {
         Job::Check(paths) => check(rt, paths),
         Job::Annotate(paths) => annotate(rt, paths),
+        Job::Format(paths) => format(rt, paths),
     };
     match ended {
         Ok(outcome) => outcome,
@@ -69,6 +76,55 @@ fn annotate<'a, R: Files + AllocGlobal>(
         plan: plan.as_slice(),
     };
     Ok(outcome_of(rt.alloc(), Contents::Annotate(files)))
+}
+
+/// What the settings of `format` come to, where they can be read: their refusal, or what writing the device comes to.
+fn format<'a, R: Files + AllocGlobal>(
+    rt: &R,
+    paths: FormatPaths<'a>,
+) -> Result<Outcome<'a>, Unread<'a>>
+    ensures { MatchResult result (λ outcome. ComesOf (asked_format paths.entry) (seen outcome))
+        (λ why. ComesOf (asked_format paths.entry) (stopped_by why)) }
+{
+    let settings = contents(rt, paths.settings)?;
+    match device_size(rt.alloc(), settings.as_slice()) {
+        Ok(size) => Ok(format_device(rt, paths.device, size)),
+        Err(refusal) => Ok(Outcome::from(refusal)),
+    }
+}
+
+/// What writing a device of this size anew comes to. What stood in its file is lost.
+fn format_device<'a, R: Files + AllocGlobal>(
+    rt: &R,
+    device: &'a str,
+    size: DeviceSize,
+) -> Outcome<'a>
+    requires { HEAD ≤ size.page_bytes }
+    ensures { ComesOfWriting device.entry.now size (seen result) }
+{
+    match fs::create(rt, device) {
+        Ok(mut file) => format_opened(rt.alloc(), &mut file, device, size),
+        Err(error) => fault(&error, Outcome::Unwritten(device)),
+    }
+}
+
+/// What writing every page blank to the opened file of the device comes to.
+fn format_opened<'a, W: Write>(
+    alloc: Global,
+    file: &mut W,
+    device: &'a str,
+    size: DeviceSize,
+) -> Outcome<'a>
+    requires { HEAD ≤ size.page_bytes }
+    ensures ended { ComesOfWriting device.entry.now size (seen result) }
+    // It is told as done only where the file has taken exactly the images of all pages.
+    ensures done { seen result ≡ formatted size.pages
+        → Appends (W.contents file.old) (W.contents file.new) (blank_file size.pages size.page_bytes) }
+{
+    match format_onto(alloc, file, size.pages, size.page_bytes as usize) {
+        Ok(()) => Outcome::Formatted(size.pages),
+        Err(error) => fault(&error, Outcome::Unwritten(device)),
+    }
 }
 
 /// The bytes of the file at the path.

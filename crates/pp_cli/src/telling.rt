@@ -38,7 +38,7 @@ pub fn tell<'a, O: Write, E: Write>(outcome: Outcome<'a>, out: &mut O, err: &mut
             outcome,
             is_whole: true,
         },
-        Err(error) => complain(fault(&error, Outcome::Unwritten), err),
+        Err(error) => complain(fault(&error, Outcome::Unwritten("-")), err),
     }
 }
 

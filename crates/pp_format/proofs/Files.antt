@@ -30,10 +30,6 @@ length-blank_image page_bytes page long =
     let zeros : length (replicate page_bytes 0) ≡ page_bytes = length-replicate page_bytes 0 in
     length-with_head (replicate page_bytes 0) page 0 (omega (arith, long, zeros)) ∙ zeros
 
--- A head written over another is the last one.
-pub with_head-again : (image : List ℕ) (page stamp other new : ℕ) → with_head (with_head image page stamp) other new ≡ with_head image other new
-with_head-again image page stamp other new = refl
-
 -- All images together have so many times the bytes of a page.
 pub length-blank_file : (page_bytes pages : ℕ) → 12 ≤ page_bytes → length (blank_file pages page_bytes) ≡ pages * page_bytes
 unfolding blank_file

@@ -1,6 +1,7 @@
 -- What the files come to, from what each of them is.
 use Rattle.std.proofs.Common.{◌≡◌, ℕ, false, List, None, Some, Result, Ok, Err, refl, ap, ◌∙◌}
 use Rattle.pp_settings.specs.Settings.{Configuration, geometry_of}
+use Rattle.pp_settings.specs.Layout.{page_count}
 use Rattle.pp_plan.specs.Terms.{Terms}
 use Rattle.pp_cert.specs.Claims.{Claims}
 use Rattle.pp_cert.specs.Walk.{first_fault, tests}
@@ -11,7 +12,8 @@ use Rattle.pp_annotate.specs.declared.error.AnnotateError.TheVariants.{Fault, Ou
 use Rattle.pp_judge.specs.declared.judgement.Sources.{Sources}
 use Rattle.pp_judge.specs.declared.error.JudgeError.{JudgeError}
 use Rattle.pp_judge.specs.declared.error.JudgeError.TheVariants.{Annotate, Check}
-use Rattle.pp_judge.specs.Judgement.{certification, claims_in, judgement, plan_in, settings_in, sources_in}
+use Rattle.pp_judge.specs.Judgement.{certification, claims_in, device_size_in, judgement, plan_in, settings_in}
+use Rattle.pp_judge.specs.Judgement.{sources_in}
 use Rattle.pp_judge.specs.Judgement.{unless_refused, verdict, written}
 use Rattle.pp_judge.specs.Steps.{is_want_of_memory}
 
@@ -87,3 +89,14 @@ pub not_certified : (settings plan : List ℕ) (r : Sources) (e : AnnotateError)
     → certification settings plan ≡ Err (Annotate e)
 not_certified settings plan r (Fault fault) is made memory = certified settings plan r (Err fault) is made
 not_certified settings plan r OutOfMemory is made memory = cc
+
+-- ---- the size of a device
+
+pub no_size : (settings : List ℕ) (e : JudgeError) → settings_in settings ≡ Err e → device_size_in settings ≡ Err e
+unfolding device_size_in
+no_size settings e refused = rw refused refl
+
+pub sized : (settings : List ℕ) (s : Configuration) → settings_in settings ≡ Ok s
+    → device_size_in settings ≡ Ok (record { pages = page_count (geometry_of s); page_bytes = s.page_bytes })
+unfolding device_size_in
+sized settings s is = rw is refl

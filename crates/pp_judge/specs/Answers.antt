@@ -10,55 +10,59 @@ use Rattle.pp_judge.specs.declared.contents.Contents.TheVariants.{Check, Annotat
 use Rattle.pp_judge.specs.declared.error.JudgeError.{JudgeError}
 use Rattle.pp_judge.specs.declared.outcome.Figures.{Figures}
 use Rattle.pp_judge.specs.declared.outcome.Outcome.{Outcome}
-use Rattle.pp_judge.specs.declared.outcome.Outcome.TheVariants.{Done, Made, Shown, Refused, Misused, Wordless, Unread}
-use Rattle.pp_judge.specs.declared.outcome.Outcome.TheVariants.{Unwritten, OutOfMemory}
+use Rattle.pp_judge.specs.declared.outcome.Outcome.TheVariants.{Done, Made, Formatted, Shown, Refused, Misused}
+use Rattle.pp_judge.specs.declared.outcome.Outcome.TheVariants.{Wordless, Unread, Unwritten, OutOfMemory}
 
 -- what a run comes to; texts are their bytes
 pub data Answer : Type 0 where
   done : Figures → Answer
   made : (text : List ℕ) → Answer
+  formatted : (pages : ℕ) → Answer
   shown : (text : List ℕ) → Answer
   refused : JudgeError → Answer
   misused : (text : List ℕ) → Answer
   wordless : Answer
   unread : (path : List ℕ) → Answer
-  unwritten : Answer
+  unwritten : (path : List ℕ) → Answer
   out_of_memory : Answer
 
 -- an outcome, as it is seen
 abbrev pub seen : Outcome → Answer
 seen (Done figures) = done figures
 seen (Made text) = made (string_bytes text)
+seen (Formatted pages) = formatted pages
 seen (Shown text) = shown (string_bytes text)
 seen (Refused refusal) = refused refusal
 seen (Misused text) = misused (string_bytes text)
 seen Wordless = wordless
 seen (Unread path) = unread path.now
-seen Unwritten = unwritten
+seen (Unwritten path) = unwritten path.now
 seen OutOfMemory = out_of_memory
 
 -- 0 done, 1 refused, 2 a bad command line, 3 a fault of a file, 4 out of memory
 abbrev pub status_of : Answer → ℕ
 status_of (done figures) = 0
 status_of (made text) = 0
+status_of (formatted pages) = 0
 status_of (shown text) = 0
 status_of (refused refusal) = 1
 status_of (misused text) = 2
 status_of wordless = 2
 status_of (unread path) = 3
-status_of unwritten = 3
+status_of (unwritten path) = 3
 status_of out_of_memory = 4
 
 -- what was asked for goes to standard output, complaints to standard error
 abbrev pub is_output_of : Answer → Bool
 is_output_of (done figures) = true
 is_output_of (made text) = true
+is_output_of (formatted pages) = true
 is_output_of (shown text) = true
 is_output_of (refused refusal) = true
 is_output_of (misused text) = false
 is_output_of wordless = false
 is_output_of (unread path) = false
-is_output_of unwritten = false
+is_output_of (unwritten path) = false
 is_output_of out_of_memory = false
 
 -- the peak and the steps of an accepted plan, and the most events that a journal needs for it

@@ -2,6 +2,7 @@
 use Rattle.std.specs.Prelude.{ℕ, if◌then◌else◌, List, Option, None, Some, Result, Ok, Err}
 use Rattle.std.specs.Str.{is_utf8}
 use Rattle.pp_settings.specs.Settings.{Configuration, geometry_of}
+use Rattle.pp_settings.specs.Layout.{page_count}
 use Rattle.pp_settings.specs.Reading.{reading as read_settings}
 use Rattle.pp_settings.specs.declared.error.SettingsError.TheVariants.{NotToml}
 use Rattle.pp_plan.specs.Terms.{Terms}
@@ -17,6 +18,7 @@ use Rattle.pp_cert.specs.declared.check_error.CheckError.{CheckError}
 use Rattle.pp_annotate.specs.Annotation.{annotation}
 use Rattle.pp_annotate.specs.declared.error.AnnotateError.TheVariants.{Fault}
 use Rattle.pp_judge.specs.declared.judgement.Sources.{Sources}
+use Rattle.pp_judge.specs.declared.device.DeviceSize.{DeviceSize}
 use Rattle.pp_judge.specs.declared.error.JudgeError.{JudgeError}
 use Rattle.pp_judge.specs.declared.error.JudgeError.TheVariants.{Settings, Plan, Certificate, Check, Annotate}
 use Rattle.pp_text.specs.Steps.{◌>>=◌}
@@ -70,3 +72,9 @@ unfoldable pub certification : (settings plan : List ℕ) → Result (List ℕ) 
 certification settings plan = do
   r ← sources_in settings plan
   written r (annotation (geometry_of r.settings) r.plan)
+
+-- How large a device is for the settings that the bytes spell: it has every page up to the last one of a region.
+unfoldable pub device_size_in : (settings : List ℕ) → Result DeviceSize JudgeError
+device_size_in settings = do
+  s ← settings_in settings
+  Ok (record { pages = page_count (geometry_of s); page_bytes = s.page_bytes })

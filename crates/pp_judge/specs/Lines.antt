@@ -1,5 +1,5 @@
 -- What the program prints.
-use Rattle.std.specs.Prelude.{ℕ, List, ◌++◌, codes, string_bytes}
+use Rattle.std.specs.Prelude.{ℕ, List, ◌++◌, codes}
 use Rattle.std.specs.Fmt.{decimal}
 use Rattle.pp_text.specs.Refusals.{Row, refusal_text}
 use Rattle.pp_settings.specs.Refusals.{settings_error_row}
@@ -7,8 +7,8 @@ use Rattle.pp_plan.specs.Refusals.{plan_error_row}
 use Rattle.pp_cert.specs.CertErrors.{certificate_error_row}
 use Rattle.pp_cert.specs.CheckErrors.{check_error_row}
 use Rattle.pp_annotate.specs.Refusals.{annotate_error_row}
-use Rattle.pp_judge.specs.Answers.{Answer, done, made, shown, refused, misused, wordless, unread, unwritten}
-use Rattle.pp_judge.specs.Answers.{out_of_memory}
+use Rattle.pp_judge.specs.Answers.{Answer, done, made, formatted, shown, refused, misused, wordless, unread}
+use Rattle.pp_judge.specs.Answers.{unwritten, out_of_memory}
 use Rattle.pp_judge.specs.declared.error.JudgeError.{JudgeError}
 use Rattle.pp_judge.specs.declared.error.JudgeError.TheVariants.{Settings, Plan, Certificate, Check, Annotate}
 use Rattle.pp_judge.specs.declared.outcome.Figures.{Figures}
@@ -34,10 +34,11 @@ figures_line f =
 abbrev pub text_of : Answer → List ℕ
 text_of (done figures) = figures_line figures ++ codes "\n"
 text_of (made text) = text ++ codes "\n"
+text_of (formatted pages) = codes "formatted " ++ decimal pages ++ codes " pages\n"
 text_of (shown text) = text
 text_of (refused refusal) = refusal_line refusal ++ codes "\n"
 text_of (misused text) = text
 text_of wordless = codes "error: the words can't be read\n"
 text_of (unread path) = codes "fault reading " ++ path ++ codes "\n"
-text_of unwritten = codes "fault writing -\n"
+text_of (unwritten path) = codes "fault writing " ++ path ++ codes "\n"
 text_of out_of_memory = codes "out of memory\n"

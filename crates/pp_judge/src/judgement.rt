@@ -72,7 +72,7 @@ fn sources_in(alloc: Global, settings: &[u8], plan: &[u8]) -> Result<Sources, Ju
 }
 
 /// The settings that the bytes spell.
-fn settings_in(alloc: Global, bytes: &[u8]) -> Result<Settings, JudgeError>
+pub fn settings_in(alloc: Global, bytes: &[u8]) -> Result<Settings, JudgeError>
     ensures { Gives is_want_of_memory same result (settings_in bytes.now) }
 {
     let Ok(text) = str::from_utf8(bytes) else {

@@ -2,11 +2,13 @@
 #![tactic(auto)]
 
 mod contents;
+mod device;
 mod error;
 mod judgement;
 mod outcome;
 
 pub use contents::{AnnotateFiles, CheckFiles, Contents, outcome_of};
+pub use device::{DeviceSize, device_size};
 pub use error::JudgeError;
 pub use judgement::{certify, judge};
 pub use outcome::{Figures, Outcome};

@@ -15,6 +15,8 @@ pub enum Outcome<'a> {
     Done(Figures),
     /// The text of the certificate that was made, without a line feed.
     Made(String),
+    /// A device with so many pages is written anew.
+    Formatted(u32),
     /// The help or the version, which ends with a line feed.
     Shown(String),
     /// A file is refused, or the certificate.
@@ -25,8 +27,8 @@ pub enum Outcome<'a> {
     Wordless,
     /// The file at this path can't be read.
     Unread(&'a str),
-    /// Standard output can't be written.
-    Unwritten,
+    /// The file at this path can't be written; `-` is standard output.
+    Unwritten(&'a str),
     /// Memory ran out.
     OutOfMemory,
 }
@@ -71,10 +73,10 @@ impl Outcome<'_> {
         ensures { result ≡ status_of (seen self.now) }
     {
         match self {
-            Outcome::Done(_) | Outcome::Made(_) | Outcome::Shown(_) => 0,
+            Outcome::Done(_) | Outcome::Made(_) | Outcome::Formatted(_) | Outcome::Shown(_) => 0,
             Outcome::Refused(_) => 1,
             Outcome::Misused(_) | Outcome::Wordless => 2,
-            Outcome::Unread(_) | Outcome::Unwritten => 3,
+            Outcome::Unread(_) | Outcome::Unwritten(_) => 3,
             Outcome::OutOfMemory => 4,
         }
     }
@@ -84,11 +86,15 @@ impl Outcome<'_> {
         ensures { result ≡ is_output_of (seen self.now) }
     {
         match self {
-            Outcome::Done(_) | Outcome::Made(_) | Outcome::Shown(_) | Outcome::Refused(_) => true,
+            Outcome::Done(_)
+            | Outcome::Made(_)
+            | Outcome::Formatted(_)
+            | Outcome::Shown(_)
+            | Outcome::Refused(_) => true,
             Outcome::Misused(_)
             | Outcome::Wordless
             | Outcome::Unread(_)
-            | Outcome::Unwritten
+            | Outcome::Unwritten(_)
             | Outcome::OutOfMemory => false,
         }
     }
@@ -102,11 +108,12 @@ impl fmt::Display for Outcome<'_> {
         match self {
             Outcome::Done(figures) => writeln!(f, "{figures}"),
             Outcome::Made(text) => writeln!(f, "{text}"),
+            Outcome::Formatted(pages) => writeln!(f, "formatted {pages} pages"),
             Outcome::Refused(refusal) => writeln!(f, "{refusal}"),
             Outcome::Shown(text) | Outcome::Misused(text) => f.write_str(text.as_str()),
             Outcome::Wordless => f.write_str("error: the words can't be read\n"),
             Outcome::Unread(path) => writeln!(f, "fault reading {path}"),
-            Outcome::Unwritten => f.write_str("fault writing -\n"),
+            Outcome::Unwritten(path) => writeln!(f, "fault writing {path}"),
             Outcome::OutOfMemory => f.write_str("out of memory\n"),
         }
     }

@@ -9,8 +9,9 @@ use Rattle.clap.specs.Faults.{fault_of}
 use Rattle.clap.specs.Kinds.{Kinds}
 use Rattle.pp_words.specs.declared.check.CheckPaths.{CheckPaths}
 use Rattle.pp_words.specs.declared.annotate.AnnotatePaths.{AnnotatePaths}
+use Rattle.pp_words.specs.declared.format.FormatPaths.{FormatPaths}
 use Rattle.pp_words.specs.declared.request.Job.{Job}
-use Rattle.pp_words.specs.declared.request.Job.TheVariants.{Check, Annotate}
+use Rattle.pp_words.specs.declared.request.Job.TheVariants.{Check, Annotate, Format}
 
 -- a path that has to be given, as a word of its own
 abbrev pub path_rule : Text → Rule
@@ -27,6 +28,11 @@ abbrev pub annotate_command : App
 annotate_command =
     with_rule (with_rule (new_app (codes "annotate")) (path_rule (codes "settings"))) (path_rule (codes "plan"))
 
+-- `format SETTINGS DEVICE`
+abbrev pub format_command : App
+format_command =
+    with_rule (with_rule (new_app (codes "format")) (path_rule (codes "settings"))) (path_rule (codes "device"))
+
 -- the program without its commands: it has a version, and wants a command
 abbrev pub program_alone : App
 program_alone = on_top (λ shape. record shape {
@@ -35,14 +41,17 @@ program_alone = on_top (λ shape. record shape {
   arg_required_else_help = true;
 }) (new_app (codes "pinpool"))
 
--- the program with its commands `check` and `annotate`
+-- the program with its commands `check`, `annotate` and `format`
 abbrev pub program : App
-program = with_subcommand (with_subcommand program_alone check_command.top) annotate_command.top
+program =
+    with_subcommand (with_subcommand (with_subcommand program_alone check_command.top) annotate_command.top)
+    format_command.top
 
 -- what words ask for: a command with the paths of its files
 pub data Asked : Type 0 where
   check : (settings plan certificate : Text) → Asked
   annotate : (settings plan : Text) → Asked
+  format : (settings device : Text) → Asked
 
 -- a check of three files
 abbrev pub asked_check : CheckPaths → Asked
@@ -52,10 +61,15 @@ asked_check p = check p.settings.now p.plan.now p.certificate.now
 abbrev pub asked_annotate : AnnotatePaths → Asked
 asked_annotate p = annotate p.settings.now p.plan.now
 
+-- a device written anew under the settings of a file
+abbrev pub asked_format : FormatPaths → Asked
+asked_format p = format p.settings.now p.device.now
+
 -- what a job does
 abbrev pub asked_by : Job → Asked
 asked_by (Check p) = asked_check p
 asked_by (Annotate p) = asked_annotate p
+asked_by (Format p) = asked_format p
 
 -- the first value of an argument; the arguments of the commands are required, so they have one
 abbrev pub value_among : List Row → Text → Text
@@ -70,12 +84,17 @@ check_among rows = check (value_among rows (codes "settings")) (value_among rows
 abbrev pub annotate_among : List Row → Asked
 annotate_among rows = annotate (value_among rows (codes "settings")) (value_among rows (codes "plan"))
 
+-- the values of the two arguments of `format`
+abbrev pub format_among : List Row → Asked
+format_among rows = format (value_among rows (codes "settings")) (value_among rows (codes "device"))
+
 -- what a command of this name with the values of its arguments asks for
 abbrev pub asked_of : Option (Text × List Row) → Option Asked
 asked_of None = None
 asked_of (Some command) =
     if bytes_eq command.0 (codes "check") then Some (check_among command.1)
     else if bytes_eq command.0 (codes "annotate") then Some (annotate_among command.1)
+    else if bytes_eq command.0 (codes "format") then Some (format_among command.1)
     else None
 
 -- what is found, where there is no fault
@@ -100,3 +119,5 @@ pub record PlainWordsAreThePaths : Type 0 where
       → asked (name ∷ codes "check" ∷ settings ∷ plan ∷ certificate ∷ []) ≡ Some (check settings plan certificate)
   pub annotate : (name settings plan : Text) → is_plain_word settings ≡ true → is_plain_word plan ≡ true
       → asked (name ∷ codes "annotate" ∷ settings ∷ plan ∷ []) ≡ Some (annotate settings plan)
+  pub format : (name settings device : Text) → is_plain_word settings ≡ true → is_plain_word device ≡ true
+      → asked (name ∷ codes "format" ∷ settings ∷ device ∷ []) ≡ Some (format settings device)

@@ -3,11 +3,13 @@
 
 mod annotate;
 mod check;
+mod format;
 mod parts;
 mod request;
 mod words;
 
 pub use annotate::AnnotatePaths;
 pub use check::CheckPaths;
+pub use format::FormatPaths;
 pub use request::{Job, JobError};
 pub use words::job;

@@ -5,6 +5,7 @@ ghost use Rattle.pp_words.specs.declared.request.JobError.TheVariants.{OutOfMemo
 
 use crate::annotate::AnnotatePaths;
 use crate::check::CheckPaths;
+use crate::format::FormatPaths;
 use std::alloc::{AllocError, AllocFailed};
 use thiserror::Error;
 
@@ -15,6 +16,8 @@ pub enum Job<'a> {
     Check(CheckPaths<'a>),
     /// Make a plan's certificate: `annotate SETTINGS PLAN`.
     Annotate(AnnotatePaths<'a>),
+    /// Write a device anew: `format SETTINGS DEVICE`.
+    Format(FormatPaths<'a>),
 }
 
 /// Why words give no job.

@@ -8,6 +8,7 @@ ghost use Rattle.pp_words.specs.Texts.{is_ended, with_line_feed, IsSaid};
 
 use crate::annotate::AnnotatePaths;
 use crate::check::CheckPaths;
+use crate::format::FormatPaths;
 use crate::request::{Job, JobError};
 use clap::error::ErrorKind;
 use clap::{ArgMatches, Command};
@@ -49,7 +50,11 @@ fn command<'a>(alloc: Global) -> Result<Command<'a>, AllocError>
 {
     let check = CheckPaths::command(alloc)?;
     let annotate = AnnotatePaths::command(alloc)?;
-    top(alloc)?.subcommand(check)?.subcommand(annotate)
+    let format = FormatPaths::command(alloc)?;
+    top(alloc)?
+        .subcommand(check)?
+        .subcommand(annotate)?
+        .subcommand(format)
 }
 
 /// The program's command line without its commands.
@@ -58,7 +63,9 @@ fn top<'a>(alloc: Global) -> Result<Command<'a>, AllocError>
 {
     let command = Command::new(alloc, "pinpool")
         .version("0.1.0")
-        .about("Makes and checks the certificates of plans for a page buffer pool.")
+        .about(
+            "Makes and checks the certificates of plans for a page buffer pool, and formats devices.",
+        )
         .subcommand_required(true)
         .arg_required_else_help(true);
     // The name stands in the texts of faults and of the help, whatever the file of the program is called.
@@ -73,6 +80,7 @@ fn job_of<'a>(matches: &ArgMatches<'a>) -> Option<Job<'a>>
     match matches.subcommand()? {
         ("check", given) => Some(Job::Check(CheckPaths::among(given))),
         ("annotate", given) => Some(Job::Annotate(AnnotatePaths::among(given))),
+        ("format", given) => Some(Job::Format(FormatPaths::among(given))),
         _ => None,
     }
 }
