@@ -14,7 +14,7 @@ fn words_are_told(rt: HostRuntime) -> Result<(), Fail> {
             For more information, try '--help'.\n",
     );
     run(&rt, &["pinpool", "check", "--", "-a", "-b", "-c"])?.is(&rt, 3, "", "fault reading -a\n");
-    let rows: [(u8, &[&str], &str); 14] = [
+    let rows: [(u8, &[&str], &str); 17] = [
         (0, &["pinpool", "--help"], "Usage: pinpool <COMMAND>"),
         (0, &["pinpool", "-h"], "\n  annotate "),
         (0, &["pinpool", "help"], "\n  check "),
@@ -27,6 +27,11 @@ fn words_are_told(rt: HostRuntime) -> Result<(), Fail> {
             0,
             &["pinpool", "annotate", "--help"],
             "Usage: pinpool annotate <SETTINGS> <PLAN>",
+        ),
+        (
+            0,
+            &["pinpool", "format", "--help"],
+            "Usage: pinpool format <SETTINGS> <DEVICE>",
         ),
         (2, &["pinpool"], "Usage: pinpool <COMMAND>"),
         (2, &["another"], "Usage: pinpool <COMMAND>"),
@@ -45,6 +50,8 @@ fn words_are_told(rt: HostRuntime) -> Result<(), Fail> {
         (2, &["pinpool", "check", "a", "b"], "<CERT>"),
         (2, &["pinpool", "annotate", "a"], "<PLAN>"),
         (2, &["pinpool", "annotate", "a", "b", "c"], "'c'"),
+        (2, &["pinpool", "format", "a"], "<DEVICE>"),
+        (2, &["pinpool", "format", "a", "b", "c"], "'c'"),
     ];
     for (status, words, part) in rows {
         run(&rt, words)?.says(&rt, status, part);
