@@ -1,7 +1,8 @@
 //! The answers to questions.
 
 use crate::row::Question;
-use pp_judge::{AnnotateFiles, CheckFiles, Contents, JudgeError, outcome_of};
+use pp_format::format_onto;
+use pp_judge::{AnnotateFiles, CheckFiles, Contents, JudgeError, Outcome, device_size, outcome_of};
 use pp_plan::{Plan, PlanError};
 use pp_settings::{Settings, SettingsError};
 use std::alloc::Global;
@@ -24,6 +25,7 @@ pub fn answer_to(alloc: Global, question: Question, texts: &[Vec<u8>]) -> anyhow
             let files = AnnotateFiles { settings, plan };
             format!(in alloc; "{}", outcome_of(alloc, Contents::Annotate(files)))?
         }
+        (Question::Format, [settings]) => format_answer(alloc, settings)?,
         _ => anyhow::bail!("the row has too few texts or too many"),
     };
     let line = answer.as_str();
@@ -67,6 +69,25 @@ fn plan_answer(alloc: Global, settings: &[u8], plan: &[u8]) -> anyhow::Result<St
         Ok(plan) => Ok(plan.to_text(alloc, &settings)?),
         Err(error) => Ok(format!(in alloc; "{}", JudgeError::Plan(error))?),
     }
+}
+
+/// What is told of a device that is written anew, and behind it how long its file is and how its last page begins; or
+/// the refusal of the settings.
+fn format_answer(alloc: Global, settings: &[u8]) -> anyhow::Result<String> {
+    let size = match device_size(alloc, settings) {
+        Ok(size) => size,
+        Err(refusal) => return Ok(format!(in alloc; "{refusal}")?),
+    };
+    let page_bytes = size.page_bytes as usize;
+    let mut file = Vec::new(alloc);
+    format_onto(alloc, &mut file, size.pages, page_bytes)?;
+    let told = Outcome::Formatted(size.pages);
+    let bytes = file.len();
+    let mut answer = format!(in alloc; "{told}  {bytes} bytes, the last page begins")?;
+    for byte in file.iter().skip(bytes.saturating_sub(page_bytes)).take(16) {
+        answer.push_str(format!(in alloc; " {byte:02x}")?.as_str())?;
+    }
+    Ok(answer)
 }
 
 /// The answers where the last text is cut after 0, 1, 2 .. bytes, a line for each run of equal answers.

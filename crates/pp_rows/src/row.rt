@@ -15,6 +15,8 @@ pub enum Question {
     Check,
     /// The least certificate of the plan.
     Annotate,
+    /// The file of a device that is written anew under the settings.
+    Format,
 }
 
 /// A question with its texts.
@@ -60,6 +62,7 @@ fn question_of(name: &str) -> anyhow::Result<Question> {
         "plan" => Ok(Question::Plan),
         "check" => Ok(Question::Check),
         "annotate" => Ok(Question::Annotate),
+        "format" => Ok(Question::Format),
         _ => anyhow::bail!("no question is called {name}"),
     }
 }
