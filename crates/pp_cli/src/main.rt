@@ -1,4 +1,4 @@
-//! The program `pinpool`: makes and checks the certificates of plans for a page buffer pool.
+//! The program `pinpool`: makes and checks the certificates of plans for a page buffer pool, and formats devices.
 #![tactic(auto)]
 
 mod fault;

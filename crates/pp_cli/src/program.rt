@@ -45,8 +45,8 @@ pub fn run<R: Files + AllocGlobal, O: Write, E: Write>(
 /// Does what the words ask for, the program's name first, and answers the status.
 ///
 /// 0: done. 1: refused; standard output has the one line `refused N NAME` with what it is about. 2: the words are
-/// no command; the fault is on standard error. 3: a file can't be read, or standard output can't be written;
-/// standard error names it. 4: out of memory.
+/// no command; the fault is on standard error. 3: a file can't be read or written, or standard output can't be
+/// written; standard error names it. 4: out of memory.
 pub fn serve<R: Files + AllocGlobal, S: AsStr, O: Write, E: Write>(
     rt: &R,
     words: &[S],
