@@ -1,15 +1,19 @@
 -- A run by turns, and where it ends.
-use Rattle.std.proofs.Common.{◌≡◌, ◌∙◌, ℕ, ◌+◌, ◌<◌, ◌≤◌, ◌^◌, Bool, true, false, cond, Option, Some, None, List, []}
-use Rattle.std.proofs.Common.{◌∷◌, ◌++◌, length, not, refl, sym, ap, subst, inl, inr, arith, length-append}
-use Rattle.std.specs.Prelude.{◌↔◌, IsSome, nat_lt}
+use Rattle.std.proofs.Common.{◌≡◌, ◌∙◌, ℕ, suc, ◌+◌, ◌<◌, ◌≤◌, ◌^◌, Bool, true, false, cond, Option, Some, None, List}
+use Rattle.std.proofs.Common.{[], ◌∷◌, ◌++◌, length, not, refl, sym, ap, subst, inl, inr, arith, length-append}
+use Rattle.std.specs.Prelude.{◌↔◌, IsSome, nat_lt, slice_get, count_by}
 use Rattle.std.proofs.lemmas.Bool.Decides.{nat_tests}
+use Rattle.std.proofs.lemmas.List.Sums.{sum_by-cons}
 use Rattle.pp_model.specs.declared.moves.Move.{Move}
 use Rattle.pp_model.specs.declared.reply.Reply.{Reply}
 use Rattle.pp_model.specs.declared.turn.Turn.{Turn}
 use Rattle.pp_model.specs.Pool.{Running, Flush as FlushInFlight, State}
 use Rattle.pp_model.specs.Moves.{seat_of, is_refusal, reply_of, next_of}
+use Rattle.pp_model.specs.Reached.{IsReached}
 use Rattle.pp_model.specs.Runs.{state_after}
 use Rattle.pp_model.specs.Turns.{next_turn, IsUnderWay}
+use Rattle.pp_model.specs.Laws.{is_with, workers_with, endings_of}
+use Rattle.pp_model.proofs.Accounts.{plans_are_accounted}
 use Rattle.pp_model.proofs.Reaching.{holds}
 use Rattle.pp_model.proofs.BoundLaws.{Taken, taken_kept}
 use Rattle.pp_model.proofs.MarkBounds.{need_is_small, bound_within}
@@ -92,14 +96,39 @@ all_taken s true e le over =
     let lt : s.taken < length s.plans = grind (arith, nat_tests) in absurd (over (inl lt))
 all_taken s false e le over = grind (arith, nat_tests)
 
+-- Where each seat is idle, no worker has the plan.
+with_nobody : (number : ℕ) (seats : List (Option Running))
+    → ((w : ℕ) (x : Option Running) → slice_get seats w ≡ Some x → x ≡ None) → count_by (is_with number) seats ≡ 0
+with_nobody number [] idle = refl
+with_nobody number (x ∷ xs) idle =
+    let here = ap {B = ℕ} (λ z. cond (is_with number z) 1 0) (idle 0 x refl) in
+    omega (
+      arith,
+      sum_by-cons (λ z. cond (is_with number z) 1 0) x xs,
+      here,
+      with_nobody number xs (λ w. idle (suc w)),
+    )
+
+-- A plan that was taken, and that no worker has, was ended once.
+ended_once : (s : State) (number : ℕ) → IsReached s → s.taken ≡ length s.plans
+    → ((w : ℕ) (x : Option Running) → seat_of s w ≡ Some x → x ≡ None) → number < length s.plans
+    → endings_of s number ≡ 1
+ended_once s number h taken idle lt =
+    let one : workers_with s number + endings_of s number ≡ 1 =
+    (plans_are_accounted s h).taken number (omega (arith, taken, lt)) in
+    let none : workers_with s number ≡ 0 = with_nobody number s.seats idle in
+    omega (arith, one, none)
+
 -- Where there is no next turn, all is at rest.
 pub rests : (f : Parts) (o : Option Turn) → o ≡ None → ((s : State) → StandsFor f s → IsSome o ↔ IsUnderWay s)
     → Rests f
 rests f o none is = λ s st.
     let over : IsUnderWay s → ⊥ = (λ u. let some : IsSome o = (is s st).1 u in cc) in
     let le : s.taken ≤ length s.plans = holds Taken s taken_kept st.reached in
+    let taken : s.taken ≡ length s.plans = all_taken s (nat_lt s.taken (length s.plans)) refl le over in
     record {
-      none_waits = all_taken s (nat_lt s.taken (length s.plans)) refl le over;
+      none_waits = taken;
       all_idle = λ w x at. idle_now s w x over at;
+      all_ended = λ number lt. ended_once s number st.reached taken (λ w x at. idle_now s w x over at) lt;
       no_flush = flush_now s s.flush over refl;
     }

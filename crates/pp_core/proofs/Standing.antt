@@ -7,14 +7,14 @@ use Rattle.pp_model.specs.Pool.{State}
 use Rattle.pp_model.specs.Budget.{bound}
 use Rattle.pp_model.specs.Moves.{is_refusal, reply_of, next_of}
 use Rattle.pp_model.specs.Reached.{IsReached}
+use Rattle.pp_model.proofs.Accounts.{plans_are_accounted}
 use Rattle.pp_model.proofs.BoundLaws.{bound_falls}
 use Rattle.pp_model.proofs.Changes.{refused_by}
+use Rattle.pp_model.proofs.FlushAlone.{one_errand}
 use Rattle.pp_model.proofs.LatchLaws.{in_order, latches_agree}
 use Rattle.pp_model.proofs.Room.{room}
-use Rattle.pp_model.proofs.Soundness.{sound}
 use Rattle.pp_model.proofs.Stuck.{none_stuck, flush_holds_alone, within_peaks}
 use Rattle.pp_model.proofs.ToldMarks.{marks_are_the_journals}
-use Rattle.pp_model.proofs.Totals.{errands_are}
 use Rattle.pp_model.proofs.Turns.{next_while_under_way, next_is_open}
 use Rattle.pp_core.specs.Parts.{Parts}
 use Rattle.pp_core.specs.StandsFor.{IsKept, Moves}
@@ -29,7 +29,8 @@ headline_of s h = record {
   latches_agree = latches_agree s h;
   within_its_peak = within_peaks s h;
   peaks_fit_the_frames = room s h;
-  one_errand_a_page = λ q. omega (arith, errands_are s q, (sound s h).alone q);
+  one_errand_a_page = one_errand s h;
+  plans_are_accounted = plans_are_accounted s h;
   known_marks_are_the_journals = marks_are_the_journals s h;
   someone_moves_next = next_while_under_way s h;
   next_turn_is_open = next_is_open s h;

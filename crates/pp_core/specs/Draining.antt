@@ -1,10 +1,11 @@
 -- Driving a pool to its end, by the moves of the turns that come next.
-use Rattle.std.specs.Prelude.{◌≡◌, ℕ, Option, None, Some, List, [], ◌∷◌, length}
+use Rattle.std.specs.Prelude.{◌≡◌, ◌<◌, ℕ, Option, None, Some, List, [], ◌∷◌, length}
 use Rattle.pp_model.specs.declared.moves.Move.{Move}
 use Rattle.pp_model.specs.declared.moves.Move.TheVariants as move
 use Rattle.pp_model.specs.declared.turn.Turn.{Turn}
 use Rattle.pp_model.specs.declared.turn.Turn.TheVariants.{Device, FlushDevice, Act, Take}
 use Rattle.pp_model.specs.Pool.{Running, State}
+use Rattle.pp_model.specs.Laws.{endings_of}
 use Rattle.pp_model.specs.Moves.{seat_of, next_of, IsPossible}
 use Rattle.pp_model.specs.Runs.{state_after}
 use Rattle.pp_model.specs.Turns.{IsOpen, CanLeave, next_turn}
@@ -49,10 +50,11 @@ pub record Drains (s : State) (f : Parts) (count : ℕ) : Type 0 where
 
 -- ---- the end
 
--- Every plan is ended: none waits, and no worker has one. And no flush is in flight.
+-- Every plan was ended, exactly once: none waits, and no worker has one. And no flush is in flight.
 pub record IsAtRest (s : State) : Type 0 where
   pub none_waits : s.taken ≡ length s.plans
   pub all_idle : (w : ℕ) (x : Option Running) → seat_of s w ≡ Some x → x ≡ None
+  pub all_ended : (number : ℕ) → number < length s.plans → endings_of s number ≡ 1
   pub no_flush : s.flush ≡ None
 
 -- It holds of each state that the parts stand for.

@@ -3,7 +3,7 @@ use Rattle.std.specs.Prelude.{◌≤◌}
 use Rattle.pp_model.specs.Pool.{State}
 use Rattle.pp_model.specs.Budget.{running_peaks}
 use Rattle.pp_model.specs.Laws.{NoneStuck, FlushHoldsAlone, InOrder, LatchesAgree, WithinPeaks, OneErrand, BoundFalls}
-use Rattle.pp_model.specs.Laws.{MarksAreTheJournals, NextWhileUnderWay, NextIsOpen}
+use Rattle.pp_model.specs.Laws.{PlansAreAccounted, MarksAreTheJournals, NextWhileUnderWay, NextIsOpen}
 use Rattle.pp_core.specs.Parts.{Parts}
 use Rattle.pp_core.specs.StandsFor.{StandsFor}
 
@@ -20,8 +20,10 @@ pub record Headline (s : State) : Type 0 where
   pub within_its_peak : WithinPeaks s
   -- the peaks of the running plans sum to at most the frames
   pub peaks_fit_the_frames : running_peaks s ≤ s.settings.layout.frames
-  -- no page has two errands of workers out
+  -- no page has two errands out, of workers or of the flusher
   pub one_errand_a_page : OneErrand s
+  -- each plan that was taken is with one worker, or was ended once
+  pub plans_are_accounted : PlansAreAccounted s
   -- the known mark of each page is the one that any journal of the state tells of it
   pub known_marks_are_the_journals : MarksAreTheJournals s
   -- while a plan waits or isn't ended, or a flush is in flight, there is a next turn, and only then

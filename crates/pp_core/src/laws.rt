@@ -14,10 +14,10 @@ ghost use Rattle.pp_core.specs.AfterMoves.{AfterMoves};
 /// In these states no worker can find all frames fixed at a fix that its plan asks, and none asks a latch against the
 /// order of the classes; a fix is told that a flush holds the frames only while a page is flushed that no slot holds or
 /// loads; the running peaks fit the frames, and a worker holds and loads at most its peak; the latches on a page are
-/// all S or a single X; a page has one errand of a worker at most; the known mark of a page is the one that every
-/// journal of the state tells, the stamp of the last unlatch or unwinding of X on the page, else of its first good
-/// reading; while a plan waits or isn't ended, or a flush is in flight, some actor's next move is possible; and each
-/// done move lowers the bound.
+/// all S or a single X; a page has one errand at most, of a worker or of the flusher; each plan that was taken is with
+/// one worker, or was ended once; the known mark of a page is the one that every journal of the state tells, the stamp
+/// of the last unlatch or unwinding of X on the page, else of its first good reading; while a plan waits or isn't
+/// ended, or a flush is in flight, some actor's next move is possible; and each done move lowers the bound.
 pub fn headline()
     ensures from_new { (k : Settings) (inputs : List Input) → IsSettings k → All IsAcceptedInput inputs
         → Headline (run (opening k) inputs) }

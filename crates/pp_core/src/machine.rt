@@ -199,7 +199,7 @@ impl Core {
     /// least slot that holds a page, or finishes where none does.
     ///
     /// Each of the moves is possible, whatever is decided, and there are at most as many as [`Core::budget`] tells at
-    /// the start. In the end every plan is finished, and no flush is in flight.
+    /// the start. In the end every plan was ended, exactly once, and no flush is in flight.
     pub fn drain(&mut self, decide: &mut impl Decide) -> u64
         ensures within { result + self.new.budget ≤ self.old.budget }
         ensures rest { Rests self.new }

@@ -117,9 +117,9 @@ victim_low s h q some = omega (arith, ((sound s h).away q some).1, pages_are s h
 
 -- ---- a page that is being flushed has a note
 
-data FlushTurn (s t : State) : Type 0 where
+pub data FlushTurn (s t : State) : Type 0 where
   lasts : t.flush ≡ s.flush → FlushTurn s t
-  begins : (page : ℕ) → is_cached s.lists page ≡ true
+  begins : (page : ℕ) → is_cached s.lists page ≡ true → is_dirty s page ≡ true → t.lists ≡ s.lists → t.seats ≡ s.seats
       → t.flush ≡ Some (record { page = page; began = mark_at s page }) → FlushTurn s t
   over : t.flush ≡ None → FlushTurn s t
 
@@ -128,11 +128,11 @@ released_flush s Free page = refl
 released_flush s S page = refl
 released_flush s X page = refl
 
-and_left : (a b : Bool) → (a && b) ≡ true → a ≡ true
-and_left true b e = refl
-and_left false b e = cc
+and_both : (a b : Bool) → (a && b) ≡ true → (a ≡ true) × (b ≡ true)
+and_both true b e = (refl, e)
+and_both false b e = cc
 
-flush_turn : (s t : State) → Change s t → FlushTurn s t
+pub flush_turn : (s t : State) → Change s t → FlushTurn s t
 flush_turn s t (change.stays e) = lasts (ap (λ x. x.flush) e)
 flush_turn s t (change.takes w a idle next fits e) = lasts (ap (λ x. x.flush) e)
 flush_turn s t (change.hits w r slot page l asked is e) = lasts (ap (λ x. x.flush) e)
@@ -153,7 +153,8 @@ flush_turn s t (change.unwinds w r slot given k at found e) =
 flush_turn s t (change.ends w r at asked e) = lasts (ap (λ x. x.flush) e)
 flush_turn s t (change.leaves w r given at none e) = lasts (ap (λ x. x.flush) e)
 flush_turn s t (change.flushes page can e) =
-    begins page (and_left (is_cached s.lists page) (is_dirty s page) can.changed) (ap (λ x. x.flush) e)
+    let both = and_both (is_cached s.lists page) (is_dirty s page) can.changed in
+    begins page both.0 both.1 (ap (λ x. x.lists) e) (ap (λ x. x.seats) e) (ap (λ x. x.flush) e)
 flush_turn s t (change.cleans f is e) = over (ap (λ x. x.flush) e)
 flush_turn s t (change.drops f is e) = over (ap (λ x. x.flush) e)
 
@@ -165,7 +166,7 @@ pub record IsNoted (s : State) : Type 0 where
 flush_low : (s t : State) → FlushTurn s t → IsSound s → IsNoted s → (f : Flush) → t.flush ≡ Some f
     → f.page < length s.notes
 flush_low s t (lasts e) sound h f is = h.flushed f (sym e ∙ is)
-flush_low s t (begins page here e) sound h f is =
+flush_low s t (begins page here dirty lists seats e) sound h f is =
     let below = sound.bounds.below page (omega (arith, times_in-cached s.lists page here)) in
     let same : page ≡ f.page = some_page (sym e ∙ is) in
     omega (arith, below, sound.pages, h.notes, same)
@@ -455,7 +456,7 @@ placed_moves s t (change.drops f is e) ready h = subst Placed (sym e) h
 -- ---- pages that are newer than the device's
 
 -- Such a page is cached and not being loaded, or it is a victim that is written back.
-abbrev Dirties : State → Type 0
+abbrev pub Dirties : State → Type 0
 Dirties s =
     (q : ℕ) → is_dirty s q ≡ true
     → ((is_cached s.lists q ≡ true) × (loads_of s q ≡ 0)) ⊎ (0 < victims_of s q)
@@ -793,7 +794,7 @@ fresh_placed k = record {
 fresh_clean : (k : Settings) → Dirties (opening k)
 fresh_clean k q e = absurd (false≢true (sym (ap (λ (x : Note). x.dirty) (fresh_note k q)) ∙ e))
 
-abbrev Kept : State → Type 0
+abbrev pub Kept : State → Type 0
 Kept s = Placed s × Dirties s
 
 kept_under : IsKeptUnder Ready Kept
@@ -803,8 +804,15 @@ kept_under = record {
   submits = λ s a ok e ready h. h;
 }
 
+-- All of these together.
+abbrev pub ReadyKept : State → Type 0
+ReadyKept s = Ready s × Kept s
+
+pub all_kept : IsKept ReadyKept
+all_kept = both Ready Kept ready_kept kept_under
+
 kept : (s : State) → IsReached s → Placed s × Dirties s
-kept s h = (holds (λ x. Ready x × Kept x) s (both Ready Kept ready_kept kept_under) h).1
+kept s h = (holds ReadyKept s all_kept h).1
 
 -- Just the cached pages have a frame, each one of its own, below their number; a dirty page is cached or a victim that
 -- is written back.
@@ -840,10 +848,14 @@ pub some_free : (s : State) → IsReached s → cached_count s.lists < s.lists.c
 some_free s h few = (free_frame_of s h few).is
 
 -- A page that is cached and newer than the device's isn't being loaded.
+pub dirties_unloaded : (s : State) → IsSound s → Dirties s → (q : ℕ) → is_dirty s q ≡ true → is_cached s.lists q ≡ true
+    → loads_of s q ≡ 0
+dirties_unloaded s sound h q dirty here =
+    elim (h q dirty) [
+      | inl a ↦ a.1
+      | inr b ↦ absurd (false≢true (sym (sound.away q b).0 ∙ here))
+    ]
+
 pub changed_unloaded : (s : State) → IsReached s → (q : ℕ) → is_dirty s q ≡ true → is_cached s.lists q ≡ true
     → loads_of s q ≡ 0
-changed_unloaded s h q dirty here =
-    elim ((kept s h).1 q dirty) [
-      | inl a ↦ a.1
-      | inr b ↦ absurd (false≢true (sym ((sound s h).away q b).0 ∙ here))
-    ]
+changed_unloaded s h q dirty here = dirties_unloaded s (sound s h) (kept s h).1 q dirty here

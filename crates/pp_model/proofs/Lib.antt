@@ -34,6 +34,7 @@ pub mod Framed
 pub mod MarkSteps
 pub mod PinRoom
 pub mod MarkBounds
+pub mod FlushAlone
 pub mod KnownMarks
 pub mod ToldMarks
 pub mod Accounts

@@ -109,6 +109,15 @@ latches_of s page = latches_at (readers_of s page) (writers_of s page)
 abbrev pub errands_of : State → ℕ → ℕ
 errands_of s page = sum_by (λ seat. times page (flies seat)) s.seats
 
+-- Whether this is the page that is being flushed.
+abbrev pub is_flushed : Option Flush → ℕ → Bool
+is_flushed None page = false
+is_flushed (Some f) page = f.page == page
+
+-- How many flushes of the page are in flight.
+abbrev pub flushes_of : State → ℕ → ℕ
+flushes_of s page = if is_flushed s.flush page then 1 else 0
+
 -- Whether a page is in flight: it is loaded for some worker, or written back as a victim.
 abbrev pub is_in_flight : State → ℕ → Bool
 is_in_flight s page = nat_lt 0 (errands_of s page)
@@ -116,11 +125,6 @@ is_in_flight s page = nat_lt 0 (errands_of s page)
 -- Whether a page is taken: some slot holds it or loads it.
 abbrev pub is_taken : State → ℕ → Bool
 is_taken s page = nat_lt 0 (pins_of s page)
-
--- Whether this is the page that is being flushed.
-abbrev pub is_flushed : Option Flush → ℕ → Bool
-is_flushed None page = false
-is_flushed (Some f) page = f.page == page
 
 -- Whether a page may not leave the cache: it is taken, or it is being flushed.
 abbrev pub is_busy : State → ℕ → Bool

@@ -16,7 +16,7 @@ use Rattle.pp_model.specs.declared.refusals.Delay.TheVariants.{FlushHolds}
 use Rattle.pp_model.specs.declared.reply.Reply.TheVariants.{NotNow}
 use Rattle.pp_model.specs.Pool.{acting, writing, Running, Finished, Flush, State, opening, frame_of, is_dirty}
 use Rattle.pp_model.specs.Pool.{known_mark}
-use Rattle.pp_model.specs.Holders.{holdings, loading, is_taken, readers_of, writers_of, errands_of}
+use Rattle.pp_model.specs.Holders.{holdings, loading, is_taken, readers_of, writers_of, errands_of, flushes_of}
 use Rattle.pp_model.specs.Budget.{cost_of, bound}
 use Rattle.pp_model.specs.Moves.{seat_of, reply_of, next_of, is_possible, IsPossible}
 use Rattle.pp_model.specs.Submitting.{most_events, submit_error, after_submit}
@@ -75,9 +75,9 @@ LatchesAgree s =
 
 -- ---- errands
 
--- No page has two errands of workers out: it is read for one alone, or written back as a victim for one alone.
+-- No page has two errands out: it is read for one worker alone, or written back as a victim for one alone, or flushed.
 abbrev pub OneErrand : State → Type 0
-OneErrand s = (page : ℕ) → errands_of s page ≤ 1
+OneErrand s = (page : ℕ) → errands_of s page + flushes_of s page ≤ 1
 
 -- ---- the bound
 

@@ -42,7 +42,8 @@ pub fn latches_agree()
     ensures on_a_page { (s : State) → IsReached s → LatchesAgree s }
 {}
 
-/// No page has two errands of workers out.
+/// No page has two errands out, of workers or of the flusher: it is read for one worker alone, or written back as a
+/// victim for one alone, or flushed.
 pub fn errands_are_apart()
     ensures one { (s : State) → IsReached s → OneErrand s }
 {}
