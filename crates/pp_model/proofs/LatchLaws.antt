@@ -40,8 +40,9 @@ in_order s h w slot m r act asks =
     let a = action.Latch slot m in
     let above = seat.accepted.orderly (r.done ++ a ∷ [])
     (begins_more r a asks) r.done [] slot m refl before.0 before.1 in
-    subst (λ hs. IsAboveLatched r.accepted.plan.layout hs slot)
-    (sym (all_held r before.0 (ap given_back act.stage) before.1)) above
+    subst (λ l. IsAboveLatched l (holdings r) slot) (sym seat.layout)
+    (subst (λ hs. IsAboveLatched r.accepted.plan.layout hs slot)
+    (sym (all_held r before.0 (ap given_back act.stage) before.1)) above)
 
 -- ---- all S, or a single X
 

@@ -226,18 +226,14 @@ module _ (s : State) (h : IsReached s) where
       let order = in_order s h x.worker at.slot at.mode r at.act (asks_now g r a seat names) finds.0 finds.1.found in
       let within = slice_get_within (holdings r) x.place x.holding x.found in
       let below = All-get_or (λ l. IsTrue (is_latched l.held)
-      → IsClassBelow (class_of plan.layout l.page) (class_of plan.layout finds.0.page)) (holdings r) x.place
-      x.holding within order in
-      let here : IsClassBelow (class_of plan.layout x.holding.page) (class_of plan.layout finds.0.page) =
-      subst (λ l. IsTrue (is_latched l.held)
-      → IsClassBelow (class_of plan.layout l.page) (class_of plan.layout finds.0.page))
+      → IsClassBelow (class_of g l.page) (class_of g finds.0.page)) (holdings r) x.place x.holding within order in
+      let here : IsClassBelow (class_of g x.holding.page) (class_of g finds.0.page) =
+      subst (λ l. IsTrue (is_latched l.held) → IsClassBelow (class_of g l.page) (class_of g finds.0.page))
       (get_or_from_slice_get (holdings r) x.place x.holding x.holding x.found) below x.latched in
       let number = below_number _ _ here in
       omega (
         arith,
         number,
-        ap (λ l. class_number (class_of l x.holding.page)) seat.layout,
-        ap (λ l. class_number (class_of l finds.0.page)) seat.layout,
         ap (λ q. class_number (class_of g q)) x.same,
         ap (λ q. class_number (class_of g q)) finds.1.page_is,
       )

@@ -62,11 +62,11 @@ WithinPeaks s =
 -- ---- latches
 
 -- No worker asks a latch against the order of the classes: the class of the page that it asks for is greater than that
--- of each page that it has latched.
+-- of each page that it has latched, in the layout of the pool.
 abbrev pub InOrder : State → Type 0
 InOrder s =
     (w slot : ℕ) (m : Mode) (r : Running) → IsActing s w r → Asks r (action.Latch slot m)
-    → IsAboveLatched r.accepted.plan.layout (holdings r) slot
+    → IsAboveLatched s.settings.layout (holdings r) slot
 
 -- The latches on a page are all S, or a single X.
 abbrev pub LatchesAgree : State → Type 0
