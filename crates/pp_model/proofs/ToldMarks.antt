@@ -1,7 +1,7 @@
 -- The known marks of a state are those that its journals tell.
 use Rattle.std.proofs.Common.{◌≡◌, ◌≢◌, ◌∙◌, ◌⊎◌, ℕ, ◌+◌, ◌<◌, ◌≤◌, Bool, true, false, cond, Option, Some, None}
 use Rattle.std.proofs.Common.{List, [], ◌∷◌, length, refl, sym, ap, subst, inl, inr, arith}
-use Rattle.std.specs.Prelude.{◌==◌, ◌||◌, not, nat_lt, slice_get, option_map, unwrap_or, All}
+use Rattle.std.specs.Prelude.{◌^◌, ◌==◌, ◌&&◌, ◌||◌, not, nat_le, nat_lt, slice_get, option_map, unwrap_or, All}
 use Rattle.std.specs.Option.{option_or}
 use Rattle.std.proofs.lemmas.Bool.{cases_lt}
 use Rattle.std.proofs.lemmas.Bool.Decides.{nat_tests}
@@ -43,7 +43,8 @@ use Rattle.pp_model.specs.Moves.{asked_by, act_in, act_by, seat_of, outcome_of, 
 use Rattle.pp_model.specs.Submitting.{submit_error, submitted_unless}
 use Rattle.pp_model.specs.Journals.{after_plan, after_event, replay, IsTrueAt, IsTrueFrom}
 use Rattle.pp_model.specs.JournalMarks.{written_in, written_at, written_asked, written_unlatched, written_unwound}
-use Rattle.pp_model.specs.JournalMarks.{read_in as page_read_in, read_for, if_about, stamp_written, stamp_read}
+use Rattle.pp_model.specs.JournalMarks.{read_in as page_read_in, read_for, read_well, if_about, stamp_written}
+use Rattle.pp_model.specs.JournalMarks.{stamp_read}
 use Rattle.pp_model.specs.JournalMarks.{last_written, first_read}
 use Rattle.pp_model.specs.Reached.{IsReached}
 use Rattle.pp_model.specs.Laws.{MarksAreTheJournals}
@@ -237,13 +238,26 @@ silent s q e = e ∙ sym (or_none (known_mark s q))
 
 -- ---- readings
 
--- A good reading of a page gives its mark where none was known, and else the known one.
-good_reading : (o : Option ℕ) (stamp : ℕ) → is_other o stamp ≡ false → Some stamp ≡ option_or o (Some stamp)
-good_reading None stamp e = refl
-good_reading (Some k) stamp e = ap (λ (x : ℕ). Some x) (sym (alike k stamp e))
+-- A page that is fixed after its reading has the stamp for its mark: where none was known the reading was good, and
+-- else the known one is the same.
+read_here : (o : Option ℕ) (named page stamp : ℕ) → (named == page) ≡ true → is_other o stamp ≡ false
+    → Some stamp ≡ option_or o (if_about (read_well (Some page) named stamp) stamp page)
+read_here (Some k) named page stamp n e = ap (λ (x : ℕ). Some x) (sym (alike k stamp e))
   where
     alike : (k stamp : ℕ) → not (k == stamp) ≡ false → k ≡ stamp
     alike k stamp e = grind (arith, nat_tests)
+read_here None named page stamp n e =
+    sym (ap (λ a. if_about (cond (a && nat_lt stamp (2 ^ 62)) (Some page) None) stamp page) n
+    ∙ ap (λ b. if_about (cond b (Some page) None) stamp page) (below (2 ^ 62) stamp e)
+    ∙ told_here page page stamp refl)
+  where
+    below : (n stamp : ℕ) → nat_le n stamp ≡ false → nat_lt stamp n ≡ true
+    below n stamp e = grind (arith, nat_tests)
+
+-- The reading tells nothing of other pages.
+read_there : (b : Bool) (page q stamp : ℕ) → page ≢ q → if_about (cond b (Some page) None) stamp q ≡ None
+read_there true page q stamp d = told_there page q stamp d
+read_there false page q stamp d = refl
 
 not_reading : (s : State) (w : ℕ) (came : Came) (cause : Cause) (q : ℕ)
     → Tells s (move.ReadDone w came) (off_plan s cause) q
@@ -264,23 +278,24 @@ module _ (s : State) (h : IsReached s) (w : ℕ) (r : Running) (q : ℕ) where
       low : page < length s.notes
       low = taken_low s h page (let some = loads_one s w r (reading slot page) page at refl in omega (arith, some))
 
-      good : (a b : Bool) → (a || b) ≡ false → b ≡ false
-      good true b e = cc
-      good false b e = e
+      good : (a b : Bool) → (not a || b) ≡ false → (a ≡ true) × (b ≡ false)
+      good true b e = (refl, e)
+      good false b e = cc
 
-      read : is_other (known_mark s page) stamp ≡ false → Which page q
-          → known_mark (with_mark s page stamp) q ≡ option_or (known_mark s q) (if_about (Some page) stamp q)
+      read : ((named == page) ≡ true) × (is_other (known_mark s page) stamp ≡ false) → Which page q
+          → known_mark (with_mark s page stamp) q
+          ≡ option_or (known_mark s q) (if_about (read_well (Some page) named stamp) stamp q)
       read e (same d f) =
           ap (known_mark (with_mark s page stamp)) (sym d)
           ∙ ap (λ (x : Note). x.mark) (note_here s page (record (note_of s page) { mark = Some stamp }) low)
-          ∙ good_reading (known_mark s page) stamp e
-          ∙ ap (λ x. option_or (known_mark s x) (Some stamp)) d
-          ∙ sym (ap (option_or (known_mark s q)) (told_here page q stamp d))
+          ∙ read_here (known_mark s page) named page stamp e.0 e.1
+          ∙ ap (λ x. option_or (known_mark s x) (if_about (read_well (Some page) named stamp) stamp x)) d
       read e (other d f) =
           ap (λ (x : Note). x.mark)
           (note_there s page q (record (note_of s page) { mark = Some stamp }) (λ k. d (sym k)))
           ∙ sym (or_none (known_mark s q))
-          ∙ sym (ap (option_or (known_mark s q)) (told_there page q stamp d))
+          ∙ sym (ap (option_or (known_mark s q))
+          (read_there ((named == page) && nat_lt stamp (2 ^ 62)) page q stamp d))
 
       go : (b : Bool) → is_misread s page named stamp ≡ b
           → Tells s (move.ReadDone w (Image named stamp)) (read_where s w r slot page stamp b) q
@@ -288,8 +303,8 @@ module _ (s : State) (h : IsReached s) (w : ℕ) (r : Running) (q : ℕ) where
           silent s q
           (noted (with_lists s (forget s.lists page)) page (record (note_of s page) { frame = None }) refl q)
       go false e =
-          read (good (not (named == page)) (is_other (known_mark s page) stamp) e) (which page q)
-          ∙ sym (ap (λ o. option_or (known_mark s q) (if_about o stamp q)) about)
+          read (good (named == page) (is_other (known_mark s page) stamp) e) (which page q)
+          ∙ sym (ap (λ o. option_or (known_mark s q) (if_about (read_well o named stamp) stamp q)) about)
 
   read_stage_tells : (came : Came) (g : Stage) → IsAt s w r g
       → Tells s (move.ReadDone w came) (read_in s w came r g) q

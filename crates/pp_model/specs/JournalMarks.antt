@@ -1,6 +1,7 @@
 -- The mark of a page as a journal tells it: the stamp of the last unlatch or unwinding of X on the page, else of the
--- first reading of it that was good, else none.
-use Rattle.std.specs.Prelude.{ℕ, ◌==◌, if◌then◌else◌, Option, None, Some, List, [], ◌∷◌}
+-- first reading of it that was good, else none. A reading is good where the image names the page that is read, and its
+-- stamp is below 2^62.
+use Rattle.std.specs.Prelude.{ℕ, ◌^◌, ◌&&◌, ◌==◌, nat_lt, if◌then◌else◌, Option, None, Some, List, [], ◌∷◌}
 use Rattle.std.specs.Option.{option_or}
 use Rattle.pp_plan.specs.declared.action.Ask.{Ask}
 use Rattle.pp_plan.specs.declared.action.Ask.TheVariants as ask
@@ -54,6 +55,11 @@ read_for None = None
 read_for (Some None) = None
 read_for (Some (Some r)) = read_in r.stage
 
+-- The page that is read, where an image that names this page and this stamp is a good reading of it.
+abbrev pub read_well : Option ℕ → (named stamp : ℕ) → Option ℕ
+read_well None named stamp = None
+read_well (Some page) named stamp = if (named == page) && nat_lt stamp (2 ^ 62) then Some page else None
+
 -- The mark, where the event is about this page.
 abbrev pub if_about : Option ℕ → (mark page : ℕ) → Option ℕ
 if_about None mark page = None
@@ -65,9 +71,10 @@ stamp_written s (Step (Unlatch w) (Unlatched mark)) page = if_about (written_unl
 stamp_written s (Step (Unwind w slot) (Unlatched mark)) page = if_about (written_unwound slot (seat_of s w)) mark page
 stamp_written s _ page = None
 
--- The stamp of the image of the page that came, where the reading was good.
+-- The stamp of the image that came for the page, where the reading was good and the page was fixed.
 abbrev pub stamp_read : State → Event → (page : ℕ) → Option ℕ
-stamp_read s (Step (ReadDone w (Image named stamp)) (Loaded mark)) page = if_about (read_for (seat_of s w)) stamp page
+stamp_read s (Step (ReadDone w (Image named stamp)) (Loaded mark)) page =
+    if_about (read_well (read_for (seat_of s w)) named stamp) stamp page
 stamp_read s _ page = None
 
 -- ---- a journal

@@ -89,8 +89,9 @@ pub fn frames_are_apart()
 
 /// A page that is newer than the device's is cached, or it is written back as a victim. A page that a slot holds has a
 /// known mark, and so has one that is cached and not being loaded. The known mark of a page is the one that any journal
-/// of the state tells of it: the stamp of the last unlatch or unwinding of X on it, else of its first good reading,
-/// else none. No mark comes near 2^64, now or after the moves that are left.
+/// of the state tells of it: the stamp of the last unlatch or unwinding of X on it, else of its first good reading (the
+/// image names the page, and its stamp is below 2^62), else none. No mark comes near 2^64, now or after the moves that
+/// are left.
 pub fn marks_are_kept()
     ensures dirty { (s : State) → IsReached s → DirtyAreKept s }
     ensures held { (s : State) → IsReached s → HeldAreKnown s }
