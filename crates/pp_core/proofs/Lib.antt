@@ -19,6 +19,7 @@ mod OpeningTies
 mod SubmitTies
 mod RunTies
 mod QueryTies
+pub mod Alike
 mod TurnTies
 mod DrainTies
 mod DrainRuns
