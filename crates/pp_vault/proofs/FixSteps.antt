@@ -1,0 +1,364 @@
+-- A fix: what the core's step did, and what becomes of the images.
+use Rattle.std.proofs.Common.{◌≡◌, ◌≢◌, ◌∙◌, ℕ, ◌<◌, Bool, true, false, not, Option, Some, None, List, length}
+use Rattle.std.proofs.Common.{refl, sym, ap, subst}
+use Rattle.std.specs.Prelude.{slice_set, unwrap_or, option_map, IsSome, if◌then◌else◌, ◌||◌, IsTrue}
+use Rattle.std.specs.Option.{is_some}
+use Rattle.std.proofs.lemmas.Bool.{false≢true}
+use Rattle.pp_plan.specs.declared.action.Ask.{Ask}
+use Rattle.pp_plan.specs.declared.action.Ask.TheVariants as ask
+use Rattle.pp_cert.specs.declared.note.Held.TheVariants.{Free}
+use Rattle.pp_model.specs.declared.moves.Move.TheVariants.{Fix}
+use Rattle.pp_model.specs.declared.reply.Reply.{Reply}
+use Rattle.pp_model.specs.declared.reply.Reply.TheVariants as reply
+use Rattle.pp_model.specs.declared.reply.Reply.TheVariants.{Hit, MustRead, MustWrite}
+use Rattle.pp_model.specs.Pool.{State, frame_of, known_mark, mark_at}
+use Rattle.pp_model.specs.Moves.{reply_of, next_of, is_refusal}
+use Rattle.pp_model.specs.Ready.{Standing, StandsIn, ready_at, is_away_at, is_still, ImageGoes, Leaves, Vacates, empty, takes}
+use Rattle.pp_model.specs.Shapes.{is_answer, fits_reply}
+use Rattle.pp_model.proofs.Shapes.{reply_fits}
+use Rattle.pp_model.proofs.Alone.{settings_stay, flush_stays}
+use Rattle.pp_model.proofs.ReadyLaws.{still_keeps, ready_are_apart, ready_stand, read_vacates, write_leaves}
+use Rattle.pp_model.proofs.Requests.{Which, same, other, which}
+use Rattle.pp_core.specs.StandsFor as core
+use Rattle.pp_core.specs.Queries.{ask_of, held_of, errand_of}
+use Rattle.pp_core.specs.AfterMoves.{AfterMoves}
+use Rattle.pp_core.proofs.AfterMoves.{after_moves}
+use Rattle.pp_core.proofs.Alike.{same_ask, same_held, same_errand, same_mark}
+use Rattle.pp_device.specs.Image.{head_of}
+use Rattle.pp_vault.specs.declared.tokens.Session.{Session}
+use Rattle.pp_vault.specs.declared.tokens.Duty.TheVariants.{Read, Write}
+use Rattle.pp_vault.specs.Parts.{Parts}
+use Rattle.pp_vault.specs.StandsFor.{image_in, IsRight, ImagesFit, StandsFor, IsKept}
+use Rattle.pp_vault.specs.Calls.{asks, stranger}
+use Rattle.pp_vault.specs.Fits.{is_acting_by, fix_call}
+use Rattle.pp_vault.specs.ImageMoves.{TakenOut}
+use Rattle.pp_vault.specs.Steps.{Stepped}
+use Rattle.pp_vault.specs.Events.{Does}
+use Rattle.pp_vault.specs.Tokens.{Acts, SessionFits, ErrandFits}
+use Rattle.pp_vault.specs.Fixes.{fix_slot, IsHit, IsSent}
+use Rattle.pp_vault.proofs.Images.{fit_stays, fit_out}
+use Rattle.pp_vault.proofs.Done.{does}
+
+acts_by : (o : Option Ask) → IsSome o → is_acting_by o ≡ true
+acts_by None h = absurd (false≢true h)
+acts_by (Some a) h = refl
+
+there_by : (images : List (Option (List ℕ))) (frame : ℕ) (away : Bool)
+    → is_some (image_in images frame) ≡ not away → away ≡ false → is_some (image_in images frame) ≡ true
+there_by images frame away e stays = e ∙ ap not stays
+
+none_standing : {x : Standing} → ◌≡◌ {A = Option Standing} None (Some x) → ⊥
+none_standing {x} e = cc
+
+-- Pages that are ready after an image left a frame were ready before, in other frames.
+pub before_left : (s t : State) (victim : ℕ) (y : Standing) → ((p q : ℕ) (x z : Standing) → ready_at s p ≡ Some x
+    → ready_at s q ≡ Some z → x.frame ≡ z.frame → p ≡ q) → Leaves s t victim y → (p : ℕ) (x : Standing)
+    → ready_at t p ≡ Some x → (ready_at s p ≡ Some x) × (x.frame ≢ y.frame)
+before_left s t victim y apart gone p x e =
+    elim (which p victim) [
+      | same d k ↦ absurd (none_standing (sym gone.gone ∙ ap (ready_at t) (sym d) ∙ e))
+      | other d k ↦
+          let was : ready_at s p ≡ Some x = sym (gone.others p d) ∙ e in
+          (was, λ f. d (apart p victim x y was gone.was f))
+    ]
+
+-- The image goes from the frame, and pages that are ready stand in other frames as before.
+pub record IsEmptied (s t : State) (frame : ℕ) : Type 0 where
+  pub goes : ImageGoes s t frame
+  pub before : (p : ℕ) (x : Standing) → ready_at t p ≡ Some x → (ready_at s p ≡ Some x) × (x.frame ≢ frame)
+
+-- What becomes of a frame where a device has to work.
+pub record Sends (s t : State) (frame : ℕ) : Type 0 where
+  pub low : frame < s.settings.layout.frames
+  pub emptied : IsEmptied s t frame
+
+emptied : (s t : State) (frame : ℕ) → ((p q : ℕ) (x z : Standing) → ready_at s p ≡ Some x
+    → ready_at s q ≡ Some z → x.frame ≡ z.frame → p ≡ q) → Vacates s t frame → IsEmptied s t frame
+emptied s t frame apart (empty none stay goes) =
+    record {
+      goes = goes;
+      before = λ p x e. let was : ready_at s p ≡ Some x = sym (stay p) ∙ e in (was, none p x was);
+    }
+emptied s t frame apart (takes victim mark gone) =
+    record {
+      goes = gone.image;
+      before = before_left s t victim (record { frame = frame; mark = mark }) apart gone;
+    }
+
+-- A fix that is done is answered by a hit, a read or a write.
+other_fix : (w page : ℕ) (x : Reply) → is_refusal x ≡ false → (is_refusal x || is_answer (Fix w page) x) ≡ true
+    → ((f m : ℕ) → x ≡ Hit f m → ⊥) → ((f : ℕ) → x ≡ MustRead f → ⊥) → ((f v : ℕ) → x ≡ MustWrite f v → ⊥) → ⊥
+other_fix w page (reply.Taken plan) d h nh nr nw = false≢true h
+other_fix w page (reply.Hit frame mark) d h nh nr nw = nh frame mark refl
+other_fix w page (reply.MustRead frame) d h nh nr nw = nr frame refl
+other_fix w page (reply.MustWrite frame victim) d h nh nr nw = nw frame victim refl
+other_fix w page (reply.Failed failure) d h nh nr nw = false≢true h
+other_fix w page (reply.Loaded mark) d h nh nr nw = false≢true h
+other_fix w page reply.Did d h nh nr nw = false≢true h
+other_fix w page (reply.Latched mark) d h nh nr nw = false≢true h
+other_fix w page (reply.Unlatched mark) d h nh nr nw = false≢true h
+other_fix w page (reply.Finished ending) d h nh nr nw = false≢true h
+other_fix w page (reply.Flushing mark) d h nh nr nw = false≢true h
+other_fix w page (reply.Flushed clean) d h nh nr nw = false≢true h
+other_fix w page (reply.NotNow delay) d h nh nr nw = false≢true (sym d)
+other_fix w page (reply.OffPlan cause) d h nh nr nw = false≢true (sym d)
+
+module _ (old mid : Parts) (w page : ℕ) (r : Reply) (did : Stepped old mid (Fix w page) r) where
+  abbrev next : State → State
+  next s = next_of s (Fix w page)
+
+  -- ---- the state before
+
+  answer : (s : State) → StandsFor old s → reply_of s (Fix w page) ≡ r
+  answer s st = sym (did.moves.replies s st.core)
+
+  laws : (s : State) → StandsFor old s → AfterMoves s
+  laws s st = after_moves s st.core.reached
+
+  found : (s : State) → StandsFor old s → (slot : ℕ) × (region : ℕ) × (ask_of s w ≡ Some (ask.Fix slot region))
+  found s st = (laws s st).found (Fix w page) (ap is_refusal (answer s st) ∙ did.done)
+
+  calls : (s : State) → StandsFor old s → fix_call w page s ≡ asks (Fix w page)
+  calls s st = ap (λ o. if is_acting_by o then asks (Fix w page) else stranger) (found s st).2
+
+  frames : (s : State) → StandsFor old s → (next s).settings.layout.frames ≡ s.settings.layout.frames
+  frames s st = ap (λ k. k.layout.frames) (settings_stay s (Fix w page))
+
+  flush : (s : State) → (next s).flush ≡ None → s.flush ≡ None
+  flush s e = sym (flush_stays s (Fix w page) w refl) ∙ e
+
+  pub no_other : IsKept old → ((f m : ℕ) → r ≡ Hit f m → ⊥) → ((f : ℕ) → r ≡ MustRead f → ⊥)
+      → ((f v : ℕ) → r ≡ MustWrite f v → ⊥) → ⊥
+  no_other k nh nr nw =
+      other_fix w page r did.done
+      (subst (λ x. IsTrue (fits_reply (Fix w page) x)) (answer k.state k.stands) (reply_fits k.state (Fix w page)))
+      nh nr nw
+
+  -- The slot that the plan names.
+  module _ (a : Ask) (told : (s : State) → core.StandsFor old.core s → Some a ≡ ask_of s w) where
+    pub asked : (s : State) → StandsFor old s → (region : ℕ) × (ask_of s w ≡ Some (ask.Fix (fix_slot a) region))
+    asked s st =
+        let f = found s st in
+        let same : a ≡ ask.Fix f.0 f.1 = ap (λ o. unwrap_or o a) (told s st.core ∙ f.2) in
+        (f.1, f.2 ∙ ap (λ x. Some (ask.Fix (fix_slot x) f.1)) (sym same))
+
+  -- ---- a hit
+
+  module _ (frame mark : ℕ) (e : r ≡ Hit frame mark) where
+    hit_fits : (s : State) → StandsFor old s → ImagesFit mid.page_bytes mid.images mid.spare (next s)
+    hit_fits s st =
+        subst (λ (p : Parts). ImagesFit p.page_bytes p.images p.spare (next s)) (sym did.rest)
+        (fit_stays old.page_bytes old.images old.spare s (next s) st.images (frames s st)
+        (still_keeps s st.core.reached (Fix w page) (ap is_still (answer s st ∙ e))) (flush s))
+
+    pub hit_does : Does old (fix_call w page) mid
+    hit_does =
+        does old mid (fix_call w page) (Fix w page) r did.moves did.done (ap (λ (p : Parts). p.last) did.rest)
+        (ap (λ (p : Parts). p.page_bytes) did.rest) calls hit_fits
+
+    pub hit_kept : IsKept old → IsKept mid
+    hit_kept k =
+        record {
+          state = next k.state;
+          stands = record {
+            core = did.moves.stands k.state k.stands.core;
+            images = hit_fits k.state k.stands;
+          };
+        }
+
+    acting : (s : State) → StandsFor old s → IsSome (ask_of (next s) w)
+    acting s st =
+        let f = found s st in
+        ((laws s st).hit w page f.0 f.1 frame mark (answer s st ∙ e) f.2).acts
+
+    pub hit_acts : IsKept old → Acts mid w
+    hit_acts k t b =
+        ap is_acting_by (same_ask mid.core t (next k.state) b.core (did.moves.stands k.state k.stands.core) w)
+        ∙ acts_by (ask_of (next k.state) w) (acting k.state k.stands)
+
+    module _ (a : Ask) (told : (s : State) → core.StandsFor old.core s → Some a ≡ ask_of s w) (k : IsKept old)
+        (x : Session) (fits : SessionFits mid w x) (slot : ℕ) (is : slot ≡ fix_slot a) where
+      hit_held : (s : State) (st : StandsFor old s) → held_of (next s) w slot ≡ Some (page, Free)
+      hit_held s st =
+          let now = asked a told s st in
+          let f = (laws s st).hit w page (fix_slot a) now.0 frame mark (answer s st ∙ e) now.1 in
+          ap (held_of (next s) w) is ∙ f.held
+
+      pub hit_is : IsHit old mid w page x (record { worker = w; slot = slot; page = page })
+      hit_is =
+          record {
+            replies = λ s st. (
+              frame,
+              mark,
+              answer s st ∙ e,
+              (laws s st).hit_frame w page frame mark (answer s st ∙ e),
+            );
+            asked = λ s st. subst (λ n. (region : ℕ) × (ask_of s w ≡ Some (ask.Fix n region))) (sym is) (asked a told s st);
+            session = fits;
+            guard = record {
+              worker = refl;
+              held = λ t b.
+                  same_held mid.core t (next k.state) b.core (did.moves.stands k.state k.stands.core) w slot
+                  ∙ hit_held k.state k.stands;
+            };
+            of_page = refl;
+            images = record {
+              images = ap (λ (p : Parts). p.images) did.rest;
+              spare = ap (λ (p : Parts). p.spare) did.rest;
+            };
+          }
+
+  -- ---- an image that leaves its frame
+
+  module _ (frame : ℕ) (sends : (s : State) → StandsFor old s → Sends s (next s) frame) where
+    low_in : (s : State) → StandsFor old s → frame < length old.images
+    low_in s st = subst (λ n. frame < n) (sym st.images.frames) (sends s st).low
+
+    there : IsKept old → is_some (image_in mid.images frame) ≡ true
+    there k =
+        let s = k.state in
+        let st = k.stands in
+        ap (λ (p : Parts). is_some (image_in p.images frame)) did.rest
+        ∙ there_by old.images frame (is_away_at s frame) (st.images.there frame (low_in s st)) (sends s st).emptied.goes.was
+
+    module _ (new : Parts) (image : List ℕ) (was : image_in mid.images frame ≡ Some image)
+        (rest : new ≡ record mid { images = slice_set mid.images frame None }) where
+      whole : new ≡ record old { core = mid.core; last = Some (Fix w page, r); images = slice_set old.images frame None }
+      whole = rest ∙ ap (λ (p : Parts). record p { images = slice_set p.images frame None }) did.rest
+
+      core_is : new.core ≡ mid.core
+      core_is = ap (λ (p : Parts). p.core) rest
+
+      was_old : image_in old.images frame ≡ Some image
+      was_old = ap (λ (p : Parts). image_in p.images frame) (sym did.rest) ∙ was
+
+      out_core : (s : State) → StandsFor old s → core.StandsFor new.core (next s)
+      out_core s st = subst (λ c. core.StandsFor c (next s)) (sym core_is) (did.moves.stands s st.core)
+
+      out_fits : (s : State) → StandsFor old s → ImagesFit new.page_bytes new.images new.spare (next s)
+      out_fits s st =
+          let sent = (sends s st).emptied in
+          subst (λ (p : Parts). ImagesFit p.page_bytes p.images p.spare (next s)) (sym whole)
+          (fit_out old.page_bytes old.images old.spare s (next s) st.images (frames s st) frame (low_in s st)
+          sent.goes sent.before (flush s))
+
+      out_does : Does old (fix_call w page) new
+      out_does =
+          does old new (fix_call w page) (Fix w page) r
+          (subst (λ c. core.Moves old.core (Fix w page) r c) (sym core_is) did.moves) did.done
+          (ap (λ (p : Parts). p.last) whole) (ap (λ (p : Parts). p.page_bytes) whole) calls out_fits
+
+      out : TakenOut old new frame image
+      out =
+          record {
+            was = was_old;
+            images = ap (λ (p : Parts). p.images) whole;
+            spare = ap (λ (p : Parts). p.spare) whole;
+          }
+
+      out_long : IsKept old → length image ≡ new.page_bytes
+      out_long k =
+          k.stands.images.long frame image was_old ∙ sym (ap (λ (p : Parts). p.page_bytes) whole)
+
+  -- ---- a read
+
+  module _ (frame : ℕ) (e : r ≡ MustRead frame) (k : IsKept old) where
+    read_sends : (s : State) → StandsFor old s → Sends s (next s) frame
+    read_sends s st =
+        let v = read_vacates s st.core.reached w page frame (answer s st ∙ e) in
+        record { low = v.0; emptied = emptied s (next s) frame (ready_are_apart s st.core.reached) v.1 }
+
+    pub read_there : is_some (image_in mid.images frame) ≡ true
+    read_there = there frame read_sends k
+
+    module _ (a : Ask) (told : (s : State) → core.StandsFor old.core s → Some a ≡ ask_of s w) (slot : ℕ)
+        (is : slot ≡ fix_slot a) (new : Parts) (image : List ℕ) (was : image_in mid.images frame ≡ Some image)
+        (rest : new ≡ record mid { images = slice_set mid.images frame None }) where
+      read_errand : errand_of (next k.state) w ≡ Some (slot, page, None)
+      read_errand =
+          let now = asked a told k.state k.stands in
+          ((laws k.state k.stands).sent w page (fix_slot a) now.0 frame (answer k.state k.stands ∙ e) now.1).errand
+          ∙ ap {B = Option (ℕ × ℕ × Option ℕ)} (λ (n : ℕ). Some (n, page, None)) (sym is)
+
+      pub read_answers : Does old (fix_call w page) new × IsSent old new w page image (Read w slot page)
+          × ErrandFits new (record { duty = Read w slot page; image = image })
+      read_answers = (
+        out_does frame read_sends new image was rest,
+        (refl, refl, λ s st. (frame, answer s st ∙ e, out frame read_sends new image was rest)),
+        record {
+          out = λ t b.
+              same_errand new.core t (next k.state) b.core
+              (out_core frame read_sends new image was rest k.state k.stands) w ∙ read_errand;
+          headed = λ t b. tt;
+          long = out_long frame read_sends new image was rest k;
+        },
+      )
+
+  -- ---- a victim's write
+
+  module _ (frame victim : ℕ) (e : r ≡ MustWrite frame victim) (k : IsKept old) where
+    leaves : (s : State) → StandsFor old s
+        → Leaves s (next s) victim (record { frame = frame; mark = mark_at s victim })
+    leaves s st = write_leaves s st.core.reached w page frame victim (answer s st ∙ e)
+
+    write_sends : (s : State) → StandsFor old s → Sends s (next s) frame
+    write_sends s st =
+        let gone = leaves s st in
+        record {
+          low = (ready_stand s st.core.reached victim (record { frame = frame; mark = mark_at s victim }) gone.was).low;
+          emptied = emptied s (next s) frame (ready_are_apart s st.core.reached) (takes victim (mark_at s victim) gone);
+        }
+
+    pub write_there : is_some (image_in mid.images frame) ≡ true
+    write_there = there frame write_sends k
+
+    module _ (a : Ask) (told : (s : State) → core.StandsFor old.core s → Some a ≡ ask_of s w) (slot : ℕ)
+        (is : slot ≡ fix_slot a) (new : Parts) (image : List ℕ) (was : image_in mid.images frame ≡ Some image)
+        (rest : new ≡ record mid { images = slice_set mid.images frame None }) where
+      write_errand : errand_of (next k.state) w ≡ Some (slot, page, Some victim)
+      write_errand =
+          let now = asked a told k.state k.stands in
+          ((laws k.state k.stands).sent_victim w page (fix_slot a) now.0 frame victim (answer k.state k.stands ∙ e)
+          now.1).errand
+          ∙ ap {B = Option (ℕ × ℕ × Option ℕ)} (λ (n : ℕ). Some (n, page, Some victim)) (sym is)
+
+      -- The victim's mark stays as its write begins.
+      mark_next : known_mark (next k.state) victim ≡ Some (mark_at k.state victim)
+      mark_next =
+          let s = k.state in
+          let st = k.stands in
+          let stood = ready_stand s st.core.reached victim (record { frame = frame; mark = mark_at s victim })
+          (leaves s st).was in
+          (laws s st).mark (Fix w page) victim (mark_at s victim) stood.mark (λ v slot h. absurd h)
+
+      head_is : head_of image ≡ (victim, mark_at k.state victim)
+      head_is =
+          let right : IsRight old.images victim (record { frame = frame; mark = mark_at k.state victim })
+          = k.stands.images.right victim (record { frame = frame; mark = mark_at k.state victim })
+          (leaves k.state k.stands).was in
+          let same : right.image ≡ image
+          = ap (λ o. unwrap_or o image) (sym right.there ∙ was_old frame write_sends new image was rest) in
+          ap head_of (sym same) ∙ right.head
+
+      headed_in : (t : State) → StandsFor new t
+          → ◌≡◌ {A = Option (ℕ × ℕ)} (Some (head_of image)) (option_map (λ mark. (victim, mark)) (known_mark t victim))
+      headed_in t b =
+          let marked : known_mark t victim ≡ Some (mark_at k.state victim)
+          = same_mark new.core t (next k.state) b.core
+          (out_core frame write_sends new image was rest k.state k.stands) victim ∙ mark_next in
+          ap {B = Option (ℕ × ℕ)} (λ h. Some h) head_is
+          ∙ sym (ap {B = Option (ℕ × ℕ)} (option_map (λ (mark : ℕ). (victim, mark))) marked)
+
+      pub write_answers : Does old (fix_call w page) new × IsSent old new w page image (Write w slot page victim)
+          × ErrandFits new (record { duty = Write w slot page victim; image = image })
+      write_answers = (
+        out_does frame write_sends new image was rest,
+        (refl, refl, λ s st. (frame, answer s st ∙ e, out frame write_sends new image was rest)),
+        record {
+          out = λ t b.
+              same_errand new.core t (next k.state) b.core
+              (out_core frame write_sends new image was rest k.state k.stands) w ∙ write_errand;
+          headed = headed_in;
+          long = out_long frame write_sends new image was rest k;
+        },
+      )

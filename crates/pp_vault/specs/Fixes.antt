@@ -1,0 +1,67 @@
+-- What a fix of a vault, and the answer of a device, come to.
+use Rattle.std.specs.Prelude.{◌≡◌, ℕ, Bool, true, false, not, Option, None, Some, List, slice_set, Result, Ok, Err}
+use Rattle.pp_plan.specs.declared.action.Ask.{Ask}
+use Rattle.pp_plan.specs.declared.action.Ask.TheVariants as ask
+use Rattle.pp_cert.specs.declared.note.Held.TheVariants.{Free}
+use Rattle.pp_model.specs.declared.moves.Came.{Came}
+use Rattle.pp_model.specs.declared.moves.Came.TheVariants as came
+use Rattle.pp_model.specs.declared.moves.Move.{Move}
+use Rattle.pp_model.specs.declared.moves.Move.TheVariants.{Fix, WriteDone, ReadDone, FlushDone}
+use Rattle.pp_model.specs.declared.reply.Failure.{Failure}
+use Rattle.pp_model.specs.declared.reply.Reply.TheVariants.{Hit, MustRead, MustWrite, Loaded, Failed, Flushed}
+use Rattle.pp_model.specs.Pool.{State, frame_of}
+use Rattle.pp_model.specs.Moves.{reply_of, next_of}
+use Rattle.pp_core.specs.Queries.{ask_of, held_of, errand_of, flushed_page, is_leaving}
+use Rattle.pp_device.specs.Image.{head_of}
+use Rattle.pp_vault.specs.declared.tokens.Session.{Session}
+use Rattle.pp_vault.specs.declared.tokens.Duty.{Duty}
+use Rattle.pp_vault.specs.declared.tokens.Duty.TheVariants.{Read, Write, Flush}
+use Rattle.pp_vault.specs.declared.tokens.Errand.{Errand}
+use Rattle.pp_vault.specs.declared.tokens.Returned.{Returned}
+use Rattle.pp_vault.specs.declared.guards.PinGuard.{PinGuard}
+use Rattle.pp_vault.specs.declared.fixing.Fixed.{Fixed}
+use Rattle.pp_vault.specs.declared.fixing.Fixed.TheVariants.{Got, Away, No}
+use Rattle.pp_vault.specs.Parts.{Parts}
+use Rattle.pp_vault.specs.StandsFor.{StandsFor}
+use Rattle.pp_vault.specs.ImageMoves.{TakenOut, ImagesStay}
+use Rattle.pp_vault.specs.Fits.{fix_call}
+use Rattle.pp_vault.specs.Events.{Refuses, Does, untold}
+use Rattle.pp_vault.specs.Tokens.{SessionFits, PinFits, ErrandFits}
+
+-- ---- fix
+
+-- The slot of a plan that asks a fix; zero where it asks something else.
+abbrev pub fix_slot : Ask → ℕ
+fix_slot (ask.Fix slot region) = slot
+fix_slot _ = 0
+
+-- The page was cached: the slot that the plan names holds it, and no image has moved.
+pub record IsHit (old new : Parts) (w page : ℕ) (x : Session) (g : PinGuard) : Type 0 where
+  pub replies : (s : State) → StandsFor old s
+      → (frame : ℕ) × (mark : ℕ) × (reply_of s (Fix w page) ≡ Hit frame mark)
+      × (frame_of (next_of s (Fix w page)) page ≡ Some frame)
+  pub asked : (s : State) → StandsFor old s → (region : ℕ) × (ask_of s w ≡ Some (ask.Fix g.slot region))
+  pub session : SessionFits new w x
+  pub guard : PinFits new w g
+  pub of_page : g.page ≡ page
+  pub images : ImagesStay old new
+
+-- A device has to work: the errand has the image of the frame that the page gets. That is the victim's, where the victim
+-- is written back.
+abbrev pub IsSent : (old new : Parts) → (w page : ℕ) → (image : List ℕ) → Duty → Type 0
+IsSent old new w page image (Read v slot p) =
+    (v ≡ w) × (p ≡ page) × ((s : State) → StandsFor old s → (frame : ℕ)
+    × (reply_of s (Fix w page) ≡ MustRead frame) × TakenOut old new frame image)
+IsSent old new w page image (Write v slot p victim) =
+    (v ≡ w) × (p ≡ page) × ((s : State) → StandsFor old s → (frame : ℕ)
+    × (reply_of s (Fix w page) ≡ MustWrite frame victim) × TakenOut old new frame image)
+IsSent old new w page image (Flush p) = ⊥
+
+abbrev pub FixAnswers : (old : Parts) → Session → (page : ℕ) → Fixed → (new : Parts) → Type 0
+FixAnswers old x page (Got session guard) new =
+    Does old (fix_call x.worker page) new × IsHit old new x.worker page session guard
+FixAnswers old x page (Away errand) new =
+    Does old (fix_call x.worker page) new × IsSent old new x.worker page errand.image errand.duty
+    × ErrandFits new errand
+FixAnswers old x page (No session refusal) new =
+    (session ≡ x) × Refuses old (fix_call x.worker page) refusal × (new ≡ untold old)

@@ -1,0 +1,17 @@
+pub mod Words
+pub mod Calls
+pub mod Fits
+pub mod Parts
+pub mod StandsFor
+pub mod Headline
+pub mod Events
+pub mod Steps
+pub mod Tokens
+pub mod Coding
+pub mod ImageMoves
+pub mod Opening
+pub mod Submits
+pub mod Fixes
+pub mod Answers
+pub mod Uses
+pub mod Carrying

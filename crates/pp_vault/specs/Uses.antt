@@ -1,0 +1,50 @@
+-- What unfix, latch, unlatch and giving a slot back come to.
+use Rattle.std.specs.Prelude.{◌≡◌}
+use Rattle.pp_cert.specs.declared.note.Held.TheVariants.{S}
+use Rattle.pp_plan.specs.declared.mode.Mode.TheVariants as mode
+use Rattle.pp_model.specs.Pool.{State, frame_at}
+use Rattle.pp_vault.specs.declared.tokens.Session.{Session}
+use Rattle.pp_vault.specs.declared.guards.PinGuard.{PinGuard}
+use Rattle.pp_vault.specs.declared.guards.ReadGuard.{ReadGuard}
+use Rattle.pp_vault.specs.declared.guards.WriteGuard.{WriteGuard}
+use Rattle.pp_vault.specs.Parts.{Parts}
+use Rattle.pp_vault.specs.StandsFor.{StandsFor}
+use Rattle.pp_vault.specs.Fits.{unfix_call, latch_call, unlatch_call}
+use Rattle.pp_vault.specs.Events.{Does}
+use Rattle.pp_vault.specs.ImageMoves.{TakenOut, ImagesStay}
+use Rattle.pp_vault.specs.Tokens.{SessionFits, PinFits, ReadFits, WriteFits}
+
+-- Of session x and guard g there are a new session y and a new guard h.
+
+-- The guard is spent.
+pub record Unfixes (old : Parts) (x : Session) (g : PinGuard) (new : Parts) (y : Session) : Type 0 where
+  pub does : Does old (unfix_call x.worker g.worker g.slot g.page) new
+  pub session : SessionFits new x.worker y
+  pub images : ImagesStay old new
+
+-- The page is latched S, and its image stays in its frame.
+pub record LatchesShared (old : Parts) (x : Session) (g : PinGuard) (new : Parts) (y : Session)
+    (h : ReadGuard) : Type 0 where
+  pub does : Does old (latch_call mode.S x.worker g.worker g.slot g.page) new
+  pub session : SessionFits new x.worker y
+  pub guard : ReadFits new x.worker h
+  pub same : (h.slot ≡ g.slot) × (h.page ≡ g.page)
+  pub images : ImagesStay old new
+
+-- The page is latched X, and its image goes from its frame into the guard.
+pub record LatchesExclusive (old : Parts) (x : Session) (g : PinGuard) (new : Parts) (y : Session)
+    (h : WriteGuard) : Type 0 where
+  pub does : Does old (latch_call mode.X x.worker g.worker g.slot g.page) new
+  pub session : SessionFits new x.worker y
+  pub guard : WriteFits new x.worker h
+  pub same : (h.slot ≡ g.slot) × (h.page ≡ g.page)
+  pub image : (s : State) → StandsFor old s → TakenOut old new (frame_at s g.page) h.image
+
+-- The latch S is off the page.
+pub record UnlatchesShared (old : Parts) (x : Session) (g : ReadGuard) (new : Parts) (y : Session)
+    (h : PinGuard) : Type 0 where
+  pub does : Does old (unlatch_call S x.worker g.worker g.slot g.page) new
+  pub session : SessionFits new x.worker y
+  pub guard : PinFits new x.worker h
+  pub same : (h.slot ≡ g.slot) × (h.page ≡ g.page)
+  pub images : ImagesStay old new

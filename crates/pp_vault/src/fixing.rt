@@ -1,0 +1,72 @@
+//! Fix, and the answer of a device: an image leaves its frame with an errand, and comes back.
+
+ghost use Rattle.std.specs.Prelude.{◌≡◌};
+ghost use Rattle.pp_vault.specs.Parts.{parts_of};
+ghost use Rattle.pp_vault.specs.StandsFor.{IsKept};
+ghost use Rattle.pp_vault.specs.Fixes.{FixAnswers, fix_slot};
+
+use crate::guards::PinGuard;
+use crate::refusal::Refusal;
+use crate::store::Store;
+use crate::tokens::{Duty, Errand, Session};
+use pp_core::{Ask, Move, Reply};
+
+/// What a fix comes to.
+#[derive(Debug)]
+pub enum Fixed {
+    /// The page was cached, and the slot holds it.
+    Got(Session, PinGuard),
+    /// A device has to work first.
+    Away(Errand),
+    /// It is refused, and nothing has changed.
+    No(Session, Refusal),
+}
+
+/// The slot of a plan that asks a fix; zero where it asks something else.
+fn slot_of(ask: Ask) -> u32
+    ensures { result ≡ fix_slot ask }
+{
+    match ask {
+        Ask::Fix { slot, .. } => u32::from(slot),
+        _ => 0,
+    }
+}
+
+impl Store {
+    /// A worker fixes a page into the slot that its plan names.
+    pub(crate) fn fix(&mut self, session: Session, page: u32) -> Fixed
+        requires { IsKept (parts_of self.old) }
+        ensures { FixAnswers (parts_of self.old) session page result (parts_of self.new) }
+    {
+        let worker = session.worker;
+        let Some(ask) = self.core.ask(worker) else {
+            self.refuse();
+            return Fixed::No(session, Refusal::Stranger);
+        };
+        let slot = slot_of(ask);
+        let reply = match self.step(Move::Fix { worker, page }) {
+            Ok(reply) => reply,
+            Err(refusal) => return Fixed::No(session, refusal),
+        };
+        let Session { worker, ask: _ } = session;
+        match reply {
+            Reply::Hit { .. } => Fixed::Got(self.session(worker), PinGuard { worker, slot, page }),
+            Reply::MustRead { frame } => {
+                let image = self.take_out(frame);
+                let duty = Duty::Read { worker, slot, page };
+                Fixed::Away(Errand { duty, image })
+            }
+            Reply::MustWrite { frame, victim } => {
+                let image = self.take_out(frame);
+                let duty = Duty::Write {
+                    worker,
+                    slot,
+                    page,
+                    victim,
+                };
+                Fixed::Away(Errand { duty, image })
+            }
+            _ => unreachable!(),
+        }
+    }
+}

@@ -1,0 +1,117 @@
+//! Guards: what a worker has of a slot that it holds.
+
+ghost use Rattle.std.specs.Prelude.{◌≡◌};
+ghost use Rattle.pp_device.specs.Image.{body_of};
+
+use crate::image::Image;
+
+/// A slot that holds a page, not latched.
+///
+/// It is spent by latching the page or by unfixing it; the compiler refuses code that lets it fall.
+#[derive(Debug)]
+pub struct PinGuard {
+    pub(crate) worker: u32,
+    pub(crate) slot: u32,
+    pub(crate) page: u32,
+}
+
+/// A slot that holds a page, latched S. Its image may be looked at.
+///
+/// It is spent by unlatching the page, or by giving the slot back on the way out of a plan.
+#[derive(Debug)]
+pub struct ReadGuard {
+    pub(crate) worker: u32,
+    pub(crate) slot: u32,
+    pub(crate) page: u32,
+    pub(crate) mark: u64,
+}
+
+/// A slot that holds a page, latched X, with the page's image in it.
+///
+/// Its body may be changed, but not its head: the head is written as the latch goes off the page, with a stamp of one
+/// more. It is spent as a [`ReadGuard`] is.
+#[derive(Debug)]
+pub struct WriteGuard {
+    pub(crate) worker: u32,
+    pub(crate) slot: u32,
+    pub(crate) page: u32,
+    pub(crate) mark: u64,
+    pub(crate) image: Image,
+}
+
+/// Any guard of a slot.
+#[derive(Debug)]
+pub enum Guard {
+    Pin(PinGuard),
+    Read(ReadGuard),
+    Write(WriteGuard),
+}
+
+impl PinGuard {
+    /// The slot's number.
+    pub fn slot(&self) -> u32
+        ensures { result ≡ self.now.slot }
+    {
+        self.slot
+    }
+
+    /// The page that the slot holds.
+    pub fn page(&self) -> u32
+        ensures { result ≡ self.now.page }
+    {
+        self.page
+    }
+}
+
+impl ReadGuard {
+    /// The slot's number.
+    pub fn slot(&self) -> u32
+        ensures { result ≡ self.now.slot }
+    {
+        self.slot
+    }
+
+    /// The page that the slot holds.
+    pub fn page(&self) -> u32
+        ensures { result ≡ self.now.page }
+    {
+        self.page
+    }
+
+    /// The mark of the page as it was latched, the stamp in the head of its image.
+    pub fn mark(&self) -> u64
+        ensures { result ≡ self.now.mark }
+    {
+        self.mark
+    }
+}
+
+impl WriteGuard {
+    /// The slot's number.
+    pub fn slot(&self) -> u32
+        ensures { result ≡ self.now.slot }
+    {
+        self.slot
+    }
+
+    /// The page that the slot holds.
+    pub fn page(&self) -> u32
+        ensures { result ≡ self.now.page }
+    {
+        self.page
+    }
+
+    /// The mark of the page as it was latched, the stamp in the head of its image.
+    pub fn mark(&self) -> u64
+        ensures { result ≡ self.now.mark }
+    {
+        self.mark
+    }
+
+    /// The body of the page's image: its bytes from byte 12 on.
+    pub fn body(&self) -> &[u8]
+        ensures { result.now ≡ body_of self.now.image }
+    {
+        self.image.body()
+    }
+}

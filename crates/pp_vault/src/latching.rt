@@ -1,0 +1,278 @@
+//! Unfix, latch and unlatch: guards that turn into one another.
+
+ghost use Rattle.std.specs.Prelude.{◌≡◌, IfOk, IfErr, OnErr};
+ghost use Rattle.pp_model.specs.Pool.{State};
+ghost use Rattle.pp_cert.specs.declared.note.Held.TheVariants.{S};
+ghost use Rattle.pp_plan.specs.declared.mode.Mode.TheVariants as mode;
+ghost use Rattle.pp_core.specs.Queries.{ask_of};
+ghost use Rattle.pp_vault.specs.Parts.{parts_of};
+ghost use Rattle.pp_vault.specs.StandsFor.{StandsFor, IsKept};
+ghost use Rattle.pp_vault.specs.Fits.{unfix_call, latch_call, unlatch_call, is_same_held, is_same_mode, is_held_so};
+ghost use Rattle.pp_vault.specs.Fits.{fits_both as both_fit, asks_unfix as unfix_is_asked};
+ghost use Rattle.pp_vault.specs.Fits.{asks_latch as latch_is_asked, asks_unlatch as unlatch_is_asked};
+ghost use Rattle.pp_vault.specs.Steps.{told_mark};
+ghost use Rattle.pp_vault.specs.Events.{Refuses, untold};
+ghost use Rattle.pp_vault.specs.Uses.{Unfixes, LatchesShared, LatchesExclusive, UnlatchesShared};
+
+use crate::guards::{PinGuard, ReadGuard, WriteGuard};
+use crate::refusal::Refusal;
+use crate::store::Store;
+use crate::tokens::Session;
+use pp_core::{Ask, Cause, Held, Move, Reply};
+use pp_plan::Mode;
+
+/// Whether both are held in the same way.
+fn is_same(held: Held, other: Held) -> bool
+    ensures { result ≡ is_same_held held other }
+{
+    match (held, other) {
+        (Held::Free, Held::Free) | (Held::S, Held::S) | (Held::X, Held::X) => true,
+        _ => false,
+    }
+}
+
+/// Whether both modes are the same.
+fn is_mode(mode: Mode, other: Mode) -> bool
+    ensures { result ≡ is_same_mode mode other }
+{
+    match (mode, other) {
+        (Mode::S, Mode::S) | (Mode::X, Mode::X) => true,
+        _ => false,
+    }
+}
+
+/// The mark that a latch or an unlatch is told.
+fn mark_in(reply: Reply) -> u64
+    ensures { result ≡ told_mark reply }
+{
+    match reply {
+        Reply::Latched { mark } => mark,
+        Reply::Unlatched { mark } => mark,
+        _ => 0,
+    }
+}
+
+impl Store {
+    /// Whether the worker's slot holds the page in this way.
+    pub(crate) fn holds_so(&self, worker: u32, slot: u32, page: u32, held: Held) -> bool
+        ensures { (s : State) → StandsFor (parts_of self.now) s → result ≡ is_held_so s worker slot page held }
+    {
+        match self.core.held(worker, slot) {
+            Some((other, how)) => other == page && is_same(how, held),
+            None => false,
+        }
+    }
+
+    /// Whether a session and a guard fit: the worker acts, the guard is that worker's, and its slot holds its page so.
+    fn fits_both(&self, worker: u32, of: u32, slot: u32, page: u32, held: Held) -> bool
+        ensures { (s : State) → StandsFor (parts_of self.now) s → result ≡ both_fit s worker of slot page held }
+    {
+        let acts = match self.core.ask(worker) {
+            Some(_) => true,
+            None => false,
+        };
+        acts && of == worker && self.holds_so(worker, slot, page, held)
+    }
+
+    /// Whether the worker's plan asks an unfix of the slot.
+    fn asks_unfix(&self, worker: u32, slot: u32) -> bool
+        ensures { (s : State) → StandsFor (parts_of self.now) s → result ≡ unfix_is_asked slot (ask_of s worker) }
+    {
+        match self.core.ask(worker) {
+            Some(Ask::Unfix { slot: of }) => slot == u32::from(of),
+            _ => false,
+        }
+    }
+
+    /// Whether the worker's plan asks a latch of the slot in this mode.
+    fn asks_latch(&self, worker: u32, slot: u32, mode: Mode) -> bool
+        ensures { (s : State) → StandsFor (parts_of self.now) s → result ≡ latch_is_asked slot mode (ask_of s worker) }
+    {
+        match self.core.ask(worker) {
+            Some(
+                Ask::Latch {
+                    slot: of,
+                    mode: how,
+                },
+            ) => slot == u32::from(of) && is_mode(mode, how),
+            _ => false,
+        }
+    }
+
+    /// Whether the worker's plan asks an unlatch of the slot.
+    fn asks_unlatch(&self, worker: u32, slot: u32) -> bool
+        ensures { (s : State) → StandsFor (parts_of self.now) s → result ≡ unlatch_is_asked slot (ask_of s worker) }
+    {
+        match self.core.ask(worker) {
+            Some(Ask::Unlatch { slot: of }) => slot == u32::from(of),
+            _ => false,
+        }
+    }
+
+    /// A worker gives back the page of a slot that isn't latched.
+    pub(crate) fn unfix(
+        &mut self,
+        session: Session,
+        guard: PinGuard,
+    ) -> Result<Session, (Session, PinGuard, Refusal)>
+        requires { IsKept (parts_of self.old) }
+        ensures ok { IfOk result (λ after. Unfixes (parts_of self.old) session guard (parts_of self.new) after) }
+        ensures err { IfErr result (λ e. Refuses (parts_of self.old)
+            (unfix_call session.worker guard.worker guard.slot guard.page) e.2) }
+        ensures back { IfErr result (λ e. (e.0 ≡ session) × (e.1 ≡ guard)) }
+        ensures unchanged { OnErr result (parts_of self.new ≡ untold (parts_of self.old)) }
+    {
+        let worker = session.worker;
+        if !self.fits_both(worker, guard.worker, guard.slot, guard.page, Held::Free) {
+            self.refuse();
+            return Err((session, guard, Refusal::Stranger));
+        }
+        if !self.asks_unfix(worker, guard.slot) {
+            self.refuse();
+            return Err((session, guard, Refusal::OffPlan(Cause::NotAsked)));
+        }
+        match self.step(Move::Unfix { worker }) {
+            Ok(_) => {
+                let Session { worker, ask: _ } = session;
+                let PinGuard {
+                    worker: _,
+                    slot: _,
+                    page: _,
+                } = guard;
+                Ok(self.session(worker))
+            }
+            Err(refusal) => Err((session, guard, refusal)),
+        }
+    }
+
+    /// A worker latches the page of a slot S. The image stays in its frame.
+    pub(crate) fn latch_shared(
+        &mut self,
+        session: Session,
+        guard: PinGuard,
+    ) -> Result<(Session, ReadGuard), (Session, PinGuard, Refusal)>
+        requires { IsKept (parts_of self.old) }
+        ensures ok { IfOk result (λ now. LatchesShared (parts_of self.old) session guard (parts_of self.new) now.0 now.1) }
+        ensures err { IfErr result (λ e. Refuses (parts_of self.old)
+            (latch_call mode.S session.worker guard.worker guard.slot guard.page) e.2) }
+        ensures back { IfErr result (λ e. (e.0 ≡ session) × (e.1 ≡ guard)) }
+        ensures unchanged { OnErr result (parts_of self.new ≡ untold (parts_of self.old)) }
+    {
+        let worker = session.worker;
+        if !self.fits_both(worker, guard.worker, guard.slot, guard.page, Held::Free) {
+            self.refuse();
+            return Err((session, guard, Refusal::Stranger));
+        }
+        if !self.asks_latch(worker, guard.slot, Mode::S) {
+            self.refuse();
+            return Err((session, guard, Refusal::OffPlan(Cause::NotAsked)));
+        }
+        match self.step(Move::Latch { worker }) {
+            Ok(reply) => {
+                let mark = mark_in(reply);
+                let Session { worker, ask: _ } = session;
+                let PinGuard {
+                    worker: _,
+                    slot,
+                    page,
+                } = guard;
+                Ok((
+                    self.session(worker),
+                    ReadGuard {
+                        worker,
+                        slot,
+                        page,
+                        mark,
+                    },
+                ))
+            }
+            Err(refusal) => Err((session, guard, refusal)),
+        }
+    }
+
+    /// A worker latches the page of a slot X. The image goes from its frame into the guard.
+    pub(crate) fn latch_exclusive(
+        &mut self,
+        session: Session,
+        guard: PinGuard,
+    ) -> Result<(Session, WriteGuard), (Session, PinGuard, Refusal)>
+        requires { IsKept (parts_of self.old) }
+        ensures ok { IfOk result (λ now. LatchesExclusive (parts_of self.old) session guard (parts_of self.new) now.0 now.1) }
+        ensures err { IfErr result (λ e. Refuses (parts_of self.old)
+            (latch_call mode.X session.worker guard.worker guard.slot guard.page) e.2) }
+        ensures back { IfErr result (λ e. (e.0 ≡ session) × (e.1 ≡ guard)) }
+        ensures unchanged { OnErr result (parts_of self.new ≡ untold (parts_of self.old)) }
+    {
+        let worker = session.worker;
+        if !self.fits_both(worker, guard.worker, guard.slot, guard.page, Held::Free) {
+            self.refuse();
+            return Err((session, guard, Refusal::Stranger));
+        }
+        if !self.asks_latch(worker, guard.slot, Mode::X) {
+            self.refuse();
+            return Err((session, guard, Refusal::OffPlan(Cause::NotAsked)));
+        }
+        let frame = self.core.frame_of(guard.page).unwrap_or(0);
+        match self.step(Move::Latch { worker }) {
+            Ok(reply) => {
+                let mark = mark_in(reply);
+                let image = self.take_out(frame);
+                let Session { worker, ask: _ } = session;
+                let PinGuard {
+                    worker: _,
+                    slot,
+                    page,
+                } = guard;
+                Ok((
+                    self.session(worker),
+                    WriteGuard {
+                        worker,
+                        slot,
+                        page,
+                        mark,
+                        image,
+                    },
+                ))
+            }
+            Err(refusal) => Err((session, guard, refusal)),
+        }
+    }
+
+    /// A worker takes its latch S off the page of a slot.
+    pub(crate) fn unlatch_shared(
+        &mut self,
+        session: Session,
+        guard: ReadGuard,
+    ) -> Result<(Session, PinGuard), (Session, ReadGuard, Refusal)>
+        requires { IsKept (parts_of self.old) }
+        ensures ok { IfOk result
+            (λ now. UnlatchesShared (parts_of self.old) session guard (parts_of self.new) now.0 now.1) }
+        ensures err { IfErr result (λ e. Refuses (parts_of self.old)
+            (unlatch_call S session.worker guard.worker guard.slot guard.page) e.2) }
+        ensures back { IfErr result (λ e. (e.0 ≡ session) × (e.1 ≡ guard)) }
+        ensures unchanged { OnErr result (parts_of self.new ≡ untold (parts_of self.old)) }
+    {
+        let worker = session.worker;
+        if !self.fits_both(worker, guard.worker, guard.slot, guard.page, Held::S) {
+            self.refuse();
+            return Err((session, guard, Refusal::Stranger));
+        }
+        if !self.asks_unlatch(worker, guard.slot) {
+            self.refuse();
+            return Err((session, guard, Refusal::OffPlan(Cause::NotAsked)));
+        }
+        match self.step(Move::Unlatch { worker }) {
+            Ok(_) => {
+                let Session { worker, ask: _ } = session;
+                let ReadGuard {
+                    worker: _,
+                    slot,
+                    page,
+                    mark: _,
+                } = guard;
+                Ok((self.session(worker), PinGuard { worker, slot, page }))
+            }
+            Err(refusal) => Err((session, guard, refusal)),
+        }
+    }
+}

@@ -1,0 +1,32 @@
+//! The vault of a buffer pool: its core, an image of a page for each frame, and guards that must be spent.
+//!
+//! Each call is one move of the core. What a worker has at hand are tokens: values that can't be copied and can't be
+//! let fall, so that a fixed page is unfixed, a latch is let go, and what a device was asked is answered.
+#![tactic(auto)]
+
+pub use fixing::Fixed;
+pub use guards::{Guard, PinGuard, ReadGuard, WriteGuard};
+pub use hands::Hands;
+pub use pp_core::{
+    Accepted, Ask, Came, Cause, CoreError as VaultError, Delay, Ending, Failure, Held, Move,
+    PlanId, Reply, SubmitError, Turn,
+};
+pub use pp_device::{Device, Fault};
+pub use refusal::Refusal;
+pub use tokens::{Chair, Errand, Leaver, Returned, Session};
+pub use vault::Vault;
+
+mod answering;
+mod carrying;
+mod fixing;
+mod guards;
+mod hands;
+mod image;
+mod latching;
+mod opening;
+mod refusal;
+mod seating;
+mod store;
+mod submitting;
+mod tokens;
+mod vault;

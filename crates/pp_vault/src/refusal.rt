@@ -1,0 +1,32 @@
+//! Why a call of a vault does nothing.
+
+ghost use Rattle.std.specs.Prelude.{Some};
+
+use pp_model::{Cause, Delay};
+use std::fmt;
+
+/// Why a call does nothing. The tokens that it was handed come back.
+#[derive(Clone, Copy, Debug, PartialEq, Eq)]
+pub enum Refusal {
+    /// The move isn't possible now. It may become possible without the worker's doing.
+    NotNow(Delay),
+    /// The move isn't one that may be asked here.
+    OffPlan(Cause),
+    /// A token isn't one that this vault gave out, or not one of this state: the core has something else of its worker,
+    /// slot, page or latch.
+    Stranger,
+}
+
+impl fmt::Display for Refusal {
+    ghost use Rattle.pp_vault.specs.Words.{refusal_words};
+
+    ghost output = { λ refusal. refusal_words refusal };
+
+    fn fmt<W: fmt::Write>(&self, f: &mut fmt::Formatter<W>) -> fmt::Result {
+        match self {
+            Refusal::NotNow(delay) => write!(f, "notnow {delay}"),
+            Refusal::OffPlan(cause) => write!(f, "offplan {cause}"),
+            Refusal::Stranger => f.write_str("offplan stranger"),
+        }
+    }
+}

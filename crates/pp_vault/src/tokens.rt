@@ -1,0 +1,97 @@
+//! Tokens of workers and of the flusher.
+
+ghost use Rattle.std.specs.Prelude.{◌≡◌};
+
+use crate::image::Image;
+use pp_device::Fault;
+use pp_plan::Ask;
+
+/// An idle worker.
+#[derive(Debug)]
+pub struct Chair {
+    pub(crate) worker: u32,
+}
+
+/// A worker in its plan, for which no device works.
+#[derive(Debug)]
+pub struct Session {
+    pub(crate) worker: u32,
+    pub(crate) ask: Ask,
+}
+
+/// A worker that leaves its plan after a fix that failed.
+#[derive(Debug)]
+pub struct Leaver {
+    pub(crate) worker: u32,
+}
+
+/// What a device is asked.
+#[derive(Clone, Copy, Debug, PartialEq, Eq)]
+pub(crate) enum Duty {
+    /// To read the page, which is fixed into the worker's slot.
+    Read {
+        worker: u32,
+        slot: u32,
+        page: u32,
+    },
+    /// To write the victim back, whose frame the page gets. The head of its image has the victim's mark.
+    Write {
+        worker: u32,
+        slot: u32,
+        page: u32,
+        victim: u32,
+    },
+    /// To write the page, which stays in its frame.
+    Flush {
+        page: u32,
+    },
+}
+
+/// A call of a device that is to be made: a read or a write for a worker, or a flush, with the buffer.
+#[derive(Debug)]
+pub struct Errand {
+    pub(crate) duty: Duty,
+    pub(crate) image: Image,
+}
+
+/// A call of a device that was made, and what came of it.
+#[derive(Debug)]
+pub struct Returned {
+    pub(crate) duty: Duty,
+    pub(crate) image: Image,
+    pub(crate) answer: Result<(), Fault>,
+}
+
+impl Chair {
+    /// The worker's number.
+    pub fn worker(&self) -> u32
+        ensures { result ≡ self.now.worker }
+    {
+        self.worker
+    }
+}
+
+impl Session {
+    /// The worker's number.
+    pub fn worker(&self) -> u32
+        ensures { result ≡ self.now.worker }
+    {
+        self.worker
+    }
+
+    /// What the worker's plan asks next.
+    pub fn ask(&self) -> Ask
+        ensures { result ≡ self.now.ask }
+    {
+        self.ask
+    }
+}
+
+impl Leaver {
+    /// The worker's number.
+    pub fn worker(&self) -> u32
+        ensures { result ≡ self.now.worker }
+    {
+        self.worker
+    }
+}

@@ -1,0 +1,298 @@
+//! The vault: its core's moves, with the images of the pages.
+
+ghost use Rattle.std.specs.Prelude.{◌≡◌, Some, None, IfOk, IfErr, OnErr};
+ghost use Rattle.pp_model.specs.Pool.{State, opening, dirty_pages};
+ghost use Rattle.pp_model.specs.Budget.{bound};
+ghost use Rattle.pp_model.specs.Submitting.{submit_error};
+ghost use Rattle.pp_vault.specs.Submits.{TakesIn};
+ghost use Rattle.pp_model.specs.Turns.{next_turn};
+ghost use Rattle.pp_core.specs.Opening.{kept_of};
+ghost use Rattle.pp_vault.specs.Opening.{all_chairs};
+ghost use Rattle.pp_vault.specs.StandsFor.{StandsFor, IsKept};
+ghost use Rattle.pp_vault.specs.Headline.{HeadlineHolds};
+ghost use Rattle.pp_vault.specs.Events.{Refuses, Does, untold};
+ghost use Rattle.pp_vault.specs.Fits.{take_call, choose_call, finish_call, end_call, unfix_call, latch_call, unlatch_call};
+ghost use Rattle.pp_vault.specs.ImageMoves.{ImagesStay};
+ghost use Rattle.pp_vault.specs.Tokens.{SessionFits, HoldsNothing};
+ghost use Rattle.pp_vault.specs.Fixes.{FixAnswers};
+ghost use Rattle.pp_cert.specs.declared.note.Held.TheVariants.{S};
+ghost use Rattle.pp_plan.specs.declared.mode.Mode.TheVariants as mode;
+ghost use Rattle.pp_vault.specs.Uses.{Unfixes, LatchesShared, LatchesExclusive, UnlatchesShared};
+
+use crate::fixing::Fixed;
+use crate::guards::{PinGuard, ReadGuard, WriteGuard};
+use crate::hands::Hands;
+use crate::refusal::Refusal;
+use crate::store::Store;
+use crate::tokens::{Chair, Leaver, Session};
+use pp_core::{Accepted, CoreError as VaultError, Move, PlanId, Reply, SubmitError, Turn};
+use pp_settings::Settings;
+use std::alloc::Global;
+use std::marker::Model;
+
+/// A pool's core with an image of a page for each frame.
+#[derive(Drop)]
+pub struct Vault {
+    store: Store,
+}
+
+impl Model for Vault {
+    ghost use Rattle.pp_vault.specs.Parts.{Parts, parts_of};
+    ghost use Rattle.pp_vault.specs.StandsFor.{IsKept};
+    ghost use Rattle.pp_vault.specs.Coding.{coded_parts};
+
+    ghost Value = { Parts };
+
+    ghost coded = { coded_parts };
+
+    ghost view = { λ v. parts_of v.store };
+
+    ghost invariant = { λ v. IsKept (parts_of v.store) };
+}
+
+impl Vault {
+    /// A vault with these settings, in which nothing was done yet, and its hands, with the chair of each worker.
+    ///
+    /// It gets all memory that the vault ever needs: the core's, and an image of a page for each frame and for the
+    /// flusher.
+    ///
+    /// # Errors
+    ///
+    /// Only where that memory can't be had.
+    pub fn new(alloc: Global, settings: &Settings) -> Result<(Vault, Hands), VaultError>
+        ensures opens { IfOk result (λ made. StandsFor made.0 (opening (kept_of settings.now))) }
+        ensures hands { IfOk result (λ made. made.1 ≡ all_chairs settings.now.workers) }
+        ensures page_bytes { IfOk result (λ made. made.0.page_bytes ≡ settings.now.page_bytes) }
+        ensures untold { IfOk result (λ made. made.0.last ≡ None) }
+        ensures kept { IfOk result (λ made. IsKept made.0) }
+        ensures headline { IfOk result (λ made. HeadlineHolds made.0) }
+    {
+        let store = Store::new(alloc, settings)?;
+        let hands = Hands::new(alloc, settings.workers())?;
+        Ok((Vault { store }, hands))
+    }
+
+    /// Does nothing. It tells that the vault stands for a state that can be reached, and that the headline holds of each
+    /// state that it stands for.
+    #[tactic(auto, using(crate::proofs::Kept::headline))]
+    pub fn known(&self)
+        ensures kept { IsKept self.now }
+        ensures headline { HeadlineHolds self.now }
+    {
+        let _ = &self.store;
+    }
+
+    /// An idle worker takes the first plan that waits.
+    ///
+    /// # Errors
+    ///
+    /// [`Refusal::Stranger`] where the chair's worker isn't idle; else what the core refuses. The chair comes back.
+    pub fn take(&mut self, chair: Chair) -> Result<Session, (Chair, Refusal)>
+        ensures ok { IfOk result (λ _. Does self.old (take_call chair.worker) self.new) }
+        ensures images { IfOk result (λ _. ImagesStay self.old self.new) }
+        ensures session { IfOk result (λ session. SessionFits self.new chair.worker session) }
+        ensures err { IfErr result (λ e. Refuses self.old (take_call chair.worker) e.1) }
+        ensures back { IfErr result (λ e. e.0 ≡ chair) }
+        ensures unchanged { OnErr result (self.new ≡ untold self.old) }
+        ensures kept { IsKept self.new }
+        ensures headline { HeadlineHolds self.new }
+    {
+        self.store.take(chair)
+    }
+
+    /// A worker takes a branch of the choice that its plan asks, numbered from 0.
+    ///
+    /// # Errors
+    ///
+    /// [`Refusal::Stranger`] where the session's worker doesn't act; else what the core refuses. The session comes back.
+    pub fn choose(&mut self, session: Session, branch: u32) -> Result<Session, (Session, Refusal)>
+        ensures ok { IfOk result (λ _. Does self.old (choose_call session.worker branch) self.new) }
+        ensures images { IfOk result (λ _. ImagesStay self.old self.new) }
+        ensures session { IfOk result (λ now. SessionFits self.new session.worker now) }
+        ensures err { IfErr result (λ e. Refuses self.old (choose_call session.worker branch) e.1) }
+        ensures back { IfErr result (λ e. e.0 ≡ session) }
+        ensures unchanged { OnErr result (self.new ≡ untold self.old) }
+        ensures kept { IsKept self.new }
+        ensures headline { HeadlineHolds self.new }
+    {
+        self.store.choose(session, branch)
+    }
+
+    /// A worker is done with its plan, and idle again.
+    ///
+    /// # Errors
+    ///
+    /// [`Refusal::Stranger`] where the session's worker doesn't act; else what the core refuses. The session comes back.
+    pub fn finish(&mut self, session: Session) -> Result<Chair, (Session, Refusal)>
+        ensures ok { IfOk result (λ _. Does self.old (finish_call session.worker) self.new) }
+        ensures images { IfOk result (λ _. ImagesStay self.old self.new) }
+        ensures chair { IfOk result (λ chair. chair ≡ record { worker = session.worker }) }
+        ensures nothing_held { IfOk result (λ _. HoldsNothing self.old session.worker) }
+        ensures err { IfErr result (λ e. Refuses self.old (finish_call session.worker) e.1) }
+        ensures back { IfErr result (λ e. e.0 ≡ session) }
+        ensures unchanged { OnErr result (self.new ≡ untold self.old) }
+        ensures kept { IsKept self.new }
+        ensures headline { HeadlineHolds self.new }
+    {
+        self.store.finish(session)
+    }
+
+    /// A worker has left its plan, and is idle again.
+    ///
+    /// # Errors
+    ///
+    /// [`Refusal::Stranger`] where the worker doesn't leave its plan; else what the core refuses. The token comes back.
+    pub fn end(&mut self, leaver: Leaver) -> Result<Chair, (Leaver, Refusal)>
+        ensures ok { IfOk result (λ _. Does self.old (end_call leaver.worker) self.new) }
+        ensures images { IfOk result (λ _. ImagesStay self.old self.new) }
+        ensures chair { IfOk result (λ chair. chair ≡ record { worker = leaver.worker }) }
+        ensures nothing_held { IfOk result (λ _. HoldsNothing self.old leaver.worker) }
+        ensures err { IfErr result (λ e. Refuses self.old (end_call leaver.worker) e.1) }
+        ensures back { IfErr result (λ e. e.0 ≡ leaver) }
+        ensures unchanged { OnErr result (self.new ≡ untold self.old) }
+        ensures kept { IsKept self.new }
+        ensures headline { HeadlineHolds self.new }
+    {
+        self.store.end(leaver)
+    }
+
+    /// Takes a plan in, which waits behind the others, and answers its number. It isn't told by [`Vault::done`].
+    ///
+    /// # Errors
+    ///
+    /// As the core's: the plan comes back, and nothing has changed.
+    pub fn submit(&mut self, accepted: Accepted) -> Result<PlanId, (Accepted, SubmitError)>
+        ensures ok { IfOk result (λ id. TakesIn self.old accepted id self.new) }
+        ensures error { IfErr result (λ e. (s : State) → StandsFor self.old s → submit_error s accepted ≡ Some e.1) }
+        ensures back { IfErr result (λ e. e.0 ≡ accepted) }
+        ensures unchanged { OnErr result (self.new ≡ self.old) }
+        ensures kept { IsKept self.new }
+        ensures headline { HeadlineHolds self.new }
+    {
+        self.store.submit(accepted)
+    }
+
+    /// Who moves next, as the core tells it. None if and only if no plan waits, every worker is idle, and no flush is in
+    /// flight.
+    pub fn next_possible(&self) -> Option<Turn>
+        ensures turn { (s : State) → StandsFor self.now s → result ≡ next_turn s }
+    {
+        self.store.core.next_possible()
+    }
+
+    /// The bound on the calls that are left to be done: each that is done lowers it by 1 at least.
+    pub fn budget(&self) -> u64
+        ensures bound { (s : State) → StandsFor self.now s → result ≡ bound s }
+    {
+        self.store.core.budget()
+    }
+
+    /// How many pages are newer than the device's. It looks at every page.
+    pub fn dirty(&self) -> u32
+        ensures { (s : State) → StandsFor self.now s → result ≡ dirty_pages s }
+    {
+        self.store.core.dirty()
+    }
+
+    /// The move and the reply of the last call that was a move; none before the first, and where it was refused.
+    pub fn done(&self) -> Option<(Move, Reply)>
+        ensures { result ≡ self.now.last }
+    {
+        self.store.last
+    }
+
+    /// A worker fixes a page into the slot that its plan names.
+    #[tactic(auto, using(crate::proofs::FixKept::fix_keeps))]
+    pub fn fix(&mut self, session: Session, page: u32) -> Fixed
+        ensures answers { FixAnswers self.old session page result self.new }
+        ensures kept { IsKept self.new }
+        ensures headline { HeadlineHolds self.new }
+    {
+        self.store.fix(session, page)
+    }
+
+    /// A worker gives back the page of a slot that isn't latched. The guard is spent.
+    ///
+    /// # Errors
+    ///
+    /// [`Refusal::Stranger`] where a token isn't one of this state, and [`Refusal::OffPlan`] where the plan asks something
+    /// else. The tokens come back, and nothing changes.
+    pub fn unfix(
+        &mut self,
+        session: Session,
+        guard: PinGuard,
+    ) -> Result<Session, (Session, PinGuard, Refusal)>
+        ensures ok { IfOk result (λ after. Unfixes self.old session guard self.new after) }
+        ensures err { IfErr result (λ e. Refuses self.old
+            (unfix_call session.worker guard.worker guard.slot guard.page) e.2) }
+        ensures back { IfErr result (λ e. (e.0 ≡ session) × (e.1 ≡ guard)) }
+        ensures unchanged { OnErr result (self.new ≡ untold self.old) }
+        ensures kept { IsKept self.new }
+        ensures headline { HeadlineHolds self.new }
+    {
+        self.store.unfix(session, guard)
+    }
+
+    /// A worker latches the page of a slot S. Its image may be looked at then.
+    ///
+    /// # Errors
+    ///
+    /// [`Refusal::NotNow`] where the page is latched X, and else as in [`Vault::unfix`].
+    pub fn latch_shared(
+        &mut self,
+        session: Session,
+        guard: PinGuard,
+    ) -> Result<(Session, ReadGuard), (Session, PinGuard, Refusal)>
+        ensures ok { IfOk result (λ now. LatchesShared self.old session guard self.new now.0 now.1) }
+        ensures err { IfErr result (λ e. Refuses self.old
+            (latch_call mode.S session.worker guard.worker guard.slot guard.page) e.2) }
+        ensures back { IfErr result (λ e. (e.0 ≡ session) × (e.1 ≡ guard)) }
+        ensures unchanged { OnErr result (self.new ≡ untold self.old) }
+        ensures kept { IsKept self.new }
+        ensures headline { HeadlineHolds self.new }
+    {
+        self.store.latch_shared(session, guard)
+    }
+
+    /// A worker latches the page of a slot X. The page's image is in the guard from then on.
+    ///
+    /// # Errors
+    ///
+    /// [`Refusal::NotNow`] where the page is latched already, and else as in [`Vault::unfix`].
+    pub fn latch_exclusive(
+        &mut self,
+        session: Session,
+        guard: PinGuard,
+    ) -> Result<(Session, WriteGuard), (Session, PinGuard, Refusal)>
+        ensures ok { IfOk result (λ now. LatchesExclusive self.old session guard self.new now.0 now.1) }
+        ensures err { IfErr result (λ e. Refuses self.old
+            (latch_call mode.X session.worker guard.worker guard.slot guard.page) e.2) }
+        ensures back { IfErr result (λ e. (e.0 ≡ session) × (e.1 ≡ guard)) }
+        ensures unchanged { OnErr result (self.new ≡ untold self.old) }
+        ensures kept { IsKept self.new }
+        ensures headline { HeadlineHolds self.new }
+    {
+        self.store.latch_exclusive(session, guard)
+    }
+
+    /// A worker takes its latch S off the page of a slot, which it still holds.
+    ///
+    /// # Errors
+    ///
+    /// As in [`Vault::unfix`].
+    pub fn unlatch_shared(
+        &mut self,
+        session: Session,
+        guard: ReadGuard,
+    ) -> Result<(Session, PinGuard), (Session, ReadGuard, Refusal)>
+        ensures ok { IfOk result (λ now. UnlatchesShared self.old session guard self.new now.0 now.1) }
+        ensures err { IfErr result (λ e. Refuses self.old
+            (unlatch_call S session.worker guard.worker guard.slot guard.page) e.2) }
+        ensures back { IfErr result (λ e. (e.0 ≡ session) × (e.1 ≡ guard)) }
+        ensures unchanged { OnErr result (self.new ≡ untold self.old) }
+        ensures kept { IsKept self.new }
+        ensures headline { HeadlineHolds self.new }
+    {
+        self.store.unlatch_shared(session, guard)
+    }
+}
