@@ -39,7 +39,7 @@ use Rattle.pp_vault.specs.Fixes.{fix_slot, IsHit, IsSent}
 use Rattle.pp_vault.proofs.Images.{fit_stays, fit_out}
 use Rattle.pp_vault.proofs.Done.{does}
 
-acts_by : (o : Option Ask) → IsSome o → is_acting_by o ≡ true
+pub acts_by : (o : Option Ask) → IsSome o → is_acting_by o ≡ true
 acts_by None h = absurd (false≢true h)
 acts_by (Some a) h = refl
 

@@ -5,6 +5,9 @@ pub mod FixSteps
 pub mod FixKept
 pub mod AnswerSteps
 pub mod ErrandSteps
+pub mod BackSteps
+pub mod WriteSteps
+pub mod ReadSteps
 pub mod Kept
 pub mod Actors
 pub mod Plain
@@ -16,3 +19,4 @@ pub mod AfterSteps
 pub mod Answered
 pub mod Using
 pub mod Writing
+pub mod Flushed

@@ -1,14 +1,27 @@
 -- What the answer of a device comes to.
-use Rattle.std.specs.Prelude.{◌≡◌, ℕ, Bool, false, ◌&&◌, ◌==◌, Option, None, Some, List, length, if◌then◌else◌}
-use Rattle.pp_model.specs.declared.moves.Move.TheVariants.{FlushDone}
-use Rattle.pp_model.specs.declared.reply.Reply.TheVariants.{Flushed}
-use Rattle.pp_model.specs.Pool.{State}
-use Rattle.pp_model.specs.Moves.{reply_of}
-use Rattle.pp_core.specs.Queries.{flushed_page}
+use Rattle.std.specs.Prelude.{◌≡◌, ℕ, Bool, true, false, ◌&&◌, ◌==◌, Option, None, Some, List, length, if◌then◌else◌}
+use Rattle.std.specs.Prelude.{Result, Ok, Err}
+use Rattle.pp_model.specs.declared.moves.Came.{Came}
+use Rattle.pp_model.specs.declared.moves.Came.TheVariants.{Fault, Image}
+use Rattle.pp_model.specs.declared.moves.Move.TheVariants.{WriteDone, ReadDone, FlushDone}
+use Rattle.pp_model.specs.declared.reply.Failure.{Failure}
+use Rattle.pp_model.specs.declared.reply.Failure.TheVariants.{WriteFault}
+use Rattle.pp_model.specs.declared.reply.Reply.TheVariants.{MustRead, Failed, Loaded, Flushed}
+use Rattle.pp_model.specs.Pool.{State, frame_of, known_mark}
+use Rattle.pp_model.specs.Moves.{reply_of, next_of}
+use Rattle.pp_core.specs.Queries.{errand_of, flushed_page, is_leaving}
+use Rattle.pp_device.specs.Image.{head_of}
+use Rattle.pp_vault.specs.declared.tokens.Duty.TheVariants.{Read}
+use Rattle.pp_vault.specs.declared.tokens.Errand.{Errand}
+use Rattle.pp_vault.specs.declared.tokens.Leaver.{Leaver}
+use Rattle.pp_vault.specs.declared.tokens.Session.{Session}
+use Rattle.pp_vault.specs.declared.guards.PinGuard.{PinGuard}
 use Rattle.pp_vault.specs.Parts.{Parts}
 use Rattle.pp_vault.specs.StandsFor.{StandsFor}
 use Rattle.pp_vault.specs.Calls.{Call, asks, stranger}
 use Rattle.pp_vault.specs.Events.{Does}
+use Rattle.pp_vault.specs.ImageMoves.{PutIn, ImagesStay}
+use Rattle.pp_vault.specs.Tokens.{ErrandFits, SessionFits, PinFits}
 
 -- ---- a flush
 
@@ -30,3 +43,103 @@ pub record IsFlushed (old : Parts) (page : ℕ) (image : List ℕ) (ok clean : B
   pub replies : (s : State) → StandsFor old s → reply_of s (FlushDone ok) ≡ Flushed clean
   pub images : new.images ≡ old.images
   pub spare : new.spare ≡ Some image
+
+-- ---- a victim's write
+
+-- Whether a head is of this page, with the mark that is known, if one is.
+abbrev pub is_head_of : (page : ℕ) → (head : ℕ × ℕ) → Option ℕ → Bool
+is_head_of page head None = false
+is_head_of page head (Some mark) = (head.0 == page) && (head.1 == mark)
+
+-- Whether the errand is to write this victim back for this page and slot, and this holds too.
+abbrev pub is_of_write : (slot page victim : ℕ) → (holds : Bool) → Option (ℕ × ℕ × Option ℕ) → Bool
+is_of_write slot page victim holds None = false
+is_of_write slot page victim holds (Some (k, p, None)) = false
+is_of_write slot page victim holds (Some (k, p, Some v)) = (k == slot) && (p == page) && (v == victim) && holds
+
+-- Whether this write of a victim is out for worker w: the image is as long as it has to be, and names the victim and its
+-- known mark.
+abbrev pub is_write_out : (page_bytes w slot page victim : ℕ) → (image : List ℕ) → State → Bool
+is_write_out page_bytes w slot page victim image s =
+    is_of_write slot page victim
+    ((length image == page_bytes) && is_head_of victim (head_of image) (known_mark s victim)) (errand_of s w)
+
+abbrev pub write_call : (page_bytes w slot page victim : ℕ) → (image : List ℕ) → (ok : Bool) → State → Call
+write_call page_bytes w slot page victim image ok s =
+    if is_write_out page_bytes w slot page victim image s then asks (WriteDone w ok) else stranger
+
+-- The victim is written. The image goes on with an errand to read the page, and no image in a frame has moved.
+pub record IsWritten (old : Parts) (w slot page victim : ℕ) (image : List ℕ) (errand : Errand) (new : Parts) : Type 0 where
+  pub replies : (s : State) → StandsFor old s
+      → (frame : ℕ) × (reply_of s (WriteDone w true) ≡ MustRead frame) × (frame_of (next_of s (WriteDone w true)) page ≡ Some frame)
+  pub duty : errand.duty ≡ Read w slot page
+  pub same : errand.image ≡ image
+  pub fits : ErrandFits new errand
+  pub images : ImagesStay old new
+
+-- The victim isn't written. Its image is back, in the frame that the page had, and the worker leaves its plan.
+pub record IsUnwritten (old : Parts) (w page : ℕ) (image : List ℕ) (leaver : Leaver) (new : Parts) : Type 0 where
+  pub replies : (s : State) → StandsFor old s → reply_of s (WriteDone w false) ≡ Failed WriteFault
+  pub worker : leaver.worker ≡ w
+  pub leaves : (s : State) → StandsFor new s → is_leaving s w ≡ true
+  pub images : (s : State) → StandsFor old s → (frame : ℕ) × (frame_of s page ≡ Some frame) × PutIn old new frame image
+
+-- What the answer of a victim's write comes to, where it isn't refused.
+abbrev pub WriteEnds : (old : Parts) → (w slot page victim : ℕ) → (image : List ℕ) → (ok : Bool)
+    → Result Errand Leaver → (new : Parts) → Type 0
+WriteEnds old w slot page victim image ok (Ok errand) new =
+    (ok ≡ true) × Does old (write_call old.page_bytes w slot page victim image ok) new
+    × IsWritten old w slot page victim image errand new
+WriteEnds old w slot page victim image ok (Err leaver) new =
+    (ok ≡ false) × Does old (write_call old.page_bytes w slot page victim image ok) new
+    × IsUnwritten old w page image leaver new
+
+-- ---- a read
+
+-- What the core is told that came: the head of the image, or a fault.
+abbrev pub came_of : (ok : Bool) → (head : ℕ × ℕ) → Came
+came_of true head = Image head.0 head.1
+came_of false head = Fault
+
+-- Whether the errand is to read this page for this slot, and this holds too.
+abbrev pub is_of_read : (slot page : ℕ) → (holds : Bool) → Option (ℕ × ℕ × Option ℕ) → Bool
+is_of_read slot page holds None = false
+is_of_read slot page holds (Some (k, p, None)) = (k == slot) && (p == page) && holds
+is_of_read slot page holds (Some (k, p, Some v)) = false
+
+-- Whether this read is out for worker w, with an image as long as it has to be.
+abbrev pub is_read_out : (page_bytes w slot page : ℕ) → (image : List ℕ) → State → Bool
+is_read_out page_bytes w slot page image s = is_of_read slot page (length image == page_bytes) (errand_of s w)
+
+abbrev pub read_call : (page_bytes w slot page : ℕ) → (image : List ℕ) → (ok : Bool) → State → Call
+read_call page_bytes w slot page image ok s =
+    if is_read_out page_bytes w slot page image s then asks (ReadDone w (came_of ok (head_of image))) else stranger
+
+-- The page is read: the image that came names it and the mark that is told, and stands in the page's frame. The slot
+-- holds the page.
+pub record IsRead (old : Parts) (w slot page : ℕ) (image : List ℕ) (ok : Bool) (x : Session) (g : PinGuard)
+    (new : Parts) : Type 0 where
+  pub replies : (s : State) → StandsFor old s
+      → (mark : ℕ) × (reply_of s (ReadDone w (came_of ok (head_of image))) ≡ Loaded mark) × (head_of image ≡ (page, mark))
+  pub session : SessionFits new w x
+  pub guard : PinFits new w g
+  pub of_slot : g.slot ≡ slot
+  pub of_page : g.page ≡ page
+  pub images : (s : State) → StandsFor old s → (frame : ℕ) × (frame_of s page ≡ Some frame) × PutIn old new frame image
+
+-- The page isn't read. The image is back in the frame that the page had, and the worker leaves its plan.
+pub record IsUnread (old : Parts) (w page : ℕ) (image : List ℕ) (ok : Bool) (leaver : Leaver) (new : Parts) : Type 0 where
+  pub replies : (s : State) → StandsFor old s
+      → (failure : Failure) × (reply_of s (ReadDone w (came_of ok (head_of image))) ≡ Failed failure)
+  pub worker : leaver.worker ≡ w
+  pub leaves : (s : State) → StandsFor new s → is_leaving s w ≡ true
+  pub images : (s : State) → StandsFor old s → (frame : ℕ) × (frame_of s page ≡ Some frame) × PutIn old new frame image
+
+-- What the answer of a read comes to, where it isn't refused.
+abbrev pub ReadEnds : (old : Parts) → (w slot page : ℕ) → (image : List ℕ) → (ok : Bool)
+    → Result (Session × PinGuard) Leaver → (new : Parts) → Type 0
+ReadEnds old w slot page image ok (Ok got) new =
+    Does old (read_call old.page_bytes w slot page image ok) new
+    × IsRead old w slot page image ok got.0 got.1 new
+ReadEnds old w slot page image ok (Err leaver) new =
+    Does old (read_call old.page_bytes w slot page image ok) new × IsUnread old w page image ok leaver new

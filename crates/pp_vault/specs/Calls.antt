@@ -9,12 +9,15 @@ use Rattle.pp_model.specs.Moves.{reply_of, next_of, is_possible}
 use Rattle.pp_vault.specs.declared.refusal.Refusal.{Refusal}
 use Rattle.pp_vault.specs.declared.refusal.Refusal.TheVariants.{NotNow, OffPlan, Stranger}
 
--- A token doesn't fit the state; they fit, but the worker's plan asks another slot or another mode; or the call is this
--- move.
+-- A token doesn't fit the state; they fit, but the call is refused before it is a move; or the call is this move.
 pub data Call : Type 0 where
   stranger : Call
-  unasked : Call
+  refused : Refusal → Call
   asks : Move → Call
+
+-- The worker's plan asks another slot or another mode.
+abbrev pub unasked : Call
+unasked = refused (OffPlan NotAsked)
 
 -- The refusal that a reply is, if it is one.
 abbrev pub refusal_in : Reply → Option Refusal
@@ -25,17 +28,17 @@ refusal_in _ = None
 -- Why the call is refused, where it is.
 abbrev pub refusal_of : State → Call → Option Refusal
 refusal_of s stranger = Some Stranger
-refusal_of s unasked = Some (OffPlan NotAsked)
+refusal_of s (refused why) = Some why
 refusal_of s (asks m) = refusal_in (reply_of s m)
 
 -- The state after the call: a refused one leaves it.
 abbrev pub state_after : State → Call → State
 state_after s stranger = s
-state_after s unasked = s
+state_after s (refused why) = s
 state_after s (asks m) = next_of s m
 
 -- What is told of the call: its move and the reply, where it is done.
 abbrev pub told : State → Call → Option (Move × Reply)
 told s stranger = None
-told s unasked = None
+told s (refused why) = None
 told s (asks m) = if is_possible s m then Some (m, reply_of s m) else None

@@ -15,3 +15,4 @@ pub mod Fixes
 pub mod Answers
 pub mod Uses
 pub mod Carrying
+pub mod Flushes

@@ -6,11 +6,28 @@ ghost use Rattle.pp_vault.specs.Parts.{parts_of};
 ghost use Rattle.pp_vault.specs.StandsFor.{StandsFor, IsKept};
 ghost use Rattle.pp_vault.specs.Events.{Refuses, untold};
 ghost use Rattle.pp_vault.specs.Answers.{is_flush_out, flushed_call, IsFlushed};
+ghost use Rattle.pp_vault.specs.Answers.{is_head_of, is_write_out, write_call, WriteEnds};
+ghost use Rattle.pp_vault.specs.Answers.{came_of, is_read_out, read_call, ReadEnds};
+ghost use Rattle.pp_model.specs.Pool.{known_mark};
+ghost use Rattle.pp_device.specs.Image.{head_of};
 
+use crate::guards::PinGuard;
 use crate::image::Image;
 use crate::refusal::Refusal;
 use crate::store::Store;
-use pp_core::{Move, Reply};
+use crate::tokens::{Duty, Errand, Leaver, Session};
+use pp_core::{Came, Move, Reply};
+
+/// What the core is told that came.
+fn came_of(ok: bool, image: &Image) -> Came
+    ensures { result ≡ came_of ok (head_of image.now) }
+{
+    if !ok {
+        return Came::Fault;
+    }
+    let (named, stamp) = image.head();
+    Came::Image(named, stamp)
+}
 
 impl Store {
     /// Whether the image is the buffer of a flush of this page that is in flight.
@@ -49,6 +66,121 @@ impl Store {
         self.spare = Some(image);
         match reply {
             Reply::Flushed { clean } => Ok(clean),
+            _ => unreachable!(),
+        }
+    }
+
+    /// Whether the image names the page and its known mark.
+    fn is_headed(&self, page: u32, image: &Image) -> bool
+        ensures { (s : State) → StandsFor (parts_of self.now) s
+            → result ≡ is_head_of page (head_of image.now) (known_mark s page) }
+    {
+        let (named, stamp) = image.head();
+        match self.core.mark(page) {
+            Some(mark) => named == page && stamp == mark,
+            None => false,
+        }
+    }
+
+    /// Whether this write of a victim is out for the worker, with this image.
+    fn is_write_out(&self, worker: u32, slot: u32, page: u32, victim: u32, image: &Image) -> bool
+        ensures { (s : State) → StandsFor (parts_of self.now) s
+            → result ≡ is_write_out (parts_of self.now).page_bytes worker slot page victim image.now s }
+    {
+        let fits = image.len() == self.page_bytes && self.is_headed(victim, image);
+        match self.core.errand(worker) {
+            Some((k, p, Some(v))) => k == slot && p == page && v == victim && fits,
+            _ => false,
+        }
+    }
+
+    /// The device has answered the write of a victim: its image goes on to be read into, or comes back.
+    pub(crate) fn written(
+        &mut self,
+        worker: u32,
+        slot: u32,
+        page: u32,
+        victim: u32,
+        image: Image,
+        ok: bool,
+    ) -> Result<Result<Errand, Leaver>, (Image, Refusal)>
+        requires { IsKept (parts_of self.old) }
+        ensures ok { IfOk result (λ ends. WriteEnds (parts_of self.old) worker slot page victim image ok ends
+            (parts_of self.new)) }
+        ensures err { IfErr result (λ e. Refuses (parts_of self.old)
+            (write_call (parts_of self.old).page_bytes worker slot page victim image ok) e.1) }
+        ensures back { IfErr result (λ e. e.0 ≡ image) }
+        ensures unchanged { OnErr result (parts_of self.new ≡ untold (parts_of self.old)) }
+    {
+        if !self.is_write_out(worker, slot, page, victim, &image) {
+            self.refuse();
+            return Err((image, Refusal::Stranger));
+        }
+        let Some(frame) = self.core.frame_of(page) else {
+            unreachable!()
+        };
+        let reply = match self.step(Move::WriteDone { worker, ok }) {
+            Ok(reply) => reply,
+            Err(refusal) => return Err((image, refusal)),
+        };
+        match reply {
+            Reply::MustRead { .. } => {
+                let duty = Duty::Read { worker, slot, page };
+                Ok(Ok(Errand { duty, image }))
+            }
+            Reply::Failed { .. } => {
+                self.put(frame, image);
+                Ok(Err(Leaver { worker }))
+            }
+            _ => unreachable!(),
+        }
+    }
+
+    /// Whether this read is out for the worker, with an image of a page's length.
+    fn is_read_out(&self, worker: u32, slot: u32, page: u32, image: &Image) -> bool
+        ensures { (s : State) → StandsFor (parts_of self.now) s
+            → result ≡ is_read_out (parts_of self.now).page_bytes worker slot page image.now s }
+    {
+        let fits = image.len() == self.page_bytes;
+        match self.core.errand(worker) {
+            Some((k, p, None)) => k == slot && p == page && fits,
+            _ => false,
+        }
+    }
+
+    /// The device has answered a read: the image comes back, with the page in it or without.
+    pub(crate) fn read(
+        &mut self,
+        worker: u32,
+        slot: u32,
+        page: u32,
+        image: Image,
+        ok: bool,
+    ) -> Result<Result<(Session, PinGuard), Leaver>, (Image, Refusal)>
+        requires { IsKept (parts_of self.old) }
+        ensures ok { IfOk result (λ ends. ReadEnds (parts_of self.old) worker slot page image ok ends
+            (parts_of self.new)) }
+        ensures err { IfErr result (λ e. Refuses (parts_of self.old)
+            (read_call (parts_of self.old).page_bytes worker slot page image ok) e.1) }
+        ensures back { IfErr result (λ e. e.0 ≡ image) }
+        ensures unchanged { OnErr result (parts_of self.new ≡ untold (parts_of self.old)) }
+    {
+        if !self.is_read_out(worker, slot, page, &image) {
+            self.refuse();
+            return Err((image, Refusal::Stranger));
+        }
+        let Some(frame) = self.core.frame_of(page) else {
+            unreachable!()
+        };
+        let came = came_of(ok, &image);
+        let reply = match self.step(Move::ReadDone { worker, came }) {
+            Ok(reply) => reply,
+            Err(refusal) => return Err((image, refusal)),
+        };
+        self.put(frame, image);
+        match reply {
+            Reply::Loaded { .. } => Ok(Ok((self.session(worker), PinGuard { worker, slot, page }))),
+            Reply::Failed { .. } => Ok(Err(Leaver { worker })),
             _ => unreachable!(),
         }
     }

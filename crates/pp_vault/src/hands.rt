@@ -69,4 +69,9 @@ impl Hands {
         self.chairs[place] = true;
         Ok(())
     }
+
+    /// Gives the chairs up.
+    pub(crate) fn scrap(self) {
+        let Hands { chairs: _chairs } = self;
+    }
 }

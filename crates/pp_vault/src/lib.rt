@@ -19,6 +19,7 @@ pub use vault::Vault;
 mod answering;
 mod carrying;
 mod fixing;
+mod flushing;
 mod guards;
 mod hands;
 mod image;

@@ -13,7 +13,8 @@ ghost use Rattle.pp_vault.specs.Headline.{HeadlineHolds};
 ghost use Rattle.pp_vault.specs.Events.{Refuses, Does, untold};
 ghost use Rattle.pp_vault.specs.Fits.{take_call, choose_call, finish_call, end_call, unfix_call, latch_call, unlatch_call};
 ghost use Rattle.pp_vault.specs.ImageMoves.{ImagesStay};
-ghost use Rattle.pp_vault.specs.Tokens.{SessionFits, HoldsNothing};
+ghost use Rattle.pp_vault.specs.Tokens.{SessionFits, HoldsNothing, ErrandFits};
+ghost use Rattle.pp_vault.specs.Flushes.{flush_call, next_call, CopiesOut, CopiesNext};
 ghost use Rattle.pp_vault.specs.Fixes.{FixAnswers};
 ghost use Rattle.pp_cert.specs.declared.note.Held.TheVariants.{S};
 ghost use Rattle.pp_plan.specs.declared.mode.Mode.TheVariants as mode;
@@ -24,7 +25,7 @@ use crate::guards::{PinGuard, ReadGuard, WriteGuard};
 use crate::hands::Hands;
 use crate::refusal::Refusal;
 use crate::store::Store;
-use crate::tokens::{Chair, Leaver, Session};
+use crate::tokens::{Chair, Errand, Leaver, Session};
 use pp_core::{Accepted, CoreError as VaultError, Move, PlanId, Reply, SubmitError, Turn};
 use pp_settings::Settings;
 use std::alloc::Global;
@@ -156,6 +157,42 @@ impl Vault {
         self.store.end(leaver)
     }
 
+    /// The flusher begins to write a changed page. The page stays in its frame; the errand has a copy of its image.
+    ///
+    /// # Errors
+    ///
+    /// What the core refuses.
+    pub fn flush(&mut self, page: u32) -> Result<Errand, Refusal>
+        ensures ok { IfOk result (λ _. Does self.old (flush_call page) self.new) }
+        ensures errand { IfOk result (λ errand. ErrandFits self.new errand) }
+        ensures copied { IfOk result (λ errand. CopiesOut self.old self.new page errand) }
+        ensures err { IfErr result (λ why. Refuses self.old (flush_call page) why) }
+        ensures unchanged { OnErr result (self.new ≡ untold self.old) }
+        ensures kept { IsKept self.new }
+        ensures headline { HeadlineHolds self.new }
+    {
+        self.store.flush(page)
+    }
+
+    /// The flusher begins to write the least page from this number on that lets a flush begin; where there is none, the
+    /// least of all that do.
+    ///
+    /// # Errors
+    ///
+    /// Where no page lets one begin, [`Refusal::NotNow`] while a flush is in flight, and else [`Refusal::OffPlan`]. Where
+    /// one does, what the core refuses.
+    pub fn flush_next(&mut self, number: u32) -> Result<Errand, Refusal>
+        ensures ok { IfOk result (λ _. Does self.old (next_call number) self.new) }
+        ensures errand { IfOk result (λ errand. ErrandFits self.new errand) }
+        ensures copied { IfOk result (λ errand. CopiesNext self.old self.new number errand) }
+        ensures err { IfErr result (λ why. Refuses self.old (next_call number) why) }
+        ensures unchanged { OnErr result (self.new ≡ untold self.old) }
+        ensures kept { IsKept self.new }
+        ensures headline { HeadlineHolds self.new }
+    {
+        self.store.flush_next(number)
+    }
+
     /// Takes a plan in, which waits behind the others, and answers its number. It isn't told by [`Vault::done`].
     ///
     /// # Errors
@@ -199,6 +236,12 @@ impl Vault {
         ensures { result ≡ self.now.last }
     {
         self.store.last
+    }
+
+    /// Gives the vault up, with the chairs that are in its hands.
+    pub fn scrap(self, hands: Hands) {
+        let Vault { store: _store } = self;
+        hands.scrap();
     }
 
     /// A worker fixes a page into the slot that its plan names.

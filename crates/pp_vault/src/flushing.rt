@@ -1,0 +1,89 @@
+//! A flush: a changed page is copied, to be written to the device, and stays in its frame.
+
+ghost use Rattle.std.specs.Prelude.{◌≡◌, None, IfOk, IfErr, OnErr};
+ghost use Rattle.std.specs.Option.{is_some};
+ghost use Rattle.pp_model.specs.Pool.{State};
+ghost use Rattle.pp_core.specs.Queries.{flushed_page};
+ghost use Rattle.pp_vault.specs.Calls.{refused};
+ghost use Rattle.pp_vault.specs.Parts.{parts_of};
+ghost use Rattle.pp_vault.specs.StandsFor.{StandsFor, IsKept};
+ghost use Rattle.pp_vault.specs.Events.{Refuses, Does, untold};
+ghost use Rattle.pp_vault.specs.Tokens.{ErrandFits};
+ghost use Rattle.pp_vault.specs.Flushes.{flush_call, flush_if, next_call, CanCopy, CopiesOut, CopiesNext, IsImageOf};
+
+use crate::refusal::Refusal;
+use crate::store::Store;
+use crate::tokens::{Duty, Errand};
+use pp_core::{Cause, Delay, Move};
+
+impl Store {
+    /// The flusher begins to write a changed page.
+    pub(crate) fn flush(&mut self, page: u32) -> Result<Errand, Refusal>
+        requires { IsKept (parts_of self.old) }
+        ensures ok { IfOk result (λ _. Does (parts_of self.old) (flush_call page) (parts_of self.new)) }
+        ensures errand { IfOk result (λ errand. ErrandFits (parts_of self.new) errand) }
+        ensures copied { IfOk result (λ errand. CopiesOut (parts_of self.old) (parts_of self.new) page errand) }
+        ensures err { IfErr result (λ why. Refuses (parts_of self.old) (flush_call page) why) }
+        ensures unchanged { OnErr result (parts_of self.new ≡ untold (parts_of self.old)) }
+    {
+        match self.step(Move::FlushBegin { page }) {
+            Ok(_) => Ok(self.copy_out(page)),
+            Err(refusal) => Err(refusal),
+        }
+    }
+
+    /// The flusher begins to write the next changed page.
+    pub(crate) fn flush_next(&mut self, number: u32) -> Result<Errand, Refusal>
+        requires { IsKept (parts_of self.old) }
+        ensures ok { IfOk result (λ _. Does (parts_of self.old) (next_call number) (parts_of self.new)) }
+        ensures errand { IfOk result (λ errand. ErrandFits (parts_of self.new) errand) }
+        ensures copied { IfOk result (λ errand. CopiesNext (parts_of self.old) (parts_of self.new) number errand) }
+        ensures err { IfErr result (λ why. Refuses (parts_of self.old) (next_call number) why) }
+        ensures unchanged { OnErr result (parts_of self.new ≡ untold (parts_of self.old)) }
+    {
+        match self.core.dirty_from(number) {
+            Some(page) => self.flush(page),
+            None => {
+                self.refuse();
+                Err(self.no_flush())
+            }
+        }
+    }
+
+    /// Why no flush begins where no page lets one begin.
+    fn no_flush(&self) -> Refusal
+        ensures { (s : State) → StandsFor (parts_of self.now) s
+            → flush_if (is_some (flushed_page s)) None ≡ refused result }
+    {
+        match self.core.flushing() {
+            Some(_) => Refusal::NotNow(Delay::FlushBusy),
+            None => Refusal::OffPlan(Cause::NotDirty),
+        }
+    }
+
+    /// The errand to write the page, with a copy of its image in the flusher's buffer.
+    fn copy_out(&mut self, page: u32) -> Errand
+        requires { CanCopy (parts_of self.old) page }
+        ensures duty { result.duty ≡ Duty.Flush page }
+        ensures image { (s : State) → StandsFor (parts_of self.old) s
+            → IsImageOf (parts_of self.old) s page result.image }
+        ensures rest { parts_of self.new ≡ record (parts_of self.old) { spare = None } }
+    {
+        let mut image = match self.spare.take() {
+            Some(image) => image,
+            None => unreachable!(),
+        };
+        let frame = match self.core.frame_of(page) {
+            Some(frame) => frame,
+            None => unreachable!(),
+        };
+        match &self.images[frame as usize] {
+            Some(source) => image.copy_from(source),
+            None => unreachable!(),
+        }
+        Errand {
+            duty: Duty::Flush { page },
+            image,
+        }
+    }
+}
