@@ -1,7 +1,7 @@
 -- The answer of a device: what the core's step did, and what becomes of the images.
-use Rattle.std.proofs.Common.{◌≡◌, ◌∙◌, ℕ, Bool, true, false, not, Option, Some, None, List, length}
+use Rattle.std.proofs.Common.{◌≡◌, ◌∙◌, ℕ, Bool, true, not, Option, Some, None, List, length}
 use Rattle.std.proofs.Common.{refl, sym, ap, subst, arith}
-use Rattle.std.specs.Prelude.{unwrap_or, ◌==◌, ◌&&◌, if◌then◌else◌}
+use Rattle.std.specs.Prelude.{unwrap_or, ◌==◌, if◌then◌else◌}
 use Rattle.std.proofs.lemmas.Bool.{false≢true}
 use Rattle.std.proofs.lemmas.Bool.Decides.{nat_tests}
 use Rattle.pp_model.specs.declared.moves.Move.TheVariants.{FlushDone}
@@ -13,10 +13,9 @@ use Rattle.pp_model.specs.Ready.{Keeps, is_still}
 use Rattle.pp_model.proofs.Alone.{settings_stay}
 use Rattle.pp_model.proofs.ReadyLaws.{still_keeps}
 use Rattle.pp_vault.specs.Parts.{Parts}
-use Rattle.pp_vault.specs.StandsFor.{ImagesFit, StandsFor, IsKept}
+use Rattle.pp_vault.specs.StandsFor.{ImagesFit, StandsFor}
 use Rattle.pp_vault.specs.Calls.{asks, stranger}
 use Rattle.pp_vault.specs.Steps.{Stepped}
-use Rattle.pp_vault.specs.Events.{Does}
 use Rattle.pp_vault.specs.Answers.{is_of_flush, is_flush_out, flushed_call, IsFlushed}
 use Rattle.pp_core.specs.Queries.{flushed_page}
 use Rattle.pp_vault.proofs.Done.{does}

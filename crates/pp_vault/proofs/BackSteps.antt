@@ -28,7 +28,7 @@ use Rattle.pp_vault.proofs.Done.{does}
 pub none_some : {f : ℕ} → ◌≡◌ {A = Option ℕ} None (Some f) → ⊥
 none_some {f} e = cc
 
-framed_by : (away : Bool) (o : Option ℕ) (f : ℕ) → frame_if away o ≡ Some f → o ≡ Some f
+pub framed_by : (away : Bool) (o : Option ℕ) (f : ℕ) → frame_if away o ≡ Some f → o ≡ Some f
 framed_by true o f e = e
 framed_by false o f e = absurd (none_some e)
 

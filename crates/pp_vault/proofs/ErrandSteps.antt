@@ -6,7 +6,7 @@ use Rattle.pp_model.specs.Moves.{seat_of}
 use Rattle.pp_model.specs.Reached.{IsReached}
 use Rattle.pp_model.specs.Ready.{Standing, ready_at, ReadyStay, ImageComes, Enters}
 use Rattle.pp_model.proofs.ReadyLaws.{away_are_apart}
-use Rattle.pp_model.proofs.Requests.{Which, same, other, which}
+use Rattle.pp_model.proofs.Requests.{same, other, which}
 use Rattle.pp_core.specs.Queries.{errand_in, errand_by, errand_of}
 use Rattle.pp_device.specs.Image.{head_of}
 

@@ -24,7 +24,7 @@ pub both_hold : (a b : Bool) → (a && b) ≡ true → (a ≡ true) × (b ≡ tr
 both_hold true b e = (refl, e)
 both_hold false b e = absurd (false≢true e)
 
-nat_is : (a b : ℕ) → (a == b) ≡ true → a ≡ b
+pub nat_is : (a b : ℕ) → (a == b) ≡ true → a ≡ b
 nat_is a b e = grind (arith, nat_tests)
 
 held_is : (a b : Held) → is_same_held a b ≡ true → a ≡ b
@@ -111,10 +111,10 @@ pub record Asking (s : State) (w : ℕ) (a : Ask) : Type 0 where
   pub seat : seat_of s w ≡ Some (Some run)
   pub ask : asked_by run ≡ a
 
-none_some : {A : Type 0} {a : A} → ◌≡◌ {A = Option A} None (Some a) → ⊥
+pub none_some : {A : Type 0} {a : A} → ◌≡◌ {A = Option A} None (Some a) → ⊥
 none_some e = cc
 
-some_some : {A : Type 0} (d a b : A) → ◌≡◌ {A = Option A} (Some a) (Some b) → a ≡ b
+pub some_some : {A : Type 0} (d a b : A) → ◌≡◌ {A = Option A} (Some a) (Some b) → a ≡ b
 some_some d a b e = cc
 
 asking_in : (r : Running) (g : Stage) (a : Ask) → ask_in r g ≡ Some a → asked_by r ≡ a

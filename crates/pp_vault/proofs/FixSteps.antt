@@ -11,14 +11,14 @@ use Rattle.pp_model.specs.declared.moves.Move.TheVariants.{Fix}
 use Rattle.pp_model.specs.declared.reply.Reply.{Reply}
 use Rattle.pp_model.specs.declared.reply.Reply.TheVariants as reply
 use Rattle.pp_model.specs.declared.reply.Reply.TheVariants.{Hit, MustRead, MustWrite}
-use Rattle.pp_model.specs.Pool.{State, frame_of, known_mark, mark_at}
+use Rattle.pp_model.specs.Pool.{State, known_mark, mark_at}
 use Rattle.pp_model.specs.Moves.{reply_of, next_of, is_refusal}
-use Rattle.pp_model.specs.Ready.{Standing, StandsIn, ready_at, is_away_at, is_still, ImageGoes, Leaves, Vacates, empty, takes}
+use Rattle.pp_model.specs.Ready.{Standing, ready_at, is_away_at, is_still, ImageGoes, Leaves, Vacates, empty, takes}
 use Rattle.pp_model.specs.Shapes.{is_answer, fits_reply}
 use Rattle.pp_model.proofs.Shapes.{reply_fits}
 use Rattle.pp_model.proofs.Alone.{settings_stay, flush_stays}
 use Rattle.pp_model.proofs.ReadyLaws.{still_keeps, ready_are_apart, ready_stand, read_vacates, write_leaves}
-use Rattle.pp_model.proofs.Requests.{Which, same, other, which}
+use Rattle.pp_model.proofs.Requests.{same, other, which}
 use Rattle.pp_core.specs.StandsFor as core
 use Rattle.pp_core.specs.Queries.{ask_of, held_of, errand_of}
 use Rattle.pp_core.specs.AfterMoves.{AfterMoves}

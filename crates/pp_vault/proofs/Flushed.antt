@@ -51,10 +51,10 @@ begun page (reply.OffPlan cause) e = absurd (false≢true e)
 
 -- ---- options
 
-same_frame : (o : Option ℕ) (a b : ℕ) → o ≡ Some a → o ≡ Some b → a ≡ b
+pub same_frame : (o : Option ℕ) (a b : ℕ) → o ≡ Some a → o ≡ Some b → a ≡ b
 same_frame o a b e f = ap (λ x. unwrap_or x a) (sym e ∙ f)
 
-same_image : (o : Option (List ℕ)) (a b : List ℕ) → o ≡ Some a → o ≡ Some b → a ≡ b
+pub same_image : (o : Option (List ℕ)) (a b : List ℕ) → o ≡ Some a → o ≡ Some b → a ≡ b
 same_image o a b e f = ap (λ x. unwrap_or x a) (sym e ∙ f)
 
 none_in_flight : (o : Option Flush) (f : Flush) → o ≡ Some f → o ≡ None → ⊥

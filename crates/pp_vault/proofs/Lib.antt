@@ -3,6 +3,8 @@ pub mod CoreSteps
 pub mod Done
 pub mod FixSteps
 pub mod FixKept
+pub mod DutyEnds
+pub mod Looked
 pub mod AnswerSteps
 pub mod ErrandSteps
 pub mod BackSteps
@@ -16,7 +18,12 @@ pub mod OpeningFits
 pub mod Submitted
 pub mod FitTests
 pub mod AfterSteps
-pub mod Answered
+pub mod UseReplies
 pub mod Using
 pub mod Writing
 pub mod Flushed
+pub mod GoingBack
+pub mod Heads
+pub mod Unlatching
+pub mod Unwinding
+pub mod LeavesDone

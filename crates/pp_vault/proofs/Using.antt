@@ -30,7 +30,7 @@ use Rattle.pp_vault.specs.Fits.{fits_both, asks_unfix, asks_latch, asks_unlatch,
 use Rattle.pp_vault.specs.ImageMoves.{ImagesStay}
 use Rattle.pp_vault.specs.Tokens.{Acts, SessionFits}
 use Rattle.pp_vault.specs.Uses.{Unfixes, LatchesShared, UnlatchesShared}
-use Rattle.pp_vault.proofs.Answered.{is_did, is_latched, is_unlatched}
+use Rattle.pp_vault.proofs.UseReplies.{is_did, is_latched, is_unlatched}
 use Rattle.pp_vault.proofs.AfterSteps.{kept_after, acts_after, held_after, mark_after, images_stay}
 use Rattle.pp_vault.proofs.Done.{does, refuses}
 use Rattle.pp_vault.proofs.FitTests.{guard_held, guard_asks, unfix_asked, latch_asked, unlatch_asked, Asking, asking}

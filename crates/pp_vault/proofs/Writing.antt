@@ -31,7 +31,7 @@ use Rattle.pp_vault.specs.ImageMoves.{TakenOut}
 use Rattle.pp_vault.specs.Tokens.{Acts, SessionFits}
 use Rattle.pp_vault.specs.Uses.{LatchesExclusive}
 use Rattle.pp_vault.proofs.AfterSteps.{kept_after, acts_after, held_after, mark_after}
-use Rattle.pp_vault.proofs.Answered.{is_latched}
+use Rattle.pp_vault.proofs.UseReplies.{is_latched}
 use Rattle.pp_vault.proofs.Done.{does}
 use Rattle.pp_vault.proofs.FitTests.{guard_held, guard_asks, latch_asked, Asking, asking, Holds, holds}
 use Rattle.pp_vault.proofs.Images.{fit_out}

@@ -1,6 +1,6 @@
 -- What the answer of a device comes to.
 use Rattle.std.specs.Prelude.{◌≡◌, ℕ, Bool, true, false, ◌&&◌, ◌==◌, Option, None, Some, List, length, if◌then◌else◌}
-use Rattle.std.specs.Prelude.{Result, Ok, Err}
+use Rattle.std.specs.Prelude.{Result, Ok, Err, is_ok}
 use Rattle.pp_model.specs.declared.moves.Came.{Came}
 use Rattle.pp_model.specs.declared.moves.Came.TheVariants.{Fault, Image}
 use Rattle.pp_model.specs.declared.moves.Move.TheVariants.{WriteDone, ReadDone, FlushDone}
@@ -11,15 +11,19 @@ use Rattle.pp_model.specs.Pool.{State, frame_of, known_mark}
 use Rattle.pp_model.specs.Moves.{reply_of, next_of}
 use Rattle.pp_core.specs.Queries.{errand_of, flushed_page, is_leaving}
 use Rattle.pp_device.specs.Image.{head_of}
-use Rattle.pp_vault.specs.declared.tokens.Duty.TheVariants.{Read}
+use Rattle.pp_vault.specs.declared.tokens.Duty.{Duty}
+use Rattle.pp_vault.specs.declared.tokens.Duty.TheVariants.{Read, Write, Flush}
 use Rattle.pp_vault.specs.declared.tokens.Errand.{Errand}
 use Rattle.pp_vault.specs.declared.tokens.Leaver.{Leaver}
+use Rattle.pp_vault.specs.declared.tokens.Returned.{Returned}
 use Rattle.pp_vault.specs.declared.tokens.Session.{Session}
 use Rattle.pp_vault.specs.declared.guards.PinGuard.{PinGuard}
+use Rattle.pp_vault.specs.declared.answering.Answered.{Answered}
+use Rattle.pp_vault.specs.declared.answering.Answered.TheVariants as answered
 use Rattle.pp_vault.specs.Parts.{Parts}
 use Rattle.pp_vault.specs.StandsFor.{StandsFor}
 use Rattle.pp_vault.specs.Calls.{Call, asks, stranger}
-use Rattle.pp_vault.specs.Events.{Does}
+use Rattle.pp_vault.specs.Events.{Refuses, Does, untold}
 use Rattle.pp_vault.specs.ImageMoves.{PutIn, ImagesStay}
 use Rattle.pp_vault.specs.Tokens.{ErrandFits, SessionFits, PinFits}
 
@@ -143,3 +147,35 @@ ReadEnds old w slot page image ok (Ok got) new =
     × IsRead old w slot page image ok got.0 got.1 new
 ReadEnds old w slot page image ok (Err leaver) new =
     Does old (read_call old.page_bytes w slot page image ok) new × IsUnread old w page image ok leaver new
+
+-- ---- of any duty
+
+-- The call that the answer of a device to a duty comes to.
+abbrev pub duty_call : (page_bytes : ℕ) → Duty → (image : List ℕ) → (ok : Bool) → State → Call
+duty_call page_bytes (Read w slot page) image ok s = read_call page_bytes w slot page image ok s
+duty_call page_bytes (Write w slot page victim) image ok s = write_call page_bytes w slot page victim image ok s
+duty_call page_bytes (Flush page) image ok s = flushed_call page_bytes page image ok s
+
+-- The call that what was made of an errand comes to.
+abbrev pub answer_call : (page_bytes : ℕ) → Returned → State → Call
+answer_call page_bytes returned s = duty_call page_bytes returned.duty returned.image (is_ok returned.answer) s
+
+-- What it comes to, by the duty, where it isn't refused: a read brings the page or is lost, a victim's write goes on with
+-- the read or is lost, and a flush tells whether the page is clean.
+abbrev pub DutyEnds : (old : Parts) → Duty → (image : List ℕ) → (ok : Bool) → Answered → (new : Parts) → Type 0
+DutyEnds old (Read w slot page) image ok (answered.Got session guard) new =
+    ReadEnds old w slot page image ok (Ok (session, guard)) new
+DutyEnds old (Read w slot page) image ok (answered.Lost leaver) new =
+    ReadEnds old w slot page image ok (Err leaver) new
+DutyEnds old (Write w slot page victim) image ok (answered.Away errand) new =
+    WriteEnds old w slot page victim image ok (Ok errand) new
+DutyEnds old (Write w slot page victim) image ok (answered.Lost leaver) new =
+    WriteEnds old w slot page victim image ok (Err leaver) new
+DutyEnds old (Flush page) image ok (answered.Flushed clean) new = IsFlushed old page image ok clean new
+DutyEnds old duty image ok out new = ⊥
+
+-- What the answer of a device comes to: where it is refused, all comes back and nothing has changed.
+abbrev pub AnswerComesTo : (old : Parts) → Returned → Answered → (new : Parts) → Type 0
+AnswerComesTo old returned (answered.No back refusal) new =
+    (back ≡ returned) × Refuses old (answer_call old.page_bytes returned) refusal × (new ≡ untold old)
+AnswerComesTo old returned out new = DutyEnds old returned.duty returned.image (is_ok returned.answer) out new

@@ -96,7 +96,17 @@ abbrev pub unlatch_call : Held → (w of slot page : ℕ) → State → Call
 unlatch_call held w of slot page s =
     guard_call (fits_both s w of slot page held) (asks_unlatch slot (ask_of s w)) (asks (Unlatch w))
 
--- A worker that leaves gives a slot back, however it holds it.
-abbrev pub unwind_call : Held → (w of slot page : ℕ) → State → Call
-unwind_call held w of slot page s =
-    if is_leaving s w && (of == w) && is_held_so s w slot page held then asks (Unwind w slot) else stranger
+-- The latch X goes off with an image that comes back, and has to be as long as a page's.
+abbrev pub put_back_call : (long : Bool) → (w of slot page : ℕ) → State → Call
+put_back_call long w of slot page s =
+    guard_call (fits_both s w of slot page X && long) (asks_unlatch slot (ask_of s w)) (asks (Unlatch w))
+
+-- Whether a worker that leaves and a guard fit.
+abbrev pub leaver_fits : State → (w of slot page : ℕ) → Held → Bool
+leaver_fits s w of slot page held = is_leaving s w && (of == w) && is_held_so s w slot page held
+
+-- A worker that leaves gives a slot back, however it holds it; with an image that comes back, which has to be as long as
+-- a page's, where it holds it X.
+abbrev pub unwind_call : (long : Bool) → Held → (w of slot page : ℕ) → State → Call
+unwind_call long held w of slot page s =
+    if leaver_fits s w of slot page held && long then asks (Unwind w slot) else stranger

@@ -1,23 +1,15 @@
--- What a fix of a vault, and the answer of a device, come to.
-use Rattle.std.specs.Prelude.{◌≡◌, ℕ, Bool, true, false, not, Option, None, Some, List, slice_set, Result, Ok, Err}
+-- What a fix of a vault comes to.
+use Rattle.std.specs.Prelude.{◌≡◌, ℕ, Some, List}
 use Rattle.pp_plan.specs.declared.action.Ask.{Ask}
 use Rattle.pp_plan.specs.declared.action.Ask.TheVariants as ask
-use Rattle.pp_cert.specs.declared.note.Held.TheVariants.{Free}
-use Rattle.pp_model.specs.declared.moves.Came.{Came}
-use Rattle.pp_model.specs.declared.moves.Came.TheVariants as came
-use Rattle.pp_model.specs.declared.moves.Move.{Move}
-use Rattle.pp_model.specs.declared.moves.Move.TheVariants.{Fix, WriteDone, ReadDone, FlushDone}
-use Rattle.pp_model.specs.declared.reply.Failure.{Failure}
-use Rattle.pp_model.specs.declared.reply.Reply.TheVariants.{Hit, MustRead, MustWrite, Loaded, Failed, Flushed}
+use Rattle.pp_model.specs.declared.moves.Move.TheVariants.{Fix}
+use Rattle.pp_model.specs.declared.reply.Reply.TheVariants.{Hit, MustRead, MustWrite}
 use Rattle.pp_model.specs.Pool.{State, frame_of}
 use Rattle.pp_model.specs.Moves.{reply_of, next_of}
-use Rattle.pp_core.specs.Queries.{ask_of, held_of, errand_of, flushed_page, is_leaving}
-use Rattle.pp_device.specs.Image.{head_of}
+use Rattle.pp_core.specs.Queries.{ask_of}
 use Rattle.pp_vault.specs.declared.tokens.Session.{Session}
 use Rattle.pp_vault.specs.declared.tokens.Duty.{Duty}
 use Rattle.pp_vault.specs.declared.tokens.Duty.TheVariants.{Read, Write, Flush}
-use Rattle.pp_vault.specs.declared.tokens.Errand.{Errand}
-use Rattle.pp_vault.specs.declared.tokens.Returned.{Returned}
 use Rattle.pp_vault.specs.declared.guards.PinGuard.{PinGuard}
 use Rattle.pp_vault.specs.declared.fixing.Fixed.{Fixed}
 use Rattle.pp_vault.specs.declared.fixing.Fixed.TheVariants.{Got, Away, No}

@@ -13,6 +13,8 @@ pub mod Opening
 pub mod Submits
 pub mod Fixes
 pub mod Answers
+pub mod Looks
 pub mod Uses
+pub mod Leaves
 pub mod Carrying
 pub mod Flushes

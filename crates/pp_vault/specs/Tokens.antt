@@ -1,5 +1,5 @@
 -- Which tokens a vault gives out.
-use Rattle.std.specs.Prelude.{◌≡◌, ℕ, true, Some, None, option_map, List, length}
+use Rattle.std.specs.Prelude.{◌≡◌, ◌==◌, ℕ, Bool, true, Some, None, option_map, List, length}
 use Rattle.pp_cert.specs.declared.note.Held.TheVariants.{Free, S, X}
 use Rattle.pp_model.specs.Pool.{State, known_mark}
 use Rattle.pp_core.specs.Queries.{ask_of, held_of, errand_of, flushed_page}
@@ -14,6 +14,10 @@ use Rattle.pp_vault.specs.declared.guards.WriteGuard.{WriteGuard}
 use Rattle.pp_vault.specs.Parts.{Parts}
 use Rattle.pp_vault.specs.StandsFor.{StandsFor}
 use Rattle.pp_vault.specs.Fits.{is_acting}
+
+-- Whether an image has as many bytes as a page.
+abbrev pub is_long : Parts → (image : List ℕ) → Bool
+is_long v image = length image == v.page_bytes
 
 -- Worker w acts in its plan.
 abbrev pub Acts : Parts → (w : ℕ) → Type 0

@@ -1,20 +1,29 @@
 -- What unfix, latch, unlatch and giving a slot back come to.
-use Rattle.std.specs.Prelude.{◌≡◌}
+use Rattle.std.specs.Prelude.{◌≡◌, ℕ, ◌+◌, Some, List}
 use Rattle.pp_cert.specs.declared.note.Held.TheVariants.{S}
 use Rattle.pp_plan.specs.declared.mode.Mode.TheVariants as mode
-use Rattle.pp_model.specs.Pool.{State, frame_at}
+use Rattle.pp_model.specs.Pool.{State, frame_at, known_mark}
+use Rattle.pp_device.specs.Image.{with_head}
 use Rattle.pp_vault.specs.declared.tokens.Session.{Session}
 use Rattle.pp_vault.specs.declared.guards.PinGuard.{PinGuard}
 use Rattle.pp_vault.specs.declared.guards.ReadGuard.{ReadGuard}
 use Rattle.pp_vault.specs.declared.guards.WriteGuard.{WriteGuard}
 use Rattle.pp_vault.specs.Parts.{Parts}
 use Rattle.pp_vault.specs.StandsFor.{StandsFor}
-use Rattle.pp_vault.specs.Fits.{unfix_call, latch_call, unlatch_call}
+use Rattle.pp_vault.specs.Fits.{unfix_call, latch_call, unlatch_call, put_back_call}
 use Rattle.pp_vault.specs.Events.{Does}
-use Rattle.pp_vault.specs.ImageMoves.{TakenOut, ImagesStay}
-use Rattle.pp_vault.specs.Tokens.{SessionFits, PinFits, ReadFits, WriteFits}
+use Rattle.pp_vault.specs.ImageMoves.{TakenOut, PutIn, ImagesStay}
+use Rattle.pp_vault.specs.Tokens.{is_long, SessionFits, PinFits, ReadFits, WriteFits}
 
--- Of session x and guard g there are a new session y and a new guard h.
+-- ---- an image that a writer gives back
+
+-- It is in its page's frame, with its body as the writer left it, and with the page's mark, raised by one, in its head.
+abbrev pub IsPutBack : (old new : Parts) → (page : ℕ) → (image : List ℕ) → Type 0
+IsPutBack old new page image =
+    (s : State) → StandsFor old s → (mark : ℕ) × (known_mark s page ≡ Some mark)
+    × PutIn old new (frame_at s page) (with_head image page (mark + 1))
+
+-- ---- calls: of session x and guard g there are a new session y and a new guard h
 
 -- The guard is spent.
 pub record Unfixes (old : Parts) (x : Session) (g : PinGuard) (new : Parts) (y : Session) : Type 0 where
@@ -48,3 +57,12 @@ pub record UnlatchesShared (old : Parts) (x : Session) (g : ReadGuard) (new : Pa
   pub guard : PinFits new x.worker h
   pub same : (h.slot ≡ g.slot) × (h.page ≡ g.page)
   pub images : ImagesStay old new
+
+-- The latch X is off the page, and the guard's image is back in the page's frame.
+pub record UnlatchesExclusive (old : Parts) (x : Session) (g : WriteGuard) (new : Parts) (y : Session)
+    (h : PinGuard) : Type 0 where
+  pub does : Does old (put_back_call (is_long old g.image) x.worker g.worker g.slot g.page) new
+  pub session : SessionFits new x.worker y
+  pub guard : PinFits new x.worker h
+  pub same : (h.slot ≡ g.slot) × (h.page ≡ g.page)
+  pub image : IsPutBack old new g.page g.image

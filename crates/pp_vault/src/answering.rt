@@ -8,6 +8,7 @@ ghost use Rattle.pp_vault.specs.Events.{Refuses, untold};
 ghost use Rattle.pp_vault.specs.Answers.{is_flush_out, flushed_call, IsFlushed};
 ghost use Rattle.pp_vault.specs.Answers.{is_head_of, is_write_out, write_call, WriteEnds};
 ghost use Rattle.pp_vault.specs.Answers.{came_of, is_read_out, read_call, ReadEnds};
+ghost use Rattle.pp_vault.specs.Answers.{duty_call, DutyEnds, AnswerComesTo};
 ghost use Rattle.pp_model.specs.Pool.{known_mark};
 ghost use Rattle.pp_device.specs.Image.{head_of};
 
@@ -15,8 +16,23 @@ use crate::guards::PinGuard;
 use crate::image::Image;
 use crate::refusal::Refusal;
 use crate::store::Store;
-use crate::tokens::{Duty, Errand, Leaver, Session};
+use crate::tokens::{Duty, Errand, Leaver, Returned, Session};
 use pp_core::{Came, Move, Reply};
+
+/// What the answer of a device comes to.
+#[derive(Debug)]
+pub enum Answered {
+    /// The page was read, and the slot holds it.
+    Got(Session, PinGuard),
+    /// The victim was written, and the page has to be read now.
+    Away(Errand),
+    /// The device failed, or gave another page or an older image. The worker leaves its plan.
+    Lost(Leaver),
+    /// The flush is over; whether the page is clean.
+    Flushed(bool),
+    /// It is refused, and nothing has changed.
+    No(Returned, Refusal),
+}
 
 /// What the core is told that came.
 fn came_of(ok: bool, image: &Image) -> Came
@@ -182,6 +198,61 @@ impl Store {
             Reply::Loaded { .. } => Ok(Ok((self.session(worker), PinGuard { worker, slot, page }))),
             Reply::Failed { .. } => Ok(Err(Leaver { worker })),
             _ => unreachable!(),
+        }
+    }
+
+    /// The device has answered this duty.
+    fn end_duty(&mut self, duty: Duty, image: Image, ok: bool) -> Result<Answered, (Image, Refusal)>
+        requires { IsKept (parts_of self.old) }
+        ensures ok { IfOk result (λ out. DutyEnds (parts_of self.old) duty image ok out (parts_of self.new)) }
+        ensures err { IfErr result (λ e. Refuses (parts_of self.old)
+            (duty_call (parts_of self.old).page_bytes duty image ok) e.1) }
+        ensures back { IfErr result (λ e. e.0 ≡ image) }
+        ensures unchanged { OnErr result (parts_of self.new ≡ untold (parts_of self.old)) }
+    {
+        match duty {
+            Duty::Read { worker, slot, page } => {
+                match self.read(worker, slot, page, image, ok)? {
+                    Ok((session, guard)) => Ok(Answered::Got(session, guard)),
+                    Err(leaver) => Ok(Answered::Lost(leaver)),
+                }
+            }
+            Duty::Write {
+                worker,
+                slot,
+                page,
+                victim,
+            } => {
+                match self.written(worker, slot, page, victim, image, ok)? {
+                    Ok(errand) => Ok(Answered::Away(errand)),
+                    Err(leaver) => Ok(Answered::Lost(leaver)),
+                }
+            }
+            Duty::Flush { page } => Ok(Answered::Flushed(self.flushed(page, image, ok)?)),
+        }
+    }
+
+    /// The device has answered: what it was asked ends, or goes on.
+    #[tactic(auto, using(crate::proofs::DutyEnds::ends_come))]
+    pub(crate) fn answer(&mut self, returned: Returned) -> Answered
+        requires { IsKept (parts_of self.old) }
+        ensures { AnswerComesTo (parts_of self.old) returned result (parts_of self.new) }
+    {
+        let Returned {
+            duty,
+            image,
+            answer,
+        } = returned;
+        match self.end_duty(duty, image, answer.is_ok()) {
+            Ok(out) => out,
+            Err((image, refusal)) => Answered::No(
+                Returned {
+                    duty,
+                    image,
+                    answer,
+                },
+                refusal,
+            ),
         }
     }
 }

@@ -53,7 +53,9 @@ impl Image {
 
     /// Writes the head. The body stays.
     pub(crate) fn set_head(&mut self, page: u32, stamp: u64)
-        ensures { self.new ≡ with_head self.old page stamp }
+        ensures image { self.new ≡ with_head self.old page stamp }
+        ensures head { head_of self.new ≡ (page, stamp) }
+        ensures length { length self.new ≡ length self.old }
     {
         image::make(&mut self.bytes, page, stamp);
     }

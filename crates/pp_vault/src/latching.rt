@@ -1,18 +1,20 @@
 //! Unfix, latch and unlatch: guards that turn into one another.
 
-ghost use Rattle.std.specs.Prelude.{◌≡◌, IfOk, IfErr, OnErr};
+ghost use Rattle.std.specs.Prelude.{◌≡◌, ◌<◌, ◌&&◌, Some, IfOk, IfErr, OnErr, length, slice_set};
+ghost use Rattle.pp_device.specs.Image.{with_head};
 ghost use Rattle.pp_model.specs.Pool.{State};
-ghost use Rattle.pp_cert.specs.declared.note.Held.TheVariants.{S};
+ghost use Rattle.pp_cert.specs.declared.note.Held.TheVariants.{S, X};
 ghost use Rattle.pp_plan.specs.declared.mode.Mode.TheVariants as mode;
 ghost use Rattle.pp_core.specs.Queries.{ask_of};
 ghost use Rattle.pp_vault.specs.Parts.{parts_of};
 ghost use Rattle.pp_vault.specs.StandsFor.{StandsFor, IsKept};
-ghost use Rattle.pp_vault.specs.Fits.{unfix_call, latch_call, unlatch_call, is_same_held, is_same_mode, is_held_so};
+ghost use Rattle.pp_vault.specs.Fits.{unfix_call, latch_call, unlatch_call, put_back_call, is_same_held, is_same_mode, is_held_so};
 ghost use Rattle.pp_vault.specs.Fits.{fits_both as both_fit, asks_unfix as unfix_is_asked};
 ghost use Rattle.pp_vault.specs.Fits.{asks_latch as latch_is_asked, asks_unlatch as unlatch_is_asked};
 ghost use Rattle.pp_vault.specs.Steps.{told_mark};
 ghost use Rattle.pp_vault.specs.Events.{Refuses, untold};
-ghost use Rattle.pp_vault.specs.Uses.{Unfixes, LatchesShared, LatchesExclusive, UnlatchesShared};
+ghost use Rattle.pp_vault.specs.Uses.{Unfixes, LatchesShared, LatchesExclusive, UnlatchesShared, UnlatchesExclusive};
+ghost use Rattle.pp_vault.specs.Tokens.{is_long};
 
 use crate::guards::{PinGuard, ReadGuard, WriteGuard};
 use crate::refusal::Refusal;
@@ -42,7 +44,7 @@ fn is_mode(mode: Mode, other: Mode) -> bool
 }
 
 /// The mark that a latch or an unlatch is told.
-fn mark_in(reply: Reply) -> u64
+pub(crate) fn mark_in(reply: Reply) -> u64
     ensures { result ≡ told_mark reply }
 {
     match reply {
@@ -72,6 +74,16 @@ impl Store {
             None => false,
         };
         acts && of == worker && self.holds_so(worker, slot, page, held)
+    }
+
+    /// Whether a session and a guard with an image fit: they do so with the page latched X, and the image is as long as a
+    /// page's.
+    fn fits_writer(&self, worker: u32, guard: &WriteGuard) -> bool
+        ensures { (s : State) → StandsFor (parts_of self.now) s → result
+            ≡ (both_fit s worker guard.now.worker guard.now.slot guard.now.page X && is_long (parts_of self.now) guard.now.image) }
+    {
+        self.fits_both(worker, guard.worker, guard.slot, guard.page, Held::X)
+            && guard.image.len() == self.page_bytes
     }
 
     /// Whether the worker's plan asks an unfix of the slot.
@@ -270,6 +282,48 @@ impl Store {
                     page,
                     mark: _,
                 } = guard;
+                Ok((self.session(worker), PinGuard { worker, slot, page }))
+            }
+            Err(refusal) => Err((session, guard, refusal)),
+        }
+    }
+
+    /// A worker takes its latch X off the page of a slot. The image goes back into its frame, with the raised mark.
+    pub(crate) fn unlatch_exclusive(
+        &mut self,
+        session: Session,
+        guard: WriteGuard,
+    ) -> Result<(Session, PinGuard), (Session, WriteGuard, Refusal)>
+        requires { IsKept (parts_of self.old) }
+        ensures ok { IfOk result
+            (λ now. UnlatchesExclusive (parts_of self.old) session guard (parts_of self.new) now.0 now.1) }
+        ensures err { IfErr result (λ e. Refuses (parts_of self.old) (put_back_call
+            (is_long (parts_of self.old) guard.image) session.worker guard.worker guard.slot guard.page) e.2) }
+        ensures back { IfErr result (λ e. (e.0 ≡ session) × (e.1 ≡ guard)) }
+        ensures unchanged { OnErr result (parts_of self.new ≡ untold (parts_of self.old)) }
+    {
+        let worker = session.worker;
+        if !self.fits_writer(worker, &guard) {
+            self.refuse();
+            return Err((session, guard, Refusal::Stranger));
+        }
+        if !self.asks_unlatch(worker, guard.slot) {
+            self.refuse();
+            return Err((session, guard, Refusal::OffPlan(Cause::NotAsked)));
+        }
+        let frame = self.core.frame_of(guard.page).unwrap_or(0);
+        match self.step(Move::Unlatch { worker }) {
+            Ok(reply) => {
+                let Session { worker, ask: _ } = session;
+                let WriteGuard {
+                    worker: _,
+                    slot,
+                    page,
+                    mark: _,
+                    mut image,
+                } = guard;
+                image.set_head(page, mark_in(reply));
+                self.put(frame, image);
                 Ok((self.session(worker), PinGuard { worker, slot, page }))
             }
             Err(refusal) => Err((session, guard, refusal)),

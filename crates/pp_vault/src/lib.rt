@@ -4,6 +4,7 @@
 //! let fall, so that a fixed page is unfixed, a latch is let go, and what a device was asked is answered.
 #![tactic(auto)]
 
+pub use answering::Answered;
 pub use fixing::Fixed;
 pub use guards::{Guard, PinGuard, ReadGuard, WriteGuard};
 pub use hands::Hands;
@@ -24,6 +25,8 @@ mod guards;
 mod hands;
 mod image;
 mod latching;
+mod leaving;
+mod looking;
 mod opening;
 mod refusal;
 mod seating;

@@ -1,6 +1,6 @@
 //! The vault: its core's moves, with the images of the pages.
 
-ghost use Rattle.std.specs.Prelude.{◌≡◌, Some, None, IfOk, IfErr, OnErr};
+ghost use Rattle.std.specs.Prelude.{◌≡◌, true, false, Some, None, IfOk, IfErr, OnErr, length};
 ghost use Rattle.pp_model.specs.Pool.{State, opening, dirty_pages};
 ghost use Rattle.pp_model.specs.Budget.{bound};
 ghost use Rattle.pp_model.specs.Submitting.{submit_error};
@@ -8,24 +8,28 @@ ghost use Rattle.pp_vault.specs.Submits.{TakesIn};
 ghost use Rattle.pp_model.specs.Turns.{next_turn};
 ghost use Rattle.pp_core.specs.Opening.{kept_of};
 ghost use Rattle.pp_vault.specs.Opening.{all_chairs};
+ghost use Rattle.pp_vault.specs.Leaves.{GivesBack, give_back_call};
 ghost use Rattle.pp_vault.specs.StandsFor.{StandsFor, IsKept};
 ghost use Rattle.pp_vault.specs.Headline.{HeadlineHolds};
 ghost use Rattle.pp_vault.specs.Events.{Refuses, Does, untold};
-ghost use Rattle.pp_vault.specs.Fits.{take_call, choose_call, finish_call, end_call, unfix_call, latch_call, unlatch_call};
+ghost use Rattle.pp_vault.specs.Fits.{take_call, choose_call, finish_call, end_call, unfix_call, latch_call, unlatch_call, put_back_call};
 ghost use Rattle.pp_vault.specs.ImageMoves.{ImagesStay};
-ghost use Rattle.pp_vault.specs.Tokens.{SessionFits, HoldsNothing, ErrandFits};
+ghost use Rattle.pp_vault.specs.Tokens.{is_long, SessionFits, HoldsNothing, ErrandFits};
 ghost use Rattle.pp_vault.specs.Flushes.{flush_call, next_call, CopiesOut, CopiesNext};
 ghost use Rattle.pp_vault.specs.Fixes.{FixAnswers};
+ghost use Rattle.pp_vault.specs.Looks.{may_look, Shows};
+ghost use Rattle.pp_vault.specs.Answers.{AnswerComesTo};
 ghost use Rattle.pp_cert.specs.declared.note.Held.TheVariants.{S};
 ghost use Rattle.pp_plan.specs.declared.mode.Mode.TheVariants as mode;
-ghost use Rattle.pp_vault.specs.Uses.{Unfixes, LatchesShared, LatchesExclusive, UnlatchesShared};
+ghost use Rattle.pp_vault.specs.Uses.{Unfixes, LatchesShared, LatchesExclusive, UnlatchesShared, UnlatchesExclusive};
 
+use crate::answering::Answered;
 use crate::fixing::Fixed;
-use crate::guards::{PinGuard, ReadGuard, WriteGuard};
+use crate::guards::{Guard, PinGuard, ReadGuard, WriteGuard};
 use crate::hands::Hands;
 use crate::refusal::Refusal;
 use crate::store::Store;
-use crate::tokens::{Chair, Errand, Leaver, Session};
+use crate::tokens::{Chair, Errand, Leaver, Returned, Session};
 use pp_core::{Accepted, CoreError as VaultError, Move, PlanId, Reply, SubmitError, Turn};
 use pp_settings::Settings;
 use std::alloc::Global;
@@ -254,6 +258,20 @@ impl Vault {
         self.store.fix(session, page)
     }
 
+    /// The device has answered an errand: its image comes back, and goes into a frame, on with a read of the page, or to
+    /// the flusher.
+    ///
+    /// An answer that isn't of a duty of this state, or whose image is of another length, or isn't the victim's that was
+    /// to be written, is refused as [`Refusal::Stranger`].
+    #[tactic(auto, using(crate::proofs::DutyEnds::answer_keeps))]
+    pub fn answer(&mut self, returned: Returned) -> Answered
+        ensures answers { AnswerComesTo self.old returned result self.new }
+        ensures kept { IsKept self.new }
+        ensures headline { HeadlineHolds self.new }
+    {
+        self.store.answer(returned)
+    }
+
     /// A worker gives back the page of a slot that isn't latched. The guard is spent.
     ///
     /// # Errors
@@ -318,6 +336,17 @@ impl Vault {
         self.store.latch_exclusive(session, guard)
     }
 
+    /// Copies the image of a page that is latched S into the slice, and tells whether it did. It did not, and the slice is
+    /// as it was, where the guard isn't one of this state or the slice isn't as long as a page.
+    pub fn look(&self, guard: &ReadGuard, bytes: &mut [u8]) -> bool
+        ensures result { (s : State) → StandsFor self.now s
+            → result ≡ may_look self.now.page_bytes guard.now (length bytes.old) s }
+        ensures shown { result ≡ true → Shows self.now guard.now.page bytes.new }
+        ensures unchanged { result ≡ false → bytes.new ≡ bytes.old }
+    {
+        self.store.look(guard, bytes)
+    }
+
     /// A worker takes its latch S off the page of a slot, which it still holds.
     ///
     /// # Errors
@@ -337,5 +366,49 @@ impl Vault {
         ensures headline { HeadlineHolds self.new }
     {
         self.store.unlatch_shared(session, guard)
+    }
+
+    /// A worker takes its latch X off the page of a slot, which it still holds. The page's image goes from the guard back
+    /// into its frame: its body is as the worker left it, and its head has the page's mark, raised by one.
+    ///
+    /// # Errors
+    ///
+    /// As in [`Vault::unfix`]. A guard of a vault with longer or shorter pages is a stranger's too.
+    pub fn unlatch_exclusive(
+        &mut self,
+        session: Session,
+        guard: WriteGuard,
+    ) -> Result<(Session, PinGuard), (Session, WriteGuard, Refusal)>
+        ensures ok { IfOk result (λ now. UnlatchesExclusive self.old session guard self.new now.0 now.1) }
+        ensures err { IfErr result (λ e. Refuses self.old
+            (put_back_call (is_long self.old guard.image) session.worker guard.worker guard.slot guard.page) e.2) }
+        ensures back { IfErr result (λ e. (e.0 ≡ session) × (e.1 ≡ guard)) }
+        ensures unchanged { OnErr result (self.new ≡ untold self.old) }
+        ensures kept { IsKept self.new }
+        ensures headline { HeadlineHolds self.new }
+    {
+        self.store.unlatch_exclusive(session, guard)
+    }
+
+    /// A worker that leaves its plan gives a slot back, latch and pin together. Where it has the page latched X, the
+    /// guard's image goes back into its frame, as in [`Vault::unlatch_exclusive`].
+    ///
+    /// # Errors
+    ///
+    /// [`Refusal::Stranger`] where the worker doesn't leave its plan, or the guard isn't one of it. Then both tokens come
+    /// back, and nothing has changed.
+    pub fn give_back(
+        &mut self,
+        leaver: Leaver,
+        guard: Guard,
+    ) -> Result<Leaver, (Leaver, Guard, Refusal)>
+        ensures ok { IfOk result (λ after. GivesBack self.old leaver guard self.new after) }
+        ensures err { IfErr result (λ e. Refuses self.old (give_back_call self.old leaver guard) e.2) }
+        ensures back { IfErr result (λ e. (e.0 ≡ leaver) × (e.1 ≡ guard)) }
+        ensures unchanged { OnErr result (self.new ≡ untold self.old) }
+        ensures kept { IsKept self.new }
+        ensures headline { HeadlineHolds self.new }
+    {
+        self.store.give_back(leaver, guard)
     }
 }

@@ -1,0 +1,100 @@
+-- A page that a slot has latched S has its image in its frame, which names the page and its mark.
+use Rattle.std.proofs.Common.{◌≡◌, ◌∙◌, ℕ, true, Option, Some, None, List, refl, sym, ap, subst}
+use Rattle.std.specs.Prelude.{option_map, unwrap_or, ◌==◌}
+use Rattle.std.specs.Option.{is_some}
+use Rattle.std.proofs.lemmas.Bool.{false≢true}
+use Rattle.pp_cert.specs.declared.note.Held.{Held}
+use Rattle.pp_cert.specs.declared.note.Held.TheVariants.{S}
+use Rattle.pp_cert.specs.Held.{Holding, holding_at}
+use Rattle.pp_model.specs.Pool.{Running, State, frame_of, frame_at}
+use Rattle.pp_model.specs.Holders.{holdings}
+use Rattle.pp_model.specs.Moves.{seat_of}
+use Rattle.pp_model.specs.Reached.{IsReached}
+use Rattle.pp_model.specs.Ready.{ready_at, standing_of}
+use Rattle.pp_model.proofs.ReadyLaws.{shared_are_ready, ready_stand}
+use Rattle.pp_core.specs.Queries.{held_by, held_of}
+use Rattle.pp_device.specs.Image.{head_of}
+use Rattle.pp_vault.specs.declared.guards.ReadGuard.{ReadGuard}
+use Rattle.pp_vault.specs.Parts.{Parts}
+use Rattle.pp_vault.specs.StandsFor.{StandsFor, IsKept, IsRight, image_in}
+use Rattle.pp_vault.specs.Fits.{is_held_so}
+use Rattle.pp_vault.specs.Flushes.{IsImageOf}
+use Rattle.pp_vault.specs.Looks.{may_look, CanShow, Shows}
+use Rattle.pp_vault.proofs.FitTests.{both_hold, nat_is, slot_held}
+use Rattle.pp_vault.proofs.Flushed.{same_frame, same_image}
+
+-- ---- the page is ready
+
+module _ (s : State) (h : IsReached s) (w slot page : ℕ) where
+  of_holding : (r : Running) → seat_of s w ≡ Some (Some r) → (o : Option Holding) → holding_at (holdings r) slot ≡ o
+      → option_map {U = ℕ × Held} (λ (x : Holding). (x.page, x.held)) o ≡ Some (page, S)
+      → ready_at s page ≡ Some (standing_of s page)
+  of_holding r seat None is e = absurd (false≢true (ap is_some e))
+  of_holding r seat (Some x) is e =
+      let both : ◌≡◌ {A = ℕ × Held} (x.page, x.held) (page, S) = ap (λ o. unwrap_or o (page, S)) e in
+      let ready = shared_are_ready s h w slot r x seat is (ap (λ b. b.1) both) in
+      subst (λ p. ready_at s p ≡ Some (standing_of s p)) (ap (λ b. b.0) both) ready
+
+  of_seat : (o : Option (Option Running)) → seat_of s w ≡ o → held_by o slot ≡ Some (page, S)
+      → ready_at s page ≡ Some (standing_of s page)
+  of_seat None seat e = absurd (false≢true (ap is_some e))
+  of_seat (Some None) seat e = absurd (false≢true (ap is_some e))
+  of_seat (Some (Some r)) seat e = of_holding r seat (holding_at (holdings r) slot) refl e
+
+  shared_ready : held_of s w slot ≡ Some (page, S) → ready_at s page ≡ Some (standing_of s page)
+  shared_ready e = of_seat (seat_of s w) refl e
+
+-- ---- its image is there
+
+module _ (v : Parts) (guard : ReadGuard) (n : ℕ)
+    (fits : (s : State) → StandsFor v s → may_look v.page_bytes guard n s ≡ true) where
+  both : (s : State) → StandsFor v s
+      → (is_held_so s guard.worker guard.slot guard.page S ≡ true) × ((n == v.page_bytes) ≡ true)
+  both s st = both_hold (is_held_so s guard.worker guard.slot guard.page S) (n == v.page_bytes) (fits s st)
+
+  ready : (s : State) → StandsFor v s → ready_at s guard.page ≡ Some (standing_of s guard.page)
+  ready s st =
+      shared_ready s st.core.reached guard.worker guard.slot guard.page
+      (slot_held s guard.worker guard.slot guard.page S (both s st).0)
+
+  right : (s : State) → StandsFor v s → IsRight v.images guard.page (standing_of s guard.page)
+  right s st = st.images.right guard.page (standing_of s guard.page) (ready s st)
+
+  at : (s : State) → StandsFor v s → frame_of s guard.page ≡ Some (frame_at s guard.page)
+  at s st = (ready_stand s st.core.reached guard.page (standing_of s guard.page) (ready s st)).frame
+
+  pub can_show : IsKept v → CanShow v guard.page n
+  can_show kept =
+      let s = kept.state in
+      let st = kept.stands in
+      record {
+        state = s;
+        stands = st;
+        image = (right s st).image;
+        source = record { frame = frame_at s guard.page; stands = at s st; there = (right s st).there };
+        long = nat_is n v.page_bytes (both s st).1;
+      }
+
+  module _ (bytes : List ℕ) (copy : (s : State) → StandsFor v s → IsImageOf v s guard.page bytes) where
+    same : (s : State) → (st : StandsFor v s) → bytes ≡ (right s st).image
+    same s st =
+        let c = copy s st in
+        same_image (image_in v.images (frame_at s guard.page)) bytes (right s st).image
+        (
+        ap (image_in v.images) (same_frame (frame_of s guard.page) (frame_at s guard.page) c.frame (at s st) c.stands)
+        ∙ c.there
+        )
+        (right s st).there
+
+    pub shows : Shows v guard.page bytes
+    shows =
+        record {
+          copy = copy;
+          head = λ s st.
+              ap (λ b. Some (head_of b)) (same s st)
+              ∙ ap (λ h. Some h) (right s st).head
+              ∙ sym (
+              ap (option_map (λ mark. (guard.page, mark)))
+              (ready_stand s st.core.reached guard.page (standing_of s guard.page) (ready s st)).mark
+              );
+        }

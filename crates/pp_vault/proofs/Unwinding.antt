@@ -1,0 +1,164 @@
+-- Slots that a leaving worker gives back.
+use Rattle.std.proofs.Common.{◌≡◌, ◌≢◌, ◌∙◌, ℕ, ◌+◌, ◌<◌, ◌&&◌, Bool, true, false, Some, List, length, refl, sym, ap, subst}
+use Rattle.std.specs.Prelude.{slice_set, if◌then◌else◌, IsTrue, ◌==◌}
+use Rattle.pp_cert.specs.declared.note.Held.{Held}
+use Rattle.pp_cert.specs.declared.note.Held.TheVariants.{Free, S, X}
+use Rattle.pp_model.specs.declared.moves.Move.TheVariants as move
+use Rattle.pp_model.specs.declared.reply.Reply.{Reply}
+use Rattle.pp_model.specs.declared.reply.Reply.TheVariants as reply
+use Rattle.pp_model.specs.Pool.{State, frame_at, mark_at}
+use Rattle.pp_model.specs.Moves.{reply_of, next_of, is_refusal}
+use Rattle.pp_model.specs.Ready.{Enters, Keeps, is_still}
+use Rattle.pp_model.proofs.ReadyLaws.{still_keeps}
+use Rattle.pp_model.proofs.ReadyAnswers.{unwound_enters}
+use Rattle.pp_core.specs.StandsFor as core
+use Rattle.pp_core.specs.Queries.{is_leaving, held_of}
+use Rattle.pp_core.specs.AfterMoves.{HasUnwound, IsUnwindReply}
+use Rattle.pp_core.proofs.AfterMoves.{after_moves}
+use Rattle.pp_core.proofs.Alike.{same_leaving}
+use Rattle.pp_device.specs.Image.{with_head, head_of}
+use Rattle.pp_vault.specs.declared.refusal.Refusal.{Refusal}
+use Rattle.pp_vault.specs.declared.tokens.Leaver.{Leaver}
+use Rattle.pp_vault.specs.declared.guards.WriteGuard.{WriteGuard}
+use Rattle.pp_vault.specs.Parts.{Parts}
+use Rattle.pp_vault.specs.StandsFor.{StandsFor, IsKept}
+use Rattle.pp_vault.specs.Calls.{Call, asks, stranger}
+use Rattle.pp_vault.specs.Steps.{Stepped, told_mark}
+use Rattle.pp_vault.specs.Steps as steps
+use Rattle.pp_vault.specs.Events.{Refuses, Does}
+use Rattle.pp_vault.specs.Fits.{is_held_so, leaver_fits, unwind_call}
+use Rattle.pp_vault.specs.Tokens.{is_long}
+use Rattle.pp_vault.specs.Leaves.{GivesSlot, GivesImage}
+use Rattle.pp_vault.proofs.BackSteps as back
+use Rattle.pp_vault.proofs.Done.{refuses}
+use Rattle.pp_vault.proofs.FitTests.{both_hold, slot_held, Holds, holds}
+use Rattle.pp_vault.proofs.GoingBack.{Raised, WriterSeat, writer_seat}
+use Rattle.pp_vault.proofs.GoingBack as going
+use Rattle.pp_vault.proofs.WriteSteps.{same_nat}
+
+module _ (old mid : Parts) (x : Leaver) (of slot page : ℕ) (held : Held) (long : Bool)
+    (fit : (s : State) → StandsFor old s → (leaver_fits s x.worker of slot page held && long) ≡ true) where
+  pub unwind_calls : (s : State) → StandsFor old s
+      → unwind_call long held x.worker of slot page s ≡ asks (move.Unwind x.worker slot)
+  unwind_calls s st = ap (λ b. if b then asks (move.Unwind x.worker slot) else stranger) (fit s st)
+
+  pub unwind_refuses : (why : Refusal) → steps.Held old mid (move.Unwind x.worker slot) why
+      → Refuses old (unwind_call long held x.worker of slot page) why
+  unwind_refuses why h =
+      refuses old mid (unwind_call long held x.worker of slot page) (move.Unwind x.worker slot) why h unwind_calls
+
+  was_held : (s : State) → StandsFor old s → held_of s x.worker slot ≡ Some (page, held)
+  was_held s st =
+      slot_held s x.worker slot page held
+      (both_hold (is_leaving s x.worker && (of == x.worker)) (is_held_so s x.worker slot page held)
+      (both_hold (leaver_fits s x.worker of slot page held) long (fit s st)).0).1
+
+  module _ (r : Reply) (did : Stepped old mid (move.Unwind x.worker slot) r) where
+    answer : (s : State) → StandsFor old s → reply_of s (move.Unwind x.worker slot) ≡ r
+    answer s st = sym (did.moves.replies s st.core)
+
+    unwound : (s : State) → StandsFor old s
+        → HasUnwound s (next_of s (move.Unwind x.worker slot)) x.worker slot page held
+        (reply_of s (move.Unwind x.worker slot))
+    unwound s st =
+        (after_moves s st.core.reached).unwound x.worker slot page held
+        (ap is_refusal (answer s st) ∙ did.done) (was_held s st)
+
+-- ---- a slot that isn't latched X
+
+did_reply : (t : State) (page : ℕ) (held : Held) (r : Reply) → held ≢ X → IsUnwindReply t page held r → r ≡ reply.Did
+did_reply t page Free r d e = e
+did_reply t page S r d e = e
+did_reply t page X r d e = absurd (d refl)
+
+module _ (old mid : Parts) (x : Leaver) (of slot page : ℕ) (held : Held) (other : held ≢ X)
+    (fit : (s : State) → StandsFor old s → leaver_fits s x.worker of slot page held ≡ true)
+    (r : Reply) (k : IsKept old) (did : Stepped old mid (move.Unwind x.worker slot) r) where
+  fit_long : (s : State) → StandsFor old s → (leaver_fits s x.worker of slot page held && true) ≡ true
+  fit_long s st = ap (λ b. b && true) (fit s st)
+
+  keeps : (s : State) → StandsFor old s → Keeps s (next_of s (move.Unwind x.worker slot))
+  keeps s st =
+      let u = unwound old mid x of slot page held true fit_long r did s st in
+      let e = did_reply (next_of s (move.Unwind x.worker slot)) page held (reply_of s (move.Unwind x.worker slot)) other
+      u.told in
+      still_keeps s st.core.reached (move.Unwind x.worker slot) (subst (λ a. IsTrue (is_still a)) (sym e) refl)
+
+  pub gives_slot : GivesSlot old x of slot page held mid x
+  gives_slot =
+      let call = unwind_call true held x.worker of slot page in
+      let calls = unwind_calls old mid x of slot page held true fit_long in
+      record {
+        still = record {
+          does = back.stay_does old mid x.worker (move.Unwind x.worker slot) refl call r did calls keeps;
+          same = refl;
+          leaves = λ t st.
+              same_leaving mid.core t (next_of k.state (move.Unwind x.worker slot)) st.core
+              (did.moves.stands k.state k.stands.core) x.worker
+              ∙ (unwound old mid x of slot page held true fit_long r did k.state k.stands).leaving;
+        };
+        images = back.stay old mid x.worker (move.Unwind x.worker slot) refl call r did calls keeps;
+      }
+
+-- ---- a slot that is latched X
+
+module _ (old mid : Parts) (x : Leaver) (g : WriteGuard)
+    (fit : (s : State) → StandsFor old s
+    → (leaver_fits s x.worker g.worker g.slot g.page X && is_long old g.image) ≡ true)
+    (r : Reply) (k : IsKept old) (did : Stepped old mid (move.Unwind x.worker g.slot) r)
+    (frame : ℕ) (at : (s : State) → StandsFor old s → frame ≡ frame_at s g.page) where
+  abbrev call : State → Call
+  call = unwind_call (is_long old g.image) X x.worker g.worker g.slot g.page
+
+  calls : (s : State) → StandsFor old s → call s ≡ asks (move.Unwind x.worker g.slot)
+  calls = unwind_calls old mid x g.worker g.slot g.page X (is_long old g.image) fit
+
+  held : (s : State) → StandsFor old s → held_of s x.worker g.slot ≡ Some (g.page, X)
+  held = was_held old mid x g.worker g.slot g.page X (is_long old g.image) fit
+
+  long : length g.image ≡ old.page_bytes
+  long =
+      same_nat (length g.image) old.page_bytes
+      (both_hold (leaver_fits k.state x.worker g.worker g.slot g.page X) (is_long old g.image) (fit k.state k.stands)).1
+
+  raises : (s : State) → StandsFor old s → Raised s (next_of s (move.Unwind x.worker g.slot)) g.page (told_mark r)
+  raises s st =
+      let u = unwound old mid x g.worker g.slot g.page X (is_long old g.image) fit r did s st in
+      let w : WriterSeat s x.worker = writer_seat s x.worker g.slot g.page (held s st) in
+      let h : Holds w.by g.slot g.page X = holds s x.worker g.slot g.page X w.by w.seat (held s st) in
+      let is : told_mark r ≡ u.told.0 = ap told_mark (sym (answer old mid x g.worker g.slot g.page X (is_long old g.image)
+      fit r did s st) ∙ u.told.1) in
+      let e = unwound_enters s st.core.reached x.worker g.slot (told_mark r) w.by w.seat
+      (u.told.1 ∙ ap (λ m. reply.Unlatched m) (sym is)) in
+      record {
+        raised = e.0 ∙ ap (λ p. mark_at s p + 1) h.page_is;
+        enters = subst
+            (λ p. Enters s (next_of s (move.Unwind x.worker g.slot)) p
+            (record { frame = frame_at s p; mark = told_mark r }))
+            h.page_is e.1;
+      }
+
+  pub unwind_low : frame < length mid.images
+  unwind_low =
+      going.low old mid x.worker g.slot g.page (move.Unwind x.worker g.slot) refl call r k did calls held raises frame at
+
+  pub gives_image : (b : List ℕ) → b ≡ with_head g.image g.page (told_mark r) → head_of b ≡ (g.page, told_mark r)
+      → length b ≡ length g.image → (new : Parts) → new ≡ record mid { images = slice_set mid.images frame (Some b) }
+      → GivesImage old x g new x
+  gives_image b is head same new rest =
+      record {
+        still = record {
+          does =
+              going.back_does old mid x.worker g.slot g.page (move.Unwind x.worker g.slot) refl call r k did calls held
+              raises frame at g.image b is head (same ∙ long) new rest;
+          same = refl;
+          leaves = λ t st.
+              same_leaving new.core t (next_of k.state (move.Unwind x.worker g.slot)) st.core
+              (going.back_core old mid x.worker g.slot g.page (move.Unwind x.worker g.slot) refl call r k did calls held
+              raises frame at g.image b is head (same ∙ long) new rest) x.worker
+              ∙ (unwound old mid x g.worker g.slot g.page X (is_long old g.image) fit r did k.state k.stands).leaving;
+        };
+        image =
+            going.put_back old mid x.worker g.slot g.page (move.Unwind x.worker g.slot) refl call r k did calls held raises
+            frame at g.image b is head (same ∙ long) new rest;
+      }
