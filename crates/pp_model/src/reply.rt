@@ -85,3 +85,28 @@ pub enum Reply {
     /// The move isn't one that may be asked here. Nothing has changed.
     OffPlan(Cause),
 }
+
+impl fmt::Display for Reply {
+    ghost use Rattle.pp_model.specs.Words.{reply_words};
+
+    ghost output = { λ reply. Some (reply_words reply) };
+
+    fn fmt<W: fmt::Write>(&self, f: &mut fmt::Formatter<W>) -> fmt::Result {
+        match self {
+            Reply::Taken { plan } => write!(f, "taken {plan}"),
+            Reply::Hit { frame, mark } => write!(f, "hit {frame} {mark}"),
+            Reply::MustRead { frame } => write!(f, "mustread {frame}"),
+            Reply::MustWrite { frame, victim } => write!(f, "mustwrite {frame} {victim}"),
+            Reply::Failed(failure) => write!(f, "failed {failure}"),
+            Reply::Loaded { mark } => write!(f, "loaded {mark}"),
+            Reply::Did => f.write_str("did"),
+            Reply::Latched { mark } => write!(f, "latched {mark}"),
+            Reply::Unlatched { mark } => write!(f, "unlatched {mark}"),
+            Reply::Finished(ending) => write!(f, "{ending}"),
+            Reply::Flushing { mark } => write!(f, "flushing {mark}"),
+            Reply::Flushed { clean } => f.write_str(if *clean { "clean" } else { "dirty" }),
+            Reply::NotNow(delay) => write!(f, "notnow {delay}"),
+            Reply::OffPlan(cause) => write!(f, "offplan {cause}"),
+        }
+    }
+}
