@@ -32,8 +32,7 @@ ComesOfWriting device size (unwritten path) = path ≡ device
 ComesOfWriting device size out_of_memory = ⊤
 ComesOfWriting device size _ = ⊥
 
--- what `format` may come to with settings of this size, or that are refused; only where they aren't, the device is
--- written
+-- what `format` may come to with settings of this size, or that are refused
 abbrev pub ComesOfFormat : (device : Text) → Result DeviceSize JudgeError → Answer → Type 0
 ComesOfFormat device (Ok size) answer = ComesOfWriting device size answer
 ComesOfFormat device (Err refusal) answer = answer ≡ refused refusal
