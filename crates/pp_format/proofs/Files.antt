@@ -9,7 +9,7 @@ use Rattle.std.proofs.lemmas.Bool.{cases_lt}
 use Rattle.std.proofs.lemmas.Nat.{mul-le}
 use Rattle.std.proofs.Math.Seq.{drop-append_seam, take-append_seam}
 use Rattle.pp_device.specs.Image.{blank_image, with_head}
-use Rattle.pp_format.specs.DeviceFile.{blank_file, image_in}
+use Rattle.pp_format.specs.DeviceFile.{blank_file, page_in_file}
 
 -- One more page stands behind the others.
 pub blank_file-more : (page_bytes n : ℕ) → blank_file (n + 1) page_bytes ≡ blank_file n page_bytes ++ blank_image page_bytes n
@@ -43,37 +43,37 @@ length-blank_file page_bytes (suc n) long =
     ap (λ k. length (blank_file k page_bytes)) next ∙ ap length (blank_file-more page_bytes n) ∙ omega (arith, before, last, all)
 
 -- An image that stands before some bytes stands there before more.
-image_in-append : (page_bytes page : ℕ) (bytes more : List ℕ) → page * page_bytes + page_bytes ≤ length bytes
-    → image_in (bytes ++ more) page_bytes page ≡ image_in bytes page_bytes page
-image_in-append page_bytes page bytes more within =
+page_in_file-append : (page_bytes page : ℕ) (bytes more : List ℕ) → page * page_bytes + page_bytes ≤ length bytes
+    → page_in_file (bytes ++ more) page_bytes page ≡ page_in_file bytes page_bytes page
+page_in_file-append page_bytes page bytes more within =
     let rest : length (drop (page * page_bytes) bytes) ≡ length bytes - page * page_bytes = length-drop (page * page_bytes) bytes in
     ap (take page_bytes) (drop-append-le (page * page_bytes) bytes more (omega (arith, within)))
     ∙ take-append-le page_bytes (drop (page * page_bytes) bytes) more (omega (arith, within, rest))
 
 -- An image behind so many others.
-image_in-last : (page_bytes page : ℕ) (bytes image : List ℕ) → length bytes ≡ page * page_bytes → length image ≡ page_bytes
-    → image_in (bytes ++ image) page_bytes page ≡ image
-image_in-last page_bytes page bytes image behind whole =
+page_in_file-last : (page_bytes page : ℕ) (bytes image : List ℕ) → length bytes ≡ page * page_bytes → length image ≡ page_bytes
+    → page_in_file (bytes ++ image) page_bytes page ≡ image
+page_in_file-last page_bytes page bytes image behind whole =
     ap (λ k. take page_bytes (drop k (bytes ++ image))) (sym behind)
     ∙ ap (take page_bytes) (drop-append_seam bytes image)
     ∙ take_all page_bytes image (omega (arith, whole))
 
 -- Each page stands at its place.
-pub image_in-blank_file : (page_bytes pages page : ℕ) → 12 ≤ page_bytes → page < pages
-    → image_in (blank_file pages page_bytes) page_bytes page ≡ blank_image page_bytes page
-image_in-blank_file page_bytes zero page long below = absurd (omega (arith, below))
-image_in-blank_file page_bytes (suc n) page long below =
+pub page_in_file-blank_file : (page_bytes pages page : ℕ) → 12 ≤ page_bytes → page < pages
+    → page_in_file (blank_file pages page_bytes) page_bytes page ≡ blank_image page_bytes page
+page_in_file-blank_file page_bytes zero page long below = absurd (omega (arith, below))
+page_in_file-blank_file page_bytes (suc n) page long below =
     let next : suc n ≡ n + 1 = omega arith in
     let before : length (blank_file n page_bytes) ≡ n * page_bytes = length-blank_file page_bytes n long in
-    ap (λ k. image_in (blank_file k page_bytes) page_bytes page) next
-    ∙ ap (λ bytes. image_in bytes page_bytes page) (blank_file-more page_bytes n)
+    ap (λ k. page_in_file (blank_file k page_bytes) page_bytes page) next
+    ∙ ap (λ bytes. page_in_file bytes page_bytes page) (blank_file-more page_bytes n)
     ∙ elim (cases_lt page n) [
-      | inl less ↦ image_in-append page_bytes page (blank_file n page_bytes) (blank_image page_bytes n)
+      | inl less ↦ page_in_file-append page_bytes page (blank_file n page_bytes) (blank_image page_bytes n)
           (omega (arith, before, mul-le (page + 1) page_bytes n page_bytes (omega (arith, less)) (omega arith)))
-          ∙ image_in-blank_file page_bytes n page long less
+          ∙ page_in_file-blank_file page_bytes n page long less
       | inr least ↦ let same : page ≡ n = omega (arith, below, least) in
-          ap (λ k. image_in (blank_file n page_bytes ++ blank_image page_bytes n) page_bytes k) same
-          ∙ image_in-last page_bytes n (blank_file n page_bytes) (blank_image page_bytes n) before (length-blank_image page_bytes n long)
+          ap (λ k. page_in_file (blank_file n page_bytes ++ blank_image page_bytes n) page_bytes k) same
+          ∙ page_in_file-last page_bytes n (blank_file n page_bytes) (blank_image page_bytes n) before (length-blank_image page_bytes n long)
           ∙ ap (blank_image page_bytes) (sym same)
     ]
 

@@ -8,5 +8,5 @@ unfoldable pub blank_file : (pages page_bytes : ℕ) → List ℕ
 blank_file pages page_bytes = concat (map (blank_image page_bytes) (range_with_len 0 pages))
 
 -- The image of a page in a file: so many bytes, from that many times the page's number on.
-abbrev pub image_in : (bytes : List ℕ) (page_bytes page : ℕ) → List ℕ
-image_in bytes page_bytes page = take page_bytes (drop (page * page_bytes) bytes)
+abbrev pub page_in_file : (bytes : List ℕ) (page_bytes page : ℕ) → List ℕ
+page_in_file bytes page_bytes page = take page_bytes (drop (page * page_bytes) bytes)

@@ -2,7 +2,7 @@
 
 ghost use Rattle.std.specs.Prelude.{◌≡◌, ℕ, ◌*◌, ◌<◌, ◌≤◌, length};
 ghost use Rattle.pp_device.specs.Image.{blank_image};
-ghost use Rattle.pp_format.specs.DeviceFile.{blank_file, image_in};
+ghost use Rattle.pp_format.specs.DeviceFile.{blank_file, page_in_file};
 
 use pp_device::image::HEAD;
 
@@ -11,5 +11,5 @@ pub fn pages_stand_in_order()
     ensures length { (pages page_bytes : ℕ) → HEAD ≤ page_bytes
         → length (blank_file pages page_bytes) ≡ pages * page_bytes }
     ensures page { (pages page_bytes page : ℕ) → HEAD ≤ page_bytes → page < pages
-        → image_in (blank_file pages page_bytes) page_bytes page ≡ blank_image page_bytes page }
+        → page_in_file (blank_file pages page_bytes) page_bytes page ≡ blank_image page_bytes page }
 {}
