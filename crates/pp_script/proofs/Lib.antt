@@ -1,0 +1,5 @@
+pub mod Cuts
+pub mod Numbers
+pub mod Words
+pub mod Spoken
+pub mod Spelled

@@ -1,0 +1,5 @@
+pub mod Cues
+pub mod Lines
+pub mod Scripts
+pub mod Reading
+pub mod Refusals
