@@ -1,21 +1,23 @@
 -- An errand that comes back: what the core's step did, and what becomes of the images.
 use Rattle.std.proofs.Common.{◌≡◌, ◌≢◌, ◌∙◌, ◌⊎◌, ℕ, ◌<◌, Bool, true, false, Option, Some, None, List, [], ◌∷◌, length}
-use Rattle.std.proofs.Common.{sym, ap, subst}
+use Rattle.std.proofs.Common.{not, refl, sym, ap, subst}
 use Rattle.std.specs.Prelude.{slice_set, unwrap_or}
+use Rattle.std.specs.Option.{is_some}
+use Rattle.std.proofs.lemmas.Bool.{false≢true}
 use Rattle.pp_model.specs.declared.moves.Move.{Move}
 use Rattle.pp_model.specs.declared.reply.Reply.{Reply}
 use Rattle.pp_model.specs.Pool.{Running, State, frame_of, frame_at}
 use Rattle.pp_model.specs.Holders.{loading}
 use Rattle.pp_model.specs.Moves.{seat_of, reply_of, next_of}
 use Rattle.pp_model.specs.Reached.{IsReached}
-use Rattle.pp_model.specs.Ready.{Standing, ready_at, is_away, frame_if, Keeps, ImageComes}
+use Rattle.pp_model.specs.Ready.{Standing, ready_at, is_away, is_away_at, frame_if, Keeps, ImageComes}
 use Rattle.pp_model.specs.WorkerParts.{worker_of}
 use Rattle.pp_model.proofs.Alone.{settings_stay, flush_stays}
 use Rattle.pp_model.proofs.ReadyLaws.{loading_are_away, framed_are_ready_or_away}
 use Rattle.pp_core.specs.StandsFor as core
 use Rattle.pp_device.specs.Image.{head_of}
 use Rattle.pp_vault.specs.Parts.{Parts}
-use Rattle.pp_vault.specs.StandsFor.{ImagesFit, StandsFor}
+use Rattle.pp_vault.specs.StandsFor.{image_in, ImagesFit, StandsFor}
 use Rattle.pp_vault.specs.Calls.{Call, asks}
 use Rattle.pp_vault.specs.ImageMoves.{PutIn, ImagesStay}
 use Rattle.pp_vault.specs.Steps.{Stepped}
@@ -39,6 +41,11 @@ loading_framed s h w page r seat loads =
 
 pub frame_is : (s : State) (page frame : ℕ) → frame_of s page ≡ Some frame → frame_at s page ≡ frame
 frame_is s page frame e = ap (λ o. unwrap_or o 0) e
+
+-- No image is in a frame that one is away from.
+none_there : (o : Option (List ℕ)) (away : Bool) → is_some o ≡ not away → away ≡ true → o ≡ None
+none_there None away e f = refl
+none_there (Some x) away e f = absurd (false≢true (sym (e ∙ ap not f)))
 
 -- ---- the images after the step
 
@@ -113,9 +120,12 @@ module _ (old mid : Parts) (w : ℕ) (m : Move) (of : worker_of m ≡ Some w) (c
           does old new call m r (subst (λ c. core.Moves old.core m r c) (sym core_is) did.moves) did.done
           (ap (λ (p : Parts). p.last) whole) (ap (λ (p : Parts). p.page_bytes) whole) calls in_fits
 
-      pub put_in : PutIn old new frame image
-      put_in =
+      pub put_in : (s : State) → StandsFor old s → PutIn old new frame image
+      put_in s st =
           record {
+            was =
+                none_there (image_in old.images frame) (is_away_at s frame) (st.images.there frame (low_in s st))
+                (comes s st).was;
             images = ap (λ (p : Parts). p.images) whole;
             spare = ap (λ (p : Parts). p.spare) whole;
           }

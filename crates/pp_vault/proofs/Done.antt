@@ -11,8 +11,8 @@ use Rattle.pp_core.specs.StandsFor as core
 use Rattle.pp_vault.specs.declared.refusal.Refusal.{Refusal}
 use Rattle.pp_vault.specs.Parts.{Parts}
 use Rattle.pp_vault.specs.StandsFor.{StandsFor, ImagesFit}
-use Rattle.pp_vault.specs.Calls.{Call, asks, refusal_in, refusal_of, state_after, told}
-use Rattle.pp_vault.specs.Steps.{Held}
+use Rattle.pp_vault.specs.Calls.{Call, asks, refusal_in, refusal_of, after_call, told}
+use Rattle.pp_vault.specs.Steps.{Refused}
 use Rattle.pp_vault.specs.Events.{Refuses, Does}
 
 -- A reply that is no refusal gives none.
@@ -46,7 +46,7 @@ module _ (old new : Parts) (call : State → Call) (m : Move) (r : Reply)
         allowed = λ s st.
             ap (refusal_of s) (calls s st) ∙ ap refusal_in (answers s st) ∙ not_refused r done;
         stands = λ s st.
-            subst (StandsFor new) (sym (ap (state_after s) (calls s st)))
+            subst (StandsFor new) (sym (ap (after_call s) (calls s st)))
             (record { core = moves.stands s st.core; images = fits s st });
         is_told = λ s st.
             last
@@ -60,7 +60,7 @@ module _ (old new : Parts) (call : State → Call) (m : Move) (r : Reply)
 
 -- ---- refused
 
-pub refuses : (old new : Parts) (call : State → Call) (m : Move) (why : Refusal) → Held old new m why
+pub refuses : (old new : Parts) (call : State → Call) (m : Move) (why : Refusal) → Refused old new m why
     → ((s : State) → StandsFor old s → call s ≡ asks m) → Refuses old call why
 refuses old new call m why h calls s st =
     ap (refusal_of s) (calls s st) ∙ ap refusal_in (sym (h.moves.replies s st.core)) ∙ h.refused

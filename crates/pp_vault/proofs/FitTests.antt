@@ -15,7 +15,7 @@ use Rattle.pp_model.specs.Holders.{holdings, page_in, held_in}
 use Rattle.pp_model.specs.Moves.{asked_by, seat_of}
 use Rattle.pp_core.specs.Queries.{ask_in, ask_by, ask_of, held_by, held_of}
 use Rattle.pp_vault.specs.Calls.{Call}
-use Rattle.pp_vault.specs.Fits.{is_acting_by, is_acting, is_same_held, is_told, is_held_so, asks_unfix, is_same_mode}
+use Rattle.pp_vault.specs.Fits.{is_acting_by, is_acting, is_same_held, is_held_by, is_held_so, asks_unfix, is_same_mode}
 use Rattle.pp_vault.specs.Fits.{asks_latch, asks_unlatch, guard_call, fits_both}
 
 -- ---- tests
@@ -44,9 +44,9 @@ mode_is mode.S mode.X e = absurd (false≢true e)
 mode_is mode.X mode.S e = absurd (false≢true e)
 mode_is mode.X mode.X e = refl
 
-told_is : (page : ℕ) (held : Held) (o : Option (ℕ × Held)) → is_told page held o ≡ true → o ≡ Some (page, held)
-told_is page held None e = absurd (false≢true e)
-told_is page held (Some h) e =
+held_by_is : (page : ℕ) (held : Held) (o : Option (ℕ × Held)) → is_held_by page held o ≡ true → o ≡ Some (page, held)
+held_by_is page held None e = absurd (false≢true e)
+held_by_is page held (Some h) e =
     let both = both_hold (h.0 == page) (is_same_held h.1 held) e in
     λ i. Some (nat_is h.0 page both.0 i, held_is h.1 held both.1 i)
 
@@ -90,7 +90,7 @@ acts_by (Some a) h = refl
 -- The slot of a guard that fits holds its page so.
 pub slot_held : (s : State) (w slot page : ℕ) (held : Held) → is_held_so s w slot page held ≡ true
     → held_of s w slot ≡ Some (page, held)
-slot_held s w slot page held e = told_is page held (held_of s w slot) e
+slot_held s w slot page held e = held_by_is page held (held_of s w slot) e
 
 pub guard_held : (s : State) (w of slot page : ℕ) (held : Held) → fits_both s w of slot page held ≡ true
     → held_of s w slot ≡ Some (page, held)

@@ -6,13 +6,13 @@ use Rattle.pp_vault.specs.declared.fixing.Fixed.{Fixed}
 use Rattle.pp_vault.specs.declared.fixing.Fixed.TheVariants.{Got, Away, No}
 use Rattle.pp_vault.specs.Parts.{Parts}
 use Rattle.pp_vault.specs.StandsFor.{StandsFor, IsKept}
-use Rattle.pp_vault.specs.Calls.{Call, state_after}
+use Rattle.pp_vault.specs.Calls.{Call, after_call}
 use Rattle.pp_vault.specs.Events.{Does, untold}
 use Rattle.pp_vault.specs.Fixes.{FixAnswers}
 
 pub done_keeps : (old new : Parts) (call : State → Call) → IsKept old → Does old call new → IsKept new
 done_keeps old new call k d =
-    record { state = state_after k.state (call k.state); stands = d.stands k.state k.stands }
+    record { state = after_call k.state (call k.state); stands = d.stands k.state k.stands }
 
 pub untold_keeps : (old new : Parts) → IsKept old → new ≡ untold old → IsKept new
 untold_keeps old new k e =

@@ -8,7 +8,7 @@ use Rattle.pp_model.specs.declared.reply.Reply.{Reply}
 use Rattle.pp_model.specs.declared.reply.Reply.TheVariants as reply
 use Rattle.pp_frames.specs.Marks.{dirty_from}
 use Rattle.pp_model.specs.Marks.{marks}
-use Rattle.pp_vault.specs.Calls.{refusal_of, state_after, told as told_of}
+use Rattle.pp_vault.specs.Calls.{refusal_of, after_call, told as told_of}
 use Rattle.pp_model.specs.Pool.{Flush, State, frame_of, frame_at}
 use Rattle.pp_model.specs.Moves.{reply_of, next_of}
 use Rattle.pp_model.specs.Ready.{Standing, ready_at, is_still, Keeps}
@@ -223,7 +223,7 @@ next_does : (old new : Parts) (n page : ℕ)
 next_does old new n page found does =
     record {
       allowed = λ s st. sym (ap (refusal_of s) (next_is old n page found s st)) ∙ does.allowed s st;
-      stands = λ s st. subst (λ c. StandsFor new (state_after s c)) (next_is old n page found s st) (does.stands s st);
+      stands = λ s st. subst (λ c. StandsFor new (after_call s c)) (next_is old n page found s st) (does.stands s st);
       is_told = λ s st. does.is_told s st ∙ ap (told_of s) (next_is old n page found s st);
       page_bytes = does.page_bytes;
     }

@@ -30,13 +30,13 @@ use Rattle.pp_vault.proofs.FitTests.{none_some, some_some}
 
 -- ---- the page of a slot that is latched X
 
-record HoldsSo (s : State) (w slot page : ℕ) (how : Held) : Type 0 where
-  by : Running
-  seat : seat_of s w ≡ Some (Some by)
-  holding : Holding
-  found : holding_at (holdings by) slot ≡ Some holding
-  page_is : holding.page ≡ page
-  held_is : holding.held ≡ how
+pub record HoldsSo (s : State) (w slot page : ℕ) (how : Held) : Type 0 where
+  pub by : Running
+  pub seat : seat_of s w ≡ Some (Some by)
+  pub holding : Holding
+  pub found : holding_at (holdings by) slot ≡ Some holding
+  pub page_is : holding.page ≡ page
+  pub held_is : holding.held ≡ how
 
 in_slot : (s : State) (w slot page : ℕ) (how : Held) (r : Running) → seat_of s w ≡ Some (Some r) → (o : Option Holding)
     → holding_at (holdings r) slot ≡ o
@@ -53,13 +53,13 @@ in_slot s w slot page how r seat (Some h) f e =
       held_is = ap (λ (p : ℕ × Held). p.1) same;
     }
 
-in_seat : (s : State) (w slot page : ℕ) (how : Held) (o : Option (Option Running)) → seat_of s w ≡ o
+pub in_seat : (s : State) (w slot page : ℕ) (how : Held) (o : Option (Option Running)) → seat_of s w ≡ o
     → held_by o slot ≡ Some (page, how) → HoldsSo s w slot page how
 in_seat s w slot page how None f e = absurd (none_some e)
 in_seat s w slot page how (Some None) f e = absurd (none_some e)
 in_seat s w slot page how (Some (Some r)) f e = in_slot s w slot page how r f (holding_at (holdings r) slot) refl e
 
-known_at : (o : Option ℕ) → IsSome o → o ≡ Some (unwrap_or o 0)
+pub known_at : (o : Option ℕ) → IsSome o → o ≡ Some (unwrap_or o 0)
 known_at None e = cc
 known_at (Some m) e = cc
 
@@ -133,7 +133,7 @@ module _ (old mid : Parts) (w slot page : ℕ) (m : Move) (of : worker_of m ≡ 
         back.in_core old mid w m of call r did calls frame of_page b long comes ready new rest k.state k.stands
 
     put : PutIn old new frame b
-    put = back.put_in old mid w m of call r did calls frame of_page b long comes ready new rest
+    put = back.put_in old mid w m of call r did calls frame of_page b long comes ready new rest k.state k.stands
 
     pub put_back : IsPutBack old new page image
     put_back s st = (

@@ -23,6 +23,7 @@ pub mod Using
 pub mod Writing
 pub mod Flushed
 pub mod GoingBack
+pub mod HeldFrames
 pub mod Heads
 pub mod Unlatching
 pub mod Unwinding

@@ -173,7 +173,7 @@ module _ (old : Parts) (w slot page : ℕ) (image : List ℕ)
               images = λ s st. (
                 frame,
                 sym (told s st.core),
-                back.put_in old mid w m refl call r did calls frame of_page image long comes ready new rest,
+                back.put_in old mid w m refl call r did calls frame of_page image long comes ready new rest s st,
               );
             },
           )
@@ -209,7 +209,7 @@ module _ (old : Parts) (w slot page : ℕ) (image : List ℕ)
               images = λ s st. (
                 frame,
                 sym (told s st.core),
-                back.put_in old mid w m refl call r did calls frame of_page image long lost_comes lost_ready new rest,
+                back.put_in old mid w m refl call r did calls frame of_page image long lost_comes lost_ready new rest s st,
               );
             },
           )

@@ -18,9 +18,9 @@ use Rattle.pp_core.proofs.AfterMoves.{after_moves}
 use Rattle.pp_vault.specs.declared.refusal.Refusal.{Refusal}
 use Rattle.pp_vault.specs.Parts.{Parts}
 use Rattle.pp_vault.specs.StandsFor.{StandsFor, IsKept}
-use Rattle.pp_vault.specs.Calls.{Call, asks, stranger, state_after}
+use Rattle.pp_vault.specs.Calls.{Call, asks, stranger, after_call}
 use Rattle.pp_vault.specs.Fits.{take_call, choose_call, is_acting, is_acting_by}
-use Rattle.pp_vault.specs.Steps.{Stepped, Held}
+use Rattle.pp_vault.specs.Steps.{Stepped, Refused}
 use Rattle.pp_vault.specs.Events.{Refuses, Does}
 use Rattle.pp_vault.specs.ImageMoves.{ImagesStay}
 use Rattle.pp_vault.specs.Tokens.{Acts, HoldsNothing}
@@ -41,7 +41,7 @@ asked : (v : Parts) (test : State → Bool) (m : Move) → AllPass v test → (s
 asked v test m all s st = ap (λ b. if b then asks m else stranger) (all s st)
 
 -- Such a call is refused as its move is.
-pub tested_refuses : (old new : Parts) (test : State → Bool) (m : Move) (why : Refusal) → Held old new m why
+pub tested_refuses : (old new : Parts) (test : State → Bool) (m : Move) (why : Refusal) → Refused old new m why
     → AllPass old test → Refuses old (tested test m) why
 tested_refuses old new test m why h all = refuses old new (tested test m) m why h (asked old test m all)
 
@@ -82,7 +82,7 @@ module _ (old new : Parts) (w : ℕ) (test : State → Bool) (m : Move) (r : Rep
   acts_after does acts =
       let s = kept.state in
       let stands =
-      subst (StandsFor new) (ap (state_after s) (asked old test m all s kept.stands)) (does.stands s kept.stands) in
+      subst (StandsFor new) (ap (after_call s) (asked old test m all s kept.stands)) (does.stands s kept.stands) in
       acts_in_each new (next_of s m) w stands acts
 
 module _ (old new : Parts) (w : ℕ) (r : Reply) (kept : IsKept old) where

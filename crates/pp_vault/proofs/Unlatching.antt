@@ -6,7 +6,7 @@ use Rattle.pp_cert.specs.declared.note.Held.TheVariants.{Free, X}
 use Rattle.pp_model.specs.declared.moves.Move.TheVariants as move
 use Rattle.pp_model.specs.declared.reply.Reply.{Reply}
 use Rattle.pp_model.specs.declared.reply.Reply.TheVariants as reply
-use Rattle.pp_model.specs.Pool.{State, frame_at, mark_at}
+use Rattle.pp_model.specs.Pool.{State, frame_of, frame_at, mark_at}
 use Rattle.pp_model.specs.Moves.{reply_of, next_of}
 use Rattle.pp_model.specs.Ready.{Enters}
 use Rattle.pp_model.proofs.ReadyAnswers.{exclusive_enters}
@@ -33,6 +33,15 @@ use Rattle.pp_vault.proofs.FixKept.{done_keeps}
 use Rattle.pp_vault.proofs.GoingBack.{Raised}
 use Rattle.pp_vault.proofs.GoingBack as going
 use Rattle.pp_vault.proofs.WriteSteps.{same_nat}
+
+-- The page of a slot that is latched X has a frame.
+pub exclusive_framed : (v : Parts) (x : Session) (g : WriteGuard)
+    → ((s : State) → StandsFor v s → (fits_both s x.worker g.worker g.slot g.page X && is_long v g.image) ≡ true)
+    → (k : IsKept v) → frame_of k.state g.page ≡ Some (frame_at k.state g.page)
+exclusive_framed v x g fit k =
+    going.writer_framed k.state k.stands.core.reached x.worker g.slot g.page
+    (guard_held k.state x.worker g.worker g.slot g.page X
+    (both_hold (fits_both k.state x.worker g.worker g.slot g.page X) (is_long v g.image) (fit k.state k.stands)).0)
 
 module _ (old mid : Parts) (x : Session) (g : WriteGuard) (r : Reply) (k : IsKept old)
     (did : Stepped old mid (move.Unlatch x.worker) r)

@@ -1,17 +1,16 @@
 -- Slots that a leaving worker gives back.
-use Rattle.std.proofs.Common.{◌≡◌, ◌≢◌, ◌∙◌, ℕ, ◌+◌, ◌<◌, ◌&&◌, Bool, true, false, Some, List, length, refl, sym, ap, subst}
+use Rattle.std.proofs.Common.{◌≡◌, ◌≢◌, ◌∙◌, ℕ, ◌+◌, ◌<◌, ◌&&◌, Bool, true, Some, List, length, refl, sym, ap, subst}
 use Rattle.std.specs.Prelude.{slice_set, if◌then◌else◌, IsTrue, ◌==◌}
 use Rattle.pp_cert.specs.declared.note.Held.{Held}
 use Rattle.pp_cert.specs.declared.note.Held.TheVariants.{Free, S, X}
 use Rattle.pp_model.specs.declared.moves.Move.TheVariants as move
 use Rattle.pp_model.specs.declared.reply.Reply.{Reply}
 use Rattle.pp_model.specs.declared.reply.Reply.TheVariants as reply
-use Rattle.pp_model.specs.Pool.{State, frame_at, mark_at}
+use Rattle.pp_model.specs.Pool.{State, frame_of, frame_at, mark_at}
 use Rattle.pp_model.specs.Moves.{reply_of, next_of, is_refusal}
 use Rattle.pp_model.specs.Ready.{Enters, Keeps, is_still}
 use Rattle.pp_model.proofs.ReadyLaws.{still_keeps}
 use Rattle.pp_model.proofs.ReadyAnswers.{unwound_enters}
-use Rattle.pp_core.specs.StandsFor as core
 use Rattle.pp_core.specs.Queries.{is_leaving, held_of}
 use Rattle.pp_core.specs.AfterMoves.{HasUnwound, IsUnwindReply}
 use Rattle.pp_core.proofs.AfterMoves.{after_moves}
@@ -23,9 +22,8 @@ use Rattle.pp_vault.specs.declared.guards.WriteGuard.{WriteGuard}
 use Rattle.pp_vault.specs.Parts.{Parts}
 use Rattle.pp_vault.specs.StandsFor.{StandsFor, IsKept}
 use Rattle.pp_vault.specs.Calls.{Call, asks, stranger}
-use Rattle.pp_vault.specs.Steps.{Stepped, told_mark}
-use Rattle.pp_vault.specs.Steps as steps
-use Rattle.pp_vault.specs.Events.{Refuses, Does}
+use Rattle.pp_vault.specs.Steps.{Stepped, Refused, told_mark}
+use Rattle.pp_vault.specs.Events.{Refuses}
 use Rattle.pp_vault.specs.Fits.{is_held_so, leaver_fits, unwind_call}
 use Rattle.pp_vault.specs.Tokens.{is_long}
 use Rattle.pp_vault.specs.Leaves.{GivesSlot, GivesImage}
@@ -42,7 +40,7 @@ module _ (old mid : Parts) (x : Leaver) (of slot page : ℕ) (held : Held) (long
       → unwind_call long held x.worker of slot page s ≡ asks (move.Unwind x.worker slot)
   unwind_calls s st = ap (λ b. if b then asks (move.Unwind x.worker slot) else stranger) (fit s st)
 
-  pub unwind_refuses : (why : Refusal) → steps.Held old mid (move.Unwind x.worker slot) why
+  pub unwind_refuses : (why : Refusal) → Refused old mid (move.Unwind x.worker slot) why
       → Refuses old (unwind_call long held x.worker of slot page) why
   unwind_refuses why h =
       refuses old mid (unwind_call long held x.worker of slot page) (move.Unwind x.worker slot) why h unwind_calls
@@ -101,6 +99,15 @@ module _ (old mid : Parts) (x : Leaver) (of slot page : ℕ) (held : Held) (othe
       }
 
 -- ---- a slot that is latched X
+
+-- Its page has a frame.
+pub unwind_framed : (v : Parts) (x : Leaver) (g : WriteGuard)
+    → ((s : State) → StandsFor v s
+    → (leaver_fits s x.worker g.worker g.slot g.page X && is_long v g.image) ≡ true)
+    → (k : IsKept v) → frame_of k.state g.page ≡ Some (frame_at k.state g.page)
+unwind_framed v x g fit k =
+    going.writer_framed k.state k.stands.core.reached x.worker g.slot g.page
+    (was_held v v x g.worker g.slot g.page X (is_long v g.image) fit k.state k.stands)
 
 module _ (old mid : Parts) (x : Leaver) (g : WriteGuard)
     (fit : (s : State) → StandsFor old s

@@ -22,7 +22,7 @@ use Rattle.pp_vault.specs.declared.guards.ReadGuard.{ReadGuard}
 use Rattle.pp_vault.specs.Parts.{Parts}
 use Rattle.pp_vault.specs.StandsFor.{StandsFor, ImagesFit, IsKept}
 use Rattle.pp_vault.specs.Calls.{asks}
-use Rattle.pp_vault.specs.Steps.{Stepped, Held, told_mark}
+use Rattle.pp_vault.specs.Steps.{Stepped, Refused, told_mark}
 use Rattle.pp_vault.specs.Events.{Refuses}
 use Rattle.pp_vault.specs.declared.refusal.Refusal.{Refusal}
 use Rattle.pp_plan.specs.declared.mode.Mode.{Mode}
@@ -151,7 +151,7 @@ module _ (old new : Parts) (x : Session) (g : PinGuard) (r : Reply) (kept : IsKe
 -- ---- a latch that is refused
 
 pub latch_refuses : (old new : Parts) (how : Mode) (x : Session) (g : PinGuard) (why : Refusal)
-    → Held old new (move.Latch x.worker) why
+    → Refused old new (move.Latch x.worker) why
     → ((s : State) → StandsFor old s → fits_both s x.worker g.worker g.slot g.page Free ≡ true)
     → ((s : State) → StandsFor old s → asks_latch g.slot how (ask_of s x.worker) ≡ true)
     → Refuses old (latch_call how x.worker g.worker g.slot g.page) why

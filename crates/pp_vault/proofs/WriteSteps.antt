@@ -230,7 +230,8 @@ module _ (old : Parts) (w slot page victim : ℕ) (image : List ℕ)
                 images = λ s st. (
                   frame,
                   sym (told s st.core),
-                  back.put_in old mid w (WriteDone w ok) refl call r did calls frame of_page image long comes ready new rest,
+                  back.put_in old mid w (WriteDone w ok) refl call r did calls frame of_page image long comes ready new rest s
+                      st,
                 );
               },
             )

@@ -32,10 +32,10 @@ refusal_of s (refused why) = Some why
 refusal_of s (asks m) = refusal_in (reply_of s m)
 
 -- The state after the call: a refused one leaves it.
-abbrev pub state_after : State → Call → State
-state_after s stranger = s
-state_after s (refused why) = s
-state_after s (asks m) = next_of s m
+abbrev pub after_call : State → Call → State
+after_call s stranger = s
+after_call s (refused why) = s
+after_call s (asks m) = next_of s m
 
 -- What is told of the call: its move and the reply, where it is done.
 abbrev pub told : State → Call → Option (Move × Reply)

@@ -4,7 +4,7 @@ use Rattle.pp_model.specs.Pool.{State}
 use Rattle.pp_vault.specs.declared.refusal.Refusal.{Refusal}
 use Rattle.pp_vault.specs.Parts.{Parts}
 use Rattle.pp_vault.specs.StandsFor.{StandsFor}
-use Rattle.pp_vault.specs.Calls.{Call, refusal_of, state_after, told}
+use Rattle.pp_vault.specs.Calls.{Call, refusal_of, after_call, told}
 
 -- The call is refused so, from every state that the parts stand for.
 abbrev pub Refuses : Parts → (State → Call) → Refusal → Type 0
@@ -13,7 +13,7 @@ Refuses v call refusal = (s : State) → StandsFor v s → refusal_of s (call s)
 -- The call is done: it isn't refused, the new parts stand for the state after it, and it is what is told.
 pub record Does (old : Parts) (call : State → Call) (new : Parts) : Type 0 where
   pub allowed : (s : State) → StandsFor old s → refusal_of s (call s) ≡ None
-  pub stands : (s : State) → StandsFor old s → StandsFor new (state_after s (call s))
+  pub stands : (s : State) → StandsFor old s → StandsFor new (after_call s (call s))
   pub is_told : (s : State) → StandsFor old s → new.last ≡ told s (call s)
   pub page_bytes : new.page_bytes ≡ old.page_bytes
 

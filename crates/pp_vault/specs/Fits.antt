@@ -29,14 +29,14 @@ is_same_held S S = true
 is_same_held X X = true
 is_same_held _ _ = false
 
--- Whether a slot that holds this page so is one that the core tells of so.
-abbrev pub is_told : (page : ℕ) → Held → Option (ℕ × Held) → Bool
-is_told page held None = false
-is_told page held (Some h) = (h.0 == page) && is_same_held h.1 held
+-- Whether what a slot holds, if it holds a page, is this page so.
+abbrev pub is_held_by : (page : ℕ) → Held → Option (ℕ × Held) → Bool
+is_held_by page held None = false
+is_held_by page held (Some h) = (h.0 == page) && is_same_held h.1 held
 
 -- Whether worker w holds the page in the slot so: a guard of them fits.
 abbrev pub is_held_so : State → (w slot page : ℕ) → Held → Bool
-is_held_so s w slot page held = is_told page held (held_of s w slot)
+is_held_so s w slot page held = is_held_by page held (held_of s w slot)
 
 -- ---- what a call with tokens comes to
 

@@ -9,8 +9,9 @@ pub record TakenOut (old new : Parts) (frame : ℕ) (image : List ℕ) : Type 0 
   pub images : new.images ≡ slice_set old.images frame None
   pub spare : new.spare ≡ old.spare
 
--- The image has come into the frame.
+-- The image has come into the frame, which had none, and nothing else has changed of the images.
 pub record PutIn (old new : Parts) (frame : ℕ) (image : List ℕ) : Type 0 where
+  pub was : image_in old.images frame ≡ None
   pub images : new.images ≡ slice_set old.images frame (Some image)
   pub spare : new.spare ≡ old.spare
 

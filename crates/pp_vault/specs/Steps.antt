@@ -16,7 +16,7 @@ pub record Stepped (old new : Parts) (m : Move) (reply : Reply) : Type 0 where
   pub rest : new ≡ record old { core = new.core; last = Some (m, reply) }
 
 -- The core has refused the move so, and nothing has changed but what is told.
-pub record Held (old new : Parts) (m : Move) (refusal : Refusal) : Type 0 where
+pub record Refused (old new : Parts) (m : Move) (refusal : Refusal) : Type 0 where
   pub reply : Reply
   pub moves : core.Moves old.core m reply old.core
   pub refused : refusal_in reply ≡ Some refusal

@@ -1,14 +1,15 @@
 //! Unfix, latch and unlatch: guards that turn into one another.
 
-ghost use Rattle.std.specs.Prelude.{◌≡◌, ◌<◌, ◌&&◌, Some, IfOk, IfErr, OnErr, length, slice_set};
+ghost use Rattle.std.specs.Prelude.{◌≡◌, ◌<◌, ◌&&◌, true, Some, IfOk, IfErr, IfSome, IfNone, OnErr, length, slice_set};
 ghost use Rattle.pp_device.specs.Image.{with_head};
 ghost use Rattle.pp_model.specs.Pool.{State};
 ghost use Rattle.pp_cert.specs.declared.note.Held.TheVariants.{S, X};
 ghost use Rattle.pp_plan.specs.declared.mode.Mode.TheVariants as mode;
 ghost use Rattle.pp_core.specs.Queries.{ask_of};
+ghost use Rattle.pp_vault.specs.Calls.{Call, refusal_of};
 ghost use Rattle.pp_vault.specs.Parts.{parts_of};
 ghost use Rattle.pp_vault.specs.StandsFor.{StandsFor, IsKept};
-ghost use Rattle.pp_vault.specs.Fits.{unfix_call, latch_call, unlatch_call, put_back_call, is_same_held, is_same_mode, is_held_so};
+ghost use Rattle.pp_vault.specs.Fits.{unfix_call, latch_call, unlatch_call, put_back_call, is_held_so, guard_call};
 ghost use Rattle.pp_vault.specs.Fits.{fits_both as both_fit, asks_unfix as unfix_is_asked};
 ghost use Rattle.pp_vault.specs.Fits.{asks_latch as latch_is_asked, asks_unlatch as unlatch_is_asked};
 ghost use Rattle.pp_vault.specs.Steps.{told_mark};
@@ -23,24 +24,18 @@ use crate::tokens::Session;
 use pp_core::{Ask, Cause, Held, Move, Reply};
 use pp_plan::Mode;
 
-/// Whether both are held in the same way.
-fn is_same(held: Held, other: Held) -> bool
-    ensures { result ≡ is_same_held held other }
+/// Why a call with a session and a guard is no move, if it isn't: they don't fit, or the plan asks something else.
+fn objection(fits: bool, asked: bool) -> Option<Refusal>
+    ensures none { IfNone result ((fits ≡ true) × (asked ≡ true)) }
+    ensures some { IfSome result (λ why. (call : Call) (s : State) → refusal_of s (guard_call fits asked call) ≡ Some why) }
 {
-    match (held, other) {
-        (Held::Free, Held::Free) | (Held::S, Held::S) | (Held::X, Held::X) => true,
-        _ => false,
+    if !fits {
+        return Some(Refusal::Stranger);
     }
-}
-
-/// Whether both modes are the same.
-fn is_mode(mode: Mode, other: Mode) -> bool
-    ensures { result ≡ is_same_mode mode other }
-{
-    match (mode, other) {
-        (Mode::S, Mode::S) | (Mode::X, Mode::X) => true,
-        _ => false,
+    if !asked {
+        return Some(Refusal::OffPlan(Cause::NotAsked));
     }
+    None
 }
 
 /// The mark that a latch or an unlatch is told.
@@ -60,7 +55,7 @@ impl Store {
         ensures { (s : State) → StandsFor (parts_of self.now) s → result ≡ is_held_so s worker slot page held }
     {
         match self.core.held(worker, slot) {
-            Some((other, how)) => other == page && is_same(how, held),
+            Some((other, how)) => other == page && how == held,
             None => false,
         }
     }
@@ -69,11 +64,7 @@ impl Store {
     fn fits_both(&self, worker: u32, of: u32, slot: u32, page: u32, held: Held) -> bool
         ensures { (s : State) → StandsFor (parts_of self.now) s → result ≡ both_fit s worker of slot page held }
     {
-        let acts = match self.core.ask(worker) {
-            Some(_) => true,
-            None => false,
-        };
-        acts && of == worker && self.holds_so(worker, slot, page, held)
+        self.core.ask(worker).is_some() && of == worker && self.holds_so(worker, slot, page, held)
     }
 
     /// Whether a session and a guard with an image fit: they do so with the page latched X, and the image is as long as a
@@ -106,7 +97,7 @@ impl Store {
                     slot: of,
                     mode: how,
                 },
-            ) => slot == u32::from(of) && is_mode(mode, how),
+            ) => slot == u32::from(of) && mode == how,
             _ => false,
         }
     }
@@ -135,13 +126,10 @@ impl Store {
         ensures unchanged { OnErr result (parts_of self.new ≡ untold (parts_of self.old)) }
     {
         let worker = session.worker;
-        if !self.fits_both(worker, guard.worker, guard.slot, guard.page, Held::Free) {
+        let fits = self.fits_both(worker, guard.worker, guard.slot, guard.page, Held::Free);
+        if let Some(refusal) = objection(fits, self.asks_unfix(worker, guard.slot)) {
             self.refuse();
-            return Err((session, guard, Refusal::Stranger));
-        }
-        if !self.asks_unfix(worker, guard.slot) {
-            self.refuse();
-            return Err((session, guard, Refusal::OffPlan(Cause::NotAsked)));
+            return Err((session, guard, refusal));
         }
         match self.step(Move::Unfix { worker }) {
             Ok(_) => {
@@ -171,13 +159,10 @@ impl Store {
         ensures unchanged { OnErr result (parts_of self.new ≡ untold (parts_of self.old)) }
     {
         let worker = session.worker;
-        if !self.fits_both(worker, guard.worker, guard.slot, guard.page, Held::Free) {
+        let fits = self.fits_both(worker, guard.worker, guard.slot, guard.page, Held::Free);
+        if let Some(refusal) = objection(fits, self.asks_latch(worker, guard.slot, Mode::S)) {
             self.refuse();
-            return Err((session, guard, Refusal::Stranger));
-        }
-        if !self.asks_latch(worker, guard.slot, Mode::S) {
-            self.refuse();
-            return Err((session, guard, Refusal::OffPlan(Cause::NotAsked)));
+            return Err((session, guard, refusal));
         }
         match self.step(Move::Latch { worker }) {
             Ok(reply) => {
@@ -216,15 +201,14 @@ impl Store {
         ensures unchanged { OnErr result (parts_of self.new ≡ untold (parts_of self.old)) }
     {
         let worker = session.worker;
-        if !self.fits_both(worker, guard.worker, guard.slot, guard.page, Held::Free) {
+        let fits = self.fits_both(worker, guard.worker, guard.slot, guard.page, Held::Free);
+        if let Some(refusal) = objection(fits, self.asks_latch(worker, guard.slot, Mode::X)) {
             self.refuse();
-            return Err((session, guard, Refusal::Stranger));
+            return Err((session, guard, refusal));
         }
-        if !self.asks_latch(worker, guard.slot, Mode::X) {
-            self.refuse();
-            return Err((session, guard, Refusal::OffPlan(Cause::NotAsked)));
-        }
-        let frame = self.core.frame_of(guard.page).unwrap_or(0);
+        let Some(frame) = self.core.frame_of(guard.page) else {
+            unreachable!()
+        };
         match self.step(Move::Latch { worker }) {
             Ok(reply) => {
                 let mark = mark_in(reply);
@@ -265,13 +249,10 @@ impl Store {
         ensures unchanged { OnErr result (parts_of self.new ≡ untold (parts_of self.old)) }
     {
         let worker = session.worker;
-        if !self.fits_both(worker, guard.worker, guard.slot, guard.page, Held::S) {
+        let fits = self.fits_both(worker, guard.worker, guard.slot, guard.page, Held::S);
+        if let Some(refusal) = objection(fits, self.asks_unlatch(worker, guard.slot)) {
             self.refuse();
-            return Err((session, guard, Refusal::Stranger));
-        }
-        if !self.asks_unlatch(worker, guard.slot) {
-            self.refuse();
-            return Err((session, guard, Refusal::OffPlan(Cause::NotAsked)));
+            return Err((session, guard, refusal));
         }
         match self.step(Move::Unlatch { worker }) {
             Ok(_) => {
@@ -303,15 +284,14 @@ impl Store {
         ensures unchanged { OnErr result (parts_of self.new ≡ untold (parts_of self.old)) }
     {
         let worker = session.worker;
-        if !self.fits_writer(worker, &guard) {
+        let fits = self.fits_writer(worker, &guard);
+        if let Some(refusal) = objection(fits, self.asks_unlatch(worker, guard.slot)) {
             self.refuse();
-            return Err((session, guard, Refusal::Stranger));
+            return Err((session, guard, refusal));
         }
-        if !self.asks_unlatch(worker, guard.slot) {
-            self.refuse();
-            return Err((session, guard, Refusal::OffPlan(Cause::NotAsked)));
-        }
-        let frame = self.core.frame_of(guard.page).unwrap_or(0);
+        let Some(frame) = self.core.frame_of(guard.page) else {
+            unreachable!()
+        };
         match self.step(Move::Unlatch { worker }) {
             Ok(reply) => {
                 let Session { worker, ask: _ } = session;

@@ -81,7 +81,9 @@ impl Store {
             self.refuse();
             return Err((leaver, guard, Refusal::Stranger));
         }
-        let frame = self.core.frame_of(guard.page).unwrap_or(0);
+        let Some(frame) = self.core.frame_of(guard.page) else {
+            unreachable!()
+        };
         let slot = guard.slot;
         match self.step(Move::Unwind { worker, slot }) {
             Ok(reply) => {

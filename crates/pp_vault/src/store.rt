@@ -3,7 +3,7 @@
 ghost use Rattle.std.specs.Prelude.{◌≡◌, ◌<◌, None, Some, IsSome, IfOk, IfErr, length, slice_set};
 ghost use Rattle.pp_vault.specs.Parts.{parts_of};
 ghost use Rattle.pp_vault.specs.StandsFor.{image_in};
-ghost use Rattle.pp_vault.specs.Steps.{Stepped, Held};
+ghost use Rattle.pp_vault.specs.Steps.{Stepped, Refused};
 
 use crate::image::Image;
 use crate::refusal::Refusal;
@@ -28,7 +28,7 @@ impl Store {
     /// Does the move, if it is possible, and notes what is told of it.
     pub(crate) fn step(&mut self, asked: Move) -> Result<Reply, Refusal>
         ensures done { IfOk result (λ reply. Stepped (parts_of self.old) (parts_of self.new) asked reply) }
-        ensures refused { IfErr result (λ refusal. Held (parts_of self.old) (parts_of self.new) asked refusal) }
+        ensures refused { IfErr result (λ refusal. Refused (parts_of self.old) (parts_of self.new) asked refusal) }
     {
         let reply = self.core.step(&asked);
         match reply {

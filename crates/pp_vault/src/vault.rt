@@ -1,11 +1,11 @@
 //! The vault: its core's moves, with the images of the pages.
 
-ghost use Rattle.std.specs.Prelude.{◌≡◌, true, false, Some, None, IfOk, IfErr, OnErr, length};
+ghost use Rattle.std.specs.Prelude.{◌≡◌, ◌↔◌, true, false, Some, None, IsSome, IfOk, IfErr, IfSome, OnErr, length};
 ghost use Rattle.pp_model.specs.Pool.{State, opening, dirty_pages};
 ghost use Rattle.pp_model.specs.Budget.{bound};
 ghost use Rattle.pp_model.specs.Submitting.{submit_error};
 ghost use Rattle.pp_vault.specs.Submits.{TakesIn};
-ghost use Rattle.pp_model.specs.Turns.{next_turn};
+ghost use Rattle.pp_model.specs.Turns.{next_turn, IsOpen, IsUnderWay};
 ghost use Rattle.pp_core.specs.Opening.{kept_of};
 ghost use Rattle.pp_vault.specs.Opening.{all_chairs};
 ghost use Rattle.pp_vault.specs.Leaves.{GivesBack, give_back_call};
@@ -213,10 +213,15 @@ impl Vault {
         self.store.submit(accepted)
     }
 
-    /// Who moves next, as the core tells it. None if and only if no plan waits, every worker is idle, and no flush is in
-    /// flight.
+    /// Who moves next, as the core tells it: the device that answers a worker or the flusher, a worker in its plan or on
+    /// its way out, or an idle worker where a plan waits. The moves of that turn are possible, whatever is decided in
+    /// them.
+    ///
+    /// None if and only if no plan waits, every worker is idle, and no flush is in flight.
     pub fn next_possible(&self) -> Option<Turn>
         ensures turn { (s : State) → StandsFor self.now s → result ≡ next_turn s }
+        ensures some { (s : State) → StandsFor self.now s → IsSome result ↔ IsUnderWay s }
+        ensures open { IfSome result (λ turn. (s : State) → StandsFor self.now s → IsOpen s turn) }
     {
         self.store.core.next_possible()
     }
@@ -224,6 +229,7 @@ impl Vault {
     /// The bound on the calls that are left to be done: each that is done lowers it by 1 at least.
     pub fn budget(&self) -> u64
         ensures bound { (s : State) → StandsFor self.now s → result ≡ bound s }
+        ensures value { result ≡ self.now.core.budget }
     {
         self.store.core.budget()
     }

@@ -2,20 +2,28 @@ use Rattle.std.proofs.Common.{◌∙◌, sym, ap}
 use Rattle.std.specs.Prelude.{unwrap_or}
 use Rattle.pp_device.specs.Image.{with_head}
 use Rattle.pp_vault.specs.Parts.{parts_of}
-use Rattle.pp_vault.proofs.Unwinding.{unwind_low, gives_image}
+use Rattle.pp_vault.proofs.BackSteps.{none_some}
+use Rattle.pp_vault.proofs.Unwinding.{unwind_framed, unwind_low, gives_image}
 use Rattle.pp_vault.proofs.store.Store.give_image.Goals as goal
+
+pub unreachable-requires : goal.unreachable-requires
+unreachable-requires c =
+    none_some
+    (sym c.in_default.is ∙ c.frame_of.ensures c.requires.state c.requires.stands.core
+    ∙ unwind_framed (parts_of c.args.self.now) c.args.leaver c.args.guard
+    (λ s st. sym (c.if-not-fits_leaving_writer.ensures s st)) c.requires)
 
 pub put-requires : goal.put-requires
 put-requires c =
     unwind_low (parts_of c.args.self.now) (parts_of c.step.new.self) c.args.leaver c.args.guard
     (λ s st. sym (c.if-not-fits_leaving_writer.ensures s st)) c.in-Ok.reply c.requires c.in-Ok.ensures.done
-    c.unwrap_or-frame.result (λ s st. c.unwrap_or-frame.ensures ∙ ap (λ o. unwrap_or o 0) (c.frame_of.ensures s st.core))
+    c.in-Some.frame (λ s st. ap (λ o. unwrap_or o 0) (sym c.in-Some.is ∙ c.frame_of.ensures s st.core))
 
 pub returns-in-Ok-clause-ok : goal.returns-in-Ok-clause-ok
 returns-in-Ok-clause-ok c =
     gives_image (parts_of c.args.self.now) (parts_of c.step.new.self) c.args.leaver c.args.guard
     (λ s st. sym (c.if-not-fits_leaving_writer.ensures s st)) c.in-Ok.reply c.requires c.in-Ok.ensures.done
-    c.unwrap_or-frame.result (λ s st. c.unwrap_or-frame.ensures ∙ ap (λ o. unwrap_or o 0) (c.frame_of.ensures s st.core))
+    c.in-Some.frame (λ s st. ap (λ o. unwrap_or o 0) (sym c.in-Some.is ∙ c.frame_of.ensures s st.core))
     c.set_head.new.self
     (c.set_head.ensures.image ∙ ap (λ m. with_head c.args.guard.image c.args.guard.page m) c.mark_in.ensures)
     (c.set_head.ensures.head ∙ ap (λ m. (c.args.guard.page, m)) c.mark_in.ensures)

@@ -1,4 +1,4 @@
-use Rattle.std.proofs.Common.{◌∙◌, ◌&&◌, true, sym, ap}
+use Rattle.std.proofs.Common.{◌&&◌, true, sym, ap}
 use Rattle.pp_vault.specs.Parts.{parts_of}
 use Rattle.pp_vault.proofs.Unwinding.{gives_slot, unwind_refuses}
 use Rattle.pp_vault.proofs.store.Store.give_slot.Goals as goal
