@@ -61,8 +61,8 @@ is_of_write slot page victim holds None = false
 is_of_write slot page victim holds (Some (k, p, None)) = false
 is_of_write slot page victim holds (Some (k, p, Some v)) = (k == slot) && (p == page) && (v == victim) && holds
 
--- Whether this write of a victim is out for worker w: the image is as long as it has to be, and names the victim and its
--- known mark.
+-- Whether this write of a victim is out for worker w: the image is as long as it has to be, and names the victim and
+-- its known mark.
 abbrev pub is_write_out : (page_bytes w slot page victim : ℕ) → (image : List ℕ) → State → Bool
 is_write_out page_bytes w slot page victim image s =
     is_of_write slot page victim
@@ -73,9 +73,11 @@ write_call page_bytes w slot page victim image ok s =
     if is_write_out page_bytes w slot page victim image s then asks (WriteDone w ok) else stranger
 
 -- The victim is written. The image goes on with an errand to read the page, and no image in a frame has moved.
-pub record IsWritten (old : Parts) (w slot page victim : ℕ) (image : List ℕ) (errand : Errand) (new : Parts) : Type 0 where
+pub record IsWritten (old : Parts) (w slot page victim : ℕ) (image : List ℕ) (errand : Errand)
+    (new : Parts) : Type 0 where
   pub replies : (s : State) → StandsFor old s
-      → (frame : ℕ) × (reply_of s (WriteDone w true) ≡ MustRead frame) × (frame_of (next_of s (WriteDone w true)) page ≡ Some frame)
+      → (frame : ℕ) × (reply_of s (WriteDone w true) ≡ MustRead frame)
+      × (frame_of (next_of s (WriteDone w true)) page ≡ Some frame)
   pub duty : errand.duty ≡ Read w slot page
   pub same : errand.image ≡ image
   pub fits : ErrandFits new errand
@@ -124,7 +126,8 @@ read_call page_bytes w slot page image ok s =
 pub record IsRead (old : Parts) (w slot page : ℕ) (image : List ℕ) (ok : Bool) (x : Session) (g : PinGuard)
     (new : Parts) : Type 0 where
   pub replies : (s : State) → StandsFor old s
-      → (mark : ℕ) × (reply_of s (ReadDone w (came_of ok (head_of image))) ≡ Loaded mark) × (head_of image ≡ (page, mark))
+      → (mark : ℕ) × (reply_of s (ReadDone w (came_of ok (head_of image))) ≡ Loaded mark)
+      × (head_of image ≡ (page, mark))
   pub session : SessionFits new w x
   pub guard : PinFits new w g
   pub of_slot : g.slot ≡ slot
@@ -132,7 +135,8 @@ pub record IsRead (old : Parts) (w slot page : ℕ) (image : List ℕ) (ok : Boo
   pub images : (s : State) → StandsFor old s → (frame : ℕ) × (frame_of s page ≡ Some frame) × PutIn old new frame image
 
 -- The page isn't read. The image is back in the frame that the page had, and the worker leaves its plan.
-pub record IsUnread (old : Parts) (w page : ℕ) (image : List ℕ) (ok : Bool) (leaver : Leaver) (new : Parts) : Type 0 where
+pub record IsUnread (old : Parts) (w page : ℕ) (image : List ℕ) (ok : Bool) (leaver : Leaver)
+    (new : Parts) : Type 0 where
   pub replies : (s : State) → StandsFor old s
       → (failure : Failure) × (reply_of s (ReadDone w (came_of ok (head_of image))) ≡ Failed failure)
   pub worker : leaver.worker ≡ w
@@ -160,8 +164,8 @@ duty_call page_bytes (Flush page) image ok s = flushed_call page_bytes page imag
 abbrev pub answer_call : (page_bytes : ℕ) → Returned → State → Call
 answer_call page_bytes returned s = duty_call page_bytes returned.duty returned.image (is_ok returned.answer) s
 
--- What it comes to, by the duty, where it isn't refused: a read brings the page or is lost, a victim's write goes on with
--- the read or is lost, and a flush tells whether the page is clean.
+-- What it comes to, by the duty, where it isn't refused: a read brings the page or is lost, a victim's write goes on
+-- with the read or is lost, and a flush tells whether the page is clean.
 abbrev pub DutyEnds : (old : Parts) → Duty → (image : List ℕ) → (ok : Bool) → Answered → (new : Parts) → Type 0
 DutyEnds old (Read w slot page) image ok (answered.Got session guard) new =
     ReadEnds old w slot page image ok (Ok (session, guard)) new

@@ -49,7 +49,8 @@ delay_back delay.LatchHeld = refl
 delay_back delay.FlushBusy = refl
 
 abbrev coded_delay : Coded Delay
-coded_delay = code_by (Bool × (Bool × Bool)) (coded× coded_bool (coded× coded_bool coded_bool)) delay_to delay_from delay_back
+coded_delay =
+    code_by (Bool × (Bool × Bool)) (coded× coded_bool (coded× coded_bool coded_bool)) delay_to delay_from delay_back
 
 abbrev cause_to : Cause → Bool × (Bool × (Bool × Bool))
 cause_to cause.NoWorker = (false, (false, (false, false)))
@@ -94,7 +95,9 @@ cause_back cause.NotDirty = refl
 cause_back cause.NoFlushLeft = refl
 
 abbrev coded_cause : Coded Cause
-coded_cause = code_by (Bool × (Bool × (Bool × Bool))) (coded× coded_bool (coded× coded_bool (coded× coded_bool coded_bool))) cause_to cause_from cause_back
+coded_cause =
+    code_by (Bool × (Bool × (Bool × Bool)))
+    (coded× coded_bool (coded× coded_bool (coded× coded_bool coded_bool))) cause_to cause_from cause_back
 
 abbrev failure_to : Failure → Bool × Bool
 failure_to failure.WriteFault = (false, false)
@@ -157,7 +160,11 @@ abbrev MoveCases : Type 0
 MoveCases = ℕ ⊎ ((ℕ × ℕ) ⊎ ((ℕ × Bool) ⊎ ((ℕ × Came) ⊎ (ℕ ⊎ (ℕ ⊎ (ℕ ⊎ ((ℕ × ℕ) ⊎ ((ℕ × ℕ) ⊎ (ℕ ⊎ (ℕ ⊎ Bool))))))))))
 
 abbrev coded_move_cases : Coded MoveCases
-coded_move_cases = coded⊎ coded_ℕ (coded⊎ (coded× coded_ℕ coded_ℕ) (coded⊎ (coded× coded_ℕ coded_bool) (coded⊎ (coded× coded_ℕ coded_came) (coded⊎ coded_ℕ (coded⊎ coded_ℕ (coded⊎ coded_ℕ (coded⊎ (coded× coded_ℕ coded_ℕ) (coded⊎ (coded× coded_ℕ coded_ℕ) (coded⊎ coded_ℕ (coded⊎ coded_ℕ coded_bool))))))))))
+coded_move_cases =
+    coded⊎ coded_ℕ (coded⊎ (coded× coded_ℕ coded_ℕ) (coded⊎ (coded× coded_ℕ coded_bool)
+    (coded⊎ (coded× coded_ℕ coded_came) (coded⊎ coded_ℕ (coded⊎ coded_ℕ (coded⊎ coded_ℕ
+    (coded⊎ (coded× coded_ℕ coded_ℕ) (coded⊎ (coded× coded_ℕ coded_ℕ) (coded⊎ coded_ℕ
+    (coded⊎ coded_ℕ coded_bool))))))))))
 
 abbrev move_to : Move → MoveCases
 move_to (move.Take w) = inl w
@@ -205,10 +212,14 @@ abbrev coded_move : Coded Move
 coded_move = code_by MoveCases coded_move_cases move_to move_from move_back
 
 abbrev ReplyCases : Type 0
-ReplyCases = ℕ ⊎ ((ℕ × ℕ) ⊎ (ℕ ⊎ ((ℕ × ℕ) ⊎ (Failure ⊎ (ℕ ⊎ (Bool ⊎ (ℕ ⊎ (ℕ ⊎ (Ending ⊎ (ℕ ⊎ (Bool ⊎ (Delay ⊎ Cause))))))))))))
+ReplyCases =
+    ℕ ⊎ ((ℕ × ℕ) ⊎ (ℕ ⊎ ((ℕ × ℕ) ⊎ (Failure ⊎ (ℕ ⊎ (Bool ⊎ (ℕ ⊎ (ℕ ⊎ (Ending ⊎ (ℕ ⊎ (Bool ⊎ (Delay ⊎ Cause))))))))))))
 
 abbrev coded_reply_cases : Coded ReplyCases
-coded_reply_cases = coded⊎ coded_ℕ (coded⊎ (coded× coded_ℕ coded_ℕ) (coded⊎ coded_ℕ (coded⊎ (coded× coded_ℕ coded_ℕ) (coded⊎ coded_failure (coded⊎ coded_ℕ (coded⊎ coded_bool (coded⊎ coded_ℕ (coded⊎ coded_ℕ (coded⊎ coded_ending (coded⊎ coded_ℕ (coded⊎ coded_bool (coded⊎ coded_delay coded_cause))))))))))))
+coded_reply_cases =
+    coded⊎ coded_ℕ (coded⊎ (coded× coded_ℕ coded_ℕ) (coded⊎ coded_ℕ (coded⊎ (coded× coded_ℕ coded_ℕ)
+    (coded⊎ coded_failure (coded⊎ coded_ℕ (coded⊎ coded_bool (coded⊎ coded_ℕ (coded⊎ coded_ℕ (coded⊎ coded_ending
+    (coded⊎ coded_ℕ (coded⊎ coded_bool (coded⊎ coded_delay coded_cause))))))))))))
 
 abbrev reply_to : Reply → ReplyCases
 reply_to (reply.Taken plan) = inl plan

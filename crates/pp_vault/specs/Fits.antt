@@ -105,8 +105,8 @@ put_back_call long w of slot page s =
 abbrev pub leaver_fits : State → (w of slot page : ℕ) → Held → Bool
 leaver_fits s w of slot page held = is_leaving s w && (of == w) && is_held_so s w slot page held
 
--- A worker that leaves gives a slot back, however it holds it; with an image that comes back, which has to be as long as
--- a page's, where it holds it X.
+-- A worker that leaves gives a slot back, however it holds it; with an image that comes back, which has to be as long
+-- as a page's, where it holds it X.
 abbrev pub unwind_call : (long : Bool) → Held → (w of slot page : ℕ) → State → Call
 unwind_call long held w of slot page s =
     if leaver_fits s w of slot page held && long then asks (Unwind w slot) else stranger

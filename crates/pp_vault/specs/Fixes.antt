@@ -38,8 +38,8 @@ pub record IsHit (old new : Parts) (w page : ℕ) (x : Session) (g : PinGuard) :
   pub of_page : g.page ≡ page
   pub images : ImagesStay old new
 
--- A device has to work: the errand has the image of the frame that the page gets. That is the victim's, where the victim
--- is written back.
+-- A device has to work: the errand has the image of the frame that the page gets. That is the victim's, where the
+-- victim is written back.
 abbrev pub IsSent : (old new : Parts) → (w page : ℕ) → (image : List ℕ) → Duty → Type 0
 IsSent old new w page image (Read v slot p) =
     (v ≡ w) × (p ≡ page) × ((s : State) → StandsFor old s → (frame : ℕ)

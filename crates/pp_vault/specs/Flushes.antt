@@ -44,8 +44,8 @@ pub record CanCopy (v : Parts) (page : ℕ) : Type 0 where
   pub source : IsImageOf v state page image
   pub spare : IsSome v.spare
 
--- The errand is to write the page, with a copy of its image, which names the page and its mark. The images in the frames
--- stay, and the buffer is away.
+-- The errand is to write the page, with a copy of its image, which names the page and its mark. The images in the
+-- frames stay, and the buffer is away.
 pub record CopiesOut (old new : Parts) (page : ℕ) (errand : Errand) : Type 0 where
   pub duty : errand.duty ≡ Flush page
   pub copy : (s : State) → StandsFor old s → IsImageOf old s page errand.image

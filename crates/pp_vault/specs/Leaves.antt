@@ -24,7 +24,8 @@ pub record StillLeaves (old : Parts) (call : State → Call) (x : Leaver) (new :
   pub leaves : (s : State) → StandsFor new s → is_leaving s x.worker ≡ true
 
 -- The slot isn't latched X: all images stay.
-pub record GivesSlot (old : Parts) (x : Leaver) (of slot page : ℕ) (held : Held) (new : Parts) (y : Leaver) : Type 0 where
+pub record GivesSlot (old : Parts) (x : Leaver) (of slot page : ℕ) (held : Held) (new : Parts)
+    (y : Leaver) : Type 0 where
   pub still : StillLeaves old (unwind_call true held x.worker of slot page) x new y
   pub images : ImagesStay old new
 

@@ -17,8 +17,8 @@ pub record IsRight (images : List (Option (List ℕ))) (page : ℕ) (x : Standin
   pub there : image_in images x.frame ≡ Some image
   pub head : head_of image ≡ (page, x.mark)
 
--- Each page that is cached, not being loaded, and not latched X has its image in its frame, and the image names the page
--- and its known mark.
+-- Each page that is cached, not being loaded, and not latched X has its image in its frame, and the image names the
+-- page and its known mark.
 abbrev pub ReadyAreRight : List (Option (List ℕ)) → State → Type 0
 ReadyAreRight images s = (page : ℕ) (x : Standing) → ready_at s page ≡ Some x → IsRight images page x
 

@@ -61,7 +61,8 @@ IsOut s (Flush page) = flushed_page s ≡ Some page
 -- Where a victim is written back, its image names it and its known mark.
 abbrev pub IsHeaded : State → Duty → (image : List ℕ) → Type 0
 IsHeaded s (Read w slot page) image = Unit {0}
-IsHeaded s (Write w slot page victim) image = Some (head_of image) ≡ option_map (λ mark. (victim, mark)) (known_mark s victim)
+IsHeaded s (Write w slot page victim) image =
+    Some (head_of image) ≡ option_map (λ mark. (victim, mark)) (known_mark s victim)
 IsHeaded s (Flush page) image = Unit {0}
 
 pub record ErrandFits (v : Parts) (errand : Errand) : Type 0 where

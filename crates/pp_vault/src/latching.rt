@@ -27,7 +27,8 @@ use pp_plan::Mode;
 /// Why a call with a session and a guard is no move, if it isn't: they don't fit, or the plan asks something else.
 fn objection(fits: bool, asked: bool) -> Option<Refusal>
     ensures none { IfNone result ((fits ≡ true) × (asked ≡ true)) }
-    ensures some { IfSome result (λ why. (call : Call) (s : State) → refusal_of s (guard_call fits asked call) ≡ Some why) }
+    ensures some { IfSome result
+        (λ why. (call : Call) (s : State) → refusal_of s (guard_call fits asked call) ≡ Some why) }
 {
     if !fits {
         return Some(Refusal::Stranger);
@@ -67,11 +68,12 @@ impl Store {
         self.core.ask(worker).is_some() && of == worker && self.holds_so(worker, slot, page, held)
     }
 
-    /// Whether a session and a guard with an image fit: they do so with the page latched X, and the image is as long as a
-    /// page's.
+    /// Whether a session and a guard with an image fit: they do so with the page latched X, and the image is as long as
+    /// a page's.
     fn fits_writer(&self, worker: u32, guard: &WriteGuard) -> bool
         ensures { (s : State) → StandsFor (parts_of self.now) s → result
-            ≡ (both_fit s worker guard.now.worker guard.now.slot guard.now.page X && is_long (parts_of self.now) guard.now.image) }
+            ≡ (both_fit s worker guard.now.worker guard.now.slot guard.now.page X
+            && is_long (parts_of self.now) guard.now.image) }
     {
         self.fits_both(worker, guard.worker, guard.slot, guard.page, Held::X)
             && guard.image.len() == self.page_bytes
@@ -152,7 +154,8 @@ impl Store {
         guard: PinGuard,
     ) -> Result<(Session, ReadGuard), (Session, PinGuard, Refusal)>
         requires { IsKept (parts_of self.old) }
-        ensures ok { IfOk result (λ now. LatchesShared (parts_of self.old) session guard (parts_of self.new) now.0 now.1) }
+        ensures ok { IfOk result
+            (λ now. LatchesShared (parts_of self.old) session guard (parts_of self.new) now.0 now.1) }
         ensures err { IfErr result (λ e. Refuses (parts_of self.old)
             (latch_call mode.S session.worker guard.worker guard.slot guard.page) e.2) }
         ensures back { IfErr result (λ e. (e.0 ≡ session) × (e.1 ≡ guard)) }
@@ -194,7 +197,8 @@ impl Store {
         guard: PinGuard,
     ) -> Result<(Session, WriteGuard), (Session, PinGuard, Refusal)>
         requires { IsKept (parts_of self.old) }
-        ensures ok { IfOk result (λ now. LatchesExclusive (parts_of self.old) session guard (parts_of self.new) now.0 now.1) }
+        ensures ok { IfOk result
+            (λ now. LatchesExclusive (parts_of self.old) session guard (parts_of self.new) now.0 now.1) }
         ensures err { IfErr result (λ e. Refuses (parts_of self.old)
             (latch_call mode.X session.worker guard.worker guard.slot guard.page) e.2) }
         ensures back { IfErr result (λ e. (e.0 ≡ session) × (e.1 ≡ guard)) }

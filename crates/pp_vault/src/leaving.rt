@@ -25,11 +25,12 @@ impl Store {
         self.core.is_leaving(worker) && of == worker && self.holds_so(worker, slot, page, held)
     }
 
-    /// Whether a leaving worker and a guard with an image fit: they do so with the page latched X, and the image is as long
-    /// as a page's.
+    /// Whether a leaving worker and a guard with an image fit: they do so with the page latched X, and the image is as
+    /// long as a page's.
     fn fits_leaving_writer(&self, worker: u32, guard: &WriteGuard) -> bool
         ensures { (s : State) → StandsFor (parts_of self.now) s → result
-            ≡ (fits_leaving s worker guard.now.worker guard.now.slot guard.now.page X && is_long (parts_of self.now) guard.now.image) }
+            ≡ (fits_leaving s worker guard.now.worker guard.now.slot guard.now.page X
+            && is_long (parts_of self.now) guard.now.image) }
     {
         self.fits_leaver(worker, guard.worker, guard.slot, guard.page, Held::X)
             && guard.image.len() == self.page_bytes
@@ -46,7 +47,8 @@ impl Store {
     ) -> Result<Leaver, (Leaver, Refusal)>
         requires kept { IsKept (parts_of self.old) }
         requires not_written { held ≢ X }
-        ensures ok { IfOk result (λ after. GivesSlot (parts_of self.old) leaver of slot page held (parts_of self.new) after) }
+        ensures ok { IfOk result
+            (λ after. GivesSlot (parts_of self.old) leaver of slot page held (parts_of self.new) after) }
         ensures err { IfErr result (λ e. Refuses (parts_of self.old)
             (unwind_call true held leaver.worker of slot page) e.1) }
         ensures back { IfErr result (λ e. e.0 ≡ leaver) }
@@ -63,7 +65,8 @@ impl Store {
         }
     }
 
-    /// A worker that leaves gives back a slot that is latched X. The image goes back into its frame, with the raised mark.
+    /// A worker that leaves gives back a slot that is latched X. The image goes back into its frame, with the raised
+    /// mark.
     fn give_image(
         &mut self,
         leaver: Leaver,
@@ -110,7 +113,8 @@ impl Store {
     ) -> Result<Leaver, (Leaver, Guard, Refusal)>
         requires { IsKept (parts_of self.old) }
         ensures ok { IfOk result (λ after. GivesBack (parts_of self.old) leaver guard (parts_of self.new) after) }
-        ensures err { IfErr result (λ e. Refuses (parts_of self.old) (give_back_call (parts_of self.old) leaver guard) e.2) }
+        ensures err { IfErr result
+            (λ e. Refuses (parts_of self.old) (give_back_call (parts_of self.old) leaver guard) e.2) }
         ensures back { IfErr result (λ e. (e.0 ≡ leaver) × (e.1 ≡ guard)) }
         ensures unchanged { OnErr result (parts_of self.new ≡ untold (parts_of self.old)) }
     {

@@ -48,7 +48,8 @@ impl Store {
         branch: u32,
     ) -> Result<Session, (Session, Refusal)>
         requires { IsKept (parts_of self.old) }
-        ensures ok { IfOk result (λ _. Does (parts_of self.old) (choose_call session.worker branch) (parts_of self.new)) }
+        ensures ok { IfOk result
+            (λ _. Does (parts_of self.old) (choose_call session.worker branch) (parts_of self.new)) }
         ensures images { IfOk result (λ _. ImagesStay (parts_of self.old) (parts_of self.new)) }
         ensures session { IfOk result (λ now. SessionFits (parts_of self.new) session.worker now) }
         ensures err { IfErr result (λ e. Refuses (parts_of self.old) (choose_call session.worker branch) e.1) }

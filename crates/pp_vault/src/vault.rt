@@ -12,7 +12,8 @@ ghost use Rattle.pp_vault.specs.Leaves.{GivesBack, give_back_call};
 ghost use Rattle.pp_vault.specs.StandsFor.{StandsFor, IsKept};
 ghost use Rattle.pp_vault.specs.Headline.{HeadlineHolds};
 ghost use Rattle.pp_vault.specs.Events.{Refuses, Does, untold};
-ghost use Rattle.pp_vault.specs.Fits.{take_call, choose_call, finish_call, end_call, unfix_call, latch_call, unlatch_call, put_back_call};
+ghost use Rattle.pp_vault.specs.Fits.{take_call, choose_call, finish_call, end_call, unfix_call, latch_call};
+ghost use Rattle.pp_vault.specs.Fits.{unlatch_call, put_back_call};
 ghost use Rattle.pp_vault.specs.ImageMoves.{ImagesStay};
 ghost use Rattle.pp_vault.specs.Tokens.{is_long, SessionFits, HoldsNothing, ErrandFits};
 ghost use Rattle.pp_vault.specs.Flushes.{flush_call, next_call, CopiesOut, CopiesNext};
@@ -77,8 +78,8 @@ impl Vault {
         Ok((Vault { store }, hands))
     }
 
-    /// Does nothing. It tells that the vault stands for a state that can be reached, and that the headline holds of each
-    /// state that it stands for.
+    /// Does nothing. It tells that the vault stands for a state that can be reached, and that the headline holds of
+    /// each state that it stands for.
     #[tactic(auto, using(crate::proofs::Kept::headline))]
     pub fn known(&self)
         ensures kept { IsKept self.now }
@@ -109,7 +110,8 @@ impl Vault {
     ///
     /// # Errors
     ///
-    /// [`Refusal::Stranger`] where the session's worker doesn't act; else what the core refuses. The session comes back.
+    /// [`Refusal::Stranger`] where the session's worker doesn't act; else what the core refuses. The session comes
+    /// back.
     pub fn choose(&mut self, session: Session, branch: u32) -> Result<Session, (Session, Refusal)>
         ensures ok { IfOk result (λ _. Does self.old (choose_call session.worker branch) self.new) }
         ensures images { IfOk result (λ _. ImagesStay self.old self.new) }
@@ -127,7 +129,8 @@ impl Vault {
     ///
     /// # Errors
     ///
-    /// [`Refusal::Stranger`] where the session's worker doesn't act; else what the core refuses. The session comes back.
+    /// [`Refusal::Stranger`] where the session's worker doesn't act; else what the core refuses. The session comes
+    /// back.
     pub fn finish(&mut self, session: Session) -> Result<Chair, (Session, Refusal)>
         ensures ok { IfOk result (λ _. Does self.old (finish_call session.worker) self.new) }
         ensures images { IfOk result (λ _. ImagesStay self.old self.new) }
@@ -183,8 +186,8 @@ impl Vault {
     ///
     /// # Errors
     ///
-    /// Where no page lets one begin, [`Refusal::NotNow`] while a flush is in flight, and else [`Refusal::OffPlan`]. Where
-    /// one does, what the core refuses.
+    /// Where no page lets one begin, [`Refusal::NotNow`] while a flush is in flight, and else [`Refusal::OffPlan`].
+    /// Where one does, what the core refuses.
     pub fn flush_next(&mut self, number: u32) -> Result<Errand, Refusal>
         ensures ok { IfOk result (λ _. Does self.old (next_call number) self.new) }
         ensures errand { IfOk result (λ errand. ErrandFits self.new errand) }
@@ -213,9 +216,9 @@ impl Vault {
         self.store.submit(accepted)
     }
 
-    /// Who moves next, as the core tells it: the device that answers a worker or the flusher, a worker in its plan or on
-    /// its way out, or an idle worker where a plan waits. The moves of that turn are possible, whatever is decided in
-    /// them.
+    /// Who moves next, as the core tells it: the device that answers a worker or the flusher, a worker in its plan or
+    /// on its way out, or an idle worker where a plan waits. The moves of that turn are possible, whatever is decided
+    /// in them.
     ///
     /// None if and only if no plan waits, every worker is idle, and no flush is in flight.
     pub fn next_possible(&self) -> Option<Turn>
@@ -264,11 +267,11 @@ impl Vault {
         self.store.fix(session, page)
     }
 
-    /// The device has answered an errand: its image comes back, and goes into a frame, on with a read of the page, or to
-    /// the flusher.
+    /// The device has answered an errand: its image comes back, and goes into a frame, on with a read of the page, or
+    /// to the flusher.
     ///
-    /// An answer that isn't of a duty of this state, or whose image is of another length, or isn't the victim's that was
-    /// to be written, is refused as [`Refusal::Stranger`].
+    /// An answer that isn't of a duty of this state, or whose image is of another length, or isn't the victim's that
+    /// was to be written, is refused as [`Refusal::Stranger`].
     #[tactic(auto, using(crate::proofs::DutyEnds::answer_keeps))]
     pub fn answer(&mut self, returned: Returned) -> Answered
         ensures answers { AnswerComesTo self.old returned result self.new }
@@ -282,8 +285,8 @@ impl Vault {
     ///
     /// # Errors
     ///
-    /// [`Refusal::Stranger`] where a token isn't one of this state, and [`Refusal::OffPlan`] where the plan asks something
-    /// else. The tokens come back, and nothing changes.
+    /// [`Refusal::Stranger`] where a token isn't one of this state, and [`Refusal::OffPlan`] where the plan asks
+    /// something else. The tokens come back, and nothing changes.
     pub fn unfix(
         &mut self,
         session: Session,
@@ -342,8 +345,8 @@ impl Vault {
         self.store.latch_exclusive(session, guard)
     }
 
-    /// Copies the image of a page that is latched S into the slice, and tells whether it did. It did not, and the slice is
-    /// as it was, where the guard isn't one of this state or the slice isn't as long as a page.
+    /// Copies the image of a page that is latched S into the slice, and tells whether it did. It did not, and the slice
+    /// is as it was, where the guard isn't one of this state or the slice isn't as long as a page.
     pub fn look(&self, guard: &ReadGuard, bytes: &mut [u8]) -> bool
         ensures result { (s : State) → StandsFor self.now s
             → result ≡ may_look self.now.page_bytes guard.now (length bytes.old) s }
@@ -374,8 +377,8 @@ impl Vault {
         self.store.unlatch_shared(session, guard)
     }
 
-    /// A worker takes its latch X off the page of a slot, which it still holds. The page's image goes from the guard back
-    /// into its frame: its body is as the worker left it, and its head has the page's mark, raised by one.
+    /// A worker takes its latch X off the page of a slot, which it still holds. The page's image goes from the guard
+    /// back into its frame: its body is as the worker left it, and its head has the page's mark, raised by one.
     ///
     /// # Errors
     ///
@@ -401,8 +404,8 @@ impl Vault {
     ///
     /// # Errors
     ///
-    /// [`Refusal::Stranger`] where the worker doesn't leave its plan, or the guard isn't one of it. Then both tokens come
-    /// back, and nothing has changed.
+    /// [`Refusal::Stranger`] where the worker doesn't leave its plan, or the guard isn't one of it. Then both tokens
+    /// come back, and nothing has changed.
     pub fn give_back(
         &mut self,
         leaver: Leaver,
