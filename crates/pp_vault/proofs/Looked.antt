@@ -13,13 +13,12 @@ use Rattle.pp_model.specs.Reached.{IsReached}
 use Rattle.pp_model.specs.Ready.{ready_at, standing_of}
 use Rattle.pp_model.proofs.ReadyLaws.{shared_are_ready, ready_stand}
 use Rattle.pp_core.specs.Queries.{held_by, held_of}
-use Rattle.pp_device.specs.Image.{head_of}
+use Rattle.pp_device.specs.Image.{head_of, body_of}
 use Rattle.pp_vault.specs.declared.guards.ReadGuard.{ReadGuard}
 use Rattle.pp_vault.specs.Parts.{Parts}
 use Rattle.pp_vault.specs.StandsFor.{StandsFor, IsKept, IsRight, image_in}
-use Rattle.pp_vault.specs.Fits.{is_held_so}
 use Rattle.pp_vault.specs.Flushes.{IsImageOf}
-use Rattle.pp_vault.specs.Looks.{may_look, CanShow, Shows}
+use Rattle.pp_vault.specs.Looks.{may_see, may_look, CanSee, Shows, ShowsBody}
 use Rattle.pp_vault.proofs.FitTests.{both_hold, nat_is, slot_held}
 use Rattle.pp_vault.proofs.Flushed.{same_frame, same_image}
 
@@ -46,16 +45,11 @@ module _ (s : State) (h : IsReached s) (w slot page : ℕ) where
 
 -- ---- its image is there
 
-module _ (v : Parts) (guard : ReadGuard) (n : ℕ)
-    (fits : (s : State) → StandsFor v s → may_look v.page_bytes guard n s ≡ true) where
-  both : (s : State) → StandsFor v s
-      → (is_held_so s guard.worker guard.slot guard.page S ≡ true) × ((n == v.page_bytes) ≡ true)
-  both s st = both_hold (is_held_so s guard.worker guard.slot guard.page S) (n == v.page_bytes) (fits s st)
-
+module _ (v : Parts) (guard : ReadGuard) (fits : (s : State) → StandsFor v s → may_see guard s ≡ true) where
   ready : (s : State) → StandsFor v s → ready_at s guard.page ≡ Some (standing_of s guard.page)
   ready s st =
       shared_ready s st.core.reached guard.worker guard.slot guard.page
-      (slot_held s guard.worker guard.slot guard.page S (both s st).0)
+      (slot_held s guard.worker guard.slot guard.page S (fits s st))
 
   right : (s : State) → StandsFor v s → IsRight v.images guard.page (standing_of s guard.page)
   right s st = st.images.right guard.page (standing_of s guard.page) (ready s st)
@@ -63,8 +57,8 @@ module _ (v : Parts) (guard : ReadGuard) (n : ℕ)
   at : (s : State) → StandsFor v s → frame_of s guard.page ≡ Some (frame_at s guard.page)
   at s st = (ready_stand s st.core.reached guard.page (standing_of s guard.page) (ready s st)).frame
 
-  pub can_show : IsKept v → CanShow v guard.page n
-  can_show kept =
+  pub can_see : IsKept v → CanSee v guard.page
+  can_see kept =
       let s = kept.state in
       let st = kept.stands in
       record {
@@ -72,7 +66,6 @@ module _ (v : Parts) (guard : ReadGuard) (n : ℕ)
         stands = st;
         image = (right s st).image;
         source = record { frame = frame_at s guard.page; stands = at s st; there = (right s st).there };
-        long = nat_is n v.page_bytes (both s st).1;
       }
 
   module _ (bytes : List ℕ) (copy : (s : State) → StandsFor v s → IsImageOf v s guard.page bytes) where
@@ -98,3 +91,19 @@ module _ (v : Parts) (guard : ReadGuard) (n : ℕ)
               (ready_stand s st.core.reached guard.page (standing_of s guard.page) (ready s st)).mark
               );
         }
+
+    pub shows_body : (body : List ℕ) → body ≡ body_of bytes → ShowsBody v guard.page body
+    shows_body body is = record { image = bytes; shown = shows; body_is = is }
+
+-- ---- a look, which also says how long the slice is
+
+module _ (v : Parts) (guard : ReadGuard) (n : ℕ)
+    (fits : (s : State) → StandsFor v s → may_look v.page_bytes guard n s ≡ true) where
+  both : (s : State) → StandsFor v s → (may_see guard s ≡ true) × ((n == v.page_bytes) ≡ true)
+  both s st = both_hold (may_see guard s) (n == v.page_bytes) (fits s st)
+
+  pub seen : (s : State) → StandsFor v s → may_see guard s ≡ true
+  seen s st = (both s st).0
+
+  pub long : IsKept v → n ≡ v.page_bytes
+  long kept = nat_is n v.page_bytes (both kept.state kept.stands).1

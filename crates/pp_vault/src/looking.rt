@@ -1,38 +1,68 @@
 //! Looking at a page that is latched S.
 
-ghost use Rattle.std.specs.Prelude.{◌≡◌, true, false, length};
+ghost use Rattle.std.specs.Prelude.{◌≡◌, true, false, length, IfSome};
+ghost use Rattle.std.specs.Option.{is_some};
 ghost use Rattle.pp_model.specs.Pool.{State};
 ghost use Rattle.pp_vault.specs.Parts.{parts_of};
 ghost use Rattle.pp_vault.specs.StandsFor.{StandsFor, IsKept};
 ghost use Rattle.pp_vault.specs.Flushes.{IsImageOf};
-ghost use Rattle.pp_vault.specs.Looks.{may_look, CanShow, Shows};
+ghost use Rattle.pp_vault.specs.Looks.{may_see, may_look, CanSee, Shows, ShowsBody};
 
 use crate::guards::ReadGuard;
+use crate::image::Image;
 use crate::store::Store;
 use pp_core::Held;
 
 impl Store {
+    /// Whether the guard fits: its worker's slot has its page latched S.
+    fn may_see(&self, guard: &ReadGuard) -> bool
+        ensures { (s : State) → StandsFor (parts_of self.now) s → result ≡ may_see guard.now s }
+    {
+        self.holds_so(guard.worker, guard.slot, guard.page, Held::S)
+    }
+
     /// Whether the guard fits, and so many bytes are those of a page.
     fn may_look(&self, guard: &ReadGuard, bytes: usize) -> bool
         ensures { (s : State) → StandsFor (parts_of self.now) s
             → result ≡ may_look (parts_of self.now).page_bytes guard.now bytes s }
     {
-        self.holds_so(guard.worker, guard.slot, guard.page, Held::S) && bytes == self.page_bytes
+        self.may_see(guard) && bytes == self.page_bytes
     }
 
-    /// Copies the page's image into the slice.
-    fn show(&self, page: u32, bytes: &mut [u8])
-        requires { CanShow (parts_of self.now) page (length bytes.old) }
-        ensures { (s : State) → StandsFor (parts_of self.now) s → IsImageOf (parts_of self.now) s page bytes.new }
+    /// The image of a page that has one in its frame.
+    fn image_of(&self, page: u32) -> &Image
+        requires { CanSee (parts_of self.now) page }
+        ensures { (s : State) → StandsFor (parts_of self.now) s → IsImageOf (parts_of self.now) s page result.now }
     {
         let frame = match self.core.frame_of(page) {
             Some(frame) => frame,
             None => unreachable!(),
         };
         match &self.images[frame as usize] {
-            Some(image) => bytes.copy_from_slice(image.bytes()),
+            Some(image) => image,
             None => unreachable!(),
         }
+    }
+
+    /// The body of the image of the guard's page, where the guard fits.
+    pub(crate) fn see(&self, guard: &ReadGuard) -> Option<&[u8]>
+        requires { IsKept (parts_of self.now) }
+        ensures some { (s : State) → StandsFor (parts_of self.now) s → is_some result ≡ may_see guard.now s }
+        ensures shown { IfSome result (λ body. ShowsBody (parts_of self.now) guard.now.page body.now) }
+    {
+        if !self.may_see(guard) {
+            return None;
+        }
+        Some(self.image_of(guard.page).body())
+    }
+
+    /// Copies the page's image into the slice.
+    fn show(&self, page: u32, bytes: &mut [u8])
+        requires there { CanSee (parts_of self.now) page }
+        requires long { length bytes.old ≡ (parts_of self.now).page_bytes }
+        ensures { (s : State) → StandsFor (parts_of self.now) s → IsImageOf (parts_of self.now) s page bytes.new }
+    {
+        bytes.copy_from_slice(self.image_of(page).bytes());
     }
 
     /// Copies the image of the guard's page into the slice, where the guard fits and the slice is as long as a page.

@@ -1,6 +1,7 @@
 //! The vault: its core's moves, with the images of the pages.
 
 ghost use Rattle.std.specs.Prelude.{◌≡◌, ◌↔◌, true, false, Some, None, IsSome, IfOk, IfErr, IfSome, OnErr, length};
+ghost use Rattle.std.specs.Option.{is_some};
 ghost use Rattle.pp_model.specs.Pool.{State, opening, dirty_pages};
 ghost use Rattle.pp_model.specs.Budget.{bound};
 ghost use Rattle.pp_model.specs.Submitting.{submit_error};
@@ -18,7 +19,7 @@ ghost use Rattle.pp_vault.specs.ImageMoves.{ImagesStay};
 ghost use Rattle.pp_vault.specs.Tokens.{is_long, SessionFits, HoldsNothing, ErrandFits};
 ghost use Rattle.pp_vault.specs.Flushes.{flush_call, next_call, CopiesOut, CopiesNext};
 ghost use Rattle.pp_vault.specs.Fixes.{FixAnswers};
-ghost use Rattle.pp_vault.specs.Looks.{may_look, Shows};
+ghost use Rattle.pp_vault.specs.Looks.{may_see, may_look, Shows, ShowsBody};
 ghost use Rattle.pp_vault.specs.Answers.{AnswerComesTo};
 ghost use Rattle.pp_cert.specs.declared.note.Held.TheVariants.{S};
 ghost use Rattle.pp_plan.specs.declared.mode.Mode.TheVariants as mode;
@@ -354,6 +355,15 @@ impl Vault {
         ensures unchanged { result ≡ false → bytes.new ≡ bytes.old }
     {
         self.store.look(guard, bytes)
+    }
+
+    /// The body of the image of a page that is latched S: its bytes from byte 12 on, where they stand in the vault. None
+    /// where the guard isn't one of this state.
+    pub fn see(&self, guard: &ReadGuard) -> Option<&[u8]>
+        ensures some { (s : State) → StandsFor self.now s → is_some result ≡ may_see guard.now s }
+        ensures shown { IfSome result (λ body. ShowsBody self.now guard.now.page body.now) }
+    {
+        self.store.see(guard)
     }
 
     /// A worker takes its latch S off the page of a slot, which it still holds.
