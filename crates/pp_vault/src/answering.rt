@@ -105,7 +105,10 @@ impl Store {
     {
         let fits = image.len() == self.page_bytes && self.is_headed(victim, image);
         match self.core.errand(worker) {
-            Some((k, p, Some(v))) => k == slot && p == page && v == victim && fits,
+            Some((its_slot, its_page, Some(its_victim))) => its_slot == slot
+                && its_page == page
+                && its_victim == victim
+                && fits,
             _ => false,
         }
     }
@@ -159,7 +162,7 @@ impl Store {
     {
         let fits = image.len() == self.page_bytes;
         match self.core.errand(worker) {
-            Some((k, p, None)) => k == slot && p == page && fits,
+            Some((its_slot, its_page, None)) => its_slot == slot && its_page == page && fits,
             _ => false,
         }
     }

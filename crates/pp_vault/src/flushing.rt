@@ -69,18 +69,16 @@ impl Store {
             → IsImageOf (parts_of self.old) s page result.image }
         ensures rest { parts_of self.new ≡ record (parts_of self.old) { spare = None } }
     {
-        let mut image = match self.spare.take() {
-            Some(image) => image,
-            None => unreachable!(),
+        let Some(mut image) = self.spare.take() else {
+            unreachable!()
         };
-        let frame = match self.core.frame_of(page) {
-            Some(frame) => frame,
-            None => unreachable!(),
+        let Some(frame) = self.core.frame_of(page) else {
+            unreachable!()
         };
-        match &self.images[frame as usize] {
-            Some(source) => image.copy_from(source),
-            None => unreachable!(),
-        }
+        let Some(source) = &self.images[frame as usize] else {
+            unreachable!()
+        };
+        image.copy_from(source);
         Errand {
             duty: Duty::Flush { page },
             image,

@@ -34,14 +34,13 @@ impl Store {
         requires { CanSee (parts_of self.now) page }
         ensures { (s : State) → StandsFor (parts_of self.now) s → IsImageOf (parts_of self.now) s page result.now }
     {
-        let frame = match self.core.frame_of(page) {
-            Some(frame) => frame,
-            None => unreachable!(),
+        let Some(frame) = self.core.frame_of(page) else {
+            unreachable!()
         };
-        match &self.images[frame as usize] {
-            Some(image) => image,
-            None => unreachable!(),
-        }
+        let Some(image) = &self.images[frame as usize] else {
+            unreachable!()
+        };
+        image
     }
 
     /// The body of the image of the guard's page, where the guard fits.

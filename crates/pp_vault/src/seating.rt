@@ -128,9 +128,9 @@ impl Store {
         requires acts { Acts (parts_of self.now) worker }
         ensures { SessionFits (parts_of self.now) worker result }
     {
-        match self.core.ask(worker) {
-            Some(ask) => Session { worker, ask },
-            None => unreachable!(),
-        }
+        let Some(ask) = self.core.ask(worker) else {
+            unreachable!()
+        };
+        Session { worker, ask }
     }
 }

@@ -62,10 +62,10 @@ impl Store {
           images = slice_set (parts_of self.old).images frame None;
         } }
     {
-        match self.images[frame as usize].take() {
-            Some(image) => image,
-            None => unreachable!(),
-        }
+        let Some(image) = self.images[frame as usize].take() else {
+            unreachable!()
+        };
+        image
     }
 
     /// Puts the image into the frame.
