@@ -11,7 +11,7 @@ use crate::parts::cut;
 use pp_device::Trouble;
 
 /// What a line says.
-#[derive(Clone, Copy, Debug, PartialEq, Eq)]
+#[derive(Clone, Copy)]
 pub(crate) enum Line {
     /// Nothing.
     Blank,
