@@ -28,3 +28,6 @@ pub mod Heads
 pub mod Unlatching
 pub mod Unwinding
 pub mod LeavesDone
+mod Placed
+mod StillFits
+mod OpeningHands

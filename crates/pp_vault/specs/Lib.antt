@@ -18,3 +18,13 @@ pub mod Uses
 pub mod Leaves
 pub mod Carrying
 pub mod Flushes
+pub mod Holding
+pub mod GuardCoding
+pub mod StoredGuards
+pub mod Stages
+pub mod HandCoding
+pub mod StoredHands
+pub mod Duties
+pub mod Lending
+pub mod Hands
+pub mod HandLaws

@@ -1,7 +1,9 @@
 //! Guards: what a worker has of a slot that it holds.
 
 ghost use Rattle.std.specs.Prelude.{◌≡◌};
+ghost use Rattle.std.specs.Borrow.{sem};
 ghost use Rattle.pp_device.specs.Image.{body_of};
+ghost use Rattle.pp_vault.specs.Holding.{slot_by};
 
 use crate::image::Image;
 
@@ -47,6 +49,19 @@ pub enum Guard {
     Write(WriteGuard),
 }
 
+impl Guard {
+    /// The slot's number.
+    pub fn slot(&self) -> u32
+        ensures { result ≡ slot_by self.now }
+    {
+        match self {
+            Guard::Pin(guard) => guard.slot,
+            Guard::Read(guard) => guard.slot,
+            Guard::Write(guard) => guard.slot,
+        }
+    }
+}
+
 impl PinGuard {
     /// The slot's number.
     pub fn slot(&self) -> u32
@@ -87,6 +102,8 @@ impl ReadGuard {
 }
 
 impl WriteGuard {
+    ghost use Rattle.pp_vault.specs.Lending.{LendsGuardBody};
+
     /// The slot's number.
     pub fn slot(&self) -> u32
         ensures { result ≡ self.now.slot }
@@ -113,5 +130,14 @@ impl WriteGuard {
         ensures { result.now ≡ body_of self.now.image }
     {
         self.image.body()
+    }
+
+    /// The body of the page's image, to be changed: its bytes from byte 12 on. Whatever is left there is the body of
+    /// the guard's image from then on; its head stays.
+    pub fn body_mut(&mut self) -> &mut [u8]
+        ensures* writes_back { sem 𝓛 (LendsGuardBody self.entry result) }
+        ensures body { result.now ≡ body_of self.old.image }
+    {
+        self.image.body_mut()
     }
 }

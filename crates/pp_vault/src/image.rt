@@ -1,6 +1,7 @@
 //! A page's image in memory.
 
 ghost use Rattle.std.specs.Prelude.{◌≡◌, ◌≤◌, ◌+◌, ℕ, IfOk, IfErr, OnOk, OnErr, length};
+ghost use Rattle.std.specs.Borrow.{sem};
 ghost use Rattle.pp_vault.specs.Opening.{zeros};
 ghost use Rattle.pp_device.specs.Image.{with_head, head_of, body_of};
 
@@ -28,6 +29,8 @@ impl Model for Image {
 }
 
 impl Image {
+    ghost use Rattle.pp_vault.specs.Lending.{LendsBody};
+
     /// An image of so many zeros.
     pub(crate) fn new(alloc: Global, page_bytes: usize) -> Result<Image, AllocError>
         requires { 12 ≤ page_bytes }
@@ -73,6 +76,14 @@ impl Image {
         ensures { result.now ≡ body_of self.now }
     {
         &self.bytes[image::HEAD..]
+    }
+
+    /// The bytes after the head, to be changed. What is left there is written back; the head stays.
+    pub(crate) fn body_mut(&mut self) -> &mut [u8]
+        ensures* writes_back { sem 𝓛 (LendsBody self.entry result) }
+        ensures body { result.now ≡ body_of self.old }
+    {
+        self.bytes.slice_mut(image::HEAD..)
     }
 
     /// All bytes.

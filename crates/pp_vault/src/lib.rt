@@ -7,13 +7,15 @@
 pub use answering::Answered;
 pub use fixing::Fixed;
 pub use guards::{Guard, PinGuard, ReadGuard, WriteGuard};
-pub use hands::Hands;
+pub use hands::{Flushing, Hands, Workers};
+pub use places::Guards;
 pub use pp_core::{
     Accepted, Ask, Came, Cause, CoreError as VaultError, Delay, Ending, Failure, Held, Move,
     PlanId, Reply, SubmitError, Turn,
 };
 pub use pp_device::{Device, Fault};
 pub use refusal::Refusal;
+pub use stage::{Hand, Stage};
 pub use tokens::{Chair, Errand, Leaver, Returned, Session};
 pub use vault::Vault;
 
@@ -25,12 +27,16 @@ mod guards;
 mod hands;
 mod image;
 mod latching;
+pub mod laws;
 mod leaving;
 mod looking;
 mod opening;
+mod places;
 mod refusal;
 mod seating;
+mod stage;
 mod store;
+mod stored;
 mod submitting;
 mod tokens;
 mod vault;

@@ -1,6 +1,7 @@
 //! Tokens of workers and of the flusher.
 
 ghost use Rattle.std.specs.Prelude.{◌≡◌};
+ghost use Rattle.pp_vault.specs.Duties.{duty_worker};
 
 use crate::image::Image;
 use pp_device::Fault;
@@ -60,6 +61,18 @@ pub struct Returned {
     pub(crate) duty: Duty,
     pub(crate) image: Image,
     pub(crate) answer: Result<(), Fault>,
+}
+
+impl Duty {
+    /// The worker that the device works for. None for a flush.
+    pub(crate) fn worker(&self) -> Option<u32>
+        ensures { result ≡ duty_worker self.now }
+    {
+        match *self {
+            Duty::Read { worker, .. } | Duty::Write { worker, .. } => Some(worker),
+            Duty::Flush { .. } => None,
+        }
+    }
 }
 
 impl Chair {

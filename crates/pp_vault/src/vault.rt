@@ -8,7 +8,8 @@ ghost use Rattle.pp_model.specs.Submitting.{submit_error};
 ghost use Rattle.pp_vault.specs.Submits.{TakesIn};
 ghost use Rattle.pp_model.specs.Turns.{next_turn, IsOpen, IsUnderWay};
 ghost use Rattle.pp_core.specs.Opening.{kept_of};
-ghost use Rattle.pp_vault.specs.Opening.{all_chairs};
+ghost use Rattle.pp_vault.specs.Stages.{AllIdle};
+ghost use Rattle.pp_vault.specs.Hands.{HandsFit};
 ghost use Rattle.pp_vault.specs.Leaves.{GivesBack, give_back_call};
 ghost use Rattle.pp_vault.specs.StandsFor.{StandsFor, IsKept};
 ghost use Rattle.pp_vault.specs.Headline.{HeadlineHolds};
@@ -68,7 +69,9 @@ impl Vault {
     /// Only where that memory can't be had.
     pub fn new(alloc: Global, settings: &Settings) -> Result<(Vault, Hands), VaultError>
         ensures opens { IfOk result (λ made. StandsFor made.0 (opening (kept_of settings.now))) }
-        ensures hands { IfOk result (λ made. made.1 ≡ all_chairs settings.now.workers) }
+        ensures idle { IfOk result (λ made. AllIdle settings.now.workers made.1.workers) }
+        ensures no_flush { IfOk result (λ made. made.1.flushing ≡ None) }
+        ensures fit { IfOk result (λ made. HandsFit made.0 made.1) }
         ensures page_bytes { IfOk result (λ made. made.0.page_bytes ≡ settings.now.page_bytes) }
         ensures untold { IfOk result (λ made. made.0.last ≡ None) }
         ensures kept { IfOk result (λ made. IsKept made.0) }
@@ -252,7 +255,7 @@ impl Vault {
         self.store.last
     }
 
-    /// Gives the vault up, with the chairs that are in its hands.
+    /// Gives the vault up, with all tokens that are in its hands.
     pub fn scrap(self, hands: Hands) {
         let Vault { store: _store } = self;
         hands.scrap();

@@ -2,6 +2,9 @@ use Rattle.pp_model.specs.Pool.{opening}
 use Rattle.pp_core.specs.Opening.{kept_of}
 use Rattle.pp_vault.specs.Parts.{parts_of}
 use Rattle.pp_vault.proofs.Kept.{headline}
+use Rattle.std.proofs.Common.{subst}
+use Rattle.pp_vault.specs.Stages.{AllIdle}
+use Rattle.pp_vault.proofs.OpeningHands.{opening_hands}
 use Rattle.pp_vault.proofs.vault.Vault.new.Goals as goal
 
 pub invariant_of-result : goal.invariant_of-result
@@ -14,3 +17,10 @@ returns-clause-kept c =
 
 pub returns-clause-headline : goal.returns-clause-headline
 returns-clause-headline c = headline (parts_of c.in_ok-store.store)
+
+pub returns-clause-fit : goal.returns-clause-fit
+returns-clause-fit c =
+    opening_hands (parts_of c.in_ok-store.store) (kept_of c.args.settings.now) c.in_ok-hands.hands
+    c.in_ok-store.ensures.opens
+    (subst (λ n. AllIdle n c.in_ok-hands.hands.workers) c.workers.ensures.is c.in_ok-hands.ensures.workers)
+    c.in_ok-hands.ensures.flushing

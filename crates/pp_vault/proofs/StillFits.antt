@@ -1,0 +1,186 @@
+-- The hand of a worker that makes no move still fits.
+use Rattle.std.proofs.Common.{◌≡◌, ◌≢◌, ◌∙◌, ℕ, Option, Some, None, List, refl, sym, ap, subst}
+use Rattle.std.specs.Prelude.{unwrap_or, option_map, is_some}
+use Rattle.std.proofs.lemmas.Bool.{false≢true}
+use Rattle.pp_cert.specs.declared.note.Held.TheVariants.{S, X}
+use Rattle.pp_model.specs.declared.moves.Move.{Move}
+use Rattle.pp_model.specs.declared.moves.Move.TheVariants as move
+use Rattle.pp_model.specs.Pool.{State, known_mark}
+use Rattle.pp_model.specs.Moves.{next_of}
+use Rattle.pp_model.specs.Reached.{IsReached}
+use Rattle.pp_model.specs.WorkerParts.{worker_of}
+use Rattle.pp_core.specs.Parts as core
+use Rattle.pp_core.specs.StandsFor as core_stands
+use Rattle.pp_core.specs.Queries.{held_of, errand_of}
+use Rattle.pp_core.specs.AfterMoves.{WorkerStays, Releases}
+use Rattle.pp_core.proofs.AfterMoves.{after_moves}
+use Rattle.pp_core.proofs.Alike.{same_idle, same_leaving, same_ask, same_held, same_errand, same_mark}
+use Rattle.pp_vault.specs.declared.tokens.Duty.{Duty}
+use Rattle.pp_vault.specs.declared.tokens.Duty.TheVariants as duty
+use Rattle.pp_vault.specs.declared.guards.Guard.{Guard}
+use Rattle.pp_vault.specs.declared.guards.Guard.TheVariants.{Pin, Read, Write}
+use Rattle.pp_vault.specs.declared.stage.Stage.{Stage}
+use Rattle.pp_vault.specs.declared.stage.Stage.TheVariants.{Idle, In, Out, Back, Leaving}
+use Rattle.pp_vault.specs.declared.stage.Hand.{Hand}
+use Rattle.pp_vault.specs.Parts.{Parts}
+use Rattle.pp_vault.specs.StandsFor.{StandsFor, IsKept}
+use Rattle.pp_vault.specs.Calls.{Call, stranger, refused, asks, state_after}
+use Rattle.pp_vault.specs.Events.{Does}
+use Rattle.pp_vault.specs.Hands.{IsAway, StageFits, PlaceFits, HandFits}
+use Rattle.pp_vault.specs.HandLaws.{caller, FitsIn}
+use Rattle.pp_vault.specs.Holding.{placed}
+
+-- What is told of worker v in t is as in s, and the marks that its tokens tell are too.
+pub record Same (s t : State) (v : ℕ) : Type 0 where
+  pub stays : WorkerStays s t v
+  pub shared : (slot page : ℕ) → held_of s v slot ≡ Some (page, S) → known_mark t page ≡ known_mark s page
+  pub exclusive : (slot page : ℕ) → held_of s v slot ≡ Some (page, X) → known_mark t page ≡ known_mark s page
+  pub victim : (slot page victim : ℕ) → errand_of s v ≡ Some (slot, page, Some victim)
+      → known_mark t victim ≡ known_mark s victim
+
+-- ---- from one such state to the other
+
+module _ (n : ℕ) (s t : State) (v : ℕ) (same : Same s t v) where
+  place_still : (slot : ℕ) (o : Option Guard) → PlaceFits n s v slot o → PlaceFits n t v slot o
+  place_still slot None fits = same.stays.held slot ∙ fits
+  place_still slot (Some (Pin g)) fits =
+      record { worker = fits.worker; of_slot = fits.of_slot; held = same.stays.held slot ∙ fits.held }
+  place_still slot (Some (Read g)) fits =
+      record {
+        worker = fits.worker;
+        of_slot = fits.of_slot;
+        held = same.stays.held slot ∙ fits.held;
+        mark = same.shared slot g.page fits.held ∙ fits.mark;
+      }
+  place_still slot (Some (Write g)) fits =
+      record {
+        worker = fits.worker;
+        of_slot = fits.of_slot;
+        held = same.stays.held slot ∙ fits.held;
+        mark = same.exclusive slot g.page fits.held ∙ fits.mark;
+        head = fits.head;
+        long = fits.long;
+      }
+
+  errand_still : (w : ℕ) (e : Option (ℕ × ℕ × Option ℕ)) → ◌≡◌ {A = Option ℕ} (Some w) (Some v) → errand_of s w ≡ e
+      → errand_of t w ≡ e
+  errand_still w e of out =
+      let is : v ≡ w = sym (ap (λ o. unwrap_or o w) of) in
+      subst (λ u. errand_of t u ≡ errand_of s u) is same.stays.errand ∙ out
+
+  errand_mine : (w : ℕ) (e : Option (ℕ × ℕ × Option ℕ)) → ◌≡◌ {A = Option ℕ} (Some w) (Some v) → errand_of s w ≡ e
+      → errand_of s v ≡ e
+  errand_mine w e of out = subst (λ u. errand_of s u ≡ e) (ap (λ o. unwrap_or o w) of) out
+
+  away_still : (d : Duty) (image : List ℕ) → IsAway n s v d image → IsAway n t v d image
+  away_still (duty.Read w slot page) image away =
+      record {
+        worker = away.worker;
+        out = errand_still w (Some (slot, page, None)) away.worker away.out;
+        headed = tt;
+        long = away.long;
+      }
+  away_still (duty.Write w slot page victim) image away =
+      record {
+        worker = away.worker;
+        out = errand_still w (Some (slot, page, Some victim)) away.worker away.out;
+        headed =
+            away.headed
+            ∙ ap (λ o. option_map (λ mark. (victim, mark)) o)
+            (sym (same.victim slot page victim (errand_mine w (Some (slot, page, Some victim)) away.worker away.out)));
+        long = away.long;
+      }
+  away_still (duty.Flush page) image away = absurd (false≢true (ap is_some away.worker))
+
+  stage_still : (x : Stage) → StageFits n s v x → StageFits n t v x
+  stage_still (Idle chair) fits = (fits.0, same.stays.idle ∙ fits.1)
+  stage_still (In session) fits = (fits.0, same.stays.asks ∙ fits.1)
+  stage_still (Out errand) fits = away_still errand.duty errand.image fits
+  stage_still (Back returned) fits = away_still returned.duty returned.image fits
+  stage_still (Leaving leaver) fits = (fits.0, same.stays.leaving ∙ fits.1)
+
+  pub hand_still : (hand : Hand) → HandFits n s v hand → HandFits n t v hand
+  hand_still hand fits =
+      record {
+        stage = stage_still hand.stage fits.stage;
+        places = fits.places;
+        guards = λ slot. place_still slot (placed hand.guards slot) (fits.guards slot);
+      }
+
+-- ---- such states
+
+not_released : (s : State) (m : Move) (v slot : ℕ) → worker_of m ≢ Some v → Releases s m v slot → ⊥
+not_released s (move.Unlatch w) v slot apart r = apart (ap (λ u. Some u) r.0)
+not_released s (move.Unwind w k) v slot apart r = apart (ap (λ u. Some u) r.0)
+not_released s (move.Take w) v slot apart r = r
+not_released s (move.Fix w page) v slot apart r = r
+not_released s (move.WriteDone w ok) v slot apart r = r
+not_released s (move.ReadDone w came) v slot apart r = r
+not_released s (move.Unfix w) v slot apart r = r
+not_released s (move.Latch w) v slot apart r = r
+not_released s (move.Choose w branch) v slot apart r = r
+not_released s (move.Finish w) v slot apart r = r
+not_released s (move.FlushBegin page) v slot apart r = r
+not_released s (move.FlushDone ok) v slot apart r = r
+
+-- A move of another.
+after_other : (s : State) (m : Move) (v : ℕ) → IsReached s → worker_of m ≢ Some v → Same s (next_of s m) v
+after_other s m v reached apart =
+    let laws = after_moves s reached in
+    record {
+      stays = laws.others m v apart;
+      shared = λ slot page held. laws.shared_mark m v slot page held;
+      exclusive = λ slot page held. laws.exclusive_mark m v slot page held (not_released s m v slot apart);
+      victim = λ slot page victim out. laws.victim_mark m v slot page victim out;
+    }
+
+unchanged : (s : State) (v : ℕ) → Same s s v
+unchanged s v =
+    record {
+      stays = record { idle = refl; leaving = refl; asks = refl; held = λ slot. refl; errand = refl };
+      shared = λ slot page held. refl;
+      exclusive = λ slot page held. refl;
+      victim = λ slot page victim out. refl;
+    }
+
+after_call : (s : State) (c : Call) (v : ℕ) → IsReached s → caller c ≢ Some v → Same s (state_after s c) v
+after_call s stranger v reached apart = unchanged s v
+after_call s (refused why) v reached apart = unchanged s v
+after_call s (asks m) v reached apart = after_other s m v reached apart
+
+-- Two states that a core stands for.
+pub same_told : (f : core.Parts) (s t : State) → core_stands.StandsFor f s → core_stands.StandsFor f t → (v : ℕ)
+    → Same s t v
+same_told f s t a b v =
+    record {
+      stays =
+          record {
+            idle = same_idle f t s b a v;
+            leaving = same_leaving f t s b a v;
+            asks = same_ask f t s b a v;
+            held = λ slot. same_held f t s b a v slot;
+            errand = same_errand f t s b a v;
+          };
+      shared = λ slot page held. same_mark f t s b a page;
+      exclusive = λ slot page held. same_mark f t s b a page;
+      victim = λ slot page victim out. same_mark f t s b a victim;
+    }
+
+-- ---- parts
+
+-- What fits one state that the parts stand for fits all.
+pub fits_all : (v : Parts) (s : State) → StandsFor v s → (w : ℕ) (hand : Hand) → HandFits v.page_bytes s w hand
+    → FitsIn v w hand
+fits_all v s stands w hand fits t st =
+    hand_still v.page_bytes s t w (same_told v.core s t stands.core st.core w) hand fits
+
+pub still_fits : (old new : Parts) (call : State → Call) → IsKept old → Does old call new → (w : ℕ)
+    → ((s : State) → StandsFor old s → caller (call s) ≢ Some w) → (hand : Hand) → FitsIn old w hand
+    → FitsIn new w hand
+still_fits old new call k does w apart hand fits =
+    let s = k.state in
+    let after : HandFits old.page_bytes (state_after s (call s)) w hand =
+    hand_still old.page_bytes s (state_after s (call s)) w
+    (after_call s (call s) w k.stands.core.reached (apart s k.stands)) hand (fits s k.stands) in
+    fits_all new (state_after s (call s)) (does.stands s k.stands) w hand
+    (subst (λ n. HandFits n (state_after s (call s)) w hand) (sym does.page_bytes) after)

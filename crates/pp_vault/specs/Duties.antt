@@ -1,0 +1,10 @@
+-- Whom a duty of a device is for.
+use Rattle.std.specs.Prelude.{ℕ, Option, None, Some}
+use Rattle.pp_vault.specs.declared.tokens.Duty.{Duty}
+use Rattle.pp_vault.specs.declared.tokens.Duty.TheVariants.{Read, Write, Flush}
+
+-- The worker that a device works for; none for a flush.
+abbrev pub duty_worker : Duty → Option ℕ
+duty_worker (Read w slot page) = Some w
+duty_worker (Write w slot page victim) = Some w
+duty_worker (Flush page) = None

@@ -1,0 +1,40 @@
+-- What clauses say of guards and hands in their places.
+use Rattle.std.specs.Prelude.{ℕ, Bool, ◌&&◌, Option, None, is_none, List, length, replicate, ltb}
+use Rattle.std.specs.Prelude.{slice_index_or}
+use Rattle.std.specs.List.{list_all}
+use Rattle.pp_cert.specs.declared.note.Held.{Held}
+use Rattle.pp_cert.specs.declared.note.Held.TheVariants.{Free, S, X}
+use Rattle.pp_vault.specs.declared.guards.Guard.{Guard}
+use Rattle.pp_vault.specs.declared.guards.Guard.TheVariants.{Pin, Read, Write}
+
+-- ---- a guard
+
+-- The slot that it is of.
+abbrev pub slot_by : Guard → ℕ
+slot_by (Pin g) = g.slot
+slot_by (Read g) = g.slot
+slot_by (Write g) = g.slot
+
+-- Its page, and how it is held.
+abbrev pub held_by : Guard → ℕ × Held
+held_by (Pin g) = (g.page, Free)
+held_by (Read g) = (g.page, S)
+held_by (Write g) = (g.page, X)
+
+-- ---- places
+
+-- What is in place n, if anything is.
+abbrev pub placed : {T : Type 0} → List (Option T) → (n : ℕ) → Option T
+placed places n = slice_index_or places n None
+
+-- Whether there is a place n, with nothing in it.
+abbrev pub is_free : {T : Type 0} → List (Option T) → (n : ℕ) → Bool
+is_free places n = ltb n (length places) && is_none (placed places n)
+
+-- Whether nothing is in any place.
+abbrev pub all_free : {T : Type 0} → List (Option T) → Bool
+all_free places = list_all is_none places
+
+-- The places of the guards of a worker that holds no slot.
+abbrev pub no_guards : List (Option Guard)
+no_guards = replicate 32 None

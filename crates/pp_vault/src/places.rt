@@ -1,0 +1,102 @@
+//! The guards of a worker, each in the place of its slot.
+
+ghost use Rattle.std.specs.Prelude.{◌≡◌, true, false, None, Some, OnOk, IfErr};
+ghost use Rattle.std.specs.Prelude.{OnErr, IfSome, IfNone, slice_set, option_map, length};
+ghost use Rattle.pp_vault.specs.Holding.{slot_by, held_by, placed, is_free, all_free, no_guards};
+
+use crate::guards::Guard;
+use crate::stored::StoredGuard;
+use pp_core::Held;
+use std::marker::Model;
+
+/// How many slots a plan has at most.
+pub(crate) const SLOTS: usize = 32;
+
+/// The guards of one worker, each in the place of its slot. Contracts see them as a list of 32: at place s the guard of
+/// slot s, if it is there.
+///
+/// The compiler refuses code that lets it fall.
+pub struct Guards {
+    pub(crate) places: [Option<StoredGuard>; SLOTS],
+}
+
+impl Model for Guards {
+    ghost use Rattle.std.specs.Prelude.{List, Option};
+    ghost use Rattle.pp_vault.specs.declared.guards.Guard.{Guard};
+    ghost use Rattle.pp_vault.specs.GuardCoding.{coded_guards};
+
+    ghost Value = { List (Option Guard) };
+
+    ghost coded = { coded_guards };
+
+    ghost view = { λ g. g.places };
+
+    ghost use Rattle.std.specs.Prelude.{◌≡◌, length};
+
+    ghost invariant = { λ g. length g.places ≡ 32 };
+}
+
+impl Guards {
+    /// No guards.
+    pub fn new() -> Guards
+        ensures { result ≡ no_guards }
+    {
+        Guards {
+            places: Default::default(),
+        }
+    }
+
+    /// Puts a guard into the place of its slot.
+    ///
+    /// # Errors
+    ///
+    /// The guard, and nothing changes, where the slot is 32 or more, or a guard is in its place.
+    pub fn put(&mut self, guard: Guard) -> Result<(), Guard>
+        ensures was { OnOk result (is_free self.old (slot_by guard) ≡ true) }
+        ensures joined { OnOk result (self.new ≡ slice_set self.old (slot_by guard) (Some guard)) }
+        ensures err { OnErr result (is_free self.old (slot_by guard) ≡ false) }
+        ensures back { IfErr result (λ e. e ≡ guard) }
+        ensures unchanged { OnErr result (self.new ≡ self.old) }
+    {
+        let place = guard.slot() as usize;
+        if place >= self.places.len() || self.places[place].is_some() {
+            return Err(guard);
+        }
+        self.places[place] = Some(StoredGuard::of(guard));
+        Ok(())
+    }
+
+    /// Takes the guard of a slot out. None, and nothing changes, where no guard is there.
+    pub fn take(&mut self, slot: u32) -> Option<Guard>
+        ensures guard { result ≡ placed self.old slot }
+        ensures taken { IfSome result (λ _. self.new ≡ slice_set self.old slot None) }
+        ensures unchanged { IfNone result (self.new ≡ self.old) }
+    {
+        let places = &mut self.places;
+        if slot as usize >= places.len() {
+            return None;
+        }
+        match places[slot as usize].take() {
+            Some(stored) => Some(stored.guard()),
+            None => None,
+        }
+    }
+
+    /// The page that the guard of a slot is of, and how it is held.
+    pub fn held(&self, slot: u32) -> Option<(u32, Held)>
+        ensures { result ≡ option_map held_by (placed self.now slot) }
+    {
+        match self.places.get(slot as usize) {
+            Some(Some(stored)) => Some(stored.held()),
+            _ => None,
+        }
+    }
+
+    /// Whether no guard is there.
+    pub fn is_empty(&self) -> bool
+        ensures free { result ≡ all_free self.now }
+        ensures long { length self.now ≡ 32 }
+    {
+        self.places.iter().all(|place| place.is_none())
+    }
+}
