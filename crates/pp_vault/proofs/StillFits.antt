@@ -24,7 +24,7 @@ use Rattle.pp_vault.specs.declared.stage.Stage.TheVariants.{Idle, In, Out, Back,
 use Rattle.pp_vault.specs.declared.stage.Hand.{Hand}
 use Rattle.pp_vault.specs.Parts.{Parts}
 use Rattle.pp_vault.specs.StandsFor.{StandsFor, IsKept}
-use Rattle.pp_vault.specs.Calls.{Call, stranger, refused, asks, state_after}
+use Rattle.pp_vault.specs.Calls.{Call, stranger, refused, asks, after_call}
 use Rattle.pp_vault.specs.Events.{Does}
 use Rattle.pp_vault.specs.Hands.{IsAway, StageFits, PlaceFits, HandFits}
 use Rattle.pp_vault.specs.HandLaws.{caller, FitsIn}
@@ -143,10 +143,10 @@ unchanged s v =
       victim = λ slot page victim out. refl;
     }
 
-after_call : (s : State) (c : Call) (v : ℕ) → IsReached s → caller c ≢ Some v → Same s (state_after s c) v
-after_call s stranger v reached apart = unchanged s v
-after_call s (refused why) v reached apart = unchanged s v
-after_call s (asks m) v reached apart = after_other s m v reached apart
+same_after : (s : State) (c : Call) (v : ℕ) → IsReached s → caller c ≢ Some v → Same s (after_call s c) v
+same_after s stranger v reached apart = unchanged s v
+same_after s (refused why) v reached apart = unchanged s v
+same_after s (asks m) v reached apart = after_other s m v reached apart
 
 -- Two states that a core stands for.
 pub same_told : (f : core.Parts) (s t : State) → core_stands.StandsFor f s → core_stands.StandsFor f t → (v : ℕ)
@@ -179,8 +179,8 @@ pub still_fits : (old new : Parts) (call : State → Call) → IsKept old → Do
     → FitsIn new w hand
 still_fits old new call k does w apart hand fits =
     let s = k.state in
-    let after : HandFits old.page_bytes (state_after s (call s)) w hand =
-    hand_still old.page_bytes s (state_after s (call s)) w
-    (after_call s (call s) w k.stands.core.reached (apart s k.stands)) hand (fits s k.stands) in
-    fits_all new (state_after s (call s)) (does.stands s k.stands) w hand
-    (subst (λ n. HandFits n (state_after s (call s)) w hand) (sym does.page_bytes) after)
+    let after : HandFits old.page_bytes (after_call s (call s)) w hand =
+    hand_still old.page_bytes s (after_call s (call s)) w
+    (same_after s (call s) w k.stands.core.reached (apart s k.stands)) hand (fits s k.stands) in
+    fits_all new (after_call s (call s)) (does.stands s k.stands) w hand
+    (subst (λ n. HandFits n (after_call s (call s)) w hand) (sym does.page_bytes) after)
