@@ -2,14 +2,16 @@
 //!
 //! `pp_bench directory hit|skew|loop|mixed OPS [FRAMES]` prints how many of the requests missed, and
 //! `pp_bench marks OPS [FRAMES]` how many pages were brought in, each in place of another. `pp_bench moves
-//! hit|skew|loop|mixed OPS` plays fixes, latches, unlatches and unfixes to the core, and prints how many pages were
-//! read.
+//! hit|skew|loop|mixed OPS` plays fixes, latches, unlatches and unfixes to the core, and `pp_bench pool` the same to a
+//! vault over pages in memory; both print how many pages were read.
 //! How long a run takes is for the caller to measure.
 #![tactic(auto)]
 
 mod directory;
 mod marks;
 mod moves;
+mod pool;
+mod script;
 mod trace;
 mod trouble;
 
@@ -39,6 +41,7 @@ fn play(rt: &HostRuntime) -> Result<(), Trouble> {
         "directory" => directory::play(rt, &words[2..]),
         "marks" => marks::play(rt, &words[2..]),
         "moves" => moves::play(rt, &words[2..]),
+        "pool" => pool::play(rt, &words[2..]),
         _ => Err(Trouble::Words),
     }
 }

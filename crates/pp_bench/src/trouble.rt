@@ -9,9 +9,11 @@ use std::io;
 pub enum Trouble {
     /// The words of the command line are others than the usage says.
     Words,
+    /// More operations are asked than a plan can have.
+    TooMany,
     /// Memory could not be had.
     Memory,
-    /// The core refused a move that its plan asks, or the plan.
+    /// The pool refused what its plan asks, or the plan.
     Refused,
     /// The words could not be read, or the count could not be written.
     Io(io::Error),
@@ -21,7 +23,7 @@ impl Trouble {
     /// The exit status that tells it.
     pub fn status(&self) -> u8 {
         match self {
-            Trouble::Words => 2,
+            Trouble::Words | Trouble::TooMany => 2,
             Trouble::Memory | Trouble::Refused | Trouble::Io(_) => 1,
         }
     }
@@ -34,11 +36,17 @@ impl Display for Trouble {
                 write!(
                     f,
                     "usage: pp_bench directory hit|skew|loop|mixed OPS [FRAMES], pp_bench marks OPS [FRAMES], \
-                    or pp_bench moves hit|skew|loop|mixed OPS, of at most 200000"
+                    or pp_bench moves|pool hit|skew|loop|mixed OPS"
+                )
+            }
+            Trouble::TooMany => {
+                write!(
+                    f,
+                    "OPS is at most 250000: a plan has at most 1000000 steps, and each operation is four"
                 )
             }
             Trouble::Memory => write!(f, "out of memory"),
-            Trouble::Refused => write!(f, "the core refused a move"),
+            Trouble::Refused => write!(f, "the pool refused a call"),
             Trouble::Io(error) => write!(f, "{error}"),
         }
     }

@@ -1,5 +1,5 @@
-//! Five small callers, to copy from: the checker of certificates alone, ARC's directory alone, marks alone, a tiny cache
-//! of the directory and the marks together, and devices alone.
+//! Six small callers, to copy from: the checker of certificates alone, ARC's directory alone, marks alone, a tiny cache
+//! of the directory and the marks together, devices alone, and a vault over a device.
 //!
 //! Each stands in a file of its own, asks for nothing else of the pool, and is proved against the public contracts of
 //! the parts that it uses.
@@ -10,6 +10,7 @@ mod checker;
 mod device;
 mod directory;
 mod marks;
+mod vault;
 
 /// Calls each part once, and prints what it answered.
 fn main(rt: HostRuntime) -> anyhow::Result<()> {
@@ -26,5 +27,8 @@ fn main(rt: HostRuntime) -> anyhow::Result<()> {
     )?;
     let [failed, other, found] = device::three_readings(rt.alloc())?;
     println!(rt; "device: page 1 is read as {failed:?}, as {other:?}, and as {found:?}")?;
+    if let Some(changed) = vault::changed_pages(rt.alloc())? {
+        println!(rt; "vault: {changed} page is newer than the device's")?;
+    }
     Ok(())
 }

@@ -16,6 +16,7 @@ pub use pp_core::{
 pub use pp_device::{Device, Fault};
 pub use refusal::Refusal;
 pub use stage::{Hand, Stage};
+pub use stopped::Stopped;
 pub use tokens::{Chair, Errand, Leaver, Returned, Session};
 pub use vault::Vault;
 
@@ -35,6 +36,7 @@ mod places;
 mod refusal;
 mod seating;
 mod stage;
+mod stopped;
 mod store;
 mod stored;
 mod submitting;

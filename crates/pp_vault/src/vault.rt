@@ -31,6 +31,7 @@ use crate::fixing::Fixed;
 use crate::guards::{Guard, PinGuard, ReadGuard, WriteGuard};
 use crate::hands::Hands;
 use crate::refusal::Refusal;
+use crate::stopped::Stopped;
 use crate::store::Store;
 use crate::tokens::{Chair, Errand, Leaver, Returned, Session};
 use pp_core::{Accepted, CoreError as VaultError, Move, PlanId, Reply, SubmitError, Turn};
@@ -259,6 +260,12 @@ impl Vault {
     pub fn scrap(self, hands: Hands) {
         let Vault { store: _store } = self;
         hands.scrap();
+    }
+
+    /// Gives the vault up in the midst of a run, also with what a worker has out of the hands.
+    pub fn scrap_with(self, hands: Hands, stopped: Stopped) {
+        self.scrap(hands);
+        stopped.scrap();
     }
 
     /// A worker fixes a page into the slot that its plan names.

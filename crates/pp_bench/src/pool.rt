@@ -1,0 +1,176 @@
+//! Plays a trace to a vault over pages in memory, on one thread: each operation fixes a page, latches it S, looks at
+//! eight bytes of it, unlatches it and unfixes it.
+
+ghost use Rattle.std.specs.Prelude.{◌≡◌, true};
+ghost use Rattle.pp_vault.specs.Stages.{is_idle_hand};
+
+use crate::script;
+use crate::trace::{Kind, PAGES, Trace};
+use crate::trouble::Trouble;
+use pp_device::{Device, SoloDevice, image};
+use pp_vault::{Accepted, Answered, Chair, Errand, Fixed, Guard, Hand, PinGuard, Session, Stage, Stopped, Vault};
+use std::alloc::Global;
+
+/// How many bytes a page has.
+const PAGE_BYTES: usize = 4096;
+
+/// How many bytes each operation looks at: the page's number, which stands at the front of its body.
+const LOOKED_AT: usize = 8;
+
+/// A vault, and the device of its pages.
+#[derive(Drop)]
+struct Pool {
+    vault: Vault,
+    device: SoloDevice,
+}
+
+/// Plays the trace of the kind that the first word names, as many operations long as the second says, to a pool of
+/// 4,096 frames. Prints how many pages had to be read.
+pub fn play(rt: &HostRuntime, words: &[String]) -> Result<(), Trouble> {
+    let (kind, ops) = script::asked(words)?;
+    let misses = run(rt.alloc(), kind, ops)?;
+    println!(rt; "{misses}")?;
+    Ok(())
+}
+
+/// How many pages are read in so many operations of a trace of this kind.
+fn run(alloc: Global, kind: Kind, ops: u64) -> Result<u64, Trouble> {
+    let settings = script::settings(alloc)?;
+    let accepted = script::accepted(alloc, &settings, ops)?;
+    let device = numbered(alloc)?;
+    let (vault, mut hands) = Vault::new(alloc, &settings).map_err(|_| Trouble::Memory)?;
+    let mut pool = Pool { vault, device };
+    let played = match hands.part(0) {
+        Some(hand) => pool.play(chair_of(hand), accepted, Trace::new(kind, 4096), ops),
+        None => Err(Stopped::with_nothing()),
+    };
+    let Pool {
+        vault,
+        device: _device,
+    } = pool;
+    match played {
+        Ok((chair, misses)) => {
+            vault.scrap_with(hands, Stopped::at(Stage::Idle(chair)));
+            Ok(misses)
+        }
+        Err(stopped) => {
+            vault.scrap_with(hands, stopped);
+            Err(Trouble::Refused)
+        }
+    }
+}
+
+/// The chair of an idle worker's hand.
+fn chair_of(hand: Hand) -> Chair
+    requires { is_idle_hand hand ≡ true }
+{
+    let Ok(chair) = hand.chair() else {
+        unreachable!()
+    };
+    chair
+}
+
+/// A device of all pages, with the number of each at the front of its body.
+fn numbered(alloc: Global) -> Result<SoloDevice, Trouble> {
+    let mut device = SoloDevice::new(alloc, PAGES, PAGE_BYTES)?;
+    let mut bytes = vec![in alloc; 0; PAGE_BYTES]?;
+    for page in 0..PAGES {
+        image::make(&mut bytes, page, 0);
+        bytes[image::HEAD..image::HEAD + LOOKED_AT].copy_from_slice(&u64::from(page).to_le_bytes());
+        device.write(page, &bytes).map_err(|_| Trouble::Refused)?;
+    }
+    Ok(device)
+}
+
+impl Pool {
+    /// Has a worker do the plan on the trace, and tells how many pages were read. Where a call is refused, what the
+    /// worker has then comes back.
+    fn play(
+        &mut self,
+        chair: Chair,
+        accepted: Accepted,
+        trace: Trace,
+        ops: u64,
+    ) -> Result<(Chair, u64), Stopped> {
+        if self.vault.submit(accepted).is_err() {
+            return Err(Stopped::at(Stage::Idle(chair)));
+        }
+        let session = match self.vault.take(chair) {
+            Ok(session) => session,
+            Err((chair, _refusal)) => return Err(Stopped::at(Stage::Idle(chair))),
+        };
+        let (session, misses) = self.misses(session, trace, ops)?;
+        match self.vault.finish(session) {
+            Ok(chair) => Ok((chair, misses)),
+            Err((session, _refusal)) => Err(Stopped::at(Stage::In(session))),
+        }
+    }
+
+    /// How many of the next operations of the trace have a page read.
+    fn misses(
+        &mut self,
+        session: Session,
+        mut trace: Trace,
+        ops: u64,
+    ) -> Result<(Session, u64), Stopped> {
+        let mut session = session;
+        let mut count: u64 = 0;
+        for _ in 0..ops {
+            let page = trace.next_page();
+            let (now, guard, was_cached) = self.fix(session, page)?;
+            if !was_cached {
+                count = count.wrapping_add(1);
+            }
+            session = self.use_page(now, guard)?;
+        }
+        Ok((session, count))
+    }
+
+    /// Fixes the page, and tells whether it was cached.
+    fn fix(&mut self, session: Session, page: u32) -> Result<(Session, PinGuard, bool), Stopped> {
+        match self.vault.fix(session, page) {
+            Fixed::Got(session, guard) => Ok((session, guard, true)),
+            Fixed::Away(errand) => {
+                let (session, guard) = self.load(errand)?;
+                Ok((session, guard, false))
+            }
+            Fixed::No(session, _refusal) => Err(Stopped::at(Stage::In(session))),
+        }
+    }
+
+    /// Has the device read a page.
+    fn load(&mut self, errand: Errand) -> Result<(Session, PinGuard), Stopped> {
+        match self.vault.answer(errand.carry_out(&mut self.device)) {
+            Answered::Got(session, guard) => Ok((session, guard)),
+            Answered::Away(errand) => Err(Stopped::at(Stage::Out(errand))),
+            Answered::Lost(leaver) => Err(Stopped::at(Stage::Leaving(leaver))),
+            Answered::Flushed(_) => Err(Stopped::with_nothing()),
+            Answered::No(returned, _refusal) => Err(Stopped::at(Stage::Back(returned))),
+        }
+    }
+
+    /// Latches the page, looks at it, unlatches it and unfixes it.
+    fn use_page(&mut self, session: Session, guard: PinGuard) -> Result<Session, Stopped> {
+        let (session, guard) = match self.vault.latch_shared(session, guard) {
+            Ok(latched) => latched,
+            Err((session, guard, _refusal)) => {
+                return Err(Stopped::holding(session, Guard::Pin(guard)));
+            }
+        };
+        let number = u64::from(guard.page()).to_le_bytes();
+        let body = self.vault.see(&guard);
+        if !body.is_some_and(|body| body.starts_with(&number)) {
+            return Err(Stopped::holding(session, Guard::Read(guard)));
+        }
+        let (session, guard) = match self.vault.unlatch_shared(session, guard) {
+            Ok(unlatched) => unlatched,
+            Err((session, guard, _refusal)) => {
+                return Err(Stopped::holding(session, Guard::Read(guard)));
+            }
+        };
+        match self.vault.unfix(session, guard) {
+            Ok(session) => Ok(session),
+            Err((session, guard, _refusal)) => Err(Stopped::holding(session, Guard::Pin(guard))),
+        }
+    }
+}

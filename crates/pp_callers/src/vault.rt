@@ -1,0 +1,128 @@
+//! A vault alone: one worker fixes a page, latches it X, and gives everything back.
+
+ghost use Rattle.pp_vault.specs.Headline.{HeadlineHolds};
+
+use pp_annotate::annotate;
+use pp_cert::{Accepted, check};
+use pp_device::SoloDevice;
+use pp_plan::Plan;
+use pp_settings::Settings;
+use pp_vault::{Answered, Chair, Errand, Fixed, Guard, Hands, PinGuard, Session, Stage, Vault};
+use std::alloc::Global;
+
+const SETTINGS: &str = "frames = 1
+page_bytes = 64
+workers = 1
+flushes = 0
+[[region]]
+name = \"all\"
+first = 0
+count = 4
+class = 0
+";
+
+/// A page is fixed, latched X, unlatched and unfixed.
+const PLAN: &str = "{\"body\":[{\"fix\":\"a\",\"region\":\"all\"},{\"latch\":\"a\",\"mode\":\"X\"},\
+    {\"unlatch\":\"a\"},{\"unfix\":\"a\"}],\"version\":1}";
+
+/// How many pages are newer than the device's once a worker has latched page 2 for writing; `None` where a call was
+/// refused.
+pub fn changed_pages(alloc: Global) -> anyhow::Result<Option<u32>> {
+    let settings = Settings::from_text(alloc, SETTINGS)?;
+    let accepted = accepted(alloc, &settings)?;
+    let mut device = SoloDevice::new(alloc, 4, 64)?;
+    let (mut vault, mut hands) = Vault::new(alloc, &settings)?;
+    let Some(hand) = hands.part(0) else {
+        vault.scrap(hands);
+        return Ok(None);
+    };
+    let Ok(chair) = hand.chair() else {
+        unreachable!()
+    };
+    let stopped = run(&mut vault, &mut device, chair, accepted);
+    let changed = match &stopped.stage {
+        Some(Stage::Idle(_)) => Some(vault.dirty()),
+        _ => None,
+    };
+    vault.scrap_with(hands, stopped);
+    Ok(changed)
+}
+
+/// The plan, with a certificate that the checker takes.
+fn accepted(alloc: Global, settings: &Settings) -> anyhow::Result<Accepted> {
+    let plan = Plan::from_text(alloc, settings, PLAN)?;
+    let certificate = annotate(alloc, settings, &plan)?;
+    match check(settings, plan, &certificate) {
+        Ok(accepted) => Ok(accepted),
+        Err((_plan, error)) => Err(anyhow::Error::from(error)),
+    }
+}
+
+/// A worker does the plan with page 2. It has its chair again in the end, unless a call is refused.
+///
+/// Whatever was refused, and whatever the device did: nobody is stuck in the vault that is left.
+fn run(vault: &mut Vault, device: &mut SoloDevice, chair: Chair, accepted: Accepted) -> Stopped
+    ensures headline { HeadlineHolds vault.new }
+{
+    if vault.submit(accepted).is_err() {
+        return Stopped::at(Stage::Idle(chair));
+    }
+    let session = match vault.take(chair) {
+        Ok(session) => session,
+        Err((chair, _refusal)) => return Stopped::at(Stage::Idle(chair)),
+    };
+    let (session, guard) = match vault.fix(session, 2) {
+        Fixed::Got(session, guard) => (session, guard),
+        Fixed::Away(errand) => match load(vault, device, errand) {
+            Ok(loaded) => loaded,
+            Err(out) => return out,
+        },
+        Fixed::No(session, _refusal) => return Stopped::at(Stage::In(session)),
+    };
+    let session = match write(vault, session, guard) {
+        Ok(session) => session,
+        Err(out) => return out,
+    };
+    match vault.finish(session) {
+        Ok(chair) => Stopped::at(Stage::Idle(chair)),
+        Err((session, _refusal)) => Stopped::at(Stage::In(session)),
+    }
+}
+
+/// The device reads a page: the call is made outside the vault.
+fn load(
+    vault: &mut Vault,
+    device: &mut SoloDevice,
+    errand: Errand,
+) -> Result<(Session, PinGuard), Stopped>
+    ensures headline { HeadlineHolds vault.new }
+{
+    match vault.answer(errand.carry_out(device)) {
+        Answered::Got(session, guard) => Ok((session, guard)),
+        Answered::Away(errand) => Err(Stopped::at(Stage::Out(errand))),
+        Answered::Lost(leaver) => Err(Stopped::at(Stage::Leaving(leaver))),
+        Answered::Flushed(_) => Err(Stopped::with_nothing()),
+        Answered::No(returned, _refusal) => Err(Stopped::at(Stage::Back(returned))),
+    }
+}
+
+/// The page is latched X and unlatched, and then given back.
+fn write(vault: &mut Vault, session: Session, guard: PinGuard) -> Result<Session, Stopped>
+    ensures headline { HeadlineHolds vault.new }
+{
+    let (session, guard) = match vault.latch_exclusive(session, guard) {
+        Ok(latched) => latched,
+        Err((session, guard, _refusal)) => return Err(Stopped::holding(session, Guard::Pin(guard))),
+    };
+    let (session, guard) = match vault.unlatch_exclusive(session, guard) {
+        Ok(unlatched) => unlatched,
+        Err((session, guard, _refusal)) => return Err(Stopped::holding(
+            session,
+            Guard::Write(guard),
+        )),
+    };
+    match vault.unfix(session, guard) {
+        Ok(session) => Ok(session),
+        Err((session, guard, _refusal)) => Err(Stopped::holding(session, Guard::Pin(guard))),
+    }
+}
