@@ -31,3 +31,4 @@ pub mod LeavesDone
 mod Placed
 mod StillFits
 mod OpeningHands
+mod Bodies

@@ -11,10 +11,10 @@ use Rattle.pp_model.specs.Reached.{IsReached}
 use Rattle.pp_model.specs.WorkerParts.{worker_of}
 use Rattle.pp_core.specs.Parts as core
 use Rattle.pp_core.specs.StandsFor as core_stands
-use Rattle.pp_core.specs.Queries.{held_of, errand_of}
+use Rattle.pp_core.specs.Queries.{held_of, errand_of, flushed_page}
 use Rattle.pp_core.specs.AfterMoves.{WorkerStays, Releases}
 use Rattle.pp_core.proofs.AfterMoves.{after_moves}
-use Rattle.pp_core.proofs.Alike.{same_idle, same_leaving, same_ask, same_held, same_errand, same_mark}
+use Rattle.pp_core.proofs.Alike.{same_idle, same_leaving, same_ask, same_held, same_errand, same_mark, same_flushed}
 use Rattle.pp_vault.specs.declared.tokens.Duty.{Duty}
 use Rattle.pp_vault.specs.declared.tokens.Duty.TheVariants as duty
 use Rattle.pp_vault.specs.declared.guards.Guard.{Guard}
@@ -22,12 +22,14 @@ use Rattle.pp_vault.specs.declared.guards.Guard.TheVariants.{Pin, Read, Write}
 use Rattle.pp_vault.specs.declared.stage.Stage.{Stage}
 use Rattle.pp_vault.specs.declared.stage.Stage.TheVariants.{Idle, In, Out, Back, Leaving}
 use Rattle.pp_vault.specs.declared.stage.Hand.{Hand}
+use Rattle.pp_vault.specs.declared.hands.Flushing.{Flushing}
+use Rattle.pp_vault.specs.declared.hands.Flushing.TheVariants as flushing
 use Rattle.pp_vault.specs.Parts.{Parts}
 use Rattle.pp_vault.specs.StandsFor.{StandsFor, IsKept}
 use Rattle.pp_vault.specs.Calls.{Call, stranger, refused, asks, after_call}
 use Rattle.pp_vault.specs.Events.{Does}
-use Rattle.pp_vault.specs.Hands.{IsAway, StageFits, PlaceFits, HandFits}
-use Rattle.pp_vault.specs.HandLaws.{caller, FitsIn}
+use Rattle.pp_vault.specs.Hands.{IsAway, StageFits, PlaceFits, HandFits, IsFlushAway, FlushingFits}
+use Rattle.pp_vault.specs.HandLaws.{caller, FitsIn, LeavesSlot}
 use Rattle.pp_vault.specs.Holding.{placed}
 
 -- What is told of worker v in t is as in s, and the marks that its tokens tell are too.
@@ -38,29 +40,49 @@ pub record Same (s t : State) (v : ℕ) : Type 0 where
   pub victim : (slot page victim : ℕ) → errand_of s v ≡ Some (slot, page, Some victim)
       → known_mark t victim ≡ known_mark s victim
 
+-- ---- one slot
+
+-- What a slot holds in t is as in s, and so is the mark of a page that it has latched.
+pub record SameSlot (s t : State) (v slot : ℕ) : Type 0 where
+  pub held : held_of t v slot ≡ held_of s v slot
+  pub shared : (page : ℕ) → held_of s v slot ≡ Some (page, S) → known_mark t page ≡ known_mark s page
+  pub exclusive : (page : ℕ) → held_of s v slot ≡ Some (page, X) → known_mark t page ≡ known_mark s page
+
+place_kept : (n : ℕ) (s t : State) (v slot : ℕ) → SameSlot s t v slot → (o : Option Guard) → PlaceFits n s v slot o
+    → PlaceFits n t v slot o
+place_kept n s t v slot same None fits = same.held ∙ fits
+place_kept n s t v slot same (Some (Pin g)) fits =
+    record { worker = fits.worker; of_slot = fits.of_slot; held = same.held ∙ fits.held }
+place_kept n s t v slot same (Some (Read g)) fits =
+    record {
+      worker = fits.worker;
+      of_slot = fits.of_slot;
+      held = same.held ∙ fits.held;
+      mark = same.shared g.page fits.held ∙ fits.mark;
+    }
+place_kept n s t v slot same (Some (Write g)) fits =
+    record {
+      worker = fits.worker;
+      of_slot = fits.of_slot;
+      held = same.held ∙ fits.held;
+      mark = same.exclusive g.page fits.held ∙ fits.mark;
+      head = fits.head;
+      long = fits.long;
+    }
+
 -- ---- from one such state to the other
 
 module _ (n : ℕ) (s t : State) (v : ℕ) (same : Same s t v) where
+  slot_still : (slot : ℕ) → SameSlot s t v slot
+  slot_still slot =
+      record {
+        held = same.stays.held slot;
+        shared = λ page held. same.shared slot page held;
+        exclusive = λ page held. same.exclusive slot page held;
+      }
+
   place_still : (slot : ℕ) (o : Option Guard) → PlaceFits n s v slot o → PlaceFits n t v slot o
-  place_still slot None fits = same.stays.held slot ∙ fits
-  place_still slot (Some (Pin g)) fits =
-      record { worker = fits.worker; of_slot = fits.of_slot; held = same.stays.held slot ∙ fits.held }
-  place_still slot (Some (Read g)) fits =
-      record {
-        worker = fits.worker;
-        of_slot = fits.of_slot;
-        held = same.stays.held slot ∙ fits.held;
-        mark = same.shared slot g.page fits.held ∙ fits.mark;
-      }
-  place_still slot (Some (Write g)) fits =
-      record {
-        worker = fits.worker;
-        of_slot = fits.of_slot;
-        held = same.stays.held slot ∙ fits.held;
-        mark = same.exclusive slot g.page fits.held ∙ fits.mark;
-        head = fits.head;
-        long = fits.long;
-      }
+  place_still slot o fits = place_kept n s t v slot (slot_still slot) o fits
 
   errand_still : (w : ℕ) (e : Option (ℕ × ℕ × Option ℕ)) → ◌≡◌ {A = Option ℕ} (Some w) (Some v) → errand_of s w ≡ e
       → errand_of t w ≡ e
@@ -184,3 +206,64 @@ still_fits old new call k does w apart hand fits =
     (same_after s (call s) w k.stands.core.reached (apart s k.stands)) hand (fits s k.stands) in
     fits_all new (after_call s (call s)) (does.stands s k.stands) w hand
     (subst (λ n. HandFits n (after_call s (call s)) w hand) (sym does.page_bytes) after)
+
+-- ---- one slot, after any call
+
+slot_after : (s : State) (c : Call) (w slot : ℕ) → IsReached s → LeavesSlot s c w slot
+    → SameSlot s (after_call s c) w slot
+slot_after s stranger w slot reached leaves =
+    record { held = refl; shared = λ page held. refl; exclusive = λ page held. refl }
+slot_after s (refused why) w slot reached leaves =
+    record { held = refl; shared = λ page held. refl; exclusive = λ page held. refl }
+slot_after s (asks m) w slot reached leaves =
+    let laws = after_moves s reached in
+    record {
+      held = leaves.0;
+      shared = λ page held. laws.shared_mark m w slot page held;
+      exclusive = λ page held. laws.exclusive_mark m w slot page held leaves.1;
+    }
+
+pub slot_still_fits : (old new : Parts) (call : State → Call) → IsKept old → Does old call new → (w slot : ℕ)
+    → ((s : State) → StandsFor old s → LeavesSlot s (call s) w slot) → (o : Option Guard)
+    → ((s : State) → StandsFor old s → PlaceFits old.page_bytes s w slot o) → (t : State) → StandsFor new t
+    → PlaceFits new.page_bytes t w slot o
+slot_still_fits old new call k does w slot leaves o fits t st =
+    let s = k.state in
+    let after : State = after_call s (call s) in
+    let there : PlaceFits old.page_bytes after w slot o =
+    place_kept old.page_bytes s after w slot (slot_after s (call s) w slot k.stands.core.reached (leaves s k.stands)) o
+    (fits s k.stands) in
+    subst (λ n. PlaceFits n t w slot o) (sym does.page_bytes)
+    (place_still old.page_bytes after t w (same_told new.core after t (does.stands s k.stands).core st.core w) slot o there)
+
+-- ---- the flusher's token
+
+module _ (n : ℕ) (s t : State) (same : flushed_page t ≡ flushed_page s) where
+  flush_still : (d : Duty) (image : List ℕ) → IsFlushAway n s d image → IsFlushAway n t d image
+  flush_still (duty.Read w slot page) image away = away
+  flush_still (duty.Write w slot page victim) image away = away
+  flush_still (duty.Flush page) image away = (same ∙ away.0, away.1)
+
+  flushing_still : (f : Option Flushing) → FlushingFits n s f → FlushingFits n t f
+  flushing_still None fits = same ∙ fits
+  flushing_still (Some (flushing.Out errand)) fits = flush_still errand.duty errand.image fits
+  flushing_still (Some (flushing.Back returned)) fits = flush_still returned.duty returned.image fits
+
+flush_after : (s : State) (c : Call) (w : ℕ) → IsReached s → caller c ≡ Some w
+    → flushed_page (after_call s c) ≡ flushed_page s
+flush_after s stranger w reached by = refl
+flush_after s (refused why) w reached by = refl
+flush_after s (asks m) w reached by = (after_moves s reached).flush_left m w by
+
+pub flushing_still_fits : (old new : Parts) (call : State → Call) → IsKept old → Does old call new → (w : ℕ)
+    → ((s : State) → StandsFor old s → caller (call s) ≡ Some w) → (f : Option Flushing)
+    → ((s : State) → StandsFor old s → FlushingFits old.page_bytes s f) → (t : State) → StandsFor new t
+    → FlushingFits new.page_bytes t f
+flushing_still_fits old new call k does w by f fits t st =
+    let s = k.state in
+    let after : State = after_call s (call s) in
+    let here : flushed_page t ≡ flushed_page s =
+    same_flushed new.core t after st.core (does.stands s k.stands).core
+    ∙ flush_after s (call s) w k.stands.core.reached (by s k.stands) in
+    subst (λ n. FlushingFits n t f) (sym does.page_bytes)
+    (flushing_still old.page_bytes s t here f (fits s k.stands))

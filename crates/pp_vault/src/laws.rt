@@ -1,8 +1,21 @@
-//! What holds of a vault and its hands whatever is called.
+//! What holds of a vault's hands whatever is called.
 
-ghost use Rattle.pp_vault.specs.HandLaws.{OthersStillFit};
+ghost use Rattle.pp_vault.specs.HandLaws.{OthersStillFit, SlotsStillFit, FlushingStillFits};
+ghost use Rattle.pp_vault.specs.Lending.{BodyKeepsHead, BodyKeepsLength, BodyIsWritten};
 
-/// A hand that fits still does after a call that is no move of its worker's.
-pub fn other_hands_still_fit()
-    ensures { OthersStillFit }
+/// What a call leaves of hands that fit: the hand of a worker that doesn't make the call still fits; so does the place of
+/// each slot that the call leaves, also of the worker that makes it; and so does the flusher's token after a worker's
+/// call.
+pub fn hands_still_fit()
+    ensures others { OthersStillFit }
+    ensures slots { SlotsStillFit }
+    ensures flushing { FlushingStillFits }
+{}
+
+/// What an image is in which a writer has changed the body: its head and its length are as they were, and the body is
+/// what was written.
+pub fn bodies_are_written()
+    ensures head { BodyKeepsHead }
+    ensures length { BodyKeepsLength }
+    ensures body { BodyIsWritten }
 {}

@@ -1,0 +1,11 @@
+use Rattle.pp_vault.proofs.StillFits.{still_fits, slot_still_fits, flushing_still_fits}
+use Rattle.pp_vault.proofs.laws.hands_still_fit.Goals as goal
+
+pub returns-clause-others : goal.returns-clause-others
+returns-clause-others c = still_fits
+
+pub returns-clause-slots : goal.returns-clause-slots
+returns-clause-slots c = slot_still_fits
+
+pub returns-clause-flushing : goal.returns-clause-flushing
+returns-clause-flushing c = flushing_still_fits
