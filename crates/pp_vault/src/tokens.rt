@@ -108,3 +108,21 @@ impl Leaver {
         self.worker
     }
 }
+
+impl Errand {
+    /// The worker for whom the device is asked. None for a flush.
+    pub fn worker(&self) -> Option<u32>
+        ensures { result ≡ duty_worker self.now.duty }
+    {
+        self.duty.worker()
+    }
+}
+
+impl Returned {
+    /// The worker for whom the device was asked. None for a flush.
+    pub fn worker(&self) -> Option<u32>
+        ensures { result ≡ duty_worker self.now.duty }
+    {
+        self.duty.worker()
+    }
+}

@@ -8,6 +8,7 @@ ghost use Rattle.pp_model.specs.Submitting.{submit_error};
 ghost use Rattle.pp_vault.specs.Submits.{TakesIn};
 ghost use Rattle.pp_model.specs.Turns.{next_turn, IsOpen, IsUnderWay};
 ghost use Rattle.pp_core.specs.Opening.{kept_of};
+ghost use Rattle.pp_core.specs.Queries.{ask_of, errand_of};
 ghost use Rattle.pp_vault.specs.Stages.{AllIdle};
 ghost use Rattle.pp_vault.specs.Hands.{HandsFit};
 ghost use Rattle.pp_vault.specs.Leaves.{GivesBack, give_back_call};
@@ -34,7 +35,7 @@ use crate::refusal::Refusal;
 use crate::stopped::Stopped;
 use crate::store::Store;
 use crate::tokens::{Chair, Errand, Leaver, Returned, Session};
-use pp_core::{Accepted, CoreError as VaultError, Move, PlanId, Reply, SubmitError, Turn};
+use pp_core::{Accepted, Ask, CoreError as VaultError, Move, PlanId, Reply, SubmitError, Turn};
 use pp_settings::Settings;
 use std::alloc::Global;
 use std::marker::Model;
@@ -247,6 +248,28 @@ impl Vault {
         ensures { (s : State) → StandsFor self.now s → result ≡ dirty_pages s }
     {
         self.store.core.dirty()
+    }
+
+    /// How many bytes a page has, which is how long a slice [`Vault::look`] wants.
+    pub fn page_bytes(&self) -> usize
+        ensures { result ≡ self.now.page_bytes }
+    {
+        self.store.page_bytes
+    }
+
+    /// What the worker's plan asks next. None where the worker doesn't act in a plan.
+    pub fn ask(&self, worker: u32) -> Option<Ask>
+        ensures { (s : State) → StandsFor self.now s → result ≡ ask_of s worker }
+    {
+        self.store.core.ask(worker)
+    }
+
+    /// The errand that is out for the worker: the slot, the page that is loaded into it, and the victim that is written
+    /// back before, where one is.
+    pub fn errand(&self, worker: u32) -> Option<(u32, u32, Option<u32>)>
+        ensures { (s : State) → StandsFor self.now s → result ≡ errand_of s worker }
+    {
+        self.store.core.errand(worker)
     }
 
     /// The move and the reply of the last call that was a move; none before the first, and where it was refused.
