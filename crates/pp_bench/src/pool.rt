@@ -8,7 +8,9 @@ use crate::script;
 use crate::trace::{Kind, PAGES, Trace};
 use crate::trouble::Trouble;
 use pp_device::{Device, SoloDevice, image};
-use pp_vault::{Accepted, Answered, Chair, Errand, Fixed, Guard, Hand, PinGuard, Session, Stage, Stopped, Vault};
+use pp_vault::{
+    Accepted, Answered, Chair, Errand, Fixed, Guard, Hand, PinGuard, Session, Stage, Stopped, Vault,
+};
 use std::alloc::Global;
 
 /// How many bytes a page has.
@@ -154,23 +156,26 @@ impl Pool {
         let (session, guard) = match self.vault.latch_shared(session, guard) {
             Ok(latched) => latched,
             Err((session, guard, _refusal)) => {
-                return Err(Stopped::holding(session, Guard::Pin(guard)));
+                return Err(Stopped::holding(Stage::In(session), Guard::Pin(guard)));
             }
         };
         let number = u64::from(guard.page()).to_le_bytes();
         let body = self.vault.see(&guard);
         if !body.is_some_and(|body| body.starts_with(&number)) {
-            return Err(Stopped::holding(session, Guard::Read(guard)));
+            return Err(Stopped::holding(Stage::In(session), Guard::Read(guard)));
         }
         let (session, guard) = match self.vault.unlatch_shared(session, guard) {
             Ok(unlatched) => unlatched,
             Err((session, guard, _refusal)) => {
-                return Err(Stopped::holding(session, Guard::Read(guard)));
+                return Err(Stopped::holding(Stage::In(session), Guard::Read(guard)));
             }
         };
         match self.vault.unfix(session, guard) {
             Ok(session) => Ok(session),
-            Err((session, guard, _refusal)) => Err(Stopped::holding(session, Guard::Pin(guard))),
+            Err((session, guard, _refusal)) => Err(Stopped::holding(
+                Stage::In(session),
+                Guard::Pin(guard),
+            )),
         }
     }
 }

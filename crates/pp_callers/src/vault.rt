@@ -7,7 +7,7 @@ use pp_cert::{Accepted, check};
 use pp_device::SoloDevice;
 use pp_plan::Plan;
 use pp_settings::Settings;
-use pp_vault::{Answered, Chair, Errand, Fixed, Guard, Hands, PinGuard, Session, Stage, Vault};
+use pp_vault::{Answered, Chair, Errand, Fixed, Guard, PinGuard, Session, Stage, Stopped, Vault};
 use std::alloc::Global;
 
 const SETTINGS: &str = "frames = 1
@@ -112,7 +112,10 @@ fn write(vault: &mut Vault, session: Session, guard: PinGuard) -> Result<Session
 {
     let (session, guard) = match vault.latch_exclusive(session, guard) {
         Ok(latched) => latched,
-        Err((session, guard, _refusal)) => return Err(Stopped::holding(session, Guard::Pin(guard))),
+        Err((session, guard, _refusal)) => return Err(Stopped::holding(
+            Stage::In(session),
+            Guard::Pin(guard),
+        )),
     };
     let (session, guard) = match vault.unlatch_exclusive(session, guard) {
         Ok(unlatched) => unlatched,
@@ -123,6 +126,9 @@ fn write(vault: &mut Vault, session: Session, guard: PinGuard) -> Result<Session
     };
     match vault.unfix(session, guard) {
         Ok(session) => Ok(session),
-        Err((session, guard, _refusal)) => Err(Stopped::holding(session, Guard::Pin(guard))),
+        Err((session, guard, _refusal)) => Err(Stopped::holding(
+            Stage::In(session),
+            Guard::Pin(guard),
+        )),
     }
 }
