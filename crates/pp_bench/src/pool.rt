@@ -66,10 +66,10 @@ fn run(alloc: Global, kind: Kind, ops: u64) -> Result<u64, Trouble> {
 fn chair_of(hand: Hand) -> Chair
     requires { is_idle_hand hand ≡ true }
 {
-    let Ok(chair) = hand.chair() else {
-        unreachable!()
-    };
-    chair
+    match hand.chair() {
+        Ok(chair) => chair,
+        Err(_) => unreachable!(),
+    }
 }
 
 /// A device of all pages, with the number of each at the front of its body.

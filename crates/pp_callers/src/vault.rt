@@ -36,8 +36,9 @@ pub fn changed_pages(alloc: Global) -> anyhow::Result<Option<u32>> {
         vault.scrap(hands);
         return Ok(None);
     };
-    let Ok(chair) = hand.chair() else {
-        unreachable!()
+    let chair = match hand.chair() {
+        Ok(chair) => chair,
+        Err(_) => unreachable!(),
     };
     let stopped = run(&mut vault, &mut device, chair, accepted);
     let changed = match &stopped.stage {
@@ -120,7 +121,7 @@ fn write(vault: &mut Vault, session: Session, guard: PinGuard) -> Result<Session
     let (session, guard) = match vault.unlatch_exclusive(session, guard) {
         Ok(unlatched) => unlatched,
         Err((session, guard, _refusal)) => return Err(Stopped::holding(
-            session,
+            Stage::In(session),
             Guard::Write(guard),
         )),
     };
