@@ -1,11 +1,11 @@
 -- What a whole run of the program may come to. No contract can say what a file holds when it is read, so its contents
 -- are some bytes here.
-use Rattle.std.specs.Prelude.{◌≡◌, ◌⊎◌, ℕ, true, List, [], ◌∷◌, Option, None, Some, Result, Ok, Err, ⊤}
+use Rattle.std.specs.Prelude.{◌≡◌, ◌⊎◌, ℕ, true, List, [], ◌∷◌, length, Option, None, Some, Result, Ok, Err, ⊤}
 use Rattle.std.specs.List.{Contains}
 use Rattle.pp_judge.specs.declared.device.DeviceSize.{DeviceSize}
 use Rattle.pp_judge.specs.declared.error.JudgeError.{JudgeError}
 use Rattle.pp_judge.specs.Judgement.{device_size_in}
-use Rattle.pp_judge.specs.Answers.{Answer, certification_answer, judgement_answer, refused, shown, misused, status_of}
+use Rattle.pp_judge.specs.Answers.{Answer, MaySimulate, certification_answer, judgement_answer, refused, shown, misused, status_of}
 use Rattle.pp_judge.specs.Answers.{formatted, out_of_memory, unread, unwritten}
 use Rattle.pp_words.specs.CommandLine.{Asked, Text, asked}
 use Rattle.pp_words.specs.Faults.{IsMistaken, asks_for_help}
@@ -44,6 +44,8 @@ ComesOf (Asked.check settings plan certificate) answer = IsStopped (settings ∷
     ⊎ ((s p c : List ℕ) × (answer ≡ judgement_answer s p c))
 ComesOf (Asked.annotate settings plan) answer = IsStopped (settings ∷ plan ∷ []) answer
     ⊎ ((s p : List ℕ) × (answer ≡ certification_answer s p))
+ComesOf (Asked.simulate settings script plans) answer = IsStopped (settings ∷ script ∷ plans) answer
+    ⊎ ((s c : List ℕ) × (ps : List (List ℕ)) × (length ps ≡ length plans) × MaySimulate s c ps answer)
 ComesOf (Asked.format settings device) answer = IsStopped (settings ∷ []) answer
     ⊎ ((s : List ℕ) × ComesOfFormat device (device_size_in s) answer)
 

@@ -1,17 +1,20 @@
 //! Reading and writing the files that a job names, and what the job comes to.
 
-ghost use Rattle.std.specs.Prelude.{◌≡◌, ◌≤◌, ◌∷◌, [], IfErr, MatchResult};
+ghost use Rattle.std.specs.Prelude.{◌≡◌, ◌≤◌, ◌∷◌, [], IfOk, IfErr, MatchResult, length};
 ghost use Rattle.std.specs.Io.KnownBytes.{Appends};
 ghost use Rattle.pp_format.specs.DeviceFile.{blank_file};
 ghost use Rattle.pp_judge.specs.Answers.{formatted, seen};
-ghost use Rattle.pp_words.specs.CommandLine.{asked_annotate, asked_by, asked_check, asked_format};
+ghost use Rattle.pp_words.specs.CommandLine.{asked_annotate, asked_by, asked_check, asked_format, asked_simulate, texts};
 ghost use Rattle.pp_cli.specs.Runs.{ComesOf, ComesOfWriting, IsStopped, stopped_by};
 
 use crate::fault::fault;
 use pp_device::image::HEAD;
 use pp_format::format_onto;
-use pp_judge::{AnnotateFiles, CheckFiles, Contents, DeviceSize, Outcome, device_size, outcome_of};
-use pp_words::{AnnotatePaths, CheckPaths, FormatPaths, Job};
+use pp_judge::{
+    AnnotateFiles, CheckFiles, Contents, DeviceSize, Outcome, SimulateFiles, device_size,
+    outcome_of,
+};
+use pp_words::{AnnotatePaths, CheckPaths, FormatPaths, Job, SimulatePaths};
 use std::alloc::Global;
 use std::fs;
 use std::io::{ErrorKind, Write};
@@ -33,6 +36,7 @@ pub fn perform<'a, R: Files + AllocGlobal>(rt: &R, job: Job<'a>) -> Outcome<'a>
     let ended = match job {
         Job::Check(paths) => check(rt, paths),
         Job::Annotate(paths) => annotate(rt, paths),
+        Job::Simulate(paths) => simulate(rt, paths),
         Job::Format(paths) => format(rt, paths),
     };
     match ended {
@@ -76,6 +80,25 @@ fn annotate<'a, R: Files + AllocGlobal>(
         plan: plan.as_slice(),
     };
     Ok(outcome_of(rt.alloc(), Contents::Annotate(files)))
+}
+
+/// What the files of `simulate` come to, where all can be read.
+fn simulate<'a, R: Files + AllocGlobal>(
+    rt: &R,
+    paths: SimulatePaths<'a>,
+) -> Result<Outcome<'a>, Unread<'a>>
+    ensures { MatchResult result (λ outcome. ComesOf (asked_simulate paths.entry) (seen outcome))
+        (λ why. ComesOf (asked_simulate paths.entry) (stopped_by why)) }
+{
+    let settings = contents(rt, paths.settings)?;
+    let script = contents(rt, paths.script)?;
+    let plans = contents_of_all(rt, &paths.plans)?;
+    let files = SimulateFiles {
+        settings: settings.as_slice(),
+        script: script.as_slice(),
+        plans: plans.as_slice(),
+    };
+    Ok(outcome_of(rt.alloc(), Contents::Simulate(files)))
 }
 
 /// What the settings of `format` come to, where they can be read: their refusal, or what writing the device comes to.
@@ -136,4 +159,22 @@ fn contents<'a, R: Files + AllocGlobal>(rt: &R, path: &'a str) -> Result<Vec<u8>
         Err(error) if error.kind() == ErrorKind::OutOfMemory => Err(Unread::Memory),
         Err(_) => Err(Unread::File(path)),
     }
+}
+
+/// The bytes of the files at the paths, in their order.
+fn contents_of_all<'a, R: Files + AllocGlobal>(
+    rt: &R,
+    paths: &[&'a str],
+) -> Result<Vec<Vec<u8>>, Unread<'a>>
+    ensures each { IfOk result (λ files. length files.items ≡ length paths.now) }
+    ensures stopped { IfErr result (λ why. IsStopped (texts paths.now) (stopped_by why)) }
+{
+    let mut files = Vec::new(rt.alloc());
+    for path in paths {
+        let bytes = contents(rt, path)?;
+        if files.push(bytes).is_err() {
+            return Err(Unread::Memory);
+        }
+    }
+    Ok(files)
 }

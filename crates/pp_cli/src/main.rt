@@ -1,4 +1,5 @@
-//! The program `pinpool`: makes and checks the certificates of plans for a page buffer pool, and formats devices.
+//! The program `pinpool`: makes and checks the certificates of plans for a page buffer pool, plays scripts over a pool,
+//! and formats devices.
 #![tactic(auto)]
 
 mod fault;

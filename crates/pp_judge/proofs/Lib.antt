@@ -1,3 +1,6 @@
 pub mod Refusals
 pub mod Steps
 pub mod Judged
+pub mod Staged
+pub mod Rehearsed
+pub mod Ended

@@ -1,22 +1,29 @@
 -- What a run comes to: the answer, its status, and where it is told.
 use Rattle.std.specs.Prelude.{◌≡◌, ◌⊎◌, ◌+◌, ◌*◌, ℕ, Bool, true, false, List, Result, Ok, Err, if◌then◌else◌}
-use Rattle.std.specs.Prelude.{string_bytes}
+use Rattle.std.specs.Prelude.{String, map, string_bytes}
 use Rattle.pp_cert.specs.Accepted.{Acceptance}
 use Rattle.pp_cert.specs.Limits.{step_events, plan_events}
-use Rattle.pp_judge.specs.Judgement.{certification, judgement}
+use Rattle.pp_core.specs.Opening.{kept_of}
+use Rattle.pp_model.specs.Pool.{opening}
+use Rattle.pp_model.specs.declared.refusals.SubmitError.{SubmitError}
+use Rattle.pp_simulate.specs.Simulating.{Simulates, after_submits}
+use Rattle.pp_simulate.specs.declared.error.SimulateError.TheVariants.{Submit}
+use Rattle.pp_judge.specs.Judgement.{Stage, certification, judgement, staged_in}
 use Rattle.pp_judge.specs.Steps.{is_want_of_memory}
 use Rattle.pp_judge.specs.declared.contents.Contents.{Contents}
-use Rattle.pp_judge.specs.declared.contents.Contents.TheVariants.{Check, Annotate}
+use Rattle.pp_judge.specs.declared.contents.Contents.TheVariants.{Check, Annotate, Simulate}
 use Rattle.pp_judge.specs.declared.error.JudgeError.{JudgeError}
+use Rattle.pp_judge.specs.declared.error.JudgeError.TheVariants as judge_error
 use Rattle.pp_judge.specs.declared.outcome.Figures.{Figures}
 use Rattle.pp_judge.specs.declared.outcome.Outcome.{Outcome}
-use Rattle.pp_judge.specs.declared.outcome.Outcome.TheVariants.{Done, Made, Formatted, Shown, Refused, Misused}
-use Rattle.pp_judge.specs.declared.outcome.Outcome.TheVariants.{Wordless, Unread, Unwritten, OutOfMemory}
+use Rattle.pp_judge.specs.declared.outcome.Outcome.TheVariants.{Done, Made, Simulated, Formatted, Shown, Refused}
+use Rattle.pp_judge.specs.declared.outcome.Outcome.TheVariants.{Misused, Wordless, Unread, Unwritten, OutOfMemory}
 
 -- what a run comes to; texts are their bytes
 pub data Answer : Type 0 where
   done : Figures → Answer
   made : (text : List ℕ) → Answer
+  simulated : (text : List ℕ) → Answer
   formatted : (pages : ℕ) → Answer
   shown : (text : List ℕ) → Answer
   refused : JudgeError → Answer
@@ -30,6 +37,7 @@ pub data Answer : Type 0 where
 abbrev pub seen : Outcome → Answer
 seen (Done figures) = done figures
 seen (Made text) = made (string_bytes text)
+seen (Simulated text) = simulated (string_bytes text)
 seen (Formatted pages) = formatted pages
 seen (Shown text) = shown (string_bytes text)
 seen (Refused refusal) = refused refusal
@@ -43,6 +51,7 @@ seen OutOfMemory = out_of_memory
 abbrev pub status_of : Answer → ℕ
 status_of (done figures) = 0
 status_of (made text) = 0
+status_of (simulated text) = 0
 status_of (formatted pages) = 0
 status_of (shown text) = 0
 status_of (refused refusal) = 1
@@ -56,6 +65,7 @@ status_of out_of_memory = 4
 abbrev pub is_output_of : Answer → Bool
 is_output_of (done figures) = true
 is_output_of (made text) = true
+is_output_of (simulated text) = true
 is_output_of (formatted pages) = true
 is_output_of (shown text) = true
 is_output_of (refused refusal) = true
@@ -91,10 +101,40 @@ judgement_answer settings plan certificate = answer_of_check (judgement settings
 abbrev pub certification_answer : (settings plan : List ℕ) → Answer
 certification_answer settings plan = answer_of_annotate (certification settings plan)
 
--- what the contents of the files come to
-abbrev pub answer_to : Contents → Answer
-answer_to (Check files) = judgement_answer files.settings.now files.plan.now files.certificate.now
-answer_to (Annotate files) = certification_answer files.settings.now files.plan.now
+-- a new pool with these settings takes the plans in up to one, which it refuses so
+pub record RefusesPlan (stage : Stage) (refusal : JudgeError) : Type 0 where
+  pub error : SubmitError
+  pub first : after_submits (opening (kept_of stage.settings)) stage.plans ≡ Err error
+  pub told : refusal ≡ judge_error.Simulate (Submit error)
+
+-- what may be answered where the files of `simulate` spell this: the text of playing the script, or the refusal of a plan;
+-- and where they are refused, that refusal
+abbrev pub IsSimulationAnswer : Result Stage JudgeError → Answer → Type 0
+IsSimulationAnswer (Err refusal) answer = answer ≡ refused refusal
+IsSimulationAnswer (Ok stage) (simulated text) = Simulates stage.settings stage.plans stage.script text
+IsSimulationAnswer (Ok stage) (refused refusal) = RefusesPlan stage refusal
+IsSimulationAnswer (Ok stage) _ = ⊥
+
+-- what playing a script may end with where its files spell this, unless memory ran out
+abbrev pub Rehearses : {Z : Type 0} → Result Stage JudgeError → Result (String Z) JudgeError → Type 0
+Rehearses staged (Ok text) = IsSimulationAnswer staged (simulated (string_bytes text))
+Rehearses staged (Err refusal) =
+    (is_want_of_memory refusal ≡ true) ⊎ IsSimulationAnswer staged (refused refusal)
+
+-- what the bytes of the files of `simulate` may come to
+abbrev pub MaySimulate : (settings script : List ℕ) → (plans : List (List ℕ)) → Answer → Type 0
+MaySimulate settings script plans answer = IsSimulationAnswer (staged_in settings script plans) answer
+
+-- what the contents of the files may come to
+abbrev pub MayAnswer : Contents → Answer → Type 0
+MayAnswer (Check files) answer = answer ≡ judgement_answer files.settings.now files.plan.now files.certificate.now
+MayAnswer (Annotate files) answer = answer ≡ certification_answer files.settings.now files.plan.now
+MayAnswer (Simulate files) answer =
+    MaySimulate files.settings.now files.script.now (map (λ plan. plan.items) files.plans.now) answer
+
+-- the outcome is one of these answers, or want of memory
+abbrev pub MayCome : (Answer → Type 0) → Outcome → Type 0
+MayCome may outcome = may (seen outcome) ⊎ (outcome ≡ OutOfMemory)
 
 -- the outcome is this answer, or want of memory
 abbrev pub ComesTo : Answer → Outcome → Type 0

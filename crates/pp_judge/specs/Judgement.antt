@@ -1,5 +1,5 @@
 -- What the contents of the files come to.
-use Rattle.std.specs.Prelude.{ℕ, if◌then◌else◌, List, Option, None, Some, Result, Ok, Err}
+use Rattle.std.specs.Prelude.{ℕ, if◌then◌else◌, List, [], ◌∷◌, Option, None, Some, Result, Ok, Err}
 use Rattle.std.specs.Str.{is_utf8}
 use Rattle.pp_settings.specs.Settings.{Configuration, geometry_of}
 use Rattle.pp_settings.specs.Layout.{page_count}
@@ -17,10 +17,13 @@ use Rattle.pp_cert.specs.declared.error.CertError.TheVariants as cert_error
 use Rattle.pp_cert.specs.declared.check_error.CheckError.{CheckError}
 use Rattle.pp_annotate.specs.Annotation.{annotation}
 use Rattle.pp_annotate.specs.declared.error.AnnotateError.TheVariants.{Fault}
+use Rattle.pp_script.specs.Scripts.{Scenario}
+use Rattle.pp_script.specs.Reading.{reading as read_script}
+use Rattle.pp_script.specs.declared.error.ScriptError.TheVariants.{NotACue}
 use Rattle.pp_judge.specs.declared.judgement.Sources.{Sources}
 use Rattle.pp_judge.specs.declared.device.DeviceSize.{DeviceSize}
 use Rattle.pp_judge.specs.declared.error.JudgeError.{JudgeError}
-use Rattle.pp_judge.specs.declared.error.JudgeError.TheVariants.{Settings, Plan, Certificate, Check, Annotate}
+use Rattle.pp_judge.specs.declared.error.JudgeError.TheVariants.{Settings, Script, Plan, Certificate, Check, Annotate}
 use Rattle.pp_text.specs.Steps.{◌>>=◌}
 use Rattle.pp_judge.specs.Steps.{refusing}
 
@@ -78,3 +81,40 @@ unfoldable pub device_size_in : (settings : List ℕ) → Result DeviceSize Judg
 device_size_in settings = do
   s ← settings_in settings
   Ok (record { pages = page_count (geometry_of s); page_bytes = s.page_bytes })
+
+-- The script that bytes spell; what is no text is refused at its first line.
+unfoldable pub script_in : List ℕ → Result Scenario JudgeError
+script_in bytes = refusing Script (if is_utf8 bytes then read_script bytes else Err (NotACue 1))
+
+-- The plan, accepted with the claims that the maker of certificates makes, unless the plan has a fault.
+abbrev pub with_claims : Sources → Result Claims CheckError → Result Acceptance JudgeError
+with_claims r (Ok c) = verdict r c
+with_claims r (Err fault) = Err (Annotate (Fault fault))
+
+-- The plan that bytes spell under the settings, accepted with its least certificate.
+unfoldable pub accepted_in : Configuration → List ℕ → Result Acceptance JudgeError
+accepted_in s plan = do
+  p ← plan_in s plan
+  with_claims (record { settings = s; plan = p }) (annotation (geometry_of s) p)
+
+-- The plans of some files, each accepted before the next is read.
+unfoldable pub accepted_all : Configuration → (plans : List (List ℕ)) → Result (List Acceptance) JudgeError
+accepted_all s [] = Ok []
+accepted_all s (plan ∷ plans) = do
+  first ← accepted_in s plan
+  rest ← accepted_all s plans
+  Ok (first ∷ rest)
+
+-- What a script is played with: the settings of a pool, and the plans that its workers take.
+pub record Stage : Type 0 where
+  pub settings : Configuration
+  pub script : Scenario
+  pub plans : List Acceptance
+
+-- What the bytes of the settings, of the script and of the plans spell: each is refused in its turn.
+unfoldable pub staged_in : (settings script : List ℕ) → (plans : List (List ℕ)) → Result Stage JudgeError
+staged_in settings script plans = do
+  s ← settings_in settings
+  cues ← script_in script
+  accepted ← accepted_all s plans
+  Ok (record { settings = s; script = cues; plans = accepted })

@@ -7,19 +7,24 @@ use Rattle.pp_plan.specs.Refusals.{plan_error_row}
 use Rattle.pp_cert.specs.CertErrors.{certificate_error_row}
 use Rattle.pp_cert.specs.CheckErrors.{check_error_row}
 use Rattle.pp_annotate.specs.Refusals.{annotate_error_row}
-use Rattle.pp_judge.specs.Answers.{Answer, done, made, formatted, shown, refused, misused, wordless, unread}
-use Rattle.pp_judge.specs.Answers.{unwritten, out_of_memory}
+use Rattle.pp_script.specs.Refusals.{script_error_row}
+use Rattle.pp_simulate.specs.Refusals.{simulate_error_row}
+use Rattle.pp_judge.specs.Answers.{Answer, done, made, simulated, formatted, shown, refused, misused, wordless}
+use Rattle.pp_judge.specs.Answers.{unread, unwritten, out_of_memory}
 use Rattle.pp_judge.specs.declared.error.JudgeError.{JudgeError}
-use Rattle.pp_judge.specs.declared.error.JudgeError.TheVariants.{Settings, Plan, Certificate, Check, Annotate}
+use Rattle.pp_judge.specs.declared.error.JudgeError.TheVariants.{Settings, Script, Plan, Certificate, Check, Annotate}
+use Rattle.pp_judge.specs.declared.error.JudgeError.TheVariants.{Simulate}
 use Rattle.pp_judge.specs.declared.outcome.Figures.{Figures}
 
 -- The number and the name of a refusal, and what it is about.
 abbrev pub judge_error_row : JudgeError → Row
 judge_error_row (Settings e) = settings_error_row e
+judge_error_row (Script e) = script_error_row e
 judge_error_row (Plan e) = plan_error_row e
 judge_error_row (Certificate e) = certificate_error_row e
 judge_error_row (Check e) = check_error_row e
 judge_error_row (Annotate e) = annotate_error_row e
+judge_error_row (Simulate e) = simulate_error_row e
 
 -- `refused`, and these.
 abbrev pub refusal_line : JudgeError → List ℕ
@@ -34,6 +39,7 @@ figures_line f =
 abbrev pub text_of : Answer → List ℕ
 text_of (done figures) = figures_line figures ++ codes "\n"
 text_of (made text) = text ++ codes "\n"
+text_of (simulated text) = text
 text_of (formatted pages) = codes "formatted " ++ decimal pages ++ codes " pages\n"
 text_of (shown text) = text
 text_of (refused refusal) = refusal_line refusal ++ codes "\n"

@@ -1,9 +1,13 @@
 //! What was asked for with the bytes of its files, and the outcome as a function of these.
 
-ghost use Rattle.pp_judge.specs.Answers.{answer_to, certification_answer, judgement_answer, ComesTo};
+ghost use Rattle.std.specs.Prelude.{map};
+ghost use Rattle.pp_judge.specs.Answers.{certification_answer, judgement_answer, ComesTo, MayAnswer, MayCome};
+ghost use Rattle.pp_judge.specs.Answers.{IsSimulationAnswer};
+ghost use Rattle.pp_judge.specs.Judgement.{staged_in};
 
 use crate::judgement::{certify, judge};
 use crate::outcome::{Figures, Outcome};
+use crate::rehearsal::rehearse;
 use std::alloc::Global;
 
 /// A command with the bytes of the files that it reads.
@@ -13,6 +17,8 @@ pub enum Contents<'a> {
     Check(CheckFiles<'a>),
     /// A plan's certificate is made.
     Annotate(AnnotateFiles<'a>),
+    /// A script is played over a pool with some plans.
+    Simulate(SimulateFiles<'a>),
 }
 
 /// The bytes of the three files of `check`.
@@ -35,14 +41,26 @@ pub struct AnnotateFiles<'a> {
     pub plan: &'a [u8],
 }
 
+/// The bytes of the files of `simulate`.
+#[derive(Clone, Copy, Debug)]
+pub struct SimulateFiles<'a> {
+    /// The bytes of the settings.
+    pub settings: &'a [u8],
+    /// The bytes of the script.
+    pub script: &'a [u8],
+    /// The bytes of the plans, in their order.
+    pub plans: &'a [Vec<u8>],
+}
+
 /// What the contents of the files come to.
 pub fn outcome_of<'a>(alloc: Global, contents: Contents<'_>) -> Outcome<'a>
-    // Exactly what the definition gives of these bytes, or want of memory.
-    ensures { ComesTo (answer_to contents.entry) result }
+    // What the definition gives of these bytes, or want of memory.
+    ensures { MayCome (MayAnswer contents.entry) result }
 {
     match contents {
         Contents::Check(files) => checked(alloc, files),
         Contents::Annotate(files) => annotated(alloc, files),
+        Contents::Simulate(files) => simulated(alloc, files),
     }
 }
 
@@ -64,6 +82,17 @@ fn annotated<'a>(alloc: Global, files: AnnotateFiles<'_>) -> Outcome<'a>
 {
     match certify(alloc, files) {
         Ok(text) => Outcome::Made(text),
+        Err(refusal) => Outcome::from(refusal),
+    }
+}
+
+/// What the files of `simulate` come to.
+fn simulated<'a>(alloc: Global, files: SimulateFiles<'_>) -> Outcome<'a>
+    ensures { MayCome (IsSimulationAnswer (staged_in files.entry.settings.now files.entry.script.now
+        (map (λ plan. plan.items) files.entry.plans.now))) result }
+{
+    match rehearse(alloc, files) {
+        Ok(text) => Outcome::Simulated(text),
         Err(refusal) => Outcome::from(refusal),
     }
 }

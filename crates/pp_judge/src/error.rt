@@ -4,12 +4,17 @@ ghost use Rattle.std.specs.Prelude.{◌≡◌, Some};
 ghost use Rattle.pp_judge.specs.Steps.{is_want_of_memory};
 ghost use Rattle.pp_text.specs.Views.{row_of_refusal};
 ghost use Rattle.pp_judge.specs.Lines.{refusal_line, judge_error_row};
-ghost use Rattle.pp_judge.specs.declared.error.JudgeError.TheVariants.{Settings, Plan, Certificate, Annotate};
+ghost use Rattle.pp_judge.specs.declared.error.JudgeError.TheVariants.{Settings, Script, Plan, Certificate, Annotate};
+ghost use Rattle.pp_judge.specs.declared.error.JudgeError.TheVariants.{Simulate};
+ghost use Rattle.pp_simulate.specs.declared.error.SimulateError.TheVariants.{OutOfMemory};
 
 use pp_annotate::AnnotateError;
 use pp_cert::{CertError, CheckError};
 use pp_plan::PlanError;
+use pp_script::ScriptError;
 use pp_settings::SettingsError;
+use pp_simulate::SimulateError;
+use std::alloc::AllocFailed;
 use std::fmt;
 
 /// Why the files of a command are refused: the first refusal, in the order of the files.
@@ -17,7 +22,9 @@ use std::fmt;
 pub enum JudgeError {
     /// The first file gives no settings.
     Settings(SettingsError),
-    /// The second file gives no plan under these settings.
+    /// The script's file gives no script.
+    Script(ScriptError),
+    /// A plan's file gives no plan under these settings.
     Plan(PlanError),
     /// The third file gives no certificate for this plan.
     Certificate(CertError),
@@ -25,6 +32,8 @@ pub enum JudgeError {
     Check(CheckError),
     /// The plan has no certificate under these settings.
     Annotate(AnnotateError),
+    /// A new pool doesn't take a plan in behind the earlier ones.
+    Simulate(SimulateError),
 }
 
 impl JudgeError {
@@ -35,9 +44,11 @@ impl JudgeError {
         matches!(
             self,
             JudgeError::Settings(SettingsError::OutOfMemory)
+                | JudgeError::Script(ScriptError::OutOfMemory)
                 | JudgeError::Plan(PlanError::OutOfMemory)
                 | JudgeError::Certificate(CertError::OutOfMemory)
                 | JudgeError::Annotate(AnnotateError::OutOfMemory)
+                | JudgeError::Simulate(SimulateError::OutOfMemory)
         )
     }
 
@@ -47,10 +58,12 @@ impl JudgeError {
     {
         match self {
             JudgeError::Settings(error) => error.refusal(),
+            JudgeError::Script(error) => error.refusal(),
             JudgeError::Plan(error) => error.refusal(),
             JudgeError::Certificate(error) => error.refusal(),
             JudgeError::Check(error) => error.refusal(),
             JudgeError::Annotate(error) => error.refusal(),
+            JudgeError::Simulate(error) => error.refusal(),
         }
     }
 }
@@ -71,6 +84,14 @@ impl From<SettingsError> for JudgeError {
 
     fn from(error: SettingsError) -> JudgeError {
         JudgeError::Settings(error)
+    }
+}
+
+impl From<ScriptError> for JudgeError {
+    ghost from_gives = { λ error refusal. refusal ≡ Script error };
+
+    fn from(error: ScriptError) -> JudgeError {
+        JudgeError::Script(error)
     }
 }
 
@@ -95,5 +116,21 @@ impl From<AnnotateError> for JudgeError {
 
     fn from(error: AnnotateError) -> JudgeError {
         JudgeError::Annotate(error)
+    }
+}
+
+impl From<SimulateError> for JudgeError {
+    ghost from_gives = { λ error refusal. refusal ≡ Simulate error };
+
+    fn from(error: SimulateError) -> JudgeError {
+        JudgeError::Simulate(error)
+    }
+}
+
+impl<T: Drop> From<AllocFailed<T>> for JudgeError {
+    ghost from_gives = { λ _ refusal. refusal ≡ Simulate OutOfMemory };
+
+    fn from(_refused: AllocFailed<T>) -> JudgeError {
+        JudgeError::Simulate(SimulateError::OutOfMemory)
     }
 }

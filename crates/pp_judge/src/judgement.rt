@@ -82,7 +82,7 @@ pub fn settings_in(alloc: Global, bytes: &[u8]) -> Result<Settings, JudgeError>
 }
 
 /// The plan that the bytes spell under the settings.
-fn plan_in(alloc: Global, settings: &Settings, bytes: &[u8]) -> Result<Plan, JudgeError>
+pub fn plan_in(alloc: Global, settings: &Settings, bytes: &[u8]) -> Result<Plan, JudgeError>
     ensures { Gives is_want_of_memory same result (plan_in settings.now bytes.now) }
 {
     let Ok(text) = str::from_utf8(bytes) else {

@@ -6,9 +6,11 @@ mod device;
 mod error;
 mod judgement;
 mod outcome;
+mod rehearsal;
 
-pub use contents::{AnnotateFiles, CheckFiles, Contents, outcome_of};
+pub use contents::{AnnotateFiles, CheckFiles, Contents, SimulateFiles, outcome_of};
 pub use device::{DeviceSize, device_size};
 pub use error::JudgeError;
 pub use judgement::{certify, judge};
 pub use outcome::{Figures, Outcome};
+pub use rehearsal::rehearse;

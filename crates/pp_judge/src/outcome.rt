@@ -15,6 +15,8 @@ pub enum Outcome<'a> {
     Done(Figures),
     /// The text of the certificate that was made, without a line feed.
     Made(String),
+    /// The lines of a script that was played, each with its line feed.
+    Simulated(String),
     /// A device with so many pages is written anew.
     Formatted(u32),
     /// The help or the version, which ends with a line feed.
@@ -73,7 +75,11 @@ impl Outcome<'_> {
         ensures { result ≡ status_of (seen self.now) }
     {
         match self {
-            Outcome::Done(_) | Outcome::Made(_) | Outcome::Formatted(_) | Outcome::Shown(_) => 0,
+            Outcome::Done(_)
+            | Outcome::Made(_)
+            | Outcome::Simulated(_)
+            | Outcome::Formatted(_)
+            | Outcome::Shown(_) => 0,
             Outcome::Refused(_) => 1,
             Outcome::Misused(_) | Outcome::Wordless => 2,
             Outcome::Unread(_) | Outcome::Unwritten(_) => 3,
@@ -88,6 +94,7 @@ impl Outcome<'_> {
         match self {
             Outcome::Done(_)
             | Outcome::Made(_)
+            | Outcome::Simulated(_)
             | Outcome::Formatted(_)
             | Outcome::Shown(_)
             | Outcome::Refused(_) => true,
@@ -100,7 +107,7 @@ impl Outcome<'_> {
     }
 }
 
-/// What is printed, ended by a line feed.
+/// What is printed, ended by a line feed; a script's lines have one each.
 impl fmt::Display for Outcome<'_> {
     ghost output = { λ outcome. Some (text_of (seen outcome)) };
 
@@ -110,7 +117,9 @@ impl fmt::Display for Outcome<'_> {
             Outcome::Made(text) => writeln!(f, "{text}"),
             Outcome::Formatted(pages) => writeln!(f, "formatted {pages} pages"),
             Outcome::Refused(refusal) => writeln!(f, "{refusal}"),
-            Outcome::Shown(text) | Outcome::Misused(text) => f.write_str(text.as_str()),
+            Outcome::Simulated(text) | Outcome::Shown(text) | Outcome::Misused(text) => {
+                f.write_str(text.as_str())
+            }
             Outcome::Wordless => f.write_str("error: the words can't be read\n"),
             Outcome::Unread(path) => writeln!(f, "fault reading {path}"),
             Outcome::Unwritten(path) => writeln!(f, "fault writing {path}"),

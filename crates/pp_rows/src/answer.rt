@@ -2,8 +2,12 @@
 
 use crate::row::Question;
 use pp_format::format_onto;
-use pp_judge::{AnnotateFiles, CheckFiles, Contents, JudgeError, Outcome, device_size, outcome_of};
+use pp_judge::{
+    AnnotateFiles, CheckFiles, Contents, JudgeError, Outcome, SimulateFiles, device_size,
+    outcome_of,
+};
 use pp_plan::{Plan, PlanError};
+use pp_script::{Script, ScriptError};
 use pp_settings::{Settings, SettingsError};
 use std::alloc::Global;
 use std::str;
@@ -24,6 +28,15 @@ pub fn answer_to(alloc: Global, question: Question, texts: &[Vec<u8>]) -> anyhow
         (Question::Annotate, [settings, plan]) => {
             let files = AnnotateFiles { settings, plan };
             format!(in alloc; "{}", outcome_of(alloc, Contents::Annotate(files)))?
+        }
+        (Question::Script, [script]) => script_answer(alloc, script)?,
+        (Question::Simulate, [settings, script, plans @ ..]) => {
+            let files = SimulateFiles {
+                settings,
+                script,
+                plans,
+            };
+            format!(in alloc; "{}", outcome_of(alloc, Contents::Simulate(files)))?
         }
         (Question::Format, [settings]) => format_answer(alloc, settings)?,
         _ => anyhow::bail!("the row has too few texts or too many"),
@@ -68,6 +81,20 @@ fn plan_answer(alloc: Global, settings: &[u8], plan: &[u8]) -> anyhow::Result<St
     match Plan::from_text(alloc, &settings, text) {
         Ok(plan) => Ok(plan.to_text(alloc, &settings)?),
         Err(error) => Ok(format!(in alloc; "{}", JudgeError::Plan(error))?),
+    }
+}
+
+/// How many cues and troubles the script has, or the refusal.
+fn script_answer(alloc: Global, script: &[u8]) -> anyhow::Result<String> {
+    let Ok(text) = str::from_utf8(script) else {
+        return Ok(format!(in alloc; "{}", JudgeError::Script(ScriptError::NotACue(1)))?);
+    };
+    match Script::from_text(alloc, text) {
+        Ok(script) => {
+            let (cues, troubles) = script.into_parts();
+            Ok(format!(in alloc; "script cues {} troubles {}", cues.len(), troubles.len())?)
+        }
+        Err(error) => Ok(format!(in alloc; "{}", JudgeError::Script(error))?),
     }
 }
 

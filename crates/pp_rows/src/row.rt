@@ -15,6 +15,10 @@ pub enum Question {
     Check,
     /// The least certificate of the plan.
     Annotate,
+    /// Which script the text spells.
+    Script,
+    /// What playing the script of the second text comes to, over a pool with the plans of those behind it.
+    Simulate,
     /// The file of a device that is written anew under the settings.
     Format,
 }
@@ -62,6 +66,8 @@ fn question_of(name: &str) -> anyhow::Result<Question> {
         "plan" => Ok(Question::Plan),
         "check" => Ok(Question::Check),
         "annotate" => Ok(Question::Annotate),
+        "script" => Ok(Question::Script),
+        "simulate" => Ok(Question::Simulate),
         "format" => Ok(Question::Format),
         _ => anyhow::bail!("no question is called {name}"),
     }

@@ -1,10 +1,10 @@
 -- The hands of a new vault fit.
-use Rattle.std.proofs.Common.{◌≡◌, ◌∙◌, ℕ, zero, suc, ◌+◌, ◌<◌, ◌≤◌, Bool}
+use Rattle.std.proofs.Common.{◌≡◌, ◌∙◌, ℕ, zero, suc, ◌+◌, ◌<◌, Bool}
 use Rattle.std.proofs.Common.{true, false, Option, Some, None, List, [], ◌∷◌, ◌++◌, length, replicate, nat_lt}
 use Rattle.std.proofs.Common.{refl, sym, ap, subst, arith}
 use Rattle.std.specs.Prelude.{slice_get}
 use Rattle.std.proofs.lemmas.Bool.Decides.{nat_tests}
-use Rattle.std.proofs.lemmas.List.{get_or-replicate, length-replicate, get_or_past, get_or_append_left, length-append}
+use Rattle.std.proofs.lemmas.List.{length-replicate, get_or_append_left, length-append}
 use Rattle.std.proofs.Math.Seq.{get_or-append_seam}
 use Rattle.pp_model.specs.Pool.{Settings, opening}
 use Rattle.pp_core.specs.Queries.{idle_by, held_by}
@@ -17,6 +17,7 @@ use Rattle.pp_vault.specs.StandsFor.{StandsFor}
 use Rattle.pp_vault.specs.Holding.{placed}
 use Rattle.pp_vault.specs.Stages.{idle_hand, AllIdle}
 use Rattle.pp_vault.specs.Hands.{PlaceFits, HandFits, FlushingFits, HandsFit}
+use Rattle.pp_vault.proofs.Placed.{none_there}
 use Rattle.pp_vault.proofs.StillFits.{fits_all}
 
 -- ---- workers that sit down one after the other
@@ -47,18 +48,6 @@ idle_seat : {T : Type 0} (n w : ℕ) → w < n → slice_get {X = Option T} (rep
 idle_seat zero w low = absurd (omega (arith, low))
 idle_seat (suc n) zero low = refl
 idle_seat (suc n) (suc w) low = idle_seat n w (omega (arith, low))
-
-none_by : {T : Type 0} (n slot : ℕ) (b : Bool) → nat_lt slot n ≡ b → placed {T = T} (replicate n None) slot ≡ None
-none_by {T} n slot true at =
-    let low : slot < n = grind (arith, nat_tests) in
-    get_or-replicate {A = Option T} n slot None None low
-none_by {T} n slot false at =
-    let high : n ≤ slot = grind (arith, nat_tests) in
-    get_or_past {X = Option T} (replicate n None) slot None
-    (omega (arith, high, length-replicate {A = Option T} n None))
-
-none_there : {T : Type 0} (n slot : ℕ) → placed {T = T} (replicate n None) slot ≡ None
-none_there n slot = none_by n slot (nat_lt slot n) refl
 
 opening_hand : (n : ℕ) (k : Settings) (w : ℕ) → w < k.workers → HandFits n (opening k) w (chair_of w)
 opening_hand n k w low =

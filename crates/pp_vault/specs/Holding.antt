@@ -1,5 +1,5 @@
 -- What clauses say of guards and hands in their places.
-use Rattle.std.specs.Prelude.{ℕ, Bool, ◌&&◌, Option, None, is_none, List, length, replicate, ltb}
+use Rattle.std.specs.Prelude.{◌≡◌, ℕ, Bool, ◌&&◌, Option, None, is_none, IfSome, List, length, replicate, ltb}
 use Rattle.std.specs.Prelude.{slice_index_or}
 use Rattle.std.specs.List.{list_all}
 use Rattle.pp_cert.specs.declared.note.Held.{Held}
@@ -38,3 +38,8 @@ all_free places = list_all is_none places
 -- The places of the guards of a worker that holds no slot.
 abbrev pub no_guards : List (Option Guard)
 no_guards = replicate 32 None
+
+-- There are 32 places, and in each, if anything, a guard of its slot.
+pub record GuardPlaces (places : List (Option Guard)) : Type 0 where
+  pub long : length places ≡ 32
+  pub each : (slot : ℕ) → IfSome (placed places slot) (λ guard. slot_by guard ≡ slot)

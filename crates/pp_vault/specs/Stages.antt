@@ -1,5 +1,5 @@
 -- What clauses say of hands.
-use Rattle.std.specs.Prelude.{ℕ, Bool, true, false, ◌&&◌, Option, None, Some, List, slice_set, ◌≡◌, ◌<◌, length}
+use Rattle.std.specs.Prelude.{ℕ, Bool, true, false, ◌&&◌, Option, None, Some, IfSome, List, slice_set, ◌≡◌, ◌<◌, length}
 use Rattle.pp_vault.specs.declared.tokens.Chair.{Chair}
 use Rattle.pp_vault.specs.declared.stage.Stage.{Stage}
 use Rattle.pp_vault.specs.declared.stage.Stage.TheVariants.{Idle, In, Out, Back, Leaving}
@@ -37,6 +37,10 @@ is_free_for places (Some w) = is_free places w
 abbrev pub put_for : List (Option Hand) → Hand → Option ℕ → List (Option Hand)
 put_for places hand None = places
 put_for places hand (Some w) = slice_set places w (Some hand)
+
+-- In each place, if anything, there is a hand of its worker.
+abbrev pub HandPlaces : List (Option Hand) → Type 0
+HandPlaces places = (w : ℕ) → IfSome (placed places w) (λ hand. stage_worker hand.stage ≡ Some w)
 
 -- As many places as workers, and in each the hand of its worker, which is idle and holds nothing.
 pub record AllIdle (workers : ℕ) (places : List (Option Hand)) : Type 0 where

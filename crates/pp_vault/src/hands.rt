@@ -1,6 +1,6 @@
 //! All tokens of a vault.
 
-ghost use Rattle.std.specs.Prelude.{◌≡◌, true, false, None, IfOk, IfSome, OnOk, OnErr, IfErr, IfNone, slice_set};
+ghost use Rattle.std.specs.Prelude.{◌≡◌, true, false, None, Some, IfOk, IfSome, OnOk, OnErr, IfErr, IfNone, slice_set};
 ghost use Rattle.pp_vault.specs.Holding.{placed};
 ghost use Rattle.pp_vault.specs.Stages.{AllIdle, stage_worker, is_free_for, put_for};
 
@@ -29,6 +29,10 @@ impl Model for Workers {
     ghost coded = { coded_workers };
 
     ghost view = { λ w. w.places.items };
+
+    ghost use Rattle.pp_vault.specs.Stages.{HandPlaces};
+
+    ghost invariant = { λ w. HandPlaces w.places.items };
 }
 
 /// What the flusher has at hand while a flush is in flight.
@@ -67,6 +71,7 @@ impl Hands {
     /// Takes the worker's hand out. None, and nothing changes, where there is no such worker or its hand is out.
     pub fn part(&mut self, worker: u32) -> Option<Hand>
         ensures hand { result ≡ placed self.old.workers worker }
+        ensures of { IfSome result (λ hand. stage_worker hand.stage ≡ Some worker) }
         ensures taken { IfSome result (λ _. self.new.workers ≡ slice_set self.old.workers worker None) }
         ensures unchanged { IfNone result (self.new.workers ≡ self.old.workers) }
         ensures flushing { self.new.flushing ≡ self.old.flushing }
@@ -122,6 +127,7 @@ impl Workers {
     /// Takes the worker's hand out, where it is there.
     fn part(&mut self, worker: u32) -> Option<Hand>
         ensures hand { result ≡ placed self.old worker }
+        ensures of { IfSome result (λ hand. stage_worker hand.stage ≡ Some worker) }
         ensures taken { IfSome result (λ _. self.new ≡ slice_set self.old worker None) }
         ensures unchanged { IfNone result (self.new ≡ self.old) }
     {

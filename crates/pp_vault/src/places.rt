@@ -31,9 +31,9 @@ impl Model for Guards {
 
     ghost view = { λ g. g.places };
 
-    ghost use Rattle.std.specs.Prelude.{◌≡◌, length};
+    ghost use Rattle.pp_vault.specs.Holding.{GuardPlaces};
 
-    ghost invariant = { λ g. length g.places ≡ 32 };
+    ghost invariant = { λ g. GuardPlaces g.places };
 }
 
 impl Guards {
@@ -70,6 +70,7 @@ impl Guards {
     pub fn take(&mut self, slot: u32) -> Option<Guard>
         ensures guard { result ≡ placed self.old slot }
         ensures taken { IfSome result (λ _. self.new ≡ slice_set self.old slot None) }
+        ensures slot { IfSome result (λ guard. slot_by guard ≡ slot) }
         ensures unchanged { IfNone result (self.new ≡ self.old) }
     {
         let places = &mut self.places;
@@ -84,7 +85,8 @@ impl Guards {
 
     /// The page that the guard of a slot is of, and how it is held.
     pub fn held(&self, slot: u32) -> Option<(u32, Held)>
-        ensures { result ≡ option_map held_by (placed self.now slot) }
+        ensures held { result ≡ option_map held_by (placed self.now slot) }
+        ensures long { length self.now ≡ 32 }
     {
         match self.places.get(slot as usize) {
             Some(Some(stored)) => Some(stored.held()),

@@ -20,7 +20,7 @@ pub enum Refusal {
 impl fmt::Display for Refusal {
     ghost use Rattle.pp_vault.specs.Words.{refusal_words};
 
-    ghost output = { λ refusal. refusal_words refusal };
+    ghost output = { λ refusal. Some (refusal_words refusal) };
 
     fn fmt<W: fmt::Write>(&self, f: &mut fmt::Formatter<W>) -> fmt::Result {
         match self {

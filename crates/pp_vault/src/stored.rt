@@ -158,9 +158,9 @@ impl Model for StoredHand {
 
     ghost view = { hand_of };
 
-    ghost use Rattle.std.specs.Prelude.{◌≡◌, length};
+    ghost use Rattle.pp_vault.specs.Holding.{GuardPlaces};
 
-    ghost invariant = { λ k. length k.guards ≡ 32 };
+    ghost invariant = { λ k. GuardPlaces k.guards };
 }
 
 impl StoredHand {

@@ -3,6 +3,8 @@ pub mod Ended
 pub mod PlainWalk
 pub mod PlainCheck
 pub mod PlainAnnotate
+pub mod PlainSimulate
 pub mod PlainFormat
+pub mod Commands
 pub mod PlainWords
 pub mod Told

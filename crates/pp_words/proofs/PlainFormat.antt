@@ -9,14 +9,14 @@ use Rattle.pp_words.specs.CommandLine.{asked, format, format_command, asked_of, 
 use Rattle.pp_words.specs.CommandLine.{unless_faulty}
 use Rattle.pp_words.proofs.PlainWalk.{between, fault_cons, held_after, no_more, turn_plain, walked_plain}
 
--- the third of some commands
-third_shape : List Shape → Shape
-third_shape (s ∷ t ∷ u ∷ rest) = u
-third_shape _ = format_command.top
+-- the fourth of some commands
+fourth_shape : List Shape → Shape
+fourth_shape (s ∷ t ∷ u ∷ v ∷ rest) = v
+fourth_shape _ = format_command.top
 
 abbrev format_shape : Shape
-unfolding third_shape
-format_shape = third_shape (built program).subs
+unfolding fourth_shape
+format_shape = fourth_shape (built program).subs
 
 abbrev held_1 : Text → Held
 held_1 a = held_after format_shape 1 a nothing_held
@@ -26,17 +26,17 @@ held_2 a b = held_after format_shape 2 b (held_1 a)
 
 first_step : (a : Text) → is_plain_word a ≡ true
     → walked format_shape.rules [] (between nothing_held 1) a ≡ between (held_1 a) 2
-unfolding third_shape
+unfolding fourth_shape
 first_step a p = walked_plain format_shape.rules nothing_held 1 a p
 
 second_step : (a b : Text) → is_plain_word b ≡ true
     → walked format_shape.rules [] (between (held_1 a) 2) b ≡ between (held_2 a b) 3
-unfolding third_shape
+unfolding fourth_shape
 second_step a b p = walked_plain format_shape.rules (held_1 a) 2 b p
 
 walk_is_right : (a b : Text) → is_plain_word a ≡ true → is_plain_word b ≡ true
     → walk_fault format_shape [] (between nothing_held 1) (a ∷ b ∷ []) ≡ []
-unfolding third_shape
+unfolding fourth_shape
 walk_is_right a b p q =
     fault_cons format_shape (between nothing_held 1) (between (held_1 a) 2) a (b ∷ [])
     (turn_plain format_shape nothing_held 1 a p) (first_step a p)
@@ -56,7 +56,7 @@ after_walk end = or_else (settle_fault format_shape.rules format_shape.args_over
     (check_fault format_shape (finished format_shape.rules end) false))
 
 end_is_right : (a b : Text) → after_walk (held_2 a b) ≡ []
-unfolding clap_on_literals third_shape
+unfolding clap_on_literals fourth_shape
 end_is_right a b = refl
 
 level_is_right : (a b : Text) → is_plain_word a ≡ true → is_plain_word b ≡ true
@@ -71,7 +71,7 @@ the_words name a b = name ∷ codes "format" ∷ a ∷ b ∷ []
 
 top_is_right : (name a b : Text) → fault_of program (the_words name a b)
     ≡ or_else (level_fault format_shape [] nothing_held (a ∷ b ∷ []) false []) []
-unfolding clap_on_literals third_shape
+unfolding clap_on_literals fourth_shape
 top_is_right name a b = refl
 
 command_is : (name a b : Text) → subcommand_of program (the_words name a b)
@@ -80,12 +80,12 @@ command_is : (name a b : Text) → subcommand_of program (the_words name a b)
       finished format_shape.rules
           (walk format_shape.rules [] nothing_held (a ∷ b ∷ [])).held,
     )
-unfolding clap_on_literals third_shape
+unfolding clap_on_literals fourth_shape
 command_is name a b = refl
 
 values_are : (a b : Text) → asked_of (Some (codes "format", finished format_shape.rules (held_2 a b)))
     ≡ Some (format a b)
-unfolding clap_on_literals third_shape
+unfolding clap_on_literals fourth_shape
 values_are a b = refl
 
 pub plain_format : (name a b : Text) → is_plain_word a ≡ true → is_plain_word b ≡ true

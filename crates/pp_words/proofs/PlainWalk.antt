@@ -15,12 +15,12 @@ not_true true h = sym h
 not_true false h = refl
 
 -- a plain word has no hyphen to take off
-no_hyphen : (word : Text) → is_plain_word word ≡ true → strip_byte 45 word ≡ None
+pub no_hyphen : (word : Text) → is_plain_word word ≡ true → strip_byte 45 word ≡ None
 no_hyphen [] h = refl
 no_hyphen (x ∷ xs) h = rw (not_true (x == 45) h) refl
 
 -- a plain word is not `--`
-no_dashes : (word : Text) → is_plain_word word ≡ true → bytes_eq word (45 ∷ 45 ∷ []) ≡ false
+pub no_dashes : (word : Text) → is_plain_word word ≡ true → bytes_eq word (45 ∷ 45 ∷ []) ≡ false
 no_dashes [] h = refl
 no_dashes (x ∷ xs) h = rw (not_true (x == 45) h) refl
 

@@ -3,6 +3,12 @@ use Rattle.pp_words.specs.CommandLine.{PlainWordsAreThePaths}
 use Rattle.pp_words.proofs.PlainAnnotate.{plain_annotate}
 use Rattle.pp_words.proofs.PlainCheck.{plain_check}
 use Rattle.pp_words.proofs.PlainFormat.{plain_format}
+use Rattle.pp_words.proofs.PlainSimulate.{plain_simulate}
 
 pub plain_words : PlainWordsAreThePaths
-plain_words = record { check = plain_check; annotate = plain_annotate; format = plain_format }
+plain_words = record {
+  check = plain_check;
+  annotate = plain_annotate;
+  simulate = plain_simulate;
+  format = plain_format;
+}

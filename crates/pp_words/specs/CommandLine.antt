@@ -1,21 +1,29 @@
 -- The program's command line, as `clap` reads it.
 use Rattle.std.specs.Prelude.{◌≡◌, Bool, true, List, [], ◌∷◌, Option, Some, None, codes, unwrap_or, if◌then◌else◌, not}
-use Rattle.std.specs.Prelude.{◌==◌}
+use Rattle.std.specs.Prelude.{◌==◌, map}
+use Rattle.std.specs.Borrow.{Bor}
+use Rattle.std.specs.List.{All}
 use Rattle.std.specs.Str.{bytes_eq}
-use Rattle.clap.specs.Walk.{Row, Rule, first_of}
+use Rattle.clap.specs.Walk.{Row, Rule, all_of, first_of}
+use Rattle.clap.specs.declared.builder.action.ArgAction.TheVariants.{Append}
 pub use Rattle.clap.specs.Walk.{Text}
 use Rattle.clap.specs.Simple.{App, new_app, new_rule, on_top, subcommand_of, with_rule, with_subcommand}
 use Rattle.clap.specs.Faults.{fault_of}
 use Rattle.clap.specs.Kinds.{Kinds}
 use Rattle.pp_words.specs.declared.check.CheckPaths.{CheckPaths}
 use Rattle.pp_words.specs.declared.annotate.AnnotatePaths.{AnnotatePaths}
+use Rattle.pp_words.specs.declared.simulate.SimulatePaths.{SimulatePaths}
 use Rattle.pp_words.specs.declared.format.FormatPaths.{FormatPaths}
 use Rattle.pp_words.specs.declared.request.Job.{Job}
-use Rattle.pp_words.specs.declared.request.Job.TheVariants.{Check, Annotate, Format}
+use Rattle.pp_words.specs.declared.request.Job.TheVariants.{Check, Annotate, Simulate, Format}
 
 -- a path that has to be given, as a word of its own
 abbrev pub path_rule : Text → Rule
 path_rule id = record (new_rule id) { required = true; value_names = 1 }
+
+-- paths of which one at least has to be given, each as a word of its own
+abbrev pub paths_rule : Text → Rule
+paths_rule id = record (path_rule id) { action = Some Append }
 
 -- `check SETTINGS PLAN CERT`
 abbrev pub check_command : App
@@ -27,6 +35,12 @@ check_command =
 abbrev pub annotate_command : App
 annotate_command =
     with_rule (with_rule (new_app (codes "annotate")) (path_rule (codes "settings"))) (path_rule (codes "plan"))
+
+-- `simulate SETTINGS SCRIPT PLAN...`
+abbrev pub simulate_command : App
+simulate_command =
+    with_rule (with_rule (with_rule (new_app (codes "simulate")) (path_rule (codes "settings")))
+    (path_rule (codes "script"))) (paths_rule (codes "plans"))
 
 -- `format SETTINGS DEVICE`
 abbrev pub format_command : App
@@ -41,16 +55,17 @@ program_alone = on_top (λ shape. record shape {
   arg_required_else_help = true;
 }) (new_app (codes "pinpool"))
 
--- the program with its commands `check`, `annotate` and `format`
+-- the program with its commands `check`, `annotate`, `simulate` and `format`
 abbrev pub program : App
 program =
-    with_subcommand (with_subcommand (with_subcommand program_alone check_command.top) annotate_command.top)
-    format_command.top
+    with_subcommand (with_subcommand (with_subcommand (with_subcommand program_alone check_command.top)
+    annotate_command.top) simulate_command.top) format_command.top
 
 -- what words ask for: a command with the paths of its files
 pub data Asked : Type 0 where
   check : (settings plan certificate : Text) → Asked
   annotate : (settings plan : Text) → Asked
+  simulate : (settings script : Text) → (plans : List Text) → Asked
   format : (settings device : Text) → Asked
 
 -- a check of three files
@@ -61,6 +76,14 @@ asked_check p = check p.settings.now p.plan.now p.certificate.now
 abbrev pub asked_annotate : AnnotatePaths → Asked
 asked_annotate p = annotate p.settings.now p.plan.now
 
+-- the texts behind references
+abbrev pub texts : List (Bor Text) → List Text
+texts = map (λ text. text.now)
+
+-- a script played over a pool with the plans of some files
+abbrev pub asked_simulate : SimulatePaths → Asked
+asked_simulate p = simulate p.settings.now p.script.now (texts p.plans.items)
+
 -- a device written anew under the settings of a file
 abbrev pub asked_format : FormatPaths → Asked
 asked_format p = format p.settings.now p.device.now
@@ -69,11 +92,16 @@ asked_format p = format p.settings.now p.device.now
 abbrev pub asked_by : Job → Asked
 asked_by (Check p) = asked_check p
 asked_by (Annotate p) = asked_annotate p
+asked_by (Simulate p) = asked_simulate p
 asked_by (Format p) = asked_format p
 
 -- the first value of an argument; the arguments of the commands are required, so they have one
 abbrev pub value_among : List Row → Text → Text
 value_among rows id = unwrap_or (first_of id rows) []
+
+-- all values of an argument, of which one at least is required
+abbrev pub values_among : List Row → Text → List Text
+values_among rows id = unwrap_or (all_of id rows) []
 
 -- the values of the three arguments of `check`
 abbrev pub check_among : List Row → Asked
@@ -83,6 +111,11 @@ check_among rows = check (value_among rows (codes "settings")) (value_among rows
 -- the values of the two arguments of `annotate`
 abbrev pub annotate_among : List Row → Asked
 annotate_among rows = annotate (value_among rows (codes "settings")) (value_among rows (codes "plan"))
+
+-- the values of the arguments of `simulate`
+abbrev pub simulate_among : List Row → Asked
+simulate_among rows = simulate (value_among rows (codes "settings")) (value_among rows (codes "script"))
+    (values_among rows (codes "plans"))
 
 -- the values of the two arguments of `format`
 abbrev pub format_among : List Row → Asked
@@ -94,6 +127,7 @@ asked_of None = None
 asked_of (Some command) =
     if bytes_eq command.0 (codes "check") then Some (check_among command.1)
     else if bytes_eq command.0 (codes "annotate") then Some (annotate_among command.1)
+    else if bytes_eq command.0 (codes "simulate") then Some (simulate_among command.1)
     else if bytes_eq command.0 (codes "format") then Some (format_among command.1)
     else None
 
@@ -112,6 +146,10 @@ abbrev pub is_plain_word : Text → Bool
 is_plain_word [] = true
 is_plain_word (first ∷ rest) = not (first == 45)
 
+-- the word is plain
+abbrev pub IsPlainWord : Text → Type 0
+IsPlainWord word = is_plain_word word ≡ true
+
 -- plain words after a command are the paths of its files, in this order
 pub record PlainWordsAreThePaths : Type 0 where
   pub check : (name settings plan certificate : Text) → is_plain_word settings ≡ true → is_plain_word plan ≡ true
@@ -119,5 +157,9 @@ pub record PlainWordsAreThePaths : Type 0 where
       → asked (name ∷ codes "check" ∷ settings ∷ plan ∷ certificate ∷ []) ≡ Some (check settings plan certificate)
   pub annotate : (name settings plan : Text) → is_plain_word settings ≡ true → is_plain_word plan ≡ true
       → asked (name ∷ codes "annotate" ∷ settings ∷ plan ∷ []) ≡ Some (annotate settings plan)
+  pub simulate : (name settings script plan : Text) (plans : List Text) → is_plain_word settings ≡ true
+      → is_plain_word script ≡ true → is_plain_word plan ≡ true → All IsPlainWord plans
+      → asked (name ∷ codes "simulate" ∷ settings ∷ script ∷ plan ∷ plans)
+      ≡ Some (simulate settings script (plan ∷ plans))
   pub format : (name settings device : Text) → is_plain_word settings ≡ true → is_plain_word device ≡ true
       → asked (name ∷ codes "format" ∷ settings ∷ device ∷ []) ≡ Some (format settings device)

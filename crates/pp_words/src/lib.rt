@@ -6,10 +6,12 @@ mod check;
 mod format;
 mod parts;
 mod request;
+mod simulate;
 mod words;
 
 pub use annotate::AnnotatePaths;
 pub use check::CheckPaths;
 pub use format::FormatPaths;
 pub use request::{Job, JobError};
+pub use simulate::SimulatePaths;
 pub use words::job;

@@ -1,11 +1,11 @@
 //! What the commands share: arguments that are paths, and their values.
 
-ghost use Rattle.std.specs.Prelude.{◌≡◌, true, false, codes};
+ghost use Rattle.std.specs.Prelude.{◌≡◌, IfOk, true, false, codes};
 ghost use Rattle.clap.specs.Words.{found_of, rows_of, rule_of};
-ghost use Rattle.pp_words.specs.CommandLine.{path_rule, value_among};
+ghost use Rattle.pp_words.specs.CommandLine.{path_rule, paths_rule, texts, value_among, values_among};
 
-use clap::{Arg, ArgMatches};
-use std::alloc::Global;
+use clap::{Arg, ArgAction, ArgMatches};
+use std::alloc::{AllocError, Global};
 
 /// The argument `SETTINGS`.
 pub fn settings<'a>(alloc: Global) -> Arg<'a>
@@ -44,9 +44,35 @@ pub fn path<'a>(alloc: Global, id: &'a str, name: &'a str, help: &'a str) -> Arg
         .help(help)
 }
 
+/// An argument that is the paths of one file or more.
+pub fn paths<'a>(alloc: Global, id: &'a str, name: &'a str, help: &'a str) -> Arg<'a>
+    ensures rule { rule_of result ≡ paths_rule id.entry.now }
+    ensures local { result.global ≡ false }
+{
+    path(alloc, id, name, help).action(ArgAction::Append)
+}
+
 /// The value of an argument in the matches of a command; no text where it has none, which no required argument has.
 pub fn value_of<'a>(matches: &ArgMatches<'a>, id: &str) -> &'a str
     ensures { result.now ≡ value_among (rows_of (found_of matches.now)) id.now }
 {
     matches.get_str(id).unwrap_or("")
+}
+
+/// The values of an argument in the matches of a command, in the order of the words; none where it has none, which no
+/// required argument has.
+pub fn values_of<'a>(
+    alloc: Global,
+    matches: &ArgMatches<'a>,
+    id: &str,
+) -> Result<Vec<&'a str>, AllocError>
+    ensures { IfOk result (λ values. texts values.items ≡ values_among (rows_of (found_of matches.now)) id.now) }
+{
+    match matches.get_raw(id) {
+        Some(values) => {
+            let copies = values.to_vec(alloc)?;
+            Ok(copies)
+        }
+        None => Ok(Vec::new(alloc)),
+    }
 }

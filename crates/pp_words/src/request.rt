@@ -6,16 +6,19 @@ ghost use Rattle.pp_words.specs.declared.request.JobError.TheVariants.{OutOfMemo
 use crate::annotate::AnnotatePaths;
 use crate::check::CheckPaths;
 use crate::format::FormatPaths;
+use crate::simulate::SimulatePaths;
 use std::alloc::{AllocError, AllocFailed};
 use thiserror::Error;
 
 /// A command with what it works on. The paths are words of the command line.
-#[derive(Clone, Copy, Debug, PartialEq, Eq)]
+#[derive(Debug, Drop)]
 pub enum Job<'a> {
     /// Check a plan's certificate: `check SETTINGS PLAN CERT`.
     Check(CheckPaths<'a>),
     /// Make a plan's certificate: `annotate SETTINGS PLAN`.
     Annotate(AnnotatePaths<'a>),
+    /// Play a script over a pool: `simulate SETTINGS SCRIPT PLAN...`.
+    Simulate(SimulatePaths<'a>),
     /// Write a device anew: `format SETTINGS DEVICE`.
     Format(FormatPaths<'a>),
 }

@@ -10,6 +10,7 @@ use crate::annotate::AnnotatePaths;
 use crate::check::CheckPaths;
 use crate::format::FormatPaths;
 use crate::request::{Job, JobError};
+use crate::simulate::SimulatePaths;
 use clap::error::ErrorKind;
 use clap::{ArgMatches, Command};
 use std::alloc::{AllocError, Global};
@@ -36,7 +37,7 @@ pub fn job<'a, S: AsStr>(alloc: Global, words: &'a [S]) -> Result<Job<'a>, JobEr
     ensures plain { PlainWordsAreThePaths }
 {
     match command(alloc)?.try_get_matches_from(words) {
-        Ok(matches) => match job_of(&matches) {
+        Ok(matches) => match job_of(alloc, &matches)? {
             Some(job) => Ok(job),
             None => Err(JobError::Words(text_of(alloc, &"error: no command is named")?)),
         },
@@ -50,11 +51,14 @@ fn command<'a>(alloc: Global) -> Result<Command<'a>, AllocError>
 {
     let check = CheckPaths::command(alloc)?;
     let annotate = AnnotatePaths::command(alloc)?;
+    let simulate = SimulatePaths::command(alloc)?;
     let format = FormatPaths::command(alloc)?;
-    top(alloc)?
+    let command = top(alloc)?
         .subcommand(check)?
         .subcommand(annotate)?
-        .subcommand(format)
+        .subcommand(simulate)?
+        .subcommand(format)?;
+    Ok(command)
 }
 
 /// The program's command line without its commands.
@@ -64,7 +68,8 @@ fn top<'a>(alloc: Global) -> Result<Command<'a>, AllocError>
     let command = Command::new(alloc, "pinpool")
         .version("0.1.0")
         .about(
-            "Makes and checks the certificates of plans for a page buffer pool, and formats devices.",
+            "Makes and checks the certificates of plans for a page buffer pool, plays scripts over a pool, and formats \
+            devices.",
         )
         .subcommand_required(true)
         .arg_required_else_help(true);
@@ -74,15 +79,17 @@ fn top<'a>(alloc: Global) -> Result<Command<'a>, AllocError>
 }
 
 /// The command that the matches name, with its paths.
-fn job_of<'a>(matches: &ArgMatches<'a>) -> Option<Job<'a>>
-    ensures { option_map asked_by result ≡ asked_of (subcommand_rows_of matches.now) }
+fn job_of<'a>(alloc: Global, matches: &ArgMatches<'a>) -> Result<Option<Job<'a>>, AllocError>
+    ensures { IfOk result (λ job. option_map asked_by job ≡ asked_of (subcommand_rows_of matches.now)) }
 {
-    match matches.subcommand()? {
-        ("check", given) => Some(Job::Check(CheckPaths::among(given))),
-        ("annotate", given) => Some(Job::Annotate(AnnotatePaths::among(given))),
-        ("format", given) => Some(Job::Format(FormatPaths::among(given))),
-        _ => None,
-    }
+    let job = match matches.subcommand() {
+        Some(("check", given)) => Job::Check(CheckPaths::among(given)),
+        Some(("annotate", given)) => Job::Annotate(AnnotatePaths::among(given)),
+        Some(("simulate", given)) => Job::Simulate(SimulatePaths::among(alloc, given)?),
+        Some(("format", given)) => Job::Format(FormatPaths::among(given)),
+        _ => return Ok(None),
+    };
+    Ok(Some(job))
 }
 
 /// Why words with this fault give no job.

@@ -13,7 +13,7 @@ returns-in-Some-clause-ok g c =
     (subcommand_rows_of c.in-Ok.matches) is
     (c.in-Ok.ensures.kinds (ap is_simple_and_free is ∙ program_is_free))
     ((c.in-Ok.ensures.matches (ap is_simple is ∙ program_is_simple)).1)
-    ∙ sym c.job_of.ensures ∙ ap (option_map asked_by) c.in-Some.is
+    ∙ sym c.in_ok-job-in-Ok.ensures ∙ ap (option_map asked_by) c.in-Some.is
 
 pub returns-in-Ok-clause-err : goal.returns-in-Ok-clause-err
 returns-in-Ok-clause-err g c = λ some.
@@ -23,7 +23,7 @@ returns-in-Ok-clause-err g c = λ some.
     (subcommand_rows_of c.in-Ok.matches) is
     (c.in-Ok.ensures.kinds (ap is_simple_and_free is ∙ program_is_free))
     ((c.in-Ok.ensures.matches (ap is_simple is ∙ program_is_simple)).1)
-    ∙ sym c.job_of.ensures ∙ ap (option_map asked_by) c.in-None.is in
+    ∙ sym c.in_ok-job-in-Ok.ensures ∙ ap (option_map asked_by) c.in-None.is in
     absurd (nothing_asked (asked (map g.S.AsStr.text c.args.words.now)) none some)
 
 pub returns-clause-err : goal.returns-clause-err
@@ -38,6 +38,9 @@ returns-clause-err g c = λ some.
 
 pub returns-in_err-command-clause-plain : goal.returns-in_err-command-clause-plain
 returns-in_err-command-clause-plain g c = plain_words
+
+pub returns-in_err-job-in-Ok-clause-plain : goal.returns-in_err-job-in-Ok-clause-plain
+returns-in_err-job-in-Ok-clause-plain g c = plain_words
 
 pub returns-in-Some-clause-plain : goal.returns-in-Some-clause-plain
 returns-in-Some-clause-plain g c = plain_words

@@ -1,0 +1,91 @@
+-- What each call of the vault does for the cue that asks it.
+use Rattle.std.proofs.Common.{◌≡◌, ◌∙◌, ℕ, Bool, Some, List, refl, ap, inl, inr}
+use Rattle.pp_cert.specs.declared.note.Held.{Held}
+use Rattle.pp_plan.specs.declared.mode.Mode.{Mode}
+use Rattle.pp_model.specs.declared.moves.Move.TheVariants as move
+use Rattle.pp_vault.specs.Parts.{Parts}
+use Rattle.pp_vault.specs.StandsFor.{IsKept}
+use Rattle.pp_vault.specs.Events.{Does}
+use Rattle.pp_vault.specs.Fits.{take_call, end_call, finish_call, fix_call, choose_call}
+use Rattle.pp_vault.specs.Fits.{unfix_call, latch_call, unlatch_call, put_back_call, unwind_call}
+use Rattle.pp_vault.specs.Flushes.{flush_call}
+use Rattle.pp_vault.specs.Answers.{read_call, write_call, flushed_call, came_of}
+use Rattle.pp_device.specs.Image.{head_of}
+use Rattle.pp_script.specs.declared.cue.Cue.TheVariants as cue
+use Rattle.pp_play.specs.Doing.{IsDone}
+use Rattle.pp_play.proofs.Done.{is_done, asks_if, asks_guard}
+
+pub same : (v w : ℕ) → Some v ≡ Some w → v ≡ w
+same v w e = cc
+
+module _ (old new : Parts) (kept : IsKept old) (v w : ℕ) (e : v ≡ w) where
+  pub take_done : Does old (take_call v) new → IsDone old (cue.Take w) new
+  take_done does = is_done old new (take_call v) (cue.Take w) does (λ s. asks_if _ (cue.Take w) _ (ap move.Take e)) kept
+
+  pub choose_done : (branch : ℕ) → Does old (choose_call v branch) new → IsDone old (cue.Choose w branch) new
+  choose_done b does =
+      is_done old new (choose_call v b) (cue.Choose w b) does
+      (λ s. asks_if _ (cue.Choose w b) _ (ap (λ x. move.Choose x b) e)) kept
+
+  pub finish_done : Does old (finish_call v) new → IsDone old (cue.Finish w) new
+  finish_done does =
+      is_done old new (finish_call v) (cue.Finish w) does (λ s. asks_if _ (cue.Finish w) _ (ap move.Finish e)) kept
+
+  pub end_done : Does old (end_call v) new → IsDone old (cue.Finish w) new
+  end_done does =
+      is_done old new (end_call v) (cue.Finish w) does (λ s. asks_if _ (cue.Finish w) _ (ap move.Finish e)) kept
+
+  pub fix_done : (page : ℕ) → Does old (fix_call v page) new → IsDone old (cue.Fix w page) new
+  fix_done p does =
+      is_done old new (fix_call v p) (cue.Fix w p) does (λ s. asks_if _ (cue.Fix w p) _ (ap (λ x. move.Fix x p) e)) kept
+
+  pub unfix_done : (of slot page : ℕ) → Does old (unfix_call v of slot page) new → IsDone old (cue.Unfix w) new
+  unfix_done of k p does =
+      is_done old new (unfix_call v of k p) (cue.Unfix w) does (λ s. asks_guard _ _ (cue.Unfix w) _ (ap move.Unfix e)) kept
+
+  pub latch_done : (m : Mode) (of slot page : ℕ) → Does old (latch_call m v of slot page) new
+      → IsDone old (cue.Latch w) new
+  latch_done m of k p does =
+      is_done old new (latch_call m v of k p) (cue.Latch w) does (λ s. asks_guard _ _ (cue.Latch w) _ (ap move.Latch e)) kept
+
+  pub unlatch_done : (h : Held) (of slot page : ℕ) → Does old (unlatch_call h v of slot page) new
+      → IsDone old (cue.Unlatch w) new
+  unlatch_done h of k p does =
+      is_done old new (unlatch_call h v of k p) (cue.Unlatch w) does
+      (λ s. asks_guard _ _ (cue.Unlatch w) _ (ap move.Unlatch e)) kept
+
+  pub put_back_done : (long : Bool) (of slot page : ℕ) → Does old (put_back_call long v of slot page) new
+      → IsDone old (cue.Unlatch w) new
+  put_back_done long of k p does =
+      is_done old new (put_back_call long v of k p) (cue.Unlatch w) does
+      (λ s. asks_guard _ _ (cue.Unlatch w) _ (ap move.Unlatch e)) kept
+
+  pub unwind_done : (long : Bool) (h : Held) (of slot k page : ℕ) → slot ≡ k
+      → Does old (unwind_call long h v of slot page) new → IsDone old (cue.Unwind w k) new
+  unwind_done long h of slot k p same_slot does =
+      is_done old new (unwind_call long h v of slot p) (cue.Unwind w k) does
+      (λ s. asks_if _ (cue.Unwind w k) (move.Unwind v slot)
+      (ap (λ x. move.Unwind x slot) e ∙ ap (move.Unwind w) same_slot)) kept
+
+  pub read_done : (bytes slot page : ℕ) (image : List ℕ) (ok : Bool) → Does old (read_call bytes v slot page image ok) new
+      → IsDone old (cue.Device w) new
+  read_done bytes k p image ok does =
+      is_done old new (read_call bytes v k p image ok) (cue.Device w) does
+      (λ s. asks_if _ (cue.Device w) (move.ReadDone v (came_of ok (head_of image)))
+      (inr (came_of ok (head_of image), ap (λ x. move.ReadDone x (came_of ok (head_of image))) e))) kept
+
+  pub write_done : (bytes slot page victim : ℕ) (image : List ℕ) (ok : Bool)
+      → Does old (write_call bytes v slot page victim image ok) new → IsDone old (cue.Device w) new
+  write_done bytes k p x image ok does =
+      is_done old new (write_call bytes v k p x image ok) (cue.Device w) does
+      (λ s. asks_if _ (cue.Device w) (move.WriteDone v ok) (inl (ok, ap (λ y. move.WriteDone y ok) e))) kept
+
+pub flush_done : (old new : Parts) (page : ℕ) → IsKept old → Does old (flush_call page) new
+    → IsDone old (cue.Flush page) new
+flush_done old new page kept does = is_done old new (flush_call page) (cue.Flush page) does (λ s. refl) kept
+
+pub flushed_done : (old new : Parts) (bytes page : ℕ) (image : List ℕ) (ok : Bool) → IsKept old
+    → Does old (flushed_call bytes page image ok) new → IsDone old cue.FlushDevice new
+flushed_done old new bytes p image ok kept does =
+    is_done old new (flushed_call bytes p image ok) cue.FlushDevice does
+    (λ s. asks_if _ cue.FlushDevice (move.FlushDone ok) (ok, refl)) kept

@@ -1,0 +1,30 @@
+-- Places of guards and of hands.
+use Rattle.std.proofs.Common.{◌≡◌, ◌∙◌, ℕ, ◌<◌, ◌≤◌, Bool, true, false, Option, Some, None, List, length, nat_lt}
+use Rattle.std.proofs.Common.{refl, sym, ap, arith}
+use Rattle.std.specs.Prelude.{is_none, slice_set}
+use Rattle.std.proofs.lemmas.Bool.{false≢true}
+use Rattle.std.proofs.lemmas.Bool.Decides.{nat_tests}
+use Rattle.std.proofs.lemmas.List.{get_or_past}
+use Rattle.std.proofs.lemmas.Grind.{common_steps}
+use Rattle.pp_vault.specs.Holding.{placed, is_free}
+use Rattle.pp_play.specs.Doing.{HasPlace}
+
+-- A place that was emptied is free.
+pub freed : {T : Type 0} (places : List (Option T)) (n : ℕ) → n < length places
+    → is_free (slice_set places n None) n ≡ true
+freed places n low = grind (arith, common_steps)
+
+pub free_here : {T : Type 0} (places : List (Option T)) (n : ℕ) → HasPlace places n → n < 32 → is_free places n ≡ true
+free_here places n h low = grind (arith, common_steps, h.none, h.long)
+
+-- So is one from which something was taken.
+there_by : {T : Type 0} (places : List (Option T)) (n : ℕ) (x : T) (b : Bool) → nat_lt n (length places) ≡ b
+    → placed places n ≡ Some x → n < length places
+there_by places n x true at e = grind (arith, nat_tests)
+there_by places n x false at e =
+    let past : length places ≤ n = grind (arith, nat_tests) in
+    absurd (false≢true (ap is_none (sym e ∙ get_or_past places n None past)))
+
+pub taken_free : {T : Type 0} (places : List (Option T)) (n : ℕ) (x : T) → placed places n ≡ Some x
+    → is_free (slice_set places n None) n ≡ true
+taken_free places n x e = freed places n (there_by places n x (nat_lt n (length places)) refl e)

@@ -1,0 +1,35 @@
+use Rattle.std.specs.Prelude.{is_ok}
+use Rattle.pp_script.specs.declared.cue.Cue.TheVariants as cue
+use Rattle.pp_play.proofs.Done.{done_comes}
+use Rattle.pp_play.proofs.Answering.{got_done, away_done, lost_done, got_free}
+use Rattle.pp_play.proofs.devices.answer.Goals as goal
+
+pub put-requires : goal.put-requires
+put-requires c =
+    got_free c.args.vault.now c.answer.new.self c.requires.kept c.answer.ensures.kept c.args.worker
+    c.args.returned.image (is_ok c.args.returned.answer) c.args.guards.now c.requires.place c.args.returned.duty
+    c.in-Got.session c.in-Got.guard c.requires.of c.in-Got.ensures.answers
+
+pub returns-in-Got-clause-comes : goal.returns-in-Got-clause-comes
+returns-in-Got-clause-comes c =
+    let old = c.args.vault.now in
+    let new = c.answer.new.self in
+    done_comes old new (cue.Device c.args.worker) c.did.result
+    (got_done old new c.requires.kept c.args.worker c.args.returned.image (is_ok c.args.returned.answer)
+    c.args.returned.duty c.in-Got.session c.in-Got.guard c.requires.of c.in-Got.ensures.answers) c.did.ensures
+
+pub returns-in-Away-clause-comes : goal.returns-in-Away-clause-comes
+returns-in-Away-clause-comes c =
+    let old = c.args.vault.now in
+    let new = c.answer.new.self in
+    done_comes old new (cue.Device c.args.worker) c.did-in-Away.result
+    (away_done old new c.requires.kept c.args.worker c.args.returned.image (is_ok c.args.returned.answer)
+    c.args.returned.duty c.in-Away.errand c.requires.of c.in-Away.ensures.answers) c.did-in-Away.ensures
+
+pub returns-in-Lost-clause-comes : goal.returns-in-Lost-clause-comes
+returns-in-Lost-clause-comes c =
+    let old = c.args.vault.now in
+    let new = c.answer.new.self in
+    done_comes old new (cue.Device c.args.worker) c.did-in-Lost.result
+    (lost_done old new c.requires.kept c.args.worker c.args.returned.image (is_ok c.args.returned.answer)
+    c.args.returned.duty c.in-Lost.leaver c.requires.of c.in-Lost.ensures.answers) c.did-in-Lost.ensures

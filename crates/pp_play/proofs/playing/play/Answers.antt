@@ -1,0 +1,35 @@
+use Rattle.std.proofs.Common.{◌≡◌, ◌∙◌, ◌++◌, ◌∷◌, [], length, length-append, refl, arith, rules}
+use Rattle.std.proofs.lemmas.List.{take-append-le}
+use Rattle.pp_play.proofs.Runs.{goes_on, went}
+use Rattle.pp_play.proofs.playing.play.Goals as goal
+
+pub loop-cue-preserved : goal.loop-cue-preserved
+loop-cue-preserved g c =
+    let line = c.play_one-line.result in
+    let before = c.args.lines.now.items in
+    let now = c.loop-cue.lines.items in
+    let pushed : c.push_reserved.new.self.items ≡ now ++ line ∷ [] = search rules in
+    let count = c.loop-cue.invariant.count in
+    record {
+      room =
+          omega (
+            arith,
+            c.loop-cue.invariant.room,
+            c.push_reserved.ensures.len,
+            c.push_reserved.ensures.capacity,
+            c.loop-cue-test.true,
+          );
+      count = rw pushed (omega (arith, length-append now (line ∷ []), count));
+      behind =
+          rw pushed
+          (take-append-le (length before) now (line ∷ []) (omega (arith, count)) ∙ c.loop-cue.invariant.behind);
+      goes =
+          rw pushed
+          (goes_on _ _ _ _ _ _ _ c.loop-cue.cue-index _ _ c.loop-cue-test.true refl c.loop-cue.invariant.goes
+          c.play_one-line.ensures);
+    }
+
+pub returns-clause-plays : goal.returns-clause-plays
+returns-clause-plays g c =
+    went c.args.vault.now c.args.cues.now c.args.lines.now.items c.loop-cue.vault c.loop-cue.lines.items
+    c.loop-cue.cue-index (search rules) c.loop-cue.invariant.goes

@@ -1,0 +1,12 @@
+use Rattle.std.proofs.Common.{◌≡◌, ◌≤◌, ◌+◌, ◌-◌, length, drop, take}
+use Rattle.std.specs.Vec.{vec_len, vec_capacity}
+use Rattle.pp_play.proofs.Runs.{Goes}
+use Rattle.pp_play.proofs.playing.play.Given as goal
+
+abbrev pub invariant-loop-cue : goal.invariant-loop-cue
+invariant-loop-cue g l = record {
+  room : vec_len l.lines + (length l.cues - l.cue-index) ≤ vec_capacity l.lines;
+  count : length l.lines.items ≡ length l.fn.lines.items + l.cue-index;
+  behind : take (length l.fn.lines.items) l.lines.items ≡ l.fn.lines.items;
+  goes : Goes l.fn.vault l.cues l.fn.lines.items l.vault (drop l.cue-index l.cues) l.lines.items;
+}

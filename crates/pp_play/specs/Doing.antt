@@ -1,0 +1,58 @@
+-- What the functions that play one cue tell one another.
+use Rattle.std.specs.Prelude.{◌≡◌, ℕ, Option, None, Some, IsSome, List, length}
+use Rattle.pp_plan.specs.declared.action.Ask.TheVariants as ask
+use Rattle.pp_model.specs.declared.moves.Move.{Move}
+use Rattle.pp_model.specs.Pool.{State}
+use Rattle.pp_model.specs.Moves.{reply_of, next_of}
+use Rattle.pp_core.specs.Queries.{ask_of, errand_of}
+use Rattle.pp_vault.specs.Calls.{refusal_in}
+use Rattle.pp_vault.specs.Parts.{Parts}
+use Rattle.pp_vault.specs.StandsFor.{StandsFor}
+use Rattle.pp_vault.specs.Holding.{placed}
+use Rattle.pp_script.specs.declared.cue.Cue.{Cue}
+use Rattle.pp_script.specs.declared.cue.Cue.TheVariants.{Take, Fix, Device, Unfix, Latch, Unlatch, Choose, Unwind, Finish}
+use Rattle.pp_script.specs.declared.cue.Cue.TheVariants.{Flush, FlushDevice, Write, Look}
+use Rattle.pp_play.specs.Plays.{IsMoveOf}
+
+-- The worker of a cue; none where it is of the flusher.
+abbrev pub cue_worker : Cue → Option ℕ
+cue_worker (Take w) = Some w
+cue_worker (Fix w page) = Some w
+cue_worker (Device w) = Some w
+cue_worker (Unfix w) = Some w
+cue_worker (Latch w) = Some w
+cue_worker (Unlatch w) = Some w
+cue_worker (Choose w branch) = Some w
+cue_worker (Unwind w slot) = Some w
+cue_worker (Finish w) = Some w
+cue_worker (Flush page) = None
+cue_worker FlushDevice = None
+cue_worker (Write w slot byte) = Some w
+cue_worker (Look w slot) = Some w
+
+-- Every state that the old parts stand for is one that the new parts stand for.
+abbrev pub Stays : (old new : Parts) → Type 0
+Stays old new = (s : State) → StandsFor old s → StandsFor new s
+
+-- A move that the cue asks is done, and it is what is told.
+pub record IsDone (old : Parts) (cue : Cue) (new : Parts) : Type 0 where
+  pub some : IsSome new.last
+  pub does : (s : State) → StandsFor old s
+      → (m : Move) × IsMoveOf cue m × (new.last ≡ Some (m, reply_of s m)) × (refusal_in (reply_of s m) ≡ None)
+      × StandsFor new (next_of s m)
+
+-- Nothing is in the place of this slot, one of 32.
+pub record HasPlace {T : Type 0} (places : List (Option T)) (slot : ℕ) : Type 0 where
+  pub none : placed places slot ≡ None
+  pub long : length places ≡ 32
+
+-- The slot that the worker's plan asks a fix into has its place.
+abbrev pub FixHasPlace : {T : Type 0} → Parts → (w : ℕ) → List (Option T) → Type 0
+FixHasPlace v w places =
+    (s : State) → StandsFor v s → (slot region : ℕ) → ask_of s w ≡ Some (ask.Fix slot region) → HasPlace places slot
+
+-- The slot of the worker's errand has its place.
+abbrev pub ErrandHasPlace : {T : Type 0} → Parts → (w : ℕ) → List (Option T) → Type 0
+ErrandHasPlace v w places =
+    (s : State) → StandsFor v s → (slot page : ℕ) (victim : Option ℕ) → errand_of s w ≡ Some (slot, page, victim)
+    → HasPlace places slot

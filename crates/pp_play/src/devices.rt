@@ -1,0 +1,166 @@
+//! Errands: what a device is asked for a worker or for the flusher, and its answer.
+
+ghost use Rattle.std.specs.Prelude.{◌≡◌, true, None, Some};
+ghost use Rattle.pp_vault.specs.Stages.{stage_worker};
+ghost use Rattle.pp_vault.specs.Duties.{duty_worker};
+ghost use Rattle.pp_vault.specs.StandsFor.{IsKept};
+ghost use Rattle.pp_script.specs.declared.cue.Cue.TheVariants as cue;
+ghost use Rattle.pp_play.specs.Plays.{ComesTo};
+ghost use Rattle.pp_play.specs.Doing.{ErrandHasPlace};
+
+use crate::guards::put;
+use crate::line::{Line, did, off_plan};
+use pp_script::Cue;
+use pp_vault::{
+    Answered, Cause, Delay, Device, Flushing, Guard, Guards, Hand, Hands, Refusal, Returned, Stage,
+    Vault,
+};
+
+/// Whether the page of the worker's errand would find the place of its slot free.
+fn errand_has_place(vault: &Vault, guards: &Guards, worker: u32) -> bool
+    ensures { result ≡ true → ErrandHasPlace vault.now worker guards.now }
+{
+    match vault.errand(worker) {
+        Some((slot, _, _)) => guards.held(slot).is_none(),
+        None => true,
+    }
+}
+
+/// The device carries the worker's errand out, where it wasn't yet, and the answer goes to the vault.
+pub(crate) fn work<D: Device>(
+    vault: &mut Vault,
+    hand: Hand,
+    device: &mut D,
+    worker: u32,
+) -> (Hand, Line)
+    requires { stage_worker hand.stage ≡ Some worker }
+    ensures of { stage_worker result.0.stage ≡ Some worker }
+    ensures comes { ComesTo vault.old (cue.Device worker) result.1 vault.new }
+{
+    vault.known();
+    let cue = Cue::Device { worker };
+    let Hand { stage, mut guards } = hand;
+    let has_place = errand_has_place(vault, &guards, worker);
+    match stage {
+        Stage::Out(errand) => {
+            if !has_place {
+                let stage = Stage::Out(errand);
+                return (
+                    Hand { stage, guards },
+                    Line::Refused(cue, Refusal::Stranger),
+                );
+            }
+            let returned = errand.carry_out(device);
+            let (stage, line) = answer(vault, returned, &mut guards, worker);
+            (Hand { stage, guards }, line)
+        }
+        Stage::Back(returned) => {
+            if !has_place {
+                let stage = Stage::Back(returned);
+                return (
+                    Hand { stage, guards },
+                    Line::Refused(cue, Refusal::Stranger),
+                );
+            }
+            let (stage, line) = answer(vault, returned, &mut guards, worker);
+            (Hand { stage, guards }, line)
+        }
+        stage => (Hand { stage, guards }, off_plan(cue, Cause::NoErrand)),
+    }
+}
+
+/// The answer to an errand of a worker; the place of its slot is free.
+fn answer(vault: &mut Vault, returned: Returned, guards: &mut Guards, worker: u32) -> (Stage, Line)
+    requires kept { IsKept vault.old }
+    requires of { duty_worker returned.duty ≡ Some worker }
+    requires place { ErrandHasPlace vault.old worker guards.old }
+    ensures of { stage_worker result.0 ≡ Some worker }
+    ensures comes { ComesTo vault.old (cue.Device worker) result.1 vault.new }
+{
+    match vault.answer(returned) {
+        Answered::Got(session, guard) => {
+            put(guards, Guard::Pin(guard));
+            (Stage::In(session), did(vault))
+        }
+        Answered::Away(errand) => (Stage::Out(errand), did(vault)),
+        Answered::Lost(leaver) => (Stage::Leaving(leaver), did(vault)),
+        Answered::No(returned, refusal) => {
+            (
+                Stage::Back(returned),
+                Line::Refused(Cue::Device { worker }, refusal),
+            )
+        }
+        Answered::Flushed(_) => unreachable!(),
+    }
+}
+
+/// Puts what the flusher has at hand into its place, which is free.
+fn put_flushing(hands: &mut Hands, flushing: Flushing)
+    requires { hands.old.flushing ≡ None }
+{
+    match hands.flushing.replace(flushing) {
+        None => {}
+        Some(_) => unreachable!(),
+    }
+}
+
+/// The flusher begins to write a changed page.
+pub(crate) fn flush(vault: &mut Vault, hands: &mut Hands, page: u32) -> Line
+    ensures { ComesTo vault.old (cue.Flush page) result vault.new }
+{
+    vault.known();
+    let cue = Cue::Flush { page };
+    if hands.flushing.is_some() {
+        return Line::Refused(cue, Refusal::NotNow(Delay::FlushBusy));
+    }
+    match vault.flush(page) {
+        Ok(errand) => {
+            put_flushing(hands, Flushing::Out(errand));
+            did(vault)
+        }
+        Err(refusal) => Line::Refused(cue, refusal),
+    }
+}
+
+/// The device carries the flush out, where it wasn't yet, and the answer goes to the vault.
+///
+/// An errand of a worker that was put into the flusher's place stays there: it is a stranger.
+pub(crate) fn flush_work<D: Device>(vault: &mut Vault, hands: &mut Hands, device: &mut D) -> Line
+    ensures { ComesTo vault.old cue.FlushDevice result vault.new }
+{
+    vault.known();
+    match hands.flushing.take() {
+        None => off_plan(Cue::FlushDevice, Cause::NoErrand),
+        Some(Flushing::Out(errand)) => {
+            if errand.worker().is_some() {
+                put_flushing(hands, Flushing::Out(errand));
+                return Line::Refused(Cue::FlushDevice, Refusal::Stranger);
+            }
+            flushed(vault, hands, errand.carry_out(device))
+        }
+        Some(Flushing::Back(returned)) => {
+            if returned.worker().is_some() {
+                put_flushing(hands, Flushing::Back(returned));
+                return Line::Refused(Cue::FlushDevice, Refusal::Stranger);
+            }
+            flushed(vault, hands, returned)
+        }
+    }
+}
+
+/// The answer to a flush.
+fn flushed(vault: &mut Vault, hands: &mut Hands, returned: Returned) -> Line
+    requires kept { IsKept vault.old }
+    requires flush { duty_worker returned.duty ≡ None }
+    requires free { hands.old.flushing ≡ None }
+    ensures { ComesTo vault.old cue.FlushDevice result vault.new }
+{
+    match vault.answer(returned) {
+        Answered::Flushed(_) => did(vault),
+        Answered::No(returned, refusal) => {
+            put_flushing(hands, Flushing::Back(returned));
+            Line::Refused(Cue::FlushDevice, refusal)
+        }
+        _ => unreachable!(),
+    }
+}

@@ -1,0 +1,347 @@
+//! Fix, unfix, latch, unlatch and unwind: cues of a worker that move the guards of its slots.
+
+ghost use Rattle.std.specs.Prelude.{◌≡◌, true, None, Some, IfNone, IfSome};
+ghost use Rattle.pp_plan.specs.declared.action.Ask.TheVariants as ask;
+ghost use Rattle.pp_vault.specs.Holding.{slot_by, is_free};
+ghost use Rattle.pp_vault.specs.Stages.{stage_worker};
+ghost use Rattle.pp_vault.specs.StandsFor.{IsKept};
+ghost use Rattle.pp_script.specs.declared.cue.Cue.TheVariants as cue;
+ghost use Rattle.pp_play.specs.Plays.{ComesTo};
+ghost use Rattle.pp_play.specs.Doing.{FixHasPlace, IsDone, Stays};
+
+use crate::line::{Line, did, off_plan};
+use pp_plan::Mode;
+use pp_script::Cue;
+use pp_vault::{Ask, Cause, Fixed, Guard, Guards, Hand, PinGuard, Refusal, Session, Stage, Vault};
+
+/// Whether the page that the worker's plan asks to fix would find the place of its slot free.
+fn fix_has_place(vault: &Vault, guards: &Guards, worker: u32) -> bool
+    ensures { result ≡ true → FixHasPlace vault.now worker guards.now }
+{
+    match vault.ask(worker) {
+        Some(Ask::Fix { slot, .. }) => guards.held(u32::from(slot)).is_none(),
+        _ => true,
+    }
+}
+
+/// Puts a guard into its place, which is free.
+pub(crate) fn put(guards: &mut Guards, guard: Guard)
+    requires { is_free guards.old (slot_by guard) ≡ true }
+{
+    match guards.put(guard) {
+        Ok(()) => {}
+        Err(_) => unreachable!(),
+    }
+}
+
+/// A worker fixes a page into the slot that its plan names.
+pub(crate) fn fix(vault: &mut Vault, hand: Hand, worker: u32, page: u32) -> (Hand, Line)
+    requires { stage_worker hand.stage ≡ Some worker }
+    ensures of { stage_worker result.0.stage ≡ Some worker }
+    ensures comes { ComesTo vault.old (cue.Fix worker page) result.1 vault.new }
+{
+    vault.known();
+    let cue = Cue::Fix { worker, page };
+    let Hand { stage, mut guards } = hand;
+    match stage {
+        Stage::In(session) => {
+            if !fix_has_place(vault, &guards, worker) {
+                let stage = Stage::In(session);
+                return (
+                    Hand { stage, guards },
+                    Line::Refused(cue, Refusal::Stranger),
+                );
+            }
+            let (stage, line) = fix_in(vault, session, &mut guards, worker, page);
+            (Hand { stage, guards }, line)
+        }
+        stage => (Hand { stage, guards }, off_plan(cue, Cause::NotActing)),
+    }
+}
+
+/// The fix of a worker that acts; the place of the slot is free.
+fn fix_in(
+    vault: &mut Vault,
+    session: Session,
+    guards: &mut Guards,
+    worker: u32,
+    page: u32,
+) -> (Stage, Line)
+    requires kept { IsKept vault.old }
+    requires of { session.worker ≡ worker }
+    requires place { FixHasPlace vault.old worker guards.old }
+    ensures of { stage_worker result.0 ≡ Some worker }
+    ensures comes { ComesTo vault.old (cue.Fix worker page) result.1 vault.new }
+{
+    match vault.fix(session, page) {
+        Fixed::Got(session, guard) => {
+            put(guards, Guard::Pin(guard));
+            (Stage::In(session), did(vault))
+        }
+        Fixed::Away(errand) => (Stage::Out(errand), did(vault)),
+        Fixed::No(session, refusal) => {
+            (
+                Stage::In(session),
+                Line::Refused(Cue::Fix { worker, page }, refusal),
+            )
+        }
+    }
+}
+
+/// A worker gives the page of the slot back that its plan names.
+pub(crate) fn unfix(vault: &mut Vault, hand: Hand, worker: u32) -> (Hand, Line)
+    requires { stage_worker hand.stage ≡ Some worker }
+    ensures of { stage_worker result.0.stage ≡ Some worker }
+    ensures comes { ComesTo vault.old (cue.Unfix worker) result.1 vault.new }
+{
+    vault.known();
+    let cue = Cue::Unfix { worker };
+    let Hand { stage, mut guards } = hand;
+    match stage {
+        Stage::In(session) => match session.ask() {
+            Ask::Unfix { slot } => {
+                let (stage, line) = unfix_slot(vault, session, &mut guards, slot, worker);
+                (Hand { stage, guards }, line)
+            }
+            _ => (
+                Hand {
+                    stage: Stage::In(session),
+                    guards,
+                },
+                off_plan(cue, Cause::NotAsked),
+            ),
+        },
+        stage => (Hand { stage, guards }, off_plan(cue, Cause::NotActing)),
+    }
+}
+
+/// The unfix of a slot, which the plan asks.
+fn unfix_slot(
+    vault: &mut Vault,
+    session: Session,
+    guards: &mut Guards,
+    slot: u8,
+    worker: u32,
+) -> (Stage, Line)
+    requires kept { IsKept vault.old }
+    requires of { session.worker ≡ worker }
+    ensures of { stage_worker result.0 ≡ Some worker }
+    ensures comes { ComesTo vault.old (cue.Unfix worker) result.1 vault.new }
+{
+    let cue = Cue::Unfix { worker };
+    match guards.take(u32::from(slot)) {
+        Some(Guard::Pin(guard)) => match vault.unfix(session, guard) {
+            Ok(session) => (Stage::In(session), did(vault)),
+            Err((session, guard, refusal)) => {
+                put(guards, Guard::Pin(guard));
+                (Stage::In(session), Line::Refused(cue, refusal))
+            }
+        },
+        Some(guard) => {
+            put(guards, guard);
+            (Stage::In(session), Line::Refused(cue, Refusal::Stranger))
+        }
+        None => (Stage::In(session), Line::Refused(cue, Refusal::Stranger)),
+    }
+}
+
+/// A worker latches the page of the slot that its plan names, in the mode that it names.
+pub(crate) fn latch(vault: &mut Vault, hand: Hand, worker: u32) -> (Hand, Line)
+    requires { stage_worker hand.stage ≡ Some worker }
+    ensures of { stage_worker result.0.stage ≡ Some worker }
+    ensures comes { ComesTo vault.old (cue.Latch worker) result.1 vault.new }
+{
+    vault.known();
+    let cue = Cue::Latch { worker };
+    let Hand { stage, mut guards } = hand;
+    match stage {
+        Stage::In(session) => match session.ask() {
+            Ask::Latch { slot, mode } => {
+                let (stage, line) = latch_slot(vault, session, &mut guards, slot, mode, worker);
+                (Hand { stage, guards }, line)
+            }
+            _ => (
+                Hand {
+                    stage: Stage::In(session),
+                    guards,
+                },
+                off_plan(cue, Cause::NotAsked),
+            ),
+        },
+        stage => (Hand { stage, guards }, off_plan(cue, Cause::NotActing)),
+    }
+}
+
+/// The latch of a slot, which the plan asks.
+fn latch_slot(
+    vault: &mut Vault,
+    session: Session,
+    guards: &mut Guards,
+    slot: u8,
+    mode: Mode,
+    worker: u32,
+) -> (Stage, Line)
+    requires kept { IsKept vault.old }
+    requires of { session.worker ≡ worker }
+    ensures of { stage_worker result.0 ≡ Some worker }
+    ensures comes { ComesTo vault.old (cue.Latch worker) result.1 vault.new }
+{
+    let cue = Cue::Latch { worker };
+    match guards.take(u32::from(slot)) {
+        Some(Guard::Pin(guard)) => {
+            let (session, guard, refusal) = latched(vault, session, guard, mode);
+            put(guards, guard);
+            match refusal {
+                None => (Stage::In(session), did(vault)),
+                Some(refusal) => (Stage::In(session), Line::Refused(cue, refusal)),
+            }
+        }
+        Some(guard) => {
+            put(guards, guard);
+            (Stage::In(session), Line::Refused(cue, Refusal::Stranger))
+        }
+        None => (Stage::In(session), Line::Refused(cue, Refusal::Stranger)),
+    }
+}
+
+/// The call of the vault for this mode: the tokens that come back, and why it was refused, if it was.
+fn latched(
+    vault: &mut Vault,
+    session: Session,
+    guard: PinGuard,
+    mode: Mode,
+) -> (Session, Guard, Option<Refusal>)
+    requires { IsKept vault.old }
+    ensures of { result.0.worker ≡ session.worker }
+    ensures slot { slot_by result.1 ≡ guard.slot }
+    ensures done { IfNone result.2 (IsDone vault.old (cue.Latch session.worker) vault.new) }
+    ensures refused { IfSome result.2 (λ _. Stays vault.old vault.new) }
+{
+    match mode {
+        Mode::S => match vault.latch_shared(session, guard) {
+            Ok((session, guard)) => (session, Guard::Read(guard), None),
+            Err((session, guard, refusal)) => (session, Guard::Pin(guard), Some(refusal)),
+        },
+        Mode::X => match vault.latch_exclusive(session, guard) {
+            Ok((session, guard)) => (session, Guard::Write(guard), None),
+            Err((session, guard, refusal)) => (session, Guard::Pin(guard), Some(refusal)),
+        },
+    }
+}
+
+/// A worker takes the latch off the page of the slot that its plan names.
+pub(crate) fn unlatch(vault: &mut Vault, hand: Hand, worker: u32) -> (Hand, Line)
+    requires { stage_worker hand.stage ≡ Some worker }
+    ensures of { stage_worker result.0.stage ≡ Some worker }
+    ensures comes { ComesTo vault.old (cue.Unlatch worker) result.1 vault.new }
+{
+    vault.known();
+    let cue = Cue::Unlatch { worker };
+    let Hand { stage, mut guards } = hand;
+    match stage {
+        Stage::In(session) => match session.ask() {
+            Ask::Unlatch { slot } => {
+                let (stage, line) = unlatch_slot(vault, session, &mut guards, slot, worker);
+                (Hand { stage, guards }, line)
+            }
+            _ => (
+                Hand {
+                    stage: Stage::In(session),
+                    guards,
+                },
+                off_plan(cue, Cause::NotAsked),
+            ),
+        },
+        stage => (Hand { stage, guards }, off_plan(cue, Cause::NotActing)),
+    }
+}
+
+/// The unlatch of a slot, which the plan asks.
+fn unlatch_slot(
+    vault: &mut Vault,
+    session: Session,
+    guards: &mut Guards,
+    slot: u8,
+    worker: u32,
+) -> (Stage, Line)
+    requires kept { IsKept vault.old }
+    requires of { session.worker ≡ worker }
+    ensures of { stage_worker result.0 ≡ Some worker }
+    ensures comes { ComesTo vault.old (cue.Unlatch worker) result.1 vault.new }
+{
+    let cue = Cue::Unlatch { worker };
+    match guards.take(u32::from(slot)) {
+        Some(guard) => {
+            let (session, guard, refusal) = unlatched(vault, session, guard);
+            put(guards, guard);
+            match refusal {
+                None => (Stage::In(session), did(vault)),
+                Some(refusal) => (Stage::In(session), Line::Refused(cue, refusal)),
+            }
+        }
+        None => (Stage::In(session), Line::Refused(cue, Refusal::Stranger)),
+    }
+}
+
+/// The call of the vault for this guard: the tokens that come back, and why it was refused, if it was.
+fn unlatched(vault: &mut Vault, session: Session, guard: Guard) -> (Session, Guard, Option<Refusal>)
+    requires { IsKept vault.old }
+    ensures of { result.0.worker ≡ session.worker }
+    ensures slot { slot_by result.1 ≡ slot_by guard }
+    ensures done { IfNone result.2 (IsDone vault.old (cue.Unlatch session.worker) vault.new) }
+    ensures refused { IfSome result.2 (λ _. Stays vault.old vault.new) }
+{
+    match guard {
+        Guard::Pin(guard) => (session, Guard::Pin(guard), Some(Refusal::Stranger)),
+        Guard::Read(guard) => match vault.unlatch_shared(session, guard) {
+            Ok((session, guard)) => (session, Guard::Pin(guard), None),
+            Err((session, guard, refusal)) => (session, Guard::Read(guard), Some(refusal)),
+        },
+        Guard::Write(guard) => match vault.unlatch_exclusive(session, guard) {
+            Ok((session, guard)) => (session, Guard::Pin(guard), None),
+            Err((session, guard, refusal)) => (session, Guard::Write(guard), Some(refusal)),
+        },
+    }
+}
+
+/// A worker that leaves its plan gives a slot back, latch and pin together.
+pub(crate) fn unwind(vault: &mut Vault, hand: Hand, worker: u32, slot: u32) -> (Hand, Line)
+    requires { stage_worker hand.stage ≡ Some worker }
+    ensures of { stage_worker result.0.stage ≡ Some worker }
+    ensures comes { ComesTo vault.old (cue.Unwind worker slot) result.1 vault.new }
+{
+    vault.known();
+    let cue = Cue::Unwind { worker, slot };
+    let Hand { stage, mut guards } = hand;
+    match stage {
+        Stage::Leaving(leaver) => match guards.take(slot) {
+            Some(guard) => match vault.give_back(leaver, guard) {
+                Ok(leaver) => (
+                    Hand {
+                        stage: Stage::Leaving(leaver),
+                        guards,
+                    },
+                    did(vault),
+                ),
+                Err((leaver, guard, refusal)) => {
+                    put(&mut guards, guard);
+                    (
+                        Hand {
+                            stage: Stage::Leaving(leaver),
+                            guards,
+                        },
+                        Line::Refused(cue, refusal),
+                    )
+                }
+            },
+            None => (
+                Hand {
+                    stage: Stage::Leaving(leaver),
+                    guards,
+                },
+                off_plan(cue, Cause::NotHeld),
+            ),
+        },
+        stage => (Hand { stage, guards }, off_plan(cue, Cause::NotLeaving)),
+    }
+}

@@ -1,0 +1,66 @@
+//! What a cue comes to, and how it is printed.
+
+ghost use Rattle.std.specs.Prelude.{◌≡◌, Some, IsSome};
+ghost use Rattle.pp_model.specs.declared.moves.Move.{Move};
+ghost use Rattle.pp_model.specs.declared.reply.Reply.{Reply};
+ghost use Rattle.pp_vault.specs.declared.refusal.Refusal.TheVariants.{OffPlan};
+
+use pp_script::Cue;
+use pp_vault::{Cause, Move, Refusal, Reply, Vault};
+use std::fmt;
+
+/// What a cue comes to.
+#[derive(Clone, Copy, Debug, PartialEq, Eq)]
+pub enum Line {
+    /// It is done: the move, and the reply.
+    Did(Move, Reply),
+    /// It is refused, and nothing has changed.
+    Refused(Cue, Refusal),
+    /// The byte is written.
+    Wrote,
+    /// The byte that was looked at.
+    Looked(u8),
+    /// The worker doesn't have the latch on its slot that is wanted here.
+    NoLatch,
+}
+
+/// A cue with its line, as in `fix 0 16 = mustread 1`.
+#[derive(Clone, Copy, Debug, PartialEq, Eq)]
+pub struct Printed {
+    pub cue: Cue,
+    pub line: Line,
+}
+
+impl fmt::Display for Printed {
+    ghost use Rattle.pp_play.specs.Words.{printed_words};
+
+    ghost output = { λ p. Some (printed_words p.cue p.line) };
+
+    fn fmt<W: fmt::Write>(&self, f: &mut fmt::Formatter<W>) -> fmt::Result {
+        match self.line {
+            Line::Did(asked, reply) => write!(f, "{asked} = {reply}"),
+            Line::Refused(cue, refusal) => write!(f, "{cue} = {refusal}"),
+            Line::Wrote => write!(f, "{} = ok", self.cue),
+            Line::Looked(byte) => write!(f, "{} = {byte}", self.cue),
+            Line::NoLatch => write!(f, "{} = offplan nolatch", self.cue),
+        }
+    }
+}
+
+/// The line of a call of the vault that was just done.
+pub(crate) fn did(vault: &Vault) -> Line
+    requires { IsSome vault.now.last }
+    ensures { (m : Move) (r : Reply) → vault.now.last ≡ Some (m, r) → result ≡ Line.Did m r }
+{
+    match vault.done() {
+        Some((asked, reply)) => Line::Did(asked, reply),
+        None => unreachable!(),
+    }
+}
+
+/// The line of a cue that may not be asked here.
+pub(crate) fn off_plan(cue: Cue, cause: Cause) -> Line
+    ensures { result ≡ Line.Refused cue (OffPlan cause) }
+{
+    Line::Refused(cue, Refusal::OffPlan(cause))
+}

@@ -1,0 +1,154 @@
+//! A script of cues, one after the other.
+
+ghost use Rattle.std.specs.Prelude.{◌≡◌, ◌+◌, Some, None, length, OnOk, OnErr, take};
+ghost use Rattle.pp_vault.specs.StandsFor.{IsKept};
+ghost use Rattle.pp_model.specs.Pool.{State};
+ghost use Rattle.pp_vault.specs.Stages.{stage_worker};
+ghost use Rattle.pp_play.specs.Plays.{Tells, ComesTo, AllComeTo};
+ghost use Rattle.pp_play.specs.Doing.{cue_worker};
+ghost use Rattle.pp_vault.specs.Headline.{HeadlineHolds};
+
+use crate::line::{Line, off_plan};
+use crate::{bytes, devices, guards, workers};
+use pp_script::Cue;
+use pp_vault::{Cause, Device, Hand, Hands, Vault};
+use std::alloc::{AllocError, Global};
+
+/// Why a script isn't played.
+#[derive(Clone, Copy, Debug, PartialEq, Eq, thiserror::Error)]
+pub enum PlayError {
+    /// Memory ran out before the first cue.
+    #[error("out of memory")]
+    OutOfMemory,
+}
+
+impl From<AllocError> for PlayError {
+    fn from(_: AllocError) -> PlayError {
+        PlayError::OutOfMemory
+    }
+}
+
+/// Plays the cues in turn, each with the tokens that are in the hands, and adds their lines to those that are there. A
+/// cue that is refused changes nothing, and doesn't end the script.
+///
+/// Room for all lines, and for one page, is got first.
+///
+/// # Errors
+///
+/// Only where that room can't be had. Then nothing is played.
+pub fn play<D: Device>(
+    alloc: Global,
+    vault: &mut Vault,
+    hands: &mut Hands,
+    device: &mut D,
+    cues: &[Cue],
+    lines: &mut Vec<Line>,
+) -> Result<(), PlayError>
+    ensures plays { OnOk result (AllComeTo vault.old cues.now lines.old.items lines.new.items vault.new) }
+    ensures length { OnOk result (length lines.new.items ≡ length lines.old.items + length cues.now) }
+    ensures behind { take (length lines.old.items) lines.new.items ≡ lines.old.items }
+    ensures err { OnErr result ((vault.new ≡ vault.old) × (hands.new ≡ hands.old) × (device.new ≡ device.old)
+        × (lines.new.items ≡ lines.old.items)) }
+    ensures kept { IsKept vault.new }
+    ensures headline { HeadlineHolds vault.new }
+{
+    vault.known();
+    let mut buffer = vec![in alloc; 0; vault.page_bytes()]?;
+    lines.reserve(cues.len())?;
+    for cue in cues {
+        let line = play_one(vault, hands, device, &mut buffer, *cue);
+        lines.push_reserved(line);
+    }
+    vault.known();
+    Ok(())
+}
+
+/// Plays one cue. The buffer is as long as a page.
+fn play_one<D: Device>(
+    vault: &mut Vault,
+    hands: &mut Hands,
+    device: &mut D,
+    buffer: &mut [u8],
+    cue: Cue,
+) -> Line
+    ensures { ComesTo vault.old cue result vault.new }
+{
+    match cue {
+        Cue::Flush { page } => devices::flush(vault, hands, page),
+        Cue::FlushDevice => devices::flush_work(vault, hands, device),
+        Cue::Take { worker }
+        | Cue::Fix { worker, .. }
+        | Cue::Device { worker }
+        | Cue::Unfix { worker }
+        | Cue::Latch { worker }
+        | Cue::Unlatch { worker }
+        | Cue::Choose { worker, .. }
+        | Cue::Unwind { worker, .. }
+        | Cue::Finish { worker }
+        | Cue::Write { worker, .. }
+        | Cue::Look { worker, .. } => by_worker(vault, hands, device, buffer, cue, worker),
+    }
+}
+
+/// Plays a cue of a worker, with the tokens in its hand.
+fn by_worker<D: Device>(
+    vault: &mut Vault,
+    hands: &mut Hands,
+    device: &mut D,
+    buffer: &mut [u8],
+    cue: Cue,
+    worker: u32,
+) -> Line
+    requires { cue_worker cue ≡ Some worker }
+    ensures { ComesTo vault.old cue result vault.new }
+{
+    let Some(hand) = hands.part(worker) else {
+        return without_hand(cue);
+    };
+    let (hand, line) = with_hand(vault, hand, device, buffer, cue, worker);
+    match hands.join(hand) {
+        Ok(()) => line,
+        Err(_) => unreachable!(),
+    }
+}
+
+/// The line of a worker's cue where there is no hand of that worker.
+fn without_hand(cue: Cue) -> Line
+    ensures { (s : State) → Tells s cue result s }
+{
+    match cue {
+        Cue::Device { .. } => off_plan(cue, Cause::NoErrand),
+        Cue::Write { .. } | Cue::Look { .. } => Line::NoLatch,
+        _ => off_plan(cue, Cause::NoWorker),
+    }
+}
+
+/// Plays a cue of the worker that this hand is of.
+fn with_hand<D: Device>(
+    vault: &mut Vault,
+    hand: Hand,
+    device: &mut D,
+    buffer: &mut [u8],
+    cue: Cue,
+    worker: u32,
+) -> (Hand, Line)
+    requires cue { cue_worker cue ≡ Some worker }
+    requires hand { stage_worker hand.stage ≡ Some worker }
+    ensures of { stage_worker result.0.stage ≡ Some worker }
+    ensures comes { ComesTo vault.old cue result.1 vault.new }
+{
+    match cue {
+        Cue::Take { .. } => workers::take(vault, hand, worker),
+        Cue::Fix { page, .. } => guards::fix(vault, hand, worker, page),
+        Cue::Device { .. } => devices::work(vault, hand, device, worker),
+        Cue::Unfix { .. } => guards::unfix(vault, hand, worker),
+        Cue::Latch { .. } => guards::latch(vault, hand, worker),
+        Cue::Unlatch { .. } => guards::unlatch(vault, hand, worker),
+        Cue::Choose { branch, .. } => workers::choose(vault, hand, worker, branch),
+        Cue::Unwind { slot, .. } => guards::unwind(vault, hand, worker, slot),
+        Cue::Finish { .. } => workers::finish(vault, hand, worker),
+        Cue::Write { slot, byte, .. } => bytes::write(hand, slot, byte),
+        Cue::Look { slot, .. } => bytes::look(vault, hand, buffer, slot),
+        Cue::Flush { .. } | Cue::FlushDevice => unreachable!(),
+    }
+}

@@ -1,0 +1,124 @@
+//! Take, choose and finish: cues of a worker that need no page.
+
+ghost use Rattle.std.specs.Prelude.{◌≡◌, Some};
+ghost use Rattle.pp_vault.specs.Stages.{stage_worker};
+ghost use Rattle.pp_script.specs.declared.cue.Cue.TheVariants as cue;
+ghost use Rattle.pp_play.specs.Plays.{ComesTo};
+
+use crate::line::{Line, did, off_plan};
+use pp_script::Cue;
+use pp_vault::{Cause, Hand, Stage, Vault};
+
+/// An idle worker takes the first plan that waits.
+pub(crate) fn take(vault: &mut Vault, hand: Hand, worker: u32) -> (Hand, Line)
+    requires { stage_worker hand.stage ≡ Some worker }
+    ensures of { stage_worker result.0.stage ≡ Some worker }
+    ensures comes { ComesTo vault.old (cue.Take worker) result.1 vault.new }
+{
+    vault.known();
+    let cue = Cue::Take { worker };
+    let Hand { stage, guards } = hand;
+    match stage {
+        Stage::Idle(chair) => match vault.take(chair) {
+            Ok(session) => (
+                Hand {
+                    stage: Stage::In(session),
+                    guards,
+                },
+                did(vault),
+            ),
+            Err((chair, refusal)) => {
+                (
+                    Hand {
+                        stage: Stage::Idle(chair),
+                        guards,
+                    },
+                    Line::Refused(cue, refusal),
+                )
+            }
+        },
+        stage => (Hand { stage, guards }, off_plan(cue, Cause::NotIdle)),
+    }
+}
+
+/// A worker goes on with this branch of a choice.
+pub(crate) fn choose(vault: &mut Vault, hand: Hand, worker: u32, branch: u32) -> (Hand, Line)
+    requires { stage_worker hand.stage ≡ Some worker }
+    ensures of { stage_worker result.0.stage ≡ Some worker }
+    ensures comes { ComesTo vault.old (cue.Choose worker branch) result.1 vault.new }
+{
+    vault.known();
+    let cue = Cue::Choose { worker, branch };
+    let Hand { stage, guards } = hand;
+    match stage {
+        Stage::In(session) => match vault.choose(session, branch) {
+            Ok(session) => (
+                Hand {
+                    stage: Stage::In(session),
+                    guards,
+                },
+                did(vault),
+            ),
+            Err((session, refusal)) => {
+                (
+                    Hand {
+                        stage: Stage::In(session),
+                        guards,
+                    },
+                    Line::Refused(cue, refusal),
+                )
+            }
+        },
+        stage => (Hand { stage, guards }, off_plan(cue, Cause::NotActing)),
+    }
+}
+
+/// A worker is done with its plan, or has left it.
+pub(crate) fn finish(vault: &mut Vault, hand: Hand, worker: u32) -> (Hand, Line)
+    requires { stage_worker hand.stage ≡ Some worker }
+    ensures of { stage_worker result.0.stage ≡ Some worker }
+    ensures comes { ComesTo vault.old (cue.Finish worker) result.1 vault.new }
+{
+    vault.known();
+    let cue = Cue::Finish { worker };
+    let Hand { stage, guards } = hand;
+    match stage {
+        Stage::In(session) => match vault.finish(session) {
+            Ok(chair) => (
+                Hand {
+                    stage: Stage::Idle(chair),
+                    guards,
+                },
+                did(vault),
+            ),
+            Err((session, refusal)) => {
+                (
+                    Hand {
+                        stage: Stage::In(session),
+                        guards,
+                    },
+                    Line::Refused(cue, refusal),
+                )
+            }
+        },
+        Stage::Leaving(leaver) => match vault.end(leaver) {
+            Ok(chair) => (
+                Hand {
+                    stage: Stage::Idle(chair),
+                    guards,
+                },
+                did(vault),
+            ),
+            Err((leaver, refusal)) => {
+                (
+                    Hand {
+                        stage: Stage::Leaving(leaver),
+                        guards,
+                    },
+                    Line::Refused(cue, refusal),
+                )
+            }
+        },
+        stage => (Hand { stage, guards }, off_plan(cue, Cause::NotActing)),
+    }
+}

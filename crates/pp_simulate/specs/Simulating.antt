@@ -1,0 +1,50 @@
+-- What playing a script over a new pool may come to.
+use Rattle.std.specs.Prelude.{◌≡◌, ℕ, List, [], ◌∷◌, length, Option, None, Some, Result, Ok, Err, ⊤}
+use Rattle.pp_cert.specs.Accepted.{Acceptance}
+use Rattle.pp_core.specs.Opening.{kept_of}
+use Rattle.pp_model.specs.Pool.{State, opening}
+use Rattle.pp_model.specs.Submitting.{submit_error, submitted}
+use Rattle.pp_model.specs.declared.refusals.SubmitError.{SubmitError}
+use Rattle.pp_play.specs.Plays.{TellsAll}
+use Rattle.pp_play.specs.declared.line.Line.{Line}
+use Rattle.pp_script.specs.Scripts.{Scenario}
+use Rattle.pp_settings.specs.Settings.{Configuration}
+use Rattle.pp_text.specs.Steps.{◌>>=◌}
+use Rattle.pp_vault.specs.Parts.{Parts}
+use Rattle.pp_vault.specs.StandsFor.{StandsFor}
+use Rattle.pp_simulate.specs.Lines.{transcript}
+use Rattle.pp_simulate.specs.declared.error.SimulateError.{SimulateError}
+use Rattle.pp_simulate.specs.declared.error.SimulateError.TheVariants.{Submit, OutOfMemory}
+
+-- The state after, where there is no refusal.
+abbrev pub unless_refused : Option SubmitError → State → Result State SubmitError
+unless_refused None after = Ok after
+unless_refused (Some error) after = Err error
+
+-- The state after the plans were submitted in their order, or the refusal of the first that isn't taken in.
+abbrev pub after_submits : State → List Acceptance → Result State SubmitError
+after_submits s [] = Ok s
+after_submits s (plan ∷ plans) =
+    unless_refused (submit_error s plan) (submitted s plan) >>= λ after. after_submits after plans
+
+-- The vault stands for the state after all plans were taken in; a refusal is that of the first that isn't.
+abbrev pub TakesAll : Result State SubmitError → Parts → Result (Unit {0}) SubmitError → Type 0
+TakesAll (Ok s) v (Ok done) = StandsFor v s
+TakesAll (Err error) v (Err told) = told ≡ error
+TakesAll _ v _ = ⊥
+
+-- The error tells the refusal of a plan. Want of memory tells nothing.
+abbrev pub TellsSubmit : Result State SubmitError → SimulateError → Type 0
+TellsSubmit submits (Submit error) = submits ≡ Err error
+TellsSubmit submits OutOfMemory = ⊤
+
+-- The text is one that playing the script may come to: the plans are all taken in, each cue in its turn comes to a
+-- line as the pool's model has it, from the state with these plans up to a last state, and the text has the lines of
+-- the plans, of the cues, and of that last state.
+pub record Simulates (c : Configuration) (plans : List Acceptance) (script : Scenario) (told : List ℕ) : Type 0 where
+  pub taken_in : State
+  pub submits : after_submits (opening (kept_of c)) plans ≡ Ok taken_in
+  pub lines : List Line
+  pub last : State
+  pub plays : TellsAll taken_in script.cues lines last
+  pub text : told ≡ transcript (length plans) script.cues lines last

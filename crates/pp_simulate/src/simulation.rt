@@ -1,0 +1,78 @@
+//! Playing a script over a new pool.
+
+ghost use Rattle.std.specs.Prelude.{◌≡◌, ◌≤◌, Err, IfOk, IfErr, string_bytes};
+ghost use Rattle.pp_model.specs.Pool.{State, opening};
+ghost use Rattle.pp_core.specs.Opening.{kept_of};
+ghost use Rattle.pp_vault.specs.StandsFor.{StandsFor};
+ghost use Rattle.pp_simulate.specs.Simulating.{Simulates, TellsSubmit, after_submits, TakesAll};
+
+use crate::error::SimulateError;
+use crate::printing::transcript;
+use pp_cert::Accepted;
+use pp_device::{Failing, SoloDevice};
+use pp_play::play;
+use pp_script::Script;
+use pp_settings::Settings;
+use pp_vault::{Hands, SubmitError, Vault};
+use std::alloc::Global;
+
+/// Submits the plans to a new pool, plays the script over it and a device in memory with the script's troubles, and gives
+/// the lines, each ended by a line feed: `submit 0 = queued` for each plan with its number, then one for each cue, then
+/// `next TURN budget N`. Cues that are refused have lines too.
+///
+/// # Errors
+///
+/// `Submit` with the refusal of the first plan that the pool does not take in; then nothing is played. `OutOfMemory`.
+pub fn simulate(
+    alloc: Global,
+    settings: &Settings,
+    plans: Vec<Accepted>,
+    script: Script,
+) -> Result<String, SimulateError>
+    // The plans are all taken in, the cues come to the lines that are printed, and the last line is of the state then.
+    ensures ok { IfOk result (λ text. Simulates settings.now plans.items script (string_bytes text)) }
+    // A refusal is that of the first plan that isn't taken in.
+    ensures err { IfErr result (TellsSubmit (after_submits (opening (kept_of settings.now)) plans.items)) }
+{
+    let (mut vault, mut hands) = Vault::new(alloc, settings)?;
+    let played = play_in(alloc, settings, plans, script, &mut vault, &mut hands);
+    vault.scrap(hands);
+    played
+}
+
+/// The same in this vault with these hands, in which nothing was done yet.
+fn play_in(
+    alloc: Global,
+    settings: &Settings,
+    plans: Vec<Accepted>,
+    script: Script,
+    vault: &mut Vault,
+    hands: &mut Hands,
+) -> Result<String, SimulateError>
+    requires { StandsFor vault.old (opening (kept_of settings.now)) }
+    ensures ok { IfOk result (λ text. Simulates settings.now plans.items script (string_bytes text)) }
+    ensures err { IfErr result (TellsSubmit (after_submits (opening (kept_of settings.now)) plans.items)) }
+{
+    let count = plans.len();
+    submit_all(vault, plans)?;
+    let (cues, troubles) = script.into_parts();
+    let memory = SoloDevice::new(alloc, settings.pages(), settings.page_bytes() as usize)?;
+    let mut device = Failing::new(memory, troubles);
+    let mut lines = Vec::new(alloc);
+    play(alloc, vault, hands, &mut device, &cues, &mut lines)?;
+    Ok(transcript(alloc, count, &cues, &lines, vault)?)
+}
+
+/// Submits the plans in their order, up to the first that isn't taken in.
+fn submit_all(vault: &mut Vault, plans: Vec<Accepted>) -> Result<(), SubmitError>
+    ensures { (s : State) → StandsFor vault.old s → TakesAll (after_submits s plans.items) vault.new result }
+{
+    let mut waiting = plans;
+    waiting.reverse();
+    while let Some(plan) = waiting.pop() {
+        if let Err((_plan, error)) = vault.submit(plan) {
+            return Err(error);
+        }
+    }
+    Ok(())
+}

@@ -1,0 +1,60 @@
+//! The command `simulate SETTINGS SCRIPT PLAN...`.
+
+ghost use Rattle.std.specs.Prelude.{◌≡◌, IfOk, false};
+ghost use Rattle.clap.specs.Words.{app_of, found_of, rows_of};
+ghost use Rattle.clap.specs.declared.builder.command.Command.TheViews.{out-Command};
+ghost use Rattle.pp_words.specs.CommandLine.{asked_simulate, simulate_among, simulate_command};
+
+use crate::parts::{path, paths, settings, value_of, values_of};
+use clap::{ArgMatches, Command};
+use std::alloc::{AllocError, Global};
+
+/// The files of `simulate`, by their paths, in the order of the words.
+#[derive(Debug, Drop)]
+pub struct SimulatePaths<'a> {
+    /// The settings of the pool, a TOML text.
+    pub settings: &'a str,
+    /// The script, a text with a cue on each line.
+    pub script: &'a str,
+    /// The plans that the workers take, in this order: JSON texts. There is one at least.
+    pub plans: Vec<&'a str>,
+}
+
+impl<'a> SimulatePaths<'a> {
+    /// The command with its arguments.
+    pub fn command(alloc: Global) -> Result<Command<'a>, AllocError>
+        ensures { IfOk result (λ command. ((out-Command command).has_globals ≡ false)
+            × (app_of command ≡ simulate_command)) }
+    {
+        let script = path(
+            alloc,
+            "script",
+            "SCRIPT",
+            "The script, a cue on each line: a text",
+        );
+        let plans = paths(
+            alloc,
+            "plans",
+            "PLAN",
+            "The plans that workers take, in this order: JSON texts",
+        );
+        Command::new(alloc, "simulate")
+            .about(
+                "Plays a script over a pool with these plans, and prints what each cue comes to.",
+            )
+            .arg(settings(alloc))?
+            .arg(script)?
+            .arg(plans)
+    }
+
+    /// The paths among the matches of the command.
+    pub fn among(alloc: Global, matches: &ArgMatches<'a>) -> Result<SimulatePaths<'a>, AllocError>
+        ensures { IfOk result (λ paths. asked_simulate paths ≡ simulate_among (rows_of (found_of matches.now))) }
+    {
+        Ok(SimulatePaths {
+            settings: value_of(matches, "settings"),
+            script: value_of(matches, "script"),
+            plans: values_of(alloc, matches, "plans")?,
+        })
+    }
+}
