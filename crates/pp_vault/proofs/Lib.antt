@@ -32,3 +32,4 @@ mod Placed
 mod StillFits
 mod OpeningHands
 mod Bodies
+mod SubmitFits

@@ -244,7 +244,7 @@ module _ (n : ℕ) (s t : State) (same : flushed_page t ≡ flushed_page s) wher
   flush_still (duty.Write w slot page victim) image away = away
   flush_still (duty.Flush page) image away = (same ∙ away.0, away.1)
 
-  flushing_still : (f : Option Flushing) → FlushingFits n s f → FlushingFits n t f
+  pub flushing_still : (f : Option Flushing) → FlushingFits n s f → FlushingFits n t f
   flushing_still None fits = same ∙ fits
   flushing_still (Some (flushing.Out errand)) fits = flush_still errand.duty errand.image fits
   flushing_still (Some (flushing.Back returned)) fits = flush_still returned.duty returned.image fits

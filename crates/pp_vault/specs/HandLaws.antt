@@ -1,5 +1,6 @@
 -- What a call of a vault leaves of the hands.
 use Rattle.std.specs.Prelude.{◌≡◌, ◌≢◌, ℕ, Option, None, Some}
+use Rattle.pp_cert.specs.Accepted.{Acceptance}
 use Rattle.pp_model.specs.Pool.{State}
 use Rattle.pp_model.specs.Moves.{next_of}
 use Rattle.pp_model.specs.WorkerParts.{worker_of}
@@ -8,11 +9,13 @@ use Rattle.pp_core.specs.AfterMoves.{Releases}
 use Rattle.pp_vault.specs.declared.guards.Guard.{Guard}
 use Rattle.pp_vault.specs.declared.stage.Hand.{Hand}
 use Rattle.pp_vault.specs.declared.hands.Flushing.{Flushing}
+use Rattle.pp_vault.specs.declared.hands.Hands.{Hands}
 use Rattle.pp_vault.specs.Parts.{Parts}
 use Rattle.pp_vault.specs.StandsFor.{StandsFor, IsKept}
 use Rattle.pp_vault.specs.Calls.{Call, stranger, refused, asks}
 use Rattle.pp_vault.specs.Events.{Does}
-use Rattle.pp_vault.specs.Hands.{PlaceFits, HandFits, FlushingFits}
+use Rattle.pp_vault.specs.Submits.{TakesIn}
+use Rattle.pp_vault.specs.Hands.{PlaceFits, HandFits, FlushingFits, HandsFit}
 
 -- The worker whose move a call is; none where it is no move, or the flusher's.
 abbrev pub caller : Call → Option ℕ
@@ -51,3 +54,9 @@ SlotsStillFit =
     → ((s : State) → StandsFor old s → LeavesSlot s (call s) w slot) → (place : Option Guard)
     → ((s : State) → StandsFor old s → PlaceFits old.page_bytes s w slot place)
     → (s : State) → StandsFor new s → PlaceFits new.page_bytes s w slot place
+
+-- Hands that fit still do after a plan was taken in.
+abbrev pub SubmitsStillFit : Type 0
+SubmitsStillFit =
+    (old new : Parts) (a : Acceptance) (number : ℕ) → IsKept old → TakesIn old a number new → (hands : Hands)
+    → HandsFit old hands → HandsFit new hands

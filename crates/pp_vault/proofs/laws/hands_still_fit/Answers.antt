@@ -1,3 +1,4 @@
+use Rattle.pp_vault.proofs.SubmitFits.{submits_still_fit}
 use Rattle.pp_vault.proofs.StillFits.{still_fits, slot_still_fits, flushing_still_fits}
 use Rattle.pp_vault.proofs.laws.hands_still_fit.Goals as goal
 
@@ -9,3 +10,6 @@ returns-clause-slots c = slot_still_fits
 
 pub returns-clause-flushing : goal.returns-clause-flushing
 returns-clause-flushing c = flushing_still_fits
+
+pub returns-clause-submits : goal.returns-clause-submits
+returns-clause-submits c = submits_still_fit
