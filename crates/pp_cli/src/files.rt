@@ -1,12 +1,13 @@
 //! Reading and writing the files that a job names, and what the job comes to.
 
-ghost use Rattle.std.specs.Prelude.{◌≡◌, ◌≤◌, ◌∷◌, [], IfOk, IfErr, MatchResult, length};
+ghost use Rattle.std.specs.Prelude.{◌≡◌, ◌≤◌, ◌∷◌, [], IfOk, IfErr, MatchResult, length, replicate, vec_len};
 ghost use Rattle.std.specs.Io.KnownBytes.{Appends};
 ghost use Rattle.pp_format.specs.DeviceFile.{blank_file};
 ghost use Rattle.pp_judge.specs.Answers.{formatted, seen};
 ghost use Rattle.pp_words.specs.CommandLine.{asked_annotate, asked_by, asked_check, asked_format, asked_simulate, texts};
 ghost use Rattle.pp_cli.specs.Runs.{ComesOf, ComesOfWriting, IsStopped, stopped_by};
 
+use crate::bar::Bar;
 use crate::fault::fault;
 use pp_device::image::HEAD;
 use pp_format::format_onto;
@@ -30,14 +31,18 @@ pub enum Unread<'a> {
 }
 
 /// What the job comes to. All its files are read, in the order of the words, before any is refused.
-pub fn perform<'a, R: Files + AllocGlobal>(rt: &R, job: Job<'a>) -> Outcome<'a>
+pub fn perform<'a, R: Files + AllocGlobal, P: Write>(
+    rt: &R,
+    job: Job<'a>,
+    bar: &mut Bar<P>,
+) -> Outcome<'a>
     ensures { ComesOf (asked_by job.entry) (seen result) }
 {
     let ended = match job {
         Job::Check(paths) => check(rt, paths),
         Job::Annotate(paths) => annotate(rt, paths),
         Job::Simulate(paths) => simulate(rt, paths),
-        Job::Format(paths) => format(rt, paths),
+        Job::Format(paths) => format(rt, paths, bar),
     };
     match ended {
         Ok(outcome) => outcome,
@@ -102,49 +107,60 @@ fn simulate<'a, R: Files + AllocGlobal>(
 }
 
 /// What the settings of `format` come to, where they can be read: their refusal, or what writing the device comes to.
-fn format<'a, R: Files + AllocGlobal>(
+fn format<'a, R: Files + AllocGlobal, P: Write>(
     rt: &R,
     paths: FormatPaths<'a>,
+    bar: &mut Bar<P>,
 ) -> Result<Outcome<'a>, Unread<'a>>
     ensures { MatchResult result (λ outcome. ComesOf (asked_format paths.entry) (seen outcome))
         (λ why. ComesOf (asked_format paths.entry) (stopped_by why)) }
 {
     let settings = contents(rt, paths.settings)?;
     match device_size(rt.alloc(), settings.as_slice()) {
-        Ok(size) => Ok(format_device(rt, paths.device, size)),
+        Ok(size) => Ok(format_device(rt, paths.device, size, bar)),
         Err(refusal) => Ok(Outcome::from(refusal)),
     }
 }
 
-/// What writing a device of this size anew comes to. What stood in its file is lost.
-fn format_device<'a, R: Files + AllocGlobal>(
+/// What writing a device of this size anew comes to. What stood in its file is lost; want of memory is told before that.
+fn format_device<'a, R: Files + AllocGlobal, P: Write>(
     rt: &R,
     device: &'a str,
     size: DeviceSize,
+    bar: &mut Bar<P>,
 ) -> Outcome<'a>
     requires { HEAD ≤ size.page_bytes }
     ensures { ComesOfWriting device.entry.now size (seen result) }
 {
+    let Ok(image) = Vec::from_elem(rt.alloc(), 0, size.page_bytes as usize) else {
+        return Outcome::OutOfMemory;
+    };
     match fs::create(rt, device) {
-        Ok(mut file) => format_opened(rt.alloc(), &mut file, device, size),
+        Ok(mut file) => format_opened(&mut file, image, device, size, bar),
         Err(error) => fault(&error, Outcome::Unwritten(device)),
     }
 }
 
-/// What writing every page blank to the opened file of the device comes to.
-fn format_opened<'a, W: Write>(
-    alloc: Global,
+/// What writing every page blank to the opened file of the device comes to, with an image of zeros for all of them.
+fn format_opened<'a, W: Write, P: Write>(
     file: &mut W,
+    image: Vec<u8>,
     device: &'a str,
     size: DeviceSize,
+    bar: &mut Bar<P>,
 ) -> Outcome<'a>
-    requires { HEAD ≤ size.page_bytes }
+    requires long { vec_len image ≡ size.page_bytes }
+    requires zeros { image.items ≡ replicate (vec_len image) 0 }
+    requires head { HEAD ≤ size.page_bytes }
     ensures ended { ComesOfWriting device.entry.now size (seen result) }
     // It is told as done only where the file has taken exactly the images of all pages.
     ensures done { seen result ≡ formatted size.pages
         → Appends (W.contents file.old) (W.contents file.new) (blank_file size.pages size.page_bytes) }
 {
-    match format_onto(alloc, file, size.pages, size.page_bytes as usize) {
+    bar.begin(size);
+    let written = format_onto(file, image, size.pages, bar);
+    bar.end();
+    match written {
         Ok(()) => Outcome::Formatted(size.pages),
         Err(error) => fault(&error, Outcome::Unwritten(device)),
     }

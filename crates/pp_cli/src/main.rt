@@ -2,6 +2,7 @@
 //! and formats devices.
 #![tactic(auto)]
 
+mod bar;
 mod fault;
 mod files;
 mod program;
@@ -9,6 +10,8 @@ mod telling;
 #[cfg(test)]
 mod tests;
 
+use bar::Bar;
+use std::io::IsTerminal;
 use std::process::ExitCode;
 use std::{env, io};
 
@@ -16,8 +19,10 @@ use std::{env, io};
 fn main(rt: HostRuntime) -> ExitCode {
     let mut out = rt.stdout();
     let mut err = rt.stderr();
+    let terminal = rt.stderr();
+    let mut bar = Bar::on(terminal.is_terminal().then_some(terminal));
     let words = words(&rt);
-    ExitCode::from(program::run(&rt, &words, &mut out, &mut err))
+    ExitCode::from(program::run(&rt, &words, &mut out, &mut err, &mut bar))
 }
 
 /// The words of the command line, the program's name first.

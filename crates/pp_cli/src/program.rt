@@ -7,6 +7,7 @@ ghost use Rattle.pp_words.specs.CommandLine.{asked};
 ghost use Rattle.pp_words.specs.Faults.{asks_for_help};
 ghost use Rattle.pp_cli.specs.Runs.{ComesOfWords, IsRun};
 
+use crate::bar::Bar;
 use crate::fault::fault;
 use crate::files::perform;
 use crate::telling::tell;
@@ -17,12 +18,14 @@ use std::io;
 use std::io::{ErrorKind, Write};
 use std::rt::Files;
 
-/// Runs the program on its words, the program's name first, where they can be read, and answers the status.
-pub fn run<R: Files + AllocGlobal, O: Write, E: Write>(
+/// Runs the program on its words, the program's name first, where they can be read, and answers the status. The bar
+/// shows how far a long job is.
+pub fn run<R: Files + AllocGlobal, O: Write, E: Write, P: Write>(
     rt: &R,
     words: &io::Result<Vec<String>>,
     out: &mut O,
     err: &mut E,
+    bar: &mut Bar<P>,
 ) -> u8
     ensures status { result ≤ 4 }
     // What `serve` does of the words.
@@ -35,7 +38,7 @@ pub fn run<R: Files + AllocGlobal, O: Write, E: Write>(
     ensures memory { IfErr words.now (λ error. error_kind error ≡ ErrorKind.OutOfMemory → result ≡ 4) }
 {
     match words {
-        Ok(words) => serve(rt, words.as_slice(), out, err),
+        Ok(words) => serve_with(rt, words.as_slice(), out, err, bar),
         Err(error) => tell(fault(error, Outcome::Wordless), out, err)
             .outcome
             .status(),
@@ -67,16 +70,38 @@ pub fn serve<R: Files + AllocGlobal, S: AsStr, O: Write, E: Write>(
     // and a complaint leaves standard output as it was.
     ensures run { IsRun O.contents (map S.text words.now) result out.old out.new err.old err.new }
 {
-    let outcome = outcome_of_words(rt, words);
+    serve_with(rt, words, out, err, &mut Bar::<io::Sink>::hidden())
+}
+
+/// As [`serve`], with a bar that shows how far a long job is.
+fn serve_with<R: Files + AllocGlobal, S: AsStr, O: Write, E: Write, P: Write>(
+    rt: &R,
+    words: &[S],
+    out: &mut O,
+    err: &mut E,
+    bar: &mut Bar<P>,
+) -> u8
+    ensures status { result ≤ 4 }
+    ensures words { IsSome (asked (map S.text words.now)) → result ≢ 2 }
+    ensures nothing { asked (map S.text words.now) ≡ None → result ≢ 1 }
+    ensures mistake { asked (map S.text words.now) ≡ None → asks_for_help (map S.text words.now) ≡ false
+        → (result ≡ 2) ⊎ (result ≡ 4) }
+    ensures run { IsRun O.contents (map S.text words.now) result out.old out.new err.old err.new }
+{
+    let outcome = outcome_of_words(rt, words, bar);
     tell(outcome, out, err).outcome.status()
 }
 
 /// What the words come to, the program's name first, before anything is told.
-fn outcome_of_words<'a, R: Files + AllocGlobal, S: AsStr>(rt: &R, words: &'a [S]) -> Outcome<'a>
+fn outcome_of_words<'a, R: Files + AllocGlobal, S: AsStr, P: Write>(
+    rt: &R,
+    words: &'a [S],
+    bar: &mut Bar<P>,
+) -> Outcome<'a>
     ensures { ComesOfWords (map S.text words.entry.now) (seen result) }
 {
     match job(rt.alloc(), words) {
-        Ok(job) => perform(rt, job),
+        Ok(job) => perform(rt, job, bar),
         Err(JobError::Shown(text)) => Outcome::Shown(text),
         Err(JobError::Words(text)) => Outcome::Misused(text),
         Err(JobError::OutOfMemory) => Outcome::OutOfMemory,

@@ -1,5 +1,6 @@
 //! Whole runs of the program: the words of the command line, files that can and can't be read, and streams that fail.
 
+mod bars;
 mod devices;
 mod files;
 mod runs;

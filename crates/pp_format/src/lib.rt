@@ -4,5 +4,7 @@
 
 mod format;
 pub mod laws;
+mod watch;
 
 pub use format::format_onto;
+pub use watch::{Nobody, Watch};

@@ -1,7 +1,7 @@
 //! The answers to questions.
 
 use crate::row::Question;
-use pp_format::format_onto;
+use pp_format::{Nobody, format_onto};
 use pp_judge::{
     AnnotateFiles, CheckFiles, Contents, JudgeError, Outcome, SimulateFiles, device_size,
     outcome_of,
@@ -107,7 +107,8 @@ fn format_answer(alloc: Global, settings: &[u8]) -> anyhow::Result<String> {
     };
     let page_bytes = size.page_bytes as usize;
     let mut file = Vec::new(alloc);
-    format_onto(alloc, &mut file, size.pages, page_bytes)?;
+    let image = Vec::from_elem(alloc, 0, page_bytes)?;
+    format_onto(&mut file, image, size.pages, &mut Nobody)?;
     let told = Outcome::Formatted(size.pages);
     let bytes = file.len();
     let mut answer = format!(in alloc; "{told}  {bytes} bytes, the last page begins")?;

@@ -1,5 +1,6 @@
 //! Streams that fail: an output that can't be written, and a complaint that can't be.
 
+use crate::bar::Bar;
 use crate::program::{run, serve};
 use std::io;
 use std::io::{ErrorKind, Write};
@@ -72,7 +73,14 @@ fn streams_that_fail(rt: HostRuntime) -> Result<(), Fail> {
     for (kind, status, text) in unread {
         let mut out = Vec::new(rt.alloc());
         let mut err = Vec::new(rt.alloc());
-        let ended = run(&rt, &Err(io::Error::from(kind)), &mut out, &mut err);
+        let mut bar = Bar::<io::Sink>::hidden();
+        let ended = run(
+            &rt,
+            &Err(io::Error::from(kind)),
+            &mut out,
+            &mut err,
+            &mut bar,
+        );
         is(&rt, ended, status, err.as_slice(), text);
         is(&rt, ended, status, out.as_slice(), "");
     }

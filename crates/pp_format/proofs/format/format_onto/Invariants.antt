@@ -6,5 +6,5 @@ use Rattle.pp_format.proofs.format.format_onto.Given as goal
 
 abbrev pub invariant-loop-page : goal.invariant-loop-page
 invariant-loop-page g l =
-    (vec_len l.image ≡ l.page_bytes) × ((page : ℕ) → with_head l.image.items page 0 ≡ blank_image l.page_bytes page) ×
-    Appends (g.W.Write.contents l.initial.out) (g.W.Write.contents l.out) (blank_file l.page l.page_bytes)
+    (vec_len l.image ≡ vec_len l.initial.image) × ((page : ℕ) → with_head l.image.items page 0 ≡ blank_image (vec_len l.initial.image) page) ×
+    Appends (g.W.Write.contents l.initial.out) (g.W.Write.contents l.out) (blank_file l.page (vec_len l.initial.image))
