@@ -102,11 +102,11 @@ module _ (old mid : Parts) (w slot page : ℕ) (m : Move) (of : worker_of m ≡ 
     (held : (s : State) → StandsFor old s → held_of s w slot ≡ Some (page, X))
     (raises : (s : State) → StandsFor old s → Raised s (next_of s m) page (told_mark r))
     (frame : ℕ) (at : (s : State) → StandsFor old s → frame ≡ frame_at s page) where
+  framed : (s : State) → StandsFor old s → frame_of s page ≡ Some frame
+  framed s st = writer_framed s st.core.reached w slot page (held s st) ∙ ap {B = Option ℕ} Some (sym (at s st))
+
   of_page : (s : State) → StandsFor old s → (p : ℕ) × (frame_of s p ≡ Some frame)
-  of_page s st = (
-    page,
-    writer_framed s st.core.reached w slot page (held s st) ∙ ap {B = Option ℕ} Some (sym (at s st)),
-  )
+  of_page s st = (page, framed s st)
 
   pub low : frame < length mid.images
   low = back.low old mid w m of call r did calls frame of_page k.state k.stands
@@ -137,8 +137,10 @@ module _ (old mid : Parts) (w slot page : ℕ) (m : Move) (of : worker_of m ≡ 
 
     pub put_back : IsPutBack old new page image
     put_back s st = (
+      frame,
       mark_at s page,
+      framed s st,
       writer_known s st.core.reached w slot page (held s st),
-      subst (λ n. PutIn old new (frame_at s page) (with_head image page n)) (raises s st).raised
-          (subst (λ c. PutIn old new (frame_at s page) c) is (subst (λ f. PutIn old new f b) (at s st) put)),
+      subst (λ n. PutIn old new frame (with_head image page n)) (raises s st).raised
+          (subst (λ c. PutIn old new frame c) is put),
     )

@@ -78,10 +78,11 @@ module _ (old mid : Parts) (x : Session) (g : PinGuard) (r : Reply) (kept : IsKe
       k.page_is
       (exclusive_leaves s st.core.reached x.worker g.slot (told_mark r) a.run a.seat a.ask (latched s st)))
 
+  stands_in : (s : State) → StandsFor old s → StandsIn s g.page stood
+  stands_in s st = ready_stand s st.core.reached g.page stood (leaves s st).was
+
   low : (s : State) → StandsFor old s → frame < length old.images
-  low s st =
-      let in_frame : StandsIn s g.page stood = ready_stand s st.core.reached g.page stood (leaves s st).was in
-      subst (λ n. frame < n) (sym st.images.frames) in_frame.low
+  low s st = subst (λ n. frame < n) (sym st.images.frames) (stands_in s st).low
 
   right : IsRight old.images g.page stood
   right = kept.stands.images.right g.page stood (leaves kept.state kept.stands).was
@@ -125,6 +126,14 @@ module _ (old mid : Parts) (x : Session) (g : PinGuard) (r : Reply) (kept : IsKe
   some_image : (a b : List ℕ) → ◌≡◌ {A = Option (List ℕ)} (Some a) (Some b) → a ≡ b
   some_image a b e = cc
 
+  taken : (image : List ℕ) → image_in mid.images frame ≡ Some image → TakenOut old out frame image
+  taken image there =
+      record {
+        was = ap (λ z. image_in z frame) (sym mid_images) ∙ there;
+        images = ap (λ z. slice_set z frame None) mid_images;
+        spare = ap (λ (v : Parts). v.spare) h.rest;
+      }
+
   pub exclusive_latches : (y : Session) (mark : ℕ) (image : List ℕ) → mark ≡ told_mark r
       → image_in mid.images frame ≡ Some image → SessionFits out x.worker y
       → LatchesExclusive old x g out y
@@ -149,10 +158,5 @@ module _ (old mid : Parts) (x : Session) (g : PinGuard) (r : Reply) (kept : IsKe
               ∙ sym (ap (λ (v : Parts). v.page_bytes) h.rest);
         };
         same = (refl, refl);
-        image = λ s st. subst (λ f. TakenOut old out f image) (at s st)
-            (record {
-              was = ap (λ z. image_in z frame) (sym mid_images) ∙ there;
-              images = ap (λ z. slice_set z frame None) mid_images;
-              spare = ap (λ (v : Parts). v.spare) h.rest;
-            });
+        image = λ s st. (frame, (stands_in s st).frame, taken image there);
       }

@@ -2,7 +2,7 @@
 use Rattle.std.specs.Prelude.{◌≡◌, ℕ, ◌+◌, Some, List}
 use Rattle.pp_cert.specs.declared.note.Held.TheVariants.{S}
 use Rattle.pp_plan.specs.declared.mode.Mode.TheVariants as mode
-use Rattle.pp_model.specs.Pool.{State, frame_at, known_mark}
+use Rattle.pp_model.specs.Pool.{State, frame_of, known_mark}
 use Rattle.pp_device.specs.Image.{with_head}
 use Rattle.pp_vault.specs.declared.tokens.Session.{Session}
 use Rattle.pp_vault.specs.declared.guards.PinGuard.{PinGuard}
@@ -20,8 +20,8 @@ use Rattle.pp_vault.specs.Tokens.{is_long, SessionFits, PinFits, ReadFits, Write
 -- It is in its page's frame, with its body as the writer left it, and with the page's mark, raised by one, in its head.
 abbrev pub IsPutBack : (old new : Parts) → (page : ℕ) → (image : List ℕ) → Type 0
 IsPutBack old new page image =
-    (s : State) → StandsFor old s → (mark : ℕ) × (known_mark s page ≡ Some mark)
-    × PutIn old new (frame_at s page) (with_head image page (mark + 1))
+    (s : State) → StandsFor old s → (frame : ℕ) × (mark : ℕ) × (frame_of s page ≡ Some frame)
+    × (known_mark s page ≡ Some mark) × PutIn old new frame (with_head image page (mark + 1))
 
 -- ---- calls: of session x and guard g there are a new session y and a new guard h
 
@@ -40,14 +40,15 @@ pub record LatchesShared (old : Parts) (x : Session) (g : PinGuard) (new : Parts
   pub same : (h.slot ≡ g.slot) × (h.page ≡ g.page)
   pub images : ImagesStay old new
 
--- The page is latched X, and its image goes from its frame into the guard.
+-- The page is latched X, and its image goes from the page's frame into the guard.
 pub record LatchesExclusive (old : Parts) (x : Session) (g : PinGuard) (new : Parts) (y : Session)
     (h : WriteGuard) : Type 0 where
   pub does : Does old (latch_call mode.X x.worker g.worker g.slot g.page) new
   pub session : SessionFits new x.worker y
   pub guard : WriteFits new x.worker h
   pub same : (h.slot ≡ g.slot) × (h.page ≡ g.page)
-  pub image : (s : State) → StandsFor old s → TakenOut old new (frame_at s g.page) h.image
+  pub image : (s : State) → StandsFor old s
+      → (frame : ℕ) × (frame_of s g.page ≡ Some frame) × TakenOut old new frame h.image
 
 -- The latch S is off the page.
 pub record UnlatchesShared (old : Parts) (x : Session) (g : ReadGuard) (new : Parts) (y : Session)
