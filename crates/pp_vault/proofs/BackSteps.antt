@@ -123,6 +123,7 @@ module _ (old mid : Parts) (w : ℕ) (m : Move) (of : worker_of m ≡ Some w) (c
       pub put_in : (s : State) → StandsFor old s → PutIn old new frame image
       put_in s st =
           record {
+            there = low_in s st;
             was =
                 none_there (image_in old.images frame) (is_away_at s frame) (st.images.there frame (low_in s st))
                 (comes s st).was;
