@@ -13,7 +13,8 @@ use Rattle.pp_model.specs.declared.reply.Reply.TheVariants as reply
 use Rattle.pp_model.specs.declared.reply.Reply.TheVariants.{Hit, MustRead, MustWrite}
 use Rattle.pp_model.specs.Pool.{State, known_mark, mark_at}
 use Rattle.pp_model.specs.Moves.{reply_of, next_of, is_refusal}
-use Rattle.pp_model.specs.Ready.{Standing, ready_at, is_away_at, is_still, ImageGoes, Leaves, Vacates, empty, takes}
+use Rattle.pp_model.specs.Ready.{Standing, StandsIn, ready_at, is_away_at, is_still, ImageGoes, Leaves, Vacates}
+use Rattle.pp_model.specs.Ready.{empty, takes}
 use Rattle.pp_model.specs.Shapes.{is_answer, fits_reply}
 use Rattle.pp_model.proofs.Shapes.{reply_fits}
 use Rattle.pp_model.proofs.Alone.{settings_stay, flush_stays}
@@ -263,9 +264,12 @@ module _ (old mid : Parts) (w page : ℕ) (r : Reply) (did : Stepped old mid (Fi
   -- ---- a read
 
   module _ (frame : ℕ) (e : r ≡ MustRead frame) (k : IsKept old) where
+    vacates : (s : State) → StandsFor old s → (frame < s.settings.layout.frames) × Vacates s (next s) frame
+    vacates s st = read_vacates s st.core.reached w page frame (answer s st ∙ e)
+
     read_sends : (s : State) → StandsFor old s → Sends s (next s) frame
     read_sends s st =
-        let v = read_vacates s st.core.reached w page frame (answer s st ∙ e) in
+        let v = vacates s st in
         record { low = v.0; emptied = emptied s (next s) frame (ready_are_apart s st.core.reached) v.1 }
 
     pub read_there : is_some (image_in mid.images frame) ≡ true
@@ -284,7 +288,17 @@ module _ (old mid : Parts) (w page : ℕ) (r : Reply) (did : Stepped old mid (Fi
           × ErrandFits new (record { duty = Read w slot page; image = image })
       read_answers = (
         out_does frame read_sends new image was rest,
-        (refl, refl, λ s st. (frame, answer s st ∙ e, out frame read_sends new image was rest)),
+        (
+          refl,
+          refl,
+          λ s st. (
+            frame,
+            answer s st ∙ e,
+            (laws s st).sent_frame w page frame (answer s st ∙ e),
+            (vacates s st).1,
+            out frame read_sends new image was rest,
+          ),
+        ),
         record {
           out = λ t b.
               same_errand new.core t (next k.state) b.core
@@ -301,12 +315,16 @@ module _ (old mid : Parts) (w page : ℕ) (r : Reply) (did : Stepped old mid (Fi
         → Leaves s (next s) victim (record { frame = frame; mark = mark_at s victim })
     leaves s st = write_leaves s st.core.reached w page frame victim (answer s st ∙ e)
 
+    stood : (s : State) → StandsFor old s → StandsIn s victim (record { frame = frame; mark = mark_at s victim })
+    stood s st =
+        ready_stand s st.core.reached victim (record { frame = frame; mark = mark_at s victim }) (leaves s st).was
+
     write_sends : (s : State) → StandsFor old s → Sends s (next s) frame
     write_sends s st =
-        let gone = leaves s st in
         record {
-          low = (ready_stand s st.core.reached victim (record { frame = frame; mark = mark_at s victim }) gone.was).low;
-          emptied = emptied s (next s) frame (ready_are_apart s st.core.reached) (takes victim (mark_at s victim) gone);
+          low = (stood s st).low;
+          emptied = emptied s (next s) frame (ready_are_apart s st.core.reached)
+              (takes victim (mark_at s victim) (leaves s st));
         }
 
     pub write_there : is_some (image_in mid.images frame) ≡ true
@@ -327,9 +345,7 @@ module _ (old mid : Parts) (w page : ℕ) (r : Reply) (did : Stepped old mid (Fi
       mark_next =
           let s = k.state in
           let st = k.stands in
-          let stood = ready_stand s st.core.reached victim (record { frame = frame; mark = mark_at s victim })
-          (leaves s st).was in
-          (laws s st).mark (Fix w page) victim (mark_at s victim) stood.mark (λ v slot h. absurd h)
+          (laws s st).mark (Fix w page) victim (mark_at s victim) (stood s st).mark (λ v slot h. absurd h)
 
       head_is : head_of image ≡ (victim, mark_at k.state victim)
       head_is =
@@ -353,7 +369,17 @@ module _ (old mid : Parts) (w page : ℕ) (r : Reply) (did : Stepped old mid (Fi
           × ErrandFits new (record { duty = Write w slot page victim; image = image })
       write_answers = (
         out_does frame write_sends new image was rest,
-        (refl, refl, λ s st. (frame, answer s st ∙ e, out frame write_sends new image was rest)),
+        (
+          refl,
+          refl,
+          λ s st. (
+            frame,
+            answer s st ∙ e,
+            (laws s st).sent_victim_frame w page frame victim (answer s st ∙ e),
+            (stood s st).frame,
+            out frame write_sends new image was rest,
+          ),
+        ),
         record {
           out = λ t b.
               same_errand new.core t (next k.state) b.core

@@ -16,6 +16,7 @@ use Rattle.pp_model.specs.Ready.{Standing, ready_at, Enters, ImageComes}
 use Rattle.pp_model.specs.Shapes.{fits_reply}
 use Rattle.pp_model.proofs.Shapes.{reply_fits}
 use Rattle.pp_model.proofs.ReadyAnswers.{written_keeps, unwritten_enters}
+use Rattle.pp_model.proofs.ReadyLaws.{ready_stand}
 use Rattle.pp_core.specs.StandsFor as core
 use Rattle.pp_core.specs.Queries.{errand_of}
 use Rattle.pp_core.specs.AfterMoves.{AfterMoves}
@@ -212,6 +213,13 @@ module _ (old : Parts) (w slot page victim : ℕ) (image : List ℕ)
             (entered s (next s) st.core.reached image victim (record { frame = frame_at s page; mark = mark_at s victim })
             (enters s st) (fits s st).head p x is)
 
+        -- The victim has the frame that the page had.
+        has_frame : (s : State) → StandsFor old s → frame_of (next s) victim ≡ frame_of s page
+        has_frame s st =
+            (ready_stand (next s) (did.moves.stands s st.core).reached victim
+            (record { frame = frame_at s page; mark = mark_at s victim }) (enters s st).is).frame
+            ∙ ap {B = Option ℕ} (λ f. Some f) (same_frame s st) ∙ told s st.core
+
         pub unwritten_is : (ok ≡ false) × Does old (write_call old.page_bytes w slot page victim image ok) new
             × IsUnwritten old w page image (record { worker = w }) new
         unwritten_is =
@@ -221,6 +229,12 @@ module _ (old : Parts) (w slot page victim : ℕ) (image : List ℕ)
               back.in_does old mid w (WriteDone w ok) refl call r did calls frame of_page image long comes ready new rest,
               record {
                 replies = λ s st. subst (λ b. reply_of s (WriteDone w b) ≡ Failed WriteFault) fault.0 (failed s st);
+                victim = λ s st. (
+                  slot,
+                  victim,
+                  (fits s st).errand,
+                  subst (λ b. frame_of (next_of s (WriteDone w b)) victim ≡ frame_of s page) fault.0 (has_frame s st),
+                );
                 worker = refl;
                 leaves = λ t b.
                     same_leaving new.core t (next k.state) b.core

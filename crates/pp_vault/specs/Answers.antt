@@ -83,11 +83,15 @@ pub record IsWritten (old : Parts) (w slot page victim : ℕ) (image : List ℕ)
   pub fits : ErrandFits new errand
   pub images : ImagesStay old new
 
--- The victim isn't written. Its image is back, in the frame that the page had, and the worker leaves its plan.
+-- The victim isn't written. The victim of the worker's errand has the frame again that the page had, with its image in
+-- it, and the worker leaves its plan.
 pub record IsUnwritten (old : Parts) (w page : ℕ) (image : List ℕ) (leaver : Leaver) (new : Parts) : Type 0 where
   pub replies : (s : State) → StandsFor old s → reply_of s (WriteDone w false) ≡ Failed WriteFault
   pub worker : leaver.worker ≡ w
   pub leaves : (s : State) → StandsFor new s → is_leaving s w ≡ true
+  pub victim : (s : State) → StandsFor old s
+      → (slot : ℕ) × (victim : ℕ) × (errand_of s w ≡ Some (slot, page, Some victim))
+      × (frame_of (next_of s (WriteDone w false)) victim ≡ frame_of s page)
   pub images : (s : State) → StandsFor old s → (frame : ℕ) × (frame_of s page ≡ Some frame) × PutIn old new frame image
 
 -- What the answer of a victim's write comes to, where it isn't refused.

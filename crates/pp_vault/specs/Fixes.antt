@@ -6,6 +6,7 @@ use Rattle.pp_model.specs.declared.moves.Move.TheVariants.{Fix}
 use Rattle.pp_model.specs.declared.reply.Reply.TheVariants.{Hit, MustRead, MustWrite}
 use Rattle.pp_model.specs.Pool.{State, frame_of}
 use Rattle.pp_model.specs.Moves.{reply_of, next_of}
+use Rattle.pp_model.specs.Ready.{Vacates}
 use Rattle.pp_core.specs.Queries.{ask_of}
 use Rattle.pp_vault.specs.declared.tokens.Session.{Session}
 use Rattle.pp_vault.specs.declared.tokens.Duty.{Duty}
@@ -38,15 +39,18 @@ pub record IsHit (old new : Parts) (w page : ℕ) (x : Session) (g : PinGuard) :
   pub of_page : g.page ≡ page
   pub images : ImagesStay old new
 
--- A device has to work: the errand has the image of the frame that the page gets. That is the victim's, where the
--- victim is written back.
+-- A device has to work: the page gets a frame, and the errand has the image that was in it. Where a victim is written
+-- back, the frame was the victim's. Where the page is read at once, no page was ready in the frame, or one that was has
+-- left it.
 abbrev pub IsSent : (old new : Parts) → (w page : ℕ) → (image : List ℕ) → Duty → Type 0
 IsSent old new w page image (Read v slot p) =
     (v ≡ w) × (p ≡ page) × ((s : State) → StandsFor old s → (frame : ℕ)
-    × (reply_of s (Fix w page) ≡ MustRead frame) × TakenOut old new frame image)
+    × (reply_of s (Fix w page) ≡ MustRead frame) × (frame_of (next_of s (Fix w page)) page ≡ Some frame)
+    × Vacates s (next_of s (Fix w page)) frame × TakenOut old new frame image)
 IsSent old new w page image (Write v slot p victim) =
     (v ≡ w) × (p ≡ page) × ((s : State) → StandsFor old s → (frame : ℕ)
-    × (reply_of s (Fix w page) ≡ MustWrite frame victim) × TakenOut old new frame image)
+    × (reply_of s (Fix w page) ≡ MustWrite frame victim) × (frame_of (next_of s (Fix w page)) page ≡ Some frame)
+    × (frame_of s victim ≡ Some frame) × TakenOut old new frame image)
 IsSent old new w page image (Flush p) = ⊥
 
 abbrev pub FixAnswers : (old : Parts) → Session → (page : ℕ) → Fixed → (new : Parts) → Type 0
