@@ -15,6 +15,7 @@ use Rattle.pp_model.specs.Shapes.{is_answer}
 use Rattle.pp_core.specs.Queries.{is_idle, ask_of}
 use Rattle.pp_core.specs.StandsFor as core
 use Rattle.pp_core.proofs.AfterMoves.{after_moves}
+use Rattle.pp_core.proofs.Alike.{same_idle}
 use Rattle.pp_vault.specs.declared.refusal.Refusal.{Refusal}
 use Rattle.pp_vault.specs.Parts.{Parts}
 use Rattle.pp_vault.specs.StandsFor.{StandsFor, IsKept}
@@ -130,6 +131,14 @@ module _ (old new : Parts) (w : ℕ) (r : Reply) (kept : IsKept old) where
     finish_does =
         plain old new (tested test (Finish w)) (Finish w) r w step refl (ap is_still has_finished.1)
         (asked old test (Finish w) all)
+
+    -- It is idle, in each state that is stood for then.
+    pub finish_idle : (s : State) → StandsFor new s → is_idle s w ≡ true
+    finish_idle t st =
+        let s = kept.state in
+        let is = sym (step.moves.replies s kept.stands.core) ∙ has_finished.1 in
+        same_idle new.core t (next_of s (Finish w)) st.core (step.moves.stands s kept.stands.core) w
+        ∙ ((after_moves s kept.stands.core.reached).finished w has_finished.0 is).idle
 
     -- It held nothing, in each state that is stood for.
     pub finish_empty : HoldsNothing old w

@@ -1,5 +1,5 @@
 -- Slots that a leaving worker gives back.
-use Rattle.std.proofs.Common.{◌≡◌, ◌≢◌, ◌∙◌, ℕ, ◌+◌, ◌<◌, ◌&&◌, Bool, true, Some, List, length, refl, sym, ap, subst}
+use Rattle.std.proofs.Common.{◌≡◌, ◌≢◌, ◌∙◌, ℕ, ◌+◌, ◌<◌, ◌&&◌, Bool, true, Some, None, List, length, refl, sym, ap, subst}
 use Rattle.std.specs.Prelude.{slice_set, if◌then◌else◌, IsTrue, ◌==◌}
 use Rattle.pp_cert.specs.declared.note.Held.{Held}
 use Rattle.pp_cert.specs.declared.note.Held.TheVariants.{Free, S, X}
@@ -14,7 +14,8 @@ use Rattle.pp_model.proofs.ReadyAnswers.{unwound_enters}
 use Rattle.pp_core.specs.Queries.{is_leaving, held_of}
 use Rattle.pp_core.specs.AfterMoves.{HasUnwound, IsUnwindReply}
 use Rattle.pp_core.proofs.AfterMoves.{after_moves}
-use Rattle.pp_core.proofs.Alike.{same_leaving}
+use Rattle.pp_core.proofs.Alike.{same_leaving, same_held}
+use Rattle.pp_core.specs.StandsFor as core
 use Rattle.pp_device.specs.Image.{with_head, head_of}
 use Rattle.pp_vault.specs.declared.refusal.Refusal.{Refusal}
 use Rattle.pp_vault.specs.declared.tokens.Leaver.{Leaver}
@@ -81,6 +82,12 @@ module _ (old mid : Parts) (x : Leaver) (of slot page : ℕ) (held : Held) (othe
       let e = did_reply (next_of s (move.Unwind x.worker slot)) page held (reply_of s (move.Unwind x.worker slot)) other
       u.told in
       still_keeps s st.core.reached (move.Unwind x.worker slot) (subst (λ a. IsTrue (is_still a)) (sym e) refl)
+
+  pub slot_is_empty : (s : State) → StandsFor mid s → held_of s x.worker slot ≡ None
+  slot_is_empty t st =
+      same_held mid.core t (next_of k.state (move.Unwind x.worker slot)) st.core
+      (did.moves.stands k.state k.stands.core) x.worker slot
+      ∙ (unwound old mid x of slot page held true fit_long r did k.state k.stands).empty
 
   pub gives_slot : GivesSlot old x of slot page held mid x
   gives_slot =
@@ -149,23 +156,37 @@ module _ (old mid : Parts) (x : Leaver) (g : WriteGuard)
   unwind_low =
       going.low old mid x.worker g.slot g.page (move.Unwind x.worker g.slot) refl call r k did calls held raises frame at
 
-  pub gives_image : (b : List ℕ) → b ≡ with_head g.image g.page (told_mark r) → head_of b ≡ (g.page, told_mark r)
-      → length b ≡ length g.image → (new : Parts) → new ≡ record mid { images = slice_set mid.images frame (Some b) }
-      → GivesImage old x g new x
-  gives_image b is head same new rest =
-      record {
-        still = record {
-          does =
-              going.back_does old mid x.worker g.slot g.page (move.Unwind x.worker g.slot) refl call r k did calls held
+  -- The parts with the image in its frame.
+  module _ (b : List ℕ) (is : b ≡ with_head g.image g.page (told_mark r)) (head : head_of b ≡ (g.page, told_mark r))
+      (same : length b ≡ length g.image) (new : Parts)
+      (rest : new ≡ record mid { images = slice_set mid.images frame (Some b) }) where
+    stands_core : core.StandsFor new.core (next_of k.state (move.Unwind x.worker g.slot))
+    stands_core =
+        going.back_core old mid x.worker g.slot g.page (move.Unwind x.worker g.slot) refl call r k did calls held raises
+        frame at g.image b is head (same ∙ long) new rest
+
+    left : HasUnwound k.state (next_of k.state (move.Unwind x.worker g.slot)) x.worker g.slot g.page X
+        (reply_of k.state (move.Unwind x.worker g.slot))
+    left = unwound old mid x g.worker g.slot g.page X (is_long old g.image) fit r did k.state k.stands
+
+    pub image_slot_is_empty : (s : State) → StandsFor new s → held_of s x.worker g.slot ≡ None
+    image_slot_is_empty t st =
+        same_held new.core t (next_of k.state (move.Unwind x.worker g.slot)) st.core stands_core x.worker g.slot
+        ∙ left.empty
+
+    pub gives_image : GivesImage old x g new x
+    gives_image =
+        record {
+          still = record {
+            does =
+                going.back_does old mid x.worker g.slot g.page (move.Unwind x.worker g.slot) refl call r k did calls held
+                raises frame at g.image b is head (same ∙ long) new rest;
+            same = refl;
+            leaves = λ t st.
+                same_leaving new.core t (next_of k.state (move.Unwind x.worker g.slot)) st.core stands_core x.worker
+                ∙ left.leaving;
+          };
+          image =
+              going.put_back old mid x.worker g.slot g.page (move.Unwind x.worker g.slot) refl call r k did calls held
               raises frame at g.image b is head (same ∙ long) new rest;
-          same = refl;
-          leaves = λ t st.
-              same_leaving new.core t (next_of k.state (move.Unwind x.worker g.slot)) st.core
-              (going.back_core old mid x.worker g.slot g.page (move.Unwind x.worker g.slot) refl call r k did calls held
-              raises frame at g.image b is head (same ∙ long) new rest) x.worker
-              ∙ (unwound old mid x g.worker g.slot g.page X (is_long old g.image) fit r did k.state k.stands).leaving;
-        };
-        image =
-            going.put_back old mid x.worker g.slot g.page (move.Unwind x.worker g.slot) refl call r k did calls held raises
-            frame at g.image b is head (same ∙ long) new rest;
-      }
+        }

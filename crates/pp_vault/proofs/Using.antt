@@ -1,5 +1,5 @@
 -- Unfix, latch S and unlatch S.
-use Rattle.std.proofs.Common.{◌≡◌, ◌∙◌, ℕ, true, Some, refl, sym, ap, subst}
+use Rattle.std.proofs.Common.{◌≡◌, ◌∙◌, ℕ, true, Some, None, refl, sym, ap, subst}
 use Rattle.std.specs.Prelude.{IsTrue}
 use Rattle.pp_plan.specs.declared.mode.Mode.TheVariants as mode
 use Rattle.pp_plan.specs.declared.action.Ask.TheVariants as ask
@@ -71,6 +71,10 @@ module _ (old new : Parts) (x : Session) (g : PinGuard) (r : Reply) (kept : IsKe
 
   pub unfix_acts : Acts new x.worker
   unfix_acts = acts_after old new (move.Unfix x.worker) r kept h.moves unfix_images x.worker has_unfixed.acts
+
+  pub unfix_empty : (s : State) → StandsFor new s → held_of s x.worker g.slot ≡ None
+  unfix_empty =
+      held_after old new (move.Unfix x.worker) r kept h.moves unfix_images x.worker g.slot None has_unfixed.empty
 
   pub unfixes : (y : Session) → SessionFits new x.worker y → Unfixes old x g new y
   unfixes y session =

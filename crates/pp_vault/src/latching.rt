@@ -1,11 +1,11 @@
 //! Unfix, latch and unlatch: guards that turn into one another.
 
-ghost use Rattle.std.specs.Prelude.{◌≡◌, ◌<◌, ◌&&◌, true, Some, IfOk, IfErr, IfSome, IfNone, OnErr, length, slice_set};
+ghost use Rattle.std.specs.Prelude.{◌≡◌, ◌<◌, ◌&&◌, true, None, Some, IfOk, IfErr, IfSome, IfNone, OnErr, length, slice_set};
 ghost use Rattle.pp_device.specs.Image.{with_head};
 ghost use Rattle.pp_model.specs.Pool.{State};
 ghost use Rattle.pp_cert.specs.declared.note.Held.TheVariants.{S, X};
 ghost use Rattle.pp_plan.specs.declared.mode.Mode.TheVariants as mode;
-ghost use Rattle.pp_core.specs.Queries.{ask_of};
+ghost use Rattle.pp_core.specs.Queries.{ask_of, held_of};
 ghost use Rattle.pp_vault.specs.Calls.{Call, refusal_of};
 ghost use Rattle.pp_vault.specs.Parts.{parts_of};
 ghost use Rattle.pp_vault.specs.StandsFor.{StandsFor, IsKept};
@@ -122,6 +122,8 @@ impl Store {
     ) -> Result<Session, (Session, PinGuard, Refusal)>
         requires { IsKept (parts_of self.old) }
         ensures ok { IfOk result (λ after. Unfixes (parts_of self.old) session guard (parts_of self.new) after) }
+        ensures empty { IfOk result (λ _. (s : State) → StandsFor (parts_of self.new) s
+            → held_of s session.worker guard.slot ≡ None) }
         ensures err { IfErr result (λ e. Refuses (parts_of self.old)
             (unfix_call session.worker guard.worker guard.slot guard.page) e.2) }
         ensures back { IfErr result (λ e. (e.0 ≡ session) × (e.1 ≡ guard)) }

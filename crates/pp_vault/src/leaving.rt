@@ -1,8 +1,10 @@
 //! Giving slots back: what a worker that leaves its plan does with its guards.
 
-ghost use Rattle.std.specs.Prelude.{◌≡◌, ◌≢◌, ◌&&◌, true, IfOk, IfErr, OnErr};
+ghost use Rattle.std.specs.Prelude.{◌≡◌, ◌≢◌, ◌&&◌, true, None, IfOk, IfErr, OnErr};
 ghost use Rattle.pp_model.specs.Pool.{State};
 ghost use Rattle.pp_cert.specs.declared.note.Held.TheVariants.{X};
+ghost use Rattle.pp_core.specs.Queries.{held_of};
+ghost use Rattle.pp_vault.specs.Holding.{slot_by};
 ghost use Rattle.pp_vault.specs.Parts.{parts_of};
 ghost use Rattle.pp_vault.specs.StandsFor.{StandsFor, IsKept};
 ghost use Rattle.pp_vault.specs.Fits.{leaver_fits as fits_leaving, unwind_call};
@@ -49,6 +51,8 @@ impl Store {
         requires not_written { held ≢ X }
         ensures ok { IfOk result
             (λ after. GivesSlot (parts_of self.old) leaver of slot page held (parts_of self.new) after) }
+        ensures empty { IfOk result (λ _. (s : State) → StandsFor (parts_of self.new) s
+            → held_of s leaver.worker slot ≡ None) }
         ensures err { IfErr result (λ e. Refuses (parts_of self.old)
             (unwind_call true held leaver.worker of slot page) e.1) }
         ensures back { IfErr result (λ e. e.0 ≡ leaver) }
@@ -74,6 +78,8 @@ impl Store {
     ) -> Result<Leaver, (Leaver, WriteGuard, Refusal)>
         requires { IsKept (parts_of self.old) }
         ensures ok { IfOk result (λ after. GivesImage (parts_of self.old) leaver guard (parts_of self.new) after) }
+        ensures empty { IfOk result (λ _. (s : State) → StandsFor (parts_of self.new) s
+            → held_of s leaver.worker guard.slot ≡ None) }
         ensures err { IfErr result (λ e. Refuses (parts_of self.old) (unwind_call
             (is_long (parts_of self.old) guard.image) X leaver.worker guard.worker guard.slot guard.page) e.2) }
         ensures back { IfErr result (λ e. (e.0 ≡ leaver) × (e.1 ≡ guard)) }
@@ -113,6 +119,8 @@ impl Store {
     ) -> Result<Leaver, (Leaver, Guard, Refusal)>
         requires { IsKept (parts_of self.old) }
         ensures ok { IfOk result (λ after. GivesBack (parts_of self.old) leaver guard (parts_of self.new) after) }
+        ensures empty { IfOk result (λ _. (s : State) → StandsFor (parts_of self.new) s
+            → held_of s leaver.worker (slot_by guard) ≡ None) }
         ensures err { IfErr result
             (λ e. Refuses (parts_of self.old) (give_back_call (parts_of self.old) leaver guard) e.2) }
         ensures back { IfErr result (λ e. (e.0 ≡ leaver) × (e.1 ≡ guard)) }

@@ -1,7 +1,8 @@
 //! Take, choose, finish and end: what a worker does without pages.
 
-ghost use Rattle.std.specs.Prelude.{◌≡◌, IfOk, IfErr, OnErr};
+ghost use Rattle.std.specs.Prelude.{◌≡◌, true, IfOk, IfErr, OnErr};
 ghost use Rattle.pp_model.specs.Pool.{State};
+ghost use Rattle.pp_core.specs.Queries.{is_idle};
 ghost use Rattle.pp_vault.specs.Parts.{parts_of};
 ghost use Rattle.pp_vault.specs.Fits.{take_call, choose_call, finish_call, end_call};
 ghost use Rattle.pp_vault.specs.StandsFor.{StandsFor, IsKept};
@@ -77,6 +78,8 @@ impl Store {
         ensures ok { IfOk result (λ _. Does (parts_of self.old) (finish_call session.worker) (parts_of self.new)) }
         ensures images { IfOk result (λ _. ImagesStay (parts_of self.old) (parts_of self.new)) }
         ensures chair { IfOk result (λ chair. chair ≡ record { worker = session.worker }) }
+        ensures idle { IfOk result (λ _. (s : State) → StandsFor (parts_of self.new) s
+            → is_idle s session.worker ≡ true) }
         ensures nothing_held { IfOk result (λ _. HoldsNothing (parts_of self.old) session.worker) }
         ensures err { IfErr result (λ e. Refuses (parts_of self.old) (finish_call session.worker) e.1) }
         ensures back { IfErr result (λ e. e.0 ≡ session) }
@@ -103,6 +106,8 @@ impl Store {
         ensures ok { IfOk result (λ _. Does (parts_of self.old) (end_call leaver.worker) (parts_of self.new)) }
         ensures images { IfOk result (λ _. ImagesStay (parts_of self.old) (parts_of self.new)) }
         ensures chair { IfOk result (λ chair. chair ≡ record { worker = leaver.worker }) }
+        ensures idle { IfOk result (λ _. (s : State) → StandsFor (parts_of self.new) s
+            → is_idle s leaver.worker ≡ true) }
         ensures nothing_held { IfOk result (λ _. HoldsNothing (parts_of self.old) leaver.worker) }
         ensures err { IfErr result (λ e. Refuses (parts_of self.old) (end_call leaver.worker) e.1) }
         ensures back { IfErr result (λ e. e.0 ≡ leaver) }

@@ -8,9 +8,10 @@ ghost use Rattle.pp_model.specs.Submitting.{submit_error};
 ghost use Rattle.pp_vault.specs.Submits.{TakesIn};
 ghost use Rattle.pp_model.specs.Turns.{next_turn, IsOpen, IsUnderWay};
 ghost use Rattle.pp_core.specs.Opening.{kept_of};
-ghost use Rattle.pp_core.specs.Queries.{ask_of, errand_of};
+ghost use Rattle.pp_core.specs.Queries.{is_idle, ask_of, held_of, errand_of};
 ghost use Rattle.pp_vault.specs.Stages.{AllIdle};
 ghost use Rattle.pp_vault.specs.Hands.{HandsFit};
+ghost use Rattle.pp_vault.specs.Holding.{slot_by};
 ghost use Rattle.pp_vault.specs.Leaves.{GivesBack, give_back_call};
 ghost use Rattle.pp_vault.specs.StandsFor.{StandsFor, IsKept};
 ghost use Rattle.pp_vault.specs.Headline.{HeadlineHolds};
@@ -141,6 +142,7 @@ impl Vault {
         ensures ok { IfOk result (λ _. Does self.old (finish_call session.worker) self.new) }
         ensures images { IfOk result (λ _. ImagesStay self.old self.new) }
         ensures chair { IfOk result (λ chair. chair ≡ record { worker = session.worker }) }
+        ensures idle { IfOk result (λ _. (s : State) → StandsFor self.new s → is_idle s session.worker ≡ true) }
         ensures nothing_held { IfOk result (λ _. HoldsNothing self.old session.worker) }
         ensures err { IfErr result (λ e. Refuses self.old (finish_call session.worker) e.1) }
         ensures back { IfErr result (λ e. e.0 ≡ session) }
@@ -160,6 +162,7 @@ impl Vault {
         ensures ok { IfOk result (λ _. Does self.old (end_call leaver.worker) self.new) }
         ensures images { IfOk result (λ _. ImagesStay self.old self.new) }
         ensures chair { IfOk result (λ chair. chair ≡ record { worker = leaver.worker }) }
+        ensures idle { IfOk result (λ _. (s : State) → StandsFor self.new s → is_idle s leaver.worker ≡ true) }
         ensures nothing_held { IfOk result (λ _. HoldsNothing self.old leaver.worker) }
         ensures err { IfErr result (λ e. Refuses self.old (end_call leaver.worker) e.1) }
         ensures back { IfErr result (λ e. e.0 ≡ leaver) }
@@ -327,6 +330,8 @@ impl Vault {
         guard: PinGuard,
     ) -> Result<Session, (Session, PinGuard, Refusal)>
         ensures ok { IfOk result (λ after. Unfixes self.old session guard self.new after) }
+        ensures empty { IfOk result (λ _. (s : State) → StandsFor self.new s
+            → held_of s session.worker guard.slot ≡ None) }
         ensures err { IfErr result (λ e. Refuses self.old
             (unfix_call session.worker guard.worker guard.slot guard.page) e.2) }
         ensures back { IfErr result (λ e. (e.0 ≡ session) × (e.1 ≡ guard)) }
@@ -455,6 +460,8 @@ impl Vault {
         guard: Guard,
     ) -> Result<Leaver, (Leaver, Guard, Refusal)>
         ensures ok { IfOk result (λ after. GivesBack self.old leaver guard self.new after) }
+        ensures empty { IfOk result (λ _. (s : State) → StandsFor self.new s
+            → held_of s leaver.worker (slot_by guard) ≡ None) }
         ensures err { IfErr result (λ e. Refuses self.old (give_back_call self.old leaver guard) e.2) }
         ensures back { IfErr result (λ e. (e.0 ≡ leaver) × (e.1 ≡ guard)) }
         ensures unchanged { OnErr result (self.new ≡ untold self.old) }

@@ -3,7 +3,7 @@ use Rattle.std.specs.Prelude.{unwrap_or}
 use Rattle.pp_device.specs.Image.{with_head}
 use Rattle.pp_vault.specs.Parts.{parts_of}
 use Rattle.pp_vault.proofs.BackSteps.{none_some}
-use Rattle.pp_vault.proofs.Unwinding.{unwind_framed, unwind_low, gives_image}
+use Rattle.pp_vault.proofs.Unwinding.{unwind_framed, unwind_low, gives_image, image_slot_is_empty}
 use Rattle.pp_vault.proofs.store.Store.give_image.Goals as goal
 
 pub unreachable-requires : goal.unreachable-requires
@@ -22,6 +22,16 @@ put-requires c =
 pub returns-in-Ok-clause-ok : goal.returns-in-Ok-clause-ok
 returns-in-Ok-clause-ok c =
     gives_image (parts_of c.args.self.now) (parts_of c.step.new.self) c.args.leaver c.args.guard
+    (λ s st. sym (c.if-not-fits_leaving_writer.ensures s st)) c.in-Ok.reply c.requires c.in-Ok.ensures.done
+    c.in-Some.frame (λ s st. ap (λ o. unwrap_or o 0) (sym c.in-Some.is ∙ c.frame_of.ensures s st.core))
+    c.set_head.new.self
+    (c.set_head.ensures.image ∙ ap (λ m. with_head c.args.guard.image c.args.guard.page m) c.mark_in.ensures)
+    (c.set_head.ensures.head ∙ ap (λ m. (c.args.guard.page, m)) c.mark_in.ensures)
+    c.set_head.ensures.length (parts_of c.put.new.self) c.put.ensures
+
+pub returns-in-Ok-clause-empty : goal.returns-in-Ok-clause-empty
+returns-in-Ok-clause-empty c =
+    image_slot_is_empty (parts_of c.args.self.now) (parts_of c.step.new.self) c.args.leaver c.args.guard
     (λ s st. sym (c.if-not-fits_leaving_writer.ensures s st)) c.in-Ok.reply c.requires c.in-Ok.ensures.done
     c.in-Some.frame (λ s st. ap (λ o. unwrap_or o 0) (sym c.in-Some.is ∙ c.frame_of.ensures s st.core))
     c.set_head.new.self

@@ -1,6 +1,6 @@
 use Rattle.std.proofs.Common.{◌∙◌, sym}
 use Rattle.pp_vault.specs.Parts.{parts_of}
-use Rattle.pp_vault.proofs.Using.{unfix_kept, unfix_acts, unfixes}
+use Rattle.pp_vault.proofs.Using.{unfix_kept, unfix_acts, unfix_empty, unfixes}
 use Rattle.pp_vault.proofs.store.Store.unfix.Goals as goal
 
 pub session-requires-clause-kept : goal.session-requires-clause-kept
@@ -20,3 +20,9 @@ returns-in-Ok-clause-ok c =
     unfixes (parts_of c.args.self.now) (parts_of c.step.new.self) c.args.session c.args.guard c.in-Ok.field-0
     c.requires c.in-Ok.ensures.done (λ s st. sym (c.fits_both-fits.ensures s st) ∙ c.in_default.ensures.none.0)
     (λ s st. sym (c.asks_unfix.ensures s st) ∙ c.in_default.ensures.none.1) c.session.result c.session.ensures
+
+pub returns-in-Ok-clause-empty : goal.returns-in-Ok-clause-empty
+returns-in-Ok-clause-empty c =
+    unfix_empty (parts_of c.args.self.now) (parts_of c.step.new.self) c.args.session c.args.guard c.in-Ok.field-0
+    c.requires c.in-Ok.ensures.done (λ s st. sym (c.fits_both-fits.ensures s st) ∙ c.in_default.ensures.none.0)
+    (λ s st. sym (c.asks_unfix.ensures s st) ∙ c.in_default.ensures.none.1)
