@@ -14,7 +14,7 @@ use Rattle.pp_core.specs.Queries.{ask_in, ask_by, ask_of}
 use Rattle.pp_vault.specs.Parts.{Parts}
 use Rattle.pp_vault.specs.StandsFor.{StandsFor}
 use Rattle.pp_vault.specs.Fits.{is_acting_by}
-use Rattle.pp_vault.specs.Tokens.{Acts}
+use Rattle.pp_vault.specs.Tokens.{ActsIn}
 
 -- ---- lists that are as long as each other
 
@@ -69,7 +69,7 @@ acts_if o some = go (ask_by o) some
     go (Some a) h = refl
 
 -- A worker that acts in one of the states acts in each.
-pub acts_in_each : (v : Parts) (s : State) (w : ℕ) → StandsFor v s → IsSome (ask_of s w) → Acts v w
+pub acts_in_each : (v : Parts) (s : State) (w : ℕ) → StandsFor v s → IsSome (ask_of s w) → ActsIn v w
 acts_in_each v s w st some t tt =
     acts_if (seat_of t w)
     (same_crew s.plans t.plans v.core.seats s.seats t.seats w st.core.seats tt.core.seats (seat_of s w) refl some)

@@ -15,7 +15,7 @@ use Rattle.pp_core.proofs.Alike.{same_ask, same_held, same_mark}
 use Rattle.pp_vault.specs.Parts.{Parts}
 use Rattle.pp_vault.specs.StandsFor.{StandsFor, ImagesFit, IsKept}
 use Rattle.pp_vault.specs.Steps.{Stepped}
-use Rattle.pp_vault.specs.Tokens.{Acts}
+use Rattle.pp_vault.specs.Tokens.{ActsIn}
 use Rattle.pp_vault.proofs.FitTests.{acts_by}
 use Rattle.pp_vault.proofs.Images.{fit_stays}
 
@@ -31,7 +31,7 @@ module _ (old new : Parts) (m : Move) (r : Reply) (kept : IsKept old) (moves : c
   pub answered : reply_of kept.state m ≡ r
   answered = sym (moves.replies kept.state kept.stands.core)
 
-  pub acts_after : (w : ℕ) → IsSome (ask_of (next_of kept.state m) w) → Acts new w
+  pub acts_after : (w : ℕ) → IsSome (ask_of (next_of kept.state m) w) → ActsIn new w
   acts_after w acts s st =
       acts_by (ask_of s w) (subst IsSome (same_ask new.core (next_of kept.state m) s after.core st.core w) acts)
 

@@ -35,7 +35,7 @@ use Rattle.pp_vault.specs.Fits.{is_acting_by, fix_call}
 use Rattle.pp_vault.specs.ImageMoves.{TakenOut}
 use Rattle.pp_vault.specs.Steps.{Stepped}
 use Rattle.pp_vault.specs.Events.{Does}
-use Rattle.pp_vault.specs.Tokens.{Acts, SessionFits, ErrandFits}
+use Rattle.pp_vault.specs.Tokens.{ActsIn, SessionFits, ErrandFits}
 use Rattle.pp_vault.specs.Fixes.{fix_slot, IsHit, IsSent}
 use Rattle.pp_vault.proofs.Images.{fit_stays, fit_out}
 use Rattle.pp_vault.proofs.Done.{does}
@@ -172,7 +172,7 @@ module _ (old mid : Parts) (w page : ℕ) (r : Reply) (did : Stepped old mid (Fi
         let f = found s st in
         ((laws s st).hit w page f.0 f.1 frame mark (answer s st ∙ e) f.2).acts
 
-    pub hit_acts : IsKept old → Acts mid w
+    pub hit_acts : IsKept old → ActsIn mid w
     hit_acts k t b =
         ap is_acting_by (same_ask mid.core t (next k.state) b.core (did.moves.stands k.state k.stands.core) w)
         ∙ acts_by (ask_of (next k.state) w) (acting k.state k.stands)

@@ -28,7 +28,7 @@ use Rattle.pp_vault.specs.Calls.{Call, asks, stranger}
 use Rattle.pp_vault.specs.Fits.{is_acting_by}
 use Rattle.pp_vault.specs.Steps.{Stepped}
 use Rattle.pp_vault.specs.Events.{Does}
-use Rattle.pp_vault.specs.Tokens.{Acts, SessionFits}
+use Rattle.pp_vault.specs.Tokens.{ActsIn, SessionFits}
 use Rattle.pp_vault.specs.Answers.{came_of, is_of_read, is_read_out, read_call, IsRead, IsUnread}
 use Rattle.pp_vault.proofs.ErrandSteps.{IsReading, is_reading, entered, returned}
 use Rattle.pp_vault.proofs.FixSteps.{acts_by}
@@ -150,7 +150,7 @@ module _ (old : Parts) (w slot page : ℕ) (image : List ℕ)
           pub loaded_kept : IsKept new
           loaded_kept = done_keeps old new call k loaded_does
 
-          pub loaded_acts : Acts new w
+          pub loaded_acts : ActsIn new w
           loaded_acts t b =
               ap is_acting_by (same_ask new.core t (next k.state) b.core stands_core w)
               ∙ acts_by (ask_of (next k.state) w) (has k.state k.stands).fixed.acts

@@ -24,7 +24,7 @@ use Rattle.pp_vault.specs.Fits.{take_call, choose_call, is_acting, is_acting_by}
 use Rattle.pp_vault.specs.Steps.{Stepped, Refused}
 use Rattle.pp_vault.specs.Events.{Refuses, Does}
 use Rattle.pp_vault.specs.ImageMoves.{ImagesStay}
-use Rattle.pp_vault.specs.Tokens.{Acts, HoldsNothing}
+use Rattle.pp_vault.specs.Tokens.{ActsIn, HoldsNothing}
 use Rattle.pp_vault.proofs.Actors.{acts_in_each}
 use Rattle.pp_vault.proofs.Done.{refuses}
 use Rattle.pp_vault.proofs.Plain.{answered, taken, chosen, finished, plain}
@@ -79,7 +79,7 @@ module _ (old new : Parts) (w : ℕ) (test : State → Bool) (m : Move) (r : Rep
   answer : is_answer m r ≡ true
   answer = answered kept.state m r told step.done
 
-  acts_after : Does old (tested test m) new → IsSome (ask_of (next_of kept.state m) w) → Acts new w
+  acts_after : Does old (tested test m) new → IsSome (ask_of (next_of kept.state m) w) → ActsIn new w
   acts_after does acts =
       let s = kept.state in
       let stands =
@@ -98,7 +98,7 @@ module _ (old new : Parts) (w : ℕ) (r : Reply) (kept : IsKept old) where
         plain old new (take_call w) (Take w) r w step refl (ap is_still plan_taken.1)
         (asked old (λ s. is_idle s w) (Take w) all)
 
-    pub take_acts : Acts new w
+    pub take_acts : ActsIn new w
     take_acts =
         let is = told old new w (λ s. is_idle s w) (Take w) r kept all step ∙ plan_taken.1 in
         let after = (after_moves kept.state kept.stands.core.reached).taken w plan_taken.0 is in
@@ -115,7 +115,7 @@ module _ (old new : Parts) (w : ℕ) (r : Reply) (kept : IsKept old) where
         plain old new (choose_call w i) (Choose w i) r w step refl (ap is_still branch_chosen)
         (asked old (λ s. is_acting s w) (Choose w i) all)
 
-    pub choose_acts : Acts new w
+    pub choose_acts : ActsIn new w
     choose_acts =
         let is = told old new w (λ s. is_acting s w) (Choose w i) r kept all step ∙ branch_chosen in
         let after = (after_moves kept.state kept.stands.core.reached).chosen w i is in

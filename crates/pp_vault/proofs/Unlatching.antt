@@ -24,7 +24,7 @@ use Rattle.pp_vault.specs.Calls.{Call, asks}
 use Rattle.pp_vault.specs.Steps.{Stepped, told_mark}
 use Rattle.pp_vault.specs.Events.{Does}
 use Rattle.pp_vault.specs.Fits.{fits_both, asks_unlatch, put_back_call, is_acting_by}
-use Rattle.pp_vault.specs.Tokens.{is_long, Acts, SessionFits}
+use Rattle.pp_vault.specs.Tokens.{is_long, ActsIn, SessionFits}
 use Rattle.pp_vault.specs.Uses.{UnlatchesExclusive}
 use Rattle.pp_vault.proofs.UseReplies.{is_unlatched}
 use Rattle.pp_vault.proofs.FitTests.{both_hold, guard_held, guard_asks, unlatch_asked, acts_by, Asking, asking}
@@ -111,7 +111,7 @@ module _ (old mid : Parts) (x : Session) (g : WriteGuard) (r : Reply) (k : IsKep
     pub exclusive_goes_kept : IsKept new
     exclusive_goes_kept = done_keeps old new call k goes_does
 
-    pub exclusive_goes_acts : Acts new x.worker
+    pub exclusive_goes_acts : ActsIn new x.worker
     exclusive_goes_acts t st =
         ap is_acting_by (same_ask new.core t (next_of k.state (move.Unlatch x.worker)) st.core goes_core x.worker)
         ∙ acts_by (ask_of (next_of k.state (move.Unlatch x.worker)) x.worker) now_free.acts

@@ -28,7 +28,7 @@ use Rattle.pp_vault.specs.declared.refusal.Refusal.{Refusal}
 use Rattle.pp_plan.specs.declared.mode.Mode.{Mode}
 use Rattle.pp_vault.specs.Fits.{fits_both, asks_unfix, asks_latch, asks_unlatch, unfix_call, latch_call, unlatch_call}
 use Rattle.pp_vault.specs.ImageMoves.{ImagesStay}
-use Rattle.pp_vault.specs.Tokens.{Acts, SessionFits}
+use Rattle.pp_vault.specs.Tokens.{ActsIn, SessionFits}
 use Rattle.pp_vault.specs.Uses.{Unfixes, LatchesShared, UnlatchesShared}
 use Rattle.pp_vault.proofs.UseReplies.{is_did, is_latched, is_unlatched}
 use Rattle.pp_vault.proofs.AfterSteps.{kept_after, acts_after, held_after, mark_after, images_stay}
@@ -69,7 +69,7 @@ module _ (old new : Parts) (x : Session) (g : PinGuard) (r : Reply) (kept : IsKe
       (after_moves kept.state kept.stands.core.reached).unfixed x.worker g.slot (did kept.state kept.stands)
       (unfix_asked g.slot (ask_of kept.state x.worker) (wanted kept.state kept.stands))
 
-  pub unfix_acts : Acts new x.worker
+  pub unfix_acts : ActsIn new x.worker
   unfix_acts = acts_after old new (move.Unfix x.worker) r kept h.moves unfix_images x.worker has_unfixed.acts
 
   pub unfix_empty : (s : State) → StandsFor new s → held_of s x.worker g.slot ≡ None
@@ -118,7 +118,7 @@ module _ (old new : Parts) (x : Session) (g : PinGuard) (r : Reply) (kept : IsKe
       (latched kept.state kept.stands) (latch_ask kept.state kept.stands)
       (guard_held kept.state x.worker g.worker g.slot g.page Free (fit kept.state kept.stands))
 
-  pub latch_acts : Acts new x.worker
+  pub latch_acts : ActsIn new x.worker
   latch_acts =
       acts_after old new (move.Latch x.worker) r kept h.moves latch_images x.worker
       has_latched.now.acts
@@ -198,7 +198,7 @@ module _ (old new : Parts) (x : Session) (g : ReadGuard) (r : Reply) (kept : IsK
       (after_moves kept.state kept.stands.core.reached).unlatched x.worker g.slot g.page (told_mark r) S
       (unlatched kept.state kept.stands) (unlatch_ask kept.state kept.stands) (was_held kept.state kept.stands)
 
-  pub unlatch_acts : Acts new x.worker
+  pub unlatch_acts : ActsIn new x.worker
   unlatch_acts =
       acts_after old new (move.Unlatch x.worker) r kept h.moves unlatch_images x.worker now_free.acts
 

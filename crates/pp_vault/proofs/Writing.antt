@@ -28,7 +28,7 @@ use Rattle.pp_vault.specs.Calls.{asks}
 use Rattle.pp_vault.specs.Steps.{Stepped, told_mark}
 use Rattle.pp_vault.specs.Fits.{fits_both, asks_latch, latch_call}
 use Rattle.pp_vault.specs.ImageMoves.{TakenOut}
-use Rattle.pp_vault.specs.Tokens.{Acts, SessionFits}
+use Rattle.pp_vault.specs.Tokens.{ActsIn, SessionFits}
 use Rattle.pp_vault.specs.Uses.{LatchesExclusive}
 use Rattle.pp_vault.proofs.AfterSteps.{kept_after, acts_after, held_after, mark_after}
 use Rattle.pp_vault.proofs.UseReplies.{is_latched}
@@ -120,7 +120,7 @@ module _ (old mid : Parts) (x : Session) (g : PinGuard) (r : Reply) (kept : IsKe
       (after_moves kept.state kept.stands.core.reached).latched x.worker g.slot g.page (told_mark r) mode.X
       (latched kept.state kept.stands) (latch_ask kept.state kept.stands) (was_held kept.state kept.stands)
 
-  pub exclusive_acts : Acts out x.worker
+  pub exclusive_acts : ActsIn out x.worker
   exclusive_acts = acts_after old out (move.Latch x.worker) r kept h.moves out_images x.worker has_latched.now.acts
 
   some_image : (a b : List ℕ) → ◌≡◌ {A = Option (List ℕ)} (Some a) (Some b) → a ≡ b

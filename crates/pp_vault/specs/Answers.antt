@@ -38,6 +38,7 @@ is_of_flush page long (Some flushed) = (flushed == page) && long
 abbrev pub is_flush_out : (page_bytes page : ℕ) → (image : List ℕ) → State → Bool
 is_flush_out page_bytes page image s = is_of_flush page (length image == page_bytes) (flushed_page s)
 
+-- The call that the answer to a flush comes to: the move, or a stranger's.
 abbrev pub flushed_call : (page_bytes page : ℕ) → (image : List ℕ) → (ok : Bool) → State → Call
 flushed_call page_bytes page image ok s = if is_flush_out page_bytes page image s then asks (FlushDone ok) else stranger
 
@@ -68,6 +69,7 @@ is_write_out page_bytes w slot page victim image s =
     is_of_write slot page victim
     ((length image == page_bytes) && is_head_of victim (head_of image) (known_mark s victim)) (errand_of s w)
 
+-- The call that the answer to a victim's write comes to.
 abbrev pub write_call : (page_bytes w slot page victim : ℕ) → (image : List ℕ) → (ok : Bool) → State → Call
 write_call page_bytes w slot page victim image ok s =
     if is_write_out page_bytes w slot page victim image s then asks (WriteDone w ok) else stranger
@@ -121,6 +123,7 @@ is_of_read slot page holds (Some (k, p, Some v)) = false
 abbrev pub is_read_out : (page_bytes w slot page : ℕ) → (image : List ℕ) → State → Bool
 is_read_out page_bytes w slot page image s = is_of_read slot page (length image == page_bytes) (errand_of s w)
 
+-- The call that the answer to a read comes to.
 abbrev pub read_call : (page_bytes w slot page : ℕ) → (image : List ℕ) → (ok : Bool) → State → Call
 read_call page_bytes w slot page image ok s =
     if is_read_out page_bytes w slot page image s then asks (ReadDone w (came_of ok (head_of image))) else stranger

@@ -53,6 +53,8 @@ IsSent old new w page image (Write v slot p victim) =
     × (frame_of s victim ≡ Some frame) × TakenOut old new frame image)
 IsSent old new w page image (Flush p) = ⊥
 
+-- What a fix comes to: the slot's guard, or an errand, each with what the call does; where it is refused, the session
+-- comes back and nothing has changed.
 abbrev pub FixAnswers : (old : Parts) → Session → (page : ℕ) → Fixed → (new : Parts) → Type 0
 FixAnswers old x page (Got session guard) new =
     Does old (fix_call x.worker page) new × IsHit old new x.worker page session guard

@@ -66,6 +66,7 @@ pub record IsWrite (page_bytes : ℕ) (s : State) (w slot : ℕ) (guard : WriteG
   pub head : head_of guard.image ≡ (guard.page, guard.mark)
   pub long : length guard.image ≡ page_bytes
 
+-- The guard is one of worker w and this slot, as the slot holds its page: not latched, latched S, or latched X.
 abbrev pub GuardFits : (page_bytes : ℕ) → State → (w slot : ℕ) → Guard → Type 0
 GuardFits page_bytes s w slot (Pin guard) = IsPin s w slot guard
 GuardFits page_bytes s w slot (Read guard) = IsRead s w slot guard

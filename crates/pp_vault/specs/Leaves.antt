@@ -40,6 +40,7 @@ give_back_call v x (Pin g) = unwind_call true Free x.worker g.worker g.slot g.pa
 give_back_call v x (Read g) = unwind_call true S x.worker g.worker g.slot g.page
 give_back_call v x (Write g) = unwind_call (is_long v g.image) X x.worker g.worker g.slot g.page
 
+-- What it does, by the guard: one of a page that is latched X has its image put back, and else all images stay.
 abbrev pub GivesBack : (old : Parts) → Leaver → Guard → (new : Parts) → Leaver → Type 0
 GivesBack old x (Pin g) new y = GivesSlot old x g.worker g.slot g.page Free new y
 GivesBack old x (Read g) new y = GivesSlot old x g.worker g.slot g.page S new y

@@ -17,6 +17,7 @@ pub record Parts : Type 0 where
   -- the move and the reply of the last call that was a move
   pub last : Option (Move × Reply)
 
+-- The same of a vault's inside.
 abbrev pub parts_of : Store → Parts
 parts_of s = record {
   core = s.core;

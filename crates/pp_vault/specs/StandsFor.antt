@@ -36,6 +36,7 @@ pub record ImagesFit (page_bytes : ℕ) (images : List (Option (List ℕ))) (spa
   pub spare_there : s.flush ≡ None → IsSome spare
   pub spare_long : (image : List ℕ) → spare ≡ Some image → length image ≡ page_bytes
 
+-- The core of these parts stands for the state, and their images and buffer fit it.
 pub record StandsFor (v : Parts) (s : State) : Type 0 where
   pub core : core.StandsFor v.core s
   pub images : ImagesFit v.page_bytes v.images v.spare s

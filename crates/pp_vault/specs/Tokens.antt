@@ -20,8 +20,8 @@ abbrev pub is_long : Parts → (image : List ℕ) → Bool
 is_long v image = length image == v.page_bytes
 
 -- Worker w acts in its plan.
-abbrev pub Acts : Parts → (w : ℕ) → Type 0
-Acts v w = (s : State) → StandsFor v s → is_acting s w ≡ true
+abbrev pub ActsIn : Parts → (w : ℕ) → Type 0
+ActsIn v w = (s : State) → StandsFor v s → is_acting s w ≡ true
 
 -- No slot of worker w holds a page.
 abbrev pub HoldsNothing : Parts → (w : ℕ) → Type 0
@@ -52,7 +52,7 @@ pub record WriteFits (v : Parts) (w : ℕ) (guard : WriteGuard) : Type 0 where
   pub head : head_of guard.image ≡ (guard.page, guard.mark)
   pub long : length guard.image ≡ v.page_bytes
 
--- What the errand is about is out, as the core tells it, and its image has as many bytes as a page.
+-- What the duty is about is out, as the core tells it.
 abbrev pub IsOut : State → Duty → Type 0
 IsOut s (Read w slot page) = errand_of s w ≡ Some (slot, page, None)
 IsOut s (Write w slot page victim) = errand_of s w ≡ Some (slot, page, Some victim)
@@ -65,6 +65,7 @@ IsHeaded s (Write w slot page victim) image =
     Some (head_of image) ≡ option_map (λ mark. (victim, mark)) (known_mark s victim)
 IsHeaded s (Flush page) image = Unit {0}
 
+-- What the errand is about is out, and its image is as long as a page. A victim's names the victim and its known mark.
 pub record ErrandFits (v : Parts) (errand : Errand) : Type 0 where
   pub out : (s : State) → StandsFor v s → IsOut s errand.duty
   pub headed : (s : State) → StandsFor v s → IsHeaded s errand.duty errand.image

@@ -22,13 +22,16 @@ use pp_core::{Came, Move, Reply};
 /// What the answer of a device comes to.
 #[derive(Debug)]
 pub enum Answered {
-    /// The page was read, and the slot holds it.
+    /// The page was read. Its image stands in its frame, and the slot holds it.
     Got(Session, PinGuard),
-    /// The victim was written, and the page has to be read now.
+    /// The victim was written. Its image goes on with an errand to read the page into it.
     Away(Errand),
-    /// The device failed, or gave another page or an older image. The worker leaves its plan.
+    /// The worker leaves its plan, and the image that came is back in the frame that the page had. Either the device
+    /// failed to write the victim, which has the frame again. Or it failed to read the page, or gave an image of another
+    /// page or of another stamp than the page's known mark; where no mark is known, a stamp of 2^62 or more.
     Lost(Leaver),
-    /// The flush is over; whether the page is clean.
+    /// The flush is over, and its buffer is back; whether the page is clean. It isn't where the device failed, or where
+    /// the page has changed meanwhile.
     Flushed(bool),
     /// It is refused, and nothing has changed.
     No(Returned, Refusal),

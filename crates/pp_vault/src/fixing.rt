@@ -16,7 +16,7 @@ use pp_core::{Ask, Move, Reply};
 pub enum Fixed {
     /// The page was cached, and the slot holds it.
     Got(Session, PinGuard),
-    /// A device has to work first.
+    /// A device has to work first. The page has a frame, and the errand has the image that was in it.
     Away(Errand),
     /// It is refused, and nothing has changed.
     No(Session, Refusal),

@@ -12,8 +12,9 @@ pub enum Refusal {
     NotNow(Delay),
     /// The move isn't one that may be asked here.
     OffPlan(Cause),
-    /// A token isn't one that this vault gave out, or not one of this state: the core has something else of its worker,
-    /// slot, page or latch.
+    /// A token isn't one of this state, as a token of another vault may not be: its worker isn't at that stage, its slot
+    /// doesn't hold that page with that latch, or its errand isn't out. Or two tokens are of different workers. Or an
+    /// image isn't as long as a page, or one that was to be written back isn't the victim's with its known mark.
     Stranger,
 }
 

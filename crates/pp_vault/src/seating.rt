@@ -8,7 +8,7 @@ ghost use Rattle.pp_vault.specs.Fits.{take_call, choose_call, finish_call, end_c
 ghost use Rattle.pp_vault.specs.StandsFor.{StandsFor, IsKept};
 ghost use Rattle.pp_vault.specs.Events.{Refuses, Does, untold};
 ghost use Rattle.pp_vault.specs.ImageMoves.{ImagesStay};
-ghost use Rattle.pp_vault.specs.Tokens.{SessionFits, Acts, HoldsNothing};
+ghost use Rattle.pp_vault.specs.Tokens.{SessionFits, ActsIn, HoldsNothing};
 
 use crate::refusal::Refusal;
 use crate::store::Store;
@@ -130,7 +130,7 @@ impl Store {
     /// The session of a worker that acts.
     pub(crate) fn session(&self, worker: u32) -> Session
         requires kept { IsKept (parts_of self.now) }
-        requires acts { Acts (parts_of self.now) worker }
+        requires acts { ActsIn (parts_of self.now) worker }
         ensures { SessionFits (parts_of self.now) worker result }
     {
         let Some(ask) = self.core.ask(worker) else {

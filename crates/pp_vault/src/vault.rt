@@ -295,6 +295,13 @@ impl Vault {
     }
 
     /// A worker fixes a page into the slot that its plan names.
+    ///
+    /// Where the page is cached, the slot holds it, and no image moves. Where it isn't, it gets a frame, and the image in
+    /// that frame goes with an errand: to have the page read into it, or first to be written back, where it is of a
+    /// victim that is newer than the device's.
+    ///
+    /// It is refused as [`Refusal::Stranger`] where the session's worker doesn't act, and else as the core refuses it.
+    /// Then the session comes back, and nothing has changed.
     #[tactic(auto, using(crate::proofs::FixKept::fix_keeps))]
     pub fn fix(&mut self, session: Session, page: u32) -> Fixed
         ensures answers { FixAnswers self.old session page result self.new }

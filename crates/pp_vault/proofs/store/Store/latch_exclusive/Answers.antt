@@ -3,7 +3,7 @@ use Rattle.std.specs.Prelude.{unwrap_or}
 use Rattle.pp_cert.specs.declared.note.Held.TheVariants.{Free}
 use Rattle.pp_vault.specs.Parts.{Parts, parts_of}
 use Rattle.pp_vault.specs.StandsFor.{IsKept}
-use Rattle.pp_vault.specs.Tokens.{Acts, SessionFits}
+use Rattle.pp_vault.specs.Tokens.{ActsIn, SessionFits}
 use Rattle.pp_vault.specs.Uses.{LatchesExclusive}
 use Rattle.pp_vault.proofs.BackSteps.{none_some}
 use Rattle.pp_vault.proofs.FitTests.{guard_held}
@@ -36,7 +36,7 @@ session-requires-clause-kept c =
 
 pub session-requires-clause-acts : goal.session-requires-clause-acts
 session-requires-clause-acts c =
-    subst (λ (v : Parts). Acts v c.args.session.worker) (sym c.take_out-image.ensures.rest)
+    subst (λ (v : Parts). ActsIn v c.args.session.worker) (sym c.take_out-image.ensures.rest)
     (exclusive_acts (parts_of c.args.self.now) (parts_of c.step.new.self) c.args.session c.args.guard c.in-Ok.reply
     c.requires c.in-Ok.ensures.done (λ s st. sym (c.fits_both-fits.ensures s st) ∙ c.in_default.ensures.none.0)
     (λ s st. sym (c.asks_latch.ensures s st) ∙ c.in_default.ensures.none.1) c.in-Some-frame_of.frame
