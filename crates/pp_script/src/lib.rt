@@ -8,7 +8,7 @@
 //!     device 0
 //!
 //! [`Script::from_text`] reads it exactly: what it accepts, and the first line that it refuses, are said by how cues
-//! and troubles are printed.
+//! and troubles are spelled.
 #![tactic(auto)]
 
 mod cue;

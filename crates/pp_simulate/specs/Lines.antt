@@ -37,7 +37,7 @@ abbrev pub turn_text : Option Turn → List ℕ
 turn_text None = codes "none"
 turn_text (Some turn) = turn_words turn
 
--- Who is next, and how many calls are left at most, as in `next act 1 budget 53`.
+-- Whose move is next, and how many moves are left at most, as in `next act 1 budget 53`.
 abbrev pub next_text : Option Turn → ℕ → List ℕ
 next_text turn budget = codes "next " ++ turn_text turn ++ codes " budget " ++ decimal budget
 

@@ -39,8 +39,8 @@ TellsSubmit submits (Submit error) = submits ≡ Err error
 TellsSubmit submits OutOfMemory = ⊤
 
 -- The text is one that playing the script may come to: the plans are all taken in, each cue in its turn comes to a
--- line as the pool's model has it, from the state with these plans up to a last state, and the text has the lines of
--- the plans, of the cues, and of that last state.
+-- line, from the state with these plans up to a last state, and the text has the lines of the plans, of the cues, and
+-- of that last state. The line of a move that is done is the model's; every other line leaves the state.
 pub record Simulates (c : Configuration) (plans : List Acceptance) (script : Scenario) (told : List ℕ) : Type 0 where
   pub taken_in : State
   pub submits : after_submits (opening (kept_of c)) plans ≡ Ok taken_in

@@ -26,7 +26,7 @@ impl fmt::Display for Queued {
     }
 }
 
-/// Who is next, and how many calls are left at most, as in `next act 1 budget 53`.
+/// Whose move is next, and how many moves are left at most, as in `next act 1 budget 53`.
 #[derive(Clone, Copy, Debug)]
 struct Next {
     turn: Option<Turn>,
@@ -93,7 +93,7 @@ fn push_cues(
     Ok(())
 }
 
-/// Adds the line that says who is next, and how many calls are left at most.
+/// Adds the line that says whose move is next, and how many moves are left at most.
 fn push_next(alloc: Global, text: &mut String, vault: &Vault) -> Result<(), AllocError>
     ensures { OnOk result ((s : State) → StandsFor vault.now s
         → string_bytes text.new ≡ string_bytes text.old ++ next_line s) }

@@ -238,7 +238,8 @@ impl Vault {
         self.store.core.next_possible()
     }
 
-    /// The bound on the calls that are left to be done: each that is done lowers it by 1 at least.
+    /// The bound on the moves that are left: each call that is done lowers it by 1 at least, and [`Vault::submit`] raises
+    /// it by the plan's cost.
     pub fn budget(&self) -> u64
         ensures bound { (s : State) → StandsFor self.now s → result ≡ bound s }
         ensures value { result ≡ self.now.core.budget }
