@@ -1,4 +1,4 @@
-//! What was asked for with the bytes of its files, and the outcome as a function of these.
+//! What was asked for with the bytes of its files, and what these come to: one outcome, but where a script is played.
 
 ghost use Rattle.std.specs.Prelude.{map};
 ghost use Rattle.pp_judge.specs.Answers.{certification_answer, judgement_answer, ComesTo, MayAnswer, MayCome};
