@@ -25,6 +25,9 @@ there_by places n x false at e =
     let past : length places ≤ n = grind (arith, nat_tests) in
     absurd (false≢true (ap is_none (sym e ∙ get_or_past places n None past)))
 
+pub is_within : {T : Type 0} (places : List (Option T)) (n : ℕ) (x : T) → placed places n ≡ Some x → n < length places
+is_within places n x e = there_by places n x (nat_lt n (length places)) refl e
+
 pub taken_free : {T : Type 0} (places : List (Option T)) (n : ℕ) (x : T) → placed places n ≡ Some x
     → is_free (slice_set places n None) n ≡ true
-taken_free places n x e = freed places n (there_by places n x (nat_lt n (length places)) refl e)
+taken_free places n x e = freed places n (is_within places n x e)

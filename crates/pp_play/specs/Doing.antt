@@ -1,9 +1,9 @@
 -- What the functions that play one cue tell one another.
-use Rattle.std.specs.Prelude.{◌≡◌, ℕ, Option, None, Some, IsSome, List, length}
+use Rattle.std.specs.Prelude.{◌≡◌, ◌≢◌, ℕ, Option, None, Some, IsSome, List, length}
 use Rattle.pp_plan.specs.declared.action.Ask.TheVariants as ask
 use Rattle.pp_model.specs.declared.moves.Move.{Move}
 use Rattle.pp_model.specs.Pool.{State}
-use Rattle.pp_model.specs.Moves.{reply_of, next_of}
+use Rattle.pp_model.specs.Moves.{reply_of, next_of, seat_of}
 use Rattle.pp_core.specs.Queries.{ask_of, errand_of}
 use Rattle.pp_vault.specs.Calls.{refusal_in}
 use Rattle.pp_vault.specs.Parts.{Parts}
@@ -12,7 +12,14 @@ use Rattle.pp_vault.specs.Holding.{placed}
 use Rattle.pp_script.specs.declared.cue.Cue.{Cue}
 use Rattle.pp_script.specs.declared.cue.Cue.TheVariants.{Take, Fix, Device, Unfix, Latch, Unlatch, Choose, Unwind, Finish}
 use Rattle.pp_script.specs.declared.cue.Cue.TheVariants.{Flush, FlushDevice, Write, Look}
+use Rattle.pp_vault.specs.declared.guards.Guard.{Guard}
+use Rattle.pp_vault.specs.declared.stage.Hand.{Hand}
+use Rattle.pp_vault.specs.declared.hands.Flushing.{Flushing}
+use Rattle.pp_vault.specs.Hands.{FlushingFits}
+use Rattle.pp_vault.specs.HandLaws.{FitsIn}
+use Rattle.pp_play.specs.declared.line.Line.{Line}
 use Rattle.pp_play.specs.Plays.{IsMoveOf}
+use Rattle.pp_play.specs.Exact.{IsLineOf}
 
 -- The worker of a cue; none where it is of the flusher.
 abbrev pub cue_worker : Cue → Option ℕ
@@ -56,3 +63,25 @@ abbrev pub ErrandHasPlace : {T : Type 0} → Parts → (w : ℕ) → List (Optio
 ErrandHasPlace v w places =
     (s : State) → StandsFor v s → (slot page : ℕ) (victim : Option ℕ) → errand_of s w ≡ Some (slot, page, victim)
     → HasPlace places slot
+
+-- The flusher's token fits, in every state that the parts stand for.
+abbrev pub FlushingFitsIn : Parts → Option Flushing → Type 0
+FlushingFitsIn v flushing = (s : State) → StandsFor v s → FlushingFits v.page_bytes s flushing
+
+-- The hands of all other workers and the flusher's token, where they fit, still do.
+pub record LeavesOthers (old : Parts) (w : ℕ) (new : Parts) : Type 0 where
+  pub hands : (v : ℕ) → v ≢ w → (hand : Hand) → FitsIn old v hand → FitsIn new v hand
+  pub flushing : (flushing : Option Flushing) → FlushingFitsIn old flushing → FlushingFitsIn new flushing
+
+-- A cue of worker w is played with a hand that fits: its line is exact, and all hands still fit.
+pub record HandPlays (old : Parts) (w : ℕ) (hand : Hand) (cue : Cue) (line : Line) (new : Parts)
+    (left : Hand) : Type 0 where
+  pub exact : (s : State) → StandsFor old s → IsLineOf old s hand.guards left.guards cue line
+  pub fit : FitsIn new w left
+  pub others : LeavesOthers old w new
+
+-- The line of a cue whose worker isn't there is exact.
+abbrev pub IsLineWithout : Cue → Line → Type 0
+IsLineWithout cue line =
+    (v : Parts) (s : State) (w : ℕ) (guards : List (Option Guard)) → cue_worker cue ≡ Some w → seat_of s w ≡ None
+    → IsLineOf v s guards guards cue line

@@ -1,3 +1,6 @@
 pub mod Words
 pub mod Plays
 pub mod Doing
+pub mod Exact
+pub mod FirstBytes
+pub mod Guarding

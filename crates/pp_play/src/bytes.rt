@@ -1,21 +1,29 @@
 //! Write and look: cues that reach the body of a page that a worker has latched.
 
-ghost use Rattle.std.specs.Prelude.{◌≡◌, ◌≢◌, true, Some, length};
+ghost use Rattle.std.specs.Prelude.{◌≡◌, ◌≢◌, ℕ, true, Some, length, slice_get};
+ghost use Rattle.pp_vault.specs.Parts.{Parts};
 ghost use Rattle.pp_vault.specs.Holding.{slot_by};
-ghost use Rattle.pp_vault.specs.StandsFor.{IsKept};
+ghost use Rattle.pp_vault.specs.Hands.{GuardFits};
+ghost use Rattle.pp_vault.specs.HandLaws.{FitsIn};
+ghost use Rattle.pp_vault.specs.StandsFor.{StandsFor, IsKept};
+ghost use Rattle.pp_core.specs.Queries.{held_of};
 ghost use Rattle.pp_model.specs.Pool.{State};
 ghost use Rattle.pp_script.specs.declared.cue.Cue.{Cue};
+ghost use Rattle.pp_script.specs.declared.cue.Cue.TheVariants as cue;
 ghost use Rattle.pp_play.specs.Plays.{is_write, is_look, Tells};
+ghost use Rattle.pp_play.specs.Doing.{HandPlays};
+ghost use Rattle.pp_play.specs.FirstBytes.{line_of_first, WritesInto, LooksWith};
 
 use crate::guards::put;
 use crate::line::Line;
-use pp_device::image;
 use pp_vault::{Guard, Hand, Vault};
 
 /// A worker sets the first byte of the body of a page that it has latched X.
 pub(crate) fn write(hand: Hand, slot: u32, byte: u8) -> (Hand, Line)
     ensures stage { result.0.stage ≡ hand.stage }
     ensures tells { (cue : Cue) → is_write cue ≡ true → (s : State) → Tells s cue result.1 s }
+    ensures plays { (v : Parts) (w : ℕ) → FitsIn v w hand
+        → HandPlays v w hand (cue.Write w slot byte) result.1 v result.0 }
 {
     let Hand { stage, mut guards } = hand;
     let line = match guards.take(slot) {
@@ -33,6 +41,7 @@ pub(crate) fn write(hand: Hand, slot: u32, byte: u8) -> (Hand, Line)
 fn written(guard: Guard, byte: u8) -> (Guard, Line)
     ensures slot { slot_by result.0 ≡ slot_by guard }
     ensures tells { (cue : Cue) → is_write cue ≡ true → (s : State) → Tells s cue result.1 s }
+    ensures into { WritesInto byte guard result.1 result.0 }
 {
     match guard {
         Guard::Write(mut guard) => {
@@ -49,15 +58,17 @@ fn written(guard: Guard, byte: u8) -> (Guard, Line)
     }
 }
 
-/// A worker looks at the first byte of the body of a page that it has latched. The buffer is as long as a page.
-pub(crate) fn look(vault: &Vault, hand: Hand, buffer: &mut [u8], slot: u32) -> (Hand, Line)
+/// A worker looks at the first byte of the body of a page that it has latched.
+pub(crate) fn look(vault: &Vault, hand: Hand, slot: u32) -> (Hand, Line)
     ensures stage { result.0.stage ≡ hand.stage }
     ensures tells { (cue : Cue) → is_look cue ≡ true → (s : State) → Tells s cue result.1 s }
+    ensures plays { (w : ℕ) → FitsIn vault.now w hand
+        → HandPlays vault.now w hand (cue.Look w slot) result.1 vault.now result.0 }
 {
     let Hand { stage, mut guards } = hand;
     let line = match guards.take(slot) {
         Some(guard) => {
-            let line = looked(vault, &guard, buffer);
+            let line = looked(vault, &guard);
             put(&mut guards, guard);
             line
         }
@@ -67,23 +78,28 @@ pub(crate) fn look(vault: &Vault, hand: Hand, buffer: &mut [u8], slot: u32) -> (
 }
 
 /// The first byte of the body of the guard's page, where it is latched.
-fn looked(vault: &Vault, guard: &Guard, buffer: &mut [u8]) -> Line
-    ensures { (cue : Cue) → is_look cue ≡ true → (s : State) → Tells s cue result s }
+fn looked(vault: &Vault, guard: &Guard) -> Line
+    ensures tells { (cue : Cue) → is_look cue ≡ true → (s : State) → Tells s cue result s }
+    ensures looks { (s : State) → StandsFor vault.now s → (w slot : ℕ)
+        → GuardFits vault.now.page_bytes s w slot guard.now
+        → LooksWith vault.now s (held_of s w slot) guard.now result }
 {
     match guard {
         Guard::Pin(_) => Line::NoLatch,
-        Guard::Read(guard) => {
-            if !vault.look(guard, buffer) {
-                return Line::NoLatch;
-            }
-            match buffer.get(image::HEAD) {
-                Some(byte) => Line::Looked(*byte),
-                None => Line::NoLatch,
-            }
-        }
-        Guard::Write(guard) => match guard.body().first() {
-            Some(byte) => Line::Looked(*byte),
+        Guard::Read(guard) => match vault.see(guard) {
+            Some(body) => first_byte(body),
             None => Line::NoLatch,
         },
+        Guard::Write(guard) => first_byte(guard.body()),
+    }
+}
+
+/// The first byte of a body, where it has one.
+fn first_byte(body: &[u8]) -> Line
+    ensures { result ≡ line_of_first (slice_get body.now 0) }
+{
+    match body.first() {
+        Some(byte) => Line::Looked(*byte),
+        None => Line::NoLatch,
     }
 }

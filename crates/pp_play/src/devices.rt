@@ -1,24 +1,28 @@
 //! Errands: what a device is asked for a worker or for the flusher, and its answer.
 
-ghost use Rattle.std.specs.Prelude.{◌≡◌, true, None, Some};
+ghost use Rattle.std.specs.Prelude.{◌≡◌, true, false, None, Some};
 ghost use Rattle.pp_vault.specs.Stages.{stage_worker};
 ghost use Rattle.pp_vault.specs.Duties.{duty_worker};
 ghost use Rattle.pp_vault.specs.StandsFor.{IsKept};
+ghost use Rattle.pp_vault.specs.Hands.{HandsFit};
+ghost use Rattle.pp_vault.specs.HandLaws.{FitsIn};
 ghost use Rattle.pp_script.specs.declared.cue.Cue.TheVariants as cue;
 ghost use Rattle.pp_play.specs.Plays.{ComesTo};
-ghost use Rattle.pp_play.specs.Doing.{ErrandHasPlace};
+ghost use Rattle.pp_play.specs.Exact.{Plays};
+ghost use Rattle.pp_play.specs.Doing.{ErrandHasPlace, HandPlays};
 
 use crate::guards::put;
 use crate::line::{Line, did, off_plan};
 use pp_script::Cue;
 use pp_vault::{
     Answered, Cause, Delay, Device, Flushing, Guard, Guards, Hand, Hands, Refusal, Returned, Stage,
-    Vault,
+    Vault, laws,
 };
 
 /// Whether the page of the worker's errand would find the place of its slot free.
 fn errand_has_place(vault: &Vault, guards: &Guards, worker: u32) -> bool
-    ensures { result ≡ true → ErrandHasPlace vault.now worker guards.now }
+    ensures free { result ≡ true → ErrandHasPlace vault.now worker guards.now }
+    ensures taken { result ≡ false → IsKept vault.now → ¬ ErrandHasPlace vault.now worker guards.now }
 {
     match vault.errand(worker) {
         Some((slot, _, _)) => guards.held(slot).is_none(),
@@ -36,6 +40,8 @@ pub(crate) fn work<D: Device>(
     requires { stage_worker hand.stage ≡ Some worker }
     ensures of { stage_worker result.0.stage ≡ Some worker }
     ensures comes { ComesTo vault.old (cue.Device worker) result.1 vault.new }
+    ensures plays { FitsIn vault.old worker hand
+        → HandPlays vault.old worker hand (cue.Device worker) result.1 vault.new result.0 }
 {
     vault.known();
     let cue = Cue::Device { worker };
@@ -76,7 +82,11 @@ fn answer(vault: &mut Vault, returned: Returned, guards: &mut Guards, worker: u3
     requires place { ErrandHasPlace vault.old worker guards.old }
     ensures of { stage_worker result.0 ≡ Some worker }
     ensures comes { ComesTo vault.old (cue.Device worker) result.1 vault.new }
+    ensures plays { FitsIn vault.old worker (record { stage = Stage.Back returned; guards = guards.old })
+        → HandPlays vault.old worker (record { stage = Stage.Back returned; guards = guards.old })
+        (cue.Device worker) result.1 vault.new (record { stage = result.0; guards = guards.new }) }
 {
+    laws::hands_still_fit();
     match vault.answer(returned) {
         Answered::Got(session, guard) => {
             put(guards, Guard::Pin(guard));
@@ -97,6 +107,7 @@ fn answer(vault: &mut Vault, returned: Returned, guards: &mut Guards, worker: u3
 /// Puts what the flusher has at hand into its place, which is free.
 fn put_flushing(hands: &mut Hands, flushing: Flushing)
     requires { hands.old.flushing ≡ None }
+    ensures { hands.new ≡ record hands.old { flushing = Some flushing } }
 {
     match hands.flushing.replace(flushing) {
         None => {}
@@ -106,9 +117,12 @@ fn put_flushing(hands: &mut Hands, flushing: Flushing)
 
 /// The flusher begins to write a changed page.
 pub(crate) fn flush(vault: &mut Vault, hands: &mut Hands, page: u32) -> Line
-    ensures { ComesTo vault.old (cue.Flush page) result vault.new }
+    ensures comes { ComesTo vault.old (cue.Flush page) result vault.new }
+    ensures plays { HandsFit vault.old hands.old
+        → Plays vault.old hands.old (cue.Flush page) result vault.new hands.new }
 {
     vault.known();
+    laws::hands_still_fit();
     let cue = Cue::Flush { page };
     if hands.flushing.is_some() {
         return Line::Refused(cue, Refusal::NotNow(Delay::FlushBusy));
@@ -126,7 +140,9 @@ pub(crate) fn flush(vault: &mut Vault, hands: &mut Hands, page: u32) -> Line
 ///
 /// An errand of a worker that was put into the flusher's place stays there: it is a stranger.
 pub(crate) fn flush_work<D: Device>(vault: &mut Vault, hands: &mut Hands, device: &mut D) -> Line
-    ensures { ComesTo vault.old cue.FlushDevice result vault.new }
+    ensures comes { ComesTo vault.old cue.FlushDevice result vault.new }
+    ensures plays { HandsFit vault.old hands.old
+        → Plays vault.old hands.old cue.FlushDevice result vault.new hands.new }
 {
     vault.known();
     match hands.flushing.take() {
@@ -153,8 +169,12 @@ fn flushed(vault: &mut Vault, hands: &mut Hands, returned: Returned) -> Line
     requires kept { IsKept vault.old }
     requires flush { duty_worker returned.duty ≡ None }
     requires free { hands.old.flushing ≡ None }
-    ensures { ComesTo vault.old cue.FlushDevice result vault.new }
+    ensures comes { ComesTo vault.old cue.FlushDevice result vault.new }
+    ensures plays { HandsFit vault.old (record hands.old { flushing = Some (Flushing.Back returned) })
+        → Plays vault.old (record hands.old { flushing = Some (Flushing.Back returned) }) cue.FlushDevice result
+        vault.new hands.new }
 {
+    laws::hands_still_fit();
     match vault.answer(returned) {
         Answered::Flushed(_) => did(vault),
         Answered::No(returned, refusal) => {

@@ -1,22 +1,29 @@
 //! Fix, unfix, latch, unlatch and unwind: cues of a worker that move the guards of its slots.
 
-ghost use Rattle.std.specs.Prelude.{◌≡◌, true, None, Some, IfNone, IfSome};
+ghost use Rattle.std.specs.Prelude.{◌≡◌, true, false, None, Some, IfNone, IfSome, slice_set};
 ghost use Rattle.pp_plan.specs.declared.action.Ask.TheVariants as ask;
 ghost use Rattle.pp_vault.specs.Holding.{slot_by, is_free};
 ghost use Rattle.pp_vault.specs.Stages.{stage_worker};
 ghost use Rattle.pp_vault.specs.StandsFor.{IsKept};
+ghost use Rattle.pp_vault.specs.Fits.{latch_call};
+ghost use Rattle.pp_vault.specs.HandLaws.{FitsIn};
+ghost use Rattle.pp_vault.specs.declared.guards.Guard.TheVariants.{Pin};
+ghost use Rattle.pp_vault.specs.declared.stage.Stage.TheVariants.{In};
 ghost use Rattle.pp_script.specs.declared.cue.Cue.TheVariants as cue;
 ghost use Rattle.pp_play.specs.Plays.{ComesTo};
-ghost use Rattle.pp_play.specs.Doing.{FixHasPlace, IsDone, Stays};
+ghost use Rattle.pp_play.specs.Doing.{FixHasPlace, IsDone, Stays, HandPlays};
+ghost use Rattle.pp_play.specs.Guarding.{hand_of, PlaysHand, FixLacksPlace, unlatch_with, ChangesGuard, KeepsGuard};
 
 use crate::line::{Line, did, off_plan};
 use pp_plan::Mode;
 use pp_script::Cue;
+use pp_vault::laws::hands_still_fit;
 use pp_vault::{Ask, Cause, Fixed, Guard, Guards, Hand, PinGuard, Refusal, Session, Stage, Vault};
 
 /// Whether the page that the worker's plan asks to fix would find the place of its slot free.
 fn fix_has_place(vault: &Vault, guards: &Guards, worker: u32) -> bool
-    ensures { result ≡ true → FixHasPlace vault.now worker guards.now }
+    ensures free { result ≡ true → FixHasPlace vault.now worker guards.now }
+    ensures taken { result ≡ false → FixLacksPlace vault.now worker guards.now }
 {
     match vault.ask(worker) {
         Some(Ask::Fix { slot, .. }) => guards.held(u32::from(slot)).is_none(),
@@ -27,6 +34,7 @@ fn fix_has_place(vault: &Vault, guards: &Guards, worker: u32) -> bool
 /// Puts a guard into its place, which is free.
 pub(crate) fn put(guards: &mut Guards, guard: Guard)
     requires { is_free guards.old (slot_by guard) ≡ true }
+    ensures { guards.new ≡ slice_set guards.old (slot_by guard) (Some guard) }
 {
     match guards.put(guard) {
         Ok(()) => {}
@@ -39,6 +47,8 @@ pub(crate) fn fix(vault: &mut Vault, hand: Hand, worker: u32, page: u32) -> (Han
     requires { stage_worker hand.stage ≡ Some worker }
     ensures of { stage_worker result.0.stage ≡ Some worker }
     ensures comes { ComesTo vault.old (cue.Fix worker page) result.1 vault.new }
+    ensures plays { FitsIn vault.old worker hand
+        → HandPlays vault.old worker hand (cue.Fix worker page) result.1 vault.new result.0 }
 {
     vault.known();
     let cue = Cue::Fix { worker, page };
@@ -72,7 +82,10 @@ fn fix_in(
     requires place { FixHasPlace vault.old worker guards.old }
     ensures of { stage_worker result.0 ≡ Some worker }
     ensures comes { ComesTo vault.old (cue.Fix worker page) result.1 vault.new }
+    ensures plays { PlaysHand vault.old worker (hand_of (In session) guards.old) (cue.Fix worker page) result.1
+        vault.new (hand_of result.0 guards.new) }
 {
+    hands_still_fit();
     match vault.fix(session, page) {
         Fixed::Got(session, guard) => {
             put(guards, Guard::Pin(guard));
@@ -93,6 +106,8 @@ pub(crate) fn unfix(vault: &mut Vault, hand: Hand, worker: u32) -> (Hand, Line)
     requires { stage_worker hand.stage ≡ Some worker }
     ensures of { stage_worker result.0.stage ≡ Some worker }
     ensures comes { ComesTo vault.old (cue.Unfix worker) result.1 vault.new }
+    ensures plays { FitsIn vault.old worker hand
+        → HandPlays vault.old worker hand (cue.Unfix worker) result.1 vault.new result.0 }
 {
     vault.known();
     let cue = Cue::Unfix { worker };
@@ -125,22 +140,28 @@ fn unfix_slot(
 ) -> (Stage, Line)
     requires kept { IsKept vault.old }
     requires of { session.worker ≡ worker }
+    requires asks { session.ask ≡ ask.Unfix slot }
     ensures of { stage_worker result.0 ≡ Some worker }
     ensures comes { ComesTo vault.old (cue.Unfix worker) result.1 vault.new }
+    ensures plays { PlaysHand vault.old worker (hand_of (In session) guards.old) (cue.Unfix worker) result.1
+        vault.new (hand_of result.0 guards.new) }
 {
+    hands_still_fit();
     let cue = Cue::Unfix { worker };
     match guards.take(u32::from(slot)) {
-        Some(Guard::Pin(guard)) => match vault.unfix(session, guard) {
-            Ok(session) => (Stage::In(session), did(vault)),
-            Err((session, guard, refusal)) => {
-                put(guards, Guard::Pin(guard));
-                (Stage::In(session), Line::Refused(cue, refusal))
+        Some(guard) => match guard {
+            Guard::Pin(guard) => match vault.unfix(session, guard) {
+                Ok(session) => (Stage::In(session), did(vault)),
+                Err((session, guard, refusal)) => {
+                    put(guards, Guard::Pin(guard));
+                    (Stage::In(session), Line::Refused(cue, refusal))
+                }
+            },
+            guard => {
+                put(guards, guard);
+                (Stage::In(session), Line::Refused(cue, Refusal::Stranger))
             }
         },
-        Some(guard) => {
-            put(guards, guard);
-            (Stage::In(session), Line::Refused(cue, Refusal::Stranger))
-        }
         None => (Stage::In(session), Line::Refused(cue, Refusal::Stranger)),
     }
 }
@@ -150,6 +171,8 @@ pub(crate) fn latch(vault: &mut Vault, hand: Hand, worker: u32) -> (Hand, Line)
     requires { stage_worker hand.stage ≡ Some worker }
     ensures of { stage_worker result.0.stage ≡ Some worker }
     ensures comes { ComesTo vault.old (cue.Latch worker) result.1 vault.new }
+    ensures plays { FitsIn vault.old worker hand
+        → HandPlays vault.old worker hand (cue.Latch worker) result.1 vault.new result.0 }
 {
     vault.known();
     let cue = Cue::Latch { worker };
@@ -183,23 +206,29 @@ fn latch_slot(
 ) -> (Stage, Line)
     requires kept { IsKept vault.old }
     requires of { session.worker ≡ worker }
+    requires asks { session.ask ≡ ask.Latch slot mode }
     ensures of { stage_worker result.0 ≡ Some worker }
     ensures comes { ComesTo vault.old (cue.Latch worker) result.1 vault.new }
+    ensures plays { PlaysHand vault.old worker (hand_of (In session) guards.old) (cue.Latch worker) result.1
+        vault.new (hand_of result.0 guards.new) }
 {
+    hands_still_fit();
     let cue = Cue::Latch { worker };
     match guards.take(u32::from(slot)) {
-        Some(Guard::Pin(guard)) => {
-            let (session, guard, refusal) = latched(vault, session, guard, mode);
-            put(guards, guard);
-            match refusal {
-                None => (Stage::In(session), did(vault)),
-                Some(refusal) => (Stage::In(session), Line::Refused(cue, refusal)),
+        Some(guard) => match guard {
+            Guard::Pin(guard) => {
+                let (session, guard, refusal) = latched(vault, session, guard, mode);
+                put(guards, guard);
+                match refusal {
+                    None => (Stage::In(session), did(vault)),
+                    Some(refusal) => (Stage::In(session), Line::Refused(cue, refusal)),
+                }
             }
-        }
-        Some(guard) => {
-            put(guards, guard);
-            (Stage::In(session), Line::Refused(cue, Refusal::Stranger))
-        }
+            guard => {
+                put(guards, guard);
+                (Stage::In(session), Line::Refused(cue, Refusal::Stranger))
+            }
+        },
         None => (Stage::In(session), Line::Refused(cue, Refusal::Stranger)),
     }
 }
@@ -215,7 +244,13 @@ fn latched(
     ensures of { result.0.worker ≡ session.worker }
     ensures slot { slot_by result.1 ≡ guard.slot }
     ensures done { IfNone result.2 (IsDone vault.old (cue.Latch session.worker) vault.new) }
+    ensures changes { IfNone result.2 (ChangesGuard vault.old
+        (latch_call mode session.worker guard.worker guard.slot guard.page) session.worker guard.slot vault.new
+        result.0 result.1) }
     ensures refused { IfSome result.2 (λ _. Stays vault.old vault.new) }
+    ensures keeps { IfSome result.2 (λ why. KeepsGuard vault.old
+        (latch_call mode session.worker guard.worker guard.slot guard.page) session (Pin guard) why vault.new
+        result.0 result.1) }
 {
     match mode {
         Mode::S => match vault.latch_shared(session, guard) {
@@ -234,6 +269,8 @@ pub(crate) fn unlatch(vault: &mut Vault, hand: Hand, worker: u32) -> (Hand, Line
     requires { stage_worker hand.stage ≡ Some worker }
     ensures of { stage_worker result.0.stage ≡ Some worker }
     ensures comes { ComesTo vault.old (cue.Unlatch worker) result.1 vault.new }
+    ensures plays { FitsIn vault.old worker hand
+        → HandPlays vault.old worker hand (cue.Unlatch worker) result.1 vault.new result.0 }
 {
     vault.known();
     let cue = Cue::Unlatch { worker };
@@ -266,9 +303,13 @@ fn unlatch_slot(
 ) -> (Stage, Line)
     requires kept { IsKept vault.old }
     requires of { session.worker ≡ worker }
+    requires asks { session.ask ≡ ask.Unlatch slot }
     ensures of { stage_worker result.0 ≡ Some worker }
     ensures comes { ComesTo vault.old (cue.Unlatch worker) result.1 vault.new }
+    ensures plays { PlaysHand vault.old worker (hand_of (In session) guards.old) (cue.Unlatch worker) result.1
+        vault.new (hand_of result.0 guards.new) }
 {
+    hands_still_fit();
     let cue = Cue::Unlatch { worker };
     match guards.take(u32::from(slot)) {
         Some(guard) => {
@@ -289,7 +330,11 @@ fn unlatched(vault: &mut Vault, session: Session, guard: Guard) -> (Session, Gua
     ensures of { result.0.worker ≡ session.worker }
     ensures slot { slot_by result.1 ≡ slot_by guard }
     ensures done { IfNone result.2 (IsDone vault.old (cue.Unlatch session.worker) vault.new) }
+    ensures changes { IfNone result.2 (ChangesGuard vault.old (unlatch_with vault.old session guard) session.worker
+        (slot_by guard) vault.new result.0 result.1) }
     ensures refused { IfSome result.2 (λ _. Stays vault.old vault.new) }
+    ensures keeps { IfSome result.2 (λ why. KeepsGuard vault.old (unlatch_with vault.old session guard) session guard
+        why vault.new result.0 result.1) }
 {
     match guard {
         Guard::Pin(guard) => (session, Guard::Pin(guard), Some(Refusal::Stranger)),
@@ -309,8 +354,11 @@ pub(crate) fn unwind(vault: &mut Vault, hand: Hand, worker: u32, slot: u32) -> (
     requires { stage_worker hand.stage ≡ Some worker }
     ensures of { stage_worker result.0.stage ≡ Some worker }
     ensures comes { ComesTo vault.old (cue.Unwind worker slot) result.1 vault.new }
+    ensures plays { FitsIn vault.old worker hand
+        → HandPlays vault.old worker hand (cue.Unwind worker slot) result.1 vault.new result.0 }
 {
     vault.known();
+    hands_still_fit();
     let cue = Cue::Unwind { worker, slot };
     let Hand { stage, mut guards } = hand;
     match stage {

@@ -5,14 +5,17 @@ ghost use Rattle.pp_vault.specs.StandsFor.{IsKept};
 ghost use Rattle.pp_model.specs.Pool.{State};
 ghost use Rattle.pp_vault.specs.Stages.{stage_worker};
 ghost use Rattle.pp_play.specs.Plays.{Tells, ComesTo, AllComeTo};
-ghost use Rattle.pp_play.specs.Doing.{cue_worker};
+ghost use Rattle.pp_play.specs.Exact.{Plays, PlaysFrom};
+ghost use Rattle.pp_play.specs.Doing.{cue_worker, HandPlays, IsLineWithout};
+ghost use Rattle.pp_vault.specs.Hands.{HandsFit};
+ghost use Rattle.pp_vault.specs.HandLaws.{FitsIn};
 ghost use Rattle.pp_vault.specs.Headline.{HeadlineHolds};
 
 use crate::line::{Line, off_plan};
 use crate::{bytes, devices, guards, workers};
 use pp_script::Cue;
 use pp_vault::{Cause, Device, Hand, Hands, Vault};
-use std::alloc::{AllocError, Global};
+use std::alloc::AllocError;
 
 /// Why a script isn't played.
 #[derive(Clone, Copy, Debug, PartialEq, Eq, thiserror::Error)]
@@ -31,13 +34,12 @@ impl From<AllocError> for PlayError {
 /// Plays the cues in turn, each with the tokens that are in the hands, and adds their lines to those that are there. A
 /// cue that is refused changes nothing, and doesn't end the script.
 ///
-/// Room for all lines, and for one page, is got first.
+/// Room for all lines is got first.
 ///
 /// # Errors
 ///
 /// Only where that room can't be had. Then nothing is played.
 pub fn play<D: Device>(
-    alloc: Global,
     vault: &mut Vault,
     hands: &mut Hands,
     device: &mut D,
@@ -45,6 +47,9 @@ pub fn play<D: Device>(
     lines: &mut Vec<Line>,
 ) -> Result<(), PlayError>
     ensures plays { OnOk result (AllComeTo vault.old cues.now lines.old.items lines.new.items vault.new) }
+    ensures exact { OnOk result (HandsFit vault.old hands.old
+        → PlaysFrom vault.old hands.old cues.now lines.old.items lines.new.items vault.new hands.new) }
+    ensures fit { HandsFit vault.old hands.old → HandsFit vault.new hands.new }
     ensures length { OnOk result (length lines.new.items ≡ length lines.old.items + length cues.now) }
     ensures behind { take (length lines.old.items) lines.new.items ≡ lines.old.items }
     ensures err { OnErr result ((vault.new ≡ vault.old) × (hands.new ≡ hands.old) × (device.new ≡ device.old)
@@ -53,25 +58,19 @@ pub fn play<D: Device>(
     ensures headline { HeadlineHolds vault.new }
 {
     vault.known();
-    let mut buffer = vec![in alloc; 0; vault.page_bytes()]?;
     lines.reserve(cues.len())?;
     for cue in cues {
-        let line = play_one(vault, hands, device, &mut buffer, *cue);
+        let line = play_one(vault, hands, device, *cue);
         lines.push_reserved(line);
     }
     vault.known();
     Ok(())
 }
 
-/// Plays one cue. The buffer is as long as a page.
-fn play_one<D: Device>(
-    vault: &mut Vault,
-    hands: &mut Hands,
-    device: &mut D,
-    buffer: &mut [u8],
-    cue: Cue,
-) -> Line
-    ensures { ComesTo vault.old cue result vault.new }
+/// Plays one cue.
+fn play_one<D: Device>(vault: &mut Vault, hands: &mut Hands, device: &mut D, cue: Cue) -> Line
+    ensures comes { ComesTo vault.old cue result vault.new }
+    ensures plays { HandsFit vault.old hands.old → Plays vault.old hands.old cue result vault.new hands.new }
 {
     match cue {
         Cue::Flush { page } => devices::flush(vault, hands, page),
@@ -86,7 +85,7 @@ fn play_one<D: Device>(
         | Cue::Unwind { worker, .. }
         | Cue::Finish { worker }
         | Cue::Write { worker, .. }
-        | Cue::Look { worker, .. } => by_worker(vault, hands, device, buffer, cue, worker),
+        | Cue::Look { worker, .. } => by_worker(vault, hands, device, cue, worker),
     }
 }
 
@@ -95,17 +94,18 @@ fn by_worker<D: Device>(
     vault: &mut Vault,
     hands: &mut Hands,
     device: &mut D,
-    buffer: &mut [u8],
     cue: Cue,
     worker: u32,
 ) -> Line
     requires { cue_worker cue ≡ Some worker }
-    ensures { ComesTo vault.old cue result vault.new }
+    ensures comes { ComesTo vault.old cue result vault.new }
+    ensures plays { HandsFit vault.old hands.old → Plays vault.old hands.old cue result vault.new hands.new }
 {
+    vault.known();
     let Some(hand) = hands.part(worker) else {
         return without_hand(cue);
     };
-    let (hand, line) = with_hand(vault, hand, device, buffer, cue, worker);
+    let (hand, line) = with_hand(vault, hand, device, cue, worker);
     match hands.join(hand) {
         Ok(()) => line,
         Err(_) => unreachable!(),
@@ -114,7 +114,8 @@ fn by_worker<D: Device>(
 
 /// The line of a worker's cue where there is no hand of that worker.
 fn without_hand(cue: Cue) -> Line
-    ensures { (s : State) → Tells s cue result s }
+    ensures tells { (s : State) → Tells s cue result s }
+    ensures exact { IsLineWithout cue result }
 {
     match cue {
         Cue::Device { .. } => off_plan(cue, Cause::NoErrand),
@@ -128,7 +129,6 @@ fn with_hand<D: Device>(
     vault: &mut Vault,
     hand: Hand,
     device: &mut D,
-    buffer: &mut [u8],
     cue: Cue,
     worker: u32,
 ) -> (Hand, Line)
@@ -136,6 +136,8 @@ fn with_hand<D: Device>(
     requires hand { stage_worker hand.stage ≡ Some worker }
     ensures of { stage_worker result.0.stage ≡ Some worker }
     ensures comes { ComesTo vault.old cue result.1 vault.new }
+    ensures plays { FitsIn vault.old worker hand
+        → HandPlays vault.old worker hand cue result.1 vault.new result.0 }
 {
     match cue {
         Cue::Take { .. } => workers::take(vault, hand, worker),
@@ -148,7 +150,7 @@ fn with_hand<D: Device>(
         Cue::Unwind { slot, .. } => guards::unwind(vault, hand, worker, slot),
         Cue::Finish { .. } => workers::finish(vault, hand, worker),
         Cue::Write { slot, byte, .. } => bytes::write(hand, slot, byte),
-        Cue::Look { slot, .. } => bytes::look(vault, hand, buffer, slot),
+        Cue::Look { slot, .. } => bytes::look(vault, hand, slot),
         Cue::Flush { .. } | Cue::FlushDevice => unreachable!(),
     }
 }

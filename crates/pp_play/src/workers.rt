@@ -3,19 +3,24 @@
 ghost use Rattle.std.specs.Prelude.{◌≡◌, Some};
 ghost use Rattle.pp_vault.specs.Stages.{stage_worker};
 ghost use Rattle.pp_script.specs.declared.cue.Cue.TheVariants as cue;
+ghost use Rattle.pp_vault.specs.HandLaws.{FitsIn};
 ghost use Rattle.pp_play.specs.Plays.{ComesTo};
+ghost use Rattle.pp_play.specs.Doing.{HandPlays};
 
 use crate::line::{Line, did, off_plan};
 use pp_script::Cue;
-use pp_vault::{Cause, Hand, Stage, Vault};
+use pp_vault::{Cause, Hand, Stage, Vault, laws};
 
 /// An idle worker takes the first plan that waits.
 pub(crate) fn take(vault: &mut Vault, hand: Hand, worker: u32) -> (Hand, Line)
     requires { stage_worker hand.stage ≡ Some worker }
     ensures of { stage_worker result.0.stage ≡ Some worker }
     ensures comes { ComesTo vault.old (cue.Take worker) result.1 vault.new }
+    ensures plays { FitsIn vault.old worker hand
+        → HandPlays vault.old worker hand (cue.Take worker) result.1 vault.new result.0 }
 {
     vault.known();
+    laws::hands_still_fit();
     let cue = Cue::Take { worker };
     let Hand { stage, guards } = hand;
     match stage {
@@ -46,8 +51,11 @@ pub(crate) fn choose(vault: &mut Vault, hand: Hand, worker: u32, branch: u32) ->
     requires { stage_worker hand.stage ≡ Some worker }
     ensures of { stage_worker result.0.stage ≡ Some worker }
     ensures comes { ComesTo vault.old (cue.Choose worker branch) result.1 vault.new }
+    ensures plays { FitsIn vault.old worker hand
+        → HandPlays vault.old worker hand (cue.Choose worker branch) result.1 vault.new result.0 }
 {
     vault.known();
+    laws::hands_still_fit();
     let cue = Cue::Choose { worker, branch };
     let Hand { stage, guards } = hand;
     match stage {
@@ -78,8 +86,11 @@ pub(crate) fn finish(vault: &mut Vault, hand: Hand, worker: u32) -> (Hand, Line)
     requires { stage_worker hand.stage ≡ Some worker }
     ensures of { stage_worker result.0.stage ≡ Some worker }
     ensures comes { ComesTo vault.old (cue.Finish worker) result.1 vault.new }
+    ensures plays { FitsIn vault.old worker hand
+        → HandPlays vault.old worker hand (cue.Finish worker) result.1 vault.new result.0 }
 {
     vault.known();
+    laws::hands_still_fit();
     let cue = Cue::Finish { worker };
     let Hand { stage, guards } = hand;
     match stage {

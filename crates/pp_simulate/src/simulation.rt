@@ -59,7 +59,7 @@ fn play_in(
     let memory = SoloDevice::new(alloc, settings.pages(), settings.page_bytes() as usize)?;
     let mut device = Failing::new(memory, troubles);
     let mut lines = Vec::new(alloc);
-    play(alloc, vault, hands, &mut device, &cues, &mut lines)?;
+    play(vault, hands, &mut device, &cues, &mut lines)?;
     Ok(transcript(alloc, count, &cues, &lines, vault)?)
 }
 

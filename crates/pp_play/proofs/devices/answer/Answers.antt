@@ -2,6 +2,9 @@ use Rattle.std.specs.Prelude.{is_ok}
 use Rattle.pp_script.specs.declared.cue.Cue.TheVariants as cue
 use Rattle.pp_play.proofs.Done.{done_comes}
 use Rattle.pp_play.proofs.Answering.{got_done, away_done, lost_done, got_free}
+use Rattle.pp_play.proofs.Others.{still_fits}
+use Rattle.pp_play.proofs.DeviceHands.{got_hand, away_hand, lost_hand}
+use Rattle.pp_play.proofs.Carried.{back_hand, not_refused}
 use Rattle.pp_play.proofs.devices.answer.Goals as goal
 
 pub put-requires : goal.put-requires
@@ -33,3 +36,29 @@ returns-in-Lost-clause-comes c =
     done_comes old new (cue.Device c.args.worker) c.did-in-Lost.result
     (lost_done old new c.requires.kept c.args.worker c.args.returned.image (is_ok c.args.returned.answer)
     c.args.returned.duty c.in-Lost.leaver c.requires.of c.in-Lost.ensures.answers) c.did-in-Lost.ensures
+
+pub returns-in-Got-clause-plays : goal.returns-in-Got-clause-plays
+returns-in-Got-clause-plays c fits =
+    got_hand (still_fits c.hands_still_fit.ensures.others c.hands_still_fit.ensures.slots c.hands_still_fit.ensures.flushing) c.args.vault.now c.answer.new.self c.requires.kept c.args.worker c.args.returned.image
+    (is_ok c.args.returned.answer) (back_hand c.args.returned c.args.guards.now) fits c.did.result c.did.ensures
+    c.args.returned.duty c.in-Got.session c.in-Got.guard c.put.new.guards (λ s st. (fits s st).stage) c.put.ensures
+    c.in-Got.ensures.answers
+
+pub returns-in-Away-clause-plays : goal.returns-in-Away-clause-plays
+returns-in-Away-clause-plays c fits =
+    away_hand (still_fits c.hands_still_fit.ensures.others c.hands_still_fit.ensures.slots c.hands_still_fit.ensures.flushing) c.args.vault.now c.answer.new.self c.requires.kept c.args.worker c.args.returned.image
+    (is_ok c.args.returned.answer) (back_hand c.args.returned c.args.guards.now) fits c.did-in-Away.result
+    c.did-in-Away.ensures c.args.returned.duty c.in-Away.errand (λ s st. (fits s st).stage)
+    c.in-Away.ensures.answers
+
+pub returns-in-Lost-clause-plays : goal.returns-in-Lost-clause-plays
+returns-in-Lost-clause-plays c fits =
+    lost_hand (still_fits c.hands_still_fit.ensures.others c.hands_still_fit.ensures.slots c.hands_still_fit.ensures.flushing) c.args.vault.now c.answer.new.self c.requires.kept c.args.worker c.args.returned.image
+    (is_ok c.args.returned.answer) (back_hand c.args.returned c.args.guards.now) fits c.did-in-Lost.result
+    c.did-in-Lost.ensures c.args.returned.duty c.in-Lost.leaver (λ s st. (fits s st).stage)
+    c.in-Lost.ensures.answers
+
+pub returns-in-No-clause-plays : goal.returns-in-No-clause-plays
+returns-in-No-clause-plays c fits =
+    absurd (not_refused c.args.vault.now c.args.worker c.args.returned c.in-No.refusal c.requires.kept
+    (λ s st. (fits s st).stage) c.in-No.ensures.answers.1)

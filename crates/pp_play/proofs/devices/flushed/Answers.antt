@@ -2,12 +2,29 @@ use Rattle.std.specs.Prelude.{is_ok}
 use Rattle.pp_script.specs.declared.cue.Cue.TheVariants as cue
 use Rattle.pp_play.proofs.Done.{done_comes}
 use Rattle.pp_play.proofs.Answering.{flush_over}
+use Rattle.pp_play.proofs.Others.{still_fits}
+use Rattle.pp_play.proofs.FlushHands.{flushed_plays, flush_not_refused}
 use Rattle.pp_play.proofs.devices.flushed.Goals as goal
 
-pub returns-in-Flushed : goal.returns-in-Flushed
-returns-in-Flushed c =
+pub returns-in-Flushed-clause-comes : goal.returns-in-Flushed-clause-comes
+returns-in-Flushed-clause-comes c =
     let old = c.args.vault.now in
     let new = c.answer.new.self in
     done_comes old new cue.FlushDevice c.did.result
     (flush_over old new c.requires.kept 0 c.args.returned.image (is_ok c.args.returned.answer) c.args.returned.duty
     c.in-Flushed.field-0 c.in-Flushed.ensures.answers) c.did.ensures
+
+pub returns-in-Flushed-clause-plays : goal.returns-in-Flushed-clause-plays
+returns-in-Flushed-clause-plays c fits =
+    let old = c.args.vault.now in
+    let new = c.answer.new.self in
+    let laws = c.hands_still_fit.ensures in
+    flushed_plays (still_fits laws.others laws.slots laws.flushing) old new c.requires.kept c.args.returned
+    c.in-Flushed.field-0 c.args.hands.now c.did.result c.requires.free fits c.in-Flushed.ensures.answers
+    (flush_over old new c.requires.kept 0 c.args.returned.image (is_ok c.args.returned.answer) c.args.returned.duty
+    c.in-Flushed.field-0 c.in-Flushed.ensures.answers) c.did.ensures
+
+pub returns-in-No-clause-plays : goal.returns-in-No-clause-plays
+returns-in-No-clause-plays c fits =
+    absurd (flush_not_refused c.args.vault.now c.args.hands.now c.args.returned c.in-No.refusal c.requires.kept fits
+    c.in-No.ensures.answers.1)

@@ -1,8 +1,19 @@
-use Rattle.std.proofs.Common.{subst}
-use Rattle.std.specs.Prelude.{IfNone}
+use Rattle.std.proofs.Common.{◌≡◌, ◌∙◌, Some, None, sym, ap, subst, rules}
+use Rattle.std.specs.Prelude.{IfNone, slice_set}
+use Rattle.std.proofs.lemmas.Bool.{false≢true}
+use Rattle.pp_vault.specs.declared.guards.Guard.TheVariants.{Pin}
+use Rattle.pp_vault.specs.declared.stage.Stage.TheVariants.{In}
+use Rattle.pp_vault.specs.Fits.{latch_call}
+use Rattle.pp_vault.specs.Holding.{slot_by, placed}
 use Rattle.pp_script.specs.declared.cue.Cue.TheVariants as cue
+use Rattle.pp_play.specs.declared.line.Line.TheVariants.{Refused}
 use Rattle.pp_play.specs.Doing.{IsDone}
+use Rattle.pp_play.specs.Guarding.{hand_of, PlaysHand, ChangesGuard, KeepsGuard}
 use Rattle.pp_play.proofs.Done.{done_comes}
+use Rattle.pp_play.proofs.Held.{latch_there, latch_pin}
+use Rattle.pp_play.proofs.Putting.{put_again, put_changed, no_pin, at_none, at_some}
+use Rattle.pp_play.proofs.StillFitting.{StillFit}
+use Rattle.pp_play.proofs.UsePlays.{latch_plays, latch_refused}
 use Rattle.pp_play.proofs.guards.latch_slot.Goals as goal
 
 pub returns-in-None-refusal-clause-comes : goal.returns-in-None-refusal-clause-comes
@@ -14,3 +25,85 @@ returns-in-None-refusal-clause-comes c =
     c.latched-guard.ensures.done in
     done_comes old new (cue.Latch c.args.worker) c.did.result
     (subst (λ v. IsDone old (cue.Latch v) new) c.requires.of done) c.did.ensures
+
+pub returns-in-None-refusal-clause-plays : goal.returns-in-None-refusal-clause-plays
+returns-in-None-refusal-clause-plays c =
+    let old = c.args.vault.now in
+    let new = c.latched-guard.new.vault in
+    let x = c.args.session in
+    let m = c.args.mode in
+    let places = c.args.guards.now in
+    let g = c.in-Pin.guard in
+    let r = c.latched-guard.result in
+    let laws : StillFit = record {
+      others = c.hands_still_fit.ensures.others;
+      slots = c.hands_still_fit.ensures.slots;
+      flushing = c.hands_still_fit.ensures.flushing;
+    } in
+    let here : placed places c.args.slot ≡ Some c.in-Some.guard = search rules in
+    let at : placed places c.args.slot ≡ Some (Pin g) = here ∙ ap (λ o. Some o) c.in-Pin.is in
+    let gone : c.take.new.self ≡ slice_set places c.args.slot None = search rules in
+    let there : slot_by c.in-Some.guard ≡ c.args.slot = search rules in
+    let of : g.slot ≡ c.args.slot = sym (ap slot_by c.in-Pin.is) ∙ there in
+    let now : c.put.new.guards ≡ slice_set places c.args.slot (Some r.1) =
+    put_changed places c.take.new.self c.put.new.guards c.args.slot r.1 gone (c.latched-guard.ensures.slot ∙ of)
+    c.put.ensures in
+    let changes : ChangesGuard old (latch_call m x.worker g.worker g.slot g.page) x.worker c.args.slot new r.0 r.1 =
+    subst (λ k. ChangesGuard old (latch_call m x.worker g.worker g.slot g.page) x.worker k new r.0 r.1) of
+    (at_none r.2 c.latched-guard.ensures.changes c.in-None-refusal.is) in
+    rw now
+    (subst
+    (λ v. PlaysHand old v (hand_of (In x) places) (cue.Latch v) c.did.result new
+    (hand_of (In r.0) (slice_set places c.args.slot (Some r.1)))) c.requires.of
+    (λ fits.
+    latch_plays old new c.requires.kept x places fits c.args.slot m c.requires.asks g at laws r.0 r.1 changes
+    c.did.result (at_none r.2 c.latched-guard.ensures.done c.in-None-refusal.is) c.did.ensures))
+
+pub returns-in-Some-refusal-clause-plays : goal.returns-in-Some-refusal-clause-plays
+returns-in-Some-refusal-clause-plays c =
+    let old = c.args.vault.now in
+    let new = c.latched-guard.new.vault in
+    let x = c.args.session in
+    let m = c.args.mode in
+    let places = c.args.guards.now in
+    let g = c.in-Pin.guard in
+    let r = c.latched-guard.result in
+    let why = c.in-Some-refusal.refusal in
+    let here : placed places c.args.slot ≡ Some c.in-Some.guard = search rules in
+    let at : placed places c.args.slot ≡ Some (Pin g) = here ∙ ap (λ o. Some o) c.in-Pin.is in
+    let gone : c.take.new.self ≡ slice_set places c.args.slot None = search rules in
+    let there : slot_by c.in-Some.guard ≡ c.args.slot = search rules in
+    let of : g.slot ≡ c.args.slot = sym (ap slot_by c.in-Pin.is) ∙ there in
+    let kept : KeepsGuard old (latch_call m x.worker g.worker g.slot g.page) x (Pin g) why new r.0 r.1 =
+    at_some (λ w. KeepsGuard old (latch_call m x.worker g.worker g.slot g.page) x (Pin g) w new r.0 r.1) r.2 why
+    c.latched-guard.ensures.keeps c.in-Some-refusal.is in
+    let back : c.put.new.guards ≡ places =
+    put_again places c.take.new.self c.put.new.guards c.args.slot (Pin g) r.1 at gone of kept.same_guard
+    c.put.ensures in
+    rw (kept.same_session, back)
+    (subst
+    (λ v. PlaysHand old v (hand_of (In x) places) (cue.Latch v) (Refused (cue.Latch v) why) new
+    (hand_of (In x) places)) c.requires.of
+    (λ fits.
+    latch_refused old new c.requires.kept x places fits c.args.slot m c.requires.asks g at why kept.refuses
+    kept.unchanged))
+
+pub returns-in_default-clause-plays : goal.returns-in_default-clause-plays
+returns-in_default-clause-plays c =
+    let old = c.args.vault.now in
+    let hand = hand_of (In c.args.session) c.args.guards.now in
+    let k = c.requires.kept in
+    λ fits.
+    let asked = (fits k.state k.stands).stage.1 ∙ ap (λ a. Some a) c.requires.asks in
+    let at : placed c.args.guards.now c.args.slot ≡ Some c.in-Some.guard = search rules in
+    let pin = latch_pin old k c.args.worker hand fits c.args.slot c.args.mode asked c.in-Some.guard at in
+    absurd (false≢true (sym (no_pin c.in-Some.guard c.in_default.not-Pin) ∙ pin))
+
+pub returns-in-None-clause-plays : goal.returns-in-None-clause-plays
+returns-in-None-clause-plays c =
+    let old = c.args.vault.now in
+    let hand = hand_of (In c.args.session) c.args.guards.now in
+    let k = c.requires.kept in
+    λ fits.
+    let asked = (fits k.state k.stands).stage.1 ∙ ap (λ a. Some a) c.requires.asks in
+    absurd (latch_there old k c.args.worker hand fits c.args.slot c.args.mode asked (search rules))

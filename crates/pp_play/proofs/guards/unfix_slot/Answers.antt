@@ -1,6 +1,19 @@
+use Rattle.std.proofs.Common.{◌≡◌, ◌∙◌, Some, None, refl, sym, ap, subst, rules}
+use Rattle.std.specs.Prelude.{slice_set}
+use Rattle.std.proofs.lemmas.Bool.{false≢true}
+use Rattle.pp_vault.specs.declared.guards.Guard.TheVariants.{Pin}
+use Rattle.pp_vault.specs.declared.stage.Stage.TheVariants.{In}
+use Rattle.pp_vault.specs.Events.{untold}
+use Rattle.pp_vault.specs.Holding.{slot_by, placed}
 use Rattle.pp_script.specs.declared.cue.Cue.TheVariants as cue
+use Rattle.pp_play.specs.declared.line.Line.TheVariants.{Refused}
+use Rattle.pp_play.specs.Guarding.{hand_of, PlaysHand}
 use Rattle.pp_play.proofs.Done.{done_comes}
 use Rattle.pp_play.proofs.Asked.{unfix_done}
+use Rattle.pp_play.proofs.Held.{unfix_there, unfix_pin}
+use Rattle.pp_play.proofs.Putting.{put_again, no_pin}
+use Rattle.pp_play.proofs.StillFitting.{StillFit}
+use Rattle.pp_play.proofs.UsePlays.{unfix_plays, unfix_refused}
 use Rattle.pp_play.proofs.guards.unfix_slot.Goals as goal
 
 pub returns-in-Ok-clause-comes : goal.returns-in-Ok-clause-comes
@@ -11,3 +24,70 @@ returns-in-Ok-clause-comes c =
     done_comes old new (cue.Unfix w) c.did.result
     (unfix_done old new c.requires.kept c.args.session.worker w c.requires.of _ _ _ c.in-Ok.ensures.ok.does)
     c.did.ensures
+
+pub returns-in-Ok-clause-plays : goal.returns-in-Ok-clause-plays
+returns-in-Ok-clause-plays c =
+    let old = c.args.vault.now in
+    let new = c.unfix.new.self in
+    let x = c.args.session in
+    let places = c.args.guards.now in
+    let g = c.in-Pin.guard in
+    let laws : StillFit = record {
+      others = c.hands_still_fit.ensures.others;
+      slots = c.hands_still_fit.ensures.slots;
+      flushing = c.hands_still_fit.ensures.flushing;
+    } in
+    let here : placed places c.args.slot ≡ Some c.in-Some.guard = search rules in
+    let at : placed places c.args.slot ≡ Some (Pin g) = here ∙ ap (λ o. Some o) c.in-Pin.is in
+    let gone : c.take.new.self ≡ slice_set places c.args.slot None = search rules in
+    rw gone
+    (subst
+    (λ v. PlaysHand old v (hand_of (In x) places) (cue.Unfix v) c.did.result new
+    (hand_of (In c.in-Ok.session) (slice_set places c.args.slot None))) c.requires.of
+    (λ fits.
+    unfix_plays old new c.requires.kept x places fits c.args.slot c.requires.asks g at laws c.in-Ok.session
+    c.in-Ok.ensures.ok c.did.result
+    (unfix_done old new c.requires.kept x.worker x.worker refl _ _ _ c.in-Ok.ensures.ok.does) c.did.ensures))
+
+pub returns-in-Err-clause-plays : goal.returns-in-Err-clause-plays
+returns-in-Err-clause-plays c =
+    let old = c.args.vault.now in
+    let new = c.unfix.new.self in
+    let x = c.args.session in
+    let places = c.args.guards.now in
+    let g = c.in-Pin.guard in
+    let here : placed places c.args.slot ≡ Some c.in-Some.guard = search rules in
+    let at : placed places c.args.slot ≡ Some (Pin g) = here ∙ ap (λ o. Some o) c.in-Pin.is in
+    let gone : c.take.new.self ≡ slice_set places c.args.slot None = search rules in
+    let there : slot_by c.in-Some.guard ≡ c.args.slot = search rules in
+    let of : g.slot ≡ c.args.slot = sym (ap slot_by c.in-Pin.is) ∙ there in
+    let back : c.put.new.guards ≡ places =
+    put_again places c.take.new.self c.put.new.guards c.args.slot (Pin g) (Pin c.in-Err.guard) at gone of
+    (ap (λ h. Pin h) c.in-Err.ensures.back.1) c.put.ensures in
+    rw (c.in-Err.ensures.back.0, back)
+    (subst
+    (λ v. PlaysHand old v (hand_of (In x) places) (cue.Unfix v) (Refused (cue.Unfix v) c.in-Err.refusal) new
+    (hand_of (In x) places)) c.requires.of
+    (λ fits.
+    unfix_refused old new c.requires.kept x places fits c.args.slot c.requires.asks g at c.in-Err.refusal
+    c.in-Err.ensures.err (ap untold c.in-Err.ensures.unchanged)))
+
+pub returns-in_default-clause-plays : goal.returns-in_default-clause-plays
+returns-in_default-clause-plays c =
+    let old = c.args.vault.now in
+    let hand = hand_of (In c.args.session) c.args.guards.now in
+    let k = c.requires.kept in
+    λ fits.
+    let asked = (fits k.state k.stands).stage.1 ∙ ap (λ a. Some a) c.requires.asks in
+    let at : placed c.args.guards.now c.args.slot ≡ Some c.in-Some.guard = search rules in
+    let pin = unfix_pin old k c.args.worker hand fits c.args.slot asked c.in-Some.guard at in
+    absurd (false≢true (sym (no_pin c.in-Some.guard c.in_default.not-Pin) ∙ pin))
+
+pub returns-in-None-clause-plays : goal.returns-in-None-clause-plays
+returns-in-None-clause-plays c =
+    let old = c.args.vault.now in
+    let hand = hand_of (In c.args.session) c.args.guards.now in
+    let k = c.requires.kept in
+    λ fits.
+    let asked = (fits k.state k.stands).stage.1 ∙ ap (λ a. Some a) c.requires.asks in
+    absurd (unfix_there old k c.args.worker hand fits c.args.slot asked (search rules))

@@ -1,6 +1,7 @@
 use Rattle.std.proofs.Common.{◌≡◌, ◌∙◌, ◌++◌, ◌∷◌, [], length, length-append, refl, arith, rules}
 use Rattle.std.proofs.lemmas.List.{take-append-le}
 use Rattle.pp_play.proofs.Runs.{goes_on, went}
+use Rattle.pp_play.proofs.Scripts.{plays_on, all_played, still_fit}
 use Rattle.pp_play.proofs.playing.play.Goals as goal
 
 pub loop-cue-preserved : goal.loop-cue-preserved
@@ -26,10 +27,24 @@ loop-cue-preserved g c =
       goes =
           rw pushed
           (goes_on _ _ _ _ _ _ _ c.loop-cue.cue-index _ _ c.loop-cue-test.true refl c.loop-cue.invariant.goes
-          c.play_one-line.ensures);
+          c.play_one-line.ensures.comes);
+      plays =
+          rw pushed
+          (plays_on _ _ _ _ _ _ _ _ _ _ c.loop-cue.cue-index _ _ c.loop-cue-test.true refl c.loop-cue.invariant.plays
+          c.play_one-line.ensures.plays);
     }
 
 pub returns-clause-plays : goal.returns-clause-plays
 returns-clause-plays g c =
     went c.args.vault.now c.args.cues.now c.args.lines.now.items c.loop-cue.vault c.loop-cue.lines.items
     c.loop-cue.cue-index (search rules) c.loop-cue.invariant.goes
+
+pub returns-clause-exact : goal.returns-clause-exact
+returns-clause-exact g c =
+    all_played c.args.vault.now c.args.hands.now c.args.cues.now c.args.lines.now.items c.loop-cue.vault
+    c.loop-cue.hands c.loop-cue.lines.items c.loop-cue.cue-index (search rules) c.loop-cue.invariant.plays
+
+pub returns-clause-fit : goal.returns-clause-fit
+returns-clause-fit g c =
+    still_fit c.args.vault.now c.args.hands.now c.args.cues.now c.args.lines.now.items c.loop-cue.vault
+    c.loop-cue.hands c.loop-cue.lines.items c.loop-cue.cue-index (search rules) c.loop-cue.invariant.plays

@@ -1,6 +1,7 @@
 use Rattle.std.proofs.Common.{◌≡◌, ◌≤◌, ◌+◌, ◌-◌, length, drop, take}
 use Rattle.std.specs.Vec.{vec_len, vec_capacity}
 use Rattle.pp_play.proofs.Runs.{Goes}
+use Rattle.pp_play.proofs.Scripts.{PlayedTo}
 use Rattle.pp_play.proofs.playing.play.Given as goal
 
 abbrev pub invariant-loop-cue : goal.invariant-loop-cue
@@ -9,4 +10,6 @@ invariant-loop-cue g l = record {
   count : length l.lines.items ≡ length l.fn.lines.items + l.cue-index;
   behind : take (length l.fn.lines.items) l.lines.items ≡ l.fn.lines.items;
   goes : Goes l.fn.vault l.cues l.fn.lines.items l.vault (drop l.cue-index l.cues) l.lines.items;
+  plays :
+      PlayedTo l.fn.vault l.fn.hands l.cues l.fn.lines.items l.vault l.hands (drop l.cue-index l.cues) l.lines.items;
 }

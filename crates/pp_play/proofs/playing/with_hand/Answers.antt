@@ -1,7 +1,7 @@
 use Rattle.std.proofs.Common.{◌∙◌, sym, ap, subst}
 use Rattle.pp_script.specs.declared.cue.Cue.TheVariants as cue
 use Rattle.pp_play.specs.Plays.{ComesTo}
-use Rattle.pp_play.specs.Doing.{cue_worker}
+use Rattle.pp_play.specs.Doing.{cue_worker, HandPlays}
 use Rattle.pp_play.proofs.Asked.{same}
 use Rattle.pp_play.proofs.playing.with_hand.Goals as goal
 
@@ -10,3 +10,81 @@ returns-in-Fix-clause-comes g c =
     let of = same _ _ (sym (ap cue_worker c.in-Fix.is) ∙ c.requires.cue) in
     subst (λ q. ComesTo c.args.vault.now q c.fix.result.1 c.fix.new.vault)
     (ap (λ w. cue.Fix w c.in-Fix.page) (sym of) ∙ sym c.in-Fix.is) c.fix.ensures.comes
+
+pub returns-in-Take-clause-plays : goal.returns-in-Take-clause-plays
+returns-in-Take-clause-plays g c fits =
+    let of = same _ _ (sym (ap cue_worker c.in-Take.is) ∙ c.requires.cue) in
+    subst
+    (λ q. HandPlays c.args.vault.now c.args.worker c.args.hand q c.take.result.1 c.take.new.vault c.take.result.0)
+    (ap (λ w. cue.Take w) (sym of) ∙ sym c.in-Take.is) (c.take.ensures.plays fits)
+
+pub returns-in-Fix-clause-plays : goal.returns-in-Fix-clause-plays
+returns-in-Fix-clause-plays g c fits =
+    let of = same _ _ (sym (ap cue_worker c.in-Fix.is) ∙ c.requires.cue) in
+    subst
+    (λ q. HandPlays c.args.vault.now c.args.worker c.args.hand q c.fix.result.1 c.fix.new.vault c.fix.result.0)
+    (ap (λ w. cue.Fix w c.in-Fix.page) (sym of) ∙ sym c.in-Fix.is) (c.fix.ensures.plays fits)
+
+pub returns-in-Device-clause-plays : goal.returns-in-Device-clause-plays
+returns-in-Device-clause-plays g c fits =
+    let of = same _ _ (sym (ap cue_worker c.in-Device.is) ∙ c.requires.cue) in
+    subst
+    (λ q. HandPlays c.args.vault.now c.args.worker c.args.hand q c.work.result.1 c.work.new.vault c.work.result.0)
+    (ap (λ w. cue.Device w) (sym of) ∙ sym c.in-Device.is) (c.work.ensures.plays fits)
+
+pub returns-in-Unfix-clause-plays : goal.returns-in-Unfix-clause-plays
+returns-in-Unfix-clause-plays g c fits =
+    let of = same _ _ (sym (ap cue_worker c.in-Unfix.is) ∙ c.requires.cue) in
+    subst
+    (λ q. HandPlays c.args.vault.now c.args.worker c.args.hand q c.unfix.result.1 c.unfix.new.vault c.unfix.result.0)
+    (ap (λ w. cue.Unfix w) (sym of) ∙ sym c.in-Unfix.is) (c.unfix.ensures.plays fits)
+
+pub returns-in-Latch-clause-plays : goal.returns-in-Latch-clause-plays
+returns-in-Latch-clause-plays g c fits =
+    let of = same _ _ (sym (ap cue_worker c.in-Latch.is) ∙ c.requires.cue) in
+    subst
+    (λ q. HandPlays c.args.vault.now c.args.worker c.args.hand q c.latch.result.1 c.latch.new.vault c.latch.result.0)
+    (ap (λ w. cue.Latch w) (sym of) ∙ sym c.in-Latch.is) (c.latch.ensures.plays fits)
+
+pub returns-in-Unlatch-clause-plays : goal.returns-in-Unlatch-clause-plays
+returns-in-Unlatch-clause-plays g c fits =
+    let of = same _ _ (sym (ap cue_worker c.in-Unlatch.is) ∙ c.requires.cue) in
+    subst
+    (λ q. HandPlays c.args.vault.now c.args.worker c.args.hand q c.unlatch.result.1 c.unlatch.new.vault c.unlatch.result.0)
+    (ap (λ w. cue.Unlatch w) (sym of) ∙ sym c.in-Unlatch.is) (c.unlatch.ensures.plays fits)
+
+pub returns-in-Choose-clause-plays : goal.returns-in-Choose-clause-plays
+returns-in-Choose-clause-plays g c fits =
+    let of = same _ _ (sym (ap cue_worker c.in-Choose.is) ∙ c.requires.cue) in
+    subst
+    (λ q. HandPlays c.args.vault.now c.args.worker c.args.hand q c.choose.result.1 c.choose.new.vault c.choose.result.0)
+    (ap (λ w. cue.Choose w c.in-Choose.branch) (sym of) ∙ sym c.in-Choose.is) (c.choose.ensures.plays fits)
+
+pub returns-in-Unwind-clause-plays : goal.returns-in-Unwind-clause-plays
+returns-in-Unwind-clause-plays g c fits =
+    let of = same _ _ (sym (ap cue_worker c.in-Unwind.is) ∙ c.requires.cue) in
+    subst
+    (λ q. HandPlays c.args.vault.now c.args.worker c.args.hand q c.unwind.result.1 c.unwind.new.vault c.unwind.result.0)
+    (ap (λ w. cue.Unwind w c.in-Unwind.slot) (sym of) ∙ sym c.in-Unwind.is) (c.unwind.ensures.plays fits)
+
+pub returns-in-Finish-clause-plays : goal.returns-in-Finish-clause-plays
+returns-in-Finish-clause-plays g c fits =
+    let of = same _ _ (sym (ap cue_worker c.in-Finish.is) ∙ c.requires.cue) in
+    subst
+    (λ q. HandPlays c.args.vault.now c.args.worker c.args.hand q c.finish.result.1 c.finish.new.vault c.finish.result.0)
+    (ap (λ w. cue.Finish w) (sym of) ∙ sym c.in-Finish.is) (c.finish.ensures.plays fits)
+
+pub returns-in-Write-clause-plays : goal.returns-in-Write-clause-plays
+returns-in-Write-clause-plays g c fits =
+    let of = same _ _ (sym (ap cue_worker c.in-Write.is) ∙ c.requires.cue) in
+    subst
+    (λ q. HandPlays c.args.vault.now c.args.worker c.args.hand q c.write.result.1 c.args.vault.now c.write.result.0)
+    (ap (λ w. cue.Write w c.in-Write.slot c.in-Write.byte) (sym of) ∙ sym c.in-Write.is)
+    (c.write.ensures.plays c.args.vault.now c.args.worker fits)
+
+pub returns-in-Look-clause-plays : goal.returns-in-Look-clause-plays
+returns-in-Look-clause-plays g c fits =
+    let of = same _ _ (sym (ap cue_worker c.in-Look.is) ∙ c.requires.cue) in
+    subst
+    (λ q. HandPlays c.args.vault.now c.args.worker c.args.hand q c.look.result.1 c.args.vault.now c.look.result.0)
+    (ap (λ w. cue.Look w c.in-Look.slot) (sym of) ∙ sym c.in-Look.is) (c.look.ensures.plays c.args.worker fits)

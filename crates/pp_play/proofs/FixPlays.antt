@@ -1,0 +1,113 @@
+-- A fix with a hand that fits.
+use Rattle.std.proofs.Common.{◌≡◌, ℕ, Option, Some, List, refl, ap, subst}
+use Rattle.std.specs.Prelude.{if◌then◌else◌, slice_set}
+use Rattle.pp_cert.specs.declared.note.Held.TheVariants.{Free}
+use Rattle.pp_model.specs.declared.moves.Move.TheVariants as move
+use Rattle.pp_model.specs.Pool.{State}
+use Rattle.pp_model.specs.Moves.{is_refusal}
+use Rattle.pp_core.specs.AfterMoves.{AfterMoves}
+use Rattle.pp_core.proofs.AfterMoves.{after_moves}
+use Rattle.pp_vault.specs.declared.refusal.Refusal.{Refusal}
+use Rattle.pp_vault.specs.declared.tokens.Duty.{Duty}
+use Rattle.pp_vault.specs.declared.tokens.Duty.TheVariants as duty
+use Rattle.pp_vault.specs.declared.tokens.Errand.{Errand}
+use Rattle.pp_vault.specs.declared.tokens.Session.{Session}
+use Rattle.pp_vault.specs.declared.guards.PinGuard.{PinGuard}
+use Rattle.pp_vault.specs.declared.guards.Guard.{Guard}
+use Rattle.pp_vault.specs.declared.guards.Guard.TheVariants.{Pin}
+use Rattle.pp_vault.specs.declared.stage.Stage.TheVariants.{In, Out}
+use Rattle.pp_vault.specs.Parts.{Parts}
+use Rattle.pp_vault.specs.StandsFor.{StandsFor, IsKept}
+use Rattle.pp_vault.specs.Calls.{asks, stranger, refusal_of, after_call}
+use Rattle.pp_vault.specs.Events.{Does, Refuses, untold}
+use Rattle.pp_vault.specs.Fits.{is_acting_by, fix_call}
+use Rattle.pp_vault.specs.Fixes.{IsHit, IsSent}
+use Rattle.pp_vault.specs.Tokens.{ErrandFits}
+use Rattle.pp_vault.specs.Duties.{duty_worker}
+use Rattle.pp_vault.specs.HandLaws.{FitsIn, LeavesSlot}
+use Rattle.pp_script.specs.declared.cue.Cue.TheVariants as cue
+use Rattle.pp_play.specs.declared.line.Line.{Line}
+use Rattle.pp_play.specs.declared.line.Line.TheVariants.{Did, Refused}
+use Rattle.pp_model.specs.declared.moves.Move.{Move}
+use Rattle.pp_model.specs.declared.reply.Reply.{Reply}
+use Rattle.pp_play.specs.Doing.{IsDone, HandPlays}
+use Rattle.pp_play.specs.Guarding.{hand_of}
+use Rattle.pp_play.proofs.Slots.{low}
+use Rattle.pp_play.proofs.StillFitting.{StillFit, refused_plays, others_fit, all_fit, one_fits, line_fits}
+
+module _ (old new : Parts) (kept : IsKept old) (x : Session) (page : ℕ) (places : List (Option Guard))
+    (fits : FitsIn old x.worker (hand_of (In x) places)) where
+  calls : (s : State) → StandsFor old s → fix_call x.worker page s ≡ asks (move.Fix x.worker page)
+  calls s st =
+      ap (λ b. if b then asks (move.Fix x.worker page) else stranger) (ap is_acting_by ((fits s st).stage.1))
+
+  pub fix_refused : (why : Refusal) → Refuses old (fix_call x.worker page) why → untold new ≡ untold old
+      → HandPlays old x.worker (hand_of (In x) places) (cue.Fix x.worker page) (Refused (cue.Fix x.worker page) why) new
+      (hand_of (In x) places)
+  fix_refused why refuses same =
+      refused_plays old new same x.worker (hand_of (In x) places) (cue.Fix x.worker page) why fits
+      (λ s st. subst (λ c. refusal_of s c ≡ Some why) (calls s st) (refuses s st))
+
+  after : (s : State) → StandsFor old s → AfterMoves s
+  after s st = after_moves s st.core.reached
+
+  module _ (laws : StillFit) (does : Does old (fix_call x.worker page) new) (line : Line)
+      (done : IsDone old (cue.Fix x.worker page) new)
+      (tells : (m : Move) (r : Reply) → new.last ≡ Some (m, r) → line ≡ Did m r) where
+    there : StandsFor new (after_call kept.state (fix_call x.worker page kept.state))
+    there = does.stands kept.state kept.stands
+
+    -- The page was cached.
+    pub fix_got : (y : Session) (g : PinGuard) → IsHit old new x.worker page y g
+        → HandPlays old x.worker (hand_of (In x) places) (cue.Fix x.worker page) line new
+        (hand_of (In y) (slice_set places g.slot (Some (Pin g))))
+    fix_got y g hit =
+        record {
+          exact = line_fits old new (cue.Fix x.worker page) line done tells (move.Fix x.worker page) (λ n e. e) (λ s. refl)
+              places (slice_set places g.slot (Some (Pin g)));
+          fit = one_fits laws old new (fix_call x.worker page) kept does x.worker (move.Fix x.worker page) refl calls (In x)
+              (In y) places fits (λ s st. (hit.session.worker, hit.session.ask s st)) g.slot (Some (Pin g))
+              (low new _ x.worker g.slot there (g.page, Free) (hit.guard.held _ there))
+              (λ s st. record { worker = hit.guard.worker; of_slot = refl; held = hit.guard.held s st })
+              (λ s st k off.
+              let r = hit.replies s st in
+              let a = hit.asked s st in
+              (((after s st).hit x.worker page g.slot a.0 r.0 r.1 r.2 a.1).others k off, λ h. h));
+          others = others_fit laws old new (fix_call x.worker page) kept does x.worker (move.Fix x.worker page) refl calls;
+        }
+
+    -- A device has to work.
+    away_worker : (d : Duty) (image : List ℕ) → IsSent old new x.worker page image d → duty_worker d ≡ Some x.worker
+    away_worker (duty.Read v slot p) image sent = ap (λ u. Some u) sent.0
+    away_worker (duty.Write v slot p victim) image sent = ap (λ u. Some u) sent.0
+    away_worker (duty.Flush p) image sent = absurd sent
+
+    away_leaves : (d : Duty) (image : List ℕ) → IsSent old new x.worker page image d → (s : State) → StandsFor old s
+        → (k : ℕ) → LeavesSlot s (asks (move.Fix x.worker page)) x.worker k
+    away_leaves (duty.Read v slot p) image sent s st k =
+        let r = sent.2 s st in
+        let f = (after s st).found (move.Fix x.worker page) (ap is_refusal r.1) in
+        (((after s st).sent x.worker page f.0 f.1 r.0 r.1 f.2).slots k, λ h. h)
+    away_leaves (duty.Write v slot p victim) image sent s st k =
+        let r = sent.2 s st in
+        let f = (after s st).found (move.Fix x.worker page) (ap is_refusal r.1) in
+        (((after s st).sent_victim x.worker page f.0 f.1 r.0 victim r.1 f.2).slots k, λ h. h)
+    away_leaves (duty.Flush p) image sent s st k = absurd sent
+
+    pub fix_away : (e : Errand) → IsSent old new x.worker page e.image e.duty → ErrandFits new e
+        → HandPlays old x.worker (hand_of (In x) places) (cue.Fix x.worker page) line new (hand_of (Out e) places)
+    fix_away e sent errand =
+        record {
+          exact = line_fits old new (cue.Fix x.worker page) line done tells (move.Fix x.worker page) (λ n q. q) (λ s. refl)
+              places places;
+          fit = all_fit laws old new (fix_call x.worker page) kept does x.worker (move.Fix x.worker page) refl calls (In x)
+              (Out e) places fits
+              (λ s st. record {
+                worker = away_worker e.duty e.image sent;
+                out = errand.out s st;
+                headed = errand.headed s st;
+                long = errand.long;
+              })
+              (λ s st k. away_leaves e.duty e.image sent s st k);
+          others = others_fit laws old new (fix_call x.worker page) kept does x.worker (move.Fix x.worker page) refl calls;
+        }

@@ -1,0 +1,20 @@
+use Rattle.std.proofs.Common.{sym, subst}
+use Rattle.pp_core.specs.Queries.{held_of}
+use Rattle.pp_vault.specs.Hands.{GuardFits}
+use Rattle.pp_play.specs.FirstBytes.{LooksWith}
+use Rattle.pp_play.proofs.FirstBytes.{looks_read, looks_write}
+use Rattle.pp_play.proofs.bytes.looked.Goals as goal
+
+pub returns-in-Some-clause-looks : goal.returns-in-Some-clause-looks
+returns-in-Some-clause-looks c s st w slot fits =
+    let v = c.args.vault.now in
+    subst (λ g. LooksWith v s (held_of s w slot) g c.first_byte.result) (sym c.in-Read.is)
+    (looks_read v s st w slot c.in-Read.guard c.first_byte.result c.in-Some.body.now
+    (subst (λ g. GuardFits v.page_bytes s w slot g) c.in-Read.is fits) c.in-Some.ensures.shown c.first_byte.ensures)
+
+pub returns-in-Write-clause-looks : goal.returns-in-Write-clause-looks
+returns-in-Write-clause-looks c s st w slot fits =
+    let v = c.args.vault.now in
+    subst (λ g. LooksWith v s (held_of s w slot) g c.first_byte-in-Write.result) (sym c.in-Write.is)
+    (looks_write v s st w slot c.in-Write.guard c.first_byte-in-Write.result c.body.result.now
+    (subst (λ g. GuardFits v.page_bytes s w slot g) c.in-Write.is fits) c.body.ensures c.first_byte-in-Write.ensures)

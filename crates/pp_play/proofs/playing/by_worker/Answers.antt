@@ -1,0 +1,31 @@
+use Rattle.std.proofs.Common.{◌≡◌, ◌∙◌, None, sym, ap, subst}
+use Rattle.std.specs.Prelude.{IfNone, slice_set, Some}
+use Rattle.pp_vault.specs.Stages.{put_for}
+use Rattle.pp_play.proofs.AllHands.{absent_plays, same_hands, not_there, part_fits, joined_plays}
+use Rattle.pp_play.proofs.playing.by_worker.Goals as goal
+
+pub returns-in_default-clause-plays : goal.returns-in_default-clause-plays
+returns-in_default-clause-plays g c fits =
+    let hands = c.args.hands.now in
+    let none = not_there c.part.result c.in_default.not-Some in
+    let same : c.part.new.self.workers ≡ hands.workers =
+    subst (λ o. IfNone o (c.part.new.self.workers ≡ hands.workers)) none c.part.ensures.unchanged in
+    absent_plays c.args.vault.now hands c.args.worker (sym c.part.ensures.hand ∙ none) fits c.part.new.self
+    (same_hands c.part.new.self hands same c.part.ensures.flushing) c.args.cue c.without_hand.result c.requires
+    c.without_hand.ensures.tells c.without_hand.ensures.exact
+
+pub returns-clause-plays : goal.returns-clause-plays
+returns-clause-plays g c fits =
+    let old = c.args.vault.now in
+    let hands = c.args.hands.now in
+    let w = c.args.worker in
+    let hand = c.in-Some.hand in
+    let left = c.with_hand-hand.result.0 in
+    let there = sym c.part.ensures.hand ∙ c.in-Some.is in
+    let joined : c.join.new.self.workers ≡ slice_set (slice_set hands.workers w None) w (Some left) =
+    c.in-Ok.ensures.joined ∙ ap (λ o. put_for c.part.new.self.workers left o) c.with_hand-hand.ensures.of
+    ∙ ap (λ ws. slice_set ws w (Some left)) c.in-Some.ensures.taken in
+    joined_plays old c.with_hand-hand.new.vault c.known.ensures.kept hands c.join.new.self w hand left c.args.cue
+    c.with_hand-hand.result.1 c.requires there fits c.with_hand-hand.ensures.comes
+    (c.with_hand-hand.ensures.plays (part_fits old hands w hand there fits)) joined
+    (c.join.ensures.flushing ∙ c.part.ensures.flushing)
