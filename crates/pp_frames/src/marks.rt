@@ -120,6 +120,18 @@ impl Marks {
         }
     }
 
+    /// What is kept of a page that there is.
+    #[inline(always)]
+    fn kept(&self, page: u32) -> Page
+        requires { page < page_count self.now }
+        ensures marks { marks_at result ≡ marks_of self.now page }
+        ensures pins { pins_of self.now page ≤ all_pins self.now }
+        ensures frames { self.now.frames < 2 ^ 32 }
+        ensures sound { IsSound self.now }
+    {
+        self.pages[page as usize]
+    }
+
     /// Gives the page these marks, in the frame that it is in.
     #[inline(always)]
     fn write(&mut self, page: u32, to: Page)
@@ -238,7 +250,7 @@ impl Marks {
         ensures exact { self.new ≡ with_pins self.old page (pins_of self.old page + 1) }
         ensures sound { IsSound self.new }
     {
-        let now = self.page(page);
+        let now = self.kept(page);
         self.write(page, now.with_pins(now.pins + 1));
     }
 
@@ -248,7 +260,7 @@ impl Marks {
         ensures exact { self.new ≡ with_pins self.old page (pins_of self.old page - 1) }
         ensures sound { IsSound self.new }
     {
-        let now = self.page(page);
+        let now = self.kept(page);
         self.write(page, now.with_pins(now.pins - 1));
     }
 
@@ -287,7 +299,7 @@ impl Marks {
         ensures refused { result ≡ false → self.new ≡ self.old }
         ensures sound { IsSound self.new }
     {
-        let now = self.page(page);
+        let now = self.kept(page);
         if !now.goes(mode) {
             return false;
         }
@@ -301,7 +313,7 @@ impl Marks {
         ensures exact { self.new ≡ with_latches self.old page (without_latch (latches_of self.old page)) }
         ensures sound { IsSound self.new }
     {
-        let now = self.page(page);
+        let now = self.kept(page);
         self.write(page, now.without_latch());
     }
 
@@ -321,7 +333,7 @@ impl Marks {
         ensures exact { self.new ≡ with_dirty self.old page true }
         ensures sound { IsSound self.new }
     {
-        let now = self.page(page);
+        let now = self.kept(page);
         self.write(
             page,
             Page {
@@ -337,7 +349,7 @@ impl Marks {
         ensures exact { self.new ≡ with_dirty self.old page false }
         ensures sound { IsSound self.new }
     {
-        let now = self.page(page);
+        let now = self.kept(page);
         self.write(
             page,
             Page {
@@ -361,7 +373,7 @@ impl Marks {
         ensures exact { self.new ≡ with_stamp self.old page (Some stamp) }
         ensures sound { IsSound self.new }
     {
-        let now = self.page(page);
+        let now = self.kept(page);
         self.write(
             page,
             Page {
