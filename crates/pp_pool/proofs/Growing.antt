@@ -1,0 +1,287 @@
+-- A book after one event more.
+use Rattle.std.proofs.Common.{◌≡◌, ◌∙◌, ◌≤◌, ◌<◌, ◌+◌, ℕ, Bool, true, false, Option, Some, None, List, [], ◌∷◌, ◌++◌}
+use Rattle.std.proofs.Common.{length, refl, sym, ap, subst, arith, append-nil, length-append}
+use Rattle.std.proofs.lemmas.Bool.{false≢true}
+use Rattle.std.specs.Prelude.{max, slice_get, option_map, IsSome, if◌then◌else◌}
+use Rattle.pp_settings.specs.Layout.{Geometry}
+use Rattle.pp_cert.specs.Accepted.{Acceptance}
+use Rattle.pp_model.specs.declared.moves.Move.{Move}
+use Rattle.pp_model.specs.declared.reply.Reply.{Reply}
+use Rattle.pp_model.specs.declared.event.Event.{Event}
+use Rattle.pp_model.specs.declared.event.Event.TheVariants.{Submit, Step}
+use Rattle.pp_model.specs.Pool.{State, Settings, opening}
+use Rattle.pp_model.specs.Budget.{cost_of, bound}
+use Rattle.pp_model.specs.Moves.{reply_of, next_of, is_possible, IsPossible}
+use Rattle.pp_model.specs.Submitting.{submit_error, submitted_unless, after_submit}
+use Rattle.pp_model.specs.Journals.{after_plan, replay, IsTrueFrom, IsJournalOf}
+use Rattle.pp_model.proofs.Alone.{settings_stay, submit_leaves}
+use Rattle.pp_model.proofs.Changes.{refused_by}
+use Rattle.pp_model.proofs.Journeys.{same_plans, step_told, submit_told}
+use Rattle.pp_model.proofs.BoundLaws.{bound_falls, bound_rises}
+use Rattle.pp_vault.specs.Parts as vault
+use Rattle.pp_vault.specs.Submits as vault_submits
+use Rattle.pp_vault.proofs.Kept.{headline}
+use Rattle.pp_vault.specs.StandsFor.{StandsFor}
+use Rattle.pp_vault.specs.Calls.{Call, stranger, refused, asks, after_call, told}
+use Rattle.pp_pool.specs.Parts.{Parts, settings_of, plans_of, state_of}
+use Rattle.pp_pool.specs.Books.{greatest_from, greatest_cost, IsBook, HeadlineHolds}
+use Rattle.pp_pool.specs.declared.request.Request.{Request}
+use Rattle.pp_pool.specs.Requests.{call_of, event_of, event_for, events_in}
+use Rattle.pp_pool.proofs.Noted.{IsNoted}
+use Rattle.pp_pool.specs.Submits.{TakesIn}
+
+-- ---- what a book stands for
+
+plan_settings : (s : State) (a : Option Acceptance) → (after_plan s a).settings ≡ s.settings
+plan_settings s None = refl
+plan_settings s (Some a) = (submit_leaves s a).1
+
+replay_settings : (plans : List Acceptance) (s : State) (es : List Event) → (replay plans s es).settings ≡ s.settings
+replay_settings plans s [] = refl
+replay_settings plans s (Step m reply ∷ es) = replay_settings plans (next_of s m) es ∙ settings_stay s m
+replay_settings plans s (Submit k ∷ es) =
+    replay_settings plans (after_plan s (slice_get plans k)) es ∙ plan_settings s (slice_get plans k)
+
+pub state_settings : (b : Parts) → (state_of b).settings ≡ settings_of b
+state_settings b = replay_settings (plans_of b) (opening (settings_of b)) b.journal
+
+pub book_told : (b : Parts) → IsBook b → IsJournalOf (state_of b) b.journal
+book_told b k =
+    let settings = sym (state_settings b) in
+    let plans : plans_of b ≡ (state_of b).plans = k.stands.core.plans in
+    record {
+      is_true =
+          subst (λ ps. IsTrueFrom ps (opening (state_of b).settings) b.journal) plans
+          (subst (λ j. IsTrueFrom (plans_of b) (opening j) b.journal) settings k.is_true);
+      leads_here =
+          sym (ap (λ j. replay (plans_of b) (opening j) b.journal) settings
+          ∙ ap (λ ps. replay ps (opening (state_of b).settings) b.journal) plans);
+    }
+
+abbrev settings_by : Geometry → (workers flushes : ℕ) → Settings
+settings_by layout workers flushes = record { layout = layout; workers = workers; flushes = flushes }
+
+-- The settings that a vault's core keeps.
+kept_settings : (v : vault.Parts) (w : ℕ) (s : State) → StandsFor v s → w ≡ s.settings.workers
+    → settings_by v.core.layout w v.core.flushes ≡ s.settings
+kept_settings v w s st e =
+    ap (λ l. settings_by l w v.core.flushes) st.core.layout ∙ ap (λ n. settings_by s.settings.layout n v.core.flushes) e
+    ∙ ap (λ n. settings_by s.settings.layout s.settings.workers n) st.core.flushes
+
+-- What is told of a state to which a book's journal leads makes it a book.
+pub record Leads (b : Parts) (s : State) : Type 0 where
+  pub stands : StandsFor b.vault s
+  pub workers : b.workers ≡ s.settings.workers
+  pub told : IsJournalOf s b.journal
+  pub room : length b.journal + bound s ≤ b.capacity
+  pub most : b.most ≡ greatest_cost s.plans
+
+pub state_is : (b : Parts) (s : State) → Leads b s → state_of b ≡ s
+state_is b s h =
+    ap (λ j. replay (plans_of b) (opening j) b.journal) (kept_settings b.vault b.workers s h.stands h.workers)
+    ∙ ap (λ ps. replay ps (opening s.settings) b.journal) h.stands.core.plans ∙ h.told.leads_here
+
+pub book_is : (b : Parts) (s : State) → Leads b s → IsBook b
+book_is b s h =
+    let settings = sym (kept_settings b.vault b.workers s h.stands h.workers) in
+    let plans : s.plans ≡ plans_of b = sym h.stands.core.plans in
+    let here = sym (state_is b s h) in
+    record {
+      is_true =
+          subst (λ j. IsTrueFrom (plans_of b) (opening j) b.journal) settings
+          (subst (λ ps. IsTrueFrom ps (opening s.settings) b.journal) plans h.told.is_true);
+      stands = subst (StandsFor b.vault) here h.stands;
+      room = subst (λ t. length b.journal + bound t ≤ b.capacity) here h.room;
+      most = h.most ∙ ap greatest_cost plans;
+    }
+
+-- ---- one call
+
+-- The book with this event, or none, and with what its vault keeps now.
+abbrev pub with_event : Parts → vault.Parts → Option Event → Parts
+with_event b v e = record b { vault = v; journal = b.journal ++ events_in e }
+
+module _ (b : Parts) (k : IsBook b) (v : vault.Parts) where
+  -- No event, and the vault still stands for the state.
+  leads_still : StandsFor v (state_of b) → Leads (with_event b v None) (state_of b)
+  leads_still st =
+      let same = sym (append-nil b.journal) in
+      record {
+        stands = st;
+        workers = sym (ap (λ (j : Settings). j.workers) (state_settings b));
+        told = subst (IsJournalOf (state_of b)) same (book_told b k);
+        room = subst (λ (es : List Event). length es + bound (state_of b) ≤ b.capacity) same k.room;
+        most = k.most ∙ ap greatest_cost k.stands.core.plans;
+      }
+
+  -- A possible move is the event, and the vault stands for the state after it.
+  leads_on : (m : Move) → IsPossible (state_of b) m → StandsFor v (next_of (state_of b) m)
+      → Leads (with_event b v (Some (Step m (reply_of (state_of b) m)))) (next_of (state_of b) m)
+  leads_on m p st =
+      let s = state_of b in
+      let e = Step m (reply_of s m) in
+      let long : length (b.journal ++ e ∷ []) ≡ length b.journal + 1 = length-append b.journal (e ∷ []) in
+      record {
+        stands = st;
+        workers = sym (ap (λ (j : Settings). j.workers) (settings_stay s m ∙ state_settings b));
+        told = step_told s b.journal m (book_told b k) p;
+        room = omega (arith, long, bound_falls s k.stands.core.reached m p, k.room);
+        most = k.most ∙ ap greatest_cost (k.stands.core.plans ∙ sym (same_plans s m));
+      }
+
+  leads_by : (m : Move) (p : Bool) → is_possible (state_of b) m ≡ p → StandsFor v (next_of (state_of b) m)
+      → Leads (with_event b v (option_map (λ (t : Move × Reply). Step t.0 t.1)
+      (if p then Some (m, reply_of (state_of b) m) else None))) (next_of (state_of b) m)
+  leads_by m true e st = leads_on m e st
+  leads_by m false e st =
+      let stays = refused_by (state_of b) m e in
+      subst (λ s. Leads (with_event b v None) s) (sym stays) (leads_still (subst (StandsFor v) stays st))
+
+  pub leads_after : (call : Call) → StandsFor v (after_call (state_of b) call)
+      → Leads (with_event b v (event_of (state_of b) call)) (after_call (state_of b) call)
+  leads_after stranger st = leads_still st
+  leads_after (refused why) st = leads_still st
+  leads_after (asks m) st = leads_by m (is_possible (state_of b) m) refl st
+
+  -- Where an event is told, the journal has memory for it.
+  has_room : (m : Move) (p : Bool) → is_possible (state_of b) m ≡ p
+      → IsSome {T = Move × Reply} (if p then Some (m, reply_of (state_of b) m) else None) → length b.journal < b.capacity
+  has_room m true e some = omega (arith, bound_falls (state_of b) k.stands.core.reached m e, k.room)
+  has_room m false e some = absurd (false≢true some)
+
+  pub room_for : (call : Call) → IsSome (told (state_of b) call) → length b.journal < b.capacity
+  room_for stranger some = absurd (false≢true some)
+  room_for (refused why) some = absurd (false≢true some)
+  room_for (asks m) some = has_room m (is_possible (state_of b) m) refl some
+
+-- ---- a request
+
+module _ (b : Parts) (k : IsBook b) (asked : Request) (v : vault.Parts)
+    (n : IsNoted b.vault (call_of b.vault asked) v) where
+  abbrev call : Call
+  call = call_of b.vault asked (state_of b)
+
+  pub room_in : IsSome v.last → length b.journal < b.capacity
+  room_in some = room_for b k v call (subst IsSome (n.is_told (state_of b) k.stands) some)
+
+  pub event_in : (e : Option Event) → e ≡ option_map (λ (t : Move × Reply). Step t.0 t.1) v.last → e ≡ event_for b asked
+  event_in e is =
+      is ∙ ap (option_map (λ (t : Move × Reply). Step t.0 t.1)) (n.is_told (state_of b) k.stands)
+
+  leads_in : Leads (with_event b v (event_for b asked)) (after_call (state_of b) call)
+  leads_in = leads_after b k v call (n.stands (state_of b) k.stands)
+
+after_settings : (s : State) (call : Call) → (after_call s call).settings ≡ s.settings
+after_settings s stranger = refl
+after_settings s (refused why) = refl
+after_settings s (asks m) = settings_stay s m
+
+after_plans : (s : State) (call : Call) → (after_call s call).plans ≡ s.plans
+after_plans s stranger = refl
+after_plans s (refused why) = refl
+after_plans s (asks m) = same_plans s m
+
+pub book_headline : (b : Parts) → IsBook b → HeadlineHolds b
+book_headline b k = headline b.vault (state_of b) k.stands
+
+-- The book after a request, where the event that the vault tells has come behind the others.
+module _ (b : Parts) (k : IsBook b) (asked : Request) (v : vault.Parts)
+    (n : IsNoted b.vault (call_of b.vault asked) v) (e : Option Event)
+    (is : e ≡ option_map (λ (t : Move × Reply). Step t.0 t.1) v.last)
+    (journal : List Event) (grows : journal ≡ b.journal ++ events_in e)
+    (capacity : ℕ) (same : capacity ≡ b.capacity) where
+  abbrev pub book_then : Parts
+  book_then = record b { vault = v; journal = journal; capacity = capacity }
+
+  abbrev state_then : State
+  state_then = after_call (state_of b) (call_of b.vault asked (state_of b))
+
+  leads_then : Leads book_then state_then
+  leads_then =
+      subst (λ c. Leads (record b { vault = v; journal = journal; capacity = c }) state_then) (sym same)
+      (subst (λ es. Leads (record b { vault = v; journal = es }) state_then) (sym grows)
+      (subst (λ (x : Option Event). Leads (with_event b v x) state_then) (sym (event_in b k asked v n e is))
+      (leads_in b k asked v n)))
+
+  pub performed : IsBook book_then
+  performed = book_is book_then state_then leads_then
+
+  pub settings_then : settings_of book_then ≡ settings_of b
+  settings_then =
+      kept_settings v b.workers state_then leads_then.stands leads_then.workers
+      ∙ after_settings (state_of b) (call_of b.vault asked (state_of b)) ∙ state_settings b
+
+  pub plans_then : v.core.plans ≡ plans_of b
+  plans_then =
+      leads_then.stands.core.plans ∙ after_plans (state_of b) (call_of b.vault asked (state_of b))
+      ∙ sym k.stands.core.plans
+
+-- ---- a plan
+
+greatest_more : (n : ℕ) (plans : List Acceptance) (a : Acceptance)
+    → greatest_from n (plans ++ a ∷ []) ≡ max (greatest_from n plans) (cost_of a)
+greatest_more n [] a = refl
+greatest_more n (p ∷ plans) a = greatest_more (max n (cost_of p)) plans a
+
+-- The book after a plan that is taken in.
+module _ (b : Parts) (k : IsBook b) (a : Acceptance) (number : ℕ) (v : vault.Parts)
+    (t : vault_submits.TakesIn b.vault a number v)
+    (journal : List Event) (grows : journal ≡ b.journal ++ Submit number ∷ [])
+    (capacity : ℕ) (room : length b.journal + (bound (state_of b) + cost_of a + 1) ≤ capacity)
+    (most : ℕ) (greatest : most ≡ max b.most (cost_of a)) where
+  abbrev pub book_with : Parts
+  book_with = record b { vault = v; journal = journal; capacity = capacity; most = most }
+
+  allowed : submit_error (state_of b) a ≡ None
+  allowed = t.allowed (state_of b) k.stands
+
+  numbered : number ≡ length (state_of b).plans
+  numbered = t.numbered (state_of b) k.stands
+
+  plans_after : (after_submit (state_of b) a).plans ≡ (state_of b).plans ++ a ∷ []
+  plans_after = ap (λ o. (submitted_unless o (state_of b) a).plans) allowed
+
+  told_after : IsJournalOf (after_submit (state_of b) a) journal
+  told_after =
+      subst (IsJournalOf (after_submit (state_of b) a))
+      (sym (grows ∙ ap (λ n. b.journal ++ Submit n ∷ []) numbered))
+      (subst (λ o. IsJournalOf (submitted_unless o (state_of b) a) (b.journal ++ Submit (length (state_of b).plans) ∷ []))
+      (sym allowed) (submit_told (state_of b) b.journal a (book_told b k) allowed))
+
+  leads_with : Leads book_with (after_submit (state_of b) a)
+  leads_with =
+      let s = state_of b in
+      record {
+        stands = t.stands s k.stands;
+        workers = sym (ap (λ (j : Settings). j.workers) ((submit_leaves s a).1 ∙ state_settings b));
+        told = told_after;
+        room =
+            omega (
+              arith,
+              ap length grows,
+              length-append b.journal (Submit number ∷ []),
+              bound_rises s k.stands.core.reached a allowed,
+              room,
+            );
+        most =
+            greatest ∙ ap (λ n. max n (cost_of a)) k.most ∙ sym (greatest_more 0 (plans_of b) a)
+            ∙ ap (λ ps. greatest_cost (ps ++ a ∷ [])) k.stands.core.plans ∙ ap greatest_cost (sym plans_after);
+      }
+
+  pub book_taken : IsBook book_with
+  book_taken = book_is book_with (after_submit (state_of b) a) leads_with
+
+  pub taken_in : TakesIn b a number book_with
+  taken_in =
+      let s = state_of b in
+      record {
+        allowed = allowed;
+        numbered = numbered ∙ ap length (sym k.stands.core.plans);
+        journal = grows;
+        plans =
+            leads_with.stands.core.plans ∙ plans_after ∙ ap (λ ps. ps ++ a ∷ []) (sym k.stands.core.plans);
+        settings =
+            kept_settings v b.workers (after_submit s a) leads_with.stands leads_with.workers ∙ (submit_leaves s a).1
+            ∙ state_settings b;
+        vault = t;
+      }

@@ -1,0 +1,55 @@
+use Rattle.std.proofs.Common.{◌≡◌, ◌∙◌, ap, subst}
+use Rattle.std.specs.Prelude.{vec_capacity}
+use Rattle.pp_pool.specs.Parts.{parts_with, settings_of, plans_of}
+use Rattle.pp_pool.specs.Requests.{event_for}
+use Rattle.pp_pool.proofs.Noted.{noted}
+use Rattle.pp_pool.proofs.Growing.{room_in, event_in, performed, settings_then, plans_then}
+use Rattle.pp_pool.proofs.book.Book.perform.Goals as goal
+
+pub noted-event-requires : goal.noted-event-requires
+noted-event-requires c =
+    room_in (parts_with c.self.inside.vault c.self.inside.workers c.self.inside.journal c.self.inside.most)
+    c.self.invariant c.args.request c.ask-answer.new.vault (noted c.self.inside.vault c.ask-answer.new.vault c.args.request c.ask-answer.result c.ask-answer.ensures.comes
+    c.ask-answer.ensures.does)
+
+pub invariant_of-self : goal.invariant_of-self
+invariant_of-self c =
+    performed (parts_with c.self.inside.vault c.self.inside.workers c.self.inside.journal c.self.inside.most)
+    c.self.invariant c.args.request c.ask-answer.new.vault (noted c.self.inside.vault c.ask-answer.new.vault c.args.request c.ask-answer.result c.ask-answer.ensures.comes
+    c.ask-answer.ensures.does) c.noted-event.result
+    c.noted-event.ensures.event c.noted-event.new.journal.items c.noted-event.ensures.journal
+    (vec_capacity c.noted-event.new.journal) c.noted-event.ensures.memory
+
+pub returns-clause-event : goal.returns-clause-event
+returns-clause-event c =
+    subst (λ b. c.noted-event.result ≡ event_for b c.args.request) c.self.view_is
+    (event_in (parts_with c.self.inside.vault c.self.inside.workers c.self.inside.journal c.self.inside.most)
+    c.self.invariant c.args.request c.ask-answer.new.vault (noted c.self.inside.vault c.ask-answer.new.vault c.args.request c.ask-answer.result c.ask-answer.ensures.comes
+    c.ask-answer.ensures.does) c.noted-event.result
+    c.noted-event.ensures.event)
+
+pub returns-clause-settings : goal.returns-clause-settings
+returns-clause-settings c =
+    settings_then (parts_with c.self.inside.vault c.self.inside.workers c.self.inside.journal c.self.inside.most)
+    c.self.invariant c.args.request c.ask-answer.new.vault (noted c.self.inside.vault c.ask-answer.new.vault c.args.request c.ask-answer.result c.ask-answer.ensures.comes
+    c.ask-answer.ensures.does) c.noted-event.result
+    c.noted-event.ensures.event c.noted-event.new.journal.items c.noted-event.ensures.journal
+    (vec_capacity c.noted-event.new.journal) c.noted-event.ensures.memory
+    ∙ ap settings_of c.self.view_is
+
+pub returns-clause-plans : goal.returns-clause-plans
+returns-clause-plans c =
+    plans_then (parts_with c.self.inside.vault c.self.inside.workers c.self.inside.journal c.self.inside.most)
+    c.self.invariant c.args.request c.ask-answer.new.vault (noted c.self.inside.vault c.ask-answer.new.vault c.args.request c.ask-answer.result c.ask-answer.ensures.comes
+    c.ask-answer.ensures.does) c.noted-event.result
+    c.noted-event.ensures.event c.noted-event.new.journal.items c.noted-event.ensures.journal
+    (vec_capacity c.noted-event.new.journal) c.noted-event.ensures.memory
+    ∙ ap plans_of c.self.view_is
+
+pub returns-clause-kept : goal.returns-clause-kept
+returns-clause-kept c =
+    performed (parts_with c.self.inside.vault c.self.inside.workers c.self.inside.journal c.self.inside.most)
+    c.self.invariant c.args.request c.ask-answer.new.vault (noted c.self.inside.vault c.ask-answer.new.vault c.args.request c.ask-answer.result c.ask-answer.ensures.comes
+    c.ask-answer.ensures.does) c.noted-event.result
+    c.noted-event.ensures.event c.noted-event.new.journal.items c.noted-event.ensures.journal
+    (vec_capacity c.noted-event.new.journal) c.noted-event.ensures.memory

@@ -1,0 +1,10 @@
+-- What a program prints where a plan isn't taken in by a book.
+use Rattle.std.specs.Prelude.{codes}
+use Rattle.pp_text.specs.Refusals.{Row, row, nothing}
+use Rattle.pp_model.specs.SubmitErrors.{submit_error_row}
+use Rattle.pp_pool.specs.declared.error.BookError.{BookError}
+use Rattle.pp_pool.specs.declared.error.BookError.TheVariants.{OutOfMemory, Refused}
+
+abbrev pub book_error_row : BookError → Row
+book_error_row (Refused error) = submit_error_row error
+book_error_row OutOfMemory = row 19 (codes "OutOfMemory") nothing

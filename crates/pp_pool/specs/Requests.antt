@@ -1,0 +1,49 @@
+-- What a request comes to, and the event that it adds.
+use Rattle.std.specs.Prelude.{Option, None, Some, option_map, List, [], ◌∷◌}
+use Rattle.pp_plan.specs.declared.mode.Mode.TheVariants as mode
+use Rattle.pp_cert.specs.declared.note.Held.TheVariants.{S}
+use Rattle.pp_model.specs.declared.event.Event.{Event}
+use Rattle.pp_model.specs.declared.event.Event.TheVariants.{Step}
+use Rattle.pp_model.specs.Pool.{State}
+use Rattle.pp_vault.specs.Parts as vault
+use Rattle.pp_vault.specs.Calls.{Call, told}
+use Rattle.pp_vault.specs.Fits.{take_call, fix_call, unfix_call, latch_call, unlatch_call, put_back_call}
+use Rattle.pp_vault.specs.Fits.{choose_call, finish_call, end_call}
+use Rattle.pp_vault.specs.Leaves.{give_back_call}
+use Rattle.pp_vault.specs.Answers.{answer_call}
+use Rattle.pp_vault.specs.Flushes.{flush_call, next_call}
+use Rattle.pp_vault.specs.Tokens.{is_long}
+use Rattle.pp_pool.specs.declared.request.Request.{Request}
+use Rattle.pp_pool.specs.declared.request.Request.TheVariants as request
+use Rattle.pp_pool.specs.Parts.{Parts, state_of}
+
+-- The call of the vault that a request makes: a token that doesn't fit the state, a slot or a mode that the plan doesn't
+-- ask, or a move.
+abbrev pub call_of : vault.Parts → Request → State → Call
+call_of v (request.Take chair) s = take_call chair.worker s
+call_of v (request.Fix x page) s = fix_call x.worker page s
+call_of v (request.Unfix x g) s = unfix_call x.worker g.worker g.slot g.page s
+call_of v (request.LatchShared x g) s = latch_call mode.S x.worker g.worker g.slot g.page s
+call_of v (request.LatchExclusive x g) s = latch_call mode.X x.worker g.worker g.slot g.page s
+call_of v (request.UnlatchShared x g) s = unlatch_call S x.worker g.worker g.slot g.page s
+call_of v (request.UnlatchExclusive x g) s = put_back_call (is_long v g.image) x.worker g.worker g.slot g.page s
+call_of v (request.Choose x branch) s = choose_call x.worker branch s
+call_of v (request.Finish x) s = finish_call x.worker s
+call_of v (request.End x) s = end_call x.worker s
+call_of v (request.GiveBack x g) s = give_back_call v x g s
+call_of v (request.Answer returned) s = answer_call v.page_bytes returned s
+call_of v (request.Flush page) s = flush_call page s
+call_of v (request.FlushNext number) s = next_call number s
+
+-- The event that a call adds: its move with the model's reply, where the tokens fit and the move is possible.
+abbrev pub event_of : State → Call → Option Event
+event_of s call = option_map (λ t. Step t.0 t.1) (told s call)
+
+-- The event that the request adds to the book's journal, from the state that the journal leads to.
+abbrev pub event_for : Parts → Request → Option Event
+event_for b r = event_of (state_of b) (call_of b.vault r (state_of b))
+
+-- One event, or none.
+abbrev pub events_in : Option Event → List Event
+events_in None = []
+events_in (Some e) = e ∷ []

@@ -1,0 +1,28 @@
+-- What submitting a plan does to a book.
+use Rattle.std.specs.Prelude.{◌≡◌, ◌≤◌, ◌+◌, ℕ, None, Some, [], ◌∷◌, ◌++◌, length}
+use Rattle.pp_cert.specs.Accepted.{Acceptance}
+use Rattle.pp_model.specs.declared.event.Event.TheVariants.{Submit}
+use Rattle.pp_model.specs.Budget.{bound}
+use Rattle.pp_model.specs.Submitting.{submit_error}
+use Rattle.pp_vault.specs.Submits as vault
+use Rattle.pp_pool.specs.declared.error.BookError.{BookError}
+use Rattle.pp_pool.specs.declared.error.BookError.TheVariants.{OutOfMemory, Refused}
+use Rattle.pp_pool.specs.Parts.{Parts, settings_of, plans_of, state_of}
+
+-- The plan is taken in under the number of plans before it, and the journal grows by that.
+pub record TakesIn (old : Parts) (a : Acceptance) (number : ℕ) (new : Parts) : Type 0 where
+  pub allowed : submit_error (state_of old) a ≡ None
+  pub numbered : number ≡ length (plans_of old)
+  pub journal : new.journal ≡ old.journal ++ Submit number ∷ []
+  pub plans : plans_of new ≡ plans_of old ++ a ∷ []
+  pub settings : settings_of new ≡ settings_of old
+  pub vault : vault.TakesIn old.vault a number new.vault
+
+-- The plan isn't taken in: the model refuses it so, or memory ran out.
+abbrev pub IsCause : Parts → Acceptance → BookError → Type 0
+IsCause b a OutOfMemory = Unit {0}
+IsCause b a (Refused error) = submit_error (state_of b) a ≡ Some error
+
+-- The journal has memory for a plan's number, and for every event that can still come where the plan costs so much.
+abbrev pub HasRoom : Parts → (cost : ℕ) → Type 0
+HasRoom b cost = length b.journal + (bound (state_of b) + cost + 1) ≤ b.capacity

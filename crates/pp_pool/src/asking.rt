@@ -1,0 +1,206 @@
+//! The calls of a vault that requests make.
+
+ghost use Rattle.pp_pool.specs.declared.request.Request.TheVariants as request;
+ghost use Rattle.pp_pool.specs.Performing.{ComesTo, DoesUnless};
+
+use crate::outcome::Answer;
+use crate::request::Request;
+use pp_vault::{
+    Answered, Chair, Fixed, Guard, Leaver, PinGuard, ReadGuard, Returned, Session, Vault,
+    WriteGuard,
+};
+
+/// Makes the call of the request.
+pub(crate) fn ask(vault: &mut Vault, request: Request) -> Answer
+    ensures comes { ComesTo vault.old request result vault.new }
+    ensures does { DoesUnless vault.old request result vault.new }
+{
+    match request {
+        Request::Take(chair) => take(vault, chair),
+        Request::Fix(session, page) => fix(vault, session, page),
+        Request::Unfix(session, guard) => unfix(vault, session, guard),
+        Request::LatchShared(session, guard) => latch_shared(vault, session, guard),
+        Request::LatchExclusive(session, guard) => latch_exclusive(vault, session, guard),
+        Request::UnlatchShared(session, guard) => unlatch_shared(vault, session, guard),
+        Request::UnlatchExclusive(session, guard) => unlatch_exclusive(vault, session, guard),
+        Request::Choose(session, branch) => choose(vault, session, branch),
+        Request::Finish(session) => finish(vault, session),
+        Request::End(leaver) => end(vault, leaver),
+        Request::GiveBack(leaver, guard) => give_back(vault, leaver, guard),
+        Request::Answer(returned) => answer(vault, returned),
+        Request::Flush(page) => flush(vault, page),
+        Request::FlushNext(number) => flush_next(vault, number),
+    }
+}
+
+// ---- a worker and its plan
+
+#[tactic(auto, using(crate::proofs::Noted::refused_does))]
+fn take(vault: &mut Vault, chair: Chair) -> Answer
+    ensures comes { ComesTo vault.old (request.Take chair) result vault.new }
+    ensures does { DoesUnless vault.old (request.Take chair) result vault.new }
+{
+    match vault.take(chair) {
+        Ok(session) => Answer::Acts(session),
+        Err((chair, refusal)) => Answer::No(Request::Take(chair), refusal),
+    }
+}
+
+#[tactic(auto, using(crate::proofs::Noted::refused_does))]
+fn choose(vault: &mut Vault, session: Session, branch: u32) -> Answer
+    ensures comes { ComesTo vault.old (request.Choose session branch) result vault.new }
+    ensures does { DoesUnless vault.old (request.Choose session branch) result vault.new }
+{
+    match vault.choose(session, branch) {
+        Ok(session) => Answer::Acts(session),
+        Err((session, refusal)) => Answer::No(Request::Choose(session, branch), refusal),
+    }
+}
+
+#[tactic(auto, using(crate::proofs::Noted::refused_does))]
+fn finish(vault: &mut Vault, session: Session) -> Answer
+    ensures comes { ComesTo vault.old (request.Finish session) result vault.new }
+    ensures does { DoesUnless vault.old (request.Finish session) result vault.new }
+{
+    match vault.finish(session) {
+        Ok(chair) => Answer::Idle(chair),
+        Err((session, refusal)) => Answer::No(Request::Finish(session), refusal),
+    }
+}
+
+#[tactic(auto, using(crate::proofs::Noted::refused_does))]
+fn end(vault: &mut Vault, leaver: Leaver) -> Answer
+    ensures comes { ComesTo vault.old (request.End leaver) result vault.new }
+    ensures does { DoesUnless vault.old (request.End leaver) result vault.new }
+{
+    match vault.end(leaver) {
+        Ok(chair) => Answer::Idle(chair),
+        Err((leaver, refusal)) => Answer::No(Request::End(leaver), refusal),
+    }
+}
+
+#[tactic(auto, using(crate::proofs::Noted::refused_does))]
+fn give_back(vault: &mut Vault, leaver: Leaver, guard: Guard) -> Answer
+    ensures comes { ComesTo vault.old (request.GiveBack leaver guard) result vault.new }
+    ensures does { DoesUnless vault.old (request.GiveBack leaver guard) result vault.new }
+{
+    match vault.give_back(leaver, guard) {
+        Ok(leaver) => Answer::Leaves(leaver),
+        Err((leaver, guard, refusal)) => Answer::No(Request::GiveBack(leaver, guard), refusal),
+    }
+}
+
+// ---- a worker and its slots
+
+#[tactic(auto, using(crate::proofs::Noted::refused_does))]
+fn fix(vault: &mut Vault, session: Session, page: u32) -> Answer
+    ensures comes { ComesTo vault.old (request.Fix session page) result vault.new }
+    ensures does { DoesUnless vault.old (request.Fix session page) result vault.new }
+{
+    match vault.fix(session, page) {
+        Fixed::Got(session, guard) => Answer::Pinned(session, guard),
+        Fixed::Away(errand) => Answer::Away(errand),
+        Fixed::No(session, refusal) => Answer::No(Request::Fix(session, page), refusal),
+    }
+}
+
+#[tactic(auto, using(crate::proofs::Noted::refused_does))]
+fn unfix(vault: &mut Vault, session: Session, guard: PinGuard) -> Answer
+    ensures comes { ComesTo vault.old (request.Unfix session guard) result vault.new }
+    ensures does { DoesUnless vault.old (request.Unfix session guard) result vault.new }
+{
+    match vault.unfix(session, guard) {
+        Ok(session) => Answer::Acts(session),
+        Err((session, guard, refusal)) => Answer::No(Request::Unfix(session, guard), refusal),
+    }
+}
+
+#[tactic(auto, using(crate::proofs::Noted::refused_does))]
+fn latch_shared(vault: &mut Vault, session: Session, guard: PinGuard) -> Answer
+    ensures comes { ComesTo vault.old (request.LatchShared session guard) result vault.new }
+    ensures does { DoesUnless vault.old (request.LatchShared session guard) result vault.new }
+{
+    match vault.latch_shared(session, guard) {
+        Ok((session, guard)) => Answer::Shared(session, guard),
+        Err((session, guard, refusal)) => {
+            Answer::No(Request::LatchShared(session, guard), refusal)
+        }
+    }
+}
+
+#[tactic(auto, using(crate::proofs::Noted::refused_does))]
+fn latch_exclusive(vault: &mut Vault, session: Session, guard: PinGuard) -> Answer
+    ensures comes { ComesTo vault.old (request.LatchExclusive session guard) result vault.new }
+    ensures does { DoesUnless vault.old (request.LatchExclusive session guard) result vault.new }
+{
+    match vault.latch_exclusive(session, guard) {
+        Ok((session, guard)) => Answer::Exclusive(session, guard),
+        Err((session, guard, refusal)) => {
+            Answer::No(Request::LatchExclusive(session, guard), refusal)
+        }
+    }
+}
+
+#[tactic(auto, using(crate::proofs::Noted::refused_does))]
+fn unlatch_shared(vault: &mut Vault, session: Session, guard: ReadGuard) -> Answer
+    ensures comes { ComesTo vault.old (request.UnlatchShared session guard) result vault.new }
+    ensures does { DoesUnless vault.old (request.UnlatchShared session guard) result vault.new }
+{
+    match vault.unlatch_shared(session, guard) {
+        Ok((session, guard)) => Answer::Pinned(session, guard),
+        Err((session, guard, refusal)) => {
+            Answer::No(Request::UnlatchShared(session, guard), refusal)
+        }
+    }
+}
+
+#[tactic(auto, using(crate::proofs::Noted::refused_does))]
+fn unlatch_exclusive(vault: &mut Vault, session: Session, guard: WriteGuard) -> Answer
+    ensures comes { ComesTo vault.old (request.UnlatchExclusive session guard) result vault.new }
+    ensures does { DoesUnless vault.old (request.UnlatchExclusive session guard) result vault.new }
+{
+    match vault.unlatch_exclusive(session, guard) {
+        Ok((session, guard)) => Answer::Pinned(session, guard),
+        Err((session, guard, refusal)) => {
+            Answer::No(Request::UnlatchExclusive(session, guard), refusal)
+        }
+    }
+}
+
+// ---- a device, and the flusher
+
+#[tactic(auto, using(crate::proofs::Noted::refused_does))]
+fn answer(vault: &mut Vault, returned: Returned) -> Answer
+    ensures comes { ComesTo vault.old (request.Answer returned) result vault.new }
+    ensures does { DoesUnless vault.old (request.Answer returned) result vault.new }
+{
+    match vault.answer(returned) {
+        Answered::Got(session, guard) => Answer::Pinned(session, guard),
+        Answered::Away(errand) => Answer::Away(errand),
+        Answered::Lost(leaver) => Answer::Leaves(leaver),
+        Answered::Flushed(clean) => Answer::Flushed(clean),
+        Answered::No(returned, refusal) => Answer::No(Request::Answer(returned), refusal),
+    }
+}
+
+#[tactic(auto, using(crate::proofs::Noted::refused_does))]
+fn flush(vault: &mut Vault, page: u32) -> Answer
+    ensures comes { ComesTo vault.old (request.Flush page) result vault.new }
+    ensures does { DoesUnless vault.old (request.Flush page) result vault.new }
+{
+    match vault.flush(page) {
+        Ok(errand) => Answer::Away(errand),
+        Err(refusal) => Answer::No(Request::Flush(page), refusal),
+    }
+}
+
+#[tactic(auto, using(crate::proofs::Noted::refused_does))]
+fn flush_next(vault: &mut Vault, number: u32) -> Answer
+    ensures comes { ComesTo vault.old (request.FlushNext number) result vault.new }
+    ensures does { DoesUnless vault.old (request.FlushNext number) result vault.new }
+{
+    match vault.flush_next(number) {
+        Ok(errand) => Answer::Away(errand),
+        Err(refusal) => Answer::No(Request::FlushNext(number), refusal),
+    }
+}

@@ -1,0 +1,257 @@
+//! A vault with its journal.
+
+ghost use Rattle.std.specs.Prelude.{◌≡◌, ◌≤◌, ◌<◌, ◌↔◌, ◌++◌, true, false, [], None, Some, IsSome, IfOk, IfErr, OnErr};
+ghost use Rattle.std.specs.Prelude.{IfSome, length, option_map, vec_len, vec_capacity};
+ghost use Rattle.std.specs.Option.{is_some};
+ghost use Rattle.pp_model.specs.declared.event.Event.TheVariants.{Step};
+ghost use Rattle.pp_model.specs.Pool.{dirty_pages};
+ghost use Rattle.pp_model.specs.Budget.{cost_of};
+ghost use Rattle.pp_model.specs.Turns.{next_turn, IsUnderWay, IsOpen};
+ghost use Rattle.pp_core.specs.Opening.{kept_of};
+ghost use Rattle.pp_vault.specs.Hands.{HandsFit};
+ghost use Rattle.pp_vault.specs.Stages.{AllIdle};
+ghost use Rattle.pp_vault.specs.Looks.{may_see, may_look, Shows, ShowsBody};
+ghost use Rattle.pp_pool.specs.Parts.{settings_of, plans_of, state_of};
+ghost use Rattle.pp_pool.specs.Books.{greatest_cost, IsBook, HeadlineHolds};
+ghost use Rattle.pp_pool.specs.Requests.{event_for, events_in};
+ghost use Rattle.pp_pool.specs.Performing.{ComesTo};
+ghost use Rattle.pp_pool.specs.Submits.{TakesIn, IsCause, HasRoom};
+
+use crate::asking::ask;
+use crate::error::BookError;
+use crate::outcome::Outcome;
+use crate::request::Request;
+use pp_model::{Event, Turn};
+use pp_settings::Settings;
+use pp_vault::{Accepted, Hands, PlanId, ReadGuard, Vault, VaultError};
+use std::alloc::Global;
+use std::marker::Model;
+
+/// A vault with the journal of all that was done with it.
+///
+/// Contracts see it as the record `Parts`. Of every book it holds (`IsBook`) that its journal is true, each event
+/// possible at its point and answered as the model answers it; that its vault stands for the state that the journal
+/// leads to from the opening state of the settings; and that there is memory for every event that can still come. Of
+/// that state the headline holds.
+#[derive(Drop)]
+pub struct Book {
+    vault: Vault,
+    workers: u32,
+    journal: Vec<Event>,
+    most: u64,
+}
+
+impl Model for Book {
+    ghost use Rattle.pp_pool.specs.Parts.{Parts, parts_with};
+    ghost use Rattle.pp_pool.specs.Books.{IsBook};
+    ghost use Rattle.pp_pool.specs.Coding.{coded_parts};
+
+    ghost Value = { Parts };
+
+    ghost coded = { coded_parts };
+
+    ghost view = { λ b. parts_with b.vault b.workers b.journal b.most };
+
+    ghost invariant = { λ b. IsBook (parts_with b.vault b.workers b.journal b.most) };
+}
+
+impl Book {
+    /// A book with these settings, in which nothing was done yet, and the hands of its vault.
+    ///
+    /// It gets all memory that the vault ever needs, and room in the journal for twice the flushes of the settings.
+    ///
+    /// # Errors
+    ///
+    /// Only where that memory can't be had.
+    pub fn new(alloc: Global, settings: &Settings) -> Result<(Book, Hands), VaultError>
+        ensures settings { IfOk result (λ made. settings_of made.0 ≡ kept_of settings.now) }
+        ensures no_plan { IfOk result (λ made. plans_of made.0 ≡ []) }
+        ensures nothing_done { IfOk result (λ made. made.0.journal ≡ []) }
+        ensures idle { IfOk result (λ made. AllIdle settings.now.workers made.1.workers) }
+        ensures no_flush { IfOk result (λ made. made.1.flushing ≡ None) }
+        ensures fit { IfOk result (λ made. HandsFit made.0.vault made.1) }
+        ensures page_bytes { IfOk result (λ made. made.0.vault.page_bytes ≡ settings.now.page_bytes) }
+        ensures kept { IfOk result (λ made. IsBook made.0) }
+    {
+        let (vault, hands) = Vault::new(alloc, settings)?;
+        let room = vault.budget() as usize;
+        match Vec::with_capacity(alloc, room) {
+            Ok(journal) => {
+                let book = Book {
+                    vault,
+                    workers: settings.workers(),
+                    journal,
+                    most: 0,
+                };
+                Ok((book, hands))
+            }
+            Err(_) => {
+                vault.scrap(hands);
+                Err(VaultError::OutOfMemory)
+            }
+        }
+    }
+
+    /// Does nothing. It tells what holds of every book, and that the headline holds of its state.
+    pub fn known(&self)
+        ensures kept { IsBook self.now }
+        ensures headline { HeadlineHolds self.now }
+    {
+        self.vault.known();
+    }
+
+    /// Takes a plan in, which waits behind the others, answers its number and adds that to the journal.
+    ///
+    /// It gets room in the journal for the events that the plan can add, which are at most its cost, and for its own
+    /// line, before the core is asked.
+    ///
+    /// # Errors
+    ///
+    /// [`BookError::OutOfMemory`] where that room can't be had, and else what the core refuses. The plan comes back,
+    /// and nothing has changed but the journal's room.
+    pub fn submit(&mut self, accepted: Accepted) -> Result<PlanId, (Accepted, BookError)>
+        ensures ok { IfOk result (λ id. TakesIn self.old accepted id self.new) }
+        ensures error { IfErr result (λ e. IsCause self.old accepted e.1) }
+        ensures back { IfErr result (λ e. e.0 ≡ accepted) }
+        ensures unchanged { OnErr result (self.new ≡ record self.old { capacity = self.new.capacity }) }
+        ensures kept { IsBook self.new }
+    {
+        let cost = accepted.cost();
+        if !self.make_room(cost) {
+            return Err((accepted, BookError::OutOfMemory));
+        }
+        self.add(accepted)
+    }
+
+    /// Gets room in the journal for the line and the events of a plan that costs so much, and tells whether there is.
+    fn make_room(&mut self, cost: u64) -> bool
+        requires { cost ≤ 4000000 }
+        ensures room { result ≡ true → HasRoom self.new cost }
+        ensures same { self.new ≡ record self.old { capacity = self.new.capacity } }
+        ensures kept { IsBook self.new }
+    {
+        let room = self.vault.budget() + cost + 1;
+        self.journal.reserve(room as usize).is_ok()
+    }
+
+    /// Takes a plan in for which the journal has room.
+    fn add(&mut self, accepted: Accepted) -> Result<PlanId, (Accepted, BookError)>
+        requires { HasRoom self.old (cost_of accepted) }
+        ensures ok { IfOk result (λ id. TakesIn self.old accepted id self.new) }
+        ensures error { IfErr result (λ e. IsCause self.old accepted e.1) }
+        ensures back { IfErr result (λ e. e.0 ≡ accepted) }
+        ensures unchanged { OnErr result (self.new ≡ self.old) }
+        ensures kept { IsBook self.new }
+    {
+        let cost = accepted.cost();
+        match self.vault.submit(accepted) {
+            Ok(id) => {
+                let plan = id.number();
+                self.journal.push_reserved(Event::Submit { plan });
+                self.most = self.most.max(cost);
+                Ok(id)
+            }
+            Err((accepted, error)) => Err((accepted, BookError::Refused(error))),
+        }
+    }
+
+    /// Makes the request's call of the vault: one event, which is added to the journal, or a refusal, which changes
+    /// nothing.
+    ///
+    /// The event comes exactly where the tokens fit, the plan asks the slot and the mode of the guard, and the move is
+    /// possible; its reply is the model's, in the state that the journal leads to. The answer is then the vault's. Else
+    /// the request comes back with its tokens, and with the cause: [`pp_vault::Refusal::Stranger`] where a token
+    /// doesn't fit. It takes no memory.
+    pub fn perform(&mut self, request: Request) -> Outcome
+        ensures event { result.event ≡ event_for self.old request }
+        ensures journal { self.new.journal ≡ self.old.journal ++ events_in result.event }
+        ensures answer { ComesTo self.old.vault request result.answer self.new.vault }
+        ensures settings { settings_of self.new ≡ settings_of self.old }
+        ensures plans { plans_of self.new ≡ plans_of self.old }
+        ensures memory { self.new.capacity ≡ self.old.capacity }
+        ensures kept { IsBook self.new }
+    {
+        let answer = ask(&mut self.vault, request);
+        let event = noted(&self.vault, &mut self.journal);
+        Outcome { event, answer }
+    }
+
+    /// Who moves next; see [`Vault::next_possible`].
+    ///
+    /// None if and only if no plan waits, every worker is idle, and no flush is in flight.
+    pub fn next_possible(&self) -> Option<Turn>
+        ensures turn { result ≡ next_turn (state_of self.now) }
+        ensures some { IsSome result ↔ IsUnderWay (state_of self.now) }
+        ensures open { IfSome result (IsOpen (state_of self.now)) }
+    {
+        self.vault.next_possible()
+    }
+
+    /// How many pages are newer than the device's. It looks at every page.
+    pub fn dirty(&self) -> u32
+        ensures { result ≡ dirty_pages (state_of self.now) }
+    {
+        self.vault.dirty()
+    }
+
+    /// The greatest cost of a submitted plan; zero where none was submitted. A worker's part of the journal grows by at
+    /// most as many events from the taking of a plan to its end.
+    pub fn most(&self) -> u64
+        ensures { result ≡ greatest_cost (plans_of self.now) }
+    {
+        self.most
+    }
+
+    /// How many workers the pool has.
+    pub fn workers(&self) -> u32
+        ensures { result ≡ (settings_of self.now).workers }
+    {
+        self.workers
+    }
+
+    /// Copies the image of a page that is latched S into the slice, and tells whether it did. It did not, and the slice
+    /// is as it was, where the guard isn't one of this state or the slice isn't as long as a page.
+    pub fn look(&self, guard: &ReadGuard, bytes: &mut [u8]) -> bool
+        ensures result { result ≡ may_look self.now.vault.page_bytes guard.now (length bytes.old) (state_of self.now) }
+        ensures shown { result ≡ true → Shows self.now.vault guard.now.page bytes.new }
+        ensures unchanged { result ≡ false → bytes.new ≡ bytes.old }
+    {
+        self.vault.look(guard, bytes)
+    }
+
+    /// The body of the image of a page that is latched S: its bytes from byte 12 on, where they stand in the vault.
+    /// None where the guard isn't one of this state.
+    pub fn see(&self, guard: &ReadGuard) -> Option<&[u8]>
+        ensures some { is_some result ≡ may_see guard.now (state_of self.now) }
+        ensures shown { IfSome result (λ body. ShowsBody self.now.vault guard.now.page body.now) }
+    {
+        self.vault.see(guard)
+    }
+
+    /// Gives the book up with the tokens of its vault, and gives the journal.
+    pub fn close(self, hands: Hands) -> Vec<Event>
+        ensures { result.items ≡ self.journal }
+    {
+        let Book {
+            vault,
+            workers: _,
+            journal,
+            most: _,
+        } = self;
+        vault.scrap(hands);
+        journal
+    }
+}
+
+/// Adds the move that the vault did last to the journal, with its reply, where its last call was a move.
+fn noted(vault: &Vault, journal: &mut Vec<Event>) -> Option<Event>
+    requires { IsSome vault.now.last → length journal.old.items < vec_capacity journal.old }
+    ensures event { result ≡ option_map (λ t. Step t.0 t.1) vault.now.last }
+    ensures journal { journal.new.items ≡ journal.old.items ++ events_in result }
+    ensures memory { vec_capacity journal.new ≡ vec_capacity journal.old }
+{
+    let (did, reply) = vault.done()?;
+    let event = Event::Step { did, reply };
+    journal.push_reserved(event);
+    Some(event)
+}

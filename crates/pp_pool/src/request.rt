@@ -1,0 +1,39 @@
+//! What may be asked of a book.
+
+use pp_vault::{Chair, Guard, Leaver, PinGuard, ReadGuard, Returned, Session, WriteGuard};
+
+/// One call of the book's vault, with the tokens that it wants. Pages, branches and page numbers count from 0.
+///
+/// The compiler refuses code that lets it fall: the tokens in it have to be spent.
+#[derive(Debug)]
+pub enum Request {
+    /// An idle worker takes the first plan that waits.
+    Take(Chair),
+    /// A worker fixes a page into the slot that its plan names.
+    Fix(Session, u32),
+    /// A worker gives back the page of a slot that isn't latched.
+    Unfix(Session, PinGuard),
+    /// A worker latches the page of a slot S.
+    LatchShared(Session, PinGuard),
+    /// A worker latches the page of a slot X.
+    LatchExclusive(Session, PinGuard),
+    /// A worker takes its latch S off.
+    UnlatchShared(Session, ReadGuard),
+    /// A worker takes its latch X off. The page's image is as the guard has it from then on.
+    UnlatchExclusive(Session, WriteGuard),
+    /// A worker goes on with this branch of a choice.
+    Choose(Session, u32),
+    /// A worker is done with its plan.
+    Finish(Session),
+    /// A worker has left its plan, and holds nothing any more.
+    End(Leaver),
+    /// A worker that leaves its plan gives a slot back, latch and pin together.
+    GiveBack(Leaver, Guard),
+    /// A device was called, for a worker or for the flusher.
+    Answer(Returned),
+    /// The flusher begins to write this page.
+    Flush(u32),
+    /// The flusher begins to write the least page from this number on that lets a flush begin; where there is none,
+    /// the least of all that do.
+    FlushNext(u32),
+}
