@@ -5,3 +5,5 @@ pub mod Requests
 pub mod Performing
 pub mod Submits
 pub mod BookErrors
+pub mod Replies
+pub mod Performs

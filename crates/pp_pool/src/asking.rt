@@ -2,6 +2,7 @@
 
 ghost use Rattle.pp_pool.specs.declared.request.Request.TheVariants as request;
 ghost use Rattle.pp_pool.specs.Performing.{ComesTo, DoesUnless};
+ghost use Rattle.pp_pool.specs.Replies.{TokensFit};
 
 use crate::outcome::Answer;
 use crate::request::Request;
@@ -14,6 +15,7 @@ use pp_vault::{
 pub(crate) fn ask(vault: &mut Vault, request: Request) -> Answer
     ensures comes { ComesTo vault.old request result vault.new }
     ensures does { DoesUnless vault.old request result vault.new }
+    ensures tokens { TokensFit request result }
 {
     match request {
         Request::Take(chair) => take(vault, chair),
@@ -39,6 +41,7 @@ pub(crate) fn ask(vault: &mut Vault, request: Request) -> Answer
 fn take(vault: &mut Vault, chair: Chair) -> Answer
     ensures comes { ComesTo vault.old (request.Take chair) result vault.new }
     ensures does { DoesUnless vault.old (request.Take chair) result vault.new }
+    ensures tokens { TokensFit (request.Take chair) result }
 {
     match vault.take(chair) {
         Ok(session) => Answer::Acts(session),
@@ -50,6 +53,7 @@ fn take(vault: &mut Vault, chair: Chair) -> Answer
 fn choose(vault: &mut Vault, session: Session, branch: u32) -> Answer
     ensures comes { ComesTo vault.old (request.Choose session branch) result vault.new }
     ensures does { DoesUnless vault.old (request.Choose session branch) result vault.new }
+    ensures tokens { TokensFit (request.Choose session branch) result }
 {
     match vault.choose(session, branch) {
         Ok(session) => Answer::Acts(session),
@@ -61,6 +65,7 @@ fn choose(vault: &mut Vault, session: Session, branch: u32) -> Answer
 fn finish(vault: &mut Vault, session: Session) -> Answer
     ensures comes { ComesTo vault.old (request.Finish session) result vault.new }
     ensures does { DoesUnless vault.old (request.Finish session) result vault.new }
+    ensures tokens { TokensFit (request.Finish session) result }
 {
     match vault.finish(session) {
         Ok(chair) => Answer::Idle(chair),
@@ -72,6 +77,7 @@ fn finish(vault: &mut Vault, session: Session) -> Answer
 fn end(vault: &mut Vault, leaver: Leaver) -> Answer
     ensures comes { ComesTo vault.old (request.End leaver) result vault.new }
     ensures does { DoesUnless vault.old (request.End leaver) result vault.new }
+    ensures tokens { TokensFit (request.End leaver) result }
 {
     match vault.end(leaver) {
         Ok(chair) => Answer::Idle(chair),
@@ -79,10 +85,11 @@ fn end(vault: &mut Vault, leaver: Leaver) -> Answer
     }
 }
 
-#[tactic(auto, using(crate::proofs::Noted::refused_does))]
+#[tactic(auto, using(crate::proofs::Noted::refused_does, crate::proofs::Tokens::back_same))]
 fn give_back(vault: &mut Vault, leaver: Leaver, guard: Guard) -> Answer
     ensures comes { ComesTo vault.old (request.GiveBack leaver guard) result vault.new }
     ensures does { DoesUnless vault.old (request.GiveBack leaver guard) result vault.new }
+    ensures tokens { TokensFit (request.GiveBack leaver guard) result }
 {
     match vault.give_back(leaver, guard) {
         Ok(leaver) => Answer::Leaves(leaver),
@@ -92,10 +99,11 @@ fn give_back(vault: &mut Vault, leaver: Leaver, guard: Guard) -> Answer
 
 // ---- a worker and its slots
 
-#[tactic(auto, using(crate::proofs::Noted::refused_does))]
+#[tactic(auto, using(crate::proofs::Noted::refused_does, crate::proofs::Tokens::sent_worker))]
 fn fix(vault: &mut Vault, session: Session, page: u32) -> Answer
     ensures comes { ComesTo vault.old (request.Fix session page) result vault.new }
     ensures does { DoesUnless vault.old (request.Fix session page) result vault.new }
+    ensures tokens { TokensFit (request.Fix session page) result }
 {
     match vault.fix(session, page) {
         Fixed::Got(session, guard) => Answer::Pinned(session, guard),
@@ -108,6 +116,7 @@ fn fix(vault: &mut Vault, session: Session, page: u32) -> Answer
 fn unfix(vault: &mut Vault, session: Session, guard: PinGuard) -> Answer
     ensures comes { ComesTo vault.old (request.Unfix session guard) result vault.new }
     ensures does { DoesUnless vault.old (request.Unfix session guard) result vault.new }
+    ensures tokens { TokensFit (request.Unfix session guard) result }
 {
     match vault.unfix(session, guard) {
         Ok(session) => Answer::Acts(session),
@@ -119,6 +128,7 @@ fn unfix(vault: &mut Vault, session: Session, guard: PinGuard) -> Answer
 fn latch_shared(vault: &mut Vault, session: Session, guard: PinGuard) -> Answer
     ensures comes { ComesTo vault.old (request.LatchShared session guard) result vault.new }
     ensures does { DoesUnless vault.old (request.LatchShared session guard) result vault.new }
+    ensures tokens { TokensFit (request.LatchShared session guard) result }
 {
     match vault.latch_shared(session, guard) {
         Ok((session, guard)) => Answer::Shared(session, guard),
@@ -132,6 +142,7 @@ fn latch_shared(vault: &mut Vault, session: Session, guard: PinGuard) -> Answer
 fn latch_exclusive(vault: &mut Vault, session: Session, guard: PinGuard) -> Answer
     ensures comes { ComesTo vault.old (request.LatchExclusive session guard) result vault.new }
     ensures does { DoesUnless vault.old (request.LatchExclusive session guard) result vault.new }
+    ensures tokens { TokensFit (request.LatchExclusive session guard) result }
 {
     match vault.latch_exclusive(session, guard) {
         Ok((session, guard)) => Answer::Exclusive(session, guard),
@@ -145,6 +156,7 @@ fn latch_exclusive(vault: &mut Vault, session: Session, guard: PinGuard) -> Answ
 fn unlatch_shared(vault: &mut Vault, session: Session, guard: ReadGuard) -> Answer
     ensures comes { ComesTo vault.old (request.UnlatchShared session guard) result vault.new }
     ensures does { DoesUnless vault.old (request.UnlatchShared session guard) result vault.new }
+    ensures tokens { TokensFit (request.UnlatchShared session guard) result }
 {
     match vault.unlatch_shared(session, guard) {
         Ok((session, guard)) => Answer::Pinned(session, guard),
@@ -158,6 +170,7 @@ fn unlatch_shared(vault: &mut Vault, session: Session, guard: ReadGuard) -> Answ
 fn unlatch_exclusive(vault: &mut Vault, session: Session, guard: WriteGuard) -> Answer
     ensures comes { ComesTo vault.old (request.UnlatchExclusive session guard) result vault.new }
     ensures does { DoesUnless vault.old (request.UnlatchExclusive session guard) result vault.new }
+    ensures tokens { TokensFit (request.UnlatchExclusive session guard) result }
 {
     match vault.unlatch_exclusive(session, guard) {
         Ok((session, guard)) => Answer::Pinned(session, guard),
@@ -169,10 +182,11 @@ fn unlatch_exclusive(vault: &mut Vault, session: Session, guard: WriteGuard) -> 
 
 // ---- a device, and the flusher
 
-#[tactic(auto, using(crate::proofs::Noted::refused_does))]
+#[tactic(auto, using(crate::proofs::Noted::refused_does, crate::proofs::Tokens::got_worker, crate::proofs::Tokens::away_worker, crate::proofs::Tokens::lost_worker, crate::proofs::Tokens::flushed_worker))]
 fn answer(vault: &mut Vault, returned: Returned) -> Answer
     ensures comes { ComesTo vault.old (request.Answer returned) result vault.new }
     ensures does { DoesUnless vault.old (request.Answer returned) result vault.new }
+    ensures tokens { TokensFit (request.Answer returned) result }
 {
     match vault.answer(returned) {
         Answered::Got(session, guard) => Answer::Pinned(session, guard),
@@ -187,6 +201,7 @@ fn answer(vault: &mut Vault, returned: Returned) -> Answer
 fn flush(vault: &mut Vault, page: u32) -> Answer
     ensures comes { ComesTo vault.old (request.Flush page) result vault.new }
     ensures does { DoesUnless vault.old (request.Flush page) result vault.new }
+    ensures tokens { TokensFit (request.Flush page) result }
 {
     match vault.flush(page) {
         Ok(errand) => Answer::Away(errand),
@@ -198,6 +213,7 @@ fn flush(vault: &mut Vault, page: u32) -> Answer
 fn flush_next(vault: &mut Vault, number: u32) -> Answer
     ensures comes { ComesTo vault.old (request.FlushNext number) result vault.new }
     ensures does { DoesUnless vault.old (request.FlushNext number) result vault.new }
+    ensures tokens { TokensFit (request.FlushNext number) result }
 {
     match vault.flush_next(number) {
         Ok(errand) => Answer::Away(errand),

@@ -15,6 +15,7 @@ ghost use Rattle.pp_pool.specs.Parts.{settings_of, plans_of, state_of};
 ghost use Rattle.pp_pool.specs.Books.{greatest_cost, IsBook, HeadlineHolds};
 ghost use Rattle.pp_pool.specs.Requests.{event_for, events_in};
 ghost use Rattle.pp_pool.specs.Performing.{ComesTo};
+ghost use Rattle.pp_pool.specs.Replies.{Replies};
 ghost use Rattle.pp_pool.specs.Submits.{TakesIn, IsCause, HasRoom};
 
 use crate::asking::ask;
@@ -166,6 +167,7 @@ impl Book {
         ensures event { result.event ≡ event_for self.old request }
         ensures journal { self.new.journal ≡ self.old.journal ++ events_in result.event }
         ensures answer { ComesTo self.old.vault request result.answer self.new.vault }
+        ensures fits { Replies request result }
         ensures settings { settings_of self.new ≡ settings_of self.old }
         ensures plans { plans_of self.new ≡ plans_of self.old }
         ensures memory { self.new.capacity ≡ self.old.capacity }

@@ -6,9 +6,13 @@ pub use error::BookError;
 pub use outcome::{Answer, Outcome};
 pub use pp_model::Event;
 pub use request::Request;
+pub use site::{OwnSite, Site};
+pub use work::Work;
 
 mod asking;
 mod book;
 mod error;
 mod outcome;
 mod request;
+mod site;
+mod work;

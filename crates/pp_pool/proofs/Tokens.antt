@@ -1,0 +1,52 @@
+-- Whose tokens an answer gives.
+use Rattle.std.proofs.Common.{◌≡◌, ℕ, Bool, List, Some, None, refl, sym, ap}
+use Rattle.pp_vault.specs.declared.tokens.Duty.{Duty}
+use Rattle.pp_vault.specs.declared.tokens.Duty.TheVariants.{Read, Write, Flush}
+use Rattle.pp_vault.specs.declared.tokens.Errand.{Errand}
+use Rattle.pp_vault.specs.declared.tokens.Leaver.{Leaver}
+use Rattle.pp_vault.specs.declared.tokens.Session.{Session}
+use Rattle.pp_vault.specs.declared.guards.PinGuard.{PinGuard}
+use Rattle.pp_vault.specs.declared.guards.Guard.{Guard}
+use Rattle.pp_vault.specs.declared.guards.Guard.TheVariants as guard
+use Rattle.pp_vault.specs.declared.answering.Answered.TheVariants as answered
+use Rattle.pp_vault.specs.Parts.{Parts}
+use Rattle.pp_vault.specs.Duties.{duty_worker}
+use Rattle.pp_vault.specs.Fixes.{IsSent}
+use Rattle.pp_vault.specs.Leaves.{GivesBack}
+use Rattle.pp_vault.specs.Answers.{DutyEnds}
+
+pub sent_worker : (old new : Parts) (w page : ℕ) (image : List ℕ) (d : Duty) → IsSent old new w page image d
+    → duty_worker d ≡ Some w
+sent_worker old new w page image (Read v slot p) h = ap Some h.0
+sent_worker old new w page image (Write v slot p victim) h = ap Some h.0
+sent_worker old new w page image (Flush p) h = absurd h
+
+pub back_same : (old new : Parts) (x : Leaver) (g : Guard) (y : Leaver) → GivesBack old x g new y → y ≡ x
+back_same old new x (guard.Pin g) y h = h.still.same
+back_same old new x (guard.Read g) y h = h.still.same
+back_same old new x (guard.Write g) y h = h.still.same
+
+module _ (old new : Parts) (image : List ℕ) (ok : Bool) where
+  pub got_worker : (d : Duty) (x : Session) (g : PinGuard) → DutyEnds old d image ok (answered.Got x g) new
+      → duty_worker d ≡ Some x.worker
+  got_worker (Read w slot page) x g h = ap Some (sym h.1.session.worker)
+  got_worker (Write w slot page victim) x g h = absurd h
+  got_worker (Flush page) x g h = absurd h
+
+  pub away_worker : (d : Duty) (errand : Errand) → DutyEnds old d image ok (answered.Away errand) new
+      → duty_worker errand.duty ≡ duty_worker d
+  away_worker (Read w slot page) errand h = absurd h
+  away_worker (Write w slot page victim) errand h = ap duty_worker h.2.duty
+  away_worker (Flush page) errand h = absurd h
+
+  pub lost_worker : (d : Duty) (x : Leaver) → DutyEnds old d image ok (answered.Lost x) new
+      → duty_worker d ≡ Some x.worker
+  lost_worker (Read w slot page) x h = ap Some (sym h.1.worker)
+  lost_worker (Write w slot page victim) x h = ap Some (sym h.2.worker)
+  lost_worker (Flush page) x h = absurd h
+
+  pub flushed_worker : (d : Duty) (clean : Bool) → DutyEnds old d image ok (answered.Flushed clean) new
+      → duty_worker d ≡ None
+  flushed_worker (Read w slot page) clean h = absurd h
+  flushed_worker (Write w slot page victim) clean h = absurd h
+  flushed_worker (Flush page) clean h = refl
