@@ -172,6 +172,7 @@ impl Book {
         ensures plans { plans_of self.new ≡ plans_of self.old }
         ensures memory { self.new.capacity ≡ self.old.capacity }
         ensures kept { IsBook self.new }
+        ensures headline { HeadlineHolds self.new }
     {
         let answer = ask(&mut self.vault, request);
         let event = noted(&self.vault, &mut self.journal);

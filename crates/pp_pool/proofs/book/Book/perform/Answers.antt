@@ -4,7 +4,7 @@ use Rattle.pp_pool.specs.Parts.{parts_with, settings_of, plans_of}
 use Rattle.pp_pool.specs.Requests.{event_for}
 use Rattle.pp_pool.proofs.Noted.{noted}
 use Rattle.pp_pool.proofs.Replying.{replies}
-use Rattle.pp_pool.proofs.Growing.{room_in, event_in, performed, settings_then, plans_then}
+use Rattle.pp_pool.proofs.Growing.{book_headline, room_in, event_in, performed, settings_then, plans_then}
 use Rattle.pp_pool.proofs.book.Book.perform.Goals as goal
 
 pub noted-event-requires : goal.noted-event-requires
@@ -60,3 +60,12 @@ returns-clause-fits c =
     replies (parts_with c.self.inside.vault c.self.inside.workers c.self.inside.journal c.self.inside.most)
     c.self.invariant c.args.request c.ask-answer.result c.ask-answer.new.vault c.ask-answer.ensures.comes
     c.ask-answer.ensures.does c.noted-event.result c.noted-event.ensures.event c.ask-answer.ensures.tokens
+
+pub returns-clause-headline : goal.returns-clause-headline
+returns-clause-headline c =
+    book_headline _
+    (performed (parts_with c.self.inside.vault c.self.inside.workers c.self.inside.journal c.self.inside.most)
+    c.self.invariant c.args.request c.ask-answer.new.vault (noted c.self.inside.vault c.ask-answer.new.vault c.args.request c.ask-answer.result c.ask-answer.ensures.comes
+    c.ask-answer.ensures.does) c.noted-event.result
+    c.noted-event.ensures.event c.noted-event.new.journal.items c.noted-event.ensures.journal
+    (vec_capacity c.noted-event.new.journal) c.noted-event.ensures.memory)
