@@ -1,5 +1,5 @@
 -- What holds of every state that the parts stand for.
-use Rattle.std.proofs.Common.{◌≡◌, ◌+◌, ◌≤◌, Bool, true, false, cond, sym, ap, arith}
+use Rattle.std.proofs.Common.{◌≡◌, ◌+◌, ◌≤◌, Bool, true, false, cond, sym, ap, subst, arith}
 use Rattle.std.specs.Prelude.{not}
 use Rattle.pp_model.specs.declared.moves.Move.{Move}
 use Rattle.pp_model.specs.declared.reply.Reply.{Reply}
@@ -40,6 +40,13 @@ headline_of s h = record {
 pub headline_holds : (f : Parts) → HeadlineHolds f
 headline_holds f = λ s st. headline_of s st.reached
 
+-- After a move the parts stand for some state too.
+pub kept_after : (f g : Parts) (m : Move) (reply : Reply) → IsKept f → Moves f m reply g → IsKept g
+kept_after f g m reply k moves = record {
+  state = next_of k.state m;
+  stands = moves.stands k.state k.stands;
+}
+
 -- ---- the bound
 
 falls_by : (s : State) (m : Move) (b : Bool) → IsReached s → is_refusal (reply_of s m) ≡ b
@@ -57,3 +64,9 @@ budget_falls f g m reply k moves =
     let st = k.stands in
     let same : is_refusal (reply_of s m) ≡ is_refusal reply = ap is_refusal (sym (moves.replies s st)) in
     omega (arith, falls_by s m (is_refusal reply) st.reached same, st.budget, (moves.stands s st).budget)
+
+-- The same of a core with these parts inside.
+pub budget_of_inside : {f h : Parts} → h ≡ f → IsKept h → (g : Parts) (m : Move) (reply : Reply) → Moves h m reply g
+    → g.budget + cond (is_refusal reply) 0 1 ≤ f.budget
+budget_of_inside {f} e k g m reply moves =
+    budget_falls f g m reply (subst IsKept e k) (subst (λ (x : Parts). Moves x m reply g) e moves)

@@ -47,6 +47,7 @@ impl Table {
     }
 
     /// A worker fixes a page into the slot that its plan names.
+    #[inline(always)]
     pub(crate) fn fix(&mut self, worker: u32, page: u32) -> Reply
         requires { IsKept (parts_of self.old) }
         ensures moves { Moves (parts_of self.old) (Move.Fix worker page) result (parts_of self.new) }

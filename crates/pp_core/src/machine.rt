@@ -70,7 +70,7 @@ impl PlanId {
 /// got by [`Core::new`]; no other call takes any for the core. There are no locks in it.
 #[derive(Drop)]
 pub struct Core {
-    table: Table,
+    pub(crate) table: Table,
 }
 
 impl Model for Core {
@@ -141,7 +141,8 @@ impl Core {
     ///
     /// The answer and what follows are the model's. A move that isn't possible now is answered [`Reply::NotNow`], and
     /// one that may not be asked here [`Reply::OffPlan`], also where there is no such worker, page or slot. A move that
-    /// is done lowers [`Core::budget`] by 1 at least.
+    /// is done lowers [`Core::budget`] by 1 at least. Each kind of move has a function of its own, as [`Core::fix`], which
+    /// does the same.
     pub fn step(&mut self, asked: &Move) -> Reply
         ensures moves { Moves self.old asked.now result self.new }
         ensures refusal { IsTrue (is_refusal result) → self.new ≡ self.old }
@@ -149,7 +150,20 @@ impl Core {
         ensures headline { HeadlineHolds self.new }
         ensures budget { self.new.budget + (if is_refusal result then 0 else 1) ≤ self.old.budget }
     {
-        self.table.step(asked)
+        match *asked {
+            Move::Take { worker } => self.take(worker),
+            Move::Fix { worker, page } => self.fix(worker, page),
+            Move::WriteDone { worker, ok } => self.write_done(worker, ok),
+            Move::ReadDone { worker, came } => self.read_done(worker, came),
+            Move::Unfix { worker } => self.unfix(worker),
+            Move::Latch { worker } => self.latch(worker),
+            Move::Unlatch { worker } => self.unlatch(worker),
+            Move::Choose { worker, branch } => self.choose(worker, branch),
+            Move::Unwind { worker, slot } => self.unwind(worker, slot),
+            Move::Finish { worker } => self.finish(worker),
+            Move::FlushBegin { page } => self.flush_begin(page),
+            Move::FlushDone { ok } => self.flush_done(ok),
+        }
     }
 
     /// Does the moves in turn, each as [`Core::step`] does, and adds their replies to those that are there.

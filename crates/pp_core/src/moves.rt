@@ -1,33 +1,149 @@
-//! A move of any kind.
+//! A function for each move: a caller that knows which move comes spares the choice among twelve.
 
-ghost use Rattle.std.specs.Prelude.{◌≡◌, IsTrue};
+ghost use Rattle.std.specs.Prelude.{◌≡◌, ◌+◌, ◌≤◌, IsTrue, if◌then◌else◌};
 ghost use Rattle.pp_model.specs.Moves.{is_refusal};
-ghost use Rattle.pp_core.specs.Parts.{parts_of};
 ghost use Rattle.pp_core.specs.StandsFor.{IsKept, Moves};
+ghost use Rattle.pp_core.specs.Headline.{HeadlineHolds};
 
-use crate::table::Table;
-use pp_model::{Move, Reply};
+use crate::machine::Core;
+use pp_model::{Came, Move, Reply};
 
-impl Table {
-    /// Does the move, or refuses it.
-    pub(crate) fn step(&mut self, asked: &Move) -> Reply
-        requires { IsKept (parts_of self.old) }
-        ensures moves { Moves (parts_of self.old) asked.now result (parts_of self.new) }
-        ensures refusal { IsTrue (is_refusal result) → parts_of self.new ≡ parts_of self.old }
+// Each of these does its move as `Core::step` does, or refuses it.
+impl Core {
+    /// An idle worker takes the first plan that waits: [`Move::Take`].
+    pub fn take(&mut self, worker: u32) -> Reply
+        ensures moves { Moves self.old (Move.Take worker) result self.new }
+        ensures refusal { IsTrue (is_refusal result) → self.new ≡ self.old }
+        ensures kept { IsKept self.new }
+        ensures headline { HeadlineHolds self.new }
+        ensures budget { self.new.budget + (if is_refusal result then 0 else 1) ≤ self.old.budget }
     {
-        match *asked {
-            Move::Take { worker } => self.take(worker),
-            Move::Fix { worker, page } => self.fix(worker, page),
-            Move::WriteDone { worker, ok } => self.write_done(worker, ok),
-            Move::ReadDone { worker, came } => self.read_done(worker, came),
-            Move::Unfix { worker } => self.unfix(worker),
-            Move::Latch { worker } => self.latch(worker),
-            Move::Unlatch { worker } => self.unlatch(worker),
-            Move::Choose { worker, branch } => self.choose(worker, branch),
-            Move::Unwind { worker, slot } => self.unwind(worker, slot),
-            Move::Finish { worker } => self.finish(worker),
-            Move::FlushBegin { page } => self.flush_begin(page),
-            Move::FlushDone { ok } => self.flush_done(ok),
-        }
+        self.table.take(worker)
+    }
+
+    /// A worker fixes a page into the slot that its plan names: [`Move::Fix`].
+    #[inline(always)]
+    pub fn fix(&mut self, worker: u32, page: u32) -> Reply
+        ensures moves { Moves self.old (Move.Fix worker page) result self.new }
+        ensures refusal { IsTrue (is_refusal result) → self.new ≡ self.old }
+        ensures kept { IsKept self.new }
+        ensures headline { HeadlineHolds self.new }
+        ensures budget { self.new.budget + (if is_refusal result then 0 else 1) ≤ self.old.budget }
+    {
+        self.table.fix(worker, page)
+    }
+
+    /// The device has written a worker's victim back, or has failed to: [`Move::WriteDone`].
+    pub fn write_done(&mut self, worker: u32, ok: bool) -> Reply
+        ensures moves { Moves self.old (Move.WriteDone worker ok) result self.new }
+        ensures refusal { IsTrue (is_refusal result) → self.new ≡ self.old }
+        ensures kept { IsKept self.new }
+        ensures headline { HeadlineHolds self.new }
+        ensures budget { self.new.budget + (if is_refusal result then 0 else 1) ≤ self.old.budget }
+    {
+        self.table.write_done(worker, ok)
+    }
+
+    /// The device has read a worker's page, or has failed to: [`Move::ReadDone`].
+    #[inline(always)]
+    pub fn read_done(&mut self, worker: u32, came: Came) -> Reply
+        ensures moves { Moves self.old (Move.ReadDone worker came) result self.new }
+        ensures refusal { IsTrue (is_refusal result) → self.new ≡ self.old }
+        ensures kept { IsKept self.new }
+        ensures headline { HeadlineHolds self.new }
+        ensures budget { self.new.budget + (if is_refusal result then 0 else 1) ≤ self.old.budget }
+    {
+        self.table.read_done(worker, came)
+    }
+
+    /// A worker gives back the page of the slot that its plan names: [`Move::Unfix`].
+    #[inline(always)]
+    pub fn unfix(&mut self, worker: u32) -> Reply
+        ensures moves { Moves self.old (Move.Unfix worker) result self.new }
+        ensures refusal { IsTrue (is_refusal result) → self.new ≡ self.old }
+        ensures kept { IsKept self.new }
+        ensures headline { HeadlineHolds self.new }
+        ensures budget { self.new.budget + (if is_refusal result then 0 else 1) ≤ self.old.budget }
+    {
+        self.table.unfix(worker)
+    }
+
+    /// A worker latches the page of the slot that its plan names: [`Move::Latch`].
+    #[inline(always)]
+    pub fn latch(&mut self, worker: u32) -> Reply
+        ensures moves { Moves self.old (Move.Latch worker) result self.new }
+        ensures refusal { IsTrue (is_refusal result) → self.new ≡ self.old }
+        ensures kept { IsKept self.new }
+        ensures headline { HeadlineHolds self.new }
+        ensures budget { self.new.budget + (if is_refusal result then 0 else 1) ≤ self.old.budget }
+    {
+        self.table.latch(worker)
+    }
+
+    /// A worker takes the latch off the page of the slot that its plan names: [`Move::Unlatch`].
+    #[inline(always)]
+    pub fn unlatch(&mut self, worker: u32) -> Reply
+        ensures moves { Moves self.old (Move.Unlatch worker) result self.new }
+        ensures refusal { IsTrue (is_refusal result) → self.new ≡ self.old }
+        ensures kept { IsKept self.new }
+        ensures headline { HeadlineHolds self.new }
+        ensures budget { self.new.budget + (if is_refusal result then 0 else 1) ≤ self.old.budget }
+    {
+        self.table.unlatch(worker)
+    }
+
+    /// A worker goes on with this branch of a choice: [`Move::Choose`].
+    pub fn choose(&mut self, worker: u32, branch: u32) -> Reply
+        ensures moves { Moves self.old (Move.Choose worker branch) result self.new }
+        ensures refusal { IsTrue (is_refusal result) → self.new ≡ self.old }
+        ensures kept { IsKept self.new }
+        ensures headline { HeadlineHolds self.new }
+        ensures budget { self.new.budget + (if is_refusal result then 0 else 1) ≤ self.old.budget }
+    {
+        self.table.choose(worker, branch)
+    }
+
+    /// A worker that leaves its plan gives a slot back, latch and pin together: [`Move::Unwind`].
+    pub fn unwind(&mut self, worker: u32, slot: u32) -> Reply
+        ensures moves { Moves self.old (Move.Unwind worker slot) result self.new }
+        ensures refusal { IsTrue (is_refusal result) → self.new ≡ self.old }
+        ensures kept { IsKept self.new }
+        ensures headline { HeadlineHolds self.new }
+        ensures budget { self.new.budget + (if is_refusal result then 0 else 1) ≤ self.old.budget }
+    {
+        self.table.unwind(worker, slot)
+    }
+
+    /// A worker is done with its plan, or has left it: [`Move::Finish`].
+    pub fn finish(&mut self, worker: u32) -> Reply
+        ensures moves { Moves self.old (Move.Finish worker) result self.new }
+        ensures refusal { IsTrue (is_refusal result) → self.new ≡ self.old }
+        ensures kept { IsKept self.new }
+        ensures headline { HeadlineHolds self.new }
+        ensures budget { self.new.budget + (if is_refusal result then 0 else 1) ≤ self.old.budget }
+    {
+        self.table.finish(worker)
+    }
+
+    /// The flusher begins to write a changed page: [`Move::FlushBegin`].
+    pub fn flush_begin(&mut self, page: u32) -> Reply
+        ensures moves { Moves self.old (Move.FlushBegin page) result self.new }
+        ensures refusal { IsTrue (is_refusal result) → self.new ≡ self.old }
+        ensures kept { IsKept self.new }
+        ensures headline { HeadlineHolds self.new }
+        ensures budget { self.new.budget + (if is_refusal result then 0 else 1) ≤ self.old.budget }
+    {
+        self.table.flush_begin(page)
+    }
+
+    /// The device has written the flusher's page, or has failed to: [`Move::FlushDone`].
+    pub fn flush_done(&mut self, ok: bool) -> Reply
+        ensures moves { Moves self.old (Move.FlushDone ok) result self.new }
+        ensures refusal { IsTrue (is_refusal result) → self.new ≡ self.old }
+        ensures kept { IsKept self.new }
+        ensures headline { HeadlineHolds self.new }
+        ensures budget { self.new.budget + (if is_refusal result then 0 else 1) ≤ self.old.budget }
+    {
+        self.table.flush_done(ok)
     }
 }

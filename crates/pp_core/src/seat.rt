@@ -72,6 +72,7 @@ impl Seat {
     }
 
     /// Does an action that the plan asks.
+    #[inline(always)]
     pub(crate) fn act(&mut self, plan: &Plan, action: Action)
         requires { CanDo plan.now self.old action }
         ensures { Did plan.now self.old self.new action }
@@ -81,6 +82,7 @@ impl Seat {
     }
 
     /// The cursor goes past an action that the plan asks.
+    #[inline(always)]
     fn follow(&mut self, plan: &Plan, action: Action)
         requires { CanDo plan.now self.old action }
         ensures cursor { (before : List Action) → StandsFor plan.now self.old.cursor before →

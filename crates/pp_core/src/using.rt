@@ -76,6 +76,7 @@ impl Table {
     // ---- unfix
 
     /// A worker gives the page of the slot back that its plan names.
+    #[inline(always)]
     pub(crate) fn unfix(&mut self, worker: u32) -> Reply
         requires { IsKept (parts_of self.old) }
         ensures moves { Moves (parts_of self.old) (Move.Unfix worker) result (parts_of self.new) }
@@ -94,6 +95,7 @@ impl Table {
     }
 
     /// The unfix is done, and a pin goes off the page.
+    #[inline(always)]
     fn give_back(&mut self, worker: u32, slot: u8, page: u32)
         requires { CanUnfix (parts_of self.old) worker slot page }
         ensures { Spent (parts_of self.old) (parts_of self.new) worker (Action.Unfix slot)
@@ -107,6 +109,7 @@ impl Table {
     // ---- latch
 
     /// A worker latches the page of the slot that its plan names.
+    #[inline(always)]
     pub(crate) fn latch(&mut self, worker: u32) -> Reply
         requires { IsKept (parts_of self.old) }
         ensures moves { Moves (parts_of self.old) (Move.Latch worker) result (parts_of self.new) }
@@ -130,6 +133,7 @@ impl Table {
     }
 
     /// An action that needs no other mark is done.
+    #[inline(always)]
     fn spend(&mut self, worker: u32, action: Action)
         requires { CanSpend (parts_of self.old) worker action }
         ensures { Spent (parts_of self.old) (parts_of self.new) worker action self.old.marks }
@@ -141,6 +145,7 @@ impl Table {
     // ---- unlatch
 
     /// A worker takes the latch off the page of the slot that its plan names.
+    #[inline(always)]
     pub(crate) fn unlatch(&mut self, worker: u32) -> Reply
         requires { IsKept (parts_of self.old) }
         ensures moves { Moves (parts_of self.old) (Move.Unlatch worker) result (parts_of self.new) }

@@ -291,6 +291,7 @@ impl Marks {
     }
 
     /// Latches the page where this mode goes with the latches that stand on it. The page has fewer latches than pins.
+    #[inline(always)]
     pub fn grant(&mut self, page: u32, mode: Mode) -> bool
         requires spare_pin { latch_count (latches_of self.old page) < pins_of self.old page }
         ensures answer { result ≡ is_compatible mode (latches_of self.old page) }
@@ -308,6 +309,7 @@ impl Marks {
     }
 
     /// Releases one latch of a mode that stands on the page.
+    #[inline(always)]
     pub fn release(&mut self, page: u32, mode: Mode)
         requires latched { IsTrue (has_latch mode (latches_of self.old page)) }
         ensures exact { self.new ≡ with_latches self.old page (without_latch (latches_of self.old page)) }

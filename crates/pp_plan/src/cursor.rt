@@ -119,6 +119,7 @@ impl Cursor {
     }
 
     /// Does an action that the plan asks, with no test of it, and tells what the plan asks then.
+    #[inline(always)]
     pub fn pass(&mut self, plan: &Plan, action: Action) -> Ask
         requires { IsAsked plan.now self.old action }
         ensures passed { (before : List Action) → StandsFor plan.now self.old before →
