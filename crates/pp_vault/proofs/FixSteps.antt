@@ -31,14 +31,15 @@ use Rattle.pp_vault.specs.declared.tokens.Duty.TheVariants.{Read, Write}
 use Rattle.pp_vault.specs.Parts.{Parts}
 use Rattle.pp_vault.specs.StandsFor.{image_in, IsRight, ImagesFit, StandsFor, IsKept}
 use Rattle.pp_vault.specs.Calls.{asks, stranger}
-use Rattle.pp_vault.specs.Fits.{is_acting_by, fix_call}
+use Rattle.pp_vault.specs.Fits.{is_acting_by, fix_slot, names_slot, fix_call}
 use Rattle.pp_vault.specs.ImageMoves.{TakenOut}
 use Rattle.pp_vault.specs.Steps.{Stepped}
 use Rattle.pp_vault.specs.Events.{Does}
 use Rattle.pp_vault.specs.Tokens.{ActsIn, SessionFits, ErrandFits}
-use Rattle.pp_vault.specs.Fixes.{fix_slot, IsHit, IsSent}
+use Rattle.pp_vault.specs.Fixes.{IsHit, IsSent}
 use Rattle.pp_vault.proofs.Images.{fit_stays, fit_out}
 use Rattle.pp_vault.proofs.Done.{does}
+use Rattle.pp_vault.proofs.FitTests.{nat_is}
 
 pub acts_by : (o : Option Ask) → IsSome o → is_acting_by o ≡ true
 acts_by None h = absurd (false≢true h)
@@ -104,7 +105,14 @@ other_fix w page (reply.Flushed clean) d h nh nr nw = false≢true h
 other_fix w page (reply.NotNow delay) d h nh nr nw = false≢true (sym d)
 other_fix w page (reply.OffPlan cause) d h nh nr nw = false≢true (sym d)
 
-module _ (old mid : Parts) (w page : ℕ) (r : Reply) (did : Stepped old mid (Fix w page) r) where
+-- A plan asks this fix, and the session tells its slot.
+same_fix : (told slot region : ℕ) (o : Option Ask) → o ≡ Some (ask.Fix slot region) → names_slot told o ≡ true
+    → slot ≡ told
+same_fix told slot region o e names =
+    sym (nat_is told slot (ap (names_slot told) (sym e) ∙ names))
+
+module _ (old mid : Parts) (w slot page : ℕ) (r : Reply) (did : Stepped old mid (Fix w page) r)
+    (names : (s : State) → StandsFor old s → names_slot slot (ask_of s w) ≡ true) where
   abbrev next : State → State
   next s = next_of s (Fix w page)
 
@@ -119,8 +127,15 @@ module _ (old mid : Parts) (w page : ℕ) (r : Reply) (did : Stepped old mid (Fi
   found : (s : State) → StandsFor old s → (slot : ℕ) × (region : ℕ) × (ask_of s w ≡ Some (ask.Fix slot region))
   found s st = (laws s st).found (Fix w page) (ap is_refusal (answer s st) ∙ did.done)
 
-  calls : (s : State) → StandsFor old s → fix_call w page s ≡ asks (Fix w page)
-  calls s st = ap (λ o. if is_acting_by o then asks (Fix w page) else stranger) (found s st).2
+  -- The slot that the plan names.
+  asked : (s : State) → StandsFor old s → (region : ℕ) × (ask_of s w ≡ Some (ask.Fix slot region))
+  asked s st =
+      let f = found s st in
+      let same = same_fix slot f.0 f.1 (ask_of s w) f.2 (names s st) in
+      (f.1, f.2 ∙ ap (λ n. Some (ask.Fix n f.1)) same)
+
+  calls : (s : State) → StandsFor old s → fix_call w slot page s ≡ asks (Fix w page)
+  calls s st = ap (λ b. if b then asks (Fix w page) else stranger) (names s st)
 
   frames : (s : State) → StandsFor old s → (next s).settings.layout.frames ≡ s.settings.layout.frames
   frames s st = ap (λ k. k.layout.frames) (settings_stay s (Fix w page))
@@ -135,14 +150,6 @@ module _ (old mid : Parts) (w page : ℕ) (r : Reply) (did : Stepped old mid (Fi
       (subst (λ x. IsTrue (fits_reply (Fix w page) x)) (answer k.state k.stands) (reply_fits k.state (Fix w page)))
       nh nr nw
 
-  -- The slot that the plan names.
-  module _ (a : Ask) (told : (s : State) → core.StandsFor old.core s → Some a ≡ ask_of s w) where
-    pub asked : (s : State) → StandsFor old s → (region : ℕ) × (ask_of s w ≡ Some (ask.Fix (fix_slot a) region))
-    asked s st =
-        let f = found s st in
-        let same : a ≡ ask.Fix f.0 f.1 = ap (λ o. unwrap_or o a) (told s st.core ∙ f.2) in
-        (f.1, f.2 ∙ ap (λ x. Some (ask.Fix (fix_slot x) f.1)) (sym same))
-
   -- ---- a hit
 
   module _ (frame mark : ℕ) (e : r ≡ Hit frame mark) where
@@ -152,9 +159,9 @@ module _ (old mid : Parts) (w page : ℕ) (r : Reply) (did : Stepped old mid (Fi
         (fit_stays old.page_bytes old.images old.spare s (next s) st.images (frames s st)
         (still_keeps s st.core.reached (Fix w page) (ap is_still (answer s st ∙ e))) (flush s))
 
-    pub hit_does : Does old (fix_call w page) mid
+    pub hit_does : Does old (fix_call w slot page) mid
     hit_does =
-        does old mid (fix_call w page) (Fix w page) r did.moves did.done (ap (λ (p : Parts). p.last) did.rest)
+        does old mid (fix_call w slot page) (Fix w page) r did.moves did.done (ap (λ (p : Parts). p.last) did.rest)
         (ap (λ (p : Parts). p.page_bytes) did.rest) calls hit_fits
 
     pub hit_kept : IsKept old → IsKept mid
@@ -177,13 +184,11 @@ module _ (old mid : Parts) (w page : ℕ) (r : Reply) (did : Stepped old mid (Fi
         ap is_acting_by (same_ask mid.core t (next k.state) b.core (did.moves.stands k.state k.stands.core) w)
         ∙ acts_by (ask_of (next k.state) w) (acting k.state k.stands)
 
-    module _ (a : Ask) (told : (s : State) → core.StandsFor old.core s → Some a ≡ ask_of s w) (k : IsKept old)
-        (x : Session) (fits : SessionFits mid w x) (slot : ℕ) (is : slot ≡ fix_slot a) where
+    module _ (k : IsKept old) (x : Session) (fits : SessionFits mid w x) where
       hit_held : (s : State) (st : StandsFor old s) → held_of (next s) w slot ≡ Some (page, Free)
       hit_held s st =
-          let now = asked a told s st in
-          let f = (laws s st).hit w page (fix_slot a) now.0 frame mark (answer s st ∙ e) now.1 in
-          ap (held_of (next s) w) is ∙ f.held
+          let now = asked s st in
+          ((laws s st).hit w page slot now.0 frame mark (answer s st ∙ e) now.1).held
 
       pub hit_is : IsHit old mid w page x (record { worker = w; slot = slot; page = page })
       hit_is =
@@ -194,7 +199,7 @@ module _ (old mid : Parts) (w page : ℕ) (r : Reply) (did : Stepped old mid (Fi
               answer s st ∙ e,
               (laws s st).hit_frame w page frame mark (answer s st ∙ e),
             );
-            asked = λ s st. subst (λ n. (region : ℕ) × (ask_of s w ≡ Some (ask.Fix n region))) (sym is) (asked a told s st);
+            asked = asked;
             session = fits;
             guard = record {
               worker = refl;
@@ -208,6 +213,9 @@ module _ (old mid : Parts) (w page : ℕ) (r : Reply) (did : Stepped old mid (Fi
               spare = ap (λ (p : Parts). p.spare) did.rest;
             };
           }
+
+      pub hit_at : (n : ℕ) → n ≡ slot → IsHit old mid w page x (record { worker = w; slot = n; page = page })
+      hit_at n is = subst (λ k. IsHit old mid w page x (record { worker = w; slot = k; page = page })) (sym is) hit_is
 
   -- ---- an image that leaves its frame
 
@@ -243,9 +251,9 @@ module _ (old mid : Parts) (w page : ℕ) (r : Reply) (did : Stepped old mid (Fi
           (fit_out old.page_bytes old.images old.spare s (next s) st.images (frames s st) frame (low_in s st)
           sent.goes sent.before (flush s))
 
-      out_does : Does old (fix_call w page) new
+      out_does : Does old (fix_call w slot page) new
       out_does =
-          does old new (fix_call w page) (Fix w page) r
+          does old new (fix_call w slot page) (Fix w page) r
           (subst (λ c. core.Moves old.core (Fix w page) r c) (sym core_is) did.moves) did.done
           (ap (λ (p : Parts). p.last) whole) (ap (λ (p : Parts). p.page_bytes) whole) calls out_fits
 
@@ -275,16 +283,14 @@ module _ (old mid : Parts) (w page : ℕ) (r : Reply) (did : Stepped old mid (Fi
     pub read_there : is_some (image_in mid.images frame) ≡ true
     read_there = there frame read_sends k
 
-    module _ (a : Ask) (told : (s : State) → core.StandsFor old.core s → Some a ≡ ask_of s w) (slot : ℕ)
-        (is : slot ≡ fix_slot a) (new : Parts) (image : List ℕ) (was : image_in mid.images frame ≡ Some image)
+    module _ (new : Parts) (image : List ℕ) (was : image_in mid.images frame ≡ Some image)
         (rest : new ≡ record mid { images = slice_set mid.images frame None }) where
       read_errand : errand_of (next k.state) w ≡ Some (slot, page, None)
       read_errand =
-          let now = asked a told k.state k.stands in
-          ((laws k.state k.stands).sent w page (fix_slot a) now.0 frame (answer k.state k.stands ∙ e) now.1).errand
-          ∙ ap {B = Option (ℕ × ℕ × Option ℕ)} (λ (n : ℕ). Some (n, page, None)) (sym is)
+          let now = asked k.state k.stands in
+          ((laws k.state k.stands).sent w page slot now.0 frame (answer k.state k.stands ∙ e) now.1).errand
 
-      pub read_answers : Does old (fix_call w page) new × IsSent old new w page image (Read w slot page)
+      pub read_answers : Does old (fix_call w slot page) new × IsSent old new w page image (Read w slot page)
           × ErrandFits new (record { duty = Read w slot page; image = image })
       read_answers = (
         out_does frame read_sends new image was rest,
@@ -308,6 +314,12 @@ module _ (old mid : Parts) (w page : ℕ) (r : Reply) (did : Stepped old mid (Fi
         },
       )
 
+      pub read_at : (n : ℕ) → n ≡ slot → Does old (fix_call w slot page) new × IsSent old new w page image (Read w n page)
+          × ErrandFits new (record { duty = Read w n page; image = image })
+      read_at n is =
+          subst (λ k. Does old (fix_call w slot page) new × IsSent old new w page image (Read w k page)
+          × ErrandFits new (record { duty = Read w k page; image = image })) (sym is) read_answers
+
   -- ---- a victim's write
 
   module _ (frame victim : ℕ) (e : r ≡ MustWrite frame victim) (k : IsKept old) where
@@ -330,15 +342,12 @@ module _ (old mid : Parts) (w page : ℕ) (r : Reply) (did : Stepped old mid (Fi
     pub write_there : is_some (image_in mid.images frame) ≡ true
     write_there = there frame write_sends k
 
-    module _ (a : Ask) (told : (s : State) → core.StandsFor old.core s → Some a ≡ ask_of s w) (slot : ℕ)
-        (is : slot ≡ fix_slot a) (new : Parts) (image : List ℕ) (was : image_in mid.images frame ≡ Some image)
+    module _ (new : Parts) (image : List ℕ) (was : image_in mid.images frame ≡ Some image)
         (rest : new ≡ record mid { images = slice_set mid.images frame None }) where
       write_errand : errand_of (next k.state) w ≡ Some (slot, page, Some victim)
       write_errand =
-          let now = asked a told k.state k.stands in
-          ((laws k.state k.stands).sent_victim w page (fix_slot a) now.0 frame victim (answer k.state k.stands ∙ e)
-          now.1).errand
-          ∙ ap {B = Option (ℕ × ℕ × Option ℕ)} (λ (n : ℕ). Some (n, page, Some victim)) (sym is)
+          let now = asked k.state k.stands in
+          ((laws k.state k.stands).sent_victim w page slot now.0 frame victim (answer k.state k.stands ∙ e) now.1).errand
 
       -- The victim's mark stays as its write begins.
       mark_next : known_mark (next k.state) victim ≡ Some (mark_at k.state victim)
@@ -365,7 +374,7 @@ module _ (old mid : Parts) (w page : ℕ) (r : Reply) (did : Stepped old mid (Fi
           ap {B = Option (ℕ × ℕ)} (λ h. Some h) head_is
           ∙ sym (ap {B = Option (ℕ × ℕ)} (option_map (λ (mark : ℕ). (victim, mark))) marked)
 
-      pub write_answers : Does old (fix_call w page) new × IsSent old new w page image (Write w slot page victim)
+      pub write_answers : Does old (fix_call w slot page) new × IsSent old new w page image (Write w slot page victim)
           × ErrandFits new (record { duty = Write w slot page victim; image = image })
       write_answers = (
         out_does frame write_sends new image was rest,
@@ -388,3 +397,10 @@ module _ (old mid : Parts) (w page : ℕ) (r : Reply) (did : Stepped old mid (Fi
           long = out_long frame write_sends new image was rest k;
         },
       )
+
+      pub write_at : (n : ℕ) → n ≡ slot
+          → Does old (fix_call w slot page) new × IsSent old new w page image (Write w n page victim)
+          × ErrandFits new (record { duty = Write w n page victim; image = image })
+      write_at n is =
+          subst (λ k. Does old (fix_call w slot page) new × IsSent old new w page image (Write w k page victim)
+          × ErrandFits new (record { duty = Write w k page victim; image = image })) (sym is) write_answers

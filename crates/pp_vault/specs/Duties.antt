@@ -8,3 +8,9 @@ abbrev pub duty_worker : Duty → Option ℕ
 duty_worker (Read w slot page) = Some w
 duty_worker (Write w slot page victim) = Some w
 duty_worker (Flush page) = None
+
+-- The slot into which the worker's page comes; none for a flush.
+abbrev pub duty_slot : Duty → Option ℕ
+duty_slot (Read w slot page) = Some slot
+duty_slot (Write w slot page victim) = Some slot
+duty_slot (Flush page) = None

@@ -50,8 +50,19 @@ end_call w s = if is_leaving s w then asks (Finish w) else stranger
 abbrev pub finish_call : (w : ℕ) → State → Call
 finish_call w s = if is_acting s w then asks (Finish w) else stranger
 
-abbrev pub fix_call : (w page : ℕ) → State → Call
-fix_call w page s = if is_acting s w then asks (Fix w page) else stranger
+-- The slot of a plan that asks a fix; zero where it asks something else.
+abbrev pub fix_slot : Ask → ℕ
+fix_slot (ask.Fix slot region) = slot
+fix_slot _ = 0
+
+-- Whether the worker acts, and this is the slot of the fix that its plan asks; zero where that asks something else.
+abbrev pub names_slot : (slot : ℕ) → Option Ask → Bool
+names_slot slot None = false
+names_slot slot (Some a) = slot == fix_slot a
+
+-- A fix, whose session tells this slot.
+abbrev pub fix_call : (w slot page : ℕ) → State → Call
+fix_call w slot page s = if names_slot slot (ask_of s w) then asks (Fix w page) else stranger
 
 abbrev pub choose_call : (w branch : ℕ) → State → Call
 choose_call w branch s = if is_acting s w then asks (Choose w branch) else stranger

@@ -1,6 +1,5 @@
 -- What a fix of a vault comes to.
 use Rattle.std.specs.Prelude.{◌≡◌, ℕ, Some, List}
-use Rattle.pp_plan.specs.declared.action.Ask.{Ask}
 use Rattle.pp_plan.specs.declared.action.Ask.TheVariants as ask
 use Rattle.pp_model.specs.declared.moves.Move.TheVariants.{Fix}
 use Rattle.pp_model.specs.declared.reply.Reply.TheVariants.{Hit, MustRead, MustWrite}
@@ -17,16 +16,11 @@ use Rattle.pp_vault.specs.declared.fixing.Fixed.TheVariants.{Got, Away, No}
 use Rattle.pp_vault.specs.Parts.{Parts}
 use Rattle.pp_vault.specs.StandsFor.{StandsFor}
 use Rattle.pp_vault.specs.ImageMoves.{TakenOut, ImagesStay}
-use Rattle.pp_vault.specs.Fits.{fix_call}
+use Rattle.pp_vault.specs.Fits.{fix_slot, fix_call}
 use Rattle.pp_vault.specs.Events.{Refuses, Does, untold}
 use Rattle.pp_vault.specs.Tokens.{SessionFits, PinFits, ErrandFits}
 
 -- ---- fix
-
--- The slot of a plan that asks a fix; zero where it asks something else.
-abbrev pub fix_slot : Ask → ℕ
-fix_slot (ask.Fix slot region) = slot
-fix_slot _ = 0
 
 -- The page was cached: the slot that the plan names holds it, and no image has moved.
 pub record IsHit (old new : Parts) (w page : ℕ) (x : Session) (g : PinGuard) : Type 0 where
@@ -53,13 +47,14 @@ IsSent old new w page image (Write v slot p victim) =
     × (frame_of s victim ≡ Some frame) × TakenOut old new frame image)
 IsSent old new w page image (Flush p) = ⊥
 
--- What a fix comes to: the slot's guard, or an errand, each with what the call does; where it is refused, the session
+-- What a fix comes to: the guard of the slot that the session tells, or an errand, each with what the call does; where it is refused, the session
 -- comes back and nothing has changed.
 abbrev pub FixAnswers : (old : Parts) → Session → (page : ℕ) → Fixed → (new : Parts) → Type 0
 FixAnswers old x page (Got session guard) new =
-    Does old (fix_call x.worker page) new × IsHit old new x.worker page session guard
+    Does old (fix_call x.worker (fix_slot x.ask) page) new × IsHit old new x.worker page session guard
+    × (guard.slot ≡ fix_slot x.ask)
 FixAnswers old x page (Away errand) new =
-    Does old (fix_call x.worker page) new × IsSent old new x.worker page errand.image errand.duty
+    Does old (fix_call x.worker (fix_slot x.ask) page) new × IsSent old new x.worker page errand.image errand.duty
     × ErrandFits new errand
 FixAnswers old x page (No session refusal) new =
-    (session ≡ x) × Refuses old (fix_call x.worker page) refusal × (new ≡ untold old)
+    (session ≡ x) × Refuses old (fix_call x.worker (fix_slot x.ask) page) refusal × (new ≡ untold old)

@@ -1,5 +1,5 @@
 -- What the core's step does to what a vault keeps.
-use Rattle.std.specs.Prelude.{◌≡◌, ℕ, None, Some, false}
+use Rattle.std.specs.Prelude.{◌≡◌, ℕ, None, Some, true, false}
 use Rattle.pp_model.specs.declared.moves.Move.{Move}
 use Rattle.pp_model.specs.declared.reply.Reply.{Reply}
 use Rattle.pp_model.specs.declared.reply.Reply.TheVariants.{Latched, Unlatched}
@@ -19,6 +19,18 @@ pub record Stepped (old new : Parts) (m : Move) (reply : Reply) : Type 0 where
 pub record Refused (old new : Parts) (m : Move) (refusal : Refusal) : Type 0 where
   pub reply : Reply
   pub moves : core.Moves old.core m reply old.core
+  pub refused : refusal_in reply ≡ Some refusal
+  pub rest : new ≡ record old { last = None }
+
+-- The move that was answered so is done, and that is told.
+pub record Tells (old new : Parts) (m : Move) (reply told : Reply) : Type 0 where
+  pub same : told ≡ reply
+  pub done : is_refusal reply ≡ false
+  pub rest : new ≡ record old { last = Some (m, reply) }
+
+-- A reply is this refusal, and nothing is told.
+pub record TellsNone (old new : Parts) (reply : Reply) (refusal : Refusal) : Type 0 where
+  pub refuses : is_refusal reply ≡ true
   pub refused : refusal_in reply ≡ Some refusal
   pub rest : new ≡ record old { last = None }
 

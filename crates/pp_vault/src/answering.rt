@@ -195,7 +195,7 @@ impl Store {
             unreachable!()
         };
         let came = came_of(ok, &image);
-        let reply = match self.step(Move::ReadDone { worker, came }) {
+        let reply = match self.step_read_done(worker, came) {
             Ok(reply) => reply,
             Err(refusal) => return Err((image, refusal)),
         };

@@ -2,14 +2,17 @@
 
 ghost use Rattle.std.specs.Prelude.{◌≡◌};
 ghost use Rattle.pp_vault.specs.Parts.{parts_of};
-ghost use Rattle.pp_vault.specs.StandsFor.{IsKept};
-ghost use Rattle.pp_vault.specs.Fixes.{FixAnswers, fix_slot};
+ghost use Rattle.pp_vault.specs.Fixes.{FixAnswers};
+ghost use Rattle.pp_vault.specs.Fits.{fix_slot, names_slot as slot_is_named};
+ghost use Rattle.pp_vault.specs.StandsFor.{StandsFor, IsKept};
+ghost use Rattle.pp_model.specs.Pool.{State};
+ghost use Rattle.pp_core.specs.Queries.{ask_of};
 
 use crate::guards::PinGuard;
 use crate::refusal::Refusal;
 use crate::store::Store;
 use crate::tokens::{Duty, Errand, Session};
-use pp_core::{Ask, Move, Reply};
+use pp_core::{Ask, Reply};
 
 /// What a fix comes to.
 #[derive(Debug)]
@@ -33,18 +36,29 @@ fn slot_of(ask: Ask) -> u32
 }
 
 impl Store {
+    /// Whether the session's worker acts, and the session tells the slot of the fix that the plan asks.
+    fn names_slot(&self, session: &Session) -> bool
+        ensures { (s : State) → StandsFor (parts_of self.now) s
+            → result ≡ slot_is_named (fix_slot session.now.ask) (ask_of s session.now.worker) }
+    {
+        match self.core.ask(session.worker) {
+            Some(ask) => slot_of(session.ask) == slot_of(ask),
+            None => false,
+        }
+    }
+
     /// A worker fixes a page into the slot that its plan names.
     pub(crate) fn fix(&mut self, session: Session, page: u32) -> Fixed
         requires { IsKept (parts_of self.old) }
         ensures { FixAnswers (parts_of self.old) session page result (parts_of self.new) }
     {
-        let worker = session.worker;
-        let Some(ask) = self.core.ask(worker) else {
+        if !self.names_slot(&session) {
             self.refuse();
             return Fixed::No(session, Refusal::Stranger);
-        };
-        let slot = slot_of(ask);
-        let reply = match self.step(Move::Fix { worker, page }) {
+        }
+        let worker = session.worker;
+        let slot = slot_of(session.ask);
+        let reply = match self.step_fix(worker, page) {
             Ok(reply) => reply,
             Err(refusal) => return Fixed::No(session, refusal),
         };

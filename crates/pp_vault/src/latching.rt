@@ -21,7 +21,7 @@ use crate::guards::{PinGuard, ReadGuard, WriteGuard};
 use crate::refusal::Refusal;
 use crate::store::Store;
 use crate::tokens::Session;
-use pp_core::{Ask, Cause, Held, Move, Reply};
+use pp_core::{Ask, Cause, Held, Reply};
 use pp_plan::Mode;
 
 /// Why a call with a session and a guard is no move, if it isn't: they don't fit, or the plan asks something else.
@@ -135,7 +135,7 @@ impl Store {
             self.refuse();
             return Err((session, guard, refusal));
         }
-        match self.step(Move::Unfix { worker }) {
+        match self.step_unfix(worker) {
             Ok(_) => {
                 let Session { worker, ask: _ } = session;
                 let PinGuard {
@@ -169,7 +169,7 @@ impl Store {
             self.refuse();
             return Err((session, guard, refusal));
         }
-        match self.step(Move::Latch { worker }) {
+        match self.step_latch(worker) {
             Ok(reply) => {
                 let mark = mark_in(reply);
                 let Session { worker, ask: _ } = session;
@@ -215,7 +215,7 @@ impl Store {
         let Some(frame) = self.core.frame_of(guard.page) else {
             unreachable!()
         };
-        match self.step(Move::Latch { worker }) {
+        match self.step_latch(worker) {
             Ok(reply) => {
                 let mark = mark_in(reply);
                 let image = self.take_out(frame);
@@ -260,7 +260,7 @@ impl Store {
             self.refuse();
             return Err((session, guard, refusal));
         }
-        match self.step(Move::Unlatch { worker }) {
+        match self.step_unlatch(worker) {
             Ok(_) => {
                 let Session { worker, ask: _ } = session;
                 let ReadGuard {
@@ -298,7 +298,7 @@ impl Store {
         let Some(frame) = self.core.frame_of(guard.page) else {
             unreachable!()
         };
-        match self.step(Move::Unlatch { worker }) {
+        match self.step_unlatch(worker) {
             Ok(reply) => {
                 let Session { worker, ask: _ } = session;
                 let WriteGuard {

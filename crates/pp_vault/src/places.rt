@@ -94,6 +94,16 @@ impl Guards {
         }
     }
 
+    /// Whether the slot has a place, with no guard in it, so that [`Guards::put`] puts one there.
+    pub fn is_free(&self, slot: u32) -> bool
+        ensures { result ≡ is_free self.now slot }
+    {
+        match self.places.get(slot as usize) {
+            Some(place) => place.is_none(),
+            None => false,
+        }
+    }
+
     /// Whether no guard is there.
     pub fn is_empty(&self) -> bool
         ensures free { result ≡ all_free self.now }

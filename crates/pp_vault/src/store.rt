@@ -3,11 +3,11 @@
 ghost use Rattle.std.specs.Prelude.{◌≡◌, ◌<◌, None, Some, IsSome, IfOk, IfErr, length, slice_set};
 ghost use Rattle.pp_vault.specs.Parts.{parts_of};
 ghost use Rattle.pp_vault.specs.StandsFor.{image_in};
-ghost use Rattle.pp_vault.specs.Steps.{Stepped, Refused};
+ghost use Rattle.pp_vault.specs.Steps.{Stepped, Refused, Tells, TellsNone};
 
 use crate::image::Image;
 use crate::refusal::Refusal;
-use pp_core::{Core, Move, Reply};
+use pp_core::{Came, Core, Move, Reply};
 
 /// A pool's core, and the images of its pages.
 #[derive(Drop)]
@@ -31,6 +31,65 @@ impl Store {
         ensures refused { IfErr result (λ refusal. Refused (parts_of self.old) (parts_of self.new) asked refusal) }
     {
         let reply = self.core.step(&asked);
+        self.tell(asked, reply)
+    }
+
+    /// Does the fix, if it is possible, and notes what is told of it.
+    #[inline(always)]
+    pub(crate) fn step_fix(&mut self, worker: u32, page: u32) -> Result<Reply, Refusal>
+        ensures done { IfOk result (λ reply. Stepped (parts_of self.old) (parts_of self.new) (Move.Fix worker page) reply) }
+        ensures refused { IfErr result (λ refusal. Refused (parts_of self.old) (parts_of self.new) (Move.Fix worker page) refusal) }
+    {
+        let reply = self.core.fix(worker, page);
+        self.tell(Move::Fix { worker, page }, reply)
+    }
+
+    /// Does the answer to a read, if it is possible, and notes what is told of it.
+    #[inline(always)]
+    pub(crate) fn step_read_done(&mut self, worker: u32, came: Came) -> Result<Reply, Refusal>
+        ensures done { IfOk result (λ reply. Stepped (parts_of self.old) (parts_of self.new) (Move.ReadDone worker came) reply) }
+        ensures refused { IfErr result (λ refusal. Refused (parts_of self.old) (parts_of self.new) (Move.ReadDone worker came) refusal) }
+    {
+        let reply = self.core.read_done(worker, came);
+        self.tell(Move::ReadDone { worker, came }, reply)
+    }
+
+    /// Does the unfix, if it is possible, and notes what is told of it.
+    #[inline(always)]
+    pub(crate) fn step_unfix(&mut self, worker: u32) -> Result<Reply, Refusal>
+        ensures done { IfOk result (λ reply. Stepped (parts_of self.old) (parts_of self.new) (Move.Unfix worker) reply) }
+        ensures refused { IfErr result (λ refusal. Refused (parts_of self.old) (parts_of self.new) (Move.Unfix worker) refusal) }
+    {
+        let reply = self.core.unfix(worker);
+        self.tell(Move::Unfix { worker }, reply)
+    }
+
+    /// Does the latch, if it is possible, and notes what is told of it.
+    #[inline(always)]
+    pub(crate) fn step_latch(&mut self, worker: u32) -> Result<Reply, Refusal>
+        ensures done { IfOk result (λ reply. Stepped (parts_of self.old) (parts_of self.new) (Move.Latch worker) reply) }
+        ensures refused { IfErr result (λ refusal. Refused (parts_of self.old) (parts_of self.new) (Move.Latch worker) refusal) }
+    {
+        let reply = self.core.latch(worker);
+        self.tell(Move::Latch { worker }, reply)
+    }
+
+    /// Does the unlatch, if it is possible, and notes what is told of it.
+    #[inline(always)]
+    pub(crate) fn step_unlatch(&mut self, worker: u32) -> Result<Reply, Refusal>
+        ensures done { IfOk result (λ reply. Stepped (parts_of self.old) (parts_of self.new) (Move.Unlatch worker) reply) }
+        ensures refused { IfErr result (λ refusal. Refused (parts_of self.old) (parts_of self.new) (Move.Unlatch worker) refusal) }
+    {
+        let reply = self.core.unlatch(worker);
+        self.tell(Move::Unlatch { worker }, reply)
+    }
+
+    /// Notes what is told of a move that the core has answered so.
+    #[inline(always)]
+    fn tell(&mut self, asked: Move, reply: Reply) -> Result<Reply, Refusal>
+        ensures done { IfOk result (λ same. Tells (parts_of self.old) (parts_of self.new) asked reply same) }
+        ensures refused { IfErr result (λ refusal. TellsNone (parts_of self.old) (parts_of self.new) reply refusal) }
+    {
         match reply {
             Reply::NotNow(delay) => {
                 self.last = None;

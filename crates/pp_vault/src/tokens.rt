@@ -1,7 +1,7 @@
 //! Tokens of workers and of the flusher.
 
 ghost use Rattle.std.specs.Prelude.{◌≡◌};
-ghost use Rattle.pp_vault.specs.Duties.{duty_worker};
+ghost use Rattle.pp_vault.specs.Duties.{duty_worker, duty_slot};
 
 use crate::image::Image;
 use pp_device::Fault;
@@ -73,6 +73,16 @@ impl Duty {
             Duty::Flush { .. } => None,
         }
     }
+
+    /// The slot that the page comes into. None for a flush.
+    pub(crate) fn slot(&self) -> Option<u32>
+        ensures { result ≡ duty_slot self.now }
+    {
+        match *self {
+            Duty::Read { slot, .. } | Duty::Write { slot, .. } => Some(slot),
+            Duty::Flush { .. } => None,
+        }
+    }
 }
 
 impl Chair {
@@ -116,6 +126,13 @@ impl Errand {
     {
         self.duty.worker()
     }
+
+    /// The slot into which the worker's page comes. None for a flush.
+    pub fn slot(&self) -> Option<u32>
+        ensures { result ≡ duty_slot self.now.duty }
+    {
+        self.duty.slot()
+    }
 }
 
 impl Returned {
@@ -124,5 +141,12 @@ impl Returned {
         ensures { result ≡ duty_worker self.now.duty }
     {
         self.duty.worker()
+    }
+
+    /// The slot into which the worker's page comes. None for a flush.
+    pub fn slot(&self) -> Option<u32>
+        ensures { result ≡ duty_slot self.now.duty }
+    {
+        self.duty.slot()
     }
 }

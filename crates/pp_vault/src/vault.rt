@@ -301,7 +301,8 @@ impl Vault {
     /// that frame goes with an errand: to have the page read into it, or first to be written back, where it is of a
     /// victim that is newer than the device's.
     ///
-    /// It is refused as [`Refusal::Stranger`] where the session's worker doesn't act, and else as the core refuses it.
+    /// It is refused as [`Refusal::Stranger`] where the session's worker doesn't act, or the session tells another slot than
+    /// the plan, and else as the core refuses it.
     /// Then the session comes back, and nothing has changed.
     #[tactic(auto, using(crate::proofs::FixKept::fix_keeps))]
     pub fn fix(&mut self, session: Session, page: u32) -> Fixed

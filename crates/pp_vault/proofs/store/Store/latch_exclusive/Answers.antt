@@ -21,7 +21,7 @@ unreachable-requires c =
 
 pub take_out-image-requires : goal.take_out-image-requires
 take_out-image-requires c =
-    exclusive_there (parts_of c.args.self.now) (parts_of c.step.new.self) c.args.session c.args.guard c.in-Ok.reply
+    exclusive_there (parts_of c.args.self.now) (parts_of c.step_latch.new.self) c.args.session c.args.guard c.in-Ok.reply
     c.requires c.in-Ok.ensures.done (λ s st. sym (c.fits_both-fits.ensures s st) ∙ c.in_default.ensures.none.0)
     (λ s st. sym (c.asks_latch.ensures s st) ∙ c.in_default.ensures.none.1) c.in-Some-frame_of.frame
     (λ s st. ap (λ o. unwrap_or o 0) (sym c.in-Some-frame_of.is ∙ c.frame_of.ensures s st.core))
@@ -29,7 +29,7 @@ take_out-image-requires c =
 pub session-requires-clause-kept : goal.session-requires-clause-kept
 session-requires-clause-kept c =
     subst (λ (v : Parts). IsKept v) (sym c.take_out-image.ensures.rest)
-    (exclusive_kept (parts_of c.args.self.now) (parts_of c.step.new.self) c.args.session c.args.guard c.in-Ok.reply
+    (exclusive_kept (parts_of c.args.self.now) (parts_of c.step_latch.new.self) c.args.session c.args.guard c.in-Ok.reply
     c.requires c.in-Ok.ensures.done (λ s st. sym (c.fits_both-fits.ensures s st) ∙ c.in_default.ensures.none.0)
     (λ s st. sym (c.asks_latch.ensures s st) ∙ c.in_default.ensures.none.1) c.in-Some-frame_of.frame
     (λ s st. ap (λ o. unwrap_or o 0) (sym c.in-Some-frame_of.is ∙ c.frame_of.ensures s st.core)))
@@ -37,7 +37,7 @@ session-requires-clause-kept c =
 pub session-requires-clause-acts : goal.session-requires-clause-acts
 session-requires-clause-acts c =
     subst (λ (v : Parts). ActsIn v c.args.session.worker) (sym c.take_out-image.ensures.rest)
-    (exclusive_acts (parts_of c.args.self.now) (parts_of c.step.new.self) c.args.session c.args.guard c.in-Ok.reply
+    (exclusive_acts (parts_of c.args.self.now) (parts_of c.step_latch.new.self) c.args.session c.args.guard c.in-Ok.reply
     c.requires c.in-Ok.ensures.done (λ s st. sym (c.fits_both-fits.ensures s st) ∙ c.in_default.ensures.none.0)
     (λ s st. sym (c.asks_latch.ensures s st) ∙ c.in_default.ensures.none.1) c.in-Some-frame_of.frame
     (λ s st. ap (λ o. unwrap_or o 0) (sym c.in-Some-frame_of.is ∙ c.frame_of.ensures s st.core)))
@@ -54,7 +54,7 @@ returns-in-Ok-clause-ok c =
       image = c.take_out-image.result;
     }))
     (sym c.take_out-image.ensures.rest)
-    (exclusive_latches (parts_of c.args.self.now) (parts_of c.step.new.self) c.args.session c.args.guard c.in-Ok.reply
+    (exclusive_latches (parts_of c.args.self.now) (parts_of c.step_latch.new.self) c.args.session c.args.guard c.in-Ok.reply
     c.requires c.in-Ok.ensures.done (λ s st. sym (c.fits_both-fits.ensures s st) ∙ c.in_default.ensures.none.0)
     (λ s st. sym (c.asks_latch.ensures s st) ∙ c.in_default.ensures.none.1) c.in-Some-frame_of.frame
     (λ s st. ap (λ o. unwrap_or o 0) (sym c.in-Some-frame_of.is ∙ c.frame_of.ensures s st.core))

@@ -6,24 +6,24 @@ use Rattle.pp_vault.proofs.store.Store.latch_shared.Goals as goal
 
 pub session-requires-clause-kept : goal.session-requires-clause-kept
 session-requires-clause-kept c =
-    latch_kept (parts_of c.args.self.now) (parts_of c.step.new.self) c.args.session c.args.guard c.in-Ok.reply
+    latch_kept (parts_of c.args.self.now) (parts_of c.step_latch.new.self) c.args.session c.args.guard c.in-Ok.reply
     c.requires c.in-Ok.ensures.done (λ s st. sym (c.fits_both-fits.ensures s st) ∙ c.in_default.ensures.none.0)
     (λ s st. sym (c.asks_latch.ensures s st) ∙ c.in_default.ensures.none.1)
 
 pub session-requires-clause-acts : goal.session-requires-clause-acts
 session-requires-clause-acts c =
-    latch_acts (parts_of c.args.self.now) (parts_of c.step.new.self) c.args.session c.args.guard c.in-Ok.reply
+    latch_acts (parts_of c.args.self.now) (parts_of c.step_latch.new.self) c.args.session c.args.guard c.in-Ok.reply
     c.requires c.in-Ok.ensures.done (λ s st. sym (c.fits_both-fits.ensures s st) ∙ c.in_default.ensures.none.0)
     (λ s st. sym (c.asks_latch.ensures s st) ∙ c.in_default.ensures.none.1)
 
 pub returns-in-Ok-clause-ok : goal.returns-in-Ok-clause-ok
 returns-in-Ok-clause-ok c =
-    latches_so (parts_of c.args.self.now) (parts_of c.step.new.self) c.args.session c.args.guard c.in-Ok.reply
+    latches_so (parts_of c.args.self.now) (parts_of c.step_latch.new.self) c.args.session c.args.guard c.in-Ok.reply
     c.requires c.in-Ok.ensures.done (λ s st. sym (c.fits_both-fits.ensures s st) ∙ c.in_default.ensures.none.0)
     (λ s st. sym (c.asks_latch.ensures s st) ∙ c.in_default.ensures.none.1) c.session.result c.mark_in-mark.result c.mark_in-mark.ensures c.session.ensures
 
 pub returns-in-Err-clause-err : goal.returns-in-Err-clause-err
 returns-in-Err-clause-err c =
-    latch_refuses (parts_of c.args.self.now) (parts_of c.step.new.self) mode.S c.args.session c.args.guard c.in-Err.refusal
+    latch_refuses (parts_of c.args.self.now) (parts_of c.step_latch.new.self) mode.S c.args.session c.args.guard c.in-Err.refusal
     c.in-Err.ensures.refused (λ s st. sym (c.fits_both-fits.ensures s st) ∙ c.in_default.ensures.none.0)
     (λ s st. sym (c.asks_latch.ensures s st) ∙ c.in_default.ensures.none.1)

@@ -14,28 +14,28 @@ unreachable-requires c =
 pub put-requires : goal.put-requires
 put-requires c =
     low (parts_of c.args.self.now) c.args.worker c.args.slot c.args.page c.args.image
-    (λ s st. sym (c.is_read_out.ensures s st) ∙ c.if-not-is_read_out.false) c.requires (parts_of c.step.new.self) c.args.ok
+    (λ s st. sym (c.is_read_out.ensures s st) ∙ c.if-not-is_read_out.false) c.requires (parts_of c.step_read_done.new.self) c.args.ok
     c.came_of-came.result c.came_of-came.ensures c.in-Ok.reply c.in-Ok.ensures.done c.in-Some.frame
     (λ s st. sym c.in-Some.is ∙ c.frame_of.ensures s st)
 
 pub session-requires-clause-kept : goal.session-requires-clause-kept
 session-requires-clause-kept c =
     loaded_kept (parts_of c.args.self.now) c.args.worker c.args.slot c.args.page c.args.image
-    (λ s st. sym (c.is_read_out.ensures s st) ∙ c.if-not-is_read_out.false) c.requires (parts_of c.step.new.self) c.args.ok
+    (λ s st. sym (c.is_read_out.ensures s st) ∙ c.if-not-is_read_out.false) c.requires (parts_of c.step_read_done.new.self) c.args.ok
     c.came_of-came.result c.came_of-came.ensures c.in-Ok.reply c.in-Ok.ensures.done c.in-Some.frame
     (λ s st. sym c.in-Some.is ∙ c.frame_of.ensures s st) (parts_of c.put.new.self) c.put.ensures c.in-Loaded.mark c.in-Loaded.is
 
 pub session-requires-clause-acts : goal.session-requires-clause-acts
 session-requires-clause-acts c =
     loaded_acts (parts_of c.args.self.now) c.args.worker c.args.slot c.args.page c.args.image
-    (λ s st. sym (c.is_read_out.ensures s st) ∙ c.if-not-is_read_out.false) c.requires (parts_of c.step.new.self) c.args.ok
+    (λ s st. sym (c.is_read_out.ensures s st) ∙ c.if-not-is_read_out.false) c.requires (parts_of c.step_read_done.new.self) c.args.ok
     c.came_of-came.result c.came_of-came.ensures c.in-Ok.reply c.in-Ok.ensures.done c.in-Some.frame
     (λ s st. sym c.in-Some.is ∙ c.frame_of.ensures s st) (parts_of c.put.new.self) c.put.ensures c.in-Loaded.mark c.in-Loaded.is
 
 pub returns-in-Loaded-clause-ok : goal.returns-in-Loaded-clause-ok
 returns-in-Loaded-clause-ok c =
     loaded_is (parts_of c.args.self.now) c.args.worker c.args.slot c.args.page c.args.image
-    (λ s st. sym (c.is_read_out.ensures s st) ∙ c.if-not-is_read_out.false) c.requires (parts_of c.step.new.self) c.args.ok
+    (λ s st. sym (c.is_read_out.ensures s st) ∙ c.if-not-is_read_out.false) c.requires (parts_of c.step_read_done.new.self) c.args.ok
     c.came_of-came.result c.came_of-came.ensures c.in-Ok.reply c.in-Ok.ensures.done c.in-Some.frame
     (λ s st. sym c.in-Some.is ∙ c.frame_of.ensures s st) (parts_of c.put.new.self) c.put.ensures c.in-Loaded.mark c.in-Loaded.is c.session.result
     c.session.ensures
@@ -43,6 +43,6 @@ returns-in-Loaded-clause-ok c =
 pub returns-in-Failed-clause-ok : goal.returns-in-Failed-clause-ok
 returns-in-Failed-clause-ok c =
     lost_is (parts_of c.args.self.now) c.args.worker c.args.slot c.args.page c.args.image
-    (λ s st. sym (c.is_read_out.ensures s st) ∙ c.if-not-is_read_out.false) c.requires (parts_of c.step.new.self) c.args.ok
+    (λ s st. sym (c.is_read_out.ensures s st) ∙ c.if-not-is_read_out.false) c.requires (parts_of c.step_read_done.new.self) c.args.ok
     c.came_of-came.result c.came_of-came.ensures c.in-Ok.reply c.in-Ok.ensures.done c.in-Some.frame
     (λ s st. sym c.in-Some.is ∙ c.frame_of.ensures s st) (parts_of c.put.new.self) c.put.ensures c.in-Failed.field-0 c.in-Failed.is

@@ -5,24 +5,24 @@ use Rattle.pp_vault.proofs.store.Store.unfix.Goals as goal
 
 pub session-requires-clause-kept : goal.session-requires-clause-kept
 session-requires-clause-kept c =
-    unfix_kept (parts_of c.args.self.now) (parts_of c.step.new.self) c.args.session c.args.guard c.in-Ok.field-0
+    unfix_kept (parts_of c.args.self.now) (parts_of c.step_unfix.new.self) c.args.session c.args.guard c.in-Ok.field-0
     c.requires c.in-Ok.ensures.done (λ s st. sym (c.fits_both-fits.ensures s st) ∙ c.in_default.ensures.none.0)
     (λ s st. sym (c.asks_unfix.ensures s st) ∙ c.in_default.ensures.none.1)
 
 pub session-requires-clause-acts : goal.session-requires-clause-acts
 session-requires-clause-acts c =
-    unfix_acts (parts_of c.args.self.now) (parts_of c.step.new.self) c.args.session c.args.guard c.in-Ok.field-0
+    unfix_acts (parts_of c.args.self.now) (parts_of c.step_unfix.new.self) c.args.session c.args.guard c.in-Ok.field-0
     c.requires c.in-Ok.ensures.done (λ s st. sym (c.fits_both-fits.ensures s st) ∙ c.in_default.ensures.none.0)
     (λ s st. sym (c.asks_unfix.ensures s st) ∙ c.in_default.ensures.none.1)
 
 pub returns-in-Ok-clause-ok : goal.returns-in-Ok-clause-ok
 returns-in-Ok-clause-ok c =
-    unfixes (parts_of c.args.self.now) (parts_of c.step.new.self) c.args.session c.args.guard c.in-Ok.field-0
+    unfixes (parts_of c.args.self.now) (parts_of c.step_unfix.new.self) c.args.session c.args.guard c.in-Ok.field-0
     c.requires c.in-Ok.ensures.done (λ s st. sym (c.fits_both-fits.ensures s st) ∙ c.in_default.ensures.none.0)
     (λ s st. sym (c.asks_unfix.ensures s st) ∙ c.in_default.ensures.none.1) c.session.result c.session.ensures
 
 pub returns-in-Ok-clause-empty : goal.returns-in-Ok-clause-empty
 returns-in-Ok-clause-empty c =
-    unfix_empty (parts_of c.args.self.now) (parts_of c.step.new.self) c.args.session c.args.guard c.in-Ok.field-0
+    unfix_empty (parts_of c.args.self.now) (parts_of c.step_unfix.new.self) c.args.session c.args.guard c.in-Ok.field-0
     c.requires c.in-Ok.ensures.done (λ s st. sym (c.fits_both-fits.ensures s st) ∙ c.in_default.ensures.none.0)
     (λ s st. sym (c.asks_unfix.ensures s st) ∙ c.in_default.ensures.none.1)

@@ -15,14 +15,14 @@ unreachable-requires c =
 
 pub put-requires : goal.put-requires
 put-requires c =
-    exclusive_low (parts_of c.args.self.now) (parts_of c.step.new.self) c.args.session c.args.guard c.in-Ok.reply
+    exclusive_low (parts_of c.args.self.now) (parts_of c.step_unlatch.new.self) c.args.session c.args.guard c.in-Ok.reply
     c.requires c.in-Ok.ensures.done (λ s st. sym (c.fits_writer-fits.ensures s st) ∙ c.in_default.ensures.none.0)
     (λ s st. sym (c.asks_unlatch.ensures s st) ∙ c.in_default.ensures.none.1) c.in-Some-frame_of.frame
     (λ s st. ap (λ o. unwrap_or o 0) (sym c.in-Some-frame_of.is ∙ c.frame_of.ensures s st.core))
 
 pub session-requires-clause-kept : goal.session-requires-clause-kept
 session-requires-clause-kept c =
-    exclusive_goes_kept (parts_of c.args.self.now) (parts_of c.step.new.self) c.args.session c.args.guard c.in-Ok.reply
+    exclusive_goes_kept (parts_of c.args.self.now) (parts_of c.step_unlatch.new.self) c.args.session c.args.guard c.in-Ok.reply
     c.requires c.in-Ok.ensures.done (λ s st. sym (c.fits_writer-fits.ensures s st) ∙ c.in_default.ensures.none.0)
     (λ s st. sym (c.asks_unlatch.ensures s st) ∙ c.in_default.ensures.none.1) c.in-Some-frame_of.frame
     (λ s st. ap (λ o. unwrap_or o 0) (sym c.in-Some-frame_of.is ∙ c.frame_of.ensures s st.core))
@@ -33,7 +33,7 @@ session-requires-clause-kept c =
 
 pub session-requires-clause-acts : goal.session-requires-clause-acts
 session-requires-clause-acts c =
-    exclusive_goes_acts (parts_of c.args.self.now) (parts_of c.step.new.self) c.args.session c.args.guard c.in-Ok.reply
+    exclusive_goes_acts (parts_of c.args.self.now) (parts_of c.step_unlatch.new.self) c.args.session c.args.guard c.in-Ok.reply
     c.requires c.in-Ok.ensures.done (λ s st. sym (c.fits_writer-fits.ensures s st) ∙ c.in_default.ensures.none.0)
     (λ s st. sym (c.asks_unlatch.ensures s st) ∙ c.in_default.ensures.none.1) c.in-Some-frame_of.frame
     (λ s st. ap (λ o. unwrap_or o 0) (sym c.in-Some-frame_of.is ∙ c.frame_of.ensures s st.core))
@@ -44,7 +44,7 @@ session-requires-clause-acts c =
 
 pub returns-in-Ok-clause-ok : goal.returns-in-Ok-clause-ok
 returns-in-Ok-clause-ok c =
-    exclusive_unlatches (parts_of c.args.self.now) (parts_of c.step.new.self) c.args.session c.args.guard c.in-Ok.reply
+    exclusive_unlatches (parts_of c.args.self.now) (parts_of c.step_unlatch.new.self) c.args.session c.args.guard c.in-Ok.reply
     c.requires c.in-Ok.ensures.done (λ s st. sym (c.fits_writer-fits.ensures s st) ∙ c.in_default.ensures.none.0)
     (λ s st. sym (c.asks_unlatch.ensures s st) ∙ c.in_default.ensures.none.1) c.in-Some-frame_of.frame
     (λ s st. ap (λ o. unwrap_or o 0) (sym c.in-Some-frame_of.is ∙ c.frame_of.ensures s st.core))
