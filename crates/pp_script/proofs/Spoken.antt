@@ -6,13 +6,10 @@ use Rattle.std.specs.Prelude.{option_and_then}
 use Rattle.std.specs.List.{list_all, AllByRecursion}
 use Rattle.std.specs.Fmt.{decimal}
 use Rattle.std.specs.Str.{bytes_eq}
-use Rattle.std.specs.Str.Parse.{AllDigits}
 use Rattle.std.proofs.lemmas.Bool.{ltb-true, lt-ltb}
 use Rattle.std.proofs.lemmas.Bool.Decides.{nat_tests}
-use Rattle.std.proofs.lemmas.Fmt.{decimal_is_IsNumeral}
 use Rattle.std.proofs.lemmas.List.Splits.{join_with_byte-slice_split}
 use Rattle.std.proofs.lemmas.Slice.Eq.{bytes_eq-Decides}
-use Rattle.std.proofs.lemmas.Str.Parse.{numerals_by_value, tells_digits, not_in_digits}
 use Rattle.pp_device.specs.declared.failing.Trouble.TheVariants.{Fail, Lie}
 use Rattle.pp_script.specs.declared.cue.Cue.TheVariants.{Take, Fix, Device, Unfix, Latch, Unlatch, Choose, Unwind}
 use Rattle.pp_script.specs.declared.cue.Cue.TheVariants.{Finish, Flush, FlushDevice, Write, Look}
@@ -20,11 +17,12 @@ use Rattle.pp_script.specs.declared.line.Line.{Line}
 use Rattle.pp_script.specs.declared.line.Line.TheVariants.{Blank, Cued, Planted}
 use Rattle.pp_script.specs.Cues.{with_spaces}
 use Rattle.pp_script.specs.Lines.{words, said_words, FitsLine, Says}
-use Rattle.pp_script.specs.Reading.{number_in, small_number, alone, with_one, with_two, with_three, after_two}
+use Rattle.pp_lines.specs.Numbers.{number_in, small_number}
+use Rattle.pp_script.specs.Reading.{alone, with_one, with_two, with_three, after_two}
 use Rattle.pp_script.specs.Reading.{after_one}
 use Rattle.pp_script.specs.Reading.{line_in}
-use Rattle.pp_script.proofs.Cuts.{parts_one, parts_more}
-use Rattle.pp_script.proofs.Numbers.{number_again, number_found, small_again, small_found, then_some}
+use Rattle.pp_lines.proofs.Cutting.{parts_one, parts_more}
+use Rattle.pp_lines.proofs.Printed.{number_again, number_found, small_again, small_found, then_some, digits}
 
 -- ---- words have no space
 
@@ -41,11 +39,6 @@ plain : (word : List ℕ) → has_no_space word ≡ true → (i : ℕ) → i < l
 plain [] e i h = absurd (omega arith)
 plain (b ∷ bs) e zero h = (plain_head b _ e).0
 plain (b ∷ bs) e (suc i) h = plain bs (plain_head b _ e).1 i (omega arith)
-
-digits : (n : ℕ) → n < 2 ^ 64 → HasNoSpace (decimal n)
-digits n h =
-    not_in_digits (numerals_by_value (AllDigits 10) tells_digits) (decimal n) 32 (decimal_is_IsNumeral n h).0.1
-    (λ (a, b). omega arith)
 
 -- words with spaces between them are cut into these words
 spaced : (word : List ℕ) (more : List (List ℕ)) → AllByRecursion HasNoSpace (word ∷ more)

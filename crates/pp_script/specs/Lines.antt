@@ -1,13 +1,9 @@
 -- The lines of a text, and what a line says.
-use Rattle.std.specs.Prelude.{◌≡◌, ℕ, ◌==◌, List, []}
-use Rattle.std.specs.List.{slice_split}
+use Rattle.std.specs.Prelude.{◌≡◌, ℕ, List, []}
+use Rattle.pp_lines.specs.Parts.{parts}
 use Rattle.pp_script.specs.declared.line.Line.{Line}
 use Rattle.pp_script.specs.declared.line.Line.TheVariants.{Blank, Cued, Planted}
 use Rattle.pp_script.specs.Cues.{with_spaces, cue_words, FitsCue, trouble_words, FitsTrouble}
-
--- The parts of a text, which is cut at each such byte. There is one part more than cuts.
-abbrev pub parts : ℕ → List ℕ → List (List ℕ)
-parts separator text = slice_split (λ b. b == separator) text
 
 -- The lines of a text: it is cut at line feeds.
 abbrev pub lines : List ℕ → List (List ℕ)

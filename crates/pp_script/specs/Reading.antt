@@ -1,42 +1,19 @@
 -- Reading a script, in steps.
 use Rattle.std.specs.Prelude.{ℕ, ◌+◌, ◌^◌, ◌&&◌, nat_lt, List, [], ◌∷◌, ◌++◌, Option, Some, None, Result, Ok}
 use Rattle.std.specs.Prelude.{if◌then◌else◌, option_and_then, codes}
-use Rattle.std.specs.Borrow.{Bor}
 use Rattle.std.specs.Option.{ok_or}
 use Rattle.std.specs.Str.{bytes_eq}
-use Rattle.std.specs.Str.Parse.{digits_value}
-use Rattle.std.specs.Fmt.{decimal}
 use Rattle.pp_device.specs.declared.failing.Trouble.TheVariants.{Fail, Lie}
 use Rattle.pp_text.specs.Steps.{◌>>=◌}
+use Rattle.pp_lines.specs.Numbers.{number_in, small_number}
 use Rattle.pp_script.specs.declared.cue.Cue.TheVariants.{Take, Fix, Device, Unfix, Latch, Unlatch, Choose, Unwind}
 use Rattle.pp_script.specs.declared.cue.Cue.TheVariants.{Finish, Flush, FlushDevice, Write, Look}
 use Rattle.pp_script.specs.declared.line.Line.{Line}
 use Rattle.pp_script.specs.declared.line.Line.TheVariants.{Blank, Cued, Planted}
 use Rattle.pp_script.specs.declared.error.ScriptError.{ScriptError}
 use Rattle.pp_script.specs.declared.error.ScriptError.TheVariants.{NotACue}
-use Rattle.pp_script.specs.Lines.{parts, lines, words}
+use Rattle.pp_script.specs.Lines.{lines, words}
 use Rattle.pp_script.specs.Scripts.{Scenario}
-
--- ---- parts and numbers
-
--- The parts of what is left of a text, if anything is left.
-abbrev pub later_parts : ℕ → Option (Bor (List ℕ)) → List (List ℕ)
-later_parts separator None = []
-later_parts separator (Some rest) = parts separator rest.now
-
--- The number of 64 bits that prints as the word.
-unfoldable pub number_in : List ℕ → Option ℕ
-number_in word =
-    if bytes_eq (decimal (digits_value 10 word)) word && nat_lt (digits_value 10 word) (2 ^ 64)
-    then Some (digits_value 10 word) else None
-
--- The number, if it has 32 bits.
-abbrev pub of_32_bits : ℕ → Option ℕ
-of_32_bits n = if nat_lt n (2 ^ 32) then Some n else None
-
--- The number of 32 bits that prints as the word.
-abbrev pub small_number : List ℕ → Option ℕ
-small_number word = option_and_then of_32_bits (number_in word)
 
 -- ---- lines
 

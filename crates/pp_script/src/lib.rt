@@ -14,8 +14,6 @@
 mod cue;
 mod error;
 mod line;
-mod number;
-mod parts;
 mod script;
 
 pub use cue::Cue;

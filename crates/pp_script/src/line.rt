@@ -6,9 +6,8 @@ ghost use Rattle.pp_script.specs.Reading.{alone, with_one, with_two, with_three}
 ghost use Rattle.pp_script.specs.Reading.{after_two, after_one, after_word, line_in};
 
 use crate::cue::Cue;
-use crate::number::{number, small_number};
-use crate::parts::cut;
 use pp_device::Trouble;
+use pp_lines::{cut, number, small_number};
 
 /// What a line says.
 #[derive(Clone, Copy)]

@@ -12,8 +12,8 @@ ghost use Rattle.pp_script.specs.Refusals.{is_script_memory};
 use crate::cue::Cue;
 use crate::error::ScriptError;
 use crate::line::{Line, line_in};
-use crate::parts::cut;
 use pp_device::Trouble;
+use pp_lines::cut;
 use std::alloc::Global;
 use std::marker::Model;
 

@@ -1,7 +1,7 @@
 //! Numbers, exactly as they are printed.
 
 ghost use Rattle.std.specs.Prelude.{◌≡◌, ◌≢◌, IsTrue, ◌↔◌, length, slice_index};
-ghost use Rattle.pp_script.specs.Reading.{number_in, small_number};
+ghost use Rattle.pp_lines.specs.Numbers.{number_in, small_number};
 
 /// Whether the word has no sign, and no zero before other digits.
 fn is_plain(word: &str) -> bool
@@ -13,7 +13,7 @@ fn is_plain(word: &str) -> bool
 }
 
 /// The number that prints as this word, if it has 64 bits.
-pub(crate) fn number(word: &str) -> Option<u64>
+pub fn number(word: &str) -> Option<u64>
     ensures { result ≡ number_in word.now }
 {
     if is_plain(word) {
@@ -24,7 +24,7 @@ pub(crate) fn number(word: &str) -> Option<u64>
 }
 
 /// The number that prints as this word, if it has 32 bits.
-pub(crate) fn small_number(word: &str) -> Option<u32>
+pub fn small_number(word: &str) -> Option<u32>
     ensures { result ≡ small_number word.now }
 {
     u32::try_from(number(word)?).ok()

@@ -12,7 +12,8 @@ use Rattle.std.proofs.lemmas.Fmt.{decimal_is_IsNumeral, decimal_digit, first_dec
 use Rattle.std.proofs.lemmas.Fmt.{parse-decimal}
 use Rattle.std.proofs.lemmas.Slice.Eq.{bytes_eq-Decides}
 use Rattle.std.proofs.lemmas.Str.Parse.{numerals_by_value, tells_digits, IsNumeralModel, without_leading_plus_none}
-use Rattle.pp_script.specs.Reading.{number_in, of_32_bits, small_number}
+use Rattle.std.proofs.lemmas.Str.Parse.{not_in_digits}
+use Rattle.pp_lines.specs.Numbers.{number_in, of_32_bits, small_number}
 
 both : (a b : Bool) → a ≡ true → b ≡ true → (a && b) ≡ true
 both a b p q = rw (p, q) refl
@@ -108,3 +109,9 @@ small_found word n e =
     let (m, f, g) = then_some (number_in word) of_32_bits n e in
     let (is, low) = limited m n g in
     (subst (λ k. word ≡ decimal k) is (number_found word m f).0, subst (λ k. k < 2 ^ 32) is low)
+
+-- ---- digits
+
+-- A number that is printed has no space.
+pub digits : (n : ℕ) → n < 2 ^ 64 → (i : ℕ) → i < length (decimal n) → get_or (decimal n) i 0 ≢ 32
+digits n h = not_in_digits own (decimal n) 32 (decimal_is_IsNumeral n h).0.1 (λ (a, b). omega arith)

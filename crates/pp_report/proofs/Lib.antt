@@ -1,0 +1,4 @@
+pub mod Growing
+pub mod Sides
+pub mod Plain
+pub mod Spoken

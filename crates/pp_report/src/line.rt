@@ -1,0 +1,106 @@
+//! Lines of a journal: what was asked of the pool, and what it told.
+
+ghost use Rattle.std.specs.Prelude.{◌≡◌, Some, IfSome};
+
+use crate::reading::line_in;
+use pp_model::{Event, Move, Reply};
+use std::fmt;
+
+/// What was asked.
+#[derive(Clone, Copy, Debug, PartialEq, Eq)]
+pub enum Asked {
+    /// That the plan of this number is taken in. Plans are numbered from 0, in the order in which they are submitted.
+    Submit { plan: u32 },
+    /// A move.
+    Do(Move),
+}
+
+impl fmt::Display for Asked {
+    ghost use Rattle.pp_report.specs.Lines.{asked_words};
+
+    ghost output = { λ asked. Some (asked_words asked) };
+
+    fn fmt<W: fmt::Write>(&self, f: &mut fmt::Formatter<W>) -> fmt::Result {
+        match self {
+            Asked::Submit { plan } => write!(f, "submit {plan}"),
+            Asked::Do(did) => write!(f, "{did}"),
+        }
+    }
+}
+
+/// What was told.
+#[derive(Clone, Copy, Debug, PartialEq, Eq)]
+pub enum Told {
+    /// The plan waits behind the others.
+    Queued,
+    /// The reply to a move.
+    Answer(Reply),
+}
+
+impl fmt::Display for Told {
+    ghost use Rattle.pp_report.specs.Lines.{told_words};
+
+    ghost output = { λ told. Some (told_words told) };
+
+    fn fmt<W: fmt::Write>(&self, f: &mut fmt::Formatter<W>) -> fmt::Result {
+        match self {
+            Told::Queued => f.write_str("queued"),
+            Told::Answer(reply) => write!(f, "{reply}"),
+        }
+    }
+}
+
+/// A line of a journal, as in `fix 0 16 = mustread 1`. The two sides need not go together.
+#[derive(Clone, Copy, Debug, PartialEq, Eq)]
+pub struct Line {
+    pub asked: Asked,
+    pub told: Told,
+}
+
+impl fmt::Display for Line {
+    ghost use Rattle.pp_report.specs.Lines.{line_words};
+
+    ghost output = { λ line. Some (line_words line) };
+
+    fn fmt<W: fmt::Write>(&self, f: &mut fmt::Formatter<W>) -> fmt::Result {
+        write!(f, "{} = {}", self.asked, self.told)
+    }
+}
+
+impl Line {
+    ghost use Rattle.pp_report.specs.declared.line.Line.{Line};
+    ghost use Rattle.pp_report.specs.Lines.{line_of, Says};
+    ghost use Rattle.pp_report.specs.Reading.{line_in};
+
+    /// Reads a line, without its line feed.
+    ///
+    /// None where the text isn't exactly the words of something asked, an equals sign and something told: other words,
+    /// numbers out of their ranges or with leading zeros, and refusals are no line. Whether the two go together isn't
+    /// asked.
+    pub fn from_text(text: &str) -> Option<Line>
+        // What is read is spelled so.
+        ensures found { IfSome result (Says text.now) }
+        // What is spelled so is read.
+        ensures only { (line : Line) → Says text.now line → result ≡ Some line }
+        // The same as a function of the text.
+        ensures exact { result ≡ line_in text.now }
+    {
+        line_in(text)
+    }
+
+    /// The line of an event.
+    pub fn of(event: Event) -> Line
+        ensures { result ≡ line_of event }
+    {
+        match event {
+            Event::Submit { plan } => Line {
+                asked: Asked::Submit { plan },
+                told: Told::Queued,
+            },
+            Event::Step { did, reply } => Line {
+                asked: Asked::Do(did),
+                told: Told::Answer(reply),
+            },
+        }
+    }
+}
