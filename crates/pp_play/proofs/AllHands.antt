@@ -4,7 +4,7 @@ use Rattle.std.proofs.Common.{refl, sym, ap, subst, arith}
 use Rattle.std.specs.Prelude.{slice_set, nat_lt, unwrap_or, is_none}
 use Rattle.std.proofs.lemmas.Bool.{false≢true}
 use Rattle.std.proofs.lemmas.Bool.Decides.{nat_tests}
-use Rattle.std.proofs.lemmas.List.{get_or_past, get_or-set_same, get_or-set_other, length-set}
+use Rattle.std.proofs.lemmas.List.{get_or_past, get_or-set_same, get_or-set_other, length-set, set-set, set-get_or}
 use Rattle.std.proofs.lemmas.Option.{slice_get_past}
 use Rattle.pp_model.specs.Pool.{State}
 use Rattle.pp_model.specs.Moves.{seat_of}
@@ -12,6 +12,7 @@ use Rattle.pp_model.proofs.Alone.{settings_stay}
 use Rattle.pp_model.proofs.BoundSteps.{seats_are_all}
 use Rattle.pp_vault.specs.declared.guards.Guard.{Guard}
 use Rattle.pp_vault.specs.declared.stage.Hand.{Hand}
+use Rattle.pp_vault.specs.declared.stage.Stage.{Stage}
 use Rattle.pp_vault.specs.declared.hands.Flushing.{Flushing}
 use Rattle.pp_vault.specs.declared.hands.Hands.{Hands}
 use Rattle.pp_vault.specs.Parts.{Parts}
@@ -24,8 +25,9 @@ use Rattle.pp_script.specs.declared.cue.Cue.TheVariants.{Write, Look}
 use Rattle.pp_play.specs.declared.line.Line.{Line}
 use Rattle.pp_play.specs.declared.line.Line.TheVariants.{Did, Refused, Wrote, Looked, NoLatch}
 use Rattle.pp_play.specs.Plays.{is_write, is_look, Tells, ComesTo}
-use Rattle.pp_play.specs.Exact.{IsLineOf, looker, guards_by, guards_of, Plays}
-use Rattle.pp_play.specs.Doing.{cue_worker, HandPlays, IsLineWithout}
+use Rattle.pp_play.specs.Exact.{IsLineOf, looker, guards_by, guards_of, hand_with, hands_with, Leaves, Plays}
+use Rattle.pp_play.specs.Doing.{cue_worker, LeavesHand, HandPlays, IsLineWithout}
+use Rattle.pp_play.specs.Guarding.{hand_of}
 use Rattle.pp_play.proofs.Asked.{same}
 
 -- ---- lines that tell of no guard
@@ -40,9 +42,35 @@ other_line v s a b c d cue x y Wrote h = absurd h
 other_line v s a b c d cue x y (Looked byte) h = absurd h
 other_line v s a b c d cue x y NoLatch h = absurd h
 
+-- ---- hands that are as they were
+
+abbrev both : List (Option Hand) → Option Flushing → Hands
+both workers flushing = record { workers = workers; flushing = flushing }
+
+pub same_hands : (a b : Hands) → a.workers ≡ b.workers → a.flushing ≡ b.flushing → a ≡ b
+same_hands a b workers flushing =
+    ap (λ ws. both ws a.flushing) workers ∙ ap (λ f. both b.workers f) flushing
+
+same_guards : (o : Option Hand) → hand_with (guards_by o) o ≡ o
+same_guards None = refl
+same_guards (Some hand) = refl
+
+own_guards : (hands : Hands) (w : ℕ) → hands_with hands w (guards_of hands w) ≡ hands
+own_guards hands w =
+    ap (λ ws. both ws hands.flushing)
+    (ap (slice_set hands.workers w) (same_guards (placed hands.workers w)) ∙ set-get_or hands.workers w None)
+
+-- Where nothing is done, all is as it was.
+untouched : (v : Parts) (hands : Hands) (cue : Cue) (line : Line) → Leaves v hands cue line v hands
+untouched v hands cue (Did m r) = tt
+untouched v hands cue (Refused asked why) = (refl, refl)
+untouched v hands cue Wrote = (refl, sym (own_guards hands (looker cue)))
+untouched v hands cue (Looked byte) = (refl, refl)
+untouched v hands cue NoLatch = (refl, refl)
+
 -- ---- where a worker has no hand
 
-past : {T : Type 0} (places : List (Option T)) (w : ℕ) (x : T) (b : Bool) → nat_lt w (length places) ≡ b
+pub past : {T : Type 0} (places : List (Option T)) (w : ℕ) (x : T) (b : Bool) → nat_lt w (length places) ≡ b
     → placed places w ≡ Some x → w < length places
 past places w x true at e = grind (arith, nat_tests)
 past places w x false at e =
@@ -69,17 +97,9 @@ module _ (v : Parts) (hands : Hands) (w : ℕ) (none : placed hands.workers w �
         comes = λ s st. (s, tells s, st);
         exact = λ s st.
             without v s w (guards_of hands (looker cue)) of (no_seat_by s st (nat_lt w (length s.seats)) refl);
+        leaves = untouched v hands cue line;
         fit = fits;
       }
-
--- ---- hands that are as they were
-
-abbrev both : List (Option Hand) → Option Flushing → Hands
-both workers flushing = record { workers = workers; flushing = flushing }
-
-pub same_hands : (a b : Hands) → a.workers ≡ b.workers → a.flushing ≡ b.flushing → a ≡ b
-same_hands a b workers flushing =
-    ap (λ ws. both ws a.flushing) workers ∙ ap (λ f. both b.workers f) flushing
 
 pub not_there : (o : Option Hand) → ((hand : Hand) → o ≡ Some hand → ⊥) → o ≡ None
 not_there None apart = refl
@@ -190,7 +210,48 @@ module _ (old new : Parts) (kept : IsKept old) (hands after : Hands) (w : ℕ) (
         other_line old s hand.guards left.guards (guards_of hands (looker q)) (guards_of after (looker q)) q refl refl
         line h
 
+  -- ---- what stays of them
+
+  kept_hands : left ≡ hand → after ≡ hands
+  kept_hands same =
+      same_hands after hands
+      (joined ∙ set-set hands.workers w None (Some left)
+      ∙ ap (λ (h : Hand). slice_set hands.workers w (Some h)) same ∙ ap (slice_set hands.workers w) (sym there)
+      ∙ set-get_or hands.workers w None)
+      flushing
+
+  changed_hands : left.stage ≡ hand.stage → after ≡ hands_with hands w (guards_of after w)
+  changed_hands stage =
+      let guards : left.guards ≡ guards_of after w = sym (ap guards_by mine) in
+      let changed : left ≡ hand_of hand.stage (guards_of after w) =
+      ap (λ (x : Stage). hand_of x left.guards) stage ∙ ap (hand_of hand.stage) guards in
+      same_hands after (hands_with hands w (guards_of after w))
+      (joined ∙ set-set hands.workers w None (Some left)
+      ∙ ap (λ (h : Hand). slice_set hands.workers w (Some h)) changed
+      ∙ ap (λ o. slice_set hands.workers w (hand_with (guards_of after w) o)) (sym there))
+      flushing
+
+  wrote_for : (q : Cue) → cue_worker q ≡ Some w → IsLineOf old kept.state hand.guards left.guards q Wrote
+      → left.stage ≡ hand.stage → after ≡ hands_with hands (looker q) (guards_of after (looker q))
+  wrote_for (Write v slot byte) is h stage =
+      subst (λ u. after ≡ hands_with hands u (guards_of after u)) (sym (same v w is)) (changed_hands stage)
+  wrote_for (Look v slot) is h stage = absurd h
+  wrote_for q is h stage = absurd h
+
+  leaves_for : (q : Cue) (l : Line) → cue_worker q ≡ Some w → IsLineOf old kept.state hand.guards left.guards q l
+      → LeavesHand old hand l new left → Leaves old hands q l new after
+  leaves_for q (Did m r) is h x = tt
+  leaves_for q (Refused asked why) is h x = (x.0, kept_hands x.1)
+  leaves_for q Wrote is h x = (x.0, wrote_for q is h x.1)
+  leaves_for q (Looked byte) is h x = (x.0, kept_hands x.1)
+  leaves_for q NoLatch is h x = (x.0, kept_hands x.1)
+
   -- All hands fit again, and the line is exact.
   pub joined_plays : Plays old hands cue line new after
   joined_plays =
-      record { comes = comes; exact = λ s a. exact_for s cue of (plays.exact s a); fit = fit_after }
+      record {
+        comes = comes;
+        exact = λ s a. exact_for s cue of (plays.exact s a);
+        leaves = leaves_for cue line of (plays.exact kept.state kept.stands) plays.leaves;
+        fit = fit_after;
+      }

@@ -35,9 +35,9 @@ module _ (old new : Parts) (kept : IsKept old) (v w : ℕ) (e : v ≡ w) where
   end_done does =
       is_done old new (end_call v) (cue.Finish w) does (λ s. asks_if _ (cue.Finish w) _ (ap move.Finish e)) kept
 
-  pub fix_done : (page : ℕ) → Does old (fix_call v page) new → IsDone old (cue.Fix w page) new
-  fix_done p does =
-      is_done old new (fix_call v p) (cue.Fix w p) does (λ s. asks_if _ (cue.Fix w p) _ (ap (λ x. move.Fix x p) e)) kept
+  pub fix_done : (slot page : ℕ) → Does old (fix_call v slot page) new → IsDone old (cue.Fix w page) new
+  fix_done k p does =
+      is_done old new (fix_call v k p) (cue.Fix w p) does (λ s. asks_if _ (cue.Fix w p) _ (ap (λ x. move.Fix x p) e)) kept
 
   pub unfix_done : (of slot page : ℕ) → Does old (unfix_call v of slot page) new → IsDone old (cue.Unfix w) new
   unfix_done of k p does =

@@ -1,6 +1,6 @@
 -- What came back from a device, where the token of its worker fits.
-use Rattle.std.proofs.Common.{◌≡◌, ◌∙◌, ℕ, Option, List, length, sym, ap, subst}
-use Rattle.std.specs.Prelude.{is_some, is_ok}
+use Rattle.std.proofs.Common.{◌≡◌, ◌∙◌, ℕ, true, Option, List, length, refl, sym, ap, subst}
+use Rattle.std.specs.Prelude.{IsSome, is_some, is_ok}
 use Rattle.std.proofs.lemmas.Bool.{false≢true}
 use Rattle.pp_model.specs.Pool.{State}
 use Rattle.pp_device.specs.Answers.{Answer}
@@ -18,10 +18,15 @@ use Rattle.pp_vault.specs.Answers.{answer_call}
 use Rattle.pp_vault.specs.Carrying.{CarriesOut}
 use Rattle.pp_vault.specs.Hands.{IsAway}
 use Rattle.pp_vault.specs.HandLaws.{FitsIn}
-use Rattle.pp_script.specs.declared.cue.Cue.{Cue}
+use Rattle.pp_core.specs.Queries.{errand_of}
+use Rattle.pp_script.specs.declared.cue.Cue.TheVariants as cue
 use Rattle.pp_play.specs.declared.line.Line.{Line}
+use Rattle.pp_play.specs.declared.line.Line.TheVariants.{Did, Refused, Wrote, Looked, NoLatch}
 use Rattle.pp_play.specs.Doing.{HandPlays}
+use Rattle.pp_play.specs.Exact.{unless_out, IsLineOf}
 use Rattle.pp_play.proofs.Errands.{answer_taken}
+use Rattle.pp_play.proofs.Leaves.{is_done, hand_done}
+use Rattle.pp_play.proofs.Unfit as unfit
 
 -- The hand with what a device gave back.
 abbrev pub back_hand : Returned → List (Option Guard) → Hand
@@ -66,9 +71,29 @@ back_fits old w hand returned fits away s st =
     let f = fits s st in
     record { stage = away s st; places = f.places; guards = f.guards }
 
+-- Where an errand is out, what the device answers is done.
+device_done : (v : Parts) (s : State) (was now : List (Option Guard)) (w : ℕ) (line : Line) → IsSome (errand_of s w)
+    → IsLineOf v s was now (cue.Device w) line → is_done line ≡ true
+device_done v s was now w (Did m reply) out line = refl
+device_done v s was now w (Refused asked why) out line =
+    absurd (false≢true (ap is_some (ap unless_out (sym out) ∙ line)))
+device_done v s was now w Wrote out line = absurd line
+device_done v s was now w (Looked byte) out line = absurd line
+device_done v s was now w NoLatch out line = absurd line
+
 -- Which token it was makes no difference to what is played.
-pub back_plays : (old : Parts) (w : ℕ) (hand : Hand) (returned : Returned) (cue : Cue) (line : Line) (new : Parts)
-    (left : Hand) → HandPlays old w (back_hand returned hand.guards) cue line new left
-    → HandPlays old w hand cue line new left
-back_plays old w hand returned cue line new left plays =
-    record { exact = plays.exact; fit = plays.fit; others = plays.others }
+pub back_plays : (old : Parts) (w : ℕ) (hand : Hand) (returned : Returned) (line : Line) (new : Parts) (left : Hand)
+    → IsKept old → FitsIn old w (back_hand returned hand.guards)
+    → HandPlays old w (back_hand returned hand.guards) (cue.Device w) line new left
+    → HandPlays old w hand (cue.Device w) line new left
+back_plays old w hand returned line new left kept fits plays =
+    let s = kept.state in
+    let out = unfit.away old.page_bytes s w returned.duty returned.image (fits s kept.stands).stage in
+    record {
+      exact = plays.exact;
+      leaves =
+          hand_done old new hand left line
+          (device_done old s hand.guards left.guards w line out (plays.exact s kept.stands));
+      fit = plays.fit;
+      others = plays.others;
+    }

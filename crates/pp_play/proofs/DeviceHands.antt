@@ -39,9 +39,10 @@ use Rattle.pp_vault.specs.Holding.{placed}
 use Rattle.pp_script.specs.declared.cue.Cue.TheVariants as cue
 use Rattle.pp_play.specs.declared.line.Line.{Line}
 use Rattle.pp_play.specs.declared.line.Line.TheVariants.{Did}
-use Rattle.pp_play.specs.Doing.{LeavesOthers, HandPlays}
+use Rattle.pp_play.specs.Doing.{LeavesOthers, LeavesHand, HandPlays}
 use Rattle.pp_play.specs.Exact.{IsLineOf, unless_out}
 use Rattle.pp_play.proofs.Asked.{same, read_done, write_done}
+use Rattle.pp_play.proofs.Leaves.{did_leaves}
 use Rattle.pp_play.proofs.Slots.{low}
 use Rattle.pp_play.proofs.Others.{StillFits, asked_so, leaves_others, place_set, did_line}
 
@@ -91,6 +92,11 @@ module _ (still : StillFits) (old new : Parts) (kept : IsKept old) (w slot page 
       did_line old new (cue.Device w) line (read_done old new kept w w refl old.page_bytes slot page image ok does) tells
       s st hand.guards now (ap (λ o. unless_out (is_some o)) (out s st))
 
+  read_leaves : (left : Hand) → LeavesHand old hand line new left
+  read_leaves left =
+      did_leaves old new line (read_done old new kept w w refl old.page_bytes slot page image ok does).some tells hand
+      left
+
   read_others : LeavesOthers old w new
   read_others =
       leaves_others still old new (read_call old.page_bytes w slot page image ok) w kept does
@@ -127,7 +133,12 @@ module _ (still : StillFits) (old new : Parts) (kept : IsKept old) (w slot page 
       → guards ≡ slice_set hand.guards g.slot (Some (Pin g)) → IsRead old w slot page image ok x g new
       → HandPlays old w hand (cue.Device w) line new (record { stage = In x; guards = guards })
   got_plays x g guards is r =
-      record { exact = read_line guards; fit = got_fits x g guards is r; others = read_others }
+      record {
+        exact = read_line guards;
+        leaves = read_leaves (record { stage = In x; guards = guards });
+        fit = got_fits x g guards is r;
+        others = read_others;
+      }
 
   -- It didn't.
   unread_fits : (leaver : Leaver) → IsUnread old w page image ok leaver new
@@ -144,7 +155,12 @@ module _ (still : StillFits) (old new : Parts) (kept : IsKept old) (w slot page 
   pub unread_plays : (leaver : Leaver) → IsUnread old w page image ok leaver new
       → HandPlays old w hand (cue.Device w) line new (record { stage = Leaving leaver; guards = hand.guards })
   unread_plays leaver r =
-      record { exact = read_line hand.guards; fit = unread_fits leaver r; others = read_others }
+      record {
+        exact = read_line hand.guards;
+        leaves = read_leaves (record { stage = Leaving leaver; guards = hand.guards });
+        fit = unread_fits leaver r;
+        others = read_others;
+      }
 
 -- ---- a victim's write
 
@@ -161,6 +177,11 @@ module _ (still : StillFits) (old new : Parts) (kept : IsKept old) (w slot page 
       did_line old new (cue.Device w) line
       (write_done old new kept w w refl old.page_bytes slot page victim image ok does) tells s st hand.guards
       hand.guards (ap (λ o. unless_out (is_some o)) (out s st))
+
+  write_leaves : (left : Hand) → LeavesHand old hand line new left
+  write_leaves left =
+      did_leaves old new line (write_done old new kept w w refl old.page_bytes slot page victim image ok does).some
+      tells hand left
 
   write_others : LeavesOthers old w new
   write_others =
@@ -195,7 +216,12 @@ module _ (still : StillFits) (old new : Parts) (kept : IsKept old) (w slot page 
   pub written_plays : (errand : Errand) → ok ≡ true → IsWritten old w slot page victim image errand new
       → HandPlays old w hand (cue.Device w) line new (record { stage = Out errand; guards = hand.guards })
   written_plays errand e r =
-      record { exact = write_line; fit = written_fits errand e r; others = write_others }
+      record {
+        exact = write_line;
+        leaves = write_leaves (record { stage = Out errand; guards = hand.guards });
+        fit = written_fits errand e r;
+        others = write_others;
+      }
 
   -- It isn't.
   unwritten_fits : (leaver : Leaver) → ok ≡ false → IsUnwritten old w page image leaver new
@@ -213,7 +239,12 @@ module _ (still : StillFits) (old new : Parts) (kept : IsKept old) (w slot page 
   pub unwritten_plays : (leaver : Leaver) → ok ≡ false → IsUnwritten old w page image leaver new
       → HandPlays old w hand (cue.Device w) line new (record { stage = Leaving leaver; guards = hand.guards })
   unwritten_plays leaver e r =
-      record { exact = write_line; fit = unwritten_fits leaver e r; others = write_others }
+      record {
+        exact = write_line;
+        leaves = write_leaves (record { stage = Leaving leaver; guards = hand.guards });
+        fit = unwritten_fits leaver e r;
+        others = write_others;
+      }
 
 -- ---- by the duty
 

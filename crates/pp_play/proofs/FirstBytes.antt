@@ -25,6 +25,8 @@ use Rattle.pp_play.specs.declared.line.Line.TheVariants.{Did, Refused, Wrote, Lo
 use Rattle.pp_play.specs.Doing.{HandPlays}
 use Rattle.pp_play.specs.Exact.{may_write, may_look, Lets, first_of, IsLineOf}
 use Rattle.pp_play.specs.FirstBytes.{line_of_first, WritesInto, LooksWith}
+use Rattle.pp_play.specs.Guarding.{hand_of}
+use Rattle.pp_play.proofs.Leaves.{same_leaves}
 use Rattle.pp_play.proofs.Places.{is_within}
 use Rattle.pp_play.proofs.Others.{nothing_changed, place_set}
 
@@ -71,6 +73,7 @@ module _ (v : Parts) (w : ℕ) (hand : Hand) (slot : ℕ) (fits : FitsIn v w han
   write_none byte guards there is =
       record {
         exact = λ s st. (ap may_write (none_here there s st), is);
+        leaves = same_leaves v v hand (hand_of hand.stage guards) NoLatch refl (ap (hand_of hand.stage) is);
         fit = with_guards guards is;
         others = nothing_changed v w;
       }
@@ -80,6 +83,7 @@ module _ (v : Parts) (w : ℕ) (hand : Hand) (slot : ℕ) (fits : FitsIn v w han
   look_none guards there is =
       record {
         exact = λ s st. (ap may_look (none_here there s st), is);
+        leaves = same_leaves v v hand (hand_of hand.stage guards) NoLatch refl (ap (hand_of hand.stage) is);
         fit = with_guards guards is;
         others = nothing_changed v w;
       }
@@ -118,6 +122,7 @@ module _ (v : Parts) (w : ℕ) (hand : Hand) (slot byte : ℕ) (fits : FitsIn v 
           ap may_write (here v w hand slot fits (guard.Write g) there s st).held,
           record { writer = g; there = there; now = is },
         );
+        leaves = (refl, refl);
         fit = λ s st.
             let f = fits s st in
             record {
@@ -140,6 +145,7 @@ module _ (v : Parts) (w : ℕ) (hand : Hand) (slot byte : ℕ) (fits : FitsIn v 
       let same : guards ≡ hand.guards = is ∙ same_places hand.guards slot g there in
       record {
         exact = λ s st. (none s st, same);
+        leaves = same_leaves v v hand (hand_of hand.stage guards) NoLatch refl (ap (hand_of hand.stage) same);
         fit = with_guards v w hand slot fits guards same;
         others = nothing_changed v w;
       }
@@ -228,6 +234,7 @@ module _ (v : Parts) (w : ℕ) (hand : Hand) (slot : ℕ) (fits : FitsIn v w han
       put_again hand.guards guards slot (slot_by g) g same is ∙ same_places hand.guards slot g there in
       record {
         exact = λ s st. look_line s st g line there unchanged (looks s st w slot (here v w hand slot fits g there s st));
+        leaves = same_leaves v v hand (hand_of hand.stage guards) line refl (ap (hand_of hand.stage) unchanged);
         fit = with_guards v w hand slot fits guards unchanged;
         others = nothing_changed v w;
       }

@@ -19,21 +19,23 @@ use Rattle.pp_play.specs.declared.line.Line.{Line}
 use Rattle.pp_play.specs.declared.line.Line.TheVariants.{Refused}
 use Rattle.pp_play.specs.Exact.{refusal_to, IsLineOf}
 use Rattle.pp_play.specs.Doing.{LeavesOthers, HandPlays}
+use Rattle.pp_play.proofs.Leaves.{same_leaves}
 
 -- ---- a call that is refused, and a cue for which none is made
 
--- The parts before stand for what those after stand for, and pages are as long.
+-- The parts before stand for what those after stand for, pages are as long, and only what is told has changed.
 pub record Unmoved (old new : Parts) : Type 0 where
   pub bytes : new.page_bytes ≡ old.page_bytes
   pub back : (t : State) → StandsFor new t → StandsFor old t
+  pub told : untold new ≡ untold old
 
 pub unmoved : (v : Parts) → Unmoved v v
-unmoved v = record { bytes = refl; back = λ t st. st }
+unmoved v = record { bytes = refl; back = λ t st. st; told = refl }
 
 pub untold_unmoved : (old new : Parts) → new ≡ untold old → Unmoved old new
 untold_unmoved old new is =
     subst (λ v. Unmoved old v) (sym is)
-    record { bytes = refl; back = λ t st. record { core = st.core; images = st.images } }
+    record { bytes = refl; back = λ t st. record { core = st.core; images = st.images }; told = refl }
 
 module _ (old new : Parts) (un : Unmoved old new) where
   hand_stays : (w : ℕ) (hand : Hand) → FitsIn old w hand → FitsIn new w hand
@@ -46,6 +48,7 @@ module _ (old new : Parts) (un : Unmoved old new) where
   refused_plays w hand left cue line why same is exact fits =
       record {
         exact = λ s st. subst (λ l. IsLineOf old s hand.guards left.guards cue l) (sym is) (exact s st);
+        leaves = same_leaves old new hand left line un.told same;
         fit = subst (λ h. FitsIn new w h) (sym same) (hand_stays w hand fits);
         others =
             record {

@@ -1,6 +1,7 @@
 -- A fix with a hand that fits.
-use Rattle.std.proofs.Common.{◌≡◌, ℕ, Option, Some, List, refl, ap, subst}
-use Rattle.std.specs.Prelude.{if◌then◌else◌, slice_set}
+use Rattle.std.proofs.Common.{◌≡◌, ◌∙◌, ℕ, true, Option, Some, List, refl, ap, subst, arith}
+use Rattle.std.specs.Prelude.{◌==◌, if◌then◌else◌, slice_set}
+use Rattle.std.proofs.lemmas.Bool.Decides.{nat_tests}
 use Rattle.pp_cert.specs.declared.note.Held.TheVariants.{Free}
 use Rattle.pp_model.specs.declared.moves.Move.TheVariants as move
 use Rattle.pp_model.specs.Pool.{State}
@@ -20,7 +21,7 @@ use Rattle.pp_vault.specs.Parts.{Parts}
 use Rattle.pp_vault.specs.StandsFor.{StandsFor, IsKept}
 use Rattle.pp_vault.specs.Calls.{asks, stranger, refusal_of, after_call}
 use Rattle.pp_vault.specs.Events.{Does, Refuses, untold}
-use Rattle.pp_vault.specs.Fits.{is_acting_by, fix_call}
+use Rattle.pp_vault.specs.Fits.{fix_slot, names_slot, fix_call}
 use Rattle.pp_vault.specs.Fixes.{IsHit, IsSent}
 use Rattle.pp_vault.specs.Tokens.{ErrandFits}
 use Rattle.pp_vault.specs.Duties.{duty_worker}
@@ -32,16 +33,20 @@ use Rattle.pp_model.specs.declared.moves.Move.{Move}
 use Rattle.pp_model.specs.declared.reply.Reply.{Reply}
 use Rattle.pp_play.specs.Doing.{IsDone, HandPlays}
 use Rattle.pp_play.specs.Guarding.{hand_of}
+use Rattle.pp_play.proofs.Leaves.{did_leaves}
 use Rattle.pp_play.proofs.Slots.{low}
 use Rattle.pp_play.proofs.StillFitting.{StillFit, refused_plays, others_fit, all_fit, one_fits, line_fits}
 
+same_test : (m n : ℕ) → m ≡ n → (m == n) ≡ true
+same_test m n e = grind (arith, nat_tests)
+
 module _ (old new : Parts) (kept : IsKept old) (x : Session) (page : ℕ) (places : List (Option Guard))
     (fits : FitsIn old x.worker (hand_of (In x) places)) where
-  calls : (s : State) → StandsFor old s → fix_call x.worker page s ≡ asks (move.Fix x.worker page)
+  calls : (s : State) → StandsFor old s → fix_call x.worker (fix_slot x.ask) page s ≡ asks (move.Fix x.worker page)
   calls s st =
-      ap (λ b. if b then asks (move.Fix x.worker page) else stranger) (ap is_acting_by ((fits s st).stage.1))
+      ap (λ b. if b then asks (move.Fix x.worker page) else stranger) (ap (names_slot (fix_slot x.ask)) ((fits s st).stage.1) ∙ same_test (fix_slot x.ask) (fix_slot x.ask) refl)
 
-  pub fix_refused : (why : Refusal) → Refuses old (fix_call x.worker page) why → untold new ≡ untold old
+  pub fix_refused : (why : Refusal) → Refuses old (fix_call x.worker (fix_slot x.ask) page) why → untold new ≡ untold old
       → HandPlays old x.worker (hand_of (In x) places) (cue.Fix x.worker page) (Refused (cue.Fix x.worker page) why) new
       (hand_of (In x) places)
   fix_refused why refuses same =
@@ -51,10 +56,10 @@ module _ (old new : Parts) (kept : IsKept old) (x : Session) (page : ℕ) (place
   after : (s : State) → StandsFor old s → AfterMoves s
   after s st = after_moves s st.core.reached
 
-  module _ (laws : StillFit) (does : Does old (fix_call x.worker page) new) (line : Line)
+  module _ (laws : StillFit) (does : Does old (fix_call x.worker (fix_slot x.ask) page) new) (line : Line)
       (done : IsDone old (cue.Fix x.worker page) new)
       (tells : (m : Move) (r : Reply) → new.last ≡ Some (m, r) → line ≡ Did m r) where
-    there : StandsFor new (after_call kept.state (fix_call x.worker page kept.state))
+    there : StandsFor new (after_call kept.state (fix_call x.worker (fix_slot x.ask) page kept.state))
     there = does.stands kept.state kept.stands
 
     -- The page was cached.
@@ -65,7 +70,10 @@ module _ (old new : Parts) (kept : IsKept old) (x : Session) (page : ℕ) (place
         record {
           exact = line_fits old new (cue.Fix x.worker page) line done tells (move.Fix x.worker page) (λ n e. e) (λ s. refl)
               places (slice_set places g.slot (Some (Pin g)));
-          fit = one_fits laws old new (fix_call x.worker page) kept does x.worker (move.Fix x.worker page) refl calls (In x)
+          leaves =
+              did_leaves old new line done.some tells (hand_of (In x) places)
+              (hand_of (In y) (slice_set places g.slot (Some (Pin g))));
+          fit = one_fits laws old new (fix_call x.worker (fix_slot x.ask) page) kept does x.worker (move.Fix x.worker page) refl calls (In x)
               (In y) places fits (λ s st. (hit.session.worker, hit.session.ask s st)) g.slot (Some (Pin g))
               (low new _ x.worker g.slot there (g.page, Free) (hit.guard.held _ there))
               (λ s st. record { worker = hit.guard.worker; of_slot = refl; held = hit.guard.held s st })
@@ -73,7 +81,7 @@ module _ (old new : Parts) (kept : IsKept old) (x : Session) (page : ℕ) (place
               let r = hit.replies s st in
               let a = hit.asked s st in
               (((after s st).hit x.worker page g.slot a.0 r.0 r.1 r.2 a.1).others k off, λ h. h));
-          others = others_fit laws old new (fix_call x.worker page) kept does x.worker (move.Fix x.worker page) refl calls;
+          others = others_fit laws old new (fix_call x.worker (fix_slot x.ask) page) kept does x.worker (move.Fix x.worker page) refl calls;
         }
 
     -- A device has to work.
@@ -100,7 +108,10 @@ module _ (old new : Parts) (kept : IsKept old) (x : Session) (page : ℕ) (place
         record {
           exact = line_fits old new (cue.Fix x.worker page) line done tells (move.Fix x.worker page) (λ n q. q) (λ s. refl)
               places places;
-          fit = all_fit laws old new (fix_call x.worker page) kept does x.worker (move.Fix x.worker page) refl calls (In x)
+          leaves =
+              did_leaves old new line done.some tells (hand_of (In x) places)
+              (hand_of (Out e) places);
+          fit = all_fit laws old new (fix_call x.worker (fix_slot x.ask) page) kept does x.worker (move.Fix x.worker page) refl calls (In x)
               (Out e) places fits
               (λ s st. record {
                 worker = away_worker e.duty e.image sent;
@@ -109,5 +120,5 @@ module _ (old new : Parts) (kept : IsKept old) (x : Session) (page : ℕ) (place
                 long = errand.long;
               })
               (λ s st k. away_leaves e.duty e.image sent s st k);
-          others = others_fit laws old new (fix_call x.worker page) kept does x.worker (move.Fix x.worker page) refl calls;
+          others = others_fit laws old new (fix_call x.worker (fix_slot x.ask) page) kept does x.worker (move.Fix x.worker page) refl calls;
         }

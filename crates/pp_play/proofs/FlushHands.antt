@@ -35,14 +35,16 @@ use Rattle.pp_vault.specs.HandLaws.{caller, FitsIn}
 use Rattle.pp_vault.specs.Holding.{placed}
 use Rattle.pp_script.specs.declared.cue.Cue.TheVariants as cue
 use Rattle.pp_play.specs.declared.line.Line.{Line}
-use Rattle.pp_play.specs.declared.line.Line.TheVariants.{Refused}
+use Rattle.pp_play.specs.declared.line.Line.TheVariants.{Did, Refused, Wrote, Looked, NoLatch}
 use Rattle.pp_play.specs.Doing.{IsDone}
-use Rattle.pp_play.specs.Exact.{Plays, guards_of, unless_out}
+use Rattle.pp_play.specs.Exact.{Plays, IsLineOf, guards_of, unless_out}
 use Rattle.pp_play.proofs.Asked.{flush_done}
 use Rattle.pp_play.proofs.Done.{done_comes, refused_so}
 use Rattle.pp_play.proofs.Errands.{answer_taken}
 use Rattle.pp_play.proofs.Others.{StillFits, asked_so, did_line, told_left}
 use Rattle.pp_play.proofs.DeviceHands.{TellsLast}
+use Rattle.pp_play.proofs.Leaves.{is_done, all_done, all_did_leave}
+use Rattle.pp_vault.specs.declared.guards.Guard.{Guard}
 
 -- ---- the hands of workers
 
@@ -120,6 +122,7 @@ flush_plays still old new kept page errand hands left line fits does out is_flus
       exact = λ s st.
           did_line old new (cue.Flush page) line done tells s st (guards_of hands 0) (guards_of left 0)
           (does.allowed s st);
+      leaves = all_did_leave old new line done.some tells hands left (cue.Flush page);
       fit =
           subst (λ h. HandsFit new h) (sym is)
           (with_flushing still old new (flush_call page) kept does hands fits (λ s st. refl)
@@ -134,6 +137,7 @@ flush_refused old new page hands why fits refuses is =
     record {
       comes = refused_so old new (cue.Flush page) why is;
       exact = refuses;
+      leaves = (ap untold is, refl);
       fit = untold_fit old new hands is fits;
     }
 
@@ -219,6 +223,7 @@ flushed_plays still old new kept returned clean hands line free fits ends done t
       exact = λ s st.
           did_line old new cue.FlushDevice line done tells s st (guards_of hands 0) (guards_of hands 0)
           (flush_allowed old.page_bytes s returned.duty returned.image (fits s st).flushing);
+      leaves = all_did_leave old new line done.some tells (back_flushing hands returned) hands cue.FlushDevice;
       fit =
           subst (λ f. HandsFit new (record hands { flushing = f })) (sym free)
           (flushed_by_duty still old new kept returned.duty returned.image (is_ok returned.answer) clean
@@ -252,9 +257,28 @@ pub still_back_fits : (old : Parts) (hands : Hands) (returned : Returned) → Ha
 still_back_fits old hands returned fits is =
     subst (λ f. HandsFit old (record hands { flushing = f })) is fits
 
+-- Where a flush is in flight, what the device answers is done.
+flush_over_done : (v : Parts) (s : State) (was now : List (Option Guard)) (line : Line)
+    → unless_out (is_some (flushed_page s)) ≡ None → IsLineOf v s was now cue.FlushDevice line → is_done line ≡ true
+flush_over_done v s was now (Did m reply) out exact = refl
+flush_over_done v s was now (Refused asked why) out exact = absurd (false≢true (ap is_some (sym out ∙ exact)))
+flush_over_done v s was now Wrote out exact = absurd exact
+flush_over_done v s was now (Looked byte) out exact = absurd exact
+flush_over_done v s was now NoLatch out exact = absurd exact
+
 -- Which token it was makes no difference to what is played.
-pub back_flush_plays : (old new : Parts) (hands left : Hands) (returned : Returned) (line : Line)
+pub back_flush_plays : (old new : Parts) (hands left : Hands) (returned : Returned) (line : Line) → IsKept old
+    → HandsFit old (back_flushing hands returned)
     → Plays old (back_flushing hands returned) cue.FlushDevice line new left
     → Plays old hands cue.FlushDevice line new left
-back_flush_plays old new hands left returned line plays =
-    record { comes = plays.comes; exact = plays.exact; fit = plays.fit }
+back_flush_plays old new hands left returned line kept fits plays =
+    let s = kept.state in
+    let out = flush_allowed old.page_bytes s returned.duty returned.image (fits s kept.stands).flushing in
+    record {
+      comes = plays.comes;
+      exact = plays.exact;
+      leaves =
+          all_done old new hands left cue.FlushDevice line
+          (flush_over_done old s (guards_of hands 0) (guards_of left 0) line out (plays.exact s kept.stands));
+      fit = plays.fit;
+    }

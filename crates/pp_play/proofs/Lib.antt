@@ -28,3 +28,5 @@ pub mod UnwindPlays
 pub mod OffPlan
 pub mod Putting
 pub mod Latching
+pub mod Leaves
+pub mod Called

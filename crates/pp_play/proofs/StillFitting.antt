@@ -58,6 +58,7 @@ module _ (old new : Parts) (unchanged : untold new ≡ untold old) where
   refused_plays w hand cue why fits refuses =
       record {
         exact = refuses;
+        leaves = (unchanged, refl);
         fit = hand_stays w hand fits;
         others =
             record { hands = λ v apart other. hand_stays v other; flushing = flushing_stays };

@@ -32,6 +32,7 @@ use Rattle.pp_play.specs.declared.line.Line.{Line}
 use Rattle.pp_play.specs.declared.line.Line.TheVariants.{Did, Refused}
 use Rattle.pp_play.specs.Doing.{IsDone, HandPlays}
 use Rattle.pp_play.specs.Guarding.{hand_of}
+use Rattle.pp_play.proofs.Leaves.{did_leaves}
 use Rattle.pp_play.proofs.Slots.{low}
 use Rattle.pp_play.proofs.Seats.{unrefused}
 use Rattle.pp_play.proofs.UsePlays.{both, number_is, held_so}
@@ -119,6 +120,9 @@ module _ (old new : Parts) (kept : IsKept old) (x : Leaver) (places : List (Opti
         record {
           exact = line_fits old new (cue.Unwind w slot) line done tells (move.Unwind w slot) (λ n e. e) (λ s. refl)
               places (slice_set places slot None);
+          leaves =
+              did_leaves old new line done.some tells (hand_of (Leaving x) places)
+              (hand_of (Leaving y) (slice_set places slot None));
           fit = one_fits laws old new call kept still.does w (move.Unwind w slot) refl calls (Leaving x) (Leaving y)
               places fits (λ s st. (ap (λ (l : Leaver). l.worker) still.same, still.leaves s st)) slot None
               (low old kept.state w slot kept.stands (held_by g) (held_now kept.state g (here kept.state kept.stands)))

@@ -40,6 +40,7 @@ use Rattle.pp_play.specs.declared.line.Line.{Line}
 use Rattle.pp_play.specs.declared.line.Line.TheVariants.{Did, Refused}
 use Rattle.pp_play.specs.Doing.{IsDone, HandPlays}
 use Rattle.pp_play.specs.Guarding.{hand_of, unlatch_with, ChangesGuard}
+use Rattle.pp_play.proofs.Leaves.{did_leaves}
 use Rattle.pp_play.proofs.Slots.{low}
 use Rattle.pp_play.proofs.Held.{is_pin}
 use Rattle.pp_play.proofs.Seats.{unfix_did, latch_marks, unlatch_marks}
@@ -142,6 +143,9 @@ module _ (old new : Parts) (kept : IsKept old) (x : Session) (places : List (Opt
         record {
           exact = line_fits old new (cue.Unfix w) line done tells (move.Unfix w) (λ n e. e) (λ s. refl) places
               (slice_set places slot None);
+          leaves =
+              did_leaves old new line done.some tells (hand_of (In x) places)
+              (hand_of (In y) (slice_set places slot None));
           fit = one_fits laws old new call kept unfixes.does w (move.Unfix w) refl unfix_calls (In x) (In y) places fits
               (λ s st. (unfixes.session.worker, unfixes.session.ask s st)) slot None
               (low old kept.state w slot kept.stands (g.page, Free) pin.held)
@@ -187,6 +191,9 @@ module _ (old new : Parts) (kept : IsKept old) (x : Session) (places : List (Opt
         record {
           exact = line_fits old new (cue.Latch w) line done tells (move.Latch w) (λ n e. e) (λ s. refl) places
               (slice_set places slot (Some h));
+          leaves =
+              did_leaves old new line done.some tells (hand_of (In x) places)
+              (hand_of (In y) (slice_set places slot (Some h)));
           fit = one_fits laws old new call kept changes.does w (move.Latch w) refl latch_calls (In x) (In y) places fits
               (λ s st. (changes.session_fits.worker, changes.session_fits.ask s st)) slot (Some h)
               (low old kept.state w slot kept.stands (g.page, Free) pin.held) changes.guard_fits
@@ -252,6 +259,9 @@ module _ (old new : Parts) (kept : IsKept old) (x : Session) (places : List (Opt
         record {
           exact = line_fits old new (cue.Unlatch w) line done tells (move.Unlatch w) (λ n e. e) (λ s. refl) places
               (slice_set places slot (Some h));
+          leaves =
+              did_leaves old new line done.some tells (hand_of (In x) places)
+              (hand_of (In y) (slice_set places slot (Some h)));
           fit = one_fits laws old new call kept changes.does w (move.Unlatch w) refl unlatch_calls (In x) (In y) places
               fits (λ s st. (changes.session_fits.worker, changes.session_fits.ask s st)) slot (Some h)
               (low old kept.state w slot kept.stands (held_by g)

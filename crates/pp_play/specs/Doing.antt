@@ -6,6 +6,7 @@ use Rattle.pp_model.specs.Pool.{State}
 use Rattle.pp_model.specs.Moves.{reply_of, next_of, seat_of}
 use Rattle.pp_core.specs.Queries.{ask_of, errand_of}
 use Rattle.pp_vault.specs.Calls.{refusal_in}
+use Rattle.pp_vault.specs.Events.{untold}
 use Rattle.pp_vault.specs.Parts.{Parts}
 use Rattle.pp_vault.specs.StandsFor.{StandsFor}
 use Rattle.pp_vault.specs.Holding.{placed}
@@ -18,6 +19,7 @@ use Rattle.pp_vault.specs.declared.hands.Flushing.{Flushing}
 use Rattle.pp_vault.specs.Hands.{FlushingFits}
 use Rattle.pp_vault.specs.HandLaws.{FitsIn}
 use Rattle.pp_play.specs.declared.line.Line.{Line}
+use Rattle.pp_play.specs.declared.line.Line.TheVariants.{Did, Wrote}
 use Rattle.pp_play.specs.Plays.{IsMoveOf}
 use Rattle.pp_play.specs.Exact.{IsLineOf}
 
@@ -73,10 +75,18 @@ pub record LeavesOthers (old : Parts) (w : ℕ) (new : Parts) : Type 0 where
   pub hands : (v : ℕ) → v ≢ w → (hand : Hand) → FitsIn old v hand → FitsIn new v hand
   pub flushing : (flushing : Option Flushing) → FlushingFitsIn old flushing → FlushingFitsIn new flushing
 
--- A cue of worker w is played with a hand that fits: its line is exact, and all hands still fit.
+-- A cue that isn't done leaves the vault but for what is told, and the hand; one that writes a byte leaves the token.
+abbrev pub LeavesHand : Parts → Hand → Line → (new : Parts) → (left : Hand) → Type 0
+LeavesHand old hand (Did m reply) new left = Unit {0}
+LeavesHand old hand Wrote new left = (untold new ≡ untold old) × (left.stage ≡ hand.stage)
+LeavesHand old hand line new left = (untold new ≡ untold old) × (left ≡ hand)
+
+-- A cue of worker w is played with a hand that fits: its line is exact, it leaves all else where it isn't done, and all
+-- hands still fit.
 pub record HandPlays (old : Parts) (w : ℕ) (hand : Hand) (cue : Cue) (line : Line) (new : Parts)
     (left : Hand) : Type 0 where
   pub exact : (s : State) → StandsFor old s → IsLineOf old s hand.guards left.guards cue line
+  pub leaves : LeavesHand old hand line new left
   pub fit : FitsIn new w left
   pub others : LeavesOthers old w new
 

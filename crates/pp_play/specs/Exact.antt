@@ -17,6 +17,7 @@ use Rattle.pp_vault.specs.declared.guards.Guard.TheVariants as guard
 use Rattle.pp_vault.specs.declared.stage.Hand.{Hand}
 use Rattle.pp_vault.specs.declared.hands.Hands.{Hands}
 use Rattle.pp_vault.specs.Calls.{refusal_in}
+use Rattle.pp_vault.specs.Events.{untold}
 use Rattle.pp_vault.specs.Parts.{Parts}
 use Rattle.pp_vault.specs.StandsFor.{StandsFor}
 use Rattle.pp_vault.specs.Holding.{placed}
@@ -112,11 +113,35 @@ looker (Write w slot byte) = w
 looker (Look w slot) = w
 looker _ = 0
 
--- A cue is played where the hands fit: its line is exact, and the hands still fit.
+-- ---- what stays
+
+-- The hand, if it is there, with these guards in place of its own.
+abbrev pub hand_with : List (Option Guard) → Option Hand → Option Hand
+hand_with guards None = None
+hand_with guards (Some hand) = Some (record hand { guards = guards })
+
+-- The hands, in which worker w has these guards in place of its own.
+abbrev pub hands_with : Hands → (w : ℕ) → List (Option Guard) → Hands
+hands_with hands w guards =
+    record hands { workers = slice_set hands.workers w (hand_with guards (placed hands.workers w)) }
+
+-- What a cue leaves that isn't done: the vault, but for what it tells of the last call, and all hands. Where it writes a
+-- byte, the guards of its worker may change, and nothing else of the hands. Of a cue that is done nothing is said here.
+abbrev pub Leaves : Parts → Hands → Cue → Line → (next : Parts) → (left : Hands) → Type 0
+Leaves v hands cue (Did m reply) next left = Unit {0}
+Leaves v hands cue Wrote next left =
+    (untold next ≡ untold v) × (left ≡ hands_with hands (looker cue) (guards_of left (looker cue)))
+Leaves v hands cue line next left = (untold next ≡ untold v) × (left ≡ hands)
+
+-- ---- scripts
+
+-- A cue is played where the hands fit: its line is exact, it leaves all else where it isn't done, and the hands still
+-- fit.
 pub record Plays (v : Parts) (hands : Hands) (cue : Cue) (line : Line) (next : Parts) (left : Hands) : Type 0 where
   pub comes : ComesTo v cue line next
   pub exact : (s : State) → StandsFor v s
       → IsLineOf v s (guards_of hands (looker cue)) (guards_of left (looker cue)) cue line
+  pub leaves : Leaves v hands cue line next left
   pub fit : HandsFit next left
 
 -- Each cue in its turn, a line for each.

@@ -9,6 +9,7 @@ ghost use Rattle.pp_vault.specs.HandLaws.{FitsIn};
 ghost use Rattle.pp_script.specs.declared.cue.Cue.TheVariants as cue;
 ghost use Rattle.pp_play.specs.Plays.{ComesTo};
 ghost use Rattle.pp_play.specs.Exact.{Plays};
+ghost use Rattle.pp_play.specs.Calling.{tells_answer, is_back, NoneBack, IsCalled};
 ghost use Rattle.pp_play.specs.Doing.{ErrandHasPlace, HandPlays};
 
 use crate::guards::put;
@@ -42,6 +43,9 @@ pub(crate) fn work<D: Device>(
     ensures comes { ComesTo vault.old (cue.Device worker) result.1 vault.new }
     ensures plays { FitsIn vault.old worker hand
         → HandPlays vault.old worker hand (cue.Device worker) result.1 vault.new result.0 }
+    ensures called { FitsIn vault.old worker hand → is_back hand.stage ≡ false
+        → IsCalled D.calls (tells_answer result.1) device.old device.new }
+    ensures forth { FitsIn vault.old worker hand → is_back hand.stage ≡ false → is_back result.0.stage ≡ false }
 {
     vault.known();
     let cue = Cue::Device { worker };
@@ -85,6 +89,8 @@ fn answer(vault: &mut Vault, returned: Returned, guards: &mut Guards, worker: u3
     ensures plays { FitsIn vault.old worker (record { stage = Stage.Back returned; guards = guards.old })
         → HandPlays vault.old worker (record { stage = Stage.Back returned; guards = guards.old })
         (cue.Device worker) result.1 vault.new (record { stage = result.0; guards = guards.new }) }
+    ensures answered { FitsIn vault.old worker (record { stage = Stage.Back returned; guards = guards.old })
+        → (tells_answer result.1 ≡ true) × (is_back result.0 ≡ false) }
 {
     laws::hands_still_fit();
     match vault.answer(returned) {
@@ -120,6 +126,7 @@ pub(crate) fn flush(vault: &mut Vault, hands: &mut Hands, page: u32) -> Line
     ensures comes { ComesTo vault.old (cue.Flush page) result vault.new }
     ensures plays { HandsFit vault.old hands.old
         → Plays vault.old hands.old (cue.Flush page) result vault.new hands.new }
+    ensures none_back { NoneBack hands.old → NoneBack hands.new }
 {
     vault.known();
     laws::hands_still_fit();
@@ -143,6 +150,9 @@ pub(crate) fn flush_work<D: Device>(vault: &mut Vault, hands: &mut Hands, device
     ensures comes { ComesTo vault.old cue.FlushDevice result vault.new }
     ensures plays { HandsFit vault.old hands.old
         → Plays vault.old hands.old cue.FlushDevice result vault.new hands.new }
+    ensures called { HandsFit vault.old hands.old → NoneBack hands.old
+        → IsCalled D.calls (tells_answer result) device.old device.new }
+    ensures none_back { HandsFit vault.old hands.old → NoneBack hands.old → NoneBack hands.new }
 {
     vault.known();
     match hands.flushing.take() {
@@ -173,6 +183,8 @@ fn flushed(vault: &mut Vault, hands: &mut Hands, returned: Returned) -> Line
     ensures plays { HandsFit vault.old (record hands.old { flushing = Some (Flushing.Back returned) })
         → Plays vault.old (record hands.old { flushing = Some (Flushing.Back returned) }) cue.FlushDevice result
         vault.new hands.new }
+    ensures answered { HandsFit vault.old (record hands.old { flushing = Some (Flushing.Back returned) })
+        → (tells_answer result ≡ true) × (hands.new ≡ hands.old) }
 {
     laws::hands_still_fit();
     match vault.answer(returned) {

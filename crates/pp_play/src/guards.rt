@@ -11,6 +11,7 @@ ghost use Rattle.pp_vault.specs.declared.guards.Guard.TheVariants.{Pin};
 ghost use Rattle.pp_vault.specs.declared.stage.Stage.TheVariants.{In};
 ghost use Rattle.pp_script.specs.declared.cue.Cue.TheVariants as cue;
 ghost use Rattle.pp_play.specs.Plays.{ComesTo};
+ghost use Rattle.pp_play.specs.Calling.{is_back};
 ghost use Rattle.pp_play.specs.Doing.{FixHasPlace, IsDone, Stays, HandPlays};
 ghost use Rattle.pp_play.specs.Guarding.{hand_of, PlaysHand, FixLacksPlace, unlatch_with, ChangesGuard, KeepsGuard};
 
@@ -49,6 +50,7 @@ pub(crate) fn fix(vault: &mut Vault, hand: Hand, worker: u32, page: u32) -> (Han
     ensures comes { ComesTo vault.old (cue.Fix worker page) result.1 vault.new }
     ensures plays { FitsIn vault.old worker hand
         → HandPlays vault.old worker hand (cue.Fix worker page) result.1 vault.new result.0 }
+    ensures forth { is_back hand.stage ≡ false → is_back result.0.stage ≡ false }
 {
     vault.known();
     let cue = Cue::Fix { worker, page };
@@ -84,6 +86,7 @@ fn fix_in(
     ensures comes { ComesTo vault.old (cue.Fix worker page) result.1 vault.new }
     ensures plays { PlaysHand vault.old worker (hand_of (In session) guards.old) (cue.Fix worker page) result.1
         vault.new (hand_of result.0 guards.new) }
+    ensures forth { is_back result.0 ≡ false }
 {
     hands_still_fit();
     match vault.fix(session, page) {
@@ -108,6 +111,7 @@ pub(crate) fn unfix(vault: &mut Vault, hand: Hand, worker: u32) -> (Hand, Line)
     ensures comes { ComesTo vault.old (cue.Unfix worker) result.1 vault.new }
     ensures plays { FitsIn vault.old worker hand
         → HandPlays vault.old worker hand (cue.Unfix worker) result.1 vault.new result.0 }
+    ensures forth { is_back hand.stage ≡ false → is_back result.0.stage ≡ false }
 {
     vault.known();
     let cue = Cue::Unfix { worker };
@@ -145,6 +149,7 @@ fn unfix_slot(
     ensures comes { ComesTo vault.old (cue.Unfix worker) result.1 vault.new }
     ensures plays { PlaysHand vault.old worker (hand_of (In session) guards.old) (cue.Unfix worker) result.1
         vault.new (hand_of result.0 guards.new) }
+    ensures forth { is_back result.0 ≡ false }
 {
     hands_still_fit();
     let cue = Cue::Unfix { worker };
@@ -173,6 +178,7 @@ pub(crate) fn latch(vault: &mut Vault, hand: Hand, worker: u32) -> (Hand, Line)
     ensures comes { ComesTo vault.old (cue.Latch worker) result.1 vault.new }
     ensures plays { FitsIn vault.old worker hand
         → HandPlays vault.old worker hand (cue.Latch worker) result.1 vault.new result.0 }
+    ensures forth { is_back hand.stage ≡ false → is_back result.0.stage ≡ false }
 {
     vault.known();
     let cue = Cue::Latch { worker };
@@ -211,6 +217,7 @@ fn latch_slot(
     ensures comes { ComesTo vault.old (cue.Latch worker) result.1 vault.new }
     ensures plays { PlaysHand vault.old worker (hand_of (In session) guards.old) (cue.Latch worker) result.1
         vault.new (hand_of result.0 guards.new) }
+    ensures forth { is_back result.0 ≡ false }
 {
     hands_still_fit();
     let cue = Cue::Latch { worker };
@@ -271,6 +278,7 @@ pub(crate) fn unlatch(vault: &mut Vault, hand: Hand, worker: u32) -> (Hand, Line
     ensures comes { ComesTo vault.old (cue.Unlatch worker) result.1 vault.new }
     ensures plays { FitsIn vault.old worker hand
         → HandPlays vault.old worker hand (cue.Unlatch worker) result.1 vault.new result.0 }
+    ensures forth { is_back hand.stage ≡ false → is_back result.0.stage ≡ false }
 {
     vault.known();
     let cue = Cue::Unlatch { worker };
@@ -308,6 +316,7 @@ fn unlatch_slot(
     ensures comes { ComesTo vault.old (cue.Unlatch worker) result.1 vault.new }
     ensures plays { PlaysHand vault.old worker (hand_of (In session) guards.old) (cue.Unlatch worker) result.1
         vault.new (hand_of result.0 guards.new) }
+    ensures forth { is_back result.0 ≡ false }
 {
     hands_still_fit();
     let cue = Cue::Unlatch { worker };
@@ -356,6 +365,7 @@ pub(crate) fn unwind(vault: &mut Vault, hand: Hand, worker: u32, slot: u32) -> (
     ensures comes { ComesTo vault.old (cue.Unwind worker slot) result.1 vault.new }
     ensures plays { FitsIn vault.old worker hand
         → HandPlays vault.old worker hand (cue.Unwind worker slot) result.1 vault.new result.0 }
+    ensures forth { is_back hand.stage ≡ false → is_back result.0.stage ≡ false }
 {
     vault.known();
     hands_still_fit();

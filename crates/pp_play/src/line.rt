@@ -14,7 +14,7 @@ use std::fmt;
 pub enum Line {
     /// It is done: the move, and the reply.
     Did(Move, Reply),
-    /// It is refused, and nothing has changed.
+    /// It is refused. Where the hands fit the vault, nothing has changed but what [`Vault::done`] tells.
     Refused(Cue, Refusal),
     /// The byte is written.
     Wrote,

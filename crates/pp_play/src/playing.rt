@@ -1,11 +1,12 @@
 //! A script of cues, one after the other.
 
-ghost use Rattle.std.specs.Prelude.{◌≡◌, ◌+◌, Some, None, length, OnOk, OnErr, take};
+ghost use Rattle.std.specs.Prelude.{◌≡◌, ◌+◌, false, Some, None, length, OnOk, OnErr, take, drop};
 ghost use Rattle.pp_vault.specs.StandsFor.{IsKept};
 ghost use Rattle.pp_model.specs.Pool.{State};
 ghost use Rattle.pp_vault.specs.Stages.{stage_worker};
 ghost use Rattle.pp_play.specs.Plays.{Tells, ComesTo, AllComeTo};
 ghost use Rattle.pp_play.specs.Exact.{Plays, PlaysFrom};
+ghost use Rattle.pp_play.specs.Calling.{tells_answer, is_back, answers, NoneBack, IsCalled};
 ghost use Rattle.pp_play.specs.Doing.{cue_worker, HandPlays, IsLineWithout};
 ghost use Rattle.pp_vault.specs.Hands.{HandsFit};
 ghost use Rattle.pp_vault.specs.HandLaws.{FitsIn};
@@ -32,7 +33,11 @@ impl From<AllocError> for PlayError {
 }
 
 /// Plays the cues in turn, each with the tokens that are in the hands, and adds their lines to those that are there. A
-/// cue that is refused changes nothing, and doesn't end the script.
+/// cue that is refused doesn't end the script.
+///
+/// Where the hands fit the vault, a cue that is refused changes nothing but what [`Vault::done`] tells, and the device is
+/// called once for each of its answers that a line tells, but for one that was in the hands already. An errand of another
+/// vault may be carried out before its answer is refused: then the device was called, and the answer stays in the hands.
 ///
 /// Room for all lines is got first.
 ///
@@ -50,6 +55,9 @@ pub fn play<D: Device>(
     ensures exact { OnOk result (HandsFit vault.old hands.old
         → PlaysFrom vault.old hands.old cues.now lines.old.items lines.new.items vault.new hands.new) }
     ensures fit { HandsFit vault.old hands.old → HandsFit vault.new hands.new }
+    ensures calls { OnOk result (HandsFit vault.old hands.old → NoneBack hands.old → D.calls device.new
+        ≡ D.calls device.old + answers (drop (length lines.old.items) lines.new.items)) }
+    ensures none_back { HandsFit vault.old hands.old → NoneBack hands.old → NoneBack hands.new }
     ensures length { OnOk result (length lines.new.items ≡ length lines.old.items + length cues.now) }
     ensures behind { take (length lines.old.items) lines.new.items ≡ lines.old.items }
     ensures err { OnErr result ((vault.new ≡ vault.old) × (hands.new ≡ hands.old) × (device.new ≡ device.old)
@@ -71,7 +79,11 @@ pub fn play<D: Device>(
 fn play_one<D: Device>(vault: &mut Vault, hands: &mut Hands, device: &mut D, cue: Cue) -> Line
     ensures comes { ComesTo vault.old cue result vault.new }
     ensures plays { HandsFit vault.old hands.old → Plays vault.old hands.old cue result vault.new hands.new }
+    ensures called { HandsFit vault.old hands.old → NoneBack hands.old
+        → IsCalled D.calls (tells_answer result) device.old device.new }
+    ensures none_back { HandsFit vault.old hands.old → NoneBack hands.old → NoneBack hands.new }
 {
+    vault.known();
     match cue {
         Cue::Flush { page } => devices::flush(vault, hands, page),
         Cue::FlushDevice => devices::flush_work(vault, hands, device),
@@ -100,6 +112,9 @@ fn by_worker<D: Device>(
     requires { cue_worker cue ≡ Some worker }
     ensures comes { ComesTo vault.old cue result vault.new }
     ensures plays { HandsFit vault.old hands.old → Plays vault.old hands.old cue result vault.new hands.new }
+    ensures called { HandsFit vault.old hands.old → NoneBack hands.old
+        → IsCalled D.calls (tells_answer result) device.old device.new }
+    ensures none_back { HandsFit vault.old hands.old → NoneBack hands.old → NoneBack hands.new }
 {
     vault.known();
     let Some(hand) = hands.part(worker) else {
@@ -116,6 +131,7 @@ fn by_worker<D: Device>(
 fn without_hand(cue: Cue) -> Line
     ensures tells { (s : State) → Tells s cue result s }
     ensures exact { IsLineWithout cue result }
+    ensures quiet { tells_answer result ≡ false }
 {
     match cue {
         Cue::Device { .. } => off_plan(cue, Cause::NoErrand),
@@ -134,10 +150,14 @@ fn with_hand<D: Device>(
 ) -> (Hand, Line)
     requires cue { cue_worker cue ≡ Some worker }
     requires hand { stage_worker hand.stage ≡ Some worker }
+    requires kept { IsKept vault.old }
     ensures of { stage_worker result.0.stage ≡ Some worker }
     ensures comes { ComesTo vault.old cue result.1 vault.new }
     ensures plays { FitsIn vault.old worker hand
         → HandPlays vault.old worker hand cue result.1 vault.new result.0 }
+    ensures called { FitsIn vault.old worker hand → is_back hand.stage ≡ false
+        → IsCalled D.calls (tells_answer result.1) device.old device.new }
+    ensures forth { FitsIn vault.old worker hand → is_back hand.stage ≡ false → is_back result.0.stage ≡ false }
 {
     match cue {
         Cue::Take { .. } => workers::take(vault, hand, worker),

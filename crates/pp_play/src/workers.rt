@@ -1,10 +1,11 @@
 //! Take, choose and finish: cues of a worker that need no page.
 
-ghost use Rattle.std.specs.Prelude.{◌≡◌, Some};
+ghost use Rattle.std.specs.Prelude.{◌≡◌, false, Some};
 ghost use Rattle.pp_vault.specs.Stages.{stage_worker};
 ghost use Rattle.pp_script.specs.declared.cue.Cue.TheVariants as cue;
 ghost use Rattle.pp_vault.specs.HandLaws.{FitsIn};
 ghost use Rattle.pp_play.specs.Plays.{ComesTo};
+ghost use Rattle.pp_play.specs.Calling.{is_back};
 ghost use Rattle.pp_play.specs.Doing.{HandPlays};
 
 use crate::line::{Line, did, off_plan};
@@ -18,6 +19,7 @@ pub(crate) fn take(vault: &mut Vault, hand: Hand, worker: u32) -> (Hand, Line)
     ensures comes { ComesTo vault.old (cue.Take worker) result.1 vault.new }
     ensures plays { FitsIn vault.old worker hand
         → HandPlays vault.old worker hand (cue.Take worker) result.1 vault.new result.0 }
+    ensures forth { is_back hand.stage ≡ false → is_back result.0.stage ≡ false }
 {
     vault.known();
     laws::hands_still_fit();
@@ -53,6 +55,7 @@ pub(crate) fn choose(vault: &mut Vault, hand: Hand, worker: u32, branch: u32) ->
     ensures comes { ComesTo vault.old (cue.Choose worker branch) result.1 vault.new }
     ensures plays { FitsIn vault.old worker hand
         → HandPlays vault.old worker hand (cue.Choose worker branch) result.1 vault.new result.0 }
+    ensures forth { is_back hand.stage ≡ false → is_back result.0.stage ≡ false }
 {
     vault.known();
     laws::hands_still_fit();
@@ -88,6 +91,7 @@ pub(crate) fn finish(vault: &mut Vault, hand: Hand, worker: u32) -> (Hand, Line)
     ensures comes { ComesTo vault.old (cue.Finish worker) result.1 vault.new }
     ensures plays { FitsIn vault.old worker hand
         → HandPlays vault.old worker hand (cue.Finish worker) result.1 vault.new result.0 }
+    ensures forth { is_back hand.stage ≡ false → is_back result.0.stage ≡ false }
 {
     vault.known();
     laws::hands_still_fit();

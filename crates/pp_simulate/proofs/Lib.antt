@@ -1,3 +1,4 @@
 pub mod Texts
 pub mod Submits
+pub mod Exactly
 pub mod Simulated

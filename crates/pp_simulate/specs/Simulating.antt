@@ -5,13 +5,17 @@ use Rattle.pp_core.specs.Opening.{kept_of}
 use Rattle.pp_model.specs.Pool.{State, opening}
 use Rattle.pp_model.specs.Submitting.{submit_error, submitted}
 use Rattle.pp_model.specs.declared.refusals.SubmitError.{SubmitError}
-use Rattle.pp_play.specs.Plays.{TellsAll}
+use Rattle.pp_play.specs.ByStates.{ComeInTurn}
+use Rattle.pp_play.specs.Exact.{PlaysAll}
 use Rattle.pp_play.specs.declared.line.Line.{Line}
 use Rattle.pp_script.specs.Scripts.{Scenario}
+use Rattle.pp_script.specs.declared.cue.Cue.{Cue}
 use Rattle.pp_settings.specs.Settings.{Configuration}
 use Rattle.pp_text.specs.Steps.{◌>>=◌}
+use Rattle.pp_vault.specs.Hands.{HandsFit}
 use Rattle.pp_vault.specs.Parts.{Parts}
 use Rattle.pp_vault.specs.StandsFor.{StandsFor}
+use Rattle.pp_vault.specs.declared.hands.Hands.{Hands}
 use Rattle.pp_simulate.specs.Lines.{transcript}
 use Rattle.pp_simulate.specs.declared.error.SimulateError.{SimulateError}
 use Rattle.pp_simulate.specs.declared.error.SimulateError.TheVariants.{Submit, OutOfMemory}
@@ -38,13 +42,27 @@ abbrev pub TellsSubmit : Result State SubmitError → SimulateError → Type 0
 TellsSubmit submits (Submit error) = submits ≡ Err error
 TellsSubmit submits OutOfMemory = ⊤
 
--- The text is one that playing the script may come to: the plans are all taken in, each cue in its turn comes to a
+-- A vault that stands for the one state, with hands that fit it, plays the cues to these lines, and then stands for the
+-- other state. Which bytes are looked at is as the guards and frames of that vault have them.
+pub record IsPlayed (s : State) (cues : List Cue) (lines : List Line) (t : State) : Type 0 where
+  pub vault : Parts
+  pub hands : Hands
+  pub after : Parts
+  pub left : Hands
+  pub stands : StandsFor vault s
+  pub fits : HandsFit vault hands
+  pub plays : PlaysAll vault hands cues lines after left
+  pub ends : StandsFor after t
+
+-- The text is one that playing the script may come to: the plans are all taken in, each cue in its turn comes to its
 -- line, from the state with these plans up to a last state, and the text has the lines of the plans, of the cues, and
--- of that last state. The line of a move that is done is the model's; every other line leaves the state.
+-- of that last state. A cue is done, refused, written or looked at exactly as the states tell; a done one has the
+-- model's reply, and every other leaves the state. Bytes are those of a vault that played it.
 pub record Simulates (c : Configuration) (plans : List Acceptance) (script : Scenario) (told : List ℕ) : Type 0 where
   pub taken_in : State
   pub submits : after_submits (opening (kept_of c)) plans ≡ Ok taken_in
   pub lines : List Line
   pub last : State
-  pub plays : TellsAll taken_in script.cues lines last
+  pub comes : ComeInTurn taken_in script.cues lines last
+  pub bytes : IsPlayed taken_in script.cues lines last
   pub text : told ≡ transcript (length plans) script.cues lines last

@@ -3,7 +3,9 @@
 ghost use Rattle.std.specs.Prelude.{◌≡◌, ◌≤◌, Err, IfOk, IfErr, string_bytes};
 ghost use Rattle.pp_model.specs.Pool.{State, opening};
 ghost use Rattle.pp_core.specs.Opening.{kept_of};
+ghost use Rattle.pp_vault.specs.Hands.{HandsFit};
 ghost use Rattle.pp_vault.specs.StandsFor.{StandsFor};
+ghost use Rattle.pp_vault.specs.declared.hands.Hands as hands;
 ghost use Rattle.pp_simulate.specs.Simulating.{Simulates, TellsSubmit, after_submits, TakesAll};
 
 use crate::error::SimulateError;
@@ -13,6 +15,7 @@ use pp_device::{Failing, SoloDevice};
 use pp_play::play;
 use pp_script::Script;
 use pp_settings::Settings;
+use pp_vault::laws::hands_still_fit;
 use pp_vault::{Hands, SubmitError, Vault};
 use std::alloc::Global;
 
@@ -29,7 +32,7 @@ pub fn simulate(
     plans: Vec<Accepted>,
     script: Script,
 ) -> Result<String, SimulateError>
-    // The plans are all taken in, the cues come to the lines that are printed, and the last line is of the state then.
+    // The plans are all taken in, each cue comes to its own line, and the last line is of the state then.
     ensures ok { IfOk result (λ text. Simulates settings.now plans.items script (string_bytes text)) }
     // A refusal is that of the first plan that isn't taken in.
     ensures err { IfErr result (TellsSubmit (after_submits (opening (kept_of settings.now)) plans.items)) }
@@ -49,7 +52,8 @@ fn play_in(
     vault: &mut Vault,
     hands: &mut Hands,
 ) -> Result<String, SimulateError>
-    requires { StandsFor vault.old (opening (kept_of settings.now)) }
+    requires opens { StandsFor vault.old (opening (kept_of settings.now)) }
+    requires fit { HandsFit vault.old hands.old }
     ensures ok { IfOk result (λ text. Simulates settings.now plans.items script (string_bytes text)) }
     ensures err { IfErr result (TellsSubmit (after_submits (opening (kept_of settings.now)) plans.items)) }
 {
@@ -65,8 +69,11 @@ fn play_in(
 
 /// Submits the plans in their order, up to the first that isn't taken in.
 fn submit_all(vault: &mut Vault, plans: Vec<Accepted>) -> Result<(), SubmitError>
-    ensures { (s : State) → StandsFor vault.old s → TakesAll (after_submits s plans.items) vault.new result }
+    ensures takes { (s : State) → StandsFor vault.old s → TakesAll (after_submits s plans.items) vault.new result }
+    ensures fit { (h : hands.Hands) → HandsFit vault.old h → HandsFit vault.new h }
 {
+    vault.known();
+    hands_still_fit();
     let mut waiting = plans;
     waiting.reverse();
     while let Some(plan) = waiting.pop() {

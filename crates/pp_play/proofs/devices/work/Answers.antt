@@ -1,8 +1,10 @@
-use Rattle.std.proofs.Common.{subst}
-use Rattle.pp_script.specs.declared.cue.Cue.TheVariants as cue
+use Rattle.std.proofs.Common.{◌∙◌, sym, ap, subst}
 use Rattle.pp_vault.specs.Hands.{StageFits}
 use Rattle.pp_play.proofs.Carried.{back_fits, back_plays, carried}
 use Rattle.pp_play.proofs.NoErrand.{place_is_free}
+use Rattle.std.proofs.lemmas.Bool.{false≢true}
+use Rattle.pp_play.specs.Calling.{is_back}
+use Rattle.pp_play.proofs.Called.{called_once}
 use Rattle.pp_play.proofs.devices.work.Goals as goal
 
 pub returns-then-not-has_place-clause-plays : goal.returns-then-not-has_place-clause-plays
@@ -20,18 +22,48 @@ returns-else-not-has_place-clause-plays g c fits =
     let old = c.args.vault.now in
     let returned = c.carry_out-returned.result in
     let made = c.carry_out-returned.ensures in
-    back_plays old c.args.worker c.args.hand returned (cue.Device c.args.worker) c.answer-stage.result.1
-    c.answer-stage.new.vault _
-    (c.answer-stage.ensures.plays (back_fits old c.args.worker c.args.hand returned fits (λ s st.
+    let back = back_fits old c.args.worker c.args.hand returned fits (λ s st.
     carried _ _ _ _ _ old.page_bytes s c.args.worker c.in-Out.errand.image returned.image c.in-Out.errand.duty
     returned.duty made.duty made.made made.length
-    (subst (λ x. StageFits old.page_bytes s c.args.worker x) c.in-Out.is (fits s st).stage))))
+    (subst (λ x. StageFits old.page_bytes s c.args.worker x) c.in-Out.is (fits s st).stage)) in
+    back_plays old c.args.worker c.args.hand returned c.answer-stage.result.1 c.answer-stage.new.vault _
+    c.known.ensures.kept back (c.answer-stage.ensures.plays back)
 
 pub returns-else-not-has_place-2-clause-plays : goal.returns-else-not-has_place-2-clause-plays
 returns-else-not-has_place-2-clause-plays g c fits =
     let old = c.args.vault.now in
     let returned = c.in-Back.returned in
-    back_plays old c.args.worker c.args.hand returned (cue.Device c.args.worker) c.answer-stage-in-Back.result.1
-    c.answer-stage-in-Back.new.vault _
-    (c.answer-stage-in-Back.ensures.plays (back_fits old c.args.worker c.args.hand returned fits (λ s st.
-    subst (λ x. StageFits old.page_bytes s c.args.worker x) c.in-Back.is (fits s st).stage)))
+    let back = back_fits old c.args.worker c.args.hand returned fits (λ s st.
+    subst (λ x. StageFits old.page_bytes s c.args.worker x) c.in-Back.is (fits s st).stage) in
+    back_plays old c.args.worker c.args.hand returned c.answer-stage-in-Back.result.1
+    c.answer-stage-in-Back.new.vault _ c.known.ensures.kept back (c.answer-stage-in-Back.ensures.plays back)
+
+pub returns-else-not-has_place-clause-called : goal.returns-else-not-has_place-clause-called
+returns-else-not-has_place-clause-called g c fits none =
+    let old = c.args.vault.now in
+    let returned = c.carry_out-returned.result in
+    let made = c.carry_out-returned.ensures in
+    let back = back_fits old c.args.worker c.args.hand returned fits (λ s st.
+    carried _ _ _ _ _ old.page_bytes s c.args.worker c.in-Out.errand.image returned.image c.in-Out.errand.duty
+    returned.duty made.duty made.made made.length
+    (subst (λ x. StageFits old.page_bytes s c.args.worker x) c.in-Out.is (fits s st).stage)) in
+    called_once g.D.Device.calls _ _ _ (c.answer-stage.ensures.answered back).0 made.called
+
+pub returns-else-not-has_place-clause-forth : goal.returns-else-not-has_place-clause-forth
+returns-else-not-has_place-clause-forth g c fits none =
+    let old = c.args.vault.now in
+    let returned = c.carry_out-returned.result in
+    let made = c.carry_out-returned.ensures in
+    let back = back_fits old c.args.worker c.args.hand returned fits (λ s st.
+    carried _ _ _ _ _ old.page_bytes s c.args.worker c.in-Out.errand.image returned.image c.in-Out.errand.duty
+    returned.duty made.duty made.made made.length
+    (subst (λ x. StageFits old.page_bytes s c.args.worker x) c.in-Out.is (fits s st).stage)) in
+    (c.answer-stage.ensures.answered back).1
+
+pub returns-else-not-has_place-2-clause-called : goal.returns-else-not-has_place-2-clause-called
+returns-else-not-has_place-2-clause-called g c fits none =
+    absurd (false≢true (sym none ∙ ap is_back c.in-Back.is))
+
+pub returns-else-not-has_place-2-clause-forth : goal.returns-else-not-has_place-2-clause-forth
+returns-else-not-has_place-2-clause-forth g c fits none =
+    absurd (false≢true (sym none ∙ ap is_back c.in-Back.is))

@@ -7,6 +7,7 @@ use Rattle.pp_script.specs.declared.cue.Cue.TheVariants as cue
 use Rattle.pp_vault.specs.declared.guards.Guard.TheVariants.{Pin}
 use Rattle.pp_vault.specs.declared.stage.Stage.TheVariants.{In, Out}
 use Rattle.pp_vault.specs.Events.{untold}
+use Rattle.pp_vault.specs.Fits.{fix_slot}
 use Rattle.pp_play.specs.declared.line.Line.TheVariants.{Refused}
 use Rattle.pp_play.specs.Guarding.{hand_of, PlaysHand}
 use Rattle.pp_play.proofs.Done.{done_comes}
@@ -35,7 +36,7 @@ returns-in-Got-clause-comes c =
     let old = c.args.vault.now in
     let new = c.fix.new.self in
     done_comes old new (cue.Fix c.args.worker c.args.page) c.did.result
-    (fix_done old new c.requires.kept c.args.session.worker c.args.worker c.requires.of c.args.page
+    (fix_done old new c.requires.kept c.args.session.worker c.args.worker c.requires.of (fix_slot c.args.session.ask) c.args.page
     c.in-Got.ensures.answers.0) c.did.ensures
 
 pub returns-in-Away-clause-comes : goal.returns-in-Away-clause-comes
@@ -43,7 +44,7 @@ returns-in-Away-clause-comes c =
     let old = c.args.vault.now in
     let new = c.fix.new.self in
     done_comes old new (cue.Fix c.args.worker c.args.page) c.did-in-Away.result
-    (fix_done old new c.requires.kept c.args.session.worker c.args.worker c.requires.of c.args.page
+    (fix_done old new c.requires.kept c.args.session.worker c.args.worker c.requires.of (fix_slot c.args.session.ask) c.args.page
     c.in-Away.ensures.answers.0) c.did-in-Away.ensures
 
 pub returns-in-Got-clause-plays : goal.returns-in-Got-clause-plays
@@ -63,7 +64,7 @@ returns-in-Got-clause-plays c =
     c.requires.of
     (λ fits.
     fix_got old new c.requires.kept x c.args.page c.args.guards.now fits laws c.in-Got.ensures.answers.0 c.did.result
-    (fix_done old new c.requires.kept x.worker x.worker refl c.args.page c.in-Got.ensures.answers.0) c.did.ensures
+    (fix_done old new c.requires.kept x.worker x.worker refl (fix_slot x.ask) c.args.page c.in-Got.ensures.answers.0) c.did.ensures
     c.in-Got.session c.in-Got.guard c.in-Got.ensures.answers.1))
 
 pub returns-in-Away-clause-plays : goal.returns-in-Away-clause-plays
@@ -82,7 +83,7 @@ returns-in-Away-clause-plays c =
     (λ fits.
     fix_away old new c.requires.kept x c.args.page c.args.guards.now fits laws c.in-Away.ensures.answers.0
     c.did-in-Away.result
-    (fix_done old new c.requires.kept x.worker x.worker refl c.args.page c.in-Away.ensures.answers.0)
+    (fix_done old new c.requires.kept x.worker x.worker refl (fix_slot x.ask) c.args.page c.in-Away.ensures.answers.0)
     c.did-in-Away.ensures c.in-Away.errand c.in-Away.ensures.answers.1 c.in-Away.ensures.answers.2)
 
 pub returns-in-No-clause-plays : goal.returns-in-No-clause-plays

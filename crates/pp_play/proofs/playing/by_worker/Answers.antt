@@ -2,6 +2,8 @@ use Rattle.std.proofs.Common.{◌≡◌, ◌∙◌, None, sym, ap, subst}
 use Rattle.std.specs.Prelude.{IfNone, slice_set, Some}
 use Rattle.pp_vault.specs.Stages.{put_for}
 use Rattle.pp_play.proofs.AllHands.{absent_plays, same_hands, not_there, part_fits, joined_plays}
+use Rattle.pp_play.specs.Calling.{is_flush_back}
+use Rattle.pp_play.proofs.Called.{not_called, none_of_workers, none_after}
 use Rattle.pp_play.proofs.playing.by_worker.Goals as goal
 
 pub returns-in_default-clause-plays : goal.returns-in_default-clause-plays
@@ -29,3 +31,36 @@ returns-clause-plays g c fits =
     c.with_hand-hand.result.1 c.requires there fits c.with_hand-hand.ensures.comes
     (c.with_hand-hand.ensures.plays (part_fits old hands w hand there fits)) joined
     (c.join.ensures.flushing ∙ c.part.ensures.flushing)
+
+pub returns-in_default-clause-called : goal.returns-in_default-clause-called
+returns-in_default-clause-called g c fits none =
+    not_called g.D.Device.calls _ c.args.device.now c.without_hand.ensures.quiet
+
+pub returns-in_default-clause-none_back : goal.returns-in_default-clause-none_back
+returns-in_default-clause-none_back g c fits none =
+    let hands = c.args.hands.now in
+    let gone = not_there c.part.result c.in_default.not-Some in
+    let same : c.part.new.self.workers ≡ hands.workers =
+    subst (λ o. IfNone o (c.part.new.self.workers ≡ hands.workers)) gone c.part.ensures.unchanged in
+    none_of_workers hands c.part.new.self none same (ap is_flush_back c.part.ensures.flushing ∙ none.flushing)
+
+pub returns-clause-called : goal.returns-clause-called
+returns-clause-called g c fits none =
+    let hands = c.args.hands.now in
+    let there = sym c.part.ensures.hand ∙ c.in-Some.is in
+    c.with_hand-hand.ensures.called (part_fits c.args.vault.now hands c.args.worker c.in-Some.hand there fits)
+    (none.workers c.args.worker c.in-Some.hand there)
+
+pub returns-clause-none_back : goal.returns-clause-none_back
+returns-clause-none_back g c fits none =
+    let hands = c.args.hands.now in
+    let w = c.args.worker in
+    let hand = c.in-Some.hand in
+    let left = c.with_hand-hand.result.0 in
+    let there = sym c.part.ensures.hand ∙ c.in-Some.is in
+    let joined : c.join.new.self.workers ≡ slice_set (slice_set hands.workers w None) w (Some left) =
+    c.in-Ok.ensures.joined ∙ ap (λ o. put_for c.part.new.self.workers left o) c.with_hand-hand.ensures.of
+    ∙ ap (λ ws. slice_set ws w (Some left)) c.in-Some.ensures.taken in
+    none_after hands c.join.new.self w hand left there none
+    (c.with_hand-hand.ensures.forth (part_fits c.args.vault.now hands w hand there fits) (none.workers w hand there))
+    joined (c.join.ensures.flushing ∙ c.part.ensures.flushing)

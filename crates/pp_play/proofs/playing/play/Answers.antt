@@ -2,6 +2,7 @@ use Rattle.std.proofs.Common.{◌≡◌, ◌∙◌, ◌++◌, ◌∷◌, [], len
 use Rattle.std.proofs.lemmas.List.{take-append-le}
 use Rattle.pp_play.proofs.Runs.{goes_on, went}
 use Rattle.pp_play.proofs.Scripts.{plays_on, all_played, still_fit}
+use Rattle.pp_play.proofs.Called.{calls_on}
 use Rattle.pp_play.proofs.playing.play.Goals as goal
 
 pub loop-cue-preserved : goal.loop-cue-preserved
@@ -32,6 +33,13 @@ loop-cue-preserved g c =
           rw pushed
           (plays_on _ _ _ _ _ _ _ _ _ _ c.loop-cue.cue-index _ _ c.loop-cue-test.true refl c.loop-cue.invariant.plays
           c.play_one-line.ensures.plays);
+      calls = λ fit none.
+          rw pushed
+          (calls_on g.D.Device.calls _ c.loop-cue.device c.play_one-line.new.device (length before) now line
+          (omega (arith, count)) (c.loop-cue.invariant.calls fit none)
+          (c.play_one-line.ensures.called (c.loop-cue.invariant.plays fit).fit (c.loop-cue.invariant.back fit none)));
+      back = λ fit none.
+          c.play_one-line.ensures.none_back (c.loop-cue.invariant.plays fit).fit (c.loop-cue.invariant.back fit none);
     }
 
 pub returns-clause-plays : goal.returns-clause-plays

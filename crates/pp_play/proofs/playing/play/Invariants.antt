@@ -3,6 +3,8 @@ use Rattle.std.specs.Vec.{vec_len, vec_capacity}
 use Rattle.pp_play.proofs.Runs.{Goes}
 use Rattle.pp_play.proofs.Scripts.{PlayedTo}
 use Rattle.pp_play.proofs.playing.play.Given as goal
+use Rattle.pp_vault.specs.Hands.{HandsFit}
+use Rattle.pp_play.specs.Calling.{answers, NoneBack}
 
 abbrev pub invariant-loop-cue : goal.invariant-loop-cue
 invariant-loop-cue g l = record {
@@ -12,4 +14,9 @@ invariant-loop-cue g l = record {
   goes : Goes l.fn.vault l.cues l.fn.lines.items l.vault (drop l.cue-index l.cues) l.lines.items;
   plays :
       PlayedTo l.fn.vault l.fn.hands l.cues l.fn.lines.items l.vault l.hands (drop l.cue-index l.cues) l.lines.items;
+  calls :
+      HandsFit l.fn.vault l.fn.hands → NoneBack l.fn.hands
+      → g.D.Device.calls l.device
+      ≡ g.D.Device.calls l.fn.device + answers (drop (length l.fn.lines.items) l.lines.items);
+  back : HandsFit l.fn.vault l.fn.hands → NoneBack l.fn.hands → NoneBack l.hands;
 }

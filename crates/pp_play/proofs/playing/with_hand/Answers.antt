@@ -1,8 +1,9 @@
-use Rattle.std.proofs.Common.{◌∙◌, sym, ap, subst}
+use Rattle.std.proofs.Common.{◌∙◌, refl, sym, ap, subst}
 use Rattle.pp_script.specs.declared.cue.Cue.TheVariants as cue
 use Rattle.pp_play.specs.Plays.{ComesTo}
 use Rattle.pp_play.specs.Doing.{cue_worker, HandPlays}
 use Rattle.pp_play.proofs.Asked.{same}
+use Rattle.pp_play.proofs.Called.{quiet}
 use Rattle.pp_play.proofs.playing.with_hand.Goals as goal
 
 pub returns-in-Fix-clause-comes : goal.returns-in-Fix-clause-comes
@@ -10,6 +11,12 @@ returns-in-Fix-clause-comes g c =
     let of = same _ _ (sym (ap cue_worker c.in-Fix.is) ∙ c.requires.cue) in
     subst (λ q. ComesTo c.args.vault.now q c.fix.result.1 c.fix.new.vault)
     (ap (λ w. cue.Fix w c.in-Fix.page) (sym of) ∙ sym c.in-Fix.is) c.fix.ensures.comes
+
+pub returns-in-Latch-clause-comes : goal.returns-in-Latch-clause-comes
+returns-in-Latch-clause-comes g c =
+    let of = same _ _ (sym (ap cue_worker c.in-Latch.is) ∙ c.requires.cue) in
+    subst (λ q. ComesTo c.args.vault.now q c.latch.result.1 c.latch.new.vault)
+    (ap (λ w. cue.Latch w) (sym of) ∙ sym c.in-Latch.is) c.latch.ensures.comes
 
 pub returns-in-Take-clause-plays : goal.returns-in-Take-clause-plays
 returns-in-Take-clause-plays g c fits =
@@ -88,3 +95,55 @@ returns-in-Look-clause-plays g c fits =
     subst
     (λ q. HandPlays c.args.vault.now c.args.worker c.args.hand q c.look.result.1 c.args.vault.now c.look.result.0)
     (ap (λ w. cue.Look w c.in-Look.slot) (sym of) ∙ sym c.in-Look.is) (c.look.ensures.plays c.args.worker fits)
+
+pub returns-in-Take-clause-called : goal.returns-in-Take-clause-called
+returns-in-Take-clause-called g c fits none =
+    quiet g.D.Device.calls c.args.vault.now c.take.new.vault c.requires.kept (cue.Take c.args.worker)
+    c.take.result.1 c.args.device.now refl c.take.ensures.comes
+
+pub returns-in-Fix-clause-called : goal.returns-in-Fix-clause-called
+returns-in-Fix-clause-called g c fits none =
+    quiet g.D.Device.calls c.args.vault.now c.fix.new.vault c.requires.kept (cue.Fix c.args.worker c.in-Fix.page)
+    c.fix.result.1 c.args.device.now refl c.fix.ensures.comes
+
+pub returns-in-Unfix-clause-called : goal.returns-in-Unfix-clause-called
+returns-in-Unfix-clause-called g c fits none =
+    quiet g.D.Device.calls c.args.vault.now c.unfix.new.vault c.requires.kept (cue.Unfix c.args.worker)
+    c.unfix.result.1 c.args.device.now refl c.unfix.ensures.comes
+
+pub returns-in-Latch-clause-called : goal.returns-in-Latch-clause-called
+returns-in-Latch-clause-called g c fits none =
+    quiet g.D.Device.calls c.args.vault.now c.latch.new.vault c.requires.kept (cue.Latch c.args.worker)
+    c.latch.result.1 c.args.device.now refl c.latch.ensures.comes
+
+pub returns-in-Unlatch-clause-called : goal.returns-in-Unlatch-clause-called
+returns-in-Unlatch-clause-called g c fits none =
+    quiet g.D.Device.calls c.args.vault.now c.unlatch.new.vault c.requires.kept (cue.Unlatch c.args.worker)
+    c.unlatch.result.1 c.args.device.now refl c.unlatch.ensures.comes
+
+pub returns-in-Choose-clause-called : goal.returns-in-Choose-clause-called
+returns-in-Choose-clause-called g c fits none =
+    quiet g.D.Device.calls c.args.vault.now c.choose.new.vault c.requires.kept (cue.Choose c.args.worker c.in-Choose.branch)
+    c.choose.result.1 c.args.device.now refl c.choose.ensures.comes
+
+pub returns-in-Unwind-clause-called : goal.returns-in-Unwind-clause-called
+returns-in-Unwind-clause-called g c fits none =
+    quiet g.D.Device.calls c.args.vault.now c.unwind.new.vault c.requires.kept (cue.Unwind c.args.worker c.in-Unwind.slot)
+    c.unwind.result.1 c.args.device.now refl c.unwind.ensures.comes
+
+pub returns-in-Finish-clause-called : goal.returns-in-Finish-clause-called
+returns-in-Finish-clause-called g c fits none =
+    quiet g.D.Device.calls c.args.vault.now c.finish.new.vault c.requires.kept (cue.Finish c.args.worker)
+    c.finish.result.1 c.args.device.now refl c.finish.ensures.comes
+
+pub returns-in-Write-clause-called : goal.returns-in-Write-clause-called
+returns-in-Write-clause-called g c fits none =
+    let asked = cue.Write c.args.worker c.in-Write.slot c.in-Write.byte in
+    quiet g.D.Device.calls c.args.vault.now c.args.vault.now c.requires.kept asked c.write.result.1 c.args.device.now
+    refl (λ s st. (s, c.write.ensures.tells asked refl s, st))
+
+pub returns-in-Look-clause-called : goal.returns-in-Look-clause-called
+returns-in-Look-clause-called g c fits none =
+    let asked = cue.Look c.args.worker c.in-Look.slot in
+    quiet g.D.Device.calls c.args.vault.now c.args.vault.now c.requires.kept asked c.look.result.1 c.args.device.now
+    refl (λ s st. (s, c.look.ensures.tells asked refl s, st))

@@ -7,6 +7,7 @@ use Rattle.pp_vault.specs.Events.{Does, Refuses}
 use Rattle.pp_vault.specs.Fits.{choose_call}
 use Rattle.pp_vault.specs.Tokens.{SessionFits}
 use Rattle.pp_play.proofs.Exactly.{did_exact}
+use Rattle.pp_play.proofs.Leaves.{did_leaves}
 use Rattle.pp_play.proofs.Fitting.{Laws, unmoved, untold_unmoved, hand_back, refused_plays}
 use Rattle.pp_play.proofs.Seating.{choose_fits, choose_others, choose_refused}
 use Rattle.pp_play.proofs.Unfit.{choose_unfit}
@@ -42,6 +43,9 @@ returns-in-Ok-clause-plays c fits =
     let done = choose_done old new c.known.ensures.kept w w refl c.args.branch does in
     record {
       exact = did_exact old new (cue.Choose w c.args.branch) c.did.result c.args.hand.guards c.args.hand.guards done c.did.ensures;
+      leaves =
+          did_leaves old new c.did.result done.some c.did.ensures c.args.hand
+          (record { stage = stage.In c.in-Ok.session; guards = c.args.hand.guards });
       fit = choose_fits laws old new c.known.ensures.kept w c.args.hand fits c.args.branch does c.in-Ok.session session;
       others = choose_others laws old new c.known.ensures.kept w c.args.hand fits c.args.branch does;
     }

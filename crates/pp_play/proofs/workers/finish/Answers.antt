@@ -6,6 +6,7 @@ use Rattle.pp_vault.specs.declared.stage.Stage.TheVariants as stage
 use Rattle.pp_vault.specs.Events.{Does, Refuses}
 use Rattle.pp_vault.specs.Fits.{is_acting, finish_call, end_call}
 use Rattle.pp_play.proofs.Exactly.{did_exact}
+use Rattle.pp_play.proofs.Leaves.{did_leaves}
 use Rattle.pp_play.proofs.Fitting.{Laws, unmoved, untold_unmoved, hand_back, refused_plays}
 use Rattle.pp_play.proofs.Seating.{finish_fits, finish_others, finish_refused, end_refused}
 use Rattle.pp_play.proofs.Unfit.{finish_unfit}
@@ -49,6 +50,9 @@ returns-in-Ok-clause-plays c fits =
     let done = finish_done old new c.known.ensures.kept w w refl does in
     record {
       exact = did_exact old new (cue.Finish w) c.did.result c.args.hand.guards c.args.hand.guards done c.did.ensures;
+      leaves =
+          did_leaves old new c.did.result done.some c.did.ensures c.args.hand
+          (record { stage = stage.Idle c.in-Ok.chair; guards = c.args.hand.guards });
       fit = finish_fits laws old new c.known.ensures.kept w c.args.hand fits (λ s. is_acting s w) does c.in-Ok.chair chair;
       others = finish_others laws old new c.known.ensures.kept w c.args.hand fits (λ s. is_acting s w) does;
     }
@@ -82,6 +86,9 @@ returns-in-Ok-end-clause-plays c fits =
     let done = end_done old new c.known.ensures.kept w w refl does in
     record {
       exact = did_exact old new (cue.Finish w) c.did-in-Ok-end.result c.args.hand.guards c.args.hand.guards done c.did-in-Ok-end.ensures;
+      leaves =
+          did_leaves old new c.did-in-Ok-end.result done.some c.did-in-Ok-end.ensures c.args.hand
+          (record { stage = stage.Idle c.in-Ok-end.chair; guards = c.args.hand.guards });
       fit = finish_fits laws old new c.known.ensures.kept w c.args.hand fits (λ s. is_leaving s w) does c.in-Ok-end.chair chair;
       others = finish_others laws old new c.known.ensures.kept w c.args.hand fits (λ s. is_leaving s w) does;
     }

@@ -7,6 +7,7 @@ use Rattle.pp_vault.specs.Events.{Does, Refuses}
 use Rattle.pp_vault.specs.Fits.{take_call}
 use Rattle.pp_vault.specs.Tokens.{SessionFits}
 use Rattle.pp_play.proofs.Exactly.{did_exact}
+use Rattle.pp_play.proofs.Leaves.{did_leaves}
 use Rattle.pp_play.proofs.Fitting.{Laws, unmoved, untold_unmoved, hand_back, refused_plays}
 use Rattle.pp_play.proofs.Seating.{take_fits, take_others, take_refused}
 use Rattle.pp_play.proofs.Unfit.{take_unfit}
@@ -41,6 +42,9 @@ returns-in-Ok-clause-plays c fits =
     let done = take_done old new c.known.ensures.kept w w refl does in
     record {
       exact = did_exact old new (cue.Take w) c.did.result c.args.hand.guards c.args.hand.guards done c.did.ensures;
+      leaves =
+          did_leaves old new c.did.result done.some c.did.ensures c.args.hand
+          (record { stage = stage.In c.in-Ok.session; guards = c.args.hand.guards });
       fit = take_fits laws old new c.known.ensures.kept w c.args.hand fits does c.in-Ok.session session;
       others = take_others laws old new c.known.ensures.kept w c.args.hand fits does;
     }

@@ -1,16 +1,29 @@
-use Rattle.std.proofs.Common.{ap, ◌∙◌}
+use Rattle.std.proofs.Common.{sym, ap, subst, ◌∙◌}
+use Rattle.pp_vault.specs.Hands.{HandsFit}
 use Rattle.pp_simulate.specs.Simulating.{after_submits}
 use Rattle.pp_simulate.proofs.Submits.{last_first, taken_next}
 use Rattle.pp_model.specs.Submitting.{after_submit}
 use Rattle.pp_simulate.proofs.simulation.submit_all.Goals as goal
 
 pub loop-plan-preserved : goal.loop-plan-preserved
-loop-plan-preserved c = λ s stands.
-    let now = c.loop-plan.invariant s stands in (
-      after_submit now.0 c.in-Some.plan,
-      c.in_default-submit.ensures.ok.stands now.0 now.1,
-      now.2
-          ∙ ap (after_submits now.0) (last_first c.loop-plan.waiting.items c.pop.new.self.items c.in-Some.plan
-          c.in-Some.ensures.items)
-          ∙ taken_next now.0 c.in-Some.plan _ (c.in_default-submit.ensures.ok.allowed now.0 now.1),
-    )
+loop-plan-preserved c =
+    let taken = c.in_default-submit.ensures.ok in
+    record {
+      takes = λ s stands.
+          let now = c.loop-plan.invariant.takes s stands in (
+            after_submit now.0 c.in-Some.plan,
+            taken.stands now.0 now.1,
+            now.2
+                ∙ ap (after_submits now.0) (last_first c.loop-plan.waiting.items c.pop.new.self.items c.in-Some.plan
+                c.in-Some.ensures.items)
+                ∙ taken_next now.0 c.in-Some.plan _ (taken.allowed now.0 now.1),
+          );
+      kept = c.submit.ensures.kept;
+      fit = λ h fits.
+          c.hands_still_fit.ensures.submits _ _ _ _ c.loop-plan.invariant.kept taken h
+          (c.loop-plan.invariant.fit h fits);
+    }
+
+pub returns-in-Err-clause-fit : goal.returns-in-Err-clause-fit
+returns-in-Err-clause-fit c h fits =
+    subst (λ v. HandsFit v h) (sym c.in-Err.ensures.unchanged) (c.loop-plan.invariant.fit h fits)

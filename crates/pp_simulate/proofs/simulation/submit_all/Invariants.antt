@@ -1,13 +1,19 @@
 use Rattle.std.proofs.Common.{◌≡◌, reverse, vec_len}
 use Rattle.pp_model.specs.Pool.{State}
-use Rattle.pp_vault.specs.StandsFor.{StandsFor}
+use Rattle.pp_vault.specs.Hands.{HandsFit}
+use Rattle.pp_vault.specs.StandsFor.{StandsFor, IsKept}
+use Rattle.pp_vault.specs.declared.hands.Hands.{Hands}
 use Rattle.pp_simulate.specs.Simulating.{after_submits}
 use Rattle.pp_simulate.proofs.simulation.submit_all.Given as goal
 
 abbrev pub invariant-loop-plan : goal.invariant-loop-plan
-invariant-loop-plan l = (s : State) → StandsFor l.fn.vault s
-    → (t : State) × StandsFor l.vault t
-    × (after_submits s l.fn.plans.items ≡ after_submits t (reverse l.waiting.items))
+invariant-loop-plan l = record {
+  takes :
+      (s : State) → StandsFor l.fn.vault s → (t : State) × StandsFor l.vault t
+      × (after_submits s l.fn.plans.items ≡ after_submits t (reverse l.waiting.items));
+  kept : IsKept l.vault;
+  fit : (h : Hands) → HandsFit l.fn.vault h → HandsFit l.vault h;
+}
 
 abbrev pub decreases-loop-plan : goal.decreases-loop-plan
 decreases-loop-plan l = vec_len l.waiting
