@@ -18,7 +18,7 @@ use Rattle.pp_vault.specs.declared.tokens.Duty.TheVariants as duty
 use Rattle.pp_vault.specs.declared.guards.Guard.TheVariants as guard
 use Rattle.pp_vault.specs.Parts as vault
 use Rattle.pp_vault.specs.Calls.{Call, stranger, asks}
-use Rattle.pp_vault.specs.Fits.{is_acting, fits_both, asks_unfix, asks_latch, asks_unlatch, guard_call, leaver_fits}
+use Rattle.pp_vault.specs.Fits.{is_acting, fix_slot, names_slot, fits_both, asks_unfix, asks_latch, asks_unlatch, guard_call, leaver_fits}
 use Rattle.pp_vault.specs.Answers.{is_flush_out, is_write_out, is_read_out, duty_call}
 use Rattle.pp_vault.specs.Flushes.{flush_if}
 use Rattle.pp_vault.specs.Tokens.{is_long}
@@ -57,7 +57,7 @@ by_search number s false None = tt
 
 pub event_fits : (v : vault.Parts) (asked : Request) (s : State) → IfSome (event_of s (call_of v asked s)) (IsEventOf asked)
 event_fits v (request.Take chair) s = by_token (request.Take chair) s (is_idle s chair.worker) _ refl
-event_fits v (request.Fix x page) s = by_token (request.Fix x page) s (is_acting s x.worker) _ refl
+event_fits v (request.Fix x page) s = by_token (request.Fix x page) s (names_slot (fix_slot x.ask) (ask_of s x.worker)) _ refl
 event_fits v (request.Unfix x g) s =
     by_guard (request.Unfix x g) s (fits_both s x.worker g.worker g.slot g.page Free)
     (asks_unfix g.slot (ask_of s x.worker)) _ refl

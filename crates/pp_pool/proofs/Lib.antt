@@ -4,3 +4,7 @@ pub mod Tokens
 pub mod Fitting
 pub mod Replying
 pub mod Looking
+pub mod Placing
+pub mod Turning
+pub mod Keeping
+pub mod Flushed

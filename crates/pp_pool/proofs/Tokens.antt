@@ -1,16 +1,19 @@
 -- Whose tokens an answer gives.
-use Rattle.std.proofs.Common.{◌≡◌, ℕ, Bool, List, Some, None, refl, sym, ap}
+use Rattle.std.proofs.Common.{◌≡◌, ◌≤◌, ℕ, Bool, List, length, Some, None, refl, sym, ap, subst}
 use Rattle.pp_vault.specs.declared.tokens.Duty.{Duty}
 use Rattle.pp_vault.specs.declared.tokens.Duty.TheVariants.{Read, Write, Flush}
 use Rattle.pp_vault.specs.declared.tokens.Errand.{Errand}
 use Rattle.pp_vault.specs.declared.tokens.Leaver.{Leaver}
 use Rattle.pp_vault.specs.declared.tokens.Session.{Session}
 use Rattle.pp_vault.specs.declared.guards.PinGuard.{PinGuard}
+use Rattle.pp_vault.specs.declared.guards.WriteGuard.{WriteGuard}
 use Rattle.pp_vault.specs.declared.guards.Guard.{Guard}
 use Rattle.pp_vault.specs.declared.guards.Guard.TheVariants as guard
 use Rattle.pp_vault.specs.declared.answering.Answered.TheVariants as answered
 use Rattle.pp_vault.specs.Parts.{Parts}
-use Rattle.pp_vault.specs.Duties.{duty_worker}
+use Rattle.pp_vault.specs.StandsFor.{IsKept}
+use Rattle.pp_vault.specs.Uses.{LatchesExclusive}
+use Rattle.pp_vault.specs.Duties.{duty_worker, duty_slot}
 use Rattle.pp_vault.specs.Fixes.{IsSent}
 use Rattle.pp_vault.specs.Leaves.{GivesBack}
 use Rattle.pp_vault.specs.Answers.{DutyEnds}
@@ -20,6 +23,11 @@ pub sent_worker : (old new : Parts) (w page : ℕ) (image : List ℕ) (d : Duty)
 sent_worker old new w page image (Read v slot p) h = ap Some h.0
 sent_worker old new w page image (Write v slot p victim) h = ap Some h.0
 sent_worker old new w page image (Flush p) h = absurd h
+
+pub latched_long : (old new : Parts) (x y : Session) (g : PinGuard) (h : WriteGuard) → LatchesExclusive old x g new y h
+    → IsKept new → 64 ≤ length h.image
+latched_long old new x y g h latches kept =
+    subst (λ n. 64 ≤ n) (sym latches.guard.long) kept.stands.images.wide
 
 pub back_same : (old new : Parts) (x : Leaver) (g : Guard) (y : Leaver) → GivesBack old x g new y → y ≡ x
 back_same old new x (guard.Pin g) y h = h.still.same
@@ -32,6 +40,12 @@ module _ (old new : Parts) (image : List ℕ) (ok : Bool) where
   got_worker (Read w slot page) x g h = ap Some (sym h.1.session.worker)
   got_worker (Write w slot page victim) x g h = absurd h
   got_worker (Flush page) x g h = absurd h
+
+  pub got_slot : (d : Duty) (x : Session) (g : PinGuard) → DutyEnds old d image ok (answered.Got x g) new
+      → duty_slot d ≡ Some g.slot
+  got_slot (Read w slot page) x g h = ap Some (sym h.1.of_slot)
+  got_slot (Write w slot page victim) x g h = absurd h
+  got_slot (Flush page) x g h = absurd h
 
   pub away_worker : (d : Duty) (errand : Errand) → DutyEnds old d image ok (answered.Away errand) new
       → duty_worker errand.duty ≡ duty_worker d

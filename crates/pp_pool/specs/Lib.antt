@@ -7,3 +7,6 @@ pub mod Submits
 pub mod BookErrors
 pub mod Replies
 pub mod Performs
+pub mod Flushings
+pub mod FlushTurns
+pub mod Turns

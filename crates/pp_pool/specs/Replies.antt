@@ -1,5 +1,5 @@
 -- What every site promises of an outcome, whatever others have done meanwhile.
-use Rattle.std.specs.Prelude.{◌≡◌, ℕ, Bool, not, Some, None, IfSome, List, is_ok}
+use Rattle.std.specs.Prelude.{◌≡◌, ◌≤◌, ℕ, length, Bool, not, Some, None, IfSome, List, is_ok}
 use Rattle.std.specs.Option.{is_some}
 use Rattle.pp_model.specs.declared.moves.Move.{Move}
 use Rattle.pp_model.specs.declared.moves.Move.TheVariants as move
@@ -8,7 +8,8 @@ use Rattle.pp_model.specs.declared.event.Event.TheVariants.{Submit, Step}
 use Rattle.pp_device.specs.Image.{head_of}
 use Rattle.pp_vault.specs.declared.tokens.Duty.{Duty}
 use Rattle.pp_vault.specs.declared.tokens.Duty.TheVariants.{Read, Write, Flush}
-use Rattle.pp_vault.specs.Duties.{duty_worker}
+use Rattle.pp_vault.specs.Duties.{duty_worker, duty_slot}
+use Rattle.pp_vault.specs.Fits.{fix_slot}
 use Rattle.pp_vault.specs.Holding.{slot_by}
 use Rattle.pp_vault.specs.Answers.{came_of}
 use Rattle.pp_pool.specs.declared.request.Request.{Request}
@@ -50,23 +51,26 @@ IsEventOf asked (Step did reply) = IsMoveOf asked did
 
 -- ---- the tokens
 
--- The tokens of an answer are of the request's worker, and a guard is of the slot and the page that it was of. What is
--- refused comes back.
+-- The tokens of an answer are of the request's worker, and a guard is of the slot and the page that it was of; one of a
+-- latch X has an image of 64 bytes or more. What is refused comes back.
 abbrev pub TokensFit : Request → Answer → Type 0
 TokensFit asked (No back refusal) = back ≡ asked
 TokensFit (request.Take chair) (Acts x) = x.worker ≡ chair.worker
-TokensFit (request.Fix x page) (Pinned y g) = (y.worker ≡ x.worker) × (g.worker ≡ x.worker) × (g.page ≡ page)
+TokensFit (request.Fix x page) (Pinned y g) =
+    (y.worker ≡ x.worker) × (g.worker ≡ x.worker) × (g.page ≡ page) × (g.slot ≡ fix_slot x.ask)
 TokensFit (request.Fix x page) (Away errand) = duty_worker errand.duty ≡ Some x.worker
 TokensFit (request.Unfix x g) (Acts y) = y.worker ≡ x.worker
 TokensFit (request.LatchShared x g) (Shared y h) = (y.worker ≡ x.worker) × (h.slot ≡ g.slot) × (h.page ≡ g.page)
-TokensFit (request.LatchExclusive x g) (Exclusive y h) = (y.worker ≡ x.worker) × (h.slot ≡ g.slot) × (h.page ≡ g.page)
+TokensFit (request.LatchExclusive x g) (Exclusive y h) =
+    (y.worker ≡ x.worker) × (h.slot ≡ g.slot) × (h.page ≡ g.page) × (64 ≤ length h.image)
 TokensFit (request.UnlatchShared x g) (Pinned y h) = (y.worker ≡ x.worker) × (h.slot ≡ g.slot) × (h.page ≡ g.page)
 TokensFit (request.UnlatchExclusive x g) (Pinned y h) = (y.worker ≡ x.worker) × (h.slot ≡ g.slot) × (h.page ≡ g.page)
 TokensFit (request.Choose x branch) (Acts y) = y.worker ≡ x.worker
 TokensFit (request.Finish x) (Idle chair) = chair.worker ≡ x.worker
 TokensFit (request.End x) (Idle chair) = chair.worker ≡ x.worker
 TokensFit (request.GiveBack x g) (Leaves y) = y ≡ x
-TokensFit (request.Answer returned) (Pinned y g) = duty_worker returned.duty ≡ Some y.worker
+TokensFit (request.Answer returned) (Pinned y g) =
+    (duty_worker returned.duty ≡ Some y.worker) × (duty_slot returned.duty ≡ Some g.slot)
 TokensFit (request.Answer returned) (Away errand) = duty_worker errand.duty ≡ duty_worker returned.duty
 TokensFit (request.Answer returned) (Leaves x) = duty_worker returned.duty ≡ Some x.worker
 TokensFit (request.Answer returned) (Flushed clean) = duty_worker returned.duty ≡ None

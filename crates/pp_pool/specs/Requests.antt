@@ -7,7 +7,7 @@ use Rattle.pp_model.specs.declared.event.Event.TheVariants.{Step}
 use Rattle.pp_model.specs.Pool.{State}
 use Rattle.pp_vault.specs.Parts as vault
 use Rattle.pp_vault.specs.Calls.{Call, told}
-use Rattle.pp_vault.specs.Fits.{take_call, fix_call, unfix_call, latch_call, unlatch_call, put_back_call}
+use Rattle.pp_vault.specs.Fits.{fix_slot, take_call, fix_call, unfix_call, latch_call, unlatch_call, put_back_call}
 use Rattle.pp_vault.specs.Fits.{choose_call, finish_call, end_call}
 use Rattle.pp_vault.specs.Leaves.{give_back_call}
 use Rattle.pp_vault.specs.Answers.{answer_call}
@@ -21,7 +21,7 @@ use Rattle.pp_pool.specs.Parts.{Parts, state_of}
 -- ask, or a move.
 abbrev pub call_of : vault.Parts → Request → State → Call
 call_of v (request.Take chair) s = take_call chair.worker s
-call_of v (request.Fix x page) s = fix_call x.worker page s
+call_of v (request.Fix x page) s = fix_call x.worker (fix_slot x.ask) page s
 call_of v (request.Unfix x g) s = unfix_call x.worker g.worker g.slot g.page s
 call_of v (request.LatchShared x g) s = latch_call mode.S x.worker g.worker g.slot g.page s
 call_of v (request.LatchExclusive x g) s = latch_call mode.X x.worker g.worker g.slot g.page s

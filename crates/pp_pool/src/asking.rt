@@ -138,7 +138,7 @@ fn latch_shared(vault: &mut Vault, session: Session, guard: PinGuard) -> Answer
     }
 }
 
-#[tactic(auto, using(crate::proofs::Noted::refused_does))]
+#[tactic(auto, using(crate::proofs::Noted::refused_does, crate::proofs::Tokens::latched_long))]
 fn latch_exclusive(vault: &mut Vault, session: Session, guard: PinGuard) -> Answer
     ensures comes { ComesTo vault.old (request.LatchExclusive session guard) result vault.new }
     ensures does { DoesUnless vault.old (request.LatchExclusive session guard) result vault.new }
@@ -182,7 +182,7 @@ fn unlatch_exclusive(vault: &mut Vault, session: Session, guard: WriteGuard) -> 
 
 // ---- a device, and the flusher
 
-#[tactic(auto, using(crate::proofs::Noted::refused_does, crate::proofs::Tokens::got_worker, crate::proofs::Tokens::away_worker, crate::proofs::Tokens::lost_worker, crate::proofs::Tokens::flushed_worker))]
+#[tactic(auto, using(crate::proofs::Noted::refused_does, crate::proofs::Tokens::got_worker, crate::proofs::Tokens::got_slot, crate::proofs::Tokens::away_worker, crate::proofs::Tokens::lost_worker, crate::proofs::Tokens::flushed_worker))]
 fn answer(vault: &mut Vault, returned: Returned) -> Answer
     ensures comes { ComesTo vault.old (request.Answer returned) result vault.new }
     ensures does { DoesUnless vault.old (request.Answer returned) result vault.new }

@@ -3,16 +3,24 @@
 
 pub use book::Book;
 pub use error::BookError;
+pub use flusher::Flusher;
 pub use outcome::{Answer, Outcome};
 pub use pp_model::Event;
 pub use request::Request;
 pub use site::{OwnSite, Site};
+pub use turned::Turned;
 pub use work::Work;
+pub use worker::Worker;
 
+mod asked;
 mod asking;
 mod book;
 mod error;
+mod flusher;
 mod outcome;
 mod request;
 mod site;
+mod taken;
+mod turned;
 mod work;
+mod worker;

@@ -1,0 +1,143 @@
+-- A worker's tokens stay that worker's over a turn.
+use Rattle.std.proofs.Common.{◌≡◌, ◌∙◌, ℕ, Bool, Option, Some, None, List, refl, sym, ap, subst}
+use Rattle.std.specs.Prelude.{IfSome}
+use Rattle.pp_settings.specs.Layout.{Geometry}
+use Rattle.pp_device.specs.Answers.{Answer as DeviceAnswer}
+use Rattle.pp_vault.specs.declared.tokens.Session.{Session}
+use Rattle.pp_vault.specs.declared.tokens.Leaver.{Leaver}
+use Rattle.pp_vault.specs.declared.stage.Stage.{Stage}
+use Rattle.pp_vault.specs.declared.stage.Stage.TheVariants as stage
+use Rattle.pp_vault.specs.Stages.{stage_worker}
+use Rattle.pp_vault.specs.Duties.{duty_worker}
+use Rattle.pp_pool.specs.declared.request.Request.{Request}
+use Rattle.pp_pool.specs.declared.request.Request.TheVariants as request
+use Rattle.pp_pool.specs.declared.outcome.Answer.{Answer}
+use Rattle.pp_pool.specs.declared.outcome.Answer.TheVariants as answer
+use Rattle.pp_pool.specs.declared.outcome.Outcome.{Outcome}
+use Rattle.pp_pool.specs.Replies.{TokensFit, Replies}
+use Rattle.pp_pool.specs.Turns.{stage_asked, stage_in, Works, IsStep, IsWayOut, Asks}
+use Rattle.pp_pool.proofs.Turning.{works_stage}
+
+-- The worker of a request; none where it is the flusher's.
+abbrev worker_asked : Request → Option ℕ
+worker_asked (request.Take chair) = Some chair.worker
+worker_asked (request.Fix x page) = Some x.worker
+worker_asked (request.Unfix x g) = Some x.worker
+worker_asked (request.LatchShared x g) = Some x.worker
+worker_asked (request.LatchExclusive x g) = Some x.worker
+worker_asked (request.UnlatchShared x g) = Some x.worker
+worker_asked (request.UnlatchExclusive x g) = Some x.worker
+worker_asked (request.Choose x branch) = Some x.worker
+worker_asked (request.Finish x) = Some x.worker
+worker_asked (request.End x) = Some x.worker
+worker_asked (request.GiveBack x g) = Some x.worker
+worker_asked (request.Answer returned) = duty_worker returned.duty
+worker_asked (request.Flush page) = None
+worker_asked (request.FlushNext number) = None
+
+-- ---- the request is of the hand's worker
+
+of_session : (x y : Session) → y ≡ x → Some y.worker ≡ Some x.worker
+of_session x y same = ap (λ (z : Session). Some z.worker) same
+
+of_leaver : (x y : Leaver) → y ≡ x → Some y.worker ≡ Some x.worker
+of_leaver x y same = ap (λ (z : Leaver). Some z.worker) same
+
+of_step : (layout : Geometry) (x : Session) (asked : Request) → IsStep layout x asked → worker_asked asked ≡ Some x.worker
+of_step layout x (request.Fix y page) step = of_session x y step.0
+of_step layout x (request.Unfix y g) step = of_session x y step.0
+of_step layout x (request.LatchShared y g) step = of_session x y step.0
+of_step layout x (request.LatchExclusive y g) step = of_session x y step.0
+of_step layout x (request.UnlatchShared y g) step = of_session x y step.0
+of_step layout x (request.UnlatchExclusive y g) step = of_session x y step.0
+of_step layout x (request.Choose y branch) step = of_session x y step.0
+of_step layout x (request.Finish y) step = of_session x y step.0
+of_step layout x (request.Take chair) step = absurd step
+of_step layout x (request.End y) step = absurd step
+of_step layout x (request.GiveBack y g) step = absurd step
+of_step layout x (request.Answer returned) step = absurd step
+of_step layout x (request.Flush page) step = absurd step
+of_step layout x (request.FlushNext number) step = absurd step
+
+of_way_out : (x : Leaver) (asked : Request) → IsWayOut x asked → worker_asked asked ≡ Some x.worker
+of_way_out x (request.GiveBack y g) out = of_leaver x y out
+of_way_out x (request.End y) out = of_leaver x y out
+of_way_out x (request.Take chair) out = absurd out
+of_way_out x (request.Fix y page) out = absurd out
+of_way_out x (request.Unfix y g) out = absurd out
+of_way_out x (request.LatchShared y g) out = absurd out
+of_way_out x (request.LatchExclusive y g) out = absurd out
+of_way_out x (request.UnlatchShared y g) out = absurd out
+of_way_out x (request.UnlatchExclusive y g) out = absurd out
+of_way_out x (request.Choose y branch) out = absurd out
+of_way_out x (request.Finish y) out = absurd out
+of_way_out x (request.Answer returned) out = absurd out
+of_way_out x (request.Flush page) out = absurd out
+of_way_out x (request.FlushNext number) out = absurd out
+
+of_stage : {D : Type 0} (reads : D → ℕ → List ℕ → DeviceAnswer → List ℕ → D → Type 0)
+    (writes : D → ℕ → List ℕ → DeviceAnswer → D → Type 0) (calls failures : D → ℕ) (layout : Geometry) (at : Stage)
+    (old : D) (asked : Request) (new : D) → Asks reads writes calls failures layout at old asked new
+    → worker_asked asked ≡ stage_worker at
+of_stage reads writes calls failures layout (stage.Idle chair) old asked new asks = ap worker_asked asks.0
+of_stage reads writes calls failures layout (stage.In x) old asked new asks = of_step layout x asked asks.0
+of_stage reads writes calls failures layout (stage.Out errand) old asked new asks =
+    ap worker_asked asks.sent ∙ ap duty_worker asks.duty
+of_stage reads writes calls failures layout (stage.Back returned) old asked new asks = ap worker_asked asks.0
+of_stage reads writes calls failures layout (stage.Leaving x) old asked new asks = of_way_out x asked asks.0
+
+-- ---- the answer is of the request's worker
+
+-- The stage, if there is one, is of this worker.
+abbrev IsOf : Option ℕ → Option Stage → Type 0
+IsOf w at = IfSome at (λ s. stage_worker s ≡ w)
+
+of_back : (asked : Request) → IsOf (worker_asked asked) (stage_asked asked)
+of_back (request.Take chair) = refl
+of_back (request.Fix x page) = refl
+of_back (request.Unfix x g) = refl
+of_back (request.LatchShared x g) = refl
+of_back (request.LatchExclusive x g) = refl
+of_back (request.UnlatchShared x g) = refl
+of_back (request.UnlatchExclusive x g) = refl
+of_back (request.Choose x branch) = refl
+of_back (request.Finish x) = refl
+of_back (request.End x) = refl
+of_back (request.GiveBack x g) = refl
+of_back (request.Answer returned) = refl
+of_back (request.Flush page) = tt
+of_back (request.FlushNext number) = tt
+
+of_answer : (asked : Request) (out : Answer) → TokensFit asked out → IsOf (worker_asked asked) (stage_in out)
+of_answer asked (answer.No back why) fit = subst (λ r. IsOf (worker_asked r) (stage_asked back)) fit (of_back back)
+of_answer (request.Take chair) (answer.Acts y) fit = ap Some fit
+of_answer (request.Fix x page) (answer.Pinned y h) fit = ap Some fit.0
+of_answer (request.Fix x page) (answer.Away errand) fit = fit
+of_answer (request.Unfix x g) (answer.Acts y) fit = ap Some fit
+of_answer (request.LatchShared x g) (answer.Shared y h) fit = ap Some fit.0
+of_answer (request.LatchExclusive x g) (answer.Exclusive y h) fit = ap Some fit.0
+of_answer (request.UnlatchShared x g) (answer.Pinned y h) fit = ap Some fit.0
+of_answer (request.UnlatchExclusive x g) (answer.Pinned y h) fit = ap Some fit.0
+of_answer (request.Choose x branch) (answer.Acts y) fit = ap Some fit
+of_answer (request.Finish x) (answer.Idle chair) fit = ap Some fit
+of_answer (request.End x) (answer.Idle chair) fit = ap Some fit
+of_answer (request.GiveBack x g) (answer.Leaves y) fit = of_leaver x y fit
+of_answer (request.Answer returned) (answer.Pinned y h) fit = sym fit.0
+of_answer (request.Answer returned) (answer.Away errand) fit = fit
+of_answer (request.Answer returned) (answer.Leaves y) fit = sym fit
+of_answer (request.Answer returned) (answer.Flushed clean) fit = tt
+of_answer (request.Flush page) (answer.Away errand) fit = fit
+of_answer (request.FlushNext number) (answer.Away errand) fit = fit
+of_answer asked out fit = absurd fit
+
+-- ---- a turn
+
+pub keeps_worker : {D : Type 0} (reads : D → ℕ → List ℕ → DeviceAnswer → List ℕ → D → Type 0)
+    (writes : D → ℕ → List ℕ → DeviceAnswer → D → Type 0) (calls failures : D → ℕ) (layout : Geometry)
+    (before after : Stage) (old : D) (asked : Request) (new : D) (outcome : Outcome) (used : Answer)
+    → Asks reads writes calls failures layout before old asked new → Replies asked outcome
+    → Works outcome.answer used → stage_in used ≡ Some after → stage_worker after ≡ stage_worker before
+keeps_worker reads writes calls failures layout before after old asked new outcome used asks replies works there =
+    subst (IsOf (worker_asked asked)) (sym (works_stage outcome.answer used works) ∙ there)
+    (of_answer asked outcome.answer replies.tokens)
+    ∙ of_stage reads writes calls failures layout before old asked new asks

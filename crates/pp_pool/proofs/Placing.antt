@@ -1,0 +1,109 @@
+-- Places from which a guard is taken, and to which it goes back.
+use Rattle.std.proofs.Common.{◌≡◌, ◌∙◌, ◌<◌, ℕ, suc, Bool, true, false, Option, Some, None, List, [], ◌∷◌, length, refl, sym, ap, subst, inl, inr, arith}
+use Rattle.std.specs.Prelude.{ltb, ◌&&◌, is_none, slice_set, IfSome, IfOk, Result, Ok, Err}
+use Rattle.std.proofs.lemmas.List.{get_or-set_same, length-set, set-set, set-get_or, get_or_past}
+use Rattle.std.proofs.lemmas.Bool.{lt-ltb, cases_lt, false≢true}
+use Rattle.pp_settings.specs.Layout.{Geometry}
+use Rattle.pp_vault.specs.declared.tokens.Session.{Session}
+use Rattle.pp_vault.specs.declared.guards.Guard.{Guard}
+use Rattle.pp_vault.specs.declared.stage.Stage.TheVariants.{In}
+use Rattle.pp_vault.specs.declared.stage.Hand.{Hand}
+use Rattle.pp_vault.specs.Holding.{slot_by, placed, is_free, all_free}
+use Rattle.pp_pool.specs.declared.request.Request.{Request}
+use Rattle.pp_pool.specs.declared.request.Request.TheVariants as request
+use Rattle.pp_pool.specs.Turns.{guard_asked, slot_for, places_without, IsStep, IsWorkers, LeavesNone, Prepares}
+
+none_is_some : (g : Guard) → ◌≡◌ {A = Option Guard} None (Some g) → ⊥
+none_is_some g e = cc
+
+module _ (places : List (Option Guard)) (n : ℕ) (g : Guard) (there : placed places n ≡ Some g) where
+  -- What is in a place is within the places.
+  within : n < length places
+  within =
+      elim (cases_lt n (length places)) [
+        | inl lt ↦ lt
+        | inr le ↦ absurd (none_is_some g (sym (get_or_past places n None le) ∙ there))
+      ]
+
+  pub taken_free : is_free (slice_set places n None) n ≡ true
+  taken_free =
+      ap (λ k. ltb n k && is_none (placed (slice_set places n None) n)) (length-set places n None)
+      ∙ ap (λ b. b && is_none (placed (slice_set places n None) n)) (lt-ltb n (length places) within)
+      ∙ ap is_none (get_or-set_same places n None None within)
+
+  pub put_back : slice_set (slice_set places n None) n (Some g) ≡ places
+  put_back =
+      set-set places n None (Some g) ∙ ap (λ o. slice_set places n o) (sym there) ∙ set-get_or places n None
+
+-- Where no place has a guard, all are free.
+all_free_from : (places : List (Option Guard)) → ((k : ℕ) → k < length places → placed places k ≡ None)
+    → all_free places ≡ true
+all_free_from [] h = refl
+all_free_from (None ∷ places) h =
+    all_free_from places (λ k lt. h (suc k) (omega (arith, lt)))
+all_free_from (Some g ∷ places) h = ap is_none (h 0 (omega arith))
+
+pub not_free : (places : List (Option Guard)) → all_free places ≡ false → length places ≡ 32
+    → ((k : ℕ) → k < 32 → placed places k ≡ None) → ⊥
+not_free places some long h =
+    false≢true (sym some ∙ all_free_from places (λ k lt. h k (omega (arith, lt, long))))
+
+-- A request with a guard in it is not the end.
+leaves_none : (places : List (Option Guard)) (g : Guard) (asked : Request) → guard_asked asked ≡ Some g
+    → LeavesNone places asked
+leaves_none places g (request.End x) e = absurd (none_is_some g e)
+leaves_none places g (request.Take chair) e = tt
+leaves_none places g (request.Fix x page) e = tt
+leaves_none places g (request.Unfix x h) e = tt
+leaves_none places g (request.LatchShared x h) e = tt
+leaves_none places g (request.LatchExclusive x h) e = tt
+leaves_none places g (request.UnlatchShared x h) e = tt
+leaves_none places g (request.UnlatchExclusive x h) e = tt
+leaves_none places g (request.Choose x branch) e = tt
+leaves_none places g (request.Finish x) e = tt
+leaves_none places g (request.GiveBack x h) e = tt
+leaves_none places g (request.Answer returned) e = tt
+leaves_none places g (request.Flush page) e = tt
+leaves_none places g (request.FlushNext number) e = tt
+
+-- A worker whose slot has this guard makes the request with it.
+pub prepared : (places rest : List (Option Guard)) (n : ℕ) (g : Guard) (asked : Request) → placed places n ≡ Some g
+    → slot_by g ≡ n → rest ≡ slice_set places n None → guard_asked asked ≡ Some g → slot_for asked ≡ Some (slot_by g)
+    → IsWorkers asked → Prepares places asked rest
+prepared places rest n g asked there slot keeps guard by workers =
+    record {
+      keeps =
+          keeps ∙ ap (λ k. slice_set places k None) (sym slot) ∙ ap (places_without places) (sym guard);
+      finds =
+          subst (λ (o : Option ℕ). IfSome o (λ k. is_free rest k ≡ true)) (sym by)
+          (ap (is_free rest) slot ∙ ap (λ (ps : List (Option Guard)). is_free ps n) keeps ∙ taken_free places n g there);
+      none = leaves_none places g asked guard;
+      workers = workers;
+    }
+
+-- A guard that no request takes goes back to its place.
+pub back_same : (places mid rest : List (Option Guard)) (n : ℕ) (g : Guard) → placed places n ≡ Some g
+    → slot_by g ≡ n → mid ≡ slice_set places n None → rest ≡ slice_set mid (slot_by g) (Some g) → rest ≡ places
+back_same places mid rest n g there slot taken put =
+    put
+    ∙ ap (λ k. slice_set mid k (Some g)) slot
+    ∙ ap (λ (ps : List (Option Guard)). slice_set ps n (Some g)) taken
+    ∙ put_back places n g there
+
+-- So the hand is what it was.
+pub hand_back : (x y : Session) (places mid rest : List (Option Guard)) (n : ℕ) (g h : Guard) → ◌≡◌ {A = Session × Guard} (x, g) (y, h)
+    → placed places n ≡ Some h → slot_by h ≡ n → mid ≡ slice_set places n None
+    → rest ≡ slice_set mid (slot_by g) (Some g)
+    → ◌≡◌ {A = Hand} (record { stage = In x; guards = rest }) (record { stage = In y; guards = places })
+hand_back x y places mid rest n g h back there slot taken put =
+    let of : Session → List (Option Guard) → Hand = λ s ps. record { stage = In s; guards = ps } in
+    let same : g ≡ h = ap (λ (p : Session × Guard). p.1) back in
+    ap (λ (s : Session). of s rest) (ap (λ (p : Session × Guard). p.0) back)
+    ∙ ap (of y)
+    (back_same places mid rest n h there slot taken (put ∙ ap (λ k. slice_set mid (slot_by k) (Some k)) same))
+
+-- A step that holds in every layout holds in this one.
+pub step_at : (r : Result (Request × List (Option Guard)) Hand) (layout : Geometry) (x : Session)
+    → IfOk r (λ next. (l : Geometry) → IsStep l x next.0) → IfOk r (λ next. IsStep layout x next.0)
+step_at (Ok next) layout x h = h layout
+step_at (Err e) layout x h = tt

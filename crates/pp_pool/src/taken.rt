@@ -1,0 +1,70 @@
+//! What a worker has in hand after an answer.
+
+ghost use Rattle.std.specs.Prelude.{◌≡◌, true, Some, IsSome, IfSome};
+ghost use Rattle.pp_vault.specs.Holding.{slot_by, is_free};
+ghost use Rattle.pp_pool.specs.Turns.{stage_in, guard_in, stage_asked, guard_asked, places_with};
+
+use crate::asked::put;
+use crate::outcome::Answer;
+use crate::request::Request;
+use pp_vault::{Guard, Guards, Hand, Stage};
+
+/// The hand with the answer's tokens.
+pub(crate) fn hand_after(mut guards: Guards, answer: Answer) -> Hand
+    requires stage { IsSome (stage_in answer) }
+    requires place { IfSome (guard_in answer) (λ guard. is_free guards (slot_by guard) ≡ true) }
+    ensures stage { stage_in answer ≡ Some result.stage }
+    ensures guards { result.guards ≡ places_with guards (guard_in answer) }
+{
+    let (stage, guard) = tokens(answer);
+    match guard {
+        Some(guard) => put(&mut guards, guard),
+        None => {}
+    }
+    Hand { stage, guards }
+}
+
+/// The tokens of an answer: the stage's, and a guard, if there is one.
+fn tokens(answer: Answer) -> (Stage, Option<Guard>)
+    requires { IsSome (stage_in answer) }
+    ensures stage { stage_in answer ≡ Some result.0 }
+    ensures guard { result.1 ≡ guard_in answer }
+{
+    match answer {
+        Answer::Acts(session) => (Stage::In(session), None),
+        Answer::Idle(chair) => (Stage::Idle(chair), None),
+        Answer::Leaves(leaver) => (Stage::Leaving(leaver), None),
+        Answer::Away(errand) => (Stage::Out(errand), None),
+        Answer::Pinned(session, guard) => (Stage::In(session), Some(Guard::Pin(guard))),
+        Answer::Shared(session, guard) => (Stage::In(session), Some(Guard::Read(guard))),
+        Answer::Exclusive(session, guard) => (Stage::In(session), Some(Guard::Write(guard))),
+        Answer::Flushed(_) => unreachable!(),
+        Answer::No(request, _refusal) => tokens_back(request),
+    }
+}
+
+/// The tokens of a request that came back.
+fn tokens_back(request: Request) -> (Stage, Option<Guard>)
+    requires { IsSome (stage_asked request) }
+    ensures stage { stage_asked request ≡ Some result.0 }
+    ensures guard { result.1 ≡ guard_asked request }
+{
+    match request {
+        Request::Take(chair) => (Stage::Idle(chair), None),
+        Request::Fix(session, _) => (Stage::In(session), None),
+        Request::Choose(session, _) => (Stage::In(session), None),
+        Request::Finish(session) => (Stage::In(session), None),
+        Request::Unfix(session, guard) => (Stage::In(session), Some(Guard::Pin(guard))),
+        Request::LatchShared(session, guard) => (Stage::In(session), Some(Guard::Pin(guard))),
+        Request::LatchExclusive(session, guard) => (Stage::In(session), Some(Guard::Pin(guard))),
+        Request::UnlatchShared(session, guard) => (Stage::In(session), Some(Guard::Read(guard))),
+        Request::UnlatchExclusive(session, guard) => {
+            (Stage::In(session), Some(Guard::Write(guard)))
+        }
+        Request::End(leaver) => (Stage::Leaving(leaver), None),
+        Request::GiveBack(leaver, guard) => (Stage::Leaving(leaver), Some(guard)),
+        Request::Answer(returned) => (Stage::Back(returned), None),
+        Request::Flush(_) => unreachable!(),
+        Request::FlushNext(_) => unreachable!(),
+    }
+}

@@ -1,0 +1,243 @@
+//! A worker: it runs plans, one request a turn.
+
+ghost use Rattle.std.specs.Prelude.{◌≡◌, ◌<◌, ◌⊎◌, ◌++◌, true, false, [], OnOk, OnErr, length};
+ghost use Rattle.std.specs.Prelude.{vec_len, vec_capacity};
+ghost use Rattle.pp_pool.specs.Requests.{events_in};
+ghost use Rattle.pp_vault.specs.Stages.{is_chair, stage_worker};
+ghost use Rattle.pp_settings.specs.Settings.{geometry_of};
+ghost use Rattle.pp_pool.specs.Turns.{TurnIs, Works, IsTurned, IsLong, turned_by as turned_then};
+
+use crate::asked::next;
+use crate::outcome::{Answer, Outcome};
+use crate::site::Site;
+use crate::taken::hand_after;
+use crate::turned::Turned;
+use crate::work::Work;
+use core::mem;
+use pp_device::{Device, image};
+use pp_model::Event;
+use pp_settings::{Layout, Settings};
+use pp_vault::{Delay, Hand, ReadGuard, Refusal, Stage};
+use std::alloc::{AllocError, Global};
+
+/// A worker with its tokens, the site where it asks, the device that it calls, and a log of what it did.
+pub struct Worker<S, D> {
+    /// Where it asks.
+    pub site: S,
+    /// What it reads from and writes to.
+    pub device: D,
+    /// Its tokens.
+    pub hand: Hand,
+    /// The events of its moves, the first of them first.
+    pub log: Vec<Event>,
+    /// Where the regions of the plans lie.
+    pub layout: Layout,
+    page_bytes: u32,
+    // A copy of a page that is seen; empty before a plan is taken.
+    seen: Vec<u8>,
+    alloc: Global,
+}
+
+impl<S: Site, D: Device> Worker<S, D> {
+    /// A worker with these tokens, which has done nothing. It takes no memory yet.
+    pub fn new(alloc: Global, site: S, device: D, hand: Hand, settings: &Settings) -> Worker<S, D>
+        ensures site { result.site ≡ site }
+        ensures device { result.device ≡ device }
+        ensures hand { result.hand ≡ hand }
+        ensures log { result.log.items ≡ [] }
+        ensures layout { result.layout ≡ geometry_of settings.now }
+    {
+        Worker {
+            site,
+            device,
+            hand,
+            log: Vec::new(alloc),
+            layout: settings.layout(),
+            page_bytes: settings.page_bytes(),
+            seen: Vec::new(alloc),
+            alloc,
+        }
+    }
+
+    /// Makes one request: what the worker's plan asks, what a device that was called has answered, or, where the worker
+    /// is idle, a plan. With an errand in hand it calls the device once before; else it makes no call of the device.
+    ///
+    /// The event of the request, if it is done, comes into the log. Before it takes a plan the worker gets room for one
+    /// image, and in its log for as many events as the dearest of all plans can make; where that can't be had, the
+    /// answer is [`Turned::NoMemory`] and nothing was done.
+    ///
+    /// Where the hand can make no request, as a slot that the plan unfixes has no guard in it, or the log has no room for an
+    /// event, the answer is [`Turned::Broken`], and nothing was asked. Neither comes about in a run.
+    pub fn turn<W: Work>(&mut self, work: &mut W) -> Turned
+        ensures turn { TurnIs S.gives D.read_gives D.write_leaves D.calls D.failures self.old result self.new }
+        ensures worker { stage_worker self.new.hand.stage ≡ stage_worker self.old.hand.stage }
+        ensures layout { self.new.layout ≡ self.old.layout }
+    {
+        mem::replace_with(self, work, |worker, work| worker.turned(work))
+    }
+
+    /// Ends the worker: its site, its device, its tokens and its log.
+    pub fn end(self) -> (S, D, Hand, Vec<Event>)
+        ensures { result ≡ (self.site, self.device, self.hand, self.log) }
+    {
+        let Worker {
+            site,
+            device,
+            hand,
+            log,
+            layout: _,
+            page_bytes: _,
+            seen: _seen,
+            alloc: _,
+        } = self;
+        (site, device, hand, log)
+    }
+
+    /// One turn.
+    #[tactic(auto, using(crate::proofs::Turning::turn_from))]
+    fn turned<W: Work>(mut self, work: &mut W) -> (Worker<S, D>, Turned)
+        ensures turn { TurnIs S.gives D.read_gives D.write_leaves D.calls D.failures self result.1 result.0 }
+        ensures worker { stage_worker result.0.hand.stage ≡ stage_worker self.hand.stage }
+        ensures layout { result.0.layout ≡ self.layout }
+    {
+        if self.make_room().is_err() {
+            return (self, Turned::NoMemory);
+        }
+        if self.log.len() >= self.log.capacity() {
+            return (self, Turned::Broken);
+        }
+        self.asking(work)
+    }
+
+    /// Makes the request, if the hand has one; the log has room for its event.
+    #[tactic(auto, using(crate::proofs::Turning::long_by, crate::proofs::Turning::stage_after, crate::proofs::Turning::placed_after, crate::proofs::Turning::turns))]
+    fn asking<W: Work>(self, work: &mut W) -> (Worker<S, D>, Turned)
+        requires { length self.log.items < vec_capacity self.log }
+        ensures turn { TurnIs S.gives D.read_gives D.write_leaves D.calls D.failures self result.1 result.0 }
+        ensures worker { stage_worker result.0.hand.stage ≡ stage_worker self.hand.stage }
+        ensures layout { result.0.layout ≡ self.layout }
+    {
+        let Worker {
+            mut site,
+            mut device,
+            hand,
+            mut log,
+            layout,
+            page_bytes,
+            mut seen,
+            alloc,
+        } = self;
+        let (hand, turned) = match next(hand, &layout, &mut device, work) {
+            Ok((request, guards)) => {
+                let Outcome { event, answer } = site.perform(request);
+                add(&mut log, event);
+                let (answer, turned) = used(answer, &mut site, &mut seen, work);
+                (hand_after(guards, answer), turned)
+            }
+            Err(hand) => (hand, Turned::Broken),
+        };
+        let worker = Worker {
+            site,
+            device,
+            hand,
+            log,
+            layout,
+            page_bytes,
+            seen,
+            alloc,
+        };
+        (worker, turned)
+    }
+
+    /// Gets the room that a plan wants, where the worker is idle: for one image, and in the log for the dearest of all
+    /// submitted plans.
+    fn make_room(&mut self) -> Result<(), AllocError>
+        ensures site { self.new.site ≡ self.old.site }
+        ensures device { self.new.device ≡ self.old.device }
+        ensures hand { self.new.hand ≡ self.old.hand }
+        ensures log { self.new.log.items ≡ self.old.log.items }
+        ensures layout { self.new.layout ≡ self.old.layout }
+        ensures busy { is_chair self.old.hand.stage ≡ false → self.new.log ≡ self.old.log }
+        ensures err { OnErr result (is_chair self.old.hand.stage ≡ true) }
+        ensures room { OnOk result (is_chair self.old.hand.stage ≡ true → vec_len self.new.log < vec_capacity self.new.log) }
+    {
+        match &self.hand.stage {
+            Stage::Idle(_) => {}
+            _ => return Ok(()),
+        }
+        if self.seen.is_empty() {
+            self.seen = vec![in self.alloc; 0; self.page_bytes as usize]?;
+        }
+        let most = self.site.most().max(1);
+        self.log.reserve(most as usize)
+    }
+}
+
+/// Adds the event, if there is one.
+fn add(log: &mut Vec<Event>, event: Option<Event>)
+    requires { length log.old.items < vec_capacity log.old }
+    ensures { log.new.items ≡ log.old.items ++ events_in event }
+{
+    match event {
+        Some(event) => log.push_reserved(event),
+        None => {}
+    }
+}
+
+/// What the work does with an answer's page, and how the turn ends.
+fn used<S: Site, W: Work>(
+    answer: Answer,
+    site: &mut S,
+    seen: &mut [u8],
+    work: &mut W,
+) -> (Answer, Turned)
+    requires { IsLong answer }
+    ensures works { Works answer result.0 }
+    ensures turned { IsTurned answer result.1 }
+    ensures site { site.new ≡ site.old }
+{
+    match answer {
+        Answer::Exclusive(session, mut guard) => {
+            let page = guard.page();
+            work.change(page, guard.body_mut());
+            (Answer::Exclusive(session, guard), Turned::Done)
+        }
+        Answer::Shared(session, guard) => {
+            let turned = see(site, &guard, seen, work);
+            (Answer::Shared(session, guard), turned)
+        }
+        Answer::No(request, refusal) => {
+            let turned = turned_by(refusal);
+            (Answer::No(request, refusal), turned)
+        }
+        answer => (answer, Turned::Done),
+    }
+}
+
+/// Looks at the guard's page and shows it to the work.
+fn see<S: Site, W: Work>(site: &mut S, guard: &ReadGuard, seen: &mut [u8], work: &mut W) -> Turned
+    ensures turned { (result ≡ Turned.Done) ⊎ (result ≡ Turned.Broken) }
+    ensures site { site.new ≡ site.old }
+{
+    if !site.look(guard, seen) {
+        return Turned::Broken;
+    }
+    let (page, mark) = (guard.page(), guard.mark());
+    if image::head(seen) != (page, mark) {
+        return Turned::Broken;
+    }
+    work.see(page, mark, seen);
+    Turned::Done
+}
+
+/// How a turn ends that was refused.
+fn turned_by(refusal: Refusal) -> Turned
+    ensures { result ≡ turned_then refusal }
+{
+    match refusal {
+        Refusal::NotNow(Delay::NothingWaiting) => Turned::Ended,
+        Refusal::NotNow(_) => Turned::NotNow,
+        Refusal::OffPlan(_) => Turned::Broken,
+        Refusal::Stranger => Turned::Broken,
+    }
+}

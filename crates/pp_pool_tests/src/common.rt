@@ -1,0 +1,172 @@
+//! What the tests share: sample settings and plans, a work that picks first pages, and a run of one plan.
+
+use pp_annotate::annotate;
+use pp_cert::{Accepted, check};
+use pp_device::SoloDevice;
+use pp_plan::Plan;
+use pp_pool::{Book, Event, Flusher, OwnSite, Turned, Work, Worker};
+use pp_settings::Settings;
+use std::alloc::Global;
+use std::process::Abort;
+use std::test::*;
+
+/// The sample settings: three frames, two workers, four flushes, and two regions.
+pub const SETTINGS: &str = "
+frames = 3
+page_bytes = 64
+workers = 2
+flushes = 4
+
+[[region]]
+name = \"root\"
+first = 0
+count = 4
+class = 1
+
+[[region]]
+name = \"leaf\"
+first = 16
+count = 8
+class = 2
+";
+
+/// Writes a leaf.
+pub const WRITE: &str =
+    "{\"body\":[{\"fix\":\"a\",\"region\":\"leaf\"},{\"latch\":\"a\",\"mode\":\"X\"},\
+{\"unlatch\":\"a\"},{\"unfix\":\"a\"}],\"version\":1}";
+
+/// Reads a leaf.
+pub const READ: &str =
+    "{\"body\":[{\"fix\":\"a\",\"region\":\"leaf\"},{\"latch\":\"a\",\"mode\":\"S\"},\
+{\"unlatch\":\"a\"},{\"unfix\":\"a\"}],\"version\":1}";
+
+/// Picks the first page of each region and the first branch of each choice, and keeps what it was shown last.
+#[derive(Drop)]
+pub struct FirstPages {
+    /// How many pages it changed.
+    pub changed: u8,
+    /// How many images it saw.
+    pub seen: u8,
+    /// The page and the mark of the last image.
+    pub last: (u32, u64),
+    /// How many bytes the last image had.
+    pub long: usize,
+}
+
+impl Work for FirstPages {
+    fn page(&mut self, _region: u8, first: u32, _count: u32) -> u32 {
+        first
+    }
+
+    fn branch(&mut self, _count: u16) -> u16 {
+        0
+    }
+
+    fn change(&mut self, _page: u32, _body: &mut [u8]) {
+        self.changed = self.changed.saturating_add(1);
+    }
+
+    fn see(&mut self, page: u32, mark: u64, image: &[u8]) {
+        self.seen = self.seen.saturating_add(1);
+        self.last = (page, mark);
+        self.long = image.len();
+    }
+}
+
+/// What came of a run.
+#[derive(Drop)]
+pub struct Run {
+    /// How the worker's turns ended.
+    pub turns: [Turned; 8],
+    /// How the flusher's turns ended that followed.
+    pub flushes: [Turned; 3],
+    /// How many flushes were ended, and how many of them had failed.
+    pub counts: (u64, u64),
+    /// What the worker noted.
+    pub log: Vec<Event>,
+    /// What the book noted.
+    pub journal: Vec<Event>,
+    /// The work, as it is then.
+    pub work: FirstPages,
+}
+
+/// The plan of this text, with its certificate accepted.
+pub fn accepted(
+    rt: &impl Abort,
+    alloc: Global,
+    settings: &Settings,
+    text: &str,
+) -> Result<Accepted, Fail> {
+    let plan = Plan::from_text(alloc, settings, text)?;
+    let certificate = annotate(alloc, settings, &plan)?;
+    match check(settings, plan, &certificate) {
+        Ok(accepted) => Ok(accepted),
+        Err(_) => panic!(rt; "not accepted: {text}"),
+    }
+}
+
+/// One worker runs the plan in eight turns, and then the flusher takes three.
+pub fn do_plan(rt: &impl Abort, alloc: Global, text: &str) -> Result<Run, Fail> {
+    let settings = Settings::from_text(alloc, SETTINGS)?;
+    let accepted = accepted(rt, alloc, &settings, text)?;
+    let device = SoloDevice::new(alloc, 24, 64)?;
+    let (mut book, mut hands) = Book::new(alloc, &settings)?;
+    let is_taken_in = book.submit(accepted).is_ok();
+    assert!(rt; is_taken_in, "not taken in");
+    let Some(hand) = hands.part(0) else {
+        panic!(rt; "no hand")
+    };
+    let mut work = FirstPages {
+        changed: 0,
+        seen: 0,
+        last: (0, 0),
+        long: 0,
+    };
+    let mut worker = Worker::new(alloc, OwnSite { book }, device, hand, &settings);
+    let mut turns = [Turned::Broken; 8];
+    for turn in turns.iter_mut() {
+        *turn = worker.turn(&mut work);
+    }
+    let (site, device, hand, log) = worker.end();
+    let mut flusher = Flusher::new(site, device);
+    let mut flushes = [Turned::Broken; 3];
+    for turn in flushes.iter_mut() {
+        *turn = flusher.turn();
+    }
+    let (site, _device, flushing, ended, failed) = flusher.end();
+    match flushing {
+        None => {}
+        Some(_) => panic!(rt; "a flush is in hand"),
+    }
+    match hands.join(hand) {
+        Ok(()) => {}
+        Err(_) => panic!(rt; "the hand has no place"),
+    }
+    let OwnSite { book } = site;
+    Ok(Run {
+        turns,
+        flushes,
+        counts: (ended, failed),
+        log,
+        journal: book.close(hands),
+        work,
+    })
+}
+
+/// The events from this place to that one; none where there are fewer.
+pub fn part(events: &[Event], from: usize, to: usize) -> &[Event] {
+    match events.get(from..to) {
+        Some(part) => part,
+        None => &[],
+    }
+}
+
+/// Compares events. Where they differ, the test fails and tells both.
+pub fn same_events(rt: &impl Abort, got: &[Event], want: &[Event]) {
+    assert_eq!(rt; got, want, "got {got:?}, wanted {want:?}");
+}
+
+/// Compares how turns ended.
+pub fn same_turns(rt: &impl Abort, got: &[Turned], want: &[Turned]) {
+    assert_eq!(rt; got, want, "got {got:?}, wanted {want:?}");
+}
