@@ -66,6 +66,11 @@ leaves_none places g (request.Answer returned) e = tt
 leaves_none places g (request.Flush page) e = tt
 leaves_none places g (request.FlushNext number) e = tt
 
+-- What stands in a place stands in the place of its slot.
+pub own_there : (places : List (Option Guard)) (n : ℕ) (g : Guard) → placed places n ≡ Some g → slot_by g ≡ n
+    → placed places (slot_by g) ≡ Some g
+own_there places n g there slot = ap (placed places) slot ∙ there
+
 -- A worker whose slot has this guard makes the request with it.
 pub prepared : (places rest : List (Option Guard)) (n : ℕ) (g : Guard) (asked : Request) → placed places n ≡ Some g
     → slot_by g ≡ n → rest ≡ slice_set places n None → guard_asked asked ≡ Some g → slot_for asked ≡ Some (slot_by g)
@@ -74,6 +79,9 @@ prepared places rest n g asked there slot keeps guard by workers =
     record {
       keeps =
           keeps ∙ ap (λ k. slice_set places k None) (sym slot) ∙ ap (places_without places) (sym guard);
+      own =
+          subst (λ (o : Option Guard). IfSome o (λ h. placed places (slot_by h) ≡ Some h)) (sym guard)
+          (own_there places n g there slot);
       finds =
           subst (λ (o : Option ℕ). IfSome o (λ k. is_free rest k ≡ true)) (sym by)
           (ap (is_free rest) slot ∙ ap (λ (ps : List (Option Guard)). is_free ps n) keeps ∙ taken_free places n g there);

@@ -25,7 +25,7 @@ use Rattle.pp_pool.specs.declared.turned.Turned.{Turned}
 use Rattle.pp_pool.specs.declared.turned.Turned.TheVariants.{Done, NotNow, Ended, NoMemory, Broken}
 use Rattle.pp_pool.specs.declared.worker.Worker.{Worker}
 use Rattle.pp_pool.specs.Requests.{events_in}
-use Rattle.pp_pool.specs.Turns.{guard_asked, guard_in, slot_for, stage_asked, stage_in, FindsPlace, LeavesNone, IsWorkers, IsLong, Works}
+use Rattle.pp_pool.specs.Turns.{guard_asked, guard_in, slot_for, stage_asked, stage_in, FindsPlace, LeavesNone, IsOwn, IsWorkers, IsLong, Works}
 use Rattle.pp_pool.specs.Turns.{Asks, Prepares, places_without, places_with, IsTurned, Turns, MayWait, TurnIs, can_ask}
 
 -- ---- the stage
@@ -256,6 +256,7 @@ turns gives reads writes calls failures old new turned asked outcome after rest 
       outcome = outcome;
       after = after;
       asks = asks;
+      own = prepares.own;
       none = prepares.none;
       given = subst (gives old.site asked outcome) (sym same) given;
       log = log;
@@ -282,6 +283,7 @@ module _ {S D : Type 0} (gives : S → Request → Outcome → S → Type 0)
             subst (λ l. Asks reads writes calls failures l old.hand.stage old.device t.asked new.device) layout
             (subst (λ h. Asks reads writes calls failures mid.layout h.stage old.device t.asked new.device) hand
             (subst (λ d. Asks reads writes calls failures mid.layout mid.hand.stage d t.asked new.device) device t.asks));
+        own = subst (λ (h : Hand). IsOwn h.guards t.asked) hand t.own;
         none = subst (λ (h : Hand). LeavesNone h.guards t.asked) hand t.none;
         given = subst (λ s. gives s t.asked t.outcome new.site) site t.given;
         log = t.log ∙ ap (λ es. es ++ events_in t.outcome.event) log;

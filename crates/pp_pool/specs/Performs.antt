@@ -8,10 +8,11 @@ use Rattle.pp_pool.specs.Requests.{event_for, events_in}
 use Rattle.pp_pool.specs.Performing.{ComesTo}
 
 -- The event is the model's, from the state that the journal leads to; the journal grows by it; and the answer is the
--- vault's.
+-- vault's. The journal has memory for as many events as before.
 pub record Performs (old : Parts) (asked : Request) (outcome : Outcome) (new : Parts) : Type 0 where
   pub event : outcome.event ≡ event_for old asked
   pub journal : new.journal ≡ old.journal ++ events_in outcome.event
+  pub memory : new.capacity ≡ old.capacity
   pub answer : ComesTo old.vault asked outcome.answer new.vault
   pub settings : settings_of new ≡ settings_of old
   pub plans : plans_of new ≡ plans_of old

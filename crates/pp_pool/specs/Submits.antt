@@ -1,8 +1,8 @@
 -- What submitting a plan does to a book.
-use Rattle.std.specs.Prelude.{◌≡◌, ◌≤◌, ◌+◌, ℕ, None, Some, [], ◌∷◌, ◌++◌, length}
+use Rattle.std.specs.Prelude.{◌≡◌, ◌≤◌, ◌<◌, ◌+◌, ℕ, None, Some, [], ◌∷◌, ◌++◌, length}
 use Rattle.pp_cert.specs.Accepted.{Acceptance}
 use Rattle.pp_model.specs.declared.event.Event.TheVariants.{Submit}
-use Rattle.pp_model.specs.Budget.{bound}
+use Rattle.pp_model.specs.Budget.{cost_of, bound}
 use Rattle.pp_model.specs.Submitting.{submit_error}
 use Rattle.pp_vault.specs.Submits as vault
 use Rattle.pp_pool.specs.declared.error.BookError.{BookError}
@@ -18,11 +18,15 @@ pub record TakesIn (old : Parts) (a : Acceptance) (number : ℕ) (new : Parts) :
   pub settings : settings_of new ≡ settings_of old
   pub vault : vault.TakesIn old.vault a number new.vault
 
--- The plan isn't taken in: the model refuses it so, or memory ran out.
-abbrev pub IsCause : Parts → Acceptance → BookError → Type 0
-IsCause b a OutOfMemory = Unit {0}
-IsCause b a (Refused error) = submit_error (state_of b) a ≡ Some error
-
 -- The journal has memory for a plan's number, and for every event that can still come where the plan costs so much.
 abbrev pub HasRoom : Parts → (cost : ℕ) → Type 0
 HasRoom b cost = length b.journal + (bound (state_of b) + cost + 1) ≤ b.capacity
+
+-- The journal has no memory for all of them.
+abbrev pub LacksRoom : Parts → (cost : ℕ) → Type 0
+LacksRoom b cost = b.capacity < length b.journal + (bound (state_of b) + cost + 1)
+
+-- The plan isn't taken in: the model refuses it so, or the journal lacks the memory for it.
+abbrev pub IsCause : Parts → Acceptance → BookError → Type 0
+IsCause b a OutOfMemory = LacksRoom b (cost_of a)
+IsCause b a (Refused error) = submit_error (state_of b) a ≡ Some error

@@ -123,9 +123,14 @@ IsWorkers (request.Flush page) = ⊥
 IsWorkers (request.FlushNext number) = ⊥
 IsWorkers _ = Unit {0}
 
+-- The guard that is handed over is the hand's own of that slot.
+abbrev pub IsOwn : List (Option Guard) → Request → Type 0
+IsOwn places asked = IfSome (guard_asked asked) (λ g. placed places (slot_by g) ≡ Some g)
+
 -- A worker with these guards makes the request, and keeps the rest of them.
 pub record Prepares (places : List (Option Guard)) (asked : Request) (rest : List (Option Guard)) : Type 0 where
   pub keeps : rest ≡ places_without places (guard_asked asked)
+  pub own : IsOwn places asked
   pub finds : FindsPlace rest asked
   pub none : LeavesNone places asked
   pub workers : IsWorkers asked
@@ -243,6 +248,7 @@ pub record Turns {S D : Type 0} (gives : S → Request → Outcome → S → Typ
   pub outcome : Outcome
   pub after : Answer
   pub asks : Asks reads writes calls failures old.layout old.hand.stage old.device asked new.device
+  pub own : IsOwn old.hand.guards asked
   pub none : LeavesNone old.hand.guards asked
   pub given : gives old.site asked outcome new.site
   pub log : new.log.items ≡ old.log.items ++ events_in outcome.event
@@ -252,7 +258,7 @@ pub record Turns {S D : Type 0} (gives : S → Request → Outcome → S → Typ
   pub turned_is : IsTurned outcome.answer turned
 
 -- Why nothing is asked: memory ran out before a plan is taken; or the hand can make no request, or the log has no room
--- for an event, which no run meets.
+-- for an event. No test has met the last two.
 abbrev pub MayWait : {S D : Type 0} → Worker S D → Turned → Type 0
 MayWait old NoMemory = is_chair old.hand.stage ≡ true
 MayWait old Broken = (can_ask old.layout old.hand ≡ false) ⊎ (vec_capacity old.log ≤ vec_len old.log)

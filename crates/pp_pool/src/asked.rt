@@ -228,9 +228,10 @@ fn on_the_way_out(leaver: Leaver, mut guards: Guards) -> (Request, Guards)
 }
 
 /// Takes the guard of the least slot out that has one.
-#[tactic(auto, using(crate::proofs::Placing::taken_free))]
+#[tactic(auto, using(crate::proofs::Placing::taken_free, crate::proofs::Placing::own_there))]
 fn take_first(guards: &mut Guards) -> Option<Guard>
     ensures taken { guards.new ≡ places_without guards.old result }
+    ensures own { IfSome result (λ guard. placed guards.old (slot_by guard) ≡ Some guard) }
     ensures free { IfSome result (λ guard. is_free guards.new (slot_by guard) ≡ true) }
     ensures none { IfNone result ((slot : ℕ) → slot < 32 → placed guards.old slot ≡ None) }
 {

@@ -16,13 +16,14 @@ ghost use Rattle.pp_pool.specs.Books.{greatest_cost, IsBook, HeadlineHolds};
 ghost use Rattle.pp_pool.specs.Requests.{event_for, events_in};
 ghost use Rattle.pp_pool.specs.Performing.{ComesTo};
 ghost use Rattle.pp_pool.specs.Replies.{Replies};
-ghost use Rattle.pp_pool.specs.Submits.{TakesIn, IsCause, HasRoom};
+ghost use Rattle.pp_pool.specs.Submits.{TakesIn, IsCause, HasRoom, LacksRoom};
+ghost use Rattle.pp_model.specs.Submitting.{submit_error};
 
 use crate::asking::ask;
 use crate::error::BookError;
 use crate::outcome::Outcome;
 use crate::request::Request;
-use pp_model::{Event, Turn};
+use pp_model::{Event, SubmitError, Turn};
 use pp_settings::Settings;
 use pp_vault::{Accepted, Hands, PlanId, ReadGuard, Vault, VaultError};
 use std::alloc::Global;
@@ -121,13 +122,17 @@ impl Book {
         if !self.make_room(cost) {
             return Err((accepted, BookError::OutOfMemory));
         }
-        self.add(accepted)
+        match self.add(accepted) {
+            Ok(id) => Ok(id),
+            Err((accepted, error)) => Err((accepted, BookError::Refused(error))),
+        }
     }
 
     /// Gets room in the journal for the line and the events of a plan that costs so much, and tells whether there is.
     fn make_room(&mut self, cost: u64) -> bool
         requires { cost ≤ 4000000 }
         ensures room { result ≡ true → HasRoom self.new cost }
+        ensures no_room { result ≡ false → LacksRoom self.old cost }
         ensures same { self.new ≡ record self.old { capacity = self.new.capacity } }
         ensures kept { IsBook self.new }
     {
@@ -136,10 +141,10 @@ impl Book {
     }
 
     /// Takes a plan in for which the journal has room.
-    fn add(&mut self, accepted: Accepted) -> Result<PlanId, (Accepted, BookError)>
+    fn add(&mut self, accepted: Accepted) -> Result<PlanId, (Accepted, SubmitError)>
         requires { HasRoom self.old (cost_of accepted) }
         ensures ok { IfOk result (λ id. TakesIn self.old accepted id self.new) }
-        ensures error { IfErr result (λ e. IsCause self.old accepted e.1) }
+        ensures error { IfErr result (λ e. submit_error (state_of self.old) accepted ≡ Some e.1) }
         ensures back { IfErr result (λ e. e.0 ≡ accepted) }
         ensures unchanged { OnErr result (self.new ≡ self.old) }
         ensures kept { IsBook self.new }
@@ -152,7 +157,7 @@ impl Book {
                 self.most = self.most.max(cost);
                 Ok(id)
             }
-            Err((accepted, error)) => Err((accepted, BookError::Refused(error))),
+            Err(refused) => Err(refused),
         }
     }
 
@@ -197,8 +202,10 @@ impl Book {
         self.vault.dirty()
     }
 
-    /// The greatest cost of a submitted plan; zero where none was submitted. A worker's part of the journal grows by at
-    /// most as many events from the taking of a plan to its end.
+    /// The greatest cost of all plans that were submitted, waiting, running or ended; 0 where there is none.
+    ///
+    /// From the taking of a plan to its end a worker has at most as many events. A worker that makes room for so many
+    /// in its log before it takes a plan needs none until it is idle again.
     pub fn most(&self) -> u64
         ensures { result ≡ greatest_cost (plans_of self.now) }
     {

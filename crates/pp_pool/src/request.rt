@@ -33,7 +33,7 @@ pub enum Request {
     Answer(Returned),
     /// The flusher begins to write this page.
     Flush(u32),
-    /// The flusher begins to write the least page from this number on that lets a flush begin; where there is none,
-    /// the least of all that do.
+    /// The flusher begins to write a page that is changed, in a frame, and not latched X: the least from this number
+    /// on, or, where there is none above, the least of all.
     FlushNext(u32),
 }

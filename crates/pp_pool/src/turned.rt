@@ -11,6 +11,6 @@ pub enum Turned {
     Ended,
     /// Memory ran out before a plan was taken. Nothing has changed.
     NoMemory,
-    /// A token doesn't fit, or the plan asks something else: a slip, which no run meets.
+    /// A token doesn't fit, or the plan asks something else: a slip, which no test has met.
     Broken,
 }

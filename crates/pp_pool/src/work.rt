@@ -3,27 +3,45 @@
 ghost use Rattle.std.specs.Prelude.{◌≡◌, ◌<◌, ◌≤◌, ◌+◌, length};
 ghost use Rattle.pp_device.specs.Image.{head_of};
 
-/// What the plan of a worker is run for: the choices that the plan leaves open, and what is done with the pages.
+/// What a worker does with the pages of its plans, and which way it takes where a plan leaves that open.
 ///
-/// A plan names a region for each fix and the number of branches for each choice; [`Work::page`] and [`Work::branch`]
-/// pick one, when the worker comes to it. Where a fix has to wait, the page is picked again when it is asked again.
+/// Each worker has a work of its own. A turn of the worker makes at most one of these calls, so they come one after
+/// another, in the order of the plan's statements:
 ///
-/// A page's bytes are reached under a latch alone. [`Work::change`] is called once after each latch X, and may write
-/// the page's body as it likes: what it leaves there is the page from the unlatch on. [`Work::see`] is called once
-/// after each latch S, with a copy of the page's image. The calls come in the order of the plan's statements, from one
-/// worker at a time; nothing else of the pool can be reached from them, so no call can wait for another worker.
+/// | Call | When |
+/// |---|---|
+/// | [`Work::page`] | each time the worker asks its site for a fix |
+/// | [`Work::branch`] | each time it asks for a choice |
+/// | [`Work::change`] | once after each latch X |
+/// | [`Work::see`] | once after each latch S |
 ///
-/// An image has as many bytes as the settings give a page: 12 bytes of head, the page's number and its mark, and then its
-/// body. The mark is raised by one each time a latch X is taken off the page.
+/// A fix may have to wait. A site of one's own refuses it then, and the worker's next turn asks `page` anew; a site
+/// that is shared waits, and asks for the same page again. So let `page` only tell the page, and go on in `see` or in
+/// `change`.
+///
+/// The page stays latched when `see` or `change` returns: a later turn takes the latch off, where the plan says so, or
+/// where a later fix fails. Until then nobody else changes the page, and one that is latched X nobody else sees.
+///
+/// An image has as many bytes as the settings give a page: a head of 12 bytes, the page's number and its mark, and then
+/// the body. A mark rises by one each time a latch X is taken off its page. `see` gets a copy of the image, whose head
+/// names the page and the mark. `change` gets the body where it stands; what it leaves there is the page from then on,
+/// also where a later fix of the plan fails.
+///
+/// A call may do what it likes with the work's own values, and may write the body as it likes. The pool can't be
+/// reached from it, so it can't wait for a page. It should not wait for anything else either: meanwhile the worker
+/// keeps its latches.
+///
+/// Nothing tells a work that a plan begins, ends, or is left, as it is where a device fails. Whether all was done, the
+/// work has to see from its calls.
 pub trait Work {
-    /// The page that is fixed, of a region that has so many pages from the first on.
+    /// The page to fix, of a region that has `count` pages from `first` on.
     fn page(&mut self, region: u8, first: u32, count: u32) -> u32
         requires some { 1 ≤ count }
         requires ends { first + count ≤ 65536 }
         ensures from { first ≤ result }
         ensures below { result < first + count };
 
-    /// The branch that the plan goes on with, of so many, counted from 0.
+    /// The branch to go on with, of `count` branches, counted from 0.
     fn branch(&mut self, count: u16) -> u16
         requires { 1 ≤ count }
         ensures { result < count };

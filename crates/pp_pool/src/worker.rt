@@ -47,13 +47,39 @@ impl<S: Site, D: Device> Worker<S, D> {
         ensures log { result.log.items ≡ [] }
         ensures layout { result.layout ≡ geometry_of settings.now }
     {
+        Worker::over(
+            alloc,
+            site,
+            device,
+            hand,
+            settings.layout(),
+            settings.page_bytes(),
+        )
+    }
+
+    /// The same, with what a worker wants of the settings: the layout, and how many bytes a page has. A thread can take
+    /// these along.
+    pub fn over(
+        alloc: Global,
+        site: S,
+        device: D,
+        hand: Hand,
+        layout: Layout,
+        page_bytes: u32,
+    ) -> Worker<S, D>
+        ensures site { result.site ≡ site }
+        ensures device { result.device ≡ device }
+        ensures hand { result.hand ≡ hand }
+        ensures log { result.log.items ≡ [] }
+        ensures layout { result.layout ≡ layout }
+    {
         Worker {
             site,
             device,
             hand,
             log: Vec::new(alloc),
-            layout: settings.layout(),
-            page_bytes: settings.page_bytes(),
+            layout,
+            page_bytes,
             seen: Vec::new(alloc),
             alloc,
         }
@@ -67,7 +93,9 @@ impl<S: Site, D: Device> Worker<S, D> {
     /// answer is [`Turned::NoMemory`] and nothing was done.
     ///
     /// Where the hand can make no request, as a slot that the plan unfixes has no guard in it, or the log has no room for an
-    /// event, the answer is [`Turned::Broken`], and nothing was asked. Neither comes about in a run.
+    /// event, the answer is [`Turned::Broken`], and nothing was asked. No test has met either.
+    ///
+    /// Over each turn the hand stays the same worker's.
     pub fn turn<W: Work>(&mut self, work: &mut W) -> Turned
         ensures turn { TurnIs S.gives D.read_gives D.write_leaves D.calls D.failures self.old result self.new }
         ensures worker { stage_worker self.new.hand.stage ≡ stage_worker self.old.hand.stage }
