@@ -2,3 +2,10 @@ pub mod Growing
 pub mod Sides
 pub mod Plain
 pub mod Spoken
+pub mod Splitting
+pub mod Same
+pub mod Passing
+pub mod Verdicts
+pub mod Readback
+pub mod Columns
+pub mod OneMore

@@ -1,9 +1,8 @@
 -- The words of a line are printable, and neither side of its equals sign has another one.
-use Rattle.std.proofs.Common.{◌≡◌, ◌≢◌, ℕ, zero, suc, ◌<◌, ◌≤◌, ◌^◌, ◌+◌, Bool, true, false, not, ◌&&◌, ◌==◌, nat_lt, List, []}
-use Rattle.std.proofs.Common.{◌∷◌, ◌++◌, length, get_or, codes, arith, refl, sym, ap, ◌∙◌, append_assoc, All}
+use Rattle.std.proofs.Common.{◌≡◌, ◌≢◌, ℕ, suc, ◌<◌, ◌≤◌, ◌^◌, Bool, true, false, not, ◌&&◌, ◌==◌, nat_lt, List, []}
+use Rattle.std.proofs.Common.{◌∷◌, ◌++◌, length, get_or, codes, arith, refl, ◌∙◌}
 use Rattle.std.specs.List.{list_all, AllByRecursion}
 use Rattle.std.specs.Fmt.{decimal}
-use Rattle.std.specs.Str.{IsAscii, IsUtf8}
 use Rattle.std.proofs.lemmas.Bool.Decides.{nat_tests}
 use Rattle.std.proofs.lemmas.Fmt.{decimal_is_IsNumeral}
 use Rattle.std.proofs.lemmas.List.Folds.{list_all-append}
@@ -90,7 +89,7 @@ told_plain (Answer (Flushed false)) h = refl
 told_plain (Answer (NotNow d)) h = absurd h
 told_plain (Answer (OffPlan c)) h = absurd h
 
-parted : (a b : Bool) → (a && b) ≡ true → (a ≡ true) × (b ≡ true)
+pub parted : (a b : Bool) → (a && b) ≡ true → (a ≡ true) × (b ≡ true)
 parted true b e = (refl, e)
 parted false b e = absurd cc
 

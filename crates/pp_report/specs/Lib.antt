@@ -1,2 +1,9 @@
 pub mod Lines
 pub mod Reading
+pub mod Journals
+pub mod Sameness
+pub mod Auditing
+pub mod Audits
+pub mod Auditors
+pub mod Refusals
+pub mod Reports

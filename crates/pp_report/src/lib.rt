@@ -1,9 +1,22 @@
 //! Journals as text, and what can be told from them.
 #![tactic(auto)]
 
+pub use auditing::{Audited, audit};
+pub use error::{AuditError, Next};
 pub use journal::journal_text;
 pub use line::{Asked, Line, Told};
+pub use record::RunRecord;
+pub use reporting::report;
 
+mod auditing;
+mod auditor;
+mod error;
+mod figure;
 mod journal;
+pub mod laws;
 mod line;
 mod reading;
+mod record;
+mod reporting;
+mod row;
+mod turns;

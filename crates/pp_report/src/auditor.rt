@@ -1,0 +1,159 @@
+//! What an audit keeps: a core, and the plans that no line has submitted yet.
+
+ghost use Rattle.std.specs.Prelude.{◌≡◌, ◌∷◌, ◌<◌, ℕ, None, IfOk, length};
+ghost use Rattle.pp_report.specs.declared.line.Asked.TheVariants as asked;
+ghost use Rattle.pp_report.specs.Journals.{journal_lines};
+ghost use Rattle.pp_report.specs.Reading.{line_in};
+ghost use Rattle.pp_report.specs.Sameness.{same_told};
+ghost use Rattle.pp_report.specs.Auditing.{Progress, outset, told_reply, pass, pass_text, is_over, auditing_from};
+ghost use Rattle.pp_report.specs.Auditors.{IsAt, Asks, Passes};
+
+use crate::error::{AuditError, Next};
+use crate::line::{Asked, Line, Told};
+use pp_cert::Accepted;
+use pp_core::{Core, CoreError};
+use pp_model::{Move, Reply};
+use pp_settings::Settings;
+use std::alloc::Global;
+
+/// A core, and the plans that no line has submitted yet, the next one last.
+#[derive(Drop)]
+pub(crate) struct Auditor {
+    core: Core,
+    waiting: Vec<Accepted>,
+}
+
+impl Auditor {
+    /// Nothing was done yet.
+    pub(crate) fn new(
+        alloc: Global,
+        settings: &Settings,
+        plans: Vec<Accepted>,
+    ) -> Result<Auditor, CoreError>
+        ensures { IfOk result (λ made. IsAt made (outset settings.now plans.items)) }
+    {
+        let core = Core::new(alloc, settings)?;
+        let mut waiting = plans;
+        waiting.reverse();
+        Ok(Auditor { core, waiting })
+    }
+
+    /// Submits the next plan, if it has this number.
+    fn submit(&mut self, number: u32) -> Option<Told>
+        ensures { Asks self.old self.new (asked.Submit number) result }
+    {
+        if number != self.core.plans() {
+            return None;
+        }
+        let next = self.waiting.pop()?;
+        match self.core.submit(next) {
+            Ok(_) => Some(Told::Queued),
+            Err(_) => None,
+        }
+    }
+
+    /// Does the move.
+    fn step(&mut self, did: Move) -> Option<Told>
+        ensures { Asks self.old self.new (asked.Do did) result }
+    {
+        told(self.core.step(&did))
+    }
+
+    /// Does what is asked, where it is possible, and tells what the pool tells.
+    fn ask(&mut self, asked: Asked) -> Option<Told>
+        ensures { Asks self.old self.new asked result }
+    {
+        match asked {
+            Asked::Submit { plan } => self.submit(plan),
+            Asked::Do(did) => self.step(did),
+        }
+    }
+
+    /// Does what the line asks, and compares what is told.
+    fn pass(&mut self, number: u64, line: Line) -> Result<(), AuditError>
+        ensures { (p : Progress) → IsAt self.old p → Passes self.new (pass p number line) result }
+    {
+        let Some(due) = self.ask(line.asked) else {
+            let next = Next {
+                turn: self.core.next_possible(),
+            };
+            return Err(AuditError::NotPossible(number, line.asked, next));
+        };
+        if !is_same(line.told, due) {
+            return Err(AuditError::ReplyDiffers(number, line.told, due));
+        }
+        Ok(())
+    }
+
+    /// The same with the text of a line.
+    fn pass_text(&mut self, number: u64, text: &[u8]) -> Result<(), AuditError>
+        ensures { (p : Progress) → IsAt self.old p → Passes self.new (pass_text p number text.now) result }
+    {
+        let line = line_in(text).ok_or(AuditError::NotALine(number))?;
+        self.pass(number, line)
+    }
+
+    /// Whether every plan was submitted, and nothing more is possible.
+    fn is_over(&self) -> bool
+        ensures { (p : Progress) → IsAt self.now p → result ≡ is_over p }
+    {
+        self.waiting.is_empty() && self.core.next_possible().is_none()
+    }
+
+    /// Passes the lines of the journal, and answers how many there are.
+    pub(crate) fn pass_all(&mut self, journal: &[u8]) -> Result<u64, AuditError>
+        ensures { (p : Progress) → IsAt self.old p → result ≡ auditing_from p 0 (journal_lines journal.now) }
+    {
+        let mut lines = 0;
+        let mut left = journal;
+        while !left.is_empty() {
+            let (line, rest) = first_line(left);
+            lines += 1;
+            self.pass_text(lines, line)?;
+            left = rest;
+        }
+        if !self.is_over() {
+            return Err(AuditError::Unfinished);
+        }
+        Ok(lines)
+    }
+}
+
+/// What a reply tells, if it isn't a refusal.
+fn told(reply: Reply) -> Option<Told>
+    ensures { result ≡ told_reply reply }
+{
+    match reply {
+        Reply::NotNow(_) | Reply::OffPlan(_) => None,
+        reply => Some(Told::Answer(reply)),
+    }
+}
+
+/// Whether two lines tell the same.
+fn is_same(left: Told, right: Told) -> bool
+    ensures { result ≡ same_told left right }
+{
+    left == right
+}
+
+/// What the line says, if it is one of a journal. One that isn't UTF-8 is none.
+fn line_in(line: &[u8]) -> Option<Line>
+    ensures { result ≡ line_in line.now }
+{
+    let Ok(text) = str::from_utf8(line) else {
+        return None;
+    };
+    Line::from_text(text)
+}
+
+/// The first line of a text that isn't empty, without its line feed, and the text behind it.
+fn first_line(text: &[u8]) -> (&[u8], &[u8])
+    requires { 0 < length text.now }
+    ensures lines { journal_lines text.now ≡ result.0.now ∷ journal_lines result.1.now }
+    ensures shorter { length result.1.now < length text.now }
+{
+    match text.iter().position(|byte| *byte == b'\n') {
+        Some(end) => (&text[..end], &text[end + 1..]),
+        None => (text, &text[text.len()..]),
+    }
+}
