@@ -1,0 +1,50 @@
+//! Audits of journals.
+
+use pp_annotate::annotate;
+use pp_cert::{Accepted, check};
+use pp_plan::Plan;
+use pp_report::audit;
+use pp_settings::Settings;
+use std::alloc::Global;
+use std::fs;
+use std::rt::Files;
+
+/// What is told of the journal of a row, which names the settings, the journal and the plans.
+pub fn verdict_on<R: Files + AllocGlobal>(rt: &R, row: &str) -> anyhow::Result<String> {
+    let alloc = rt.alloc();
+    let (settings, rest) = row.split_once(" ").unwrap_or((row, ""));
+    let (journal, names) = rest.split_once(" ").unwrap_or((rest, ""));
+    let settings = Settings::from_text(alloc, fs::read_to_string(rt, settings)?.as_str())?;
+    let journal = fs::read(rt, journal)?;
+    let plans = plans_of(rt, &settings, names)?;
+    match audit(alloc, &settings, plans, &journal) {
+        Ok(audited) => Ok(format!(in alloc; "audited {} lines", audited.lines)?),
+        Err(error) => Ok(format!(in alloc; "refused {} ({error})", error.refusal())?),
+    }
+}
+
+/// The plans of the files with these names, each with the certificate that is made for it.
+fn plans_of<R: Files + AllocGlobal>(
+    rt: &R,
+    settings: &Settings,
+    names: &str,
+) -> anyhow::Result<Vec<Accepted>> {
+    let mut plans = Vec::new(rt.alloc());
+    for name in names.split(" ") {
+        if !name.is_empty() {
+            let text = fs::read_to_string(rt, name)?;
+            plans.push(accepted_in(rt.alloc(), settings, text.as_str())?)?;
+        }
+    }
+    Ok(plans)
+}
+
+/// The plan that the text spells, accepted with the certificate that is made for it.
+fn accepted_in(alloc: Global, settings: &Settings, text: &str) -> anyhow::Result<Accepted> {
+    let plan = Plan::from_text(alloc, settings, text)?;
+    let certificate = annotate(alloc, settings, &plan)?;
+    match check(settings, plan, &certificate) {
+        Ok(accepted) => Ok(accepted),
+        Err((_, error)) => Err(error)?,
+    }
+}
