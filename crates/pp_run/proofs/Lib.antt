@@ -1,0 +1,9 @@
+pub mod Totals
+pub mod Told
+pub mod Turned
+pub mod FlushTurned
+pub mod Parts
+pub mod Joined
+pub mod Ran
+pub mod Sent
+pub mod Desks

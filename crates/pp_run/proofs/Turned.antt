@@ -1,0 +1,319 @@
+-- A turn of a worker calls its device as often as its event tells.
+use Rattle.std.proofs.Common.{◌≡◌, ◌≢◌, ◌∙◌, ◌+◌, ◌++◌, inl, inr, ℕ, true, false, Option, Some, None, List, []}
+use Rattle.std.proofs.Common.{refl, sym, ap, subst, arith}
+use Rattle.std.specs.Prelude.{is_ok}
+use Rattle.std.proofs.lemmas.Bool.{false≢true}
+use Rattle.pp_settings.specs.Layout.{Geometry}
+use Rattle.pp_model.specs.declared.event.Event.{Event}
+use Rattle.pp_device.specs.Answers.{Answer as DeviceAnswer}
+use Rattle.pp_vault.specs.declared.refusal.Refusal.{Refusal}
+use Rattle.pp_vault.specs.declared.refusal.Refusal.TheVariants as refusal
+use Rattle.pp_model.specs.declared.refusals.Delay.TheVariants as delay
+use Rattle.pp_vault.specs.declared.stage.Stage.{Stage}
+use Rattle.pp_vault.specs.declared.stage.Stage.TheVariants as stage
+use Rattle.pp_vault.specs.Duties.{duty_worker}
+use Rattle.pp_vault.specs.Stages.{is_chair}
+use Rattle.pp_pool.specs.declared.request.Request.{Request}
+use Rattle.pp_pool.specs.declared.request.Request.TheVariants as request
+use Rattle.pp_pool.specs.declared.outcome.Answer.{Answer}
+use Rattle.pp_pool.specs.declared.outcome.Answer.TheVariants as answer
+use Rattle.pp_pool.specs.declared.outcome.Outcome.{Outcome}
+use Rattle.pp_pool.specs.declared.turned.Turned.TheVariants.{Done, Ended, NoMemory}
+use Rattle.pp_pool.specs.declared.worker.Worker.{Worker}
+use Rattle.pp_pool.specs.Requests.{events_in}
+use Rattle.pp_pool.specs.Performing.{is_no}
+use Rattle.pp_pool.specs.Replies.{Replies, TokensFit}
+use Rattle.pp_pool.specs.Turns.{Asks, IsStep, IsWayOut, Works, IsTurned, turned_by, stage_asked, stage_in, Turns}
+use Rattle.pp_pool.specs.Turns.{TurnIs}
+use Rattle.pp_run.specs.Calling.{calls_of, failures_of, total}
+use Rattle.pp_run.specs.Counted.{IsAtWork}
+use Rattle.pp_run.specs.Ends.{CountsBy}
+use Rattle.pp_run.proofs.Totals.{total_append}
+use Rattle.pp_run.proofs.Told.{Tells, told, untold, Calls, take_calls, step_calls, way_out_calls, answer_calls}
+
+-- ---- how a turn ends
+
+not_done : (why : Refusal) → turned_by why ≢ Done
+not_done (refusal.NotNow delay.NothingWaiting) e = cc
+not_done (refusal.NotNow delay.NoRoom) e = cc
+not_done (refusal.NotNow delay.InFlight) e = cc
+not_done (refusal.NotNow delay.FlushHolds) e = cc
+not_done (refusal.NotNow delay.LatchHeld) e = cc
+not_done (refusal.NotNow delay.FlushBusy) e = cc
+not_done (refusal.OffPlan cause) e = cc
+not_done refusal.Stranger e = cc
+
+not_no_memory : (why : Refusal) → turned_by why ≢ NoMemory
+not_no_memory (refusal.NotNow delay.NothingWaiting) e = cc
+not_no_memory (refusal.NotNow delay.NoRoom) e = cc
+not_no_memory (refusal.NotNow delay.InFlight) e = cc
+not_no_memory (refusal.NotNow delay.FlushHolds) e = cc
+not_no_memory (refusal.NotNow delay.LatchHeld) e = cc
+not_no_memory (refusal.NotNow delay.FlushBusy) e = cc
+not_no_memory (refusal.OffPlan cause) e = cc
+not_no_memory refusal.Stranger e = cc
+
+-- A turn that is done was no refusal.
+done_is_yes : (out : Answer) → IsTurned out Done → is_no out ≡ false
+done_is_yes (answer.Acts x) h = refl
+done_is_yes (answer.Idle x) h = refl
+done_is_yes (answer.Leaves x) h = refl
+done_is_yes (answer.Pinned x g) h = refl
+done_is_yes (answer.Shared x g) h = refl
+done_is_yes (answer.Exclusive x g) h = refl
+done_is_yes (answer.Away errand) h = refl
+done_is_yes (answer.Flushed clean) h = refl
+done_is_yes (answer.No back why) h = absurd (not_done why (sym h))
+
+-- A turn that has ended was a refusal.
+ended_is_no : (out : Answer) → IsTurned out Ended → is_no out ≡ true
+ended_is_no (answer.Acts x) h = absurd cc
+ended_is_no (answer.Idle x) h = absurd cc
+ended_is_no (answer.Leaves x) h = absurd cc
+ended_is_no (answer.Pinned x g) h = absurd cc
+ended_is_no (answer.Shared x g) (inl h) = absurd cc
+ended_is_no (answer.Shared x g) (inr h) = absurd cc
+ended_is_no (answer.Exclusive x g) h = absurd cc
+ended_is_no (answer.Away errand) h = absurd cc
+ended_is_no (answer.Flushed clean) h = absurd cc
+ended_is_no (answer.No back why) h = refl
+
+-- No turn that asked has run out of memory.
+never_no_memory : (out : Answer) → IsTurned out NoMemory → ⊥
+never_no_memory (answer.Acts x) h = cc
+never_no_memory (answer.Idle x) h = cc
+never_no_memory (answer.Leaves x) h = cc
+never_no_memory (answer.Pinned x g) h = cc
+never_no_memory (answer.Shared x g) (inl h) = cc
+never_no_memory (answer.Shared x g) (inr h) = cc
+never_no_memory (answer.Exclusive x g) h = cc
+never_no_memory (answer.Away errand) h = cc
+never_no_memory (answer.Flushed clean) h = cc
+never_no_memory (answer.No back why) h = not_no_memory why (sym h)
+
+-- ---- the stage after a turn that was done
+
+-- Where the request sends a device's answer, it is a worker's.
+abbrev IsOfWorker : Request → Type 0
+IsOfWorker (request.Answer returned) = duty_worker returned.duty ≢ None
+IsOfWorker (request.Flush page) = ⊥
+IsOfWorker (request.FlushNext number) = ⊥
+IsOfWorker _ = Unit {0}
+
+step_of_worker : (layout : Geometry) (x : _) (asked : Request) → IsStep layout x asked → IsOfWorker asked
+step_of_worker layout x (request.Take chair) h = tt
+step_of_worker layout x (request.Fix y page) h = tt
+step_of_worker layout x (request.Unfix y g) h = tt
+step_of_worker layout x (request.LatchShared y g) h = tt
+step_of_worker layout x (request.LatchExclusive y g) h = tt
+step_of_worker layout x (request.UnlatchShared y g) h = tt
+step_of_worker layout x (request.UnlatchExclusive y g) h = tt
+step_of_worker layout x (request.Choose y branch) h = tt
+step_of_worker layout x (request.Finish y) h = tt
+step_of_worker layout x (request.End y) h = tt
+step_of_worker layout x (request.GiveBack y g) h = tt
+step_of_worker layout x (request.Answer returned) h = absurd h
+step_of_worker layout x (request.Flush page) h = absurd h
+step_of_worker layout x (request.FlushNext number) h = absurd h
+
+way_of_worker : (x : _) (asked : Request) → IsWayOut x asked → IsOfWorker asked
+way_of_worker x (request.Take chair) h = tt
+way_of_worker x (request.Fix y page) h = tt
+way_of_worker x (request.Unfix y g) h = tt
+way_of_worker x (request.LatchShared y g) h = tt
+way_of_worker x (request.LatchExclusive y g) h = tt
+way_of_worker x (request.UnlatchShared y g) h = tt
+way_of_worker x (request.UnlatchExclusive y g) h = tt
+way_of_worker x (request.Choose y branch) h = tt
+way_of_worker x (request.Finish y) h = tt
+way_of_worker x (request.End y) h = tt
+way_of_worker x (request.GiveBack y g) h = tt
+way_of_worker x (request.Answer returned) h = absurd h
+way_of_worker x (request.Flush page) h = absurd h
+way_of_worker x (request.FlushNext number) h = absurd h
+
+some_not_none : (w : ℕ) (o : Option ℕ) → o ≡ Some w → o ≢ None
+some_not_none w o is none = let h : ◌≡◌ {A = Option ℕ} None (Some w) = sym none ∙ is in absurd cc
+
+away_of_worker : (asked : Request) (errand : _) → IsOfWorker asked → TokensFit asked (answer.Away errand)
+    → duty_worker errand.duty ≢ None
+away_of_worker (request.Fix x page) errand of fit = some_not_none x.worker _ fit
+away_of_worker (request.Answer returned) errand of fit = λ none. of (sym fit ∙ none)
+away_of_worker (request.Flush page) errand of fit = absurd of
+away_of_worker (request.FlushNext number) errand of fit = absurd of
+away_of_worker (request.Take chair) errand of fit = absurd fit
+away_of_worker (request.Unfix x g) errand of fit = absurd fit
+away_of_worker (request.LatchShared x g) errand of fit = absurd fit
+away_of_worker (request.LatchExclusive x g) errand of fit = absurd fit
+away_of_worker (request.UnlatchShared x g) errand of fit = absurd fit
+away_of_worker (request.UnlatchExclusive x g) errand of fit = absurd fit
+away_of_worker (request.Choose x branch) errand of fit = absurd fit
+away_of_worker (request.Finish x) errand of fit = absurd fit
+away_of_worker (request.End x) errand of fit = absurd fit
+away_of_worker (request.GiveBack x g) errand of fit = absurd fit
+
+at_work : (s t : Stage) → ◌≡◌ {A = Option Stage} (Some s) (Some t) → IsAtWork s → IsAtWork t
+at_work s t e h = let same : s ≡ t = cc in subst (λ x. IsAtWork x) same h
+
+still_at_work : (asked : Request) (out after : Answer) (s : Stage) → IsOfWorker asked → TokensFit asked out
+    → is_no out ≡ false → Works out after → stage_in after ≡ Some s → IsAtWork s
+still_at_work asked (answer.Acts x) after s of fit went works is =
+    at_work (stage.In x) s (sym (ap stage_in works) ∙ is) tt
+still_at_work asked (answer.Idle x) after s of fit went works is =
+    at_work (stage.Idle x) s (sym (ap stage_in works) ∙ is) tt
+still_at_work asked (answer.Leaves x) after s of fit went works is =
+    at_work (stage.Leaving x) s (sym (ap stage_in works) ∙ is) tt
+still_at_work asked (answer.Pinned x g) after s of fit went works is =
+    at_work (stage.In x) s (sym (ap stage_in works) ∙ is) tt
+still_at_work asked (answer.Shared x g) after s of fit went works is =
+    at_work (stage.In x) s (sym (ap stage_in works) ∙ is) tt
+still_at_work asked (answer.Exclusive x g) after s of fit went works is =
+    at_work (stage.In x) s (sym (ap stage_in works.1) ∙ is) tt
+still_at_work asked (answer.Away errand) after s of fit went works is =
+    at_work (stage.Out errand) s (sym (ap stage_in works) ∙ is) (away_of_worker asked errand of fit)
+still_at_work asked (answer.Flushed clean) after s of fit went works is =
+    let h : ◌≡◌ {A = Option Stage} None (Some s) = sym (ap stage_in works) ∙ is in absurd cc
+still_at_work asked (answer.No back why) after s of fit went works is = absurd (false≢true (sym went))
+
+-- ---- the counts
+
+module _ {D : Type 0} (reads : D → ℕ → List ℕ → DeviceAnswer → List ℕ → D → Type 0)
+    (writes : D → ℕ → List ℕ → DeviceAnswer → D → Type 0) (calls failures : D → ℕ) (layout : Geometry) where
+  -- What asking does to the device, beside the event that tells of it.
+  record Calling (old : D) (asked : Request) (did : _) (new : D) : Type 0 where
+    pub called : calls new ≡ calls old + calls_of did
+    pub failed : failures new ≡ failures old + failures_of did
+
+  quiet : (old new : D) (asked : Request) (did : _) → new ≡ old → Calls did 0 0 → Calling old asked did new
+  quiet old new asked did same c = let a = ap calls same in let b = ap failures same in
+      let n = c.called in let m = c.failed in
+      record { called = omega (arith, a, n); failed = omega (arith, b, m) }
+
+  asked_calls : (s : Stage) (old : D) (asked : Request) (new : D) (event : Option Event)
+      → IsAtWork s → Asks reads writes calls failures layout s old asked new → (t : Tells asked event)
+      → Calling old asked t.did new
+  asked_calls (stage.Idle chair) old asked new event work asks t =
+      quiet old new asked t.did asks.1 (take_calls chair.worker t.did (subst (λ r. Rattle.pp_pool.specs.Replies.IsMoveOf r t.did) asks.0 t.of))
+  asked_calls (stage.In x) old asked new event work asks t =
+      quiet old new asked t.did asks.1 (step_calls layout x asked t.did asks.0 t.of)
+  asked_calls (stage.Leaving x) old asked new event work asks t =
+      quiet old new asked t.did asks.1 (way_out_calls x asked t.did asks.0 t.of)
+  asked_calls (stage.Back returned) old asked new event work asks t = absurd work
+  asked_calls (stage.Out errand) old asked new event work asks t =
+      let is = subst (λ r. Rattle.pp_pool.specs.Replies.IsMoveOf r t.did) asks.sent t.of in
+      let c = answer_calls asks.returned.duty asks.returned.image (is_ok asks.returned.answer) t.did
+      (λ none. work (sym (ap duty_worker asks.duty) ∙ none)) is in
+      let a = asks.called in let b = asks.failed in let n = c.called in let m = c.failed in
+      record { called = omega (arith, a, n); failed = omega (arith, b, m) }
+
+  asked_of_worker : (s : Stage) (old : D) (asked : Request) (new : D) → IsAtWork s
+      → Asks reads writes calls failures layout s old asked new → IsOfWorker asked
+  asked_of_worker (stage.Idle chair) old asked new work asks = subst (λ r. IsOfWorker r) (sym asks.0) tt
+  asked_of_worker (stage.In x) old asked new work asks = step_of_worker layout x asked asks.0
+  asked_of_worker (stage.Leaving x) old asked new work asks = way_of_worker x asked asks.0
+  asked_of_worker (stage.Back returned) old asked new work asks = absurd work
+  asked_of_worker (stage.Out errand) old asked new work asks =
+      subst (λ r. IsOfWorker r) (sym asks.sent) (λ none. work (sym (ap duty_worker asks.duty) ∙ none))
+
+  -- A worker whose request came back as that of a chair has called no device.
+  chair_calls_none : (s : Stage) (old : D) (asked : Request) (new : D) (t : Stage) → is_chair t ≡ true
+      → stage_asked asked ≡ Some t → Asks reads writes calls failures layout s old asked new → new ≡ old
+  chair_calls_none (stage.Idle chair) old asked new t chair_t is asks = asks.1
+  chair_calls_none (stage.In x) old asked new t chair_t is asks = asks.1
+  chair_calls_none (stage.Leaving x) old asked new t chair_t is asks = asks.1
+  chair_calls_none (stage.Back returned) old asked new t chair_t is asks = asks.1
+  chair_calls_none (stage.Out errand) old asked new t chair_t is asks =
+      let h : ◌≡◌ {A = Option Stage} (Some (stage.Back asks.returned)) (Some t) = sym (ap stage_asked asks.sent) ∙ is in
+      let e : stage.Back asks.returned ≡ t = cc in absurd (false≢true (ap is_chair e ∙ chair_t))
+
+-- ---- a turn
+
+pub record Kept {S D : Type 0} (calls failures : D → ℕ) (old new : Worker S D) : Type 0 where
+  pub counts : CountsBy calls failures old.device old.log.items new.device new.log.items
+  pub work : IsAtWork new.hand.stage
+
+abbrev Told : {S : Type 0} → S → Request → Outcome → S → Type 0
+Told s asked outcome t = Replies asked outcome
+
+module _ {S D : Type 0} (reads : D → ℕ → List ℕ → DeviceAnswer → List ℕ → D → Type 0)
+    (writes : D → ℕ → List ℕ → DeviceAnswer → D → Type 0) (calls failures : D → ℕ) (old new : Worker S D) where
+  turns_kept : (t : Turns Told reads writes calls failures old Done new) → IsAtWork old.hand.stage
+      → Kept calls failures old new
+  turns_kept t work =
+      let went = done_is_yes t.outcome.answer t.turned_is in
+      let tells = told t.asked t.outcome t.given went in
+      let c = asked_calls reads writes calls failures old.layout old.hand.stage old.device t.asked new.device
+      t.outcome.event work t.asks tells in
+      let log : new.log.items ≡ old.log.items ++ events_in (Some tells.e) = t.log ∙ ap (λ e. old.log.items ++ events_in e) tells.is_event in
+      let n : total calls_of new.log.items ≡ total calls_of old.log.items + total calls_of (events_in (Some tells.e))
+      = ap (total calls_of) log ∙ total_append calls_of old.log.items (events_in (Some tells.e)) in
+      let m : total failures_of new.log.items ≡ total failures_of old.log.items + total failures_of (events_in (Some tells.e))
+      = ap (total failures_of) log ∙ total_append failures_of old.log.items (events_in (Some tells.e)) in
+      let a = c.called in let b = c.failed in let p = tells.step calls_of in let q = tells.step failures_of in
+      record {
+        counts = record { called = omega (arith, n, a, p); failed = omega (arith, m, b, q) };
+        work = still_at_work t.asked t.outcome.answer t.after new.hand.stage
+            (asked_of_worker reads writes calls failures old.layout old.hand.stage old.device t.asked new.device work t.asks)
+            t.given.tokens went t.works t.stage;
+      }
+
+  pub done_kept : TurnIs Told reads writes calls failures old Done new → IsAtWork old.hand.stage
+      → Kept calls failures old new
+  done_kept (inl t) work = turns_kept t work
+  done_kept (inr w) work = absurd w.may
+
+  same_counts : new.device ≡ old.device → new.log.items ≡ old.log.items
+      → CountsBy calls failures old.device old.log.items new.device new.log.items
+  same_counts device log =
+      let a = ap calls device in let b = ap failures device in
+      let n = ap (total calls_of) log in let m = ap (total failures_of) log in
+      record { called = omega (arith, a, n); failed = omega (arith, b, m) }
+
+  pub no_memory_counts : TurnIs Told reads writes calls failures old NoMemory new
+      → CountsBy calls failures old.device old.log.items new.device new.log.items
+  no_memory_counts (inl t) = absurd (never_no_memory t.outcome.answer t.turned_is)
+  no_memory_counts (inr w) = same_counts w.device w.log
+
+  back_stage : (asked : Request) (out after : Answer) (s : Stage) → is_no out ≡ true → TokensFit asked out
+      → Works out after → stage_in after ≡ Some s → stage_asked asked ≡ Some s
+  back_stage asked (answer.No r why) after s is_back fit works is =
+      sym (ap stage_asked fit) ∙ (sym (ap stage_in works) ∙ is)
+  back_stage asked (answer.Acts x) after s is_back fit works is = absurd (false≢true is_back)
+  back_stage asked (answer.Idle x) after s is_back fit works is = absurd (false≢true is_back)
+  back_stage asked (answer.Leaves x) after s is_back fit works is = absurd (false≢true is_back)
+  back_stage asked (answer.Pinned x g) after s is_back fit works is = absurd (false≢true is_back)
+  back_stage asked (answer.Shared x g) after s is_back fit works is = absurd (false≢true is_back)
+  back_stage asked (answer.Exclusive x g) after s is_back fit works is = absurd (false≢true is_back)
+  back_stage asked (answer.Away errand) after s is_back fit works is = absurd (false≢true is_back)
+  back_stage asked (answer.Flushed clean) after s is_back fit works is = absurd (false≢true is_back)
+
+  turns_ended : (t : Turns Told reads writes calls failures old Ended new) → is_chair new.hand.stage ≡ true
+      → CountsBy calls failures old.device old.log.items new.device new.log.items
+  turns_ended t chair =
+      let is_back = ended_is_no t.outcome.answer t.turned_is in
+      let none = untold t.asked t.outcome t.given is_back in
+      let back = back_stage t.asked t.outcome.answer t.after new.hand.stage is_back t.given.tokens t.works t.stage in
+      let device = chair_calls_none reads writes calls failures old.layout old.hand.stage old.device t.asked new.device
+      new.hand.stage chair back t.asks in
+      let log : new.log.items ≡ old.log.items ++ [] = t.log ∙ ap (λ e. old.log.items ++ events_in e) none in
+      let n : total calls_of new.log.items ≡ total calls_of old.log.items + 0 = ap (total calls_of) log ∙ total_append calls_of old.log.items [] in
+      let m : total failures_of new.log.items ≡ total failures_of old.log.items + 0 = ap (total failures_of) log ∙ total_append failures_of old.log.items [] in
+      let a = ap calls device in let b = ap failures device in
+      record { called = omega (arith, a, n); failed = omega (arith, b, m) }
+
+  pub ended_counts : TurnIs Told reads writes calls failures old Ended new → is_chair new.hand.stage ≡ true
+      → CountsBy calls failures old.device old.log.items new.device new.log.items
+  ended_counts (inl t) chair = turns_ended t chair
+  ended_counts (inr w) chair = absurd w.may
+
+pub chair_at_work : (s : Stage) → is_chair s ≡ true → IsAtWork s
+chair_at_work (stage.Idle chair) h = tt
+chair_at_work (stage.In x) h = absurd (false≢true h)
+chair_at_work (stage.Out x) h = absurd (false≢true h)
+chair_at_work (stage.Back x) h = absurd (false≢true h)
+chair_at_work (stage.Leaving x) h = absurd (false≢true h)
+
+pub counts_join : {D : Type 0} (calls failures : D → ℕ) (d e f : D) (a b c : List Event)
+    → CountsBy calls failures d a e b → CountsBy calls failures e b f c → CountsBy calls failures d a f c
+counts_join calls failures d e f a b c x y =
+    record { called = omega (arith, x.called, y.called); failed = omega (arith, x.failed, y.failed) }

@@ -1,0 +1,9 @@
+use Rattle.pp_run.specs.Counted.{IsAtWork}
+use Rattle.pp_run.specs.Ends.{CountsBy}
+use Rattle.pp_run.proofs.working.turns.Given as goal
+
+abbrev pub invariant-loop : goal.invariant-loop
+invariant-loop g l =
+    IsAtWork l.worker.hand.stage
+    × CountsBy g.D.Device.calls g.D.Device.failures l.fn.worker.device l.fn.worker.log.items l.worker.device
+    l.worker.log.items

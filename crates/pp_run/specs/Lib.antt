@@ -1,0 +1,5 @@
+pub mod RunErrors
+pub mod Calling
+pub mod Ends
+pub mod Counted
+pub mod Runs

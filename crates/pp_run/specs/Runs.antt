@@ -1,0 +1,49 @@
+-- What a run leaves.
+use Rattle.std.specs.Prelude.{◌≡◌, ℕ, ◌+◌, ◌<◌, List, [], length, slice_index_or}
+use Rattle.pp_cert.specs.Accepted.{Acceptance}
+use Rattle.pp_model.specs.declared.event.Event.{Event}
+use Rattle.pp_model.specs.Pool.{State, Settings, opening, dirty_pages}
+use Rattle.pp_model.specs.Journals.{IsTrueFrom, replay}
+use Rattle.pp_model.specs.Turns.{IsUnderWay}
+use Rattle.pp_model.specs.WorkerParts.{part_of}
+use Rattle.pp_report.specs.declared.record.RunRecord.{RunRecord}
+use Rattle.pp_run.specs.Calling.{calls_in, failures_in, ends_in, failed_ends_in, begins_in}
+
+-- ---- the journal
+
+-- The state that the events lead to, from the opening state of the settings.
+abbrev pub end_of : Settings → List Acceptance → List Event → State
+end_of k plans es = replay plans (opening k) es
+
+-- The events are a true journal of these settings and plans. All plans are submitted in it, in their order, and at its
+-- end no plan waits or is unfinished, and no flush is in flight. A page is newer than the device's only where all
+-- flushes of the settings were begun.
+pub record IsRun (k : Settings) (plans : List Acceptance) (r : RunRecord) : Type 0 where
+  pub is_true : IsTrueFrom plans (opening k) r.events.items
+  pub submitted : (end_of k plans r.events.items).plans ≡ plans
+  pub over : IsUnderWay (end_of k plans r.events.items) → ⊥
+  pub count : r.plans ≡ length plans
+  pub dirty : r.dirty ≡ dirty_pages (end_of k plans r.events.items)
+  pub flushed : 0 < r.dirty → begins_in r.events.items ≡ k.flushes
+
+-- ---- the devices
+
+-- The device has so many more calls, and so many more failures.
+pub record HasCalled {D : Type 0} (calls failures : D → ℕ) (old : D) (more more_failed : ℕ) (new : D) : Type 0 where
+  pub called : calls new ≡ calls old + more
+  pub failed : failures new ≡ failures old + more_failed
+
+-- The end of each worker has made the calls that its part of the journal tells of; the last end those for the flushes.
+pub record AllCalled {D : Type 0} (calls failures : D → ℕ) (workers : ℕ) (devices : List D) (events : List Event)
+    (back : List D) : Type 0 where
+  pub count : length back ≡ length devices
+  pub each : (w : ℕ) (d e : D) → w < workers
+      → HasCalled calls failures (slice_index_or devices w d) (calls_in (part_of w events))
+      (failures_in (part_of w events)) (slice_index_or back w e)
+  pub last : (d e : D)
+      → HasCalled calls failures (slice_index_or devices workers d) (ends_in events) (failed_ends_in events)
+      (slice_index_or back workers e)
+
+-- Settings of no pool, which stand where no run has picked its own.
+abbrev pub no_settings : Settings
+no_settings = record { layout = record { frames = 0; extents = [] }; workers = 0; flushes = 0 }

@@ -1,0 +1,145 @@
+//! What the threads of a run share: its book, with the tokens that no thread has in hand.
+
+ghost use Rattle.std.specs.Prelude.{◌≡◌, true, false, Some, IfSome, IfErr, length};
+ghost use Rattle.std.specs.Coded.{Coded-set, coded_list};
+ghost use Rattle.pp_cert.specs.Accepted.{coded_acceptance};
+ghost use Rattle.pp_device.specs.Image.{head_of};
+ghost use Rattle.pp_vault.specs.Stages.{stage_worker};
+ghost use Rattle.pp_pool.specs.Parts.{settings_of, plans_of};
+ghost use Rattle.pp_pool.specs.Replies.{Replies};
+
+use pp_pool::{Book, Outcome, OwnSite, Request, Site};
+use pp_settings::{Layout, Settings};
+use pp_vault::{Flushing, Hand, Hands, ReadGuard};
+use std::marker::{Brand, PhantomData};
+
+/// A book with the tokens that nobody has in hand.
+///
+/// Threads know the book that they share by these calls alone.
+pub trait Desk: Site {
+    /// What each worker wants of the settings: where the regions lie, and how many bytes a page has.
+    fn pages(&self) -> (Layout, u32);
+
+    /// Takes the worker's hand out, where it is there.
+    fn part(&mut self, worker: u32) -> Option<Hand>
+        ensures { IfSome result (λ hand. stage_worker hand.stage ≡ Some worker) };
+
+    /// Puts a worker's hand back.
+    ///
+    /// # Errors
+    ///
+    /// The hand, where its place isn't empty.
+    fn join(&mut self, hand: Hand) -> Result<(), Hand>
+        ensures { IfErr result (λ back. back ≡ hand) };
+
+    /// Puts the flush in hand back.
+    ///
+    /// # Errors
+    ///
+    /// The flush, where there is another.
+    fn join_flush(&mut self, flushing: Flushing) -> Result<(), Flushing>
+        ensures { IfErr result (λ back. back ≡ flushing) };
+}
+
+/// Whose journal a run's book has: of these settings, and of these plans, which were all submitted. Each run picks it.
+pub(crate) trait Naming {
+    ghost use Rattle.std.specs.Prelude.{List};
+    ghost use Rattle.pp_cert.specs.Accepted.{Acceptance};
+    ghost use Rattle.pp_model.specs.Pool.{Settings};
+
+    ghost settings: { Settings };
+
+    ghost plans: { List Acceptance };
+}
+
+/// The book of a run, of these settings and plans, with its tokens.
+///
+/// The compiler refuses code that lets it fall.
+pub(crate) struct RunDesk<N: Naming> {
+    site: OwnSite,
+    hands: Hands,
+    pages: (Layout, u32),
+    of: PhantomData<N>,
+    ghost settings: { settings_of site.book ≡ N.settings },
+    ghost plans: { plans_of site.book ≡ N.plans } by { Coded-set (coded_list coded_acceptance) (plans_of site.book) N.plans },
+}
+
+impl<N: Naming> RunDesk<N> {
+    /// A book with the tokens of its vault.
+    pub(crate) fn new(book: Book, hands: Hands, settings: &Settings) -> RunDesk<N>
+        requires settings { settings_of book ≡ N.settings }
+        requires plans { plans_of book ≡ N.plans }
+    {
+        RunDesk {
+            site: OwnSite { book },
+            hands,
+            pages: (settings.layout(), settings.page_bytes()),
+            of: PhantomData,
+        }
+    }
+
+    /// The book and the tokens.
+    pub(crate) fn into_parts(self) -> (Book, Hands)
+        ensures settings { settings_of result.0 ≡ N.settings }
+        ensures plans { plans_of result.0 ≡ N.plans }
+    {
+        let RunDesk {
+            site: OwnSite { book },
+            hands,
+            pages: _,
+            of: _,
+        } = self;
+        (book, hands)
+    }
+}
+
+impl<N: Naming> Site for RunDesk<N> {
+    ghost use Rattle.pp_pool.specs.Replies.{Replies};
+
+    ghost gives = { λ s request outcome t. Replies request outcome };
+
+    fn perform(&mut self, request: Request) -> Outcome {
+        self.site.perform(request)
+    }
+
+    fn look(&mut self, guard: &ReadGuard, bytes: &mut [u8]) -> bool {
+        self.site.look(guard, bytes)
+    }
+
+    fn most(&mut self) -> u64 {
+        self.site.most()
+    }
+}
+
+impl<N: Naming> Desk for RunDesk<N> {
+    fn pages(&self) -> (Layout, u32) {
+        self.pages
+    }
+
+    fn part(&mut self, worker: u32) -> Option<Hand> {
+        self.hands.part(worker)
+    }
+
+    fn join(&mut self, hand: Hand) -> Result<(), Hand> {
+        self.hands.join(hand)
+    }
+
+    fn join_flush(&mut self, flushing: Flushing) -> Result<(), Flushing> {
+        if self.hands.flushing.is_some() {
+            return Err(flushing);
+        }
+        match self.hands.flushing.replace(flushing) {
+            None => Ok(()),
+            Some(other) => Err(other),
+        }
+    }
+}
+
+impl Naming for Brand {
+    ghost use Rattle.std.specs.Prelude.{[]};
+    ghost use Rattle.pp_run.specs.Runs.{no_settings};
+
+    ghost settings = { no_settings };
+
+    ghost plans = { [] };
+}

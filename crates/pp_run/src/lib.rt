@@ -1,0 +1,22 @@
+//! A pool that runs plans on threads: one book under a lock, a thread for each worker, and one for the flusher.
+#![tactic(auto)]
+
+pub use desk::Desk;
+pub use error::RunError;
+pub use locked::Locked;
+pub use pool::Pool;
+pub use pp_report::RunRecord;
+pub use site::LockedSite;
+
+mod comparing;
+mod counting;
+mod desk;
+mod error;
+mod flushing;
+mod judging;
+mod locked;
+mod pool;
+mod site;
+mod stop;
+mod threads;
+mod working;

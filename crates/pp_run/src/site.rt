@@ -1,0 +1,172 @@
+//! The site of a worker whose book is shared.
+
+ghost use Rattle.std.specs.Prelude.{◌≡◌, ◌≤◌, true, false, Some, IfSome, length};
+ghost use Rattle.pp_device.specs.Image.{head_of};
+ghost use Rattle.pp_vault.specs.Stages.{stage_worker};
+ghost use Rattle.pp_pool.specs.Replies.{Replies};
+
+use crate::desk::Desk;
+use crate::locked::{Line, Locked};
+use pp_model::{Event, Failure, Reply};
+use pp_pool::{Answer, Outcome, Request, Site};
+use pp_settings::Layout;
+use pp_vault::{Flushing, Hand, ReadGuard};
+use std::sync::{Condvar, Mutex, Wait};
+
+/// A site that threads share: a book under a lock, with what they wait on.
+///
+/// Each call takes the lock once and gives it back before it returns. A request that isn't possible yet waits, and is
+/// tried again when something was done; nobody is woken where nobody waits. What the site gives is known by the request
+/// alone: others move between two calls.
+#[derive(Drop)]
+pub struct LockedSite<'a, B: Desk, R: Wait> {
+    pub rt: &'a R,
+    /// The book with the tokens that no thread has in hand, and who waits.
+    pub lock: &'a Mutex<Locked<B>>,
+    /// Waited on for a move to be done.
+    pub moved: &'a Condvar,
+    /// Waited on for a page to be changed, or the run to be closing.
+    pub changed: &'a Condvar,
+}
+
+impl<'a, B: Desk, R: Wait> Site for LockedSite<'a, B, R> {
+    ghost use Rattle.pp_pool.specs.Replies.{Replies};
+
+    ghost gives = { λ s request outcome t. Replies request outcome };
+
+    fn perform(&mut self, request: Request) -> Outcome {
+        self.perform_when_possible(request)
+    }
+
+    fn look(&mut self, guard: &ReadGuard, bytes: &mut [u8]) -> bool {
+        self.lock.lock(self.rt).desk.look(guard, bytes)
+    }
+
+    fn most(&mut self) -> u64 {
+        self.lock.lock(self.rt).desk.most()
+    }
+}
+
+impl<'a, B: Desk, R: Wait> LockedSite<'a, B, R> {
+    /// Performs the request, when it is possible. It waits where the move isn't possible now, unless no plan is left; and
+    /// where nothing can be flushed, until the run is closing.
+    fn perform_when_possible(&self, request: Request) -> Outcome
+        ensures { Replies request result }
+    {
+        let mut request = request;
+        let mut locked = self.lock.lock(self.rt);
+        for _ in self.rt.forever() {
+            let Outcome { event, answer } = locked.desk.perform(request);
+            match answer {
+                Answer::No(back, refusal) => match locked.line(refusal) {
+                    Line::Nothing => {
+                        let answer = Answer::No(back, refusal);
+                        return Outcome { event, answer };
+                    }
+                    Line::Moved => {
+                        request = back;
+                        locked.wait_for_move();
+                        locked = self.moved.wait(self.rt, locked);
+                        locked.moved();
+                    }
+                    Line::Changed => {
+                        request = back;
+                        locked.wait_for_change();
+                        locked = self.changed.wait(self.rt, locked);
+                        locked.changed();
+                    }
+                },
+                answer => {
+                    self.wake(locked.waiters(), event);
+                    return Outcome { event, answer };
+                }
+            }
+        }
+        unreachable!()
+    }
+
+    /// Wakes those that wait for a move, and those that wait for a page to be changed where this event can do that.
+    fn wake(&self, waiters: (u64, u64), event: Option<Event>) {
+        let (waiting, idle) = waiters;
+        if waiting > 0 {
+            self.moved.notify_all();
+        }
+        if idle > 0 && lets_flush(event) {
+            self.changed.notify_all();
+        }
+    }
+
+    /// Where the regions of the plans lie, and how many bytes a page has.
+    pub(crate) fn pages(&self) -> (Layout, u32) {
+        self.lock.lock(self.rt).desk.pages()
+    }
+
+    /// Takes the worker's hand out, where it is there.
+    pub(crate) fn part(&self, worker: u32) -> Option<Hand>
+        ensures { IfSome result (λ hand. stage_worker hand.stage ≡ Some worker) }
+    {
+        self.lock.lock(self.rt).desk.part(worker)
+    }
+
+    /// Puts a worker's hand back, and wakes all that wait. It waits where the hand's place isn't empty, which no run
+    /// meets.
+    pub(crate) fn put_back(&self, hand: Hand) {
+        let mut hand = hand;
+        let mut locked = self.lock.lock(self.rt);
+        for _ in self.rt.forever() {
+            match locked.desk.join(hand) {
+                Ok(()) => {
+                    self.wake_all();
+                    return;
+                }
+                Err(back) => {
+                    hand = back;
+                    locked = self.moved.wait(self.rt, locked);
+                }
+            }
+        }
+        unreachable!()
+    }
+
+    /// Puts the flush in hand back, and wakes all that wait. It waits where there is another, which no run meets.
+    pub(crate) fn put_flush_back(&self, flushing: Flushing) {
+        let mut flushing = flushing;
+        let mut locked = self.lock.lock(self.rt);
+        for _ in self.rt.forever() {
+            match locked.desk.join_flush(flushing) {
+                Ok(()) => {
+                    self.wake_all();
+                    return;
+                }
+                Err(back) => {
+                    flushing = back;
+                    locked = self.moved.wait(self.rt, locked);
+                }
+            }
+        }
+        unreachable!()
+    }
+
+    /// From now on a request that finds nothing to flush goes back. Wakes all that wait.
+    pub(crate) fn close(&self) {
+        self.lock.lock(self.rt).close();
+        self.wake_all();
+    }
+
+    fn wake_all(&self) {
+        self.moved.notify_all();
+        self.changed.notify_all();
+    }
+}
+
+/// Whether a page can be flushed after the event that perhaps couldn't before: a writer's latch is off it, or its writing
+/// as a victim failed.
+fn lets_flush(event: Option<Event>) -> bool {
+    matches!(
+        event,
+        Some(Event::Step {
+            reply: Reply::Unlatched { .. } | Reply::Failed(Failure::WriteFault),
+            ..
+        })
+    )
+}

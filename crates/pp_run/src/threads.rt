@@ -1,0 +1,169 @@
+//! The threads of a run.
+
+ghost use Rattle.std.specs.Prelude.{◌≡◌, ◌^◌, ◌<◌, IfOk, vec_len};
+ghost use Rattle.pp_run.specs.Ends.{AllWorkedFrom, FlushedFrom};
+
+use crate::desk::Desk;
+use crate::error::RunError;
+use crate::flushing::flush_on;
+use crate::locked::Locked;
+use crate::site::LockedSite;
+use crate::stop::{Flushed, Worked};
+use crate::working::work_on;
+use pp_device::Device;
+use pp_pool::Work;
+use std::alloc::Global;
+use std::snapshot::Snapshot;
+use std::sync::{Condvar, Mutex, Wait};
+use std::thread;
+use std::thread::{Promise, Scope, Threads};
+
+/// What a worker's thread gives back fits the device that it began with.
+#[derive(Drop)]
+struct WorkPromise<D: Device + Drop>(Snapshot<D>);
+
+impl<D: Device + Drop> Promise<Worked<D>> for WorkPromise<D> {
+    ghost use Rattle.pp_run.specs.Ends.{WorkedFrom};
+
+    ghost kept_by = { λ p r. WorkedFrom D.calls D.failures p.0.value r };
+}
+
+/// What the flusher's thread gives back fits the device that it began with.
+#[derive(Drop)]
+struct FlushPromise<D: Device + Drop>(Snapshot<D>);
+
+impl<D: Device + Drop> Promise<Flushed<D>> for FlushPromise<D> {
+    ghost use Rattle.pp_run.specs.Ends.{FlushedFrom};
+
+    ghost kept_by = { λ p r. FlushedFrom D.calls D.failures p.0.value r };
+}
+
+/// Starts a thread for each worker, and joins them all.
+///
+/// # Errors
+///
+/// [`RunError::NoThread`] with the first worker whose thread couldn't be started; the workers before it run.
+fn run_workers<
+    's,
+    E,
+    B: Desk + Send,
+    D: Device + Drop + Send + 's,
+    W: Work + Drop + Send + 's,
+    R: Threads + Wait + Sync,
+>(
+    scope: &Scope<'s, E>,
+    rt: &'s R,
+    alloc: Global,
+    lock: &'s Mutex<Locked<B>>,
+    moved: &'s Condvar,
+    changed: &'s Condvar,
+    devices: Vec<D>,
+    works: Vec<W>,
+) -> Result<Vec<Worked<D>>, RunError>
+    requires few { vec_len devices < 2 ^ 32 }
+    requires works { vec_len works ≡ vec_len devices }
+    ensures { IfOk result (λ v. AllWorkedFrom D.calls D.failures devices.items v.items) }
+{
+    let mut handles = Vec::new(alloc);
+    handles.reserve(devices.len())?;
+    let mut works = works.into_iter();
+    let mut worker = 0u32;
+    for device in devices {
+        let Some(work) = works.next() else {
+            unreachable!();
+        };
+        let promise = WorkPromise(Snapshot::of(&device));
+        let number = worker;
+        let job = move || {
+            let site = LockedSite {
+                rt,
+                lock,
+                moved,
+                changed,
+            };
+            work_on(site, alloc, number, device, work)
+        };
+        match scope.spawn_with(promise, job) {
+            Ok(handle) => {
+                if handles.push(handle).is_err() {
+                    return Err(RunError::OutOfMemory);
+                }
+            }
+            Err(_) => return Err(RunError::NoThread(worker)),
+        }
+        worker += 1;
+    }
+    match thread::join_promised(rt, handles) {
+        Ok(all) => Ok(all),
+        Err(_) => Err(RunError::OutOfMemory),
+    }
+}
+
+/// Starts a thread for each worker and one for the flusher, joins the workers, closes the book, and joins the flusher.
+///
+/// # Errors
+///
+/// [`RunError::NoThread`] with the first worker whose thread couldn't be started, or with the number of the workers where
+/// that was the flusher's alone. Those whose threads were started do the plans, and are joined.
+pub(crate) fn run_all<
+    B: Desk + Send,
+    D: Device + Drop + Send,
+    W: Work + Drop + Send,
+    R: Threads + Wait + Sync,
+>(
+    rt: &R,
+    alloc: Global,
+    lock: &Mutex<Locked<B>>,
+    moved: &Condvar,
+    changed: &Condvar,
+    devices: Vec<D>,
+    last: D,
+    works: Vec<W>,
+) -> Result<(Vec<Worked<D>>, Flushed<D>), RunError>
+    requires few { vec_len devices < 2 ^ 32 }
+    requires works { vec_len works ≡ vec_len devices }
+    ensures workers { IfOk result (λ v. AllWorkedFrom D.calls D.failures devices.items v.0.items) }
+    ensures flusher { IfOk result (λ v. FlushedFrom D.calls D.failures last v.1) }
+{
+    let flusher = devices.len() as u32;
+    thread::scope(
+        thread::scope_env(),
+        rt,
+        move |scope| -> Result<(Vec<Worked<D>>, Flushed<D>), RunError>
+            requires few { vec_len devices < 2 ^ 32 }
+            requires works { vec_len works ≡ vec_len devices }
+            ensures workers { IfOk result (λ v. AllWorkedFrom D.calls D.failures devices.items v.0.items) }
+            ensures flusher { IfOk result (λ v. FlushedFrom D.calls D.failures last v.1) }
+        {
+            let promise = FlushPromise(Snapshot::of(&last));
+            let job = move || {
+                let site = LockedSite {
+                    rt,
+                    lock,
+                    moved,
+                    changed,
+                };
+                flush_on(site, last)
+            };
+            let started = scope.spawn_with(promise, job);
+            let worked = run_workers(scope, rt, alloc, lock, moved, changed, devices, works);
+            let site = LockedSite {
+                rt,
+                lock,
+                moved,
+                changed,
+            };
+            site.close();
+            match started {
+                Ok(handle) => {
+                    let flushed = handle.join(rt);
+                    Ok((worked?, flushed))
+                }
+                Err(_) => match worked {
+                    Err(RunError::NoThread(worker)) => Err(RunError::NoThread(worker)),
+                    _ => Err(RunError::NoThread(flusher)),
+                },
+            }
+        },
+    )
+}

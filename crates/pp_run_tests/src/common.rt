@@ -1,0 +1,234 @@
+//! What the tests share: sample settings and plans, a work that counts what it saw, and a run over memory.
+
+ghost use Rattle.std.specs.Prelude.{◌≡◌, ◌+◌, vec_len};
+
+use pp_annotate::annotate;
+use pp_cert::{Accepted, check};
+use pp_device::{Device, image};
+use pp_plan::Plan;
+use pp_pool::{Event, Work};
+use pp_run::{Pool, RunError, RunRecord};
+use pp_settings::Settings;
+use pp_shared::SharedDevice;
+use std::alloc::Global;
+use std::process::Abort;
+use std::sync::Wait;
+use std::sync::atomic::{AtomicBool, AtomicU64, Ordering};
+use std::test::*;
+use std::thread;
+use std::thread::Threads;
+use std::time::{Clock, Duration};
+
+/// Three frames, two regions, so many workers and flushes.
+pub fn settings_of(alloc: Global, workers: u32, flushes: u32) -> Result<Settings, Fail> {
+    let text = format!(in alloc;
+        "
+frames = 3
+page_bytes = 64
+workers = {workers}
+flushes = {flushes}
+
+[[region]]
+name = \"root\"
+first = 0
+count = 4
+class = 1
+
+[[region]]
+name = \"leaf\"
+first = 16
+count = 8
+class = 2
+"
+    )?;
+    Ok(Settings::from_text(alloc, &text)?)
+}
+
+/// Writes a leaf.
+pub const WRITE: &str =
+    "{\"body\":[{\"fix\":\"a\",\"region\":\"leaf\"},{\"latch\":\"a\",\"mode\":\"X\"},\
+{\"unlatch\":\"a\"},{\"unfix\":\"a\"}],\"version\":1}";
+
+/// Reads a leaf.
+pub const READ: &str =
+    "{\"body\":[{\"fix\":\"a\",\"region\":\"leaf\"},{\"latch\":\"a\",\"mode\":\"S\"},\
+{\"unlatch\":\"a\"},{\"unfix\":\"a\"}],\"version\":1}";
+
+/// Fixes a root and lets go of it.
+pub const TOUCH: &str =
+    "{\"body\":[{\"fix\":\"a\",\"region\":\"root\"},{\"unfix\":\"a\"}],\"version\":1}";
+
+/// What all works of a run saw.
+#[derive(Drop)]
+pub struct Seen {
+    /// How many images had the told page and mark in their head, and the mark as the first byte of their body.
+    pub good: AtomicU64,
+    /// How many images had not.
+    pub bad: AtomicU64,
+    /// How many pages were changed.
+    pub changed: AtomicU64,
+}
+
+impl Seen {
+    /// Nothing was seen yet.
+    pub fn new() -> Seen {
+        Seen {
+            good: AtomicU64::new(0),
+            bad: AtomicU64::new(0),
+            changed: AtomicU64::new(0),
+        }
+    }
+}
+
+/// Picks the page that stands so far behind the first of each region, adds 1 to the first byte of a body, and counts what
+/// it sees.
+#[derive(Drop)]
+pub struct Counting<'a> {
+    pub seen: &'a Seen,
+    /// How far behind the first page of a region.
+    pub behind: u32,
+}
+
+impl<'a> Work for Counting<'a> {
+    fn page(&mut self, _region: u8, first: u32, count: u32) -> u32 {
+        first + self.behind % count
+    }
+
+    fn branch(&mut self, _count: u16) -> u16 {
+        0
+    }
+
+    fn change(&mut self, _page: u32, body: &mut [u8]) {
+        if let Some(byte) = body.first_mut() {
+            *byte = byte.wrapping_add(1);
+        }
+        self.seen.changed.fetch_add(1, Ordering::SeqCst);
+    }
+
+    fn see(&mut self, page: u32, mark: u64, image: &[u8]) {
+        let counter = if tells(image, page, mark) {
+            &self.seen.good
+        } else {
+            &self.seen.bad
+        };
+        counter.fetch_add(1, Ordering::SeqCst);
+    }
+}
+
+/// Whether the image has this page and this mark in its head, and the mark as the first byte of its body.
+fn tells(image: &[u8], page: u32, mark: u64) -> bool {
+    image.len() == 64 && image::head(image) == (page, mark) && u64::from(image[12]) == mark
+}
+
+/// The plan of this text, with its certificate accepted.
+pub fn accepted(
+    rt: &impl Abort,
+    alloc: Global,
+    settings: &Settings,
+    text: &str,
+) -> Result<Accepted, Fail> {
+    let plan = Plan::from_text(alloc, settings, text)?;
+    let certificate = annotate(alloc, settings, &plan)?;
+    match check(settings, plan, &certificate) {
+        Ok(accepted) => Ok(accepted),
+        Err(_) => panic!(rt; "not accepted: {text}"),
+    }
+}
+
+/// The plans of these texts.
+pub fn all_accepted(
+    rt: &impl Abort,
+    alloc: Global,
+    settings: &Settings,
+    texts: &[&str],
+) -> Result<Vec<Accepted>, Fail> {
+    let mut plans = Vec::new(alloc);
+    for text in texts {
+        plans.push(accepted(rt, alloc, settings, text)?)?;
+    }
+    Ok(plans)
+}
+
+/// A work for each worker, that picks first pages.
+pub fn works_of<'a>(
+    alloc: Global,
+    workers: u32,
+    seen: &'a Seen,
+) -> Result<Vec<Counting<'a>>, Fail> {
+    let mut works = Vec::new(alloc);
+    for _worker in 0..workers {
+        works.push(Counting { seen, behind: 0 })?;
+    }
+    Ok(works)
+}
+
+/// How many hundredths of a second a run may take.
+const PATIENCE: u32 = 2_000;
+
+/// Waits until it is over. The test fails where that takes too long.
+fn watch<R: Abort + Clock>(rt: &R, over: &AtomicBool) {
+    for _moment in 0..PATIENCE {
+        if over.load(Ordering::SeqCst) {
+            return;
+        }
+        let _slept = thread::sleep(rt, Duration::from_millis(10));
+    }
+    panic!(rt; "the run hangs");
+}
+
+/// Runs plans over devices, and is watched; the numbers of both are tested first.
+pub fn run_over<
+    D: Device + Drop + Send,
+    W: Work + Drop + Send,
+    R: Abort + Threads + Wait + Clock + Sync,
+>(
+    rt: &R,
+    alloc: Global,
+    settings: &Settings,
+    plans: Vec<Accepted>,
+    devices: Vec<D>,
+    works: Vec<W>,
+) -> Result<(RunRecord, Vec<D>), RunError> {
+    let workers = settings.workers() as usize;
+    assert!(rt; workers < 64);
+    assert!(rt; devices.len() == workers + 1);
+    assert!(rt; works.len() == workers);
+    let over = AtomicBool::new(false);
+    let (_watched, ran) = thread::join(
+        rt,
+        || watch(rt, &over),
+        || -> Result<(RunRecord, Vec<D>), RunError>
+            requires ends { vec_len devices ≡ settings.now.workers + 1 }
+            requires works { vec_len works ≡ settings.now.workers }
+        {
+            let ran = Pool::run(rt, alloc, settings, plans, devices, works);
+            over.store(true, Ordering::SeqCst);
+            ran
+        },
+    );
+    ran
+}
+
+/// Runs the plans of these texts over memory, with first pages.
+pub fn run<R: AllocGlobal + Abort + Threads + Wait + Clock + Copy + Drop + Sync + Send>(
+    rt: &R,
+    workers: u32,
+    flushes: u32,
+    texts: &[&str],
+    seen: &Seen,
+) -> Result<RunRecord, Fail> {
+    let alloc = rt.alloc();
+    let settings = settings_of(alloc, workers, flushes)?;
+    let plans = all_accepted(rt, alloc, &settings, texts)?;
+    let devices = SharedDevice::over_memory(*rt, alloc, 24, 64, workers as usize + 1)?;
+    let works = works_of(alloc, workers, seen)?;
+    match run_over(rt, alloc, &settings, plans, devices, works) {
+        Ok((record, _devices)) => Ok(record),
+        Err(error) => panic!(rt; "refused: {error}"),
+    }
+}
+
+/// Compares events. Where they differ, the test fails and tells both.
+pub fn same_events(rt: &impl Abort, got: &[Event], want: &[Event]) {
+    assert_eq!(rt; got, want, "got {got:?}, wanted {want:?}");
+}

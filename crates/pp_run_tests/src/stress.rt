@@ -1,0 +1,178 @@
+//! Many plans by many workers over few frames, on a device that fails and lies.
+
+use crate::common::{Seen, all_accepted, run_over};
+use pp_device::{Device, Failing, Trouble, image};
+use pp_model::Reply;
+use pp_pool::{Event, Work};
+use pp_report::{audit, journal_text};
+use pp_run::RunRecord;
+use pp_settings::Settings;
+use pp_shared::SharedDevice;
+use std::alloc::Global;
+use std::process::Abort;
+use std::sync::Wait;
+use std::sync::atomic::Ordering;
+use std::test::*;
+use std::thread::Threads;
+use std::time::Clock;
+
+const SETTINGS: &str = "
+frames = 6
+page_bytes = 64
+workers = 8
+flushes = 400
+
+[[region]]
+name = \"root\"
+first = 0
+count = 4
+class = 1
+
+[[region]]
+name = \"leaf\"
+first = 16
+count = 8
+class = 2
+";
+
+/// Five times: a leaf is written below a root that is read, or a leaf is read.
+const DESCENT: &str = "{\"body\":[{\"body\":[{\"choice\":[\
+[{\"fix\":\"a\",\"region\":\"root\"},{\"latch\":\"a\",\"mode\":\"S\"},{\"fix\":\"b\",\"region\":\"leaf\"},\
+{\"latch\":\"b\",\"mode\":\"X\"},{\"unlatch\":\"a\"},{\"unfix\":\"a\"},{\"unlatch\":\"b\"},{\"unfix\":\"b\"}],\
+[{\"fix\":\"a\",\"region\":\"leaf\"},{\"latch\":\"a\",\"mode\":\"S\"},{\"unlatch\":\"a\"},{\"unfix\":\"a\"}]\
+]}],\"loop\":5}],\"version\":1}";
+
+/// Picks pages and branches by a running number, adds 1 to the first byte of a body, and compares what it sees with the
+/// mark.
+#[derive(Drop)]
+struct Walking<'a> {
+    seen: &'a Seen,
+    at: u32,
+}
+
+impl<'a> Walking<'a> {
+    fn step(&mut self) -> u32 {
+        self.at = self.at.wrapping_mul(1_664_525).wrapping_add(1_013_904_223);
+        self.at >> 16
+    }
+}
+
+impl<'a> Work for Walking<'a> {
+    fn page(&mut self, _region: u8, first: u32, count: u32) -> u32 {
+        first + self.step() % count
+    }
+
+    fn branch(&mut self, count: u16) -> u16 {
+        (self.step() % u32::from(count)) as u16
+    }
+
+    fn change(&mut self, _page: u32, body: &mut [u8]) {
+        body[0] = body[0].wrapping_add(1);
+        self.seen.changed.fetch_add(1, Ordering::SeqCst);
+    }
+
+    fn see(&mut self, _page: u32, mark: u64, image: &[u8]) {
+        let counter = if u64::from(image[12]) == mark % 256 {
+            &self.seen.good
+        } else {
+            &self.seen.bad
+        };
+        counter.fetch_add(1, Ordering::SeqCst);
+    }
+}
+
+/// The device with a failure at every tenth call, and a lie between two.
+fn troubled<D: Device>(alloc: Global, device: D) -> Result<Failing<D>, Fail>
+where
+    D: Drop,
+{
+    let mut troubles = Vec::new(alloc);
+    for tenth in 1..200u32 {
+        troubles.push((tenth * 10, Trouble::Fail))?;
+        troubles.push((tenth * 10 + 5, Trouble::Lie(9999, 0)))?;
+    }
+    Ok(Failing::new(device, troubles))
+}
+
+/// How many plans ended, done or gone.
+fn ended(events: &[Event]) -> usize {
+    let is_end = |event: &&Event| {
+        matches!(
+            event,
+            Event::Step {
+                reply: Reply::Finished(_),
+                ..
+            }
+        )
+    };
+    events.iter().filter(is_end).count()
+}
+
+/// Runs 200 plans by 8 workers, and gives the record and an end of the device.
+fn run_many<R: AllocGlobal + Abort + Threads + Wait + Clock + Copy + Drop + Sync + Send>(
+    rt: &R,
+    seen: &Seen,
+) -> Result<(RunRecord, SharedDevice<R>), Fail> {
+    let alloc = rt.alloc();
+    let settings = Settings::from_text(alloc, SETTINGS)?;
+    let plans = all_accepted(rt, alloc, &settings, &[DESCENT; 200])?;
+    let mut devices = Vec::new(alloc);
+    for end in SharedDevice::over_memory(*rt, alloc, 24, 64, 9)? {
+        devices.push(troubled(alloc, end)?)?;
+    }
+    let mut works = Vec::new(alloc);
+    for at in 0..8 {
+        works.push(Walking { seen, at })?;
+    }
+    match run_over(rt, alloc, &settings, plans, devices, works) {
+        Ok((record, mut devices)) => match devices.pop() {
+            Some(end) => Ok((record, end.into_inner())),
+            None => panic!(rt; "no end came back"),
+        },
+        Err(error) => panic!(rt; "refused: {error}"),
+    }
+}
+
+/// The journal is audited: each event is possible at its point, with the reply that is told, and nothing is left.
+fn is_audited<R: AllocGlobal + Abort>(rt: &R, events: &[Event]) -> Result<(), Fail> {
+    let alloc = rt.alloc();
+    let settings = Settings::from_text(alloc, SETTINGS)?;
+    let plans = all_accepted(rt, alloc, &settings, &[DESCENT; 200])?;
+    let text = journal_text(alloc, events)?;
+    match audit(alloc, &settings, plans, text.as_bytes()) {
+        Ok(audited) => assert!(rt; audited.lines == events.len() as u64, "other lines"),
+        Err(error) => panic!(rt; "not audited: {error}"),
+    }
+    Ok(())
+}
+
+/// Every plan ends, the journal is true, every page's bytes are those of its stamp, and where nothing is left to flush no change is lost.
+#[test]
+fn many_workers_lose_no_change(rt: HostRuntime) -> Result<(), Fail> {
+    let seen = Seen::new();
+    let (record, mut device) = run_many(&rt, &seen)?;
+    assert!(rt; record.plans == 200, "other plans");
+    assert!(rt; ended(&record.events) == 200, "a plan did not end");
+    is_audited(&rt, &record.events)?;
+    assert!(rt;
+        seen.bad.load(Ordering::SeqCst) == 0,
+        "a bad image was seen"
+    );
+    let mut stamps = 0u64;
+    for page in 0..24 {
+        let mut bytes = [0; 64];
+        assert!(rt;
+            device.read(page, &mut bytes).is_ok(),
+            "a page was not read"
+        );
+        let (number, stamp) = image::head(&bytes);
+        assert!(rt; number == page, "another page");
+        assert!(rt; u64::from(bytes[12]) == stamp % 256, "other bytes");
+        stamps = stamps.saturating_add(stamp);
+    }
+    assert!(rt;
+        record.dirty > 0 || stamps == seen.changed.load(Ordering::SeqCst),
+        "a change is lost"
+    );
+    Ok(())
+}
