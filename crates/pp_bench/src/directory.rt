@@ -2,9 +2,9 @@
 
 ghost use Rattle.std.specs.Prelude.{◌≡◌, ◌≤◌, ◌<◌, false};
 
-use crate::trace::{Kind, PAGES, Trace};
 use crate::trouble::Trouble;
 use pp_arc::{Answer, Busy, Directory};
+use pp_traces::{Kind, PAGES, Trace};
 
 /// No page is busy.
 struct NoneBusy;

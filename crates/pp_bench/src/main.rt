@@ -3,17 +3,19 @@
 //! `pp_bench directory hit|skew|loop|mixed OPS [FRAMES]` prints how many of the requests missed, and
 //! `pp_bench marks OPS [FRAMES]` how many pages were brought in, each in place of another. `pp_bench moves
 //! hit|skew|loop|mixed OPS` plays fixes, latches, unlatches and unfixes to the core, and `pp_bench pool` the same to a
-//! vault over pages in memory; both print how many pages were read.
-//! How long a run takes is for the caller to measure.
+//! vault over pages in memory; both print how many pages were read. `pp_bench journal LINES` writes a journal of at least
+//! so many lines, and `pp_bench audit LINES` audits it from standard input; it prints how many lines there were, and on
+//! standard error what one took.
+//! How long the other runs take is for the caller to measure.
 #![tactic(auto)]
 
 mod directory;
+mod journal;
 mod marks;
 mod moves;
 mod pool;
-mod script;
-mod trace;
 mod trouble;
+mod words;
 
 use std::env;
 use std::io::Write;
@@ -42,6 +44,8 @@ fn play(rt: &HostRuntime) -> Result<(), Trouble> {
         "marks" => marks::play(rt, &words[2..]),
         "moves" => moves::play(rt, &words[2..]),
         "pool" => pool::play(rt, &words[2..]),
+        "journal" => journal::write(rt, &words[2..]),
+        "audit" => journal::audit(rt, &words[2..]),
         _ => Err(Trouble::Words),
     }
 }

@@ -2,16 +2,16 @@
 
 ghost use Rattle.std.specs.Prelude.{◌≤◌};
 
-use crate::script;
-use crate::trace::Trace;
 use crate::trouble::Trouble;
+use crate::words;
 use pp_core::{Came, Core, Move, Reply};
+use pp_traces::Trace;
 use std::alloc::Global;
 
 /// Plays the trace of the kind that the first word names, as many operations long as the second says, to a core of
 /// 4,096 frames. Prints how many pages had to be read.
 pub fn play(rt: &HostRuntime, words: &[String]) -> Result<(), Trouble> {
-    let (kind, ops) = script::asked(words)?;
+    let (kind, ops) = words::kind_and_ops(words)?;
     let mut core = running(rt.alloc(), ops)?;
     let misses = misses(&mut core, Trace::new(kind, 4096), ops).ok_or(Trouble::Refused)?;
     println!(rt; "{misses}")?;
@@ -20,8 +20,8 @@ pub fn play(rt: &HostRuntime, words: &[String]) -> Result<(), Trouble> {
 
 /// A core whose worker has taken a plan of so many operations.
 fn running(alloc: Global, ops: u64) -> Result<Core, Trouble> {
-    let settings = script::settings(alloc)?;
-    let accepted = script::accepted(alloc, &settings, ops)?;
+    let settings = pp_traces::settings(alloc, 1)?;
+    let accepted = pp_traces::accepted(alloc, &settings, ops)?;
     let mut core = Core::new(alloc, &settings).map_err(|_| Trouble::Memory)?;
     if core.submit(accepted).is_err() {
         return Err(Trouble::Refused);

@@ -4,10 +4,10 @@
 ghost use Rattle.std.specs.Prelude.{◌≡◌, true};
 ghost use Rattle.pp_vault.specs.Stages.{is_idle_hand};
 
-use crate::script;
-use crate::trace::{Kind, PAGES, Trace};
 use crate::trouble::Trouble;
+use crate::words;
 use pp_device::{Device, SoloDevice, image};
+use pp_traces::{Kind, PAGES, Trace};
 use pp_vault::{
     Accepted, Answered, Chair, Errand, Fixed, Guard, Hand, PinGuard, Session, Stage, Stopped, Vault,
 };
@@ -29,7 +29,7 @@ struct Pool {
 /// Plays the trace of the kind that the first word names, as many operations long as the second says, to a pool of
 /// 4,096 frames. Prints how many pages had to be read.
 pub fn play(rt: &HostRuntime, words: &[String]) -> Result<(), Trouble> {
-    let (kind, ops) = script::asked(words)?;
+    let (kind, ops) = words::kind_and_ops(words)?;
     let misses = run(rt.alloc(), kind, ops)?;
     println!(rt; "{misses}")?;
     Ok(())
@@ -37,8 +37,8 @@ pub fn play(rt: &HostRuntime, words: &[String]) -> Result<(), Trouble> {
 
 /// How many pages are read in so many operations of a trace of this kind.
 fn run(alloc: Global, kind: Kind, ops: u64) -> Result<u64, Trouble> {
-    let settings = script::settings(alloc)?;
-    let accepted = script::accepted(alloc, &settings, ops)?;
+    let settings = pp_traces::settings(alloc, 1)?;
+    let accepted = pp_traces::accepted(alloc, &settings, ops)?;
     let device = numbered(alloc)?;
     let (vault, mut hands) = Vault::new(alloc, &settings).map_err(|_| Trouble::Memory)?;
     let mut pool = Pool { vault, device };

@@ -1,5 +1,7 @@
 //! Why a run gave no count.
 
+use pp_report::AuditError;
+use pp_traces::PlanError;
 use std::alloc::AllocError;
 use std::fmt::{self, Display, Formatter, Write};
 use std::io;
@@ -15,7 +17,9 @@ pub enum Trouble {
     Memory,
     /// The pool refused what its plan asks, or the plan.
     Refused,
-    /// The words could not be read, or the count could not be written.
+    /// The journal is not the one that is to be audited.
+    Audit(AuditError),
+    /// The words or the journal could not be read, or the count could not be written.
     Io(io::Error),
 }
 
@@ -24,7 +28,7 @@ impl Trouble {
     pub fn status(&self) -> u8 {
         match self {
             Trouble::Words | Trouble::TooMany => 2,
-            Trouble::Memory | Trouble::Refused | Trouble::Io(_) => 1,
+            Trouble::Memory | Trouble::Refused | Trouble::Audit(_) | Trouble::Io(_) => 1,
         }
     }
 }
@@ -36,17 +40,18 @@ impl Display for Trouble {
                 write!(
                     f,
                     "usage: pp_bench directory hit|skew|loop|mixed OPS [FRAMES], pp_bench marks OPS [FRAMES], \
-                    or pp_bench moves|pool hit|skew|loop|mixed OPS"
+                    pp_bench moves|pool hit|skew|loop|mixed OPS, or pp_bench journal|audit LINES"
                 )
             }
             Trouble::TooMany => {
                 write!(
                     f,
-                    "OPS is at most 250000: a plan has at most 1000000 steps, and each operation is four"
+                    "OPS is at most 250000, and LINES 1000000: a plan has at most 1000000 steps, and each operation is four"
                 )
             }
             Trouble::Memory => write!(f, "out of memory"),
             Trouble::Refused => write!(f, "the pool refused a call"),
+            Trouble::Audit(error) => write!(f, "{error}"),
             Trouble::Io(error) => write!(f, "{error}"),
         }
     }
@@ -55,6 +60,21 @@ impl Display for Trouble {
 impl From<AllocError> for Trouble {
     fn from(_error: AllocError) -> Self {
         Trouble::Memory
+    }
+}
+
+impl From<PlanError> for Trouble {
+    fn from(error: PlanError) -> Self {
+        match error {
+            PlanError::Refused => Trouble::Refused,
+            PlanError::OutOfMemory => Trouble::Memory,
+        }
+    }
+}
+
+impl From<AuditError> for Trouble {
+    fn from(error: AuditError) -> Self {
+        Trouble::Audit(error)
     }
 }
 

@@ -48,12 +48,19 @@ pub struct Trace {
 }
 
 impl Trace {
+    /// The trace of this kind for a cache of so many frames.
     pub fn new(kind: Kind, frames: u32) -> Self {
+        Trace::of_worker(kind, frames, 0)
+    }
+
+    /// The trace that this one of several workers follows: those of two workers ask for other pages. Worker 0 has the
+    /// trace of [`Trace::new`].
+    pub fn of_worker(kind: Kind, frames: u32, worker: u32) -> Self {
         let frames = frames.min(PAGES);
         Trace {
             kind,
             count: 0,
-            seed: 12345,
+            seed: 12345 + u64::from(worker),
             place: 0,
             few: (frames * 3 / 4).max(1),
             many: (frames * 3 / 2).max(1),

@@ -1,0 +1,30 @@
+//! What the words of the command line ask for.
+
+use crate::trouble::Trouble;
+use pp_traces::{Kind, MOST_OPS};
+
+/// The kind of a trace, and how many operations one plan has.
+pub fn kind_and_ops(words: &[String]) -> Result<(Kind, u64), Trouble> {
+    let [kind, ops] = words else {
+        return Err(Trouble::Words);
+    };
+    let kind = Kind::named(kind.as_str()).ok_or(Trouble::Words)?;
+    let ops = ops.parse::<u64>().map_err(|_| Trouble::Words)?;
+    if ops > MOST_OPS {
+        return Err(Trouble::TooMany);
+    }
+    Ok((kind, ops))
+}
+
+/// How many operations make at least so many lines of a journal, where each makes four or five.
+pub fn ops_of_lines(words: &[String]) -> Result<u64, Trouble> {
+    let [lines] = words else {
+        return Err(Trouble::Words);
+    };
+    let lines = lines.parse::<u64>().map_err(|_| Trouble::Words)?;
+    let ops = lines.div_ceil(4);
+    if ops > MOST_OPS {
+        return Err(Trouble::TooMany);
+    }
+    Ok(ops)
+}

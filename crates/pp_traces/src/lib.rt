@@ -1,0 +1,10 @@
+//! Traces of page requests, and plans that follow them, for programs that measure a pool.
+#![tactic(auto)]
+
+pub use error::PlanError;
+pub use plans::{MOST_OPS, accepted, settings};
+pub use trace::{Kind, PAGES, Trace};
+
+mod error;
+mod plans;
+mod trace;

@@ -1,0 +1,67 @@
+//! The plan that a worker follows, and the settings of its pool.
+
+use crate::error::PlanError;
+use pp_annotate::annotate;
+use pp_cert::{Accepted, check};
+use pp_plan::Plan;
+use pp_settings::Settings;
+use std::alloc::{AllocError, Global};
+
+/// The most operations of one plan: each is four steps, and a plan has at most 1,000,000.
+pub const MOST_OPS: u64 = 250_000;
+
+/// The most turns that a loop has.
+const LONGEST: u64 = 65_535;
+
+/// A page is fixed, latched S, unlatched and unfixed.
+const OPERATION: &str =
+    "{\"fix\":\"a\",\"region\":\"all\"},{\"latch\":\"a\",\"mode\":\"S\"},{\"unlatch\":\"a\"},{\"unfix\":\"a\"}";
+
+/// 4,096 frames, a region of all page numbers, pages of 4,096 bytes, no flush, and so many workers.
+///
+/// # Errors
+///
+/// [`PlanError::Refused`] where these aren't 1 to 32 workers. Memory may run out.
+pub fn settings(alloc: Global, workers: u32) -> Result<Settings, PlanError> {
+    let text = format!(in alloc;
+        "frames = 4096
+page_bytes = 4096
+workers = {workers}
+flushes = 0
+[[region]]
+name = \"all\"
+first = 0
+count = 65536
+class = 0
+"
+    )?;
+    Settings::from_text(alloc, text.as_str()).map_err(|_| PlanError::Refused)
+}
+
+/// A plan of so many operations, with a certificate that the checker takes. An operation is a fix, a latch S, an unlatch
+/// and an unfix.
+///
+/// # Errors
+///
+/// [`PlanError::Refused`] where these are more than [`MOST_OPS`]. Memory may run out.
+pub fn accepted(alloc: Global, settings: &Settings, ops: u64) -> Result<Accepted, PlanError> {
+    let text = plan_text(alloc, ops)?;
+    let plan = Plan::from_text(alloc, settings, text.as_str()).map_err(|_| PlanError::Refused)?;
+    let certificate = annotate(alloc, settings, &plan).map_err(|_| PlanError::Refused)?;
+    check(settings, plan, &certificate).map_err(|_| PlanError::Refused)
+}
+
+/// The text of a plan of so many operations: loops, one after another, as long as a loop can be.
+fn plan_text(alloc: Global, ops: u64) -> Result<String, AllocError> {
+    let mut body = String::new(alloc);
+    for number in 0..=MOST_OPS / LONGEST {
+        let left = ops.saturating_sub(number * LONGEST);
+        if left > 0 {
+            let turns = left.min(LONGEST);
+            let comma = if number > 0 { "," } else { "" };
+            let text = format!(in alloc; "{comma}{{\"body\":[{OPERATION}],\"loop\":{turns}}}")?;
+            body.push_str(text.as_str())?;
+        }
+    }
+    format!(in alloc; "{{\"body\":[{body}],\"version\":1}}")
+}
