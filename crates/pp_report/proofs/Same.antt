@@ -14,21 +14,22 @@ use Rattle.pp_model.specs.declared.reply.Ending.TheVariants.{Done, Gone}
 use Rattle.pp_model.specs.declared.reply.Reply.{Reply}
 use Rattle.pp_model.specs.declared.reply.Reply.TheVariants.{Taken, Hit, MustRead, MustWrite, Failed, Loaded, Did}
 use Rattle.pp_model.specs.declared.reply.Reply.TheVariants.{Latched, Unlatched, Finished, Flushing, Flushed, NotNow, OffPlan}
+use Rattle.pp_model.specs.contracts.reply.ReplyPartialEq.TheImpl as replies
 use Rattle.pp_report.specs.declared.line.Told.{Told}
 use Rattle.pp_report.specs.declared.line.Told.TheVariants.{Queued, Answer}
 use Rattle.pp_report.specs.Sameness.{same_flag, same_failure, same_ending, same_delay, same_cause, same_reply, same_told}
 
-equal : (m n : ℕ) → (m == n) ≡ true → m ≡ n
+pub equal : (m n : ℕ) → (m == n) ≡ true → m ≡ n
 equal m n e = grind (arith, nat_tests)
 
-itself : (n : ℕ) → (n == n) ≡ true
+pub itself : (n : ℕ) → (n == n) ≡ true
 itself n = grind (arith, nat_tests)
 
-two : (a b : Bool) → (a && b) ≡ true → (a ≡ true) × (b ≡ true)
+pub two : (a b : Bool) → (a && b) ≡ true → (a ≡ true) × (b ≡ true)
 two true b e = (refl, e)
 two false b e = absurd cc
 
-both : (a b : Bool) → a ≡ true → b ≡ true → (a && b) ≡ true
+pub both : (a b : Bool) → a ≡ true → b ≡ true → (a && b) ≡ true
 both a b p q = rw (p, q) refl
 
 flag_is : (x y : Bool) → same_flag x y ≡ true → x ≡ y
@@ -70,7 +71,7 @@ cause_is NotDirty NotDirty e = refl
 cause_is NoFlushLeft NoFlushLeft e = refl
 cause_is _ _ e = absurd cc
 
-reply_is : (x y : Reply) → same_reply x y ≡ true → x ≡ y
+pub reply_is : (x y : Reply) → same_reply x y ≡ true → x ≡ y
 reply_is (Taken k) (Taken j) e = ap (λ n. Taken n) (equal k j e)
 reply_is (Hit f m) (Hit g n) e =
     let (a, b) = two (f == g) (m == n) e in ap (λ k. Hit k m) (equal f g a) ∙ ap (λ k. Hit g k) (equal m n b)
@@ -129,7 +130,7 @@ cause_same NotEnded = refl
 cause_same NotDirty = refl
 cause_same NoFlushLeft = refl
 
-reply_same : (x : Reply) → same_reply x x ≡ true
+pub reply_same : (x : Reply) → same_reply x x ≡ true
 reply_same (Taken k) = itself k
 reply_same (Hit f m) = both (f == f) (m == m) (itself f) (itself m)
 reply_same (MustRead f) = itself f
@@ -148,3 +149,59 @@ reply_same (OffPlan x) = cause_same x
 pub same_told_same : (x : Told) → same_told x x ≡ true
 same_told_same Queued = refl
 same_told_same (Answer r) = reply_same r
+
+-- What the derived `==` computes of two replies.
+flags : (x y : Bool) → replies.eq-value.it (Flushed x) (Flushed y) ≡ same_flag x y
+flags true true = refl
+flags false false = refl
+flags _ _ = refl
+
+failures : (x y : Failure) → replies.eq-value.it (Failed x) (Failed y) ≡ same_failure x y
+failures WriteFault WriteFault = refl
+failures ReadFault ReadFault = refl
+failures Misread Misread = refl
+failures _ _ = refl
+
+endings : (x y : Ending) → replies.eq-value.it (Finished x) (Finished y) ≡ same_ending x y
+endings Done Done = refl
+endings Gone Gone = refl
+endings _ _ = refl
+
+delays : (x y : Delay) → replies.eq-value.it (NotNow x) (NotNow y) ≡ same_delay x y
+delays NothingWaiting NothingWaiting = refl
+delays NoRoom NoRoom = refl
+delays InFlight InFlight = refl
+delays FlushHolds FlushHolds = refl
+delays LatchHeld LatchHeld = refl
+delays FlushBusy FlushBusy = refl
+delays _ _ = refl
+
+causes : (x y : Cause) → replies.eq-value.it (OffPlan x) (OffPlan y) ≡ same_cause x y
+causes NoWorker NoWorker = refl
+causes NotIdle NotIdle = refl
+causes NotActing NotActing = refl
+causes NotAsked NotAsked = refl
+causes NoErrand NoErrand = refl
+causes NotLeaving NotLeaving = refl
+causes NotHeld NotHeld = refl
+causes NotEnded NotEnded = refl
+causes NotDirty NotDirty = refl
+causes NoFlushLeft NoFlushLeft = refl
+causes _ _ = refl
+
+pub reply_eq : (r q : Reply) → replies.eq-value.it r q ≡ same_reply r q
+reply_eq (Taken k) (Taken j) = refl
+reply_eq (Hit f m) (Hit g n) = refl
+reply_eq (MustRead f) (MustRead g) = refl
+reply_eq (MustWrite f v) (MustWrite g w) = refl
+reply_eq (Failed x) (Failed y) = failures x y
+reply_eq (Loaded m) (Loaded n) = refl
+reply_eq Did Did = refl
+reply_eq (Latched m) (Latched n) = refl
+reply_eq (Unlatched m) (Unlatched n) = refl
+reply_eq (Finished x) (Finished y) = endings x y
+reply_eq (Flushing m) (Flushing n) = refl
+reply_eq (Flushed x) (Flushed y) = flags x y
+reply_eq (NotNow x) (NotNow y) = delays x y
+reply_eq (OffPlan x) (OffPlan y) = causes x y
+reply_eq _ _ = refl

@@ -35,7 +35,7 @@ use Rattle.pp_report.specs.Journals.{journal_lines}
 use Rattle.pp_report.specs.Sameness.{same_told}
 use Rattle.pp_report.specs.Auditing.{Progress, told_unless, told_plan, told_reply, told_to, after_next, after_asked}
 use Rattle.pp_report.specs.Auditing.{pass_told, pass, pass_text, is_none, is_over, auditing_from, outset, auditing}
-use Rattle.pp_report.specs.Audits.{IsOver, IsAudited, CanAsk, due, StopsAt, IsNoLine, AsksTooMuch}
+use Rattle.pp_report.specs.Audits.{IsOver, IsAudited, CanAsk, due, StopsAt, IsNoLine, AsksImpossible}
 use Rattle.pp_report.specs.Audits.{TellsOther, TellsFault}
 use Rattle.pp_report.specs.Refusals.{is_audit_memory}
 use Rattle.pp_report.proofs.Spoken.{line_found, line_again}
@@ -328,7 +328,7 @@ again_from plans p n (e ∷ es) waits fits h over =
 
 abbrev Wrongs : List Acceptance → State → List ℕ → ℕ → AuditError → Type 0
 Wrongs plans s text number (NotALine n) = (n ≡ number) × IsNoLine s text
-Wrongs plans s text number (NotPossible n asked next) = (n ≡ number) × AsksTooMuch plans asked next s text
+Wrongs plans s text number (NotPossible n asked next) = (n ≡ number) × AsksImpossible plans asked next s text
 Wrongs plans s text number (ReplyDiffers n told right) = (n ≡ number) × TellsOther plans told right s text
 Wrongs plans s text number Unfinished = ⊥
 Wrongs plans s text number OutOfMemory = ⊥
@@ -400,7 +400,7 @@ record Early (plans : List Acceptance) (p : Progress) (texts : List (List ℕ)) 
 
 abbrev Faults : List Acceptance → Progress → ℕ → List (List ℕ) → AuditError → Type 0
 Faults plans p n texts (NotALine k) = Stops plans p n texts k IsNoLine
-Faults plans p n texts (NotPossible k asked next) = Stops plans p n texts k (AsksTooMuch plans asked next)
+Faults plans p n texts (NotPossible k asked next) = Stops plans p n texts k (AsksImpossible plans asked next)
 Faults plans p n texts (ReplyDiffers k told right) = Stops plans p n texts k (TellsOther plans told right)
 Faults plans p n texts Unfinished = Early plans p texts
 Faults plans p n texts OutOfMemory = Unit {0}
@@ -422,7 +422,7 @@ faults_here : (plans : List Acceptance) (p : Progress) (n : ℕ) (text : List �
     → Wrongs plans p.state text (n + 1) e → Faults plans p n (text ∷ texts) e
 faults_here plans p n text texts (NotALine k) h = stops_here plans p n text texts k IsNoLine h.0 h.1
 faults_here plans p n text texts (NotPossible k asked next) h =
-    stops_here plans p n text texts k (AsksTooMuch plans asked next) h.0 h.1
+    stops_here plans p n text texts k (AsksImpossible plans asked next) h.0 h.1
 faults_here plans p n text texts (ReplyDiffers k told right) h =
     stops_here plans p n text texts k (TellsOther plans told right) h.0 h.1
 faults_here plans p n text texts Unfinished h = absurd h
@@ -447,7 +447,7 @@ faults_later : (plans : List Acceptance) (p q : Progress) (n : ℕ) (text : List
     → Passed plans p q text → Faults plans q (n + 1) texts e → Faults plans p n (text ∷ texts) e
 faults_later plans p q n text texts (NotALine k) here h = stops_later plans p q n text texts k IsNoLine here h
 faults_later plans p q n text texts (NotPossible k asked next) here h =
-    stops_later plans p q n text texts k (AsksTooMuch plans asked next) here h
+    stops_later plans p q n text texts k (AsksImpossible plans asked next) here h
 faults_later plans p q n text texts (ReplyDiffers k told right) here h =
     stops_later plans p q n text texts k (TellsOther plans told right) here h
 faults_later plans p q n text texts Unfinished here h = record {
@@ -530,7 +530,7 @@ stops_at c plans text k W h = let counted = h.number_is in record {
 tells : (c : Configuration) (plans : List Acceptance) (text : List ℕ) (e : AuditError)
     → Faults plans (outset c plans) 0 (journal_lines text) e → TellsFault c plans text e
 tells c plans text (NotALine k) h = stops_at c plans text k IsNoLine h
-tells c plans text (NotPossible k asked next) h = stops_at c plans text k (AsksTooMuch plans asked next) h
+tells c plans text (NotPossible k asked next) h = stops_at c plans text k (AsksImpossible plans asked next) h
 tells c plans text (ReplyDiffers k told right) h = stops_at c plans text k (TellsOther plans told right) h
 tells c plans text Unfinished h = record {
   events = h.events;

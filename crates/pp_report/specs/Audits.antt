@@ -73,8 +73,8 @@ abbrev pub IsNoLine : State → List ℕ → Type 0
 IsNoLine s text = (l : Line) → ¬ Says text l
 
 -- It asks what isn't possible.
-abbrev pub AsksTooMuch : List Acceptance → Asked → Next → State → List ℕ → Type 0
-AsksTooMuch plans asked next s text =
+abbrev pub AsksImpossible : List Acceptance → Asked → Next → State → List ℕ → Type 0
+AsksImpossible plans asked next s text =
     (told : Told) × Says text (record { asked = asked; told = told }) × (¬ CanAsk plans s asked) × (next.turn ≡ next_turn s)
 
 -- It asks what is possible, and tells something else than the pool.
@@ -93,7 +93,7 @@ pub record EndsEarly (c : Configuration) (plans : List Acceptance) (text : List 
 -- The error tells the first fault of the text. Want of memory tells nothing.
 abbrev pub TellsFault : Configuration → List Acceptance → List ℕ → AuditError → Type 0
 TellsFault c plans text (NotALine n) = StopsAt c plans text n IsNoLine
-TellsFault c plans text (NotPossible n asked next) = StopsAt c plans text n (AsksTooMuch plans asked next)
+TellsFault c plans text (NotPossible n asked next) = StopsAt c plans text n (AsksImpossible plans asked next)
 TellsFault c plans text (ReplyDiffers n told right) = StopsAt c plans text n (TellsOther plans told right)
 TellsFault c plans text Unfinished = EndsEarly c plans text
 TellsFault c plans text OutOfMemory = Unit {0}

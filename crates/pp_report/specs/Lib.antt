@@ -7,3 +7,4 @@ pub mod Audits
 pub mod Auditors
 pub mod Refusals
 pub mod Reports
+pub mod Complete

@@ -3,6 +3,7 @@
 
 pub use auditing::{Audited, audit};
 pub use error::{AuditError, Next};
+pub use events::{is_same_event, names_worker};
 pub use journal::journal_text;
 pub use line::{Asked, Line, Told};
 pub use record::RunRecord;
@@ -11,6 +12,7 @@ pub use reporting::report;
 mod auditing;
 mod auditor;
 mod error;
+mod events;
 mod figure;
 mod journal;
 pub mod laws;

@@ -1,6 +1,7 @@
 //! The report of a run.
 
 ghost use Rattle.std.specs.Prelude.{◌≡◌, ◌++◌, IfOk, OnOk, string_bytes, codes, flat_map};
+ghost use Rattle.pp_report.specs.Complete.{TellsEachPlan};
 ghost use Rattle.pp_report.specs.Reports.{row_line, figure_words, figure_lines, report_text};
 
 use crate::figure::Figure;
@@ -26,13 +27,16 @@ const FIGURES: [Figure; 9] = [
 /// their numbers, with the worker, the actions that were done, the hits and the loads among them, and how it ended; and
 /// nine figures of the whole run. Each line is ended by a line feed.
 ///
+/// Where the events are a true journal of so many plans, to their end, each plan has a line (`plans`).
+///
 /// It goes over the events once for each figure, once for the takes, and at most once for each worker.
 ///
 /// # Errors
 ///
 /// Only where memory runs out.
 pub fn report(alloc: Global, run: &RunRecord) -> Result<String, AllocError>
-    ensures { IfOk result (λ text. string_bytes text ≡ report_text run.now) }
+    ensures text { IfOk result (λ text. string_bytes text ≡ report_text run.now) }
+    ensures plans { IfOk result (λ text. TellsEachPlan run.now (string_bytes text)) }
 {
     let rows = rows(alloc, run.plans, run.events.as_slice())?;
     let mut text = String::from_str(alloc, " plan worker    steps     hits    loads  outcome\n")?;

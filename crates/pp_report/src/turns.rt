@@ -4,42 +4,13 @@ ghost use Rattle.std.specs.Prelude.{◌≡◌, ℕ, ◌<◌, None, IfOk, EachInd
 ghost use Rattle.std.specs.Prelude.{option_and_then};
 ghost use Rattle.std.specs.List.{range_with_len};
 ghost use Rattle.std.specs.Option.{option_or};
-ghost use Rattle.pp_model.specs.WorkerParts.{worker_of, names_worker};
 ghost use Rattle.pp_report.specs.Reports.{is_step, is_turn_end, taker, ending_in, row_after, row_of};
 
+use crate::events::names_worker;
 use crate::figure::Figure;
 use crate::row::Row;
 use pp_model::{Ending, Event, Move, Reply};
 use std::alloc::{AllocError, Global};
-
-/// The worker that the move names, if any.
-fn worker_of(did: Move) -> Option<u32>
-    ensures { result ≡ worker_of did }
-{
-    match did {
-        Move::Take { worker }
-        | Move::Fix { worker, .. }
-        | Move::WriteDone { worker, .. }
-        | Move::ReadDone { worker, .. }
-        | Move::Unfix { worker }
-        | Move::Latch { worker }
-        | Move::Unlatch { worker }
-        | Move::Choose { worker, .. }
-        | Move::Unwind { worker, .. }
-        | Move::Finish { worker } => Some(worker),
-        Move::FlushBegin { .. } | Move::FlushDone { .. } => None,
-    }
-}
-
-/// Whether the event names the worker.
-fn names_worker(worker: u32, event: Event) -> bool
-    ensures { result ≡ names_worker worker event }
-{
-    match event {
-        Event::Submit { .. } => false,
-        Event::Step { did, .. } => worker_of(did) == Some(worker),
-    }
-}
 
 /// Whether an action of a plan was done.
 fn is_step(event: Event) -> bool

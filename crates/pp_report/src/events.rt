@@ -1,0 +1,42 @@
+//! Whose move an event is, and whether two events are the same.
+
+ghost use Rattle.std.specs.Prelude.{◌≡◌, ◌↔◌, true};
+ghost use Rattle.pp_model.specs.WorkerParts.{worker_of, names_worker};
+
+use pp_model::{Event, Move};
+
+/// The worker that the move names, if any.
+fn worker_of(did: Move) -> Option<u32>
+    ensures { result ≡ worker_of did }
+{
+    match did {
+        Move::Take { worker }
+        | Move::Fix { worker, .. }
+        | Move::WriteDone { worker, .. }
+        | Move::ReadDone { worker, .. }
+        | Move::Unfix { worker }
+        | Move::Latch { worker }
+        | Move::Unlatch { worker }
+        | Move::Choose { worker, .. }
+        | Move::Unwind { worker, .. }
+        | Move::Finish { worker } => Some(worker),
+        Move::FlushBegin { .. } | Move::FlushDone { .. } => None,
+    }
+}
+
+/// Whether the event is a move of this worker.
+pub fn names_worker(worker: u32, event: Event) -> bool
+    ensures { result ≡ names_worker worker event }
+{
+    match event {
+        Event::Submit { .. } => false,
+        Event::Step { did, .. } => worker_of(did) == Some(worker),
+    }
+}
+
+/// Whether two events are the same.
+pub fn is_same_event(left: Event, right: Event) -> bool
+    ensures { (result ≡ true) ↔ (left ≡ right) }
+{
+    left == right
+}
