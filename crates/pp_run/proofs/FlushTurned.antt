@@ -26,8 +26,8 @@ use Rattle.pp_pool.specs.Performing.{is_no}
 use Rattle.pp_pool.specs.Replies.{Replies, IsMoveOf}
 use Rattle.pp_pool.specs.Flushings.{IsFlush, AsksFlush, ends_in, failures_in, flushing_after, flush_turned_by, flush_turned}
 use Rattle.pp_pool.specs.FlushTurns.{FlushTurns, FlushTurnIs}
-use Rattle.pp_run.specs.Calling.{ends_of, failed_ends_of}
-use Rattle.pp_run.specs.Counted.{IsUntold}
+use Rattle.pp_run.specs.Calling.{ended_flushes_of, failed_flushes_of}
+use Rattle.pp_run.specs.Counted.{HoldsNoAnswer}
 use Rattle.pp_run.specs.Ends.{FlushesBy}
 use Rattle.pp_run.proofs.Told.{Tells, told, untold, Ends, answer_ends}
 
@@ -70,7 +70,7 @@ ended_is_no (answer.Flushed clean) h = absurd cc
 ended_is_no (answer.No back why) h = refl
 
 -- What is in hand after a turn that was done has no answer of a device.
-untold_after : (out : Answer) → is_no out ≡ false → IsUntold (flushing_after out)
+untold_after : (out : Answer) → is_no out ≡ false → HoldsNoAnswer (flushing_after out)
 untold_after (answer.Acts x) h = tt
 untold_after (answer.Idle x) h = tt
 untold_after (answer.Leaves x) h = tt
@@ -83,7 +83,7 @@ untold_after (answer.No back why) h = absurd (false≢true (sym h))
 
 -- ---- what an event tells
 
-ends_at : (e : Event) → ends_in (Some e) ≡ Rattle.pp_run.specs.Calling.at_event ends_of e
+ends_at : (e : Event) → ends_in (Some e) ≡ Rattle.pp_run.specs.Calling.at_event ended_flushes_of e
 ends_at (Submit plan) = refl
 ends_at (Step (move.Take w) reply) = refl
 ends_at (Step (move.Fix w page) reply) = refl
@@ -98,7 +98,7 @@ ends_at (Step (move.Finish w) reply) = refl
 ends_at (Step (move.FlushBegin page) reply) = refl
 ends_at (Step (move.FlushDone ok) reply) = refl
 
-failures_at : (e : Event) → failures_in (Some e) ≡ Rattle.pp_run.specs.Calling.at_event failed_ends_of e
+failures_at : (e : Event) → failures_in (Some e) ≡ Rattle.pp_run.specs.Calling.at_event failed_flushes_of e
 failures_at (Submit plan) = refl
 failures_at (Step (move.Take w) reply) = refl
 failures_at (Step (move.Fix w page) reply) = refl
@@ -114,18 +114,18 @@ failures_at (Step (move.FlushBegin page) reply) = refl
 failures_at (Step (move.FlushDone ok) reply) = refl
 
 begin_ends : (page : ℕ) (did : Move) → did ≡ move.FlushBegin page → Ends did 0 0
-begin_ends page did is = record { ended = ap ends_of is; failed_ends = ap failed_ends_of is }
+begin_ends page did is = record { ended = ap ended_flushes_of is; failed_ends = ap failed_flushes_of is }
 
 -- ---- the counts
 
 module _ {D : Type 0} (reads : D → ℕ → List ℕ → DeviceAnswer → List ℕ → D → Type 0)
     (writes : D → ℕ → List ℕ → DeviceAnswer → D → Type 0) (calls failures : D → ℕ) where
   record Flushing-calls (old : D) (did : Move) (new : D) : Type 0 where
-    pub called : calls new ≡ calls old + ends_of did
-    pub failed : failures new ≡ failures old + failed_ends_of did
+    pub called : calls new ≡ calls old + ended_flushes_of did
+    pub failed : failures new ≡ failures old + failed_flushes_of did
 
   asked_ends : (hand : Option Flushing) (from : ℕ) (old : D) (asked : Request) (new : D) (event : Option Event)
-      → IsFlush hand → IsUntold hand → AsksFlush reads writes calls failures hand from old asked new
+      → IsFlush hand → HoldsNoAnswer hand → AsksFlush reads writes calls failures hand from old asked new
       → (t : Tells asked event) → Flushing-calls old t.did new
   asked_ends None from old asked new event flush untold asks t =
       let is = subst (λ r. IsMoveOf r t.did) asks.0 t.of in
@@ -142,7 +142,7 @@ module _ {D : Type 0} (reads : D → ℕ → List ℕ → DeviceAnswer → List 
 
   -- A flusher with nothing in hand after a refusal has called no device.
   none_called : (hand : Option Flushing) (from : ℕ) (old : D) (asked : Request) (new : D) (out : Answer)
-      → AsksFlush reads writes calls failures hand from old asked new → IsUntold hand → is_no out ≡ true
+      → AsksFlush reads writes calls failures hand from old asked new → HoldsNoAnswer hand → is_no out ≡ true
       → Rattle.pp_pool.specs.Replies.TokensFit asked out → flushing_after out ≡ None → new ≡ old
   none_called None from old asked new out asks untold back fit none = asks.1
   none_called (Some (flushing.Out errand)) from old asked new (answer.No r why) asks untold back fit none =
@@ -167,7 +167,7 @@ empty_hand (Some f) h = absurd (false≢true (sym h))
 
 pub record FlushKept {S D : Type 0} (calls failures : D → ℕ) (old new : Flusher S D) : Type 0 where
   pub counts : FlushesBy calls failures old.device old.ended old.failed new.device new.ended new.failed
-  pub untold : IsUntold new.flushing
+  pub untold : HoldsNoAnswer new.flushing
 
 abbrev Told : {S : Type 0} → S → Request → Outcome → S → Type 0
 Told s asked outcome t = Replies asked outcome
@@ -175,7 +175,7 @@ Told s asked outcome t = Replies asked outcome
 module _ {S D : Type 0} (reads : D → ℕ → List ℕ → DeviceAnswer → List ℕ → D → Type 0)
     (writes : D → ℕ → List ℕ → DeviceAnswer → D → Type 0) (calls failures : D → ℕ) (old new : Flusher S D) where
   turns_kept : (t : FlushTurns Told reads writes calls failures old Done new) → IsFlush old.flushing
-      → IsUntold old.flushing → FlushKept calls failures old new
+      → HoldsNoAnswer old.flushing → FlushKept calls failures old new
   turns_kept t flush unsaid =
       let went = done_is_yes t.outcome.answer t.turned_is in
       let tells = told t.asked t.outcome t.given went in
@@ -183,20 +183,20 @@ module _ {S D : Type 0} (reads : D → ℕ → List ℕ → DeviceAnswer → Lis
       flush unsaid t.asks tells in
       let n : new.ended ≡ old.ended + ends_in (Some tells.e) = t.ended ∙ ap (λ e. old.ended + ends_in e) tells.is_event in
       let m : new.failed ≡ old.failed + failures_in (Some tells.e) = t.failed ∙ ap (λ e. old.failed + failures_in e) tells.is_event in
-      let p : ends_in (Some tells.e) ≡ ends_of tells.did = ends_at tells.e ∙ tells.step ends_of in
-      let q : failures_in (Some tells.e) ≡ failed_ends_of tells.did = failures_at tells.e ∙ tells.step failed_ends_of in
+      let p : ends_in (Some tells.e) ≡ ended_flushes_of tells.did = ends_at tells.e ∙ tells.step ended_flushes_of in
+      let q : failures_in (Some tells.e) ≡ failed_flushes_of tells.did = failures_at tells.e ∙ tells.step failed_flushes_of in
       let a = c.called in let b = c.failed in
       record {
         counts = record { called = omega (arith, n, a, p); failed = omega (arith, m, b, q) };
-        untold = subst (λ f. IsUntold f) (sym t.flushing) (untold_after t.outcome.answer went);
+        untold = subst (λ f. HoldsNoAnswer f) (sym t.flushing) (untold_after t.outcome.answer went);
       }
 
   pub done_kept : FlushTurnIs Told reads writes calls failures old Done new → IsFlush old.flushing
-      → IsUntold old.flushing → FlushKept calls failures old new
+      → HoldsNoAnswer old.flushing → FlushKept calls failures old new
   done_kept (inl t) flush unsaid = turns_kept t flush unsaid
   done_kept (inr full) flush unsaid = let h = full.broken in absurd cc
 
-  turns_ended : (t : FlushTurns Told reads writes calls failures old Ended new) → IsUntold old.flushing
+  turns_ended : (t : FlushTurns Told reads writes calls failures old Ended new) → HoldsNoAnswer old.flushing
       → is_some new.flushing ≡ false
       → FlushesBy calls failures old.device old.ended old.failed new.device new.ended new.failed
   turns_ended t unsaid none =
@@ -210,7 +210,7 @@ module _ {S D : Type 0} (reads : D → ℕ → List ℕ → DeviceAnswer → Lis
       let a = ap calls device in let b = ap failures device in
       record { called = omega (arith, a, n); failed = omega (arith, b, m) }
 
-  pub ended_counts : FlushTurnIs Told reads writes calls failures old Ended new → IsUntold old.flushing
+  pub ended_counts : FlushTurnIs Told reads writes calls failures old Ended new → HoldsNoAnswer old.flushing
       → is_some new.flushing ≡ false
       → FlushesBy calls failures old.device old.ended old.failed new.device new.ended new.failed
   ended_counts (inl t) unsaid none = turns_ended t unsaid none

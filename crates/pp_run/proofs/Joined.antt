@@ -9,7 +9,7 @@ use Rattle.pp_run.specs.declared.stop.Stop.{Stop}
 use Rattle.pp_run.specs.declared.stop.Stop.TheVariants.{Ended, NoMemory, Broken}
 use Rattle.pp_run.specs.declared.stop.Worked.{Worked}
 use Rattle.pp_run.specs.declared.stop.Flushed.{Flushed}
-use Rattle.pp_run.specs.Calling.{calls_in, failures_in, ends_in, failed_ends_in}
+use Rattle.pp_run.specs.Calling.{calls_in, failed_calls_in, ended_flushes_in, failed_flushes_in}
 use Rattle.pp_run.specs.Ends.{CountsBy, FlushesBy, Unless, WorkedFrom, FlushedFrom, AllWorkedFrom, SettledAt, Settled, FlushSettled}
 use Rattle.pp_run.specs.Runs.{HasCalled, AllCalled}
 
@@ -20,18 +20,18 @@ opened Broken fact h sound = absurd (sound refl)
 
 has_called : {D : Type 0} (calls failures : D → ℕ) (device : D) (x : Worked D) (events : List Event) (w : ℕ) (back : D)
     → WorkedFrom calls failures device x → SettledAt x events w back
-    → HasCalled calls failures device (calls_in (part_of w events)) (failures_in (part_of w events)) back
+    → HasCalled calls failures device (calls_in (part_of w events)) (failed_calls_in (part_of w events)) back
 has_called calls failures device x events w back ends settled =
     let counts : CountsBy calls failures device [] x.device x.log.items
     = opened x.stop (CountsBy calls failures device [] x.device x.log.items) ends settled.sound in
     record {
       called = omega (arith, counts.called, ap calls settled.back, ap calls_in settled.log);
-      failed = omega (arith, counts.failed, ap failures settled.back, ap failures_in settled.log);
+      failed = omega (arith, counts.failed, ap failures settled.back, ap failed_calls_in settled.log);
     }
 
 pub flusher_called : {D : Type 0} (calls failures : D → ℕ) (device : D) (f : Flushed D) (events : List Event)
     → FlushedFrom calls failures device f → FlushSettled f events
-    → HasCalled calls failures device (ends_in events) (failed_ends_in events) f.device
+    → HasCalled calls failures device (ended_flushes_in events) (failed_flushes_in events) f.device
 flusher_called calls failures device f events ends settled =
     let counts : FlushesBy calls failures device 0 0 f.device f.ended f.failed
     = opened f.stop (FlushesBy calls failures device 0 0 f.device f.ended f.failed) ends settled.sound in
@@ -42,7 +42,7 @@ flusher_called calls failures device f events ends settled =
 at_end : {D : Type 0} (calls failures : D → ℕ) (devices : List D) (worked : List (Worked D)) (events : List Event)
     (back : List D) → AllWorkedFrom calls failures devices worked → Settled worked events back → (x : Worked D) (w : ℕ)
     (d e : D) → w < length devices
-    → HasCalled calls failures (get_or devices w d) (calls_in (part_of w events)) (failures_in (part_of w events)) (get_or back w e)
+    → HasCalled calls failures (get_or devices w d) (calls_in (part_of w events)) (failed_calls_in (part_of w events)) (get_or back w e)
 at_end calls failures devices worked events back ends settled x w d e low =
     has_called calls failures (get_or devices w d) (get_or worked w x) events w (get_or back w e) (ends.1 w d x low)
     (settled.each w x e (omega (arith, low, ends.0)))
@@ -50,7 +50,7 @@ at_end calls failures devices worked events back ends settled x w d e low =
 each_called : {D : Type 0} (calls failures : D → ℕ) (devices : List D) (worked : List (Worked D)) (events : List Event)
     (back : List D) → AllWorkedFrom calls failures devices worked → Settled worked events back → (w : ℕ) (d e : D)
     → w < length devices
-    → HasCalled calls failures (get_or devices w d) (calls_in (part_of w events)) (failures_in (part_of w events)) (get_or back w e)
+    → HasCalled calls failures (get_or devices w d) (calls_in (part_of w events)) (failed_calls_in (part_of w events)) (get_or back w e)
 each_called calls failures devices [] events back ends settled w d e low =
     let none = ends.0 in absurd (omega (arith, none, low))
 each_called calls failures devices (x ∷ xs) events back ends settled w d e low =
@@ -76,7 +76,7 @@ all_called calls failures workers devices last worked f events back all given lo
           = ap (λ xs. get_or xs w e) gives ∙ get_or_append_left back (f.device ∷ []) e w (omega (arith, low, long, many)) in
           record {
             called = ap calls new ∙ (here.called ∙ ap (λ n. calls n + calls_in (part_of w events)) (sym old));
-            failed = ap failures new ∙ (here.failed ∙ ap (λ n. failures n + failures_in (part_of w events)) (sym old));
+            failed = ap failures new ∙ (here.failed ∙ ap (λ n. failures n + failed_calls_in (part_of w events)) (sym old));
           };
       last = λ d e.
           let here = flusher_called calls failures last f events ending counted in
@@ -87,7 +87,7 @@ all_called calls failures workers devices last worked f events back all given lo
           = ap (λ xs. get_or xs workers e) gives ∙ (ap (λ n. get_or (back ++ f.device ∷ []) n e) (sym (many ∙ long))
           ∙ get_or-append_seam back f.device [] e) in
           record {
-            called = ap calls new ∙ (here.called ∙ ap (λ n. calls n + ends_in events) (sym old));
-            failed = ap failures new ∙ (here.failed ∙ ap (λ n. failures n + failed_ends_in events) (sym old));
+            called = ap calls new ∙ (here.called ∙ ap (λ n. calls n + ended_flushes_in events) (sym old));
+            failed = ap failures new ∙ (here.failed ∙ ap (λ n. failures n + failed_flushes_in events) (sym old));
           };
     }

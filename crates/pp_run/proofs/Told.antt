@@ -18,7 +18,7 @@ use Rattle.pp_pool.specs.declared.outcome.Outcome.{Outcome}
 use Rattle.pp_pool.specs.Performing.{is_no}
 use Rattle.pp_pool.specs.Replies.{Replies, IsMoveOf, IsEventOf, duty_move}
 use Rattle.pp_pool.specs.Turns.{IsStep, IsWayOut}
-use Rattle.pp_run.specs.Calling.{calls_of, failures_of, ends_of, failed_ends_of}
+use Rattle.pp_run.specs.Calling.{calls_of, failed_calls_of, ended_flushes_of, failed_flushes_of}
 
 -- ---- the event of a request that was done
 
@@ -54,10 +54,10 @@ untold asked outcome fits back = none_at outcome.event (fits.done ∙ ap not bac
 
 pub record Calls (did : Move) (calls failures : ℕ) : Type 0 where
   pub called : calls_of did ≡ calls
-  pub failed : failures_of did ≡ failures
+  pub failed : failed_calls_of did ≡ failures
 
-no_calls : (did m : Move) → did ≡ m → calls_of m ≡ 0 → failures_of m ≡ 0 → Calls did 0 0
-no_calls did m is a b = record { called = ap calls_of is ∙ a; failed = ap failures_of is ∙ b }
+no_calls : (did m : Move) → did ≡ m → calls_of m ≡ 0 → failed_calls_of m ≡ 0 → Calls did 0 0
+no_calls did m is a b = record { called = ap calls_of is ∙ a; failed = ap failed_calls_of is ∙ b }
 
 pub take_calls : (w : ℕ) (did : Move) → did ≡ Rattle.pp_model.specs.declared.moves.Move.TheVariants.Take w → Calls did 0 0
 take_calls w did is = no_calls did _ is refl refl
@@ -110,8 +110,8 @@ answer_calls d image ok did worker is = subst (λ m. Calls m 1 (if ok then 0 els
 -- ---- ends of flushes
 
 pub record Ends (did : Move) (ends failed : ℕ) : Type 0 where
-  pub ended : ends_of did ≡ ends
-  pub failed_ends : failed_ends_of did ≡ failed
+  pub ended : ended_flushes_of did ≡ ends
+  pub failed_ends : failed_flushes_of did ≡ failed
 
 flush_ends : (d : Duty) (image : List ℕ) (ok : Bool) → duty_worker d ≡ None
     → Ends (duty_move d image ok) 1 (if ok then 0 else 1)

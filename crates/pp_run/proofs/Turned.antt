@@ -25,7 +25,7 @@ use Rattle.pp_pool.specs.Performing.{is_no}
 use Rattle.pp_pool.specs.Replies.{Replies, TokensFit}
 use Rattle.pp_pool.specs.Turns.{Asks, IsStep, IsWayOut, Works, IsTurned, turned_by, stage_asked, stage_in, Turns}
 use Rattle.pp_pool.specs.Turns.{TurnIs}
-use Rattle.pp_run.specs.Calling.{calls_of, failures_of, total}
+use Rattle.pp_run.specs.Calling.{calls_of, failed_calls_of, total}
 use Rattle.pp_run.specs.Counted.{IsAtWork}
 use Rattle.pp_run.specs.Ends.{CountsBy}
 use Rattle.pp_run.proofs.Totals.{total_append}
@@ -182,7 +182,7 @@ module _ {D : Type 0} (reads : D → ℕ → List ℕ → DeviceAnswer → List 
   -- What asking does to the device, beside the event that tells of it.
   record Calling (old : D) (asked : Request) (did : _) (new : D) : Type 0 where
     pub called : calls new ≡ calls old + calls_of did
-    pub failed : failures new ≡ failures old + failures_of did
+    pub failed : failures new ≡ failures old + failed_calls_of did
 
   quiet : (old new : D) (asked : Request) (did : _) → new ≡ old → Calls did 0 0 → Calling old asked did new
   quiet old new asked did same c = let a = ap calls same in let b = ap failures same in
@@ -247,9 +247,9 @@ module _ {S D : Type 0} (reads : D → ℕ → List ℕ → DeviceAnswer → Lis
       let log : new.log.items ≡ old.log.items ++ events_in (Some tells.e) = t.log ∙ ap (λ e. old.log.items ++ events_in e) tells.is_event in
       let n : total calls_of new.log.items ≡ total calls_of old.log.items + total calls_of (events_in (Some tells.e))
       = ap (total calls_of) log ∙ total_append calls_of old.log.items (events_in (Some tells.e)) in
-      let m : total failures_of new.log.items ≡ total failures_of old.log.items + total failures_of (events_in (Some tells.e))
-      = ap (total failures_of) log ∙ total_append failures_of old.log.items (events_in (Some tells.e)) in
-      let a = c.called in let b = c.failed in let p = tells.step calls_of in let q = tells.step failures_of in
+      let m : total failed_calls_of new.log.items ≡ total failed_calls_of old.log.items + total failed_calls_of (events_in (Some tells.e))
+      = ap (total failed_calls_of) log ∙ total_append failed_calls_of old.log.items (events_in (Some tells.e)) in
+      let a = c.called in let b = c.failed in let p = tells.step calls_of in let q = tells.step failed_calls_of in
       record {
         counts = record { called = omega (arith, n, a, p); failed = omega (arith, m, b, q) };
         work = still_at_work t.asked t.outcome.answer t.after new.hand.stage
@@ -266,7 +266,7 @@ module _ {S D : Type 0} (reads : D → ℕ → List ℕ → DeviceAnswer → Lis
       → CountsBy calls failures old.device old.log.items new.device new.log.items
   same_counts device log =
       let a = ap calls device in let b = ap failures device in
-      let n = ap (total calls_of) log in let m = ap (total failures_of) log in
+      let n = ap (total calls_of) log in let m = ap (total failed_calls_of) log in
       record { called = omega (arith, a, n); failed = omega (arith, b, m) }
 
   pub no_memory_counts : TurnIs Told reads writes calls failures old NoMemory new
@@ -297,7 +297,7 @@ module _ {S D : Type 0} (reads : D → ℕ → List ℕ → DeviceAnswer → Lis
       new.hand.stage chair back t.asks in
       let log : new.log.items ≡ old.log.items ++ [] = t.log ∙ ap (λ e. old.log.items ++ events_in e) none in
       let n : total calls_of new.log.items ≡ total calls_of old.log.items + 0 = ap (total calls_of) log ∙ total_append calls_of old.log.items [] in
-      let m : total failures_of new.log.items ≡ total failures_of old.log.items + 0 = ap (total failures_of) log ∙ total_append failures_of old.log.items [] in
+      let m : total failed_calls_of new.log.items ≡ total failed_calls_of old.log.items + 0 = ap (total failed_calls_of) log ∙ total_append failed_calls_of old.log.items [] in
       let a = ap calls device in let b = ap failures device in
       record { called = omega (arith, a, n); failed = omega (arith, b, m) }
 

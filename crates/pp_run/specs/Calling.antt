@@ -15,29 +15,29 @@ calls_of (WriteDone w ok) = 1
 calls_of (ReadDone w came) = 1
 calls_of _ = 0
 
-abbrev pub failures_at : Came → ℕ
-failures_at Fault = 1
-failures_at (Image page stamp) = 0
+abbrev pub failed_readings : Came → ℕ
+failed_readings Fault = 1
+failed_readings (Image page stamp) = 0
 
-abbrev pub failures_of : Move → ℕ
-failures_of (WriteDone w ok) = if ok then 0 else 1
-failures_of (ReadDone w came) = failures_at came
-failures_of _ = 0
+abbrev pub failed_calls_of : Move → ℕ
+failed_calls_of (WriteDone w ok) = if ok then 0 else 1
+failed_calls_of (ReadDone w came) = failed_readings came
+failed_calls_of _ = 0
 
 -- ---- calls for the flusher
 
-abbrev pub ends_of : Move → ℕ
-ends_of (FlushDone ok) = 1
-ends_of _ = 0
+abbrev pub ended_flushes_of : Move → ℕ
+ended_flushes_of (FlushDone ok) = 1
+ended_flushes_of _ = 0
 
-abbrev pub failed_ends_of : Move → ℕ
-failed_ends_of (FlushDone ok) = if ok then 0 else 1
-failed_ends_of _ = 0
+abbrev pub failed_flushes_of : Move → ℕ
+failed_flushes_of (FlushDone ok) = if ok then 0 else 1
+failed_flushes_of _ = 0
 
 -- How many flushes the move begins.
-abbrev pub begins_of : Move → ℕ
-begins_of (FlushBegin page) = 1
-begins_of _ = 0
+abbrev pub begun_flushes_of : Move → ℕ
+begun_flushes_of (FlushBegin page) = 1
+begun_flushes_of _ = 0
 
 -- ---- a list of events
 
@@ -53,14 +53,14 @@ total number (e ∷ es) = at_event number e + total number es
 abbrev pub calls_in : List Event → ℕ
 calls_in es = total calls_of es
 
-abbrev pub failures_in : List Event → ℕ
-failures_in es = total failures_of es
+abbrev pub failed_calls_in : List Event → ℕ
+failed_calls_in es = total failed_calls_of es
 
-abbrev pub ends_in : List Event → ℕ
-ends_in es = total ends_of es
+abbrev pub ended_flushes_in : List Event → ℕ
+ended_flushes_in es = total ended_flushes_of es
 
-abbrev pub failed_ends_in : List Event → ℕ
-failed_ends_in es = total failed_ends_of es
+abbrev pub failed_flushes_in : List Event → ℕ
+failed_flushes_in es = total failed_flushes_of es
 
-abbrev pub begins_in : List Event → ℕ
-begins_in es = total begins_of es
+abbrev pub begun_flushes_in : List Event → ℕ
+begun_flushes_in es = total begun_flushes_of es

@@ -14,8 +14,8 @@ IsAtWork (Out errand) = duty_worker errand.duty ≢ None
 IsAtWork (Back returned) = ⊥
 IsAtWork (Leaving leaver) = Unit {0}
 
--- No device's answer to a flush is untold.
-abbrev pub IsUntold : Option Flushing → Type 0
-IsUntold None = Unit {0}
-IsUntold (Some (flushing.Out errand)) = Unit {0}
-IsUntold (Some (flushing.Back returned)) = ⊥
+-- The flusher holds no device's answer that it hasn't told yet.
+abbrev pub HoldsNoAnswer : Option Flushing → Type 0
+HoldsNoAnswer None = Unit {0}
+HoldsNoAnswer (Some (flushing.Out errand)) = Unit {0}
+HoldsNoAnswer (Some (flushing.Back returned)) = ⊥

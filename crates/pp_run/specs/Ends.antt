@@ -6,7 +6,7 @@ use Rattle.pp_run.specs.declared.stop.Stop.{Stop}
 use Rattle.pp_run.specs.declared.stop.Stop.TheVariants.{Ended, NoMemory, Broken}
 use Rattle.pp_run.specs.declared.stop.Worked.{Worked}
 use Rattle.pp_run.specs.declared.stop.Flushed.{Flushed}
-use Rattle.pp_run.specs.Calling.{calls_in, failures_in, ends_in, failed_ends_in}
+use Rattle.pp_run.specs.Calling.{calls_in, failed_calls_in, ended_flushes_in, failed_flushes_in}
 
 -- ---- while a thread works
 
@@ -14,7 +14,7 @@ use Rattle.pp_run.specs.Calling.{calls_in, failures_in, ends_in, failed_ends_in}
 pub record CountsBy {D : Type 0} (calls failures : D → ℕ) (old : D) (before : List Event) (new : D)
     (after : List Event) : Type 0 where
   pub called : calls new + calls_in before ≡ calls old + calls_in after
-  pub failed : failures new + failures_in before ≡ failures old + failures_in after
+  pub failed : failures new + failed_calls_in before ≡ failures old + failed_calls_in after
 
 -- The device has as many more calls as flushes were ended, and as many more failures as of these had failed.
 pub record FlushesBy {D : Type 0} (calls failures : D → ℕ) (old : D) (ended_before failed_before : ℕ) (new : D)
@@ -57,8 +57,8 @@ pub record Settled {D : Type 0} (worked : List (Worked D)) (events : List Event)
 
 -- The counts of the flusher are the journal's, and no slip ended it.
 pub record FlushSettled {D : Type 0} (f : Flushed D) (events : List Event) : Type 0 where
-  pub ended : f.ended ≡ ends_in events
-  pub failed : f.failed ≡ failed_ends_in events
+  pub ended : f.ended ≡ ended_flushes_in events
+  pub failed : f.failed ≡ failed_flushes_in events
   pub sound : f.stop ≢ Broken
 
 -- No slip ended any worker.

@@ -7,7 +7,7 @@ use Rattle.pp_model.specs.Journals.{IsTrueFrom, replay}
 use Rattle.pp_model.specs.Turns.{IsUnderWay}
 use Rattle.pp_model.specs.WorkerParts.{part_of}
 use Rattle.pp_report.specs.declared.record.RunRecord.{RunRecord}
-use Rattle.pp_run.specs.Calling.{calls_in, failures_in, ends_in, failed_ends_in, begins_in}
+use Rattle.pp_run.specs.Calling.{calls_in, failed_calls_in, ended_flushes_in, failed_flushes_in, begun_flushes_in}
 
 -- ---- the journal
 
@@ -24,7 +24,7 @@ pub record IsRun (k : Settings) (plans : List Acceptance) (r : RunRecord) : Type
   pub over : IsUnderWay (end_of k plans r.events.items) → ⊥
   pub count : r.plans ≡ length plans
   pub dirty : r.dirty ≡ dirty_pages (end_of k plans r.events.items)
-  pub flushed : 0 < r.dirty → begins_in r.events.items ≡ k.flushes
+  pub flushed : 0 < r.dirty → begun_flushes_in r.events.items ≡ k.flushes
 
 -- ---- the devices
 
@@ -39,9 +39,9 @@ pub record AllCalled {D : Type 0} (calls failures : D → ℕ) (workers : ℕ) (
   pub count : length back ≡ length devices
   pub each : (w : ℕ) (d e : D) → w < workers
       → HasCalled calls failures (slice_index_or devices w d) (calls_in (part_of w events))
-      (failures_in (part_of w events)) (slice_index_or back w e)
+      (failed_calls_in (part_of w events)) (slice_index_or back w e)
   pub last : (d e : D)
-      → HasCalled calls failures (slice_index_or devices workers d) (ends_in events) (failed_ends_in events)
+      → HasCalled calls failures (slice_index_or devices workers d) (ended_flushes_in events) (failed_flushes_in events)
       (slice_index_or back workers e)
 
 -- Settings of no pool, which stand where no run has picked its own.

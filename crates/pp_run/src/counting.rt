@@ -1,7 +1,7 @@
 //! What a journal tells of flushes.
 
 ghost use Rattle.std.specs.Prelude.{◌≡◌};
-ghost use Rattle.pp_run.specs.Calling.{ends_in, failed_ends_in, begins_in};
+ghost use Rattle.pp_run.specs.Calling.{ended_flushes_in, failed_flushes_in, begun_flushes_in};
 
 use pp_model::{Event, Move};
 
@@ -18,9 +18,9 @@ pub(crate) struct FlushCounts {
 
 /// What these events tell of flushes.
 pub(crate) fn flush_counts(events: &[Event]) -> FlushCounts
-    ensures begun { result.begun ≡ begins_in events.now }
-    ensures ended { result.ended ≡ ends_in events.now }
-    ensures failed { result.failed ≡ failed_ends_in events.now }
+    ensures begun { result.begun ≡ begun_flushes_in events.now }
+    ensures ended { result.ended ≡ ended_flushes_in events.now }
+    ensures failed { result.failed ≡ failed_flushes_in events.now }
 {
     let mut counts = FlushCounts {
         begun: 0,

@@ -2,7 +2,7 @@
 
 ghost use Rattle.std.specs.Prelude.{◌≡◌, None};
 ghost use Rattle.pp_run.specs.Ends.{FlushesBy, Unless, FlushedFrom};
-ghost use Rattle.pp_run.specs.Counted.{IsUntold};
+ghost use Rattle.pp_run.specs.Counted.{HoldsNoAnswer};
 
 use crate::desk::Desk;
 use crate::site::LockedSite;
@@ -39,7 +39,7 @@ fn turns<'a, B: Desk, D: Device, R: Wait>(
     rt: &R,
     flusher: &mut Flusher<LockedSite<'a, B, R>, D>,
 ) -> Stop
-    requires { IsUntold flusher.old.flushing }
+    requires { HoldsNoAnswer flusher.old.flushing }
     ensures { Unless result (FlushesBy D.calls D.failures flusher.old.device flusher.old.ended flusher.old.failed
         flusher.new.device flusher.new.ended flusher.new.failed) }
 {

@@ -2,7 +2,7 @@
 
 ghost use Rattle.std.specs.Prelude.{◌≡◌, ◌≢◌, ◌<◌, ◌^◌, true, false, IfOk, IfNone, OnOk, length, vec_len};
 ghost use Rattle.pp_run.specs.declared.stop.Stop.TheVariants.{Broken};
-ghost use Rattle.pp_run.specs.Calling.{begins_in};
+ghost use Rattle.pp_run.specs.Calling.{begun_flushes_in};
 ghost use Rattle.pp_run.specs.Ends.{AllSound, FlushSettled, Settled};
 
 use crate::comparing::is_part;
@@ -14,7 +14,7 @@ use std::alloc::Global;
 
 /// What is left of a book when all threads are joined.
 #[derive(Clone, Copy, Debug, PartialEq, Eq)]
-pub(crate) struct Left {
+pub struct Left {
     /// Whether no plan waits or is unfinished, and no flush is in flight.
     pub over: bool,
     /// How many pages are newer than the device's.
@@ -30,7 +30,7 @@ pub(crate) struct Left {
 /// In this order: want of memory, where something is left undone because every worker stopped for it; the least worker
 /// that met a slip; the flusher, where it met one, or left a page that it could have flushed, or anything is left undone;
 /// the least worker whose log isn't its part of the journal; the flusher, where its counts aren't the journal's.
-pub(crate) fn judge<D: Drop>(
+pub fn judge<D: Drop>(
     alloc: Global,
     worked: Vec<Worked<D>>,
     flushed: &Flushed<D>,
@@ -39,7 +39,7 @@ pub(crate) fn judge<D: Drop>(
 ) -> Result<Vec<D>, RunError>
     requires { vec_len worked < 2 ^ 32 }
     ensures over { OnOk result (left.over ≡ true) }
-    ensures flushed { OnOk result (0 < left.dirty → begins_in events.now ≡ left.flushes) }
+    ensures flushed { OnOk result (0 < left.dirty → begun_flushes_in events.now ≡ left.flushes) }
     ensures flusher { OnOk result (FlushSettled flushed.now events.now) }
     ensures workers { IfOk result (λ back. Settled worked.items events.now back.items) }
 {

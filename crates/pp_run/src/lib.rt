@@ -3,10 +3,13 @@
 
 pub use desk::Desk;
 pub use error::RunError;
+pub use judging::{Left, judge};
 pub use locked::Locked;
 pub use pool::Pool;
 pub use pp_report::RunRecord;
 pub use site::LockedSite;
+pub use stop::{Flushed, Stop, Worked};
+pub use threads::run_all;
 
 mod comparing;
 mod counting;

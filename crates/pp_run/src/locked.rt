@@ -1,5 +1,7 @@
 //! What lies under the lock of a run: its desk, and who waits.
 
+ghost use Rattle.std.specs.Prelude.{◌≡◌};
+
 use crate::desk::Desk;
 use pp_model::{Cause, Delay};
 use pp_vault::Refusal;
@@ -26,7 +28,9 @@ pub(crate) enum Line {
 
 impl<B: Desk> Locked<B> {
     /// A desk, and nobody waits.
-    pub(crate) fn new(desk: B) -> Locked<B> {
+    pub fn new(desk: B) -> Locked<B>
+        ensures { result.desk ≡ desk }
+    {
         Locked {
             desk,
             closing: false,
@@ -76,7 +80,9 @@ impl<B: Desk> Locked<B> {
     }
 
     /// The desk, when all threads are joined.
-    pub(crate) fn into_desk(self) -> B {
+    pub fn into_desk(self) -> B
+        ensures { result ≡ self.desk }
+    {
         let Locked {
             desk,
             closing: _,

@@ -10,7 +10,7 @@ use crate::locked::{Line, Locked};
 use pp_model::{Event, Failure, Reply};
 use pp_pool::{Answer, Outcome, Request, Site};
 use pp_settings::Layout;
-use pp_vault::{Flushing, Hand, ReadGuard};
+use pp_vault::{Flushing, Guard, Hand, ReadGuard};
 use std::sync::{Condvar, Mutex, Wait};
 
 /// A site that threads share: a book under a lock, with what they wait on.
@@ -56,6 +56,7 @@ impl<'a, B: Desk, R: Wait> LockedSite<'a, B, R> {
         let mut request = request;
         let mut locked = self.lock.lock(self.rt);
         for _ in self.rt.forever() {
+            let takes_writer_off = takes_writer_off(&request);
             let Outcome { event, answer } = locked.desk.perform(request);
             match answer {
                 Answer::No(back, refusal) => match locked.line(refusal) {
@@ -77,7 +78,9 @@ impl<'a, B: Desk, R: Wait> LockedSite<'a, B, R> {
                     }
                 },
                 answer => {
-                    self.wake(locked.waiters(), event);
+                    let waiters = locked.waiters();
+                    drop(locked);
+                    self.wake(waiters, takes_writer_off || has_failed_to_write(event));
                     return Outcome { event, answer };
                 }
             }
@@ -85,13 +88,13 @@ impl<'a, B: Desk, R: Wait> LockedSite<'a, B, R> {
         unreachable!()
     }
 
-    /// Wakes those that wait for a move, and those that wait for a page to be changed where this event can do that.
-    fn wake(&self, waiters: (u64, u64), event: Option<Event>) {
+    /// Wakes those that wait for a move, and those that wait for a page to be changed where the move lets one be flushed.
+    fn wake(&self, waiters: (u64, u64), lets_flush: bool) {
         let (waiting, idle) = waiters;
         if waiting > 0 {
             self.moved.notify_all();
         }
-        if idle > 0 && lets_flush(event) {
+        if idle > 0 && lets_flush {
             self.changed.notify_all();
         }
     }
@@ -108,8 +111,11 @@ impl<'a, B: Desk, R: Wait> LockedSite<'a, B, R> {
         self.lock.lock(self.rt).desk.part(worker)
     }
 
-    /// Puts a worker's hand back, and wakes all that wait. It waits where the hand's place isn't empty, which no run
-    /// meets.
+    /// Puts a worker's hand back, and wakes all that wait.
+    ///
+    /// Where the hand's place isn't empty it waits for ever: a token is spent only together with its vault, so a hand that
+    /// has no place can't be let go. A book gives out one hand for each place, so this needs a desk that makes places full
+    /// by itself. No test has met it, and no clause rules it out.
     pub(crate) fn put_back(&self, hand: Hand) {
         let mut hand = hand;
         let mut locked = self.lock.lock(self.rt);
@@ -128,7 +134,7 @@ impl<'a, B: Desk, R: Wait> LockedSite<'a, B, R> {
         unreachable!()
     }
 
-    /// Puts the flush in hand back, and wakes all that wait. It waits where there is another, which no run meets.
+    /// Puts the flush in hand back, and wakes all that wait. Where there is another it waits for ever, as for a hand.
     pub(crate) fn put_flush_back(&self, flushing: Flushing) {
         let mut flushing = flushing;
         let mut locked = self.lock.lock(self.rt);
@@ -159,13 +165,21 @@ impl<'a, B: Desk, R: Wait> LockedSite<'a, B, R> {
     }
 }
 
-/// Whether a page can be flushed after the event that perhaps couldn't before: a writer's latch is off it, or its writing
-/// as a victim failed.
-fn lets_flush(event: Option<Event>) -> bool {
+/// Whether the request takes a writer's latch off a page, which can be flushed then. A reader's latch keeps no page from
+/// being flushed.
+fn takes_writer_off(request: &Request) -> bool {
+    matches!(
+        request,
+        Request::UnlatchExclusive(_, _) | Request::GiveBack(_, Guard::Write(_))
+    )
+}
+
+/// Whether the event tells that a victim couldn't be written, so that it is in its frame again and can be flushed.
+fn has_failed_to_write(event: Option<Event>) -> bool {
     matches!(
         event,
         Some(Event::Step {
-            reply: Reply::Unlatched { .. } | Reply::Failed(Failure::WriteFault),
+            reply: Reply::Failed(Failure::WriteFault),
             ..
         })
     )

@@ -7,12 +7,12 @@ use pp_model::Event;
 
 /// Why a worker or the flusher stopped.
 #[derive(Clone, Copy, Debug, PartialEq, Eq)]
-pub(crate) enum Stop {
+pub enum Stop {
     /// There was nothing more to do.
     Ended,
     /// Memory ran out before a plan was taken.
     NoMemory,
-    /// A token didn't fit, or the plan asked something else: a slip, which no run meets.
+    /// A token didn't fit, or the plan asked something else: a slip. No test has met one, and no clause rules it out.
     Broken,
 }
 
@@ -32,7 +32,7 @@ impl Stop {
 
 /// What a worker's thread gives back: its end of the device, and the events of its moves.
 #[derive(Drop)]
-pub(crate) struct Worked<D> {
+pub struct Worked<D> {
     pub device: D,
     pub log: Vec<Event>,
     pub stop: Stop,
@@ -40,7 +40,7 @@ pub(crate) struct Worked<D> {
 
 /// What the flusher's thread gives back: its end of the device, and its two counts.
 #[derive(Drop)]
-pub(crate) struct Flushed<D> {
+pub struct Flushed<D> {
     pub device: D,
     /// How many flushes were ended.
     pub ended: u64,

@@ -105,7 +105,7 @@ fn run_workers<
 ///
 /// [`RunError::NoThread`] with the first worker whose thread couldn't be started, or with the number of the workers where
 /// that was the flusher's alone. Those whose threads were started do the plans, and are joined.
-pub(crate) fn run_all<
+pub fn run_all<
     B: Desk + Send,
     D: Device + Drop + Send,
     W: Work + Drop + Send,

@@ -166,7 +166,7 @@ pub fn works_of<'a>(
 const PATIENCE: u32 = 2_000;
 
 /// Waits until it is over. The test fails where that takes too long.
-fn watch<R: Abort + Clock>(rt: &R, over: &AtomicBool) {
+pub fn watch<R: Abort + Clock>(rt: &R, over: &AtomicBool) {
     for _moment in 0..PATIENCE {
         if over.load(Ordering::SeqCst) {
             return;

@@ -58,7 +58,7 @@ fn a_run_ends_well(rt: HostRuntime) -> Result<(), Fail> {
 }
 
 /// How many events there are of a kind.
-fn count(events: &[Event], is_counted: fn(&Event) -> bool) -> usize
+pub fn count(events: &[Event], is_counted: fn(&Event) -> bool) -> usize
     requires { IsAlwaysCallable is_counted }
 {
     let mut count = 0usize;
@@ -70,7 +70,8 @@ fn count(events: &[Event], is_counted: fn(&Event) -> bool) -> usize
     count
 }
 
-fn is_loading(event: &Event) -> bool {
+/// Whether the event is a page that was read.
+pub fn is_loading(event: &Event) -> bool {
     matches!(
         event,
         Event::Step {
@@ -90,7 +91,8 @@ fn is_hit(event: &Event) -> bool {
     )
 }
 
-fn is_done(event: &Event) -> bool {
+/// Whether the event is the end of a plan that was done.
+pub fn is_done(event: &Event) -> bool {
     matches!(
         event,
         Event::Step {
