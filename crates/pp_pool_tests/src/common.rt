@@ -2,7 +2,7 @@
 
 use pp_annotate::annotate;
 use pp_cert::{Accepted, check};
-use pp_device::SoloDevice;
+use pp_device::{SoloDevice, image};
 use pp_plan::Plan;
 use pp_pool::{Book, Event, Flusher, OwnSite, Turned, Work, Worker};
 use pp_settings::Settings;
@@ -49,8 +49,8 @@ pub struct FirstPages {
     pub seen: u8,
     /// The page and the mark of the last image.
     pub last: (u32, u64),
-    /// How many bytes the last image had.
-    pub long: usize,
+    /// Whether the last image was that page's with that mark, 64 bytes long, and zeros behind its head.
+    pub is_blank: bool,
 }
 
 impl Work for FirstPages {
@@ -66,10 +66,12 @@ impl Work for FirstPages {
         self.changed = self.changed.saturating_add(1);
     }
 
-    fn see(&mut self, page: u32, mark: u64, image: &[u8]) {
+    fn see(&mut self, page: u32, mark: u64, bytes: &[u8]) {
         self.seen = self.seen.saturating_add(1);
         self.last = (page, mark);
-        self.long = image.len();
+        let mut blank = [0; 64];
+        image::make(&mut blank, page, mark);
+        self.is_blank = bytes == blank.as_slice();
     }
 }
 
@@ -120,7 +122,7 @@ pub fn do_plan(rt: &impl Abort, alloc: Global, text: &str) -> Result<Run, Fail> 
         changed: 0,
         seen: 0,
         last: (0, 0),
-        long: 0,
+        is_blank: false,
     };
     let mut worker = Worker::new(alloc, OwnSite { book }, device, hand, &settings);
     let mut turns = [Turned::Broken; 8];

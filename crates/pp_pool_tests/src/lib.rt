@@ -10,4 +10,6 @@ mod fails;
 #[cfg(test)]
 mod pairs;
 #[cfg(test)]
+mod rooms;
+#[cfg(test)]
 mod turns;

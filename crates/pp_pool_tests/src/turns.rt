@@ -106,7 +106,7 @@ fn a_reader_sees_its_page(rt: HostRuntime) -> Result<(), Fail> {
         "the work was done otherwise"
     );
     assert!(rt;
-        run.work.last == (16, 0) && run.work.long == 64,
+        run.work.last == (16, 0) && run.work.is_blank,
         "another image was seen"
     );
     same_turns(

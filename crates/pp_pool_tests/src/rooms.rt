@@ -1,0 +1,131 @@
+//! A worker that is refused room for its log.
+
+use crate::common::{FirstPages, SETTINGS, WRITE, accepted, part, same_events};
+use pp_cert::Accepted;
+use pp_device::SoloDevice;
+use pp_pool::{Book, Event, Outcome, OwnSite, Request, Site, Turned, Worker};
+use pp_settings::Settings;
+use pp_vault::{Hand, Hands, ReadGuard, Stage};
+use std::alloc::Global;
+use std::process::Abort;
+use std::test::*;
+
+/// A site that tells of a plan for whose events no memory has room, until it is told to tell the truth.
+#[derive(Drop)]
+struct Boasting {
+    site: OwnSite,
+    is_honest: bool,
+}
+
+impl Site for Boasting {
+    ghost use Rattle.pp_pool.specs.Replies.{Replies};
+
+    ghost gives = { λ s request outcome t. Replies request outcome };
+
+    fn perform(&mut self, request: Request) -> Outcome {
+        self.site.perform(request)
+    }
+
+    fn look(&mut self, guard: &ReadGuard, bytes: &mut [u8]) -> bool {
+        self.site.look(guard, bytes)
+    }
+
+    fn most(&mut self) -> u64 {
+        if self.is_honest {
+            self.site.most()
+        } else {
+            u64::MAX
+        }
+    }
+}
+
+/// What came of it.
+#[derive(Drop)]
+struct Noted {
+    /// How the turn ended for which there was no room.
+    refused: Turned,
+    /// Whether the worker was idle then, with nothing in its log.
+    is_idle: bool,
+    /// How the last turn ended.
+    last: Turned,
+    log: Vec<Event>,
+    journal: Vec<Event>,
+}
+
+/// Whether this is the hand of an idle worker.
+fn is_idle(hand: &Hand) -> bool {
+    matches!(&hand.stage, Stage::Idle(_))
+}
+
+/// The worker makes a turn that is refused room, and eight with room.
+fn turned(
+    rt: &impl Abort,
+    alloc: Global,
+    settings: &Settings,
+    device: SoloDevice,
+    book: Book,
+    hands: Hands,
+) -> Noted {
+    let mut hands = hands;
+    let Some(hand) = hands.part(0) else {
+        panic!(rt; "no hand")
+    };
+    let mut work = FirstPages {
+        changed: 0,
+        seen: 0,
+        last: (0, 0),
+        is_blank: false,
+    };
+    let site = Boasting {
+        site: OwnSite { book },
+        is_honest: false,
+    };
+    let mut worker = Worker::new(alloc, site, device, hand, settings);
+    let refused = worker.turn(&mut work);
+    let is_idle = is_idle(&worker.hand) && worker.log.is_empty();
+    worker.site.is_honest = true;
+    let mut last = Turned::Broken;
+    for _turn in 0..8 {
+        last = worker.turn(&mut work);
+    }
+    let (site, _device, hand, log) = worker.end();
+    match hands.join(hand) {
+        Ok(()) => {}
+        Err(_) => panic!(rt; "the hand has no place"),
+    }
+    let Boasting {
+        site: OwnSite { book },
+        is_honest: _,
+    } = site;
+    Noted {
+        refused,
+        is_idle,
+        last,
+        log,
+        journal: book.close(hands),
+    }
+}
+
+/// A book in which the plan waits.
+fn run(rt: &impl Abort, alloc: Global, settings: &Settings, plan: Accepted) -> Result<Noted, Fail> {
+    let device = SoloDevice::new(alloc, 24, 64)?;
+    let (mut book, hands) = Book::new(alloc, settings)?;
+    let is_taken_in = book.submit(plan).is_ok();
+    assert!(rt; is_taken_in, "not taken in");
+    Ok(turned(rt, alloc, settings, device, book, hands))
+}
+
+/// A worker that is refused room has asked nothing and still has its chair; once there is room it does the plan.
+#[test]
+fn a_worker_without_room_stops_with_its_chair(rt: HostRuntime) -> Result<(), Fail> {
+    let alloc = rt.alloc();
+    let settings = Settings::from_text(alloc, SETTINGS)?;
+    let plan = accepted(&rt, alloc, &settings, WRITE)?;
+    let noted = run(&rt, alloc, &settings, plan)?;
+    assert!(rt; noted.refused == Turned::NoMemory, "there was room");
+    assert!(rt; noted.is_idle, "it did something all the same");
+    assert!(rt; noted.last == Turned::Ended, "a plan is left");
+    assert!(rt; noted.log.len() == 7, "another number of events");
+    same_events(&rt, part(&noted.journal, 1, 8), &noted.log);
+    Ok(())
+}
