@@ -6,8 +6,6 @@ use Rattle.std.proofs.lemmas.Bool.{lt-ltb, cases_lt, false≢true}
 use Rattle.pp_settings.specs.Layout.{Geometry}
 use Rattle.pp_vault.specs.declared.tokens.Session.{Session}
 use Rattle.pp_vault.specs.declared.guards.Guard.{Guard}
-use Rattle.pp_vault.specs.declared.stage.Stage.TheVariants.{In}
-use Rattle.pp_vault.specs.declared.stage.Hand.{Hand}
 use Rattle.pp_vault.specs.Holding.{slot_by, placed, is_free, all_free}
 use Rattle.pp_pool.specs.declared.request.Request.{Request}
 use Rattle.pp_pool.specs.declared.request.Request.TheVariants as request
@@ -98,20 +96,22 @@ back_same places mid rest n g there slot taken put =
     ∙ ap (λ (ps : List (Option Guard)). slice_set ps n (Some g)) taken
     ∙ put_back places n g there
 
--- So the hand is what it was.
-pub hand_back : (x y : Session) (places mid rest : List (Option Guard)) (n : ℕ) (g h : Guard) → ◌≡◌ {A = Session × Guard} (x, g) (y, h)
+-- So all places are what they were.
+pub guards_back : (x y : Session) (places mid rest : List (Option Guard)) (n : ℕ) (g h : Guard) → ◌≡◌ {A = Session × Guard} (x, g) (y, h)
     → placed places n ≡ Some h → slot_by h ≡ n → mid ≡ slice_set places n None
-    → rest ≡ slice_set mid (slot_by g) (Some g)
-    → ◌≡◌ {A = Hand} (record { stage = In x; guards = rest }) (record { stage = In y; guards = places })
-hand_back x y places mid rest n g h back there slot taken put =
-    let of : Session → List (Option Guard) → Hand = λ s ps. record { stage = In s; guards = ps } in
+    → rest ≡ slice_set mid (slot_by g) (Some g) → rest ≡ places
+guards_back x y places mid rest n g h back there slot taken put =
     let same : g ≡ h = ap (λ (p : Session × Guard). p.1) back in
-    ap (λ (s : Session). of s rest) (ap (λ (p : Session × Guard). p.0) back)
-    ∙ ap (of y)
-    (back_same places mid rest n h there slot taken (put ∙ ap (λ k. slice_set mid (slot_by k) (Some k)) same))
+    back_same places mid rest n h there slot taken (put ∙ ap (λ k. slice_set mid (slot_by k) (Some k)) same)
 
 -- A step that holds in every layout holds in this one.
-pub step_at : (r : Result (Request × List (Option Guard)) Hand) (layout : Geometry) (x : Session)
-    → IfOk r (λ next. (l : Geometry) → IsStep l x next.0) → IfOk r (λ next. IsStep layout x next.0)
-step_at (Ok next) layout x h = h layout
+pub step_at : (r : Result Request Session) (layout : Geometry) (x : Session)
+    → IfOk r (λ asked. (l : Geometry) → IsStep l x asked) → IfOk r (λ asked. IsStep layout x asked)
+step_at (Ok asked) layout x h = h layout
 step_at (Err e) layout x h = tt
+
+-- A request that any guards prepare is prepared by these.
+pub prepares_at : (r : Result Request Session) (places : List (Option Guard))
+    → IfOk r (λ asked. (ps : List (Option Guard)) → Prepares ps asked ps) → IfOk r (λ asked. Prepares places asked places)
+prepares_at (Ok asked) places h = h places
+prepares_at (Err e) places h = tt

@@ -1,13 +1,13 @@
 //! What a worker asks next.
 
-ghost use Rattle.std.specs.Prelude.{◌≡◌, ◌<◌, ℕ, true, false, None, Some, IfOk, IfErr, IfSome, IfNone, OnErr, nat_lt, slice_set};
+ghost use Rattle.std.specs.Prelude.{◌≡◌, ◌<◌, ℕ, List, Option, true, false, None, Some, IfOk, IfErr, IfSome, IfNone, OnErr, nat_lt, slice_set};
 ghost use Rattle.pp_plan.specs.declared.action.Ask.TheVariants as plan_ask;
-ghost use Rattle.pp_vault.specs.declared.stage.Stage.TheVariants as stages;
 ghost use Rattle.pp_vault.specs.Holding.{slot_by, placed, is_free};
+ghost use Rattle.pp_vault.specs.declared.guards.Guard.{Guard};
 ghost use Rattle.pp_vault.specs.declared.guards.Guard.TheVariants as guard_kinds;
 ghost use Rattle.pp_settings.specs.Layout.{Geometry};
 ghost use Rattle.pp_pool.specs.Turns.{Asks, IsStep, IsWayOut, Prepares, AsksSlot, IsWorkers};
-ghost use Rattle.pp_pool.specs.Turns.{guard_asked, slot_for, places_without, suits, is_suited, can_step, can_ask};
+ghost use Rattle.pp_pool.specs.Turns.{guard_asked, slot_for, places_without, suits, is_suited, can_step, can_ask_at};
 ghost use Rattle.pp_pool.specs.Turns.{has_place as place_is_free};
 
 use crate::request::Request;
@@ -15,45 +15,43 @@ use crate::work::Work;
 use pp_device::Device;
 use pp_plan::{Ask, Mode};
 use pp_settings::Layout;
-use pp_vault::{Guard, Guards, Hand, Leaver, PinGuard, Session, Stage};
+use pp_vault::{Guard, Guards, Leaver, PinGuard, Session, Stage};
 
-/// The request that the hand makes, and the guards that stay; or the hand, where it makes none. With an errand in hand
-/// the device is called.
+/// The request that a worker of this stage makes, whose guard is taken out of its place; or the stage, where it makes none.
+/// With an errand in hand the device is called.
 #[tactic(auto, using(crate::proofs::Flushed::failed_by))]
 pub(crate) fn next<D: Device, W: Work>(
-    hand: Hand,
+    stage: Stage,
+    guards: &mut Guards,
     layout: &Layout,
     device: &mut D,
     work: &mut W,
-) -> Result<(Request, Guards), Hand>
-    ensures asks { IfOk result (λ next. Asks D.read_gives D.write_leaves D.calls D.failures layout.now hand.stage
-        device.old next.0 device.new) }
-    ensures prepares { IfOk result (λ next. Prepares hand.guards next.0 next.1) }
-    ensures err { OnErr result (can_ask layout.now hand ≡ false) }
-    ensures back { IfErr result (λ e. e ≡ hand) }
+) -> Result<Request, Stage>
+    ensures asks { IfOk result (λ asked. Asks D.read_gives D.write_leaves D.calls D.failures layout.now stage
+        device.old asked device.new) }
+    ensures prepares { IfOk result (λ asked. Prepares guards.old asked guards.new) }
+    ensures err { OnErr result (can_ask_at layout.now guards.old stage ≡ false) }
+    ensures back { IfErr result (λ e. e ≡ stage) }
+    ensures guards { OnErr result (guards.new ≡ guards.old) }
     ensures device { OnErr result (device.new ≡ device.old) }
 {
-    let Hand { stage, guards } = hand;
     match stage {
-        Stage::Idle(chair) => Ok((Request::Take(chair), guards)),
-        Stage::In(session) => in_plan(session, guards, layout, work),
+        Stage::Idle(chair) => Ok(Request::Take(chair)),
+        Stage::In(session) => match in_plan(session, guards, layout, work) {
+            Ok(request) => Ok(request),
+            Err(session) => Err(Stage::In(session)),
+        },
         Stage::Out(errand) => {
-            if !has_place(&guards, errand.slot()) {
-                return Err(Hand {
-                    stage: Stage::Out(errand),
-                    guards,
-                });
+            if !has_place(guards, errand.slot()) {
+                return Err(Stage::Out(errand));
             }
-            Ok((Request::Answer(errand.carry_out(device)), guards))
+            Ok(Request::Answer(errand.carry_out(device)))
         }
         Stage::Back(returned) => {
-            if !has_place(&guards, returned.slot()) {
-                return Err(Hand {
-                    stage: Stage::Back(returned),
-                    guards,
-                });
+            if !has_place(guards, returned.slot()) {
+                return Err(Stage::Back(returned));
             }
-            Ok((Request::Answer(returned), guards))
+            Ok(Request::Answer(returned))
         }
         Stage::Leaving(leaver) => Ok(on_the_way_out(leaver, guards)),
     }
@@ -72,19 +70,20 @@ fn has_place(guards: &Guards, slot: Option<u32>) -> bool
 /// What a worker asks in its plan.
 fn in_plan<W: Work>(
     session: Session,
-    guards: Guards,
+    guards: &mut Guards,
     layout: &Layout,
     work: &mut W,
-) -> Result<(Request, Guards), Hand>
-    ensures step { IfOk result (λ next. IsStep layout.now session next.0) }
-    ensures prepares { IfOk result (λ next. Prepares guards next.0 next.1) }
-    ensures err { OnErr result (can_step layout.now guards session.ask ≡ false) }
-    ensures back { IfErr result (λ e. e ≡ record { stage = stages.In session; guards = guards }) }
+) -> Result<Request, Session>
+    ensures step { IfOk result (λ asked. IsStep layout.now session asked) }
+    ensures prepares { IfOk result (λ asked. Prepares guards.old asked guards.new) }
+    ensures err { OnErr result (can_step layout.now guards.old session.ask ≡ false) }
+    ensures back { IfErr result (λ e. e ≡ session) }
+    ensures guards { OnErr result (guards.new ≡ guards.old) }
 {
     match session.ask() {
         Ask::Fix { slot, region } => fix(session, guards, slot, region, layout, work),
-        Ask::Choose { branches } => choose(session, guards, branches, work),
-        Ask::End => Ok((Request::Finish(session), guards)),
+        Ask::Choose { branches } => choose(session, branches, work),
+        Ask::End => Ok(Request::Finish(session)),
         Ask::Unfix { slot } => with_slot(session, guards, slot),
         Ask::Latch { slot, .. } => with_slot(session, guards, slot),
         Ask::Unlatch { slot } => with_slot(session, guards, slot),
@@ -94,78 +93,62 @@ fn in_plan<W: Work>(
 /// A fix of a page of the region, where the place of its slot is free.
 fn fix<W: Work>(
     session: Session,
-    guards: Guards,
+    guards: &Guards,
     slot: u8,
     region: u8,
     layout: &Layout,
     work: &mut W,
-) -> Result<(Request, Guards), Hand>
+) -> Result<Request, Session>
     requires { session.ask ≡ plan_ask.Fix slot region }
-    ensures step { IfOk result (λ next. IsStep layout.now session next.0) }
-    ensures prepares { IfOk result (λ next. Prepares guards next.0 next.1) }
-    ensures err { OnErr result (can_step layout.now guards (plan_ask.Fix slot region) ≡ false) }
-    ensures back { IfErr result (λ e. e ≡ record { stage = stages.In session; guards = guards }) }
+    ensures step { IfOk result (λ asked. IsStep layout.now session asked) }
+    ensures prepares { IfOk result (λ asked. Prepares guards.now asked guards.now) }
+    ensures err { OnErr result (can_step layout.now guards.now (plan_ask.Fix slot region) ≡ false) }
+    ensures back { IfErr result (λ e. e ≡ session) }
 {
     let _extents = layout.extents();
     match layout.extent(region) {
         Some(extent) if guards.is_free(u32::from(slot)) => {
             let page = work.page(region, extent.first, extent.count);
-            Ok((Request::Fix(session, page), guards))
+            Ok(Request::Fix(session, page))
         }
-        _ => Err(Hand {
-            stage: Stage::In(session),
-            guards,
-        }),
+        _ => Err(session),
     }
 }
 
 /// A branch of the choice, where it has one.
-fn choose<W: Work>(
-    session: Session,
-    guards: Guards,
-    branches: u16,
-    work: &mut W,
-) -> Result<(Request, Guards), Hand>
+fn choose<W: Work>(session: Session, branches: u16, work: &mut W) -> Result<Request, Session>
     requires { session.ask ≡ plan_ask.Choose branches }
-    ensures step { IfOk result (λ next. (layout : Geometry) → IsStep layout session next.0) }
-    ensures prepares { IfOk result (λ next. Prepares guards next.0 next.1) }
+    ensures step { IfOk result (λ asked. (layout : Geometry) → IsStep layout session asked) }
+    ensures prepares { IfOk result (λ asked. (guards : List (Option Guard)) → Prepares guards asked guards) }
     ensures err { OnErr result (nat_lt 0 branches ≡ false) }
-    ensures back { IfErr result (λ e. e ≡ record { stage = stages.In session; guards = guards }) }
+    ensures back { IfErr result (λ e. e ≡ session) }
 {
     if branches == 0 {
-        return Err(Hand {
-            stage: Stage::In(session),
-            guards,
-        });
+        return Err(session);
     }
     let branch = u32::from(work.branch(branches));
-    Ok((Request::Choose(session, branch), guards))
+    Ok(Request::Choose(session, branch))
 }
 
 /// What the plan asks of this slot, where it has a guard.
 #[tactic(auto, using(crate::proofs::Placing::prepared, crate::proofs::Placing::back_same))]
-fn with_slot(session: Session, mut guards: Guards, slot: u8) -> Result<(Request, Guards), Hand>
+fn with_slot(session: Session, guards: &mut Guards, slot: u8) -> Result<Request, Session>
     requires { AsksSlot slot session.ask }
-    ensures step { IfOk result (λ next. (layout : Geometry) → IsStep layout session next.0) }
-    ensures prepares { IfOk result (λ next. Prepares guards next.0 next.1) }
-    ensures err { OnErr result (is_suited session.ask (placed guards slot) ≡ false) }
-    ensures back { IfErr result (λ e. e ≡ record { stage = stages.In session; guards = guards }) }
+    ensures step { IfOk result (λ asked. (layout : Geometry) → IsStep layout session asked) }
+    ensures prepares { IfOk result (λ asked. Prepares guards.old asked guards.new) }
+    ensures err { OnErr result (is_suited session.ask (placed guards.old slot) ≡ false) }
+    ensures back { IfErr result (λ e. e ≡ session) }
+    ensures guards { OnErr result (guards.new ≡ guards.old) }
 {
     match guards.take(u32::from(slot)) {
         Some(guard) => match with_guard(session, guard) {
-            Ok(request) => Ok((request, guards)),
+            Ok(request) => Ok(request),
             Err((session, guard)) => {
-                put(&mut guards, guard);
-                Err(Hand {
-                    stage: Stage::In(session),
-                    guards,
-                })
+                put(guards, guard);
+                Err(session)
             }
         },
-        None => Err(Hand {
-            stage: Stage::In(session),
-            guards,
-        }),
+        None => Err(session),
     }
 }
 
@@ -214,15 +197,15 @@ fn with_pin(session: Session, guard: PinGuard) -> Result<Request, (Session, Guar
 
 /// A worker that leaves its plan gives its least slot back, and is idle again where it holds none.
 #[tactic(auto, using(crate::proofs::Placing::not_free))]
-fn on_the_way_out(leaver: Leaver, mut guards: Guards) -> (Request, Guards)
-    ensures out { IsWayOut leaver result.0 }
-    ensures prepares { Prepares guards result.0 result.1 }
+fn on_the_way_out(leaver: Leaver, guards: &mut Guards) -> Request
+    ensures out { IsWayOut leaver result }
+    ensures prepares { Prepares guards.old result guards.new }
 {
     if guards.is_empty() {
-        return (Request::End(leaver), guards);
+        return Request::End(leaver);
     }
-    match take_first(&mut guards) {
-        Some(guard) => (Request::GiveBack(leaver, guard), guards),
+    match take_first(guards) {
+        Some(guard) => Request::GiveBack(leaver, guard),
         None => unreachable!(),
     }
 }

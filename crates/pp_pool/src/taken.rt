@@ -7,21 +7,21 @@ ghost use Rattle.pp_pool.specs.Turns.{stage_in, guard_in, stage_asked, guard_ask
 use crate::asked::put;
 use crate::outcome::Answer;
 use crate::request::Request;
-use pp_vault::{Guard, Guards, Hand, Stage};
+use pp_vault::{Guard, Guards, Stage};
 
-/// The hand with the answer's tokens.
-pub(crate) fn hand_after(mut guards: Guards, answer: Answer) -> Hand
+/// The stage of the answer's tokens. Its guard, if there is one, comes into its place.
+pub(crate) fn stage_after(guards: &mut Guards, answer: Answer) -> Stage
     requires stage { IsSome (stage_in answer) }
-    requires place { IfSome (guard_in answer) (λ guard. is_free guards (slot_by guard) ≡ true) }
-    ensures stage { stage_in answer ≡ Some result.stage }
-    ensures guards { result.guards ≡ places_with guards (guard_in answer) }
+    requires place { IfSome (guard_in answer) (λ guard. is_free guards.old (slot_by guard) ≡ true) }
+    ensures stage { stage_in answer ≡ Some result }
+    ensures guards { guards.new ≡ places_with guards.old (guard_in answer) }
 {
     let (stage, guard) = tokens(answer);
     match guard {
-        Some(guard) => put(&mut guards, guard),
+        Some(guard) => put(guards, guard),
         None => {}
     }
-    Hand { stage, guards }
+    stage
 }
 
 /// The tokens of an answer: the stage's, and a guard, if there is one.

@@ -10,7 +10,7 @@ ghost use Rattle.pp_pool.specs.Turns.{TurnIs, Works, IsTurned, IsLong, turned_by
 use crate::asked::next;
 use crate::outcome::{Answer, Outcome};
 use crate::site::Site;
-use crate::taken::hand_after;
+use crate::taken::stage_after;
 use crate::turned::Turned;
 use crate::work::Work;
 use core::mem;
@@ -155,19 +155,20 @@ impl<S: Site, D: Device> Worker<S, D> {
             mut seen,
             alloc,
         } = self;
-        let (hand, turned) = match next(hand, &layout, &mut device, work) {
-            Ok((request, guards)) => {
+        let Hand { stage, mut guards } = hand;
+        let (stage, turned) = match next(stage, &mut guards, &layout, &mut device, work) {
+            Ok(request) => {
                 let Outcome { event, answer } = site.perform(request);
                 add(&mut log, event);
                 let (answer, turned) = used(answer, &mut site, &mut seen, work);
-                (hand_after(guards, answer), turned)
+                (stage_after(&mut guards, answer), turned)
             }
-            Err(hand) => (hand, Turned::Broken),
+            Err(stage) => (stage, Turned::Broken),
         };
         let worker = Worker {
             site,
             device,
-            hand,
+            hand: Hand { stage, guards },
             log,
             layout,
             page_bytes,

@@ -1,9 +1,9 @@
 use Rattle.std.proofs.Common.{sym}
-use Rattle.pp_pool.proofs.Placing.{hand_back}
+use Rattle.pp_pool.proofs.Placing.{guards_back}
 use Rattle.pp_pool.proofs.asked.with_slot.Goals as goal
 
-pub returns-in-Err-clause-back : goal.returns-in-Err-clause-back
-returns-in-Err-clause-back c =
-    hand_back c.in-Err.session c.args.session c.args.guards c.take.new.self c.put.new.guards c.from.result c.in-Err.guard
-    c.in-Some.guard c.in-Err.ensures.back (sym c.in-Some.ensures.guard) c.in-Some.ensures.slot c.in-Some.ensures.taken
-    c.put.ensures
+pub returns-in-Err-clause-guards : goal.returns-in-Err-clause-guards
+returns-in-Err-clause-guards c =
+    guards_back c.in-Err.session c.args.session c.args.guards.now c.take.new.self c.put.new.guards c.from.result
+    c.in-Err.guard c.in-Some.guard c.in-Err.ensures.back (sym c.in-Some.ensures.guard) c.in-Some.ensures.slot
+    c.in-Some.ensures.taken c.put.ensures
