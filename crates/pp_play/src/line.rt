@@ -5,6 +5,8 @@ ghost use Rattle.pp_model.specs.declared.moves.Move.{Move};
 ghost use Rattle.pp_model.specs.declared.reply.Reply.{Reply};
 ghost use Rattle.pp_vault.specs.declared.refusal.Refusal.TheVariants.{OffPlan};
 
+use pp_model::Event;
+use pp_report::Line as JournalLine;
 use pp_script::Cue;
 use pp_vault::{Cause, Move, Refusal, Reply, Vault};
 use std::fmt;
@@ -12,7 +14,7 @@ use std::fmt;
 /// What a cue comes to.
 #[derive(Clone, Copy, Debug, PartialEq, Eq)]
 pub enum Line {
-    /// It is done: the move, and the reply.
+    /// It is done: the move, and the reply. It is printed as a journal has it.
     Did(Move, Reply),
     /// It is refused. Where the hands fit the vault, nothing has changed but what [`Vault::done`] tells.
     Refused(Cue, Refusal),
@@ -38,7 +40,7 @@ impl fmt::Display for Printed {
 
     fn fmt<W: fmt::Write>(&self, f: &mut fmt::Formatter<W>) -> fmt::Result {
         match self.line {
-            Line::Did(asked, reply) => write!(f, "{asked} = {reply}"),
+            Line::Did(did, reply) => write!(f, "{}", JournalLine::of(Event::Step { did, reply })),
             Line::Refused(cue, refusal) => write!(f, "{cue} = {refusal}"),
             Line::Wrote => write!(f, "{} = ok", self.cue),
             Line::Looked(byte) => write!(f, "{} = {byte}", self.cue),

@@ -5,18 +5,20 @@ use Rattle.pp_model.specs.Budget.{bound}
 use Rattle.pp_model.specs.Pool.{State}
 use Rattle.pp_model.specs.Turns.{next_turn}
 use Rattle.pp_model.specs.Words.{turn_words}
+use Rattle.pp_model.specs.declared.event.Event.TheVariants.{Submit}
 use Rattle.pp_model.specs.declared.turn.Turn.{Turn}
 use Rattle.pp_play.specs.Words.{printed_words}
 use Rattle.pp_play.specs.declared.line.Line.{Line}
+use Rattle.pp_report.specs.Lines.{event_words, line_of, line_words}
 use Rattle.pp_script.specs.declared.cue.Cue.{Cue}
 
--- The plan of this number waits behind the others, as in `submit 0 = queued`.
+-- The plan of this number waits behind the others, as a journal has it: `submit 0 = queued`.
 abbrev pub queued_text : ℕ → List ℕ
-queued_text number = codes "submit " ++ decimal number ++ codes " = queued"
+queued_text number = line_words (line_of (Submit number))
 
 -- The same, ended by a line feed.
 abbrev pub queued_line : ℕ → List ℕ
-queued_line number = queued_text number ++ codes "\n"
+queued_line number = event_words (Submit number)
 
 -- The lines of so many plans, from this number on.
 abbrev pub queued_lines : (number count : ℕ) → List ℕ
