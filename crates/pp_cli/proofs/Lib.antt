@@ -1,2 +1,3 @@
 mod Formatting
+mod Ran
 mod Stopping

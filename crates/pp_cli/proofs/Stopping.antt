@@ -26,7 +26,11 @@ pub second : (one two : Text) (paths : List Text) (path : Text) → Contains (tw
 second one two paths path h =
     Contains-append_right (one ∷ []) (two ∷ paths) path (Contains-append_left (two ∷ []) paths path h)
 
--- And so are those behind the second.
+-- And so are those behind the first.
+pub behind_one : (one : Text) (paths : List Text) (path : Text) → Contains paths path → Contains (one ∷ paths) path
+behind_one one paths path h = Contains-append_right (one ∷ []) paths path h
+
+-- And those behind the second.
 pub behind_two : (one two : Text) (paths : List Text) (path : Text) → Contains paths path
     → Contains (one ∷ two ∷ paths) path
 behind_two one two paths path h = Contains-append_right (one ∷ two ∷ []) paths path h

@@ -4,8 +4,10 @@ use Rattle.std.specs.Prelude.{◌≡◌, ◌⊎◌, ℕ, true, List, [], ◌∷�
 use Rattle.std.specs.List.{Contains}
 use Rattle.pp_judge.specs.declared.device.DeviceSize.{DeviceSize}
 use Rattle.pp_judge.specs.declared.error.JudgeError.{JudgeError}
-use Rattle.pp_judge.specs.Judgement.{device_size_in}
-use Rattle.pp_judge.specs.Answers.{Answer, MaySimulate, certification_answer, judgement_answer, refused, shown, misused, status_of}
+use Rattle.pp_judge.specs.Judgement.{device_size_in, workload_in}
+use Rattle.pp_runner.specs.Runs.{MayRun}
+use Rattle.pp_judge.specs.Answers.{Answer, MaySimulate, audit_answer, certification_answer, judgement_answer}
+use Rattle.pp_judge.specs.Answers.{refused, shown, misused, status_of}
 use Rattle.pp_judge.specs.Answers.{formatted, out_of_memory, unread, unwritten}
 use Rattle.pp_words.specs.CommandLine.{Asked, Text, asked}
 use Rattle.pp_words.specs.Faults.{IsMistaken, asks_for_help}
@@ -48,6 +50,11 @@ ComesOf (Asked.simulate settings script plans) answer = IsStopped (settings ∷ 
     ⊎ ((s c : List ℕ) × (ps : List (List ℕ)) × (length ps ≡ length plans) × MaySimulate s c ps answer)
 ComesOf (Asked.format settings device) answer = IsStopped (settings ∷ []) answer
     ⊎ ((s : List ℕ) × ComesOfFormat device (device_size_in s) answer)
+ComesOf (Asked.run journal settings device seed plans) answer = IsStopped (settings ∷ plans) answer
+    ⊎ ((s : List ℕ) × (ps : List (List ℕ)) × (length ps ≡ length plans)
+    × MayRun device journal (workload_in s ps) answer)
+ComesOf (Asked.audit settings journal plans) answer = IsStopped (settings ∷ journal ∷ plans) answer
+    ⊎ ((s j : List ℕ) × (ps : List (List ℕ)) × (length ps ≡ length plans) × (answer ≡ audit_answer s j ps))
 
 -- what words may come to that ask for no command: the help or the version where they ask for that, a bad command line
 -- where there is a mistake in them; the text ends with a line feed

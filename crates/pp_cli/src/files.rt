@@ -4,22 +4,27 @@ ghost use Rattle.std.specs.Prelude.{◌≡◌, ◌≤◌, ◌∷◌, [], IfOk, I
 ghost use Rattle.std.specs.Io.KnownBytes.{Appends};
 ghost use Rattle.pp_format.specs.DeviceFile.{blank_file};
 ghost use Rattle.pp_judge.specs.Answers.{formatted, seen};
-ghost use Rattle.pp_words.specs.CommandLine.{asked_annotate, asked_by, asked_check, asked_format, asked_simulate, texts};
+ghost use Rattle.pp_words.specs.CommandLine.{asked_annotate, asked_audit, asked_by, asked_check, asked_format};
+ghost use Rattle.pp_words.specs.CommandLine.{asked_simulate, texts};
 ghost use Rattle.pp_cli.specs.Runs.{ComesOf, ComesOfWriting, IsStopped, stopped_by};
 
 use crate::bar::Bar;
 use crate::fault::fault;
+use crate::running::run;
 use pp_device::image::HEAD;
 use pp_format::format_onto;
 use pp_judge::{
-    AnnotateFiles, CheckFiles, Contents, DeviceSize, Outcome, SimulateFiles, device_size,
-    outcome_of,
+    AnnotateFiles, AuditFiles, CheckFiles, Contents, DeviceSize, Outcome, SimulateFiles,
+    device_size, outcome_of,
 };
-use pp_words::{AnnotatePaths, CheckPaths, FormatPaths, Job, SimulatePaths};
+use pp_words::{AnnotatePaths, AuditPaths, CheckPaths, FormatPaths, Job, SimulatePaths};
 use std::alloc::Global;
 use std::fs;
+use std::fs::File;
 use std::io::{ErrorKind, Write};
 use std::rt::Files;
+use std::sync::Wait;
+use std::thread::Threads;
 
 /// Why the bytes of a job's files aren't there.
 #[derive(Clone, Copy, Debug)]
@@ -31,11 +36,11 @@ pub enum Unread<'a> {
 }
 
 /// What the job comes to. All its files are read, in the order of the words, before any is refused.
-pub fn perform<'a, R: Files + AllocGlobal, P: Write>(
-    rt: &R,
-    job: Job<'a>,
-    bar: &mut Bar<P>,
-) -> Outcome<'a>
+pub fn perform<
+    'a,
+    R: Files<File = File> + AllocGlobal + Threads + Wait + Sync + Copy + Send + Drop,
+    P: Write,
+>(rt: &R, job: Job<'a>, bar: &mut Bar<P>) -> Outcome<'a>
     ensures { ComesOf (asked_by job.entry) (seen result) }
 {
     let ended = match job {
@@ -43,6 +48,8 @@ pub fn perform<'a, R: Files + AllocGlobal, P: Write>(
         Job::Annotate(paths) => annotate(rt, paths),
         Job::Simulate(paths) => simulate(rt, paths),
         Job::Format(paths) => format(rt, paths, bar),
+        Job::Run(paths) => run(rt, paths),
+        Job::Audit(paths) => audit(rt, paths),
     };
     match ended {
         Ok(outcome) => outcome,
@@ -106,6 +113,25 @@ fn simulate<'a, R: Files + AllocGlobal>(
     Ok(outcome_of(rt.alloc(), Contents::Simulate(files)))
 }
 
+/// What the files of `audit` come to, where all can be read.
+fn audit<'a, R: Files + AllocGlobal>(
+    rt: &R,
+    paths: AuditPaths<'a>,
+) -> Result<Outcome<'a>, Unread<'a>>
+    ensures { MatchResult result (λ outcome. ComesOf (asked_audit paths.entry) (seen outcome))
+        (λ why. ComesOf (asked_audit paths.entry) (stopped_by why)) }
+{
+    let settings = contents(rt, paths.settings)?;
+    let journal = contents(rt, paths.journal)?;
+    let plans = contents_of_all(rt, &paths.plans)?;
+    let files = AuditFiles {
+        settings: settings.as_slice(),
+        journal: journal.as_slice(),
+        plans: plans.as_slice(),
+    };
+    Ok(outcome_of(rt.alloc(), Contents::Audit(files)))
+}
+
 /// What the settings of `format` come to, where they can be read: their refusal, or what writing the device comes to.
 fn format<'a, R: Files + AllocGlobal, P: Write>(
     rt: &R,
@@ -167,7 +193,7 @@ fn format_opened<'a, W: Write, P: Write>(
 }
 
 /// The bytes of the file at the path.
-fn contents<'a, R: Files + AllocGlobal>(rt: &R, path: &'a str) -> Result<Vec<u8>, Unread<'a>>
+pub fn contents<'a, R: Files + AllocGlobal>(rt: &R, path: &'a str) -> Result<Vec<u8>, Unread<'a>>
     ensures { IfErr result (λ why. IsStopped (path.entry.now ∷ []) (stopped_by why)) }
 {
     match fs::read(rt, path) {
@@ -178,7 +204,7 @@ fn contents<'a, R: Files + AllocGlobal>(rt: &R, path: &'a str) -> Result<Vec<u8>
 }
 
 /// The bytes of the files at the paths, in their order.
-fn contents_of_all<'a, R: Files + AllocGlobal>(
+pub fn contents_of_all<'a, R: Files + AllocGlobal>(
     rt: &R,
     paths: &[&'a str],
 ) -> Result<Vec<Vec<u8>>, Unread<'a>>

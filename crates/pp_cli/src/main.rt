@@ -1,11 +1,12 @@
 //! The program `pinpool`: makes and checks the certificates of plans for a page buffer pool, plays scripts over a pool,
-//! and formats devices.
+//! formats devices, runs plans over them, and audits journals.
 #![tactic(auto)]
 
 mod bar;
 mod fault;
 mod files;
 mod program;
+mod running;
 mod telling;
 #[cfg(test)]
 mod tests;

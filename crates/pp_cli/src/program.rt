@@ -14,19 +14,21 @@ use crate::telling::tell;
 use pp_judge::Outcome;
 use pp_words::{JobError, job};
 use std::convert::AsStr;
+use std::fs::File;
 use std::io;
 use std::io::{ErrorKind, Write};
 use std::rt::Files;
+use std::sync::Wait;
+use std::thread::Threads;
 
 /// Runs the program on its words, the program's name first, where they can be read, and answers the status. The bar
 /// shows how far a long job is.
-pub fn run<R: Files + AllocGlobal, O: Write, E: Write, P: Write>(
-    rt: &R,
-    words: &io::Result<Vec<String>>,
-    out: &mut O,
-    err: &mut E,
-    bar: &mut Bar<P>,
-) -> u8
+pub fn run<
+    R: Files<File = File> + AllocGlobal + Threads + Wait + Sync + Copy + Send + Drop,
+    O: Write,
+    E: Write,
+    P: Write,
+>(rt: &R, words: &io::Result<Vec<String>>, out: &mut O, err: &mut E, bar: &mut Bar<P>) -> u8
     ensures status { result ≤ 4 }
     // What `serve` does of the words.
     ensures words { IfOk words.now (λ words.
@@ -49,13 +51,14 @@ pub fn run<R: Files + AllocGlobal, O: Write, E: Write, P: Write>(
 ///
 /// 0: done. 1: refused; standard output has the one line `refused N NAME` with what it is about. 2: the words are
 /// no command; the fault is on standard error. 3: a file can't be read or written, or standard output can't be
-/// written; standard error names it. 4: out of memory.
-pub fn serve<R: Files + AllocGlobal, S: AsStr, O: Write, E: Write>(
-    rt: &R,
-    words: &[S],
-    out: &mut O,
-    err: &mut E,
-) -> u8
+/// written; standard error names it. Or a run left a plan or a flush undone; standard output has its report then. 4: out
+/// of memory.
+pub fn serve<
+    R: Files<File = File> + AllocGlobal + Threads + Wait + Sync + Copy + Send + Drop,
+    S: AsStr,
+    O: Write,
+    E: Write,
+>(rt: &R, words: &[S], out: &mut O, err: &mut E) -> u8
     // There are no other statuses.
     ensures status { result ≤ 4 }
     // Words that ask for a job are no bad command line.
@@ -74,13 +77,13 @@ pub fn serve<R: Files + AllocGlobal, S: AsStr, O: Write, E: Write>(
 }
 
 /// As [`serve`], with a bar that shows how far a long job is.
-fn serve_with<R: Files + AllocGlobal, S: AsStr, O: Write, E: Write, P: Write>(
-    rt: &R,
-    words: &[S],
-    out: &mut O,
-    err: &mut E,
-    bar: &mut Bar<P>,
-) -> u8
+fn serve_with<
+    R: Files<File = File> + AllocGlobal + Threads + Wait + Sync + Copy + Send + Drop,
+    S: AsStr,
+    O: Write,
+    E: Write,
+    P: Write,
+>(rt: &R, words: &[S], out: &mut O, err: &mut E, bar: &mut Bar<P>) -> u8
     ensures status { result ≤ 4 }
     ensures words { IsSome (asked (map S.text words.now)) → result ≢ 2 }
     ensures nothing { asked (map S.text words.now) ≡ None → result ≢ 1 }
@@ -93,11 +96,12 @@ fn serve_with<R: Files + AllocGlobal, S: AsStr, O: Write, E: Write, P: Write>(
 }
 
 /// What the words come to, the program's name first, before anything is told.
-fn outcome_of_words<'a, R: Files + AllocGlobal, S: AsStr, P: Write>(
-    rt: &R,
-    words: &'a [S],
-    bar: &mut Bar<P>,
-) -> Outcome<'a>
+fn outcome_of_words<
+    'a,
+    R: Files<File = File> + AllocGlobal + Threads + Wait + Sync + Copy + Send + Drop,
+    S: AsStr,
+    P: Write,
+>(rt: &R, words: &'a [S], bar: &mut Bar<P>) -> Outcome<'a>
     ensures { ComesOfWords (map S.text words.entry.now) (seen result) }
 {
     match job(rt.alloc(), words) {

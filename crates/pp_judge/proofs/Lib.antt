@@ -3,4 +3,5 @@ pub mod Steps
 pub mod Judged
 pub mod Staged
 pub mod Rehearsed
+pub mod Audited
 pub mod Ended

@@ -8,16 +8,16 @@ use Rattle.pp_model.specs.Pool.{opening}
 use Rattle.pp_model.specs.declared.refusals.SubmitError.{SubmitError}
 use Rattle.pp_simulate.specs.Simulating.{Simulates, after_submits}
 use Rattle.pp_simulate.specs.declared.error.SimulateError.TheVariants.{Submit}
-use Rattle.pp_judge.specs.Judgement.{Stage, certification, judgement, staged_in}
+use Rattle.pp_judge.specs.Judgement.{Stage, audited_in, certification, judgement, staged_in}
 use Rattle.pp_judge.specs.Steps.{is_want_of_memory}
 use Rattle.pp_judge.specs.declared.contents.Contents.{Contents}
-use Rattle.pp_judge.specs.declared.contents.Contents.TheVariants.{Check, Annotate, Simulate}
+use Rattle.pp_judge.specs.declared.contents.Contents.TheVariants.{Check, Annotate, Simulate, Audit}
 use Rattle.pp_judge.specs.declared.error.JudgeError.{JudgeError}
 use Rattle.pp_judge.specs.declared.error.JudgeError.TheVariants as judge_error
 use Rattle.pp_judge.specs.declared.outcome.Figures.{Figures}
 use Rattle.pp_judge.specs.declared.outcome.Outcome.{Outcome}
-use Rattle.pp_judge.specs.declared.outcome.Outcome.TheVariants.{Done, Made, Simulated, Formatted, Shown, Refused}
-use Rattle.pp_judge.specs.declared.outcome.Outcome.TheVariants.{Misused, Wordless, Unread, Unwritten, OutOfMemory}
+use Rattle.pp_judge.specs.declared.outcome.Outcome.TheVariants.{Done, Made, Simulated, Formatted, Ran, Stopped, Audited, Shown}
+use Rattle.pp_judge.specs.declared.outcome.Outcome.TheVariants.{Refused, Misused, Wordless, Unread, Unwritten, OutOfMemory}
 
 -- what a run comes to; texts are their bytes
 pub data Answer : Type 0 where
@@ -25,6 +25,9 @@ pub data Answer : Type 0 where
   made : (text : List ℕ) → Answer
   simulated : (text : List ℕ) → Answer
   formatted : (pages : ℕ) → Answer
+  ran : (report : List ℕ) → (is_well : Bool) → Answer
+  stopped : (text : List ℕ) → Answer
+  audited : (lines : ℕ) → Answer
   shown : (text : List ℕ) → Answer
   refused : JudgeError → Answer
   misused : (text : List ℕ) → Answer
@@ -39,6 +42,9 @@ seen (Done figures) = done figures
 seen (Made text) = made (string_bytes text)
 seen (Simulated text) = simulated (string_bytes text)
 seen (Formatted pages) = formatted pages
+seen (Ran report) = ran (string_bytes report.text) report.is_well
+seen (Stopped text) = stopped (string_bytes text)
+seen (Audited lines) = audited lines
 seen (Shown text) = shown (string_bytes text)
 seen (Refused refusal) = refused refusal
 seen (Misused text) = misused (string_bytes text)
@@ -47,12 +53,15 @@ seen (Unread path) = unread path.now
 seen (Unwritten path) = unwritten path.now
 seen OutOfMemory = out_of_memory
 
--- 0 done, 1 refused, 2 a bad command line, 3 a fault of a file, 4 out of memory
+-- 0 done, 1 refused, 2 a bad command line, 3 a fault of a file or a run that went wrong, 4 out of memory
 abbrev pub status_of : Answer → ℕ
 status_of (done figures) = 0
 status_of (made text) = 0
 status_of (simulated text) = 0
 status_of (formatted pages) = 0
+status_of (ran report is_well) = if is_well then 0 else 3
+status_of (stopped text) = 1
+status_of (audited lines) = 0
 status_of (shown text) = 0
 status_of (refused refusal) = 1
 status_of (misused text) = 2
@@ -67,6 +76,9 @@ is_output_of (done figures) = true
 is_output_of (made text) = true
 is_output_of (simulated text) = true
 is_output_of (formatted pages) = true
+is_output_of (ran report is_well) = true
+is_output_of (stopped text) = true
+is_output_of (audited lines) = true
 is_output_of (shown text) = true
 is_output_of (refused refusal) = true
 is_output_of (misused text) = false
@@ -101,6 +113,15 @@ judgement_answer settings plan certificate = answer_of_check (judgement settings
 abbrev pub certification_answer : (settings plan : List ℕ) → Answer
 certification_answer settings plan = answer_of_annotate (certification settings plan)
 
+-- a journal that is audited: how many lines it has, or the refusal
+abbrev pub answer_of_audit : Result ℕ JudgeError → Answer
+answer_of_audit (Ok lines) = audited lines
+answer_of_audit (Err refusal) = refused refusal
+
+-- what the bytes of the files of `audit` come to
+abbrev pub audit_answer : (settings journal : List ℕ) → (plans : List (List ℕ)) → Answer
+audit_answer settings journal plans = answer_of_audit (audited_in settings journal plans)
+
 -- a new pool with these settings takes the plans in up to one, which it refuses so
 pub record RefusesPlan (stage : Stage) (refusal : JudgeError) : Type 0 where
   pub error : SubmitError
@@ -131,6 +152,8 @@ MayAnswer (Check files) answer = answer ≡ judgement_answer files.settings.now 
 MayAnswer (Annotate files) answer = answer ≡ certification_answer files.settings.now files.plan.now
 MayAnswer (Simulate files) answer =
     MaySimulate files.settings.now files.script.now (map (λ plan. plan.items) files.plans.now) answer
+MayAnswer (Audit files) answer =
+    answer ≡ audit_answer files.settings.now files.journal.now (map (λ plan. plan.items) files.plans.now)
 
 -- the outcome is one of these answers, or want of memory
 abbrev pub MayCome : (Answer → Type 0) → Outcome → Type 0

@@ -20,10 +20,12 @@ use Rattle.pp_annotate.specs.declared.error.AnnotateError.TheVariants.{Fault}
 use Rattle.pp_script.specs.Scripts.{Scenario}
 use Rattle.pp_script.specs.Reading.{reading as read_script}
 use Rattle.pp_script.specs.declared.error.ScriptError.TheVariants.{NotACue}
+use Rattle.pp_report.specs.Auditing.{auditing}
 use Rattle.pp_judge.specs.declared.judgement.Sources.{Sources}
 use Rattle.pp_judge.specs.declared.device.DeviceSize.{DeviceSize}
 use Rattle.pp_judge.specs.declared.error.JudgeError.{JudgeError}
 use Rattle.pp_judge.specs.declared.error.JudgeError.TheVariants.{Settings, Script, Plan, Certificate, Check, Annotate}
+use Rattle.pp_judge.specs.declared.error.JudgeError.TheVariants.{Audit}
 use Rattle.pp_text.specs.Steps.{◌>>=◌}
 use Rattle.pp_judge.specs.Steps.{refusing}
 
@@ -118,3 +120,18 @@ staged_in settings script plans = do
   cues ← script_in script
   accepted ← accepted_all s plans
   Ok (record { settings = s; script = cues; plans = accepted })
+
+-- What the bytes of settings and of plans spell: each is refused in its turn.
+unfoldable pub workload_in : (settings : List ℕ) → (plans : List (List ℕ))
+    → Result (Configuration × List Acceptance) JudgeError
+workload_in settings plans = do
+  s ← settings_in settings
+  accepted ← accepted_all s plans
+  Ok (s, accepted)
+
+-- The verdict on the bytes of a journal, once the settings and the plans are read: how many lines it has, where it is a
+-- true journal of these plans to their end, and else its first fault.
+unfoldable pub audited_in : (settings journal : List ℕ) → (plans : List (List ℕ)) → Result ℕ JudgeError
+audited_in settings journal plans = do
+  w ← workload_in settings plans
+  refusing Audit (auditing w.0 w.1 journal)

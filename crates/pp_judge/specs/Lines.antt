@@ -9,11 +9,12 @@ use Rattle.pp_cert.specs.CheckErrors.{check_error_row}
 use Rattle.pp_annotate.specs.Refusals.{annotate_error_row}
 use Rattle.pp_script.specs.Refusals.{script_error_row}
 use Rattle.pp_simulate.specs.Refusals.{simulate_error_row}
-use Rattle.pp_judge.specs.Answers.{Answer, done, made, simulated, formatted, shown, refused, misused, wordless}
-use Rattle.pp_judge.specs.Answers.{unread, unwritten, out_of_memory}
+use Rattle.pp_report.specs.Refusals.{audit_error_row}
+use Rattle.pp_judge.specs.Answers.{Answer, done, made, simulated, formatted, ran, stopped, audited, shown, refused}
+use Rattle.pp_judge.specs.Answers.{misused, wordless, unread, unwritten, out_of_memory}
 use Rattle.pp_judge.specs.declared.error.JudgeError.{JudgeError}
 use Rattle.pp_judge.specs.declared.error.JudgeError.TheVariants.{Settings, Script, Plan, Certificate, Check, Annotate}
-use Rattle.pp_judge.specs.declared.error.JudgeError.TheVariants.{Simulate}
+use Rattle.pp_judge.specs.declared.error.JudgeError.TheVariants.{Simulate, Audit}
 use Rattle.pp_judge.specs.declared.outcome.Figures.{Figures}
 
 -- The number and the name of a refusal, and what it is about.
@@ -25,6 +26,7 @@ judge_error_row (Certificate e) = certificate_error_row e
 judge_error_row (Check e) = check_error_row e
 judge_error_row (Annotate e) = annotate_error_row e
 judge_error_row (Simulate e) = simulate_error_row e
+judge_error_row (Audit e) = audit_error_row e
 
 -- `refused`, and these.
 abbrev pub refusal_line : JudgeError → List ℕ
@@ -41,6 +43,9 @@ text_of (done figures) = figures_line figures ++ codes "\n"
 text_of (made text) = text ++ codes "\n"
 text_of (simulated text) = text
 text_of (formatted pages) = codes "formatted " ++ decimal pages ++ codes " pages\n"
+text_of (ran report is_well) = report
+text_of (stopped text) = text
+text_of (audited lines) = codes "audited " ++ decimal lines ++ codes " lines\n"
 text_of (shown text) = text
 text_of (refused refusal) = refusal_line refusal ++ codes "\n"
 text_of (misused text) = text

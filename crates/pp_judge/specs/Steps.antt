@@ -6,9 +6,10 @@ use Rattle.pp_cert.specs.CertErrors.{is_certificate_memory}
 use Rattle.pp_annotate.specs.Refusals.{is_annotate_memory}
 use Rattle.pp_script.specs.Refusals.{is_script_memory}
 use Rattle.pp_simulate.specs.Refusals.{is_simulate_memory}
+use Rattle.pp_report.specs.Refusals.{is_audit_memory}
 use Rattle.pp_judge.specs.declared.error.JudgeError.{JudgeError}
 use Rattle.pp_judge.specs.declared.error.JudgeError.TheVariants.{Settings, Script, Plan, Certificate, Check, Annotate}
-use Rattle.pp_judge.specs.declared.error.JudgeError.TheVariants.{Simulate}
+use Rattle.pp_judge.specs.declared.error.JudgeError.TheVariants.{Simulate, Audit}
 
 -- What was done, or the refusal that its fault is.
 abbrev pub refusing : {A E : Type 0} → (E → JudgeError) → Result A E → Result A JudgeError
@@ -24,6 +25,7 @@ is_want_of_memory (Certificate e) = is_certificate_memory e
 is_want_of_memory (Check e) = false
 is_want_of_memory (Annotate e) = is_annotate_memory e
 is_want_of_memory (Simulate e) = is_simulate_memory e
+is_want_of_memory (Audit e) = is_audit_memory e
 
 -- A value shows itself.
 abbrev pub same : {A : Type 0} → A → A

@@ -1,10 +1,11 @@
 //! What was asked for with the bytes of its files, and what these come to: one outcome, but where a script is played.
 
 ghost use Rattle.std.specs.Prelude.{map};
-ghost use Rattle.pp_judge.specs.Answers.{certification_answer, judgement_answer, ComesTo, MayAnswer, MayCome};
-ghost use Rattle.pp_judge.specs.Answers.{IsSimulationAnswer};
+ghost use Rattle.pp_judge.specs.Answers.{audit_answer, certification_answer, judgement_answer, ComesTo, MayAnswer};
+ghost use Rattle.pp_judge.specs.Answers.{MayCome, IsSimulationAnswer};
 ghost use Rattle.pp_judge.specs.Judgement.{staged_in};
 
+use crate::auditing::audit;
 use crate::judgement::{certify, judge};
 use crate::outcome::{Figures, Outcome};
 use crate::rehearsal::rehearse;
@@ -19,6 +20,8 @@ pub enum Contents<'a> {
     Annotate(AnnotateFiles<'a>),
     /// A script is played over a pool with some plans.
     Simulate(SimulateFiles<'a>),
+    /// A journal is audited.
+    Audit(AuditFiles<'a>),
 }
 
 /// The bytes of the three files of `check`.
@@ -52,6 +55,17 @@ pub struct SimulateFiles<'a> {
     pub plans: &'a [Vec<u8>],
 }
 
+/// The bytes of the files of `audit`.
+#[derive(Clone, Copy, Debug)]
+pub struct AuditFiles<'a> {
+    /// The bytes of the settings.
+    pub settings: &'a [u8],
+    /// The bytes of the journal.
+    pub journal: &'a [u8],
+    /// The bytes of the plans, in their order.
+    pub plans: &'a [Vec<u8>],
+}
+
 /// What the contents of the files come to.
 pub fn outcome_of<'a>(alloc: Global, contents: Contents<'_>) -> Outcome<'a>
     // What the definition gives of these bytes, or want of memory.
@@ -61,6 +75,7 @@ pub fn outcome_of<'a>(alloc: Global, contents: Contents<'_>) -> Outcome<'a>
         Contents::Check(files) => checked(alloc, files),
         Contents::Annotate(files) => annotated(alloc, files),
         Contents::Simulate(files) => simulated(alloc, files),
+        Contents::Audit(files) => audited(alloc, files),
     }
 }
 
@@ -93,6 +108,17 @@ fn simulated<'a>(alloc: Global, files: SimulateFiles<'_>) -> Outcome<'a>
 {
     match rehearse(alloc, files) {
         Ok(text) => Outcome::Simulated(text),
+        Err(refusal) => Outcome::from(refusal),
+    }
+}
+
+/// What the files of `audit` come to.
+fn audited<'a>(alloc: Global, files: AuditFiles<'_>) -> Outcome<'a>
+    ensures { ComesTo (audit_answer files.entry.settings.now files.entry.journal.now
+        (map (λ plan. plan.items) files.entry.plans.now)) result }
+{
+    match audit(alloc, files) {
+        Ok(audited) => Outcome::Audited(audited.lines),
         Err(refusal) => Outcome::from(refusal),
     }
 }

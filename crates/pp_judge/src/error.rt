@@ -5,12 +5,13 @@ ghost use Rattle.pp_judge.specs.Steps.{is_want_of_memory};
 ghost use Rattle.pp_text.specs.Views.{row_of_refusal};
 ghost use Rattle.pp_judge.specs.Lines.{refusal_line, judge_error_row};
 ghost use Rattle.pp_judge.specs.declared.error.JudgeError.TheVariants.{Settings, Script, Plan, Certificate, Annotate};
-ghost use Rattle.pp_judge.specs.declared.error.JudgeError.TheVariants.{Simulate};
+ghost use Rattle.pp_judge.specs.declared.error.JudgeError.TheVariants.{Simulate, Audit};
 ghost use Rattle.pp_simulate.specs.declared.error.SimulateError.TheVariants.{OutOfMemory};
 
 use pp_annotate::AnnotateError;
 use pp_cert::{CertError, CheckError};
 use pp_plan::PlanError;
+use pp_report::AuditError;
 use pp_script::ScriptError;
 use pp_settings::SettingsError;
 use pp_simulate::SimulateError;
@@ -34,6 +35,8 @@ pub enum JudgeError {
     Annotate(AnnotateError),
     /// A new pool doesn't take a plan in behind the earlier ones.
     Simulate(SimulateError),
+    /// The journal is not a true one of these plans.
+    Audit(AuditError),
 }
 
 impl JudgeError {
@@ -49,6 +52,7 @@ impl JudgeError {
                 | JudgeError::Certificate(CertError::OutOfMemory)
                 | JudgeError::Annotate(AnnotateError::OutOfMemory)
                 | JudgeError::Simulate(SimulateError::OutOfMemory)
+                | JudgeError::Audit(AuditError::OutOfMemory)
         )
     }
 
@@ -64,6 +68,7 @@ impl JudgeError {
             JudgeError::Check(error) => error.refusal(),
             JudgeError::Annotate(error) => error.refusal(),
             JudgeError::Simulate(error) => error.refusal(),
+            JudgeError::Audit(error) => error.refusal(),
         }
     }
 }
@@ -124,6 +129,14 @@ impl From<SimulateError> for JudgeError {
 
     fn from(error: SimulateError) -> JudgeError {
         JudgeError::Simulate(error)
+    }
+}
+
+impl From<AuditError> for JudgeError {
+    ghost from_gives = { λ error refusal. refusal ≡ Audit error };
+
+    fn from(error: AuditError) -> JudgeError {
+        JudgeError::Audit(error)
     }
 }
 

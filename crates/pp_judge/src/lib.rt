@@ -1,16 +1,20 @@
 //! What the bytes of files come to, and what is printed of it. Nothing here reads a file or a word of a command line.
 #![tactic(auto)]
 
+mod auditing;
 mod contents;
 mod device;
 mod error;
 mod judgement;
 mod outcome;
 mod rehearsal;
+mod workload;
 
-pub use contents::{AnnotateFiles, CheckFiles, Contents, SimulateFiles, outcome_of};
+pub use auditing::audit;
+pub use contents::{AnnotateFiles, AuditFiles, CheckFiles, Contents, SimulateFiles, outcome_of};
 pub use device::{DeviceSize, device_size};
 pub use error::JudgeError;
 pub use judgement::{certify, judge};
-pub use outcome::{Figures, Outcome};
+pub use outcome::{Figures, Outcome, RunReport};
 pub use rehearsal::rehearse;
+pub use workload::Workload;

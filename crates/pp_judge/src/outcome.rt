@@ -19,6 +19,13 @@ pub enum Outcome<'a> {
     Simulated(String),
     /// A device with so many pages is written anew.
     Formatted(u32),
+    /// Plans were run over a device: the report.
+    Ran(RunReport),
+    /// A run gives no report, since the pool doesn't take a plan in or a worker came to no good end: the line that says so,
+    /// which ends with a line feed.
+    Stopped(String),
+    /// A journal with so many lines is a true one.
+    Audited(u64),
     /// The help or the version, which ends with a line feed.
     Shown(String),
     /// A file is refused, or the certificate.
@@ -33,6 +40,15 @@ pub enum Outcome<'a> {
     Unwritten(&'a str),
     /// Memory ran out.
     OutOfMemory,
+}
+
+/// What is told of plans that were run.
+#[derive(Debug, Drop)]
+pub struct RunReport {
+    /// The report, each line with its line feed.
+    pub text: String,
+    /// Whether every plan was done and every flush written.
+    pub is_well: bool,
 }
 
 /// What is printed of an accepted plan.
@@ -79,10 +95,12 @@ impl Outcome<'_> {
             | Outcome::Made(_)
             | Outcome::Simulated(_)
             | Outcome::Formatted(_)
+            | Outcome::Audited(_)
             | Outcome::Shown(_) => 0,
-            Outcome::Refused(_) => 1,
+            Outcome::Ran(report) if report.is_well => 0,
+            Outcome::Refused(_) | Outcome::Stopped(_) => 1,
             Outcome::Misused(_) | Outcome::Wordless => 2,
-            Outcome::Unread(_) | Outcome::Unwritten(_) => 3,
+            Outcome::Ran(_) | Outcome::Unread(_) | Outcome::Unwritten(_) => 3,
             Outcome::OutOfMemory => 4,
         }
     }
@@ -96,6 +114,9 @@ impl Outcome<'_> {
             | Outcome::Made(_)
             | Outcome::Simulated(_)
             | Outcome::Formatted(_)
+            | Outcome::Ran(_)
+            | Outcome::Stopped(_)
+            | Outcome::Audited(_)
             | Outcome::Shown(_)
             | Outcome::Refused(_) => true,
             Outcome::Misused(_)
@@ -116,10 +137,13 @@ impl fmt::Display for Outcome<'_> {
             Outcome::Done(figures) => writeln!(f, "{figures}"),
             Outcome::Made(text) => writeln!(f, "{text}"),
             Outcome::Formatted(pages) => writeln!(f, "formatted {pages} pages"),
+            Outcome::Ran(report) => f.write_str(report.text.as_str()),
+            Outcome::Audited(lines) => writeln!(f, "audited {lines} lines"),
             Outcome::Refused(refusal) => writeln!(f, "{refusal}"),
-            Outcome::Simulated(text) | Outcome::Shown(text) | Outcome::Misused(text) => {
-                f.write_str(text.as_str())
-            }
+            Outcome::Simulated(text)
+            | Outcome::Stopped(text)
+            | Outcome::Shown(text)
+            | Outcome::Misused(text) => f.write_str(text.as_str()),
             Outcome::Wordless => f.write_str("error: the words can't be read\n"),
             Outcome::Unread(path) => writeln!(f, "fault reading {path}"),
             Outcome::Unwritten(path) => writeln!(f, "fault writing {path}"),

@@ -2,17 +2,15 @@
 
 ghost use Rattle.std.specs.Prelude.{◌≡◌, map, string_bytes};
 ghost use Rattle.pp_text.specs.Steps.{Gives};
-ghost use Rattle.pp_judge.specs.Judgement.{script_in, accepted_in, accepted_all, staged_in};
+ghost use Rattle.pp_judge.specs.Judgement.{script_in, staged_in};
 ghost use Rattle.pp_judge.specs.Answers.{Rehearses};
 ghost use Rattle.pp_judge.specs.Steps.{is_want_of_memory, same};
 
 use crate::contents::SimulateFiles;
 use crate::error::JudgeError;
-use crate::judgement::{plan_in, settings_in};
-use pp_annotate::annotate;
-use pp_cert::Accepted;
+use crate::judgement::settings_in;
+use crate::workload::accepted_all;
 use pp_script::{Script, ScriptError};
-use pp_settings::Settings;
 use pp_simulate::simulate;
 use std::alloc::Global;
 use std::str;
@@ -42,32 +40,4 @@ fn script_in(alloc: Global, bytes: &[u8]) -> Result<Script, JudgeError>
         return Err(JudgeError::Script(ScriptError::NotACue(1)));
     };
     Ok(Script::from_text(alloc, text)?)
-}
-
-/// The plans that the bytes spell under the settings, each accepted with its least certificate before the next is read.
-fn accepted_all(
-    alloc: Global,
-    settings: &Settings,
-    files: &[Vec<u8>],
-) -> Result<Vec<Accepted>, JudgeError>
-    ensures { Gives is_want_of_memory (λ plans. plans.items) result
-        (accepted_all settings.now (map (λ plan. plan.items) files.now)) }
-{
-    let mut plans = Vec::new(alloc);
-    for bytes in files {
-        plans.push(accepted_in(alloc, settings, bytes)?)?;
-    }
-    Ok(plans)
-}
-
-/// The plan that the bytes spell under the settings, accepted with its least certificate.
-fn accepted_in(alloc: Global, settings: &Settings, bytes: &[u8]) -> Result<Accepted, JudgeError>
-    ensures { Gives is_want_of_memory same result (accepted_in settings.now bytes.now) }
-{
-    let plan = plan_in(alloc, settings, bytes)?;
-    let certificate = annotate(alloc, settings, &plan)?;
-    match pp_cert::check(settings, plan, &certificate) {
-        Ok(accepted) => Ok(accepted),
-        Err((_, error)) => Err(JudgeError::Check(error)),
-    }
 }

@@ -3,8 +3,8 @@
 use crate::row::Question;
 use pp_format::{Nobody, format_onto};
 use pp_judge::{
-    AnnotateFiles, CheckFiles, Contents, JudgeError, Outcome, SimulateFiles, device_size,
-    outcome_of,
+    AnnotateFiles, AuditFiles, CheckFiles, Contents, JudgeError, Outcome, SimulateFiles,
+    device_size, outcome_of,
 };
 use pp_plan::{Plan, PlanError};
 use pp_script::{Script, ScriptError};
@@ -37,6 +37,14 @@ pub fn answer_to(alloc: Global, question: Question, texts: &[Vec<u8>]) -> anyhow
                 plans,
             };
             format!(in alloc; "{}", outcome_of(alloc, Contents::Simulate(files)))?
+        }
+        (Question::Audit, [settings, journal, plans @ ..]) => {
+            let files = AuditFiles {
+                settings,
+                journal,
+                plans,
+            };
+            format!(in alloc; "{}", outcome_of(alloc, Contents::Audit(files)))?
         }
         (Question::Format, [settings]) => format_answer(alloc, settings)?,
         _ => anyhow::bail!("the row has too few texts or too many"),

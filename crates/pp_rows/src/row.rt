@@ -19,6 +19,8 @@ pub enum Question {
     Script,
     /// What playing the script of the second text comes to, over a pool with the plans of those behind it.
     Simulate,
+    /// Whether the second text is a true journal of a pool with the plans of those behind it.
+    Audit,
     /// The file of a device that is written anew under the settings.
     Format,
 }
@@ -68,6 +70,7 @@ fn question_of(name: &str) -> anyhow::Result<Question> {
         "annotate" => Ok(Question::Annotate),
         "script" => Ok(Question::Script),
         "simulate" => Ok(Question::Simulate),
+        "audit" => Ok(Question::Audit),
         "format" => Ok(Question::Format),
         _ => anyhow::bail!("no question is called {name}"),
     }

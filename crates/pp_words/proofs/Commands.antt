@@ -1,7 +1,9 @@
--- A command line with one command more.
-use Rattle.std.proofs.Common.{◌≡◌, false, ap, ◌∙◌}
-use Rattle.clap.specs.Built.{AddsSubcommand}
-use Rattle.clap.specs.Simple.{App, app_of, with_subcommand}
+-- A command line with one command more, and a command with one argument more.
+use Rattle.std.proofs.Common.{◌≡◌, ◌||◌, false, ap, ap₂, ◌∙◌}
+use Rattle.clap.specs.Built.{AddsArg, AddsSubcommand}
+use Rattle.clap.specs.Simple.{App, app_of, with_rule, with_subcommand}
+use Rattle.clap.specs.Walk.{Rule, rule_of}
+use Rattle.clap.specs.declared.builder.arg.Arg.{Arg}
 use Rattle.clap.specs.declared.builder.command.Command.{Command}
 use Rattle.clap.specs.declared.builder.command.Command.TheViews.{out-Command}
 
@@ -11,3 +13,14 @@ pub added : (old sub new : Command) (before command : App) → AddsSubcommand ol
 added old sub new before command adds is was =
     adds.shape is.0 ∙ ap (λ (a : App). with_subcommand a (app_of sub).top) was
     ∙ ap (λ (a : App). with_subcommand before a.top) is.1
+
+-- A command of this app, with no argument that counts everywhere.
+abbrev pub IsApp : Command → App → Type 0
+IsApp command app = ((out-Command command).has_globals ≡ false) × (app_of command ≡ app)
+
+pub given : (old new : Command) (arg : Arg) (rule : Rule) (before : App) → AddsArg old arg new → rule_of arg ≡ rule
+    → arg.global ≡ false → IsApp old before → IsApp new (with_rule before rule)
+given old new arg rule before adds is local was = (
+  adds.globals ∙ ap₂ (λ a b. a || b) was.0 local,
+  adds.shape local ∙ ap₂ with_rule was.1 is,
+)

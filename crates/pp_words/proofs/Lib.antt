@@ -5,6 +5,9 @@ pub mod PlainCheck
 pub mod PlainAnnotate
 pub mod PlainSimulate
 pub mod PlainFormat
+pub mod PlainRun
+pub mod PlainAudit
+pub mod Numbers
 pub mod Commands
 pub mod PlainWords
 pub mod Told

@@ -1,8 +1,10 @@
 -- What a command with plain words asks for.
 use Rattle.pp_words.specs.CommandLine.{PlainWordsAreThePaths}
 use Rattle.pp_words.proofs.PlainAnnotate.{plain_annotate}
+use Rattle.pp_words.proofs.PlainAudit.{plain_audit}
 use Rattle.pp_words.proofs.PlainCheck.{plain_check}
 use Rattle.pp_words.proofs.PlainFormat.{plain_format}
+use Rattle.pp_words.proofs.PlainRun.{plain_run}
 use Rattle.pp_words.proofs.PlainSimulate.{plain_simulate}
 
 pub plain_words : PlainWordsAreThePaths
@@ -11,4 +13,6 @@ plain_words = record {
   annotate = plain_annotate;
   simulate = plain_simulate;
   format = plain_format;
+  run = plain_run;
+  audit = plain_audit;
 }

@@ -1,11 +1,16 @@
 -- The program's command line, as `clap` reads it.
 use Rattle.std.specs.Prelude.{◌≡◌, Bool, true, List, [], ◌∷◌, Option, Some, None, codes, unwrap_or, if◌then◌else◌, not}
-use Rattle.std.specs.Prelude.{◌==◌, map}
+use Rattle.std.specs.Prelude.{ℕ, ◌<◌, ◌^◌, ◌==◌, map, option_map, pos}
 use Rattle.std.specs.Borrow.{Bor}
 use Rattle.std.specs.List.{All}
 use Rattle.std.specs.Str.{bytes_eq}
-use Rattle.clap.specs.Walk.{Row, Rule, all_of, first_of}
+use Rattle.std.specs.Str.Parse.{digits_value, without_leading_plus}
+use Rattle.std.specs.Fmt.{decimal}
+use Rattle.std.specs.Option.{option_map_or}
+use Rattle.clap.specs.Walk.{Row, Rule, all_of, first_of, one_of}
+use Rattle.clap.specs.ValueTests.{is_unsigned_in}
 use Rattle.clap.specs.declared.builder.action.ArgAction.TheVariants.{Append}
+use Rattle.clap.specs.declared.builder.value_parser.ValueParser.TheVariants as value_parser
 pub use Rattle.clap.specs.Walk.{Text}
 use Rattle.clap.specs.Simple.{App, new_app, new_rule, on_top, subcommand_of, with_rule, with_subcommand}
 use Rattle.clap.specs.Faults.{fault_of}
@@ -14,8 +19,10 @@ use Rattle.pp_words.specs.declared.check.CheckPaths.{CheckPaths}
 use Rattle.pp_words.specs.declared.annotate.AnnotatePaths.{AnnotatePaths}
 use Rattle.pp_words.specs.declared.simulate.SimulatePaths.{SimulatePaths}
 use Rattle.pp_words.specs.declared.format.FormatPaths.{FormatPaths}
+use Rattle.pp_words.specs.declared.run.RunPaths.{RunPaths}
+use Rattle.pp_words.specs.declared.audit.AuditPaths.{AuditPaths}
 use Rattle.pp_words.specs.declared.request.Job.{Job}
-use Rattle.pp_words.specs.declared.request.Job.TheVariants.{Check, Annotate, Simulate, Format}
+use Rattle.pp_words.specs.declared.request.Job.TheVariants.{Check, Annotate, Simulate, Format, Run, Audit}
 
 -- a path that has to be given, as a word of its own
 abbrev pub path_rule : Text → Rule
@@ -24,6 +31,14 @@ path_rule id = record (new_rule id) { required = true; value_names = 1 }
 -- paths of which one at least has to be given, each as a word of its own
 abbrev pub paths_rule : Text → Rule
 paths_rule id = record (path_rule id) { action = Some Append }
+
+-- a path that may be given behind the option's name, which begins with two hyphens
+abbrev pub option_rule : Text → Rule
+option_rule id = record (new_rule id) { long = Some id; value_names = 1 }
+
+-- a number of 32 bits that has to be given, as a word of its own
+abbrev pub number_rule : Text → Rule
+number_rule id = record (path_rule id) { parser = Some (value_parser.Signed (pos 0) (pos 4294967295)) }
 
 -- `check SETTINGS PLAN CERT`
 abbrev pub check_command : App
@@ -47,6 +62,19 @@ abbrev pub format_command : App
 format_command =
     with_rule (with_rule (new_app (codes "format")) (path_rule (codes "settings"))) (path_rule (codes "device"))
 
+-- `run [--journal FILE] SETTINGS DEVICE SEED PLAN...`
+abbrev pub run_command : App
+run_command =
+    with_rule (with_rule (with_rule (with_rule (with_rule (new_app (codes "run")) (option_rule (codes "journal")))
+    (path_rule (codes "settings"))) (path_rule (codes "device"))) (number_rule (codes "seed")))
+    (paths_rule (codes "plans"))
+
+-- `audit SETTINGS JOURNAL PLAN...`
+abbrev pub audit_command : App
+audit_command =
+    with_rule (with_rule (with_rule (new_app (codes "audit")) (path_rule (codes "settings")))
+    (path_rule (codes "journal"))) (paths_rule (codes "plans"))
+
 -- the program without its commands: it has a version, and wants a command
 abbrev pub program_alone : App
 program_alone = on_top (λ shape. record shape {
@@ -55,11 +83,12 @@ program_alone = on_top (λ shape. record shape {
   arg_required_else_help = true;
 }) (new_app (codes "pinpool"))
 
--- the program with its commands `check`, `annotate`, `simulate` and `format`
+-- the program with its commands `check`, `annotate`, `simulate`, `format`, `run` and `audit`
 abbrev pub program : App
 program =
-    with_subcommand (with_subcommand (with_subcommand (with_subcommand program_alone check_command.top)
-    annotate_command.top) simulate_command.top) format_command.top
+    with_subcommand (with_subcommand (with_subcommand (with_subcommand (with_subcommand (with_subcommand program_alone
+    check_command.top) annotate_command.top) simulate_command.top) format_command.top) run_command.top)
+    audit_command.top
 
 -- what words ask for: a command with the paths of its files
 pub data Asked : Type 0 where
@@ -67,6 +96,8 @@ pub data Asked : Type 0 where
   annotate : (settings plan : Text) → Asked
   simulate : (settings script : Text) → (plans : List Text) → Asked
   format : (settings device : Text) → Asked
+  run : (journal : Option Text) → (settings device : Text) → (seed : ℕ) → (plans : List Text) → Asked
+  audit : (settings journal : Text) → (plans : List Text) → Asked
 
 -- a check of three files
 abbrev pub asked_check : CheckPaths → Asked
@@ -88,12 +119,22 @@ asked_simulate p = simulate p.settings.now p.script.now (texts p.plans.items)
 abbrev pub asked_format : FormatPaths → Asked
 asked_format p = format p.settings.now p.device.now
 
+-- plans of some files run over a device, and the journal written where that is asked for
+abbrev pub asked_run : RunPaths → Asked
+asked_run p = run (option_map (λ text. text.now) p.journal) p.settings.now p.device.now p.seed (texts p.plans.items)
+
+-- a journal audited against the plans of some files
+abbrev pub asked_audit : AuditPaths → Asked
+asked_audit p = audit p.settings.now p.journal.now (texts p.plans.items)
+
 -- what a job does
 abbrev pub asked_by : Job → Asked
 asked_by (Check p) = asked_check p
 asked_by (Annotate p) = asked_annotate p
 asked_by (Simulate p) = asked_simulate p
 asked_by (Format p) = asked_format p
+asked_by (Run p) = asked_run p
+asked_by (Audit p) = asked_audit p
 
 -- the first value of an argument; the arguments of the commands are required, so they have one
 abbrev pub value_among : List Row → Text → Text
@@ -102,6 +143,15 @@ value_among rows id = unwrap_or (first_of id rows) []
 -- all values of an argument, of which one at least is required
 abbrev pub values_among : List Row → Text → List Text
 values_among rows id = unwrap_or (all_of id rows) []
+
+-- the number of 32 bits that a text spells in decimal, with a plus before it or none; 0 where it spells none
+abbrev pub number_in : Text → ℕ
+number_in text =
+    if is_unsigned_in 0 4294967295 text then digits_value 10 (without_leading_plus text) else 0
+
+-- the number that an argument has; those of the commands are required, so they have one
+abbrev pub number_among : List Row → Text → ℕ
+number_among rows id = option_map_or number_in (one_of id rows) 0
 
 -- the values of the three arguments of `check`
 abbrev pub check_among : List Row → Asked
@@ -121,6 +171,16 @@ simulate_among rows = simulate (value_among rows (codes "settings")) (value_amon
 abbrev pub format_among : List Row → Asked
 format_among rows = format (value_among rows (codes "settings")) (value_among rows (codes "device"))
 
+-- the values of the option and of the arguments of `run`
+abbrev pub run_among : List Row → Asked
+run_among rows = run (first_of (codes "journal") rows) (value_among rows (codes "settings"))
+    (value_among rows (codes "device")) (number_among rows (codes "seed")) (values_among rows (codes "plans"))
+
+-- the values of the arguments of `audit`
+abbrev pub audit_among : List Row → Asked
+audit_among rows = audit (value_among rows (codes "settings")) (value_among rows (codes "journal"))
+    (values_among rows (codes "plans"))
+
 -- what a command of this name with the values of its arguments asks for
 abbrev pub asked_of : Option (Text × List Row) → Option Asked
 asked_of None = None
@@ -129,6 +189,8 @@ asked_of (Some command) =
     else if bytes_eq command.0 (codes "annotate") then Some (annotate_among command.1)
     else if bytes_eq command.0 (codes "simulate") then Some (simulate_among command.1)
     else if bytes_eq command.0 (codes "format") then Some (format_among command.1)
+    else if bytes_eq command.0 (codes "run") then Some (run_among command.1)
+    else if bytes_eq command.0 (codes "audit") then Some (audit_among command.1)
     else None
 
 -- what is found, where there is no fault
@@ -163,3 +225,12 @@ pub record PlainWordsAreThePaths : Type 0 where
       ≡ Some (simulate settings script (plan ∷ plans))
   pub format : (name settings device : Text) → is_plain_word settings ≡ true → is_plain_word device ≡ true
       → asked (name ∷ codes "format" ∷ settings ∷ device ∷ []) ≡ Some (format settings device)
+  pub run : (name settings device plan : Text) (seed : ℕ) (plans : List Text) → seed < 2 ^ 32
+      → is_plain_word settings ≡ true → is_plain_word device ≡ true → is_plain_word plan ≡ true
+      → All IsPlainWord plans
+      → asked (name ∷ codes "run" ∷ settings ∷ device ∷ decimal seed ∷ plan ∷ plans)
+      ≡ Some (run None settings device seed (plan ∷ plans))
+  pub audit : (name settings journal plan : Text) (plans : List Text) → is_plain_word settings ≡ true
+      → is_plain_word journal ≡ true → is_plain_word plan ≡ true → All IsPlainWord plans
+      → asked (name ∷ codes "audit" ∷ settings ∷ journal ∷ plan ∷ plans)
+      ≡ Some (audit settings journal (plan ∷ plans))

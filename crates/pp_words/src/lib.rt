@@ -2,16 +2,20 @@
 #![tactic(auto)]
 
 mod annotate;
+mod audit;
 mod check;
 mod format;
 mod parts;
 mod request;
+mod run;
 mod simulate;
 mod words;
 
 pub use annotate::AnnotatePaths;
+pub use audit::AuditPaths;
 pub use check::CheckPaths;
 pub use format::FormatPaths;
 pub use request::{Job, JobError};
+pub use run::RunPaths;
 pub use simulate::SimulatePaths;
 pub use words::job;

@@ -1,8 +1,9 @@
-//! What the commands share: arguments that are paths, and their values.
+//! What the commands share: arguments that are paths or numbers, and their values.
 
-ghost use Rattle.std.specs.Prelude.{◌≡◌, IfOk, true, false, codes};
-ghost use Rattle.clap.specs.Words.{found_of, rows_of, rule_of};
-ghost use Rattle.pp_words.specs.CommandLine.{path_rule, paths_rule, texts, value_among, values_among};
+ghost use Rattle.std.specs.Prelude.{◌≡◌, IfOk, true, false, codes, option_map};
+ghost use Rattle.clap.specs.Words.{first_of, found_of, rows_of, rule_of};
+ghost use Rattle.pp_words.specs.CommandLine.{number_among, number_rule, option_rule, path_rule, paths_rule, texts};
+ghost use Rattle.pp_words.specs.CommandLine.{value_among, values_among};
 
 use clap::{Arg, ArgAction, ArgMatches};
 use std::alloc::{AllocError, Global};
@@ -52,6 +53,22 @@ pub fn paths<'a>(alloc: Global, id: &'a str, name: &'a str, help: &'a str) -> Ar
     path(alloc, id, name, help).action(ArgAction::Append)
 }
 
+/// An option that is the path of a file, under a name that begins with two hyphens.
+pub fn option<'a>(alloc: Global, id: &'a str, name: &'a str, help: &'a str) -> Arg<'a>
+    ensures rule { rule_of result ≡ option_rule id.entry.now }
+    ensures local { result.global ≡ false }
+{
+    Arg::new(alloc, id).long(id).value_name(name).help(help)
+}
+
+/// An argument that is a number of 32 bits and has to be given.
+pub fn number<'a>(alloc: Global, id: &'a str, name: &'a str, help: &'a str) -> Arg<'a>
+    ensures rule { rule_of result ≡ number_rule id.entry.now }
+    ensures local { result.global ≡ false }
+{
+    path(alloc, id, name, help).value_parser(clap::value_parser!(u32))
+}
+
 /// The value of an argument in the matches of a command; no text where it has none, which no required argument has.
 pub fn value_of<'a>(matches: &ArgMatches<'a>, id: &str) -> &'a str
     ensures { result.now ≡ value_among (rows_of (found_of matches.now)) id.now }
@@ -75,4 +92,19 @@ pub fn values_of<'a>(
         }
         None => Ok(Vec::new(alloc)),
     }
+}
+
+/// The value of an option in the matches of a command, where it has one.
+pub fn option_of<'a>(matches: &ArgMatches<'a>, id: &str) -> Option<&'a str>
+    ensures { option_map (λ text. text.now) result ≡ first_of id.now (rows_of (found_of matches.now)) }
+{
+    matches.get_str(id)
+}
+
+/// The number that is the value of an argument in the matches of a command; 0 where it has none, which no required
+/// argument has.
+pub fn number_of(matches: &ArgMatches<'_>, id: &str) -> u32
+    ensures { result ≡ number_among (rows_of (found_of matches.now)) id.now }
+{
+    matches.get_one::<u32>(id).unwrap_or(0)
 }

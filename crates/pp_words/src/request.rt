@@ -4,8 +4,10 @@ ghost use Rattle.std.specs.Prelude.{◌≡◌};
 ghost use Rattle.pp_words.specs.declared.request.JobError.TheVariants.{OutOfMemory};
 
 use crate::annotate::AnnotatePaths;
+use crate::audit::AuditPaths;
 use crate::check::CheckPaths;
 use crate::format::FormatPaths;
+use crate::run::RunPaths;
 use crate::simulate::SimulatePaths;
 use std::alloc::{AllocError, AllocFailed};
 use thiserror::Error;
@@ -21,6 +23,10 @@ pub enum Job<'a> {
     Simulate(SimulatePaths<'a>),
     /// Write a device anew: `format SETTINGS DEVICE`.
     Format(FormatPaths<'a>),
+    /// Run plans over a device: `run [--journal FILE] SETTINGS DEVICE SEED PLAN...`.
+    Run(RunPaths<'a>),
+    /// Say whether a journal is a true one: `audit SETTINGS JOURNAL PLAN...`.
+    Audit(AuditPaths<'a>),
 }
 
 /// Why words give no job.

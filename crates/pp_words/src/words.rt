@@ -7,9 +7,11 @@ ghost use Rattle.pp_words.specs.Faults.{IsToldAs, IsToldBy};
 ghost use Rattle.pp_words.specs.Texts.{is_ended, with_line_feed, IsSaid};
 
 use crate::annotate::AnnotatePaths;
+use crate::audit::AuditPaths;
 use crate::check::CheckPaths;
 use crate::format::FormatPaths;
 use crate::request::{Job, JobError};
+use crate::run::RunPaths;
 use crate::simulate::SimulatePaths;
 use clap::error::ErrorKind;
 use clap::{ArgMatches, Command};
@@ -53,11 +55,15 @@ fn command<'a>(alloc: Global) -> Result<Command<'a>, AllocError>
     let annotate = AnnotatePaths::command(alloc)?;
     let simulate = SimulatePaths::command(alloc)?;
     let format = FormatPaths::command(alloc)?;
+    let run = RunPaths::command(alloc)?;
+    let audit = AuditPaths::command(alloc)?;
     let command = top(alloc)?
         .subcommand(check)?
         .subcommand(annotate)?
         .subcommand(simulate)?
-        .subcommand(format)?;
+        .subcommand(format)?
+        .subcommand(run)?
+        .subcommand(audit)?;
     Ok(command)
 }
 
@@ -68,8 +74,8 @@ fn top<'a>(alloc: Global) -> Result<Command<'a>, AllocError>
     let command = Command::new(alloc, "pinpool")
         .version("0.1.0")
         .about(
-            "Makes and checks the certificates of plans for a page buffer pool, plays scripts over a pool, and formats \
-            devices.",
+            "Makes and checks the certificates of plans for a page buffer pool, plays scripts over a pool, formats \
+            devices, runs plans over them, and audits journals.",
         )
         .subcommand_required(true)
         .arg_required_else_help(true);
@@ -87,6 +93,8 @@ fn job_of<'a>(alloc: Global, matches: &ArgMatches<'a>) -> Result<Option<Job<'a>>
         Some(("annotate", given)) => Job::Annotate(AnnotatePaths::among(given)),
         Some(("simulate", given)) => Job::Simulate(SimulatePaths::among(alloc, given)?),
         Some(("format", given)) => Job::Format(FormatPaths::among(given)),
+        Some(("run", given)) => Job::Run(RunPaths::among(alloc, given)?),
+        Some(("audit", given)) => Job::Audit(AuditPaths::among(alloc, given)?),
         _ => return Ok(None),
     };
     Ok(Some(job))

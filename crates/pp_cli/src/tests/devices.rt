@@ -1,7 +1,7 @@
 //! Devices that are written anew, and files that can't be.
 
 use super::files::SETTINGS;
-use super::runs::{Folder, run};
+use super::runs::Folder;
 use std::fs;
 use std::process::Abort;
 use std::test::Fail;
@@ -25,23 +25,20 @@ fn devices_are_written_anew(rt: HostRuntime) -> Result<(), Fail> {
         ("device", long.as_slice()),
     ];
     let folder = Folder::new(&rt, "devices_are_written_anew", files.as_slice())?;
-    let device = folder.at(&rt, "device")?;
     // Neither settings that are refused nor settings that can't be read touch the device.
     for (settings, status) in [("bad.toml", 1), ("missing", 3)] {
-        let words = folder.words(&rt, "format", &[settings, "device"])?;
-        assert_eq!(rt; run(&rt, words.as_slice())?.status, status);
-        let kept = fs::read(&rt, device.as_str())?;
-        assert!(rt; kept.as_slice() == long.as_slice());
+        let ended = folder.run(&rt, "format", &[settings, "device"])?;
+        assert_eq!(rt; ended.status, status);
+        folder.has(&rt, "device", long.as_slice())?;
     }
-    let words = folder.words(&rt, "format", &["settings.toml", "device"])?;
-    run(&rt, words.as_slice())?.is(&rt, 0, "formatted 24 pages\n", "");
-    is_blank(&rt, fs::read(&rt, device.as_str())?.as_slice());
-    let words = folder.words(&rt, "format", &["settings.toml", "missing/device"])?;
-    let complaint = format!(in rt.alloc();
-        "fault writing {}\n",
-        folder.at(&rt, "missing/device")?
-    )?;
-    run(&rt, words.as_slice())?.is(&rt, 3, "", complaint.as_str());
+    folder
+        .run(&rt, "format", &["settings.toml", "device"])?
+        .is(&rt, 0, "formatted 24 pages\n", "");
+    let device = fs::read(&rt, folder.at(&rt, "device")?.as_str())?;
+    is_blank(&rt, device.as_slice());
+    folder
+        .run(&rt, "format", &["settings.toml", "missing/device"])?
+        .is_fault(&rt, &folder, "writing", "missing/device")?;
     folder.remove(&rt)?;
     Ok(())
 }

@@ -1,6 +1,6 @@
 //! Files that are judged, and files that can't be read.
 
-use super::runs::{Folder, run};
+use super::runs::Folder;
 use std::test::Fail;
 
 /// Three frames, a region `root` of four pages of class 1 and a region `leaf` of eight pages of class 2.
@@ -31,64 +31,99 @@ pub const PLAN: &str =
 pub const CERTIFICATE: &str = "{\"notes\":[{},{\"a\":[\"root\",\"-\"]},{\"a\":[\"root\",\"S\"]},\
     {\"a\":[\"root\",\"-\"]},{}],\"peak\":1,\"steps\":4}";
 
-#[test]
-fn files_are_judged_once_all_are_read(rt: HostRuntime) -> Result<(), Fail> {
-    let files: [(&str, &[u8]); 5] = [
+/// What a worker did with that plan.
+pub const JOURNAL: &str =
+    "submit 0 = queued\ntake 0 = taken 0\nfix 0 3 = mustread 0\ncame 0 3 0 = loaded 0\n\
+    latch 0 = latched 0\nunlatch 0 = unlatched 0\nunfix 0 = did\nfinish 0 = done\n";
+
+/// The folder of the test with this name, with these texts, settings that are refused and a file that is no text.
+fn folder_of(rt: &HostRuntime, test: &str) -> Result<Folder, Fail> {
+    let files: [(&str, &[u8]); 6] = [
         ("settings.toml", SETTINGS.as_bytes()),
         ("plan.json", PLAN.as_bytes()),
         ("plan.cert.json", CERTIFICATE.as_bytes()),
+        ("plan.journal", JOURNAL.as_bytes()),
         ("bad.toml", b"frames = 0"),
         ("no text", b"\xff\xfe"),
     ];
-    let folder = Folder::new(&rt, "files_are_judged_once_all_are_read", files.as_slice())?;
-    let check = ["settings.toml", "plan.json", "plan.cert.json"];
-    run(
-        &rt,
-        folder.words(&rt, "check", check.as_slice())?.as_slice(),
-    )?
-    .is(&rt, 0, "accepted peak 1 steps 4 cost 46\n", "");
-    let made = run(
-        &rt,
-        folder
-            .words(&rt, "annotate", check.split_at(2).0)?
-            .as_slice(),
-    )?;
-    made.is(
-        &rt,
-        0,
-        format!(in rt.alloc(); "{CERTIFICATE}\n")?.as_str(),
-        "",
-    );
-    let refused: [(&[&str], &str); 6] = [
+    Ok(Folder::new(rt, test, files.as_slice())?)
+}
+
+#[test]
+fn files_are_judged(rt: HostRuntime) -> Result<(), Fail> {
+    let folder = folder_of(&rt, "files_are_judged")?;
+    let rows: [(&str, &[&str], u8, &str); 9] = [
         (
+            "check",
+            &["settings.toml", "plan.json", "plan.cert.json"],
+            0,
+            "accepted peak 1 steps 4 cost 46\n",
+        ),
+        (
+            "audit",
+            &["settings.toml", "plan.journal", "plan.json"],
+            0,
+            "audited 8 lines\n",
+        ),
+        // A journal is bytes, and a line that is no text is refused as such.
+        (
+            "audit",
+            &["settings.toml", "no text", "plan.json"],
+            1,
+            "refused 91 NotALine at 1\n",
+        ),
+        (
+            "check",
             &["no text", "plan.json", "plan.cert.json"],
+            1,
             "refused 1 NotToml\n",
         ),
         (
+            "check",
             &["settings.toml", "no text", "plan.cert.json"],
+            1,
             "refused 11 NotJson\n",
         ),
         (
+            "check",
             &["settings.toml", "plan.json", "no text"],
+            1,
             "refused 21 NotJson\n",
         ),
         (
+            "check",
             &["bad.toml", "no text", "no text"],
+            1,
             "refused 4 Range frames\n",
         ),
         (
+            "check",
             &["plan.json", "settings.toml", "no text"],
+            1,
             "refused 1 NotToml\n",
         ),
         (
+            "check",
             &["settings.toml", "plan.json", "plan.json"],
+            1,
             "refused 22 WrongField\n",
         ),
     ];
-    for (names, line) in refused {
-        run(&rt, folder.words(&rt, "check", names)?.as_slice())?.is(&rt, 1, line, "");
+    for (command, names, status, line) in rows {
+        folder.run(&rt, command, names)?.is(&rt, status, line, "");
     }
-    let unread: [(&str, &[&str], &str); 6] = [
+    let certificate = format!(in rt.alloc(); "{CERTIFICATE}\n")?;
+    folder
+        .run(&rt, "annotate", &["settings.toml", "plan.json"])?
+        .is(&rt, 0, certificate.as_str(), "");
+    folder.remove(&rt)?;
+    Ok(())
+}
+
+#[test]
+fn files_are_read_before_one_is_refused(rt: HostRuntime) -> Result<(), Fail> {
+    let folder = folder_of(&rt, "files_are_read_before_one_is_refused")?;
+    let rows: [(&str, &[&str], &str); 8] = [
         (
             "check",
             &["missing", "plan.json", "plan.cert.json"],
@@ -99,16 +134,13 @@ fn files_are_judged_once_all_are_read(rt: HostRuntime) -> Result<(), Fail> {
         ("check", &[".", "missing", "missing"], "."),
         ("annotate", &["missing", "plan.json"], "missing"),
         ("annotate", &["bad.toml", "missing"], "missing"),
+        ("audit", &["bad.toml", "missing", "plan.json"], "missing"),
+        ("audit", &["bad.toml", "no text", "missing"], "missing"),
     ];
-    for (command, names, file) in unread {
-        let ended = run(&rt, folder.words(&rt, command, names)?.as_slice())?;
-        let path = folder.at(&rt, file)?;
-        ended.is(
-            &rt,
-            3,
-            "",
-            format!(in rt.alloc(); "fault reading {path}\n")?.as_str(),
-        );
+    for (command, names, file) in rows {
+        folder
+            .run(&rt, command, names)?
+            .is_fault(&rt, &folder, "reading", file)?;
     }
     folder.remove(&rt)?;
     Ok(())

@@ -2,8 +2,12 @@
 
 use crate::program::serve;
 use std::convert::AsStr;
+use std::fs::File;
 use std::process::Abort;
+use std::rt::Files;
+use std::sync::Wait;
 use std::test::Fail;
+use std::thread::Threads;
 use std::{env, fs, io};
 
 /// What a run of the program wrote, and its status.
@@ -24,6 +28,20 @@ impl Ended {
         assert!(rt; is, "{self:?} is not {status}, {out:?} and {err:?}");
     }
 
+    /// Sees that the run ended with a fault of this file of the folder, which it named, and wrote nothing else.
+    pub fn is_fault<R: AllocGlobal + Abort>(
+        &self,
+        rt: &R,
+        folder: &Folder,
+        doing: &str,
+        file: &str,
+    ) -> Result<(), Fail> {
+        let path = folder.at(rt, file)?;
+        let text = format!(in rt.alloc(); "fault {doing} {path}\n")?;
+        self.is(rt, 3, "", text.as_str());
+        Ok(())
+    }
+
     /// Sees that the run ended with this status, wrote nothing to one stream and to the other a text with this part.
     pub fn says(&self, rt: &impl Abort, status: u8, part: &str) {
         let (said, other) = if status == 0 {
@@ -40,7 +58,10 @@ impl Ended {
 }
 
 /// Runs the program on these words, its name first.
-pub fn run<S: AsStr>(rt: &HostRuntime, words: &[S]) -> Result<Ended, Fail> {
+pub fn run<
+    R: Files<File = File> + AllocGlobal + Threads + Wait + Sync + Copy + Send + Drop,
+    S: AsStr,
+>(rt: &R, words: &[S]) -> Result<Ended, Fail> {
     let mut out = Vec::new(rt.alloc());
     let mut err = Vec::new(rt.alloc());
     let status = serve(rt, words, &mut out, &mut err);
@@ -74,7 +95,7 @@ impl Folder {
     }
 
     /// The path of a file of the folder.
-    pub fn at(&self, rt: &HostRuntime, file: &str) -> io::Result<String> {
+    pub fn at(&self, rt: &impl AllocGlobal, file: &str) -> io::Result<String> {
         let folder = self.path.as_str();
         Ok(format!(in rt.alloc(); "{folder}/{file}")?)
     }
@@ -82,7 +103,7 @@ impl Folder {
     /// The words of a command with these files of the folder, the program's name first.
     pub fn words(
         &self,
-        rt: &HostRuntime,
+        rt: &impl AllocGlobal,
         command: &str,
         files: &[&str],
     ) -> io::Result<Vec<String>> {
@@ -93,6 +114,28 @@ impl Folder {
             words.push(self.at(rt, file)?)?;
         }
         Ok(words)
+    }
+
+    /// Runs a command on these files of the folder.
+    pub fn run<R: Files<File = File> + AllocGlobal + Threads + Wait + Sync + Copy + Send + Drop>(
+        &self,
+        rt: &R,
+        command: &str,
+        files: &[&str],
+    ) -> Result<Ended, Fail> {
+        run(rt, self.words(rt, command, files)?.as_slice())
+    }
+
+    /// Sees that the file of the folder has these bytes.
+    pub fn has<R: Files + AllocGlobal + Abort>(
+        &self,
+        rt: &R,
+        file: &str,
+        bytes: &[u8],
+    ) -> io::Result<()> {
+        let found = fs::read(rt, self.at(rt, file)?.as_str())?;
+        assert!(rt; found.as_slice() == bytes, "{file} has other bytes");
+        Ok(())
     }
 
     /// Removes the folder with its files.

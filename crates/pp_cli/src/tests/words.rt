@@ -14,10 +14,14 @@ fn words_are_told(rt: HostRuntime) -> Result<(), Fail> {
             For more information, try '--help'.\n",
     );
     run(&rt, &["pinpool", "check", "--", "-a", "-b", "-c"])?.is(&rt, 3, "", "fault reading -a\n");
-    let rows: [(u8, &[&str], &str); 17] = [
+    let rows: [(u8, &[&str], &str); 29] = [
         (0, &["pinpool", "--help"], "Usage: pinpool <COMMAND>"),
-        (0, &["pinpool", "-h"], "\n  annotate "),
         (0, &["pinpool", "help"], "\n  check "),
+        (0, &["pinpool", "-h"], "\n  annotate "),
+        (0, &["pinpool", "--help"], "\n  simulate "),
+        (0, &["pinpool", "--help"], "\n  format "),
+        (0, &["pinpool", "--help"], "\n  run "),
+        (0, &["pinpool", "--help"], "\n  audit "),
         (
             0,
             &["pinpool", "check", "--help"],
@@ -30,8 +34,23 @@ fn words_are_told(rt: HostRuntime) -> Result<(), Fail> {
         ),
         (
             0,
+            &["pinpool", "simulate", "--help"],
+            "Usage: pinpool simulate <SETTINGS> <SCRIPT> <PLAN>...",
+        ),
+        (
+            0,
             &["pinpool", "format", "--help"],
             "Usage: pinpool format <SETTINGS> <DEVICE>",
+        ),
+        (
+            0,
+            &["pinpool", "run", "--help"],
+            "Usage: pinpool run [OPTIONS] <SETTINGS> <DEVICE> <SEED> <PLAN>...",
+        ),
+        (
+            0,
+            &["pinpool", "audit", "--help"],
+            "Usage: pinpool audit <SETTINGS> <JOURNAL> <PLAN>...",
         ),
         (2, &["pinpool"], "Usage: pinpool <COMMAND>"),
         (2, &["another"], "Usage: pinpool <COMMAND>"),
@@ -51,6 +70,25 @@ fn words_are_told(rt: HostRuntime) -> Result<(), Fail> {
         (2, &["pinpool", "annotate", "a"], "<PLAN>"),
         (2, &["pinpool", "annotate", "a", "b", "c"], "'c'"),
         (2, &["pinpool", "format", "a"], "<DEVICE>"),
+        (2, &["pinpool", "run", "a", "b", "1"], "<PLAN>..."),
+        (2, &["pinpool", "run", "a", "b", "x", "c"], "'x'"),
+        (
+            2,
+            &[
+                "pinpool",
+                "run",
+                "a",
+                "--journal",
+                "j",
+                "b",
+                "1",
+                "c",
+                "--journal=k",
+            ],
+            "--journal <FILE>",
+        ),
+        (2, &["pinpool", "audit", "a"], "<JOURNAL>"),
+        (2, &["pinpool", "audit", "a", "b"], "<PLAN>..."),
         (2, &["pinpool", "format", "a", "b", "c"], "'c'"),
     ];
     for (status, words, part) in rows {

@@ -5,7 +5,7 @@ use Rattle.pp_judge.specs.Steps.{is_want_of_memory}
 use Rattle.pp_judge.proofs.Refusals.{tells}
 use Rattle.pp_judge.proofs.Staged.{all_accepted, behind, next_accepted, next_file, next_refused}
 use Rattle.pp_judge.proofs.Steps.{handed_on}
-use Rattle.pp_judge.proofs.rehearsal.accepted_all.Goals as goal
+use Rattle.pp_judge.proofs.workload.accepted_all.Goals as goal
 
 pub returns-in_err-accepted_in : goal.returns-in_err-accepted_in
 returns-in_err-accepted_in c =

@@ -6,7 +6,7 @@ use Rattle.pp_judge.specs.Steps.{is_want_of_memory}
 use Rattle.pp_judge.proofs.Refusals.{tells}
 use Rattle.pp_judge.proofs.Staged.{none_accepted, not_claimed, not_taken, taken}
 use Rattle.pp_judge.proofs.Steps.{handed_on}
-use Rattle.pp_judge.proofs.rehearsal.accepted_in.Goals as goal
+use Rattle.pp_judge.proofs.workload.accepted_in.Goals as goal
 
 pub returns-in_err-plan : goal.returns-in_err-plan
 returns-in_err-plan c =

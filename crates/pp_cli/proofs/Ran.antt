@@ -1,0 +1,84 @@
+-- What `run` comes to.
+use Rattle.std.proofs.Common.{◌≡◌, ℕ, Bool, true, false, List, length, Option, Some, Result, Ok, Err}
+use Rattle.std.proofs.Common.{refl, sym, ap, subst, inl, inr, if◌then◌else◌}
+use Rattle.pp_cert.specs.Accepted.{Acceptance}
+use Rattle.pp_core.specs.Opening.{kept_of}
+use Rattle.pp_settings.specs.Settings.{Configuration}
+use Rattle.pp_text.specs.Steps.{Refuses}
+use Rattle.pp_report.specs.declared.record.RunRecord.{RunRecord}
+use Rattle.pp_run.specs.Runs.{IsRun}
+use Rattle.pp_judge.specs.Answers.{Answer, seen, done, made, simulated, formatted, ran, stopped, audited, shown, refused}
+use Rattle.pp_judge.specs.Answers.{misused, wordless, unread, unwritten, out_of_memory}
+use Rattle.pp_judge.specs.Judgement.{workload_in}
+use Rattle.pp_judge.specs.declared.error.JudgeError.{JudgeError}
+use Rattle.pp_judge.specs.declared.outcome.Outcome.{Outcome}
+use Rattle.pp_judge.specs.declared.outcome.Outcome.TheVariants.{OutOfMemory, Refused}
+use Rattle.pp_runner.specs.Runs.{IsUnwritten, MayEnd, MayRun, Tells}
+use Rattle.pp_words.specs.CommandLine.{Asked, Text}
+use Rattle.pp_cli.specs.Runs.{ComesOf}
+
+-- ---- the record
+
+-- What is told of the record of a run is what the run comes to.
+pub told_end : (device : Text) (journal : Option Text) (w : Configuration × List Acceptance) (run : RunRecord)
+    (answer : Answer)
+    → IsRun (kept_of w.0) w.1 run → Tells run journal answer → MayEnd device journal w answer
+told_end device journal w run (ran text is_well) is h =
+    record { run = run; is_run = is; text_is = h.0; well = h.1 }
+told_end device journal w run (unwritten path) is h = h
+told_end device journal w run out_of_memory is h = h
+told_end device journal w run (done figures) is h = absurd h
+told_end device journal w run (made text) is h = absurd h
+told_end device journal w run (simulated text) is h = absurd h
+told_end device journal w run (formatted pages) is h = absurd h
+told_end device journal w run (stopped text) is h = absurd h
+told_end device journal w run (audited lines) is h = absurd h
+told_end device journal w run (shown text) is h = absurd h
+told_end device journal w run (refused refusal) is h = absurd h
+told_end device journal w run (misused text) is h = absurd h
+told_end device journal w run wordless is h = absurd h
+told_end device journal w run (unread path) is h = absurd h
+
+-- A journal that isn't written is told.
+pub unwritten_told : (run : RunRecord) (path : Text) (answer : Answer) → IsUnwritten path answer
+    → Tells run (Some path) answer
+unwritten_told run path (unwritten other) h = ap Some (sym h)
+unwritten_told run path out_of_memory h = tt
+unwritten_told run path (ran text is_well) h = absurd h
+unwritten_told run path (done figures) h = absurd h
+unwritten_told run path (made text) h = absurd h
+unwritten_told run path (simulated text) h = absurd h
+unwritten_told run path (formatted pages) h = absurd h
+unwritten_told run path (stopped text) h = absurd h
+unwritten_told run path (audited lines) h = absurd h
+unwritten_told run path (shown text) h = absurd h
+unwritten_told run path (refused refusal) h = absurd h
+unwritten_told run path (misused text) h = absurd h
+unwritten_told run path wordless h = absurd h
+unwritten_told run path (unread other) h = absurd h
+
+-- ---- the texts
+
+-- Settings and plans that are read are run.
+pub comes_of_run : (journal : Option Text) (settings device : Text) (seed : ℕ) (plans : List Text) (s : List ℕ)
+    (ps : List (List ℕ))
+    (w : Configuration × List Acceptance) (answer : Answer)
+    → length ps ≡ length plans → workload_in s ps ≡ Ok w → MayEnd device journal w answer
+    → ComesOf (Asked.run journal settings device seed plans) answer
+comes_of_run journal settings device seed plans s ps w answer long is may =
+    let P : Result (Configuration × List Acceptance) JudgeError → Type 0 = λ r. MayRun device journal r answer in
+    inr (s, ps, long, subst P (sym is) may)
+
+-- Settings or plans that are refused are told so.
+pub refused_run : (b : Bool) (journal : Option Text) (settings device : Text) (seed : ℕ) (plans : List Text) (s : List ℕ)
+    (ps : List (List ℕ)) (refusal : JudgeError) (outcome : Outcome)
+    → length ps ≡ length plans → outcome ≡ (if b then OutOfMemory else Refused refusal)
+    → Refuses b refusal (workload_in s ps)
+    → ComesOf (Asked.run journal settings device seed plans) (seen outcome)
+refused_run true journal settings device seed plans s ps refusal outcome long is told =
+    let P : Outcome → Type 0 = λ o. ComesOf (Asked.run journal settings device seed plans) (seen o) in
+    subst P (sym is) (inl tt)
+refused_run false journal settings device seed plans s ps refusal outcome long is told =
+    let P : Outcome → Type 0 = λ o. ComesOf (Asked.run journal settings device seed plans) (seen o) in
+    let Q : Result (Configuration × List Acceptance) JudgeError → Type 0 = λ r. MayRun device journal r (refused refusal) in
+    subst P (sym is) (inr (s, ps, long, subst Q (sym told) refl))

@@ -1,0 +1,37 @@
+use Rattle.std.proofs.Common.{◌∷◌, ◌∙◌, ap, sym, inl, length, map, option_map, subst}
+use Rattle.std.proofs.lemmas.List.{length-map}
+use Rattle.std.specs.List.{Contains}
+use Rattle.pp_judge.specs.Answers.{seen}
+use Rattle.pp_judge.specs.Steps.{is_want_of_memory}
+use Rattle.pp_words.specs.CommandLine.{asked_run, texts}
+use Rattle.pp_cli.proofs.Ran.{comes_of_run, refused_run}
+use Rattle.pp_cli.proofs.Stopping.{behind_one, handed_on, stopped_among}
+use Rattle.pp_cli.proofs.running.run.Goals as goal
+
+pub returns-in_err-plans : goal.returns-in_err-plans
+returns-in_err-plans g c =
+    let plans = texts c.args.paths.plans.items in
+    handed_on (asked_run c.args.paths) c.from_residual-in_err-plans.result c.in_err-plans.field-0.0
+    c.from_residual-in_err-plans.ensures.1
+    (inl (stopped_among (texts c.deref.result.now) (c.args.paths.settings.now ∷ plans) c.in_err-plans.field-0.0
+    (λ path h. behind_one c.args.paths.settings.now plans path
+    (subst (λ paths. Contains (texts paths) path) c.deref.ensures.value h))
+    c.in_err-plans.ensures.stopped))
+
+pub returns-in-Ok : goal.returns-in-Ok
+returns-in-Ok g c =
+    comes_of_run (option_map (λ text. text.now) c.args.paths.journal) c.args.paths.settings.now
+    c.args.paths.device.now c.args.paths.seed (texts c.args.paths.plans.items) c.as_slice.result.now
+    (map (λ plan. plan.items) c.as_slice-2.result.now) _ (seen c.run_workload.result) (length-map c.as_slice-2.result.now (λ plan. plan.items) ∙ ap length c.as_slice-2.ensures.value
+    ∙ c.in_ok-plans.ensures.each ∙ ap length c.deref.ensures.value
+    ∙ sym (length-map c.args.paths.plans.items (λ text. text.now))) c.in-Ok.ensures
+    c.run_workload.ensures
+
+pub returns : goal.returns
+returns g c =
+    refused_run (is_want_of_memory c.in-Err.refusal) (option_map (λ text. text.now) c.args.paths.journal)
+    c.args.paths.settings.now c.args.paths.device.now c.args.paths.seed (texts c.args.paths.plans.items)
+    c.as_slice.result.now (map (λ plan. plan.items) c.as_slice-2.result.now) c.in-Err.refusal c.from.result
+    (length-map c.as_slice-2.result.now (λ plan. plan.items) ∙ ap length c.as_slice-2.ensures.value
+    ∙ c.in_ok-plans.ensures.each ∙ ap length c.deref.ensures.value
+    ∙ sym (length-map c.args.paths.plans.items (λ text. text.now))) c.from.ensures c.in-Err.ensures

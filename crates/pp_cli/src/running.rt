@@ -1,0 +1,92 @@
+//! The command `run`: its files, the run, and the file of the journal.
+
+ghost use Rattle.std.specs.Prelude.{◌≡◌, IfErr, MatchResult, option_map};
+ghost use Rattle.pp_judge.specs.Answers.{seen};
+ghost use Rattle.pp_runner.specs.Runs.{IsUnwritten, MayEnd, Tells};
+ghost use Rattle.pp_words.specs.CommandLine.{asked_run};
+ghost use Rattle.pp_cli.specs.Runs.{ComesOf, stopped_by};
+
+use crate::fault::fault;
+use crate::files::{Unread, contents, contents_of_all};
+use pp_judge::{Outcome, Workload};
+use pp_model::Event;
+use pp_report::RunRecord;
+use pp_runner::{RunnerError, stopped_line, told, write_journal};
+use pp_words::RunPaths;
+use std::fs;
+use std::fs::File;
+use std::rt::Files;
+use std::sync::Wait;
+use std::thread::Threads;
+
+/// What the files of `run` come to, where all texts can be read: their refusal, or what the run comes to.
+pub fn run<'a, R: Files<File = File> + AllocGlobal + Threads + Wait + Sync + Copy + Send + Drop>(
+    rt: &R,
+    paths: RunPaths<'a>,
+) -> Result<Outcome<'a>, Unread<'a>>
+    ensures { MatchResult result (λ outcome. ComesOf (asked_run paths.entry) (seen outcome))
+        (λ why. ComesOf (asked_run paths.entry) (stopped_by why)) }
+{
+    let settings = contents(rt, paths.settings)?;
+    let plans = contents_of_all(rt, &paths.plans)?;
+    match Workload::read(rt.alloc(), settings.as_slice(), plans.as_slice()) {
+        Ok(workload) => Ok(run_workload(rt, workload, &paths)),
+        Err(refusal) => Ok(Outcome::from(refusal)),
+    }
+}
+
+/// What running the plans over the device comes to.
+fn run_workload<
+    'a,
+    R: Files<File = File> + AllocGlobal + Threads + Wait + Sync + Copy + Send + Drop,
+>(rt: &R, workload: Workload, paths: &RunPaths<'a>) -> Outcome<'a>
+    ensures { MayEnd paths.now.device.now (option_map (λ text. text.now) paths.now.journal)
+        (workload.settings, workload.plans.items) (seen result) }
+{
+    match pp_runner::run(rt, workload, paths.device, paths.seed) {
+        Ok(done) => ended(rt, &done, paths.journal),
+        Err(RunnerError::Unopened) => Outcome::Unread(paths.device),
+        Err(RunnerError::OutOfMemory) => Outcome::OutOfMemory,
+        Err(RunnerError::Stopped(error)) => match stopped_line(rt.alloc(), error) {
+            Ok(text) => Outcome::Stopped(text),
+            Err(_) => Outcome::OutOfMemory,
+        },
+    }
+}
+
+/// What a run comes to that gave this record: its report, once the journal is written where one is wanted.
+fn ended<'a, R: Files + AllocGlobal>(
+    rt: &R,
+    done: &RunRecord,
+    journal: Option<&'a str>,
+) -> Outcome<'a>
+    ensures { Tells done.now (option_map (λ text. text.now) journal.entry) (seen result) }
+{
+    if let Some(path) = journal {
+        if let Err(outcome) = keep_journal(rt, path, &done.events) {
+            return outcome;
+        }
+    }
+    match told(rt.alloc(), done) {
+        Ok(report) => Outcome::Ran(report),
+        Err(_) => Outcome::OutOfMemory,
+    }
+}
+
+/// Writes the journal to the file at the path. What stood there is lost.
+fn keep_journal<'a, R: Files + AllocGlobal>(
+    rt: &R,
+    path: &'a str,
+    events: &[Event],
+) -> Result<(), Outcome<'a>>
+    ensures { IfErr result (λ outcome. IsUnwritten path.entry.now (seen outcome)) }
+{
+    let written = match fs::create(rt, path) {
+        Ok(mut file) => write_journal(rt.alloc(), &mut file, events),
+        Err(error) => Err(error),
+    };
+    match written {
+        Ok(()) => Ok(()),
+        Err(error) => Err(fault(&error, Outcome::Unwritten(path))),
+    }
+}

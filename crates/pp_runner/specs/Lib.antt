@@ -1,0 +1,4 @@
+-- What the contracts of this crate cite.
+pub mod Choices
+pub mod Endings
+pub mod Runs

@@ -1,0 +1,66 @@
+-- What `run` may come to between its files and its report.
+use Rattle.std.specs.Prelude.{◌≡◌, ℕ, Bool, List, Option, Some, Result, Ok, Err, ⊤}
+use Rattle.pp_cert.specs.Accepted.{Acceptance}
+use Rattle.pp_core.specs.Opening.{kept_of}
+use Rattle.pp_settings.specs.Settings.{Configuration}
+use Rattle.pp_report.specs.declared.record.RunRecord.{RunRecord}
+use Rattle.pp_run.specs.Runs.{IsRun}
+use Rattle.pp_run.specs.RunErrors.{run_error_row}
+use Rattle.pp_run.specs.declared.error.RunError.{RunError}
+use Rattle.pp_run.specs.declared.error.RunError.TheVariants as run_error
+use Rattle.pp_shared.specs.declared.error.OpenError.{OpenError}
+use Rattle.pp_shared.specs.declared.error.OpenError.TheVariants as open_error
+use Rattle.pp_judge.specs.Answers.{Answer, ran, stopped, refused, unread, unwritten, out_of_memory}
+use Rattle.pp_judge.specs.declared.error.JudgeError.{JudgeError}
+use Rattle.pp_runner.specs.Endings.{stopped_line, went_well}
+use Rattle.pp_report.specs.Reports.{report_text}
+use Rattle.pp_runner.specs.declared.error.RunnerError.{RunnerError}
+use Rattle.pp_runner.specs.declared.error.RunnerError.TheVariants.{Unopened, OutOfMemory, Stopped}
+
+-- Why there is no run where the device isn't opened.
+abbrev pub unopened : OpenError → RunnerError
+unopened (open_error.Fault fault) = Unopened
+unopened open_error.OutOfMemory = OutOfMemory
+
+-- Why there is no record where the pool gives none.
+abbrev pub runner_error_of : RunError → RunnerError
+runner_error_of run_error.OutOfMemory = OutOfMemory
+runner_error_of error = Stopped error
+
+-- The text is the report of a run of these settings and plans, and it is told whether that went well.
+pub record IsReport (w : Configuration × List Acceptance) (text : List ℕ) (is_well : Bool) : Type 0 where
+  pub run : RunRecord
+  pub is_run : IsRun (kept_of w.0) w.1 run
+  pub text_is : text ≡ report_text run
+  pub well : is_well ≡ went_well run.events.items
+
+-- What is told of a record: its report, and whether the run went well; or the file of the journal isn't written, or
+-- memory ran out.
+abbrev pub Tells : RunRecord → (journal : Option (List ℕ)) → Answer → Type 0
+Tells run journal (ran text is_well) = (text ≡ report_text run) × (is_well ≡ went_well run.events.items)
+Tells run journal (unwritten path) = journal ≡ Some path
+Tells run journal out_of_memory = ⊤
+Tells run journal _ = ⊥
+
+-- The file at the path isn't written, or memory ran out.
+abbrev pub IsUnwritten : (path : List ℕ) → Answer → Type 0
+IsUnwritten path (unwritten other) = other ≡ path
+IsUnwritten path out_of_memory = ⊤
+IsUnwritten path _ = ⊥
+
+-- What a run may come to that is asked for these settings and plans, of the device and with the journal in these files:
+-- its report; the refusal of a plan by the pool, or what became of a worker; the device isn't opened; the file of the
+-- journal isn't written; or memory ran out.
+abbrev pub MayEnd : (device : List ℕ) → (journal : Option (List ℕ)) → Configuration × List Acceptance → Answer → Type 0
+MayEnd device journal w (ran text is_well) = IsReport w text is_well
+MayEnd device journal w (stopped text) = (error : RunError) × (text ≡ stopped_line (run_error_row error))
+MayEnd device journal w (unread path) = path ≡ device
+MayEnd device journal w (unwritten path) = journal ≡ Some path
+MayEnd device journal w out_of_memory = ⊤
+MayEnd device journal w _ = ⊥
+
+-- The same where the settings and the plans may be refused.
+abbrev pub MayRun : (device : List ℕ) → (journal : Option (List ℕ)) → Result (Configuration × List Acceptance) JudgeError
+    → Answer → Type 0
+MayRun device journal (Ok w) answer = MayEnd device journal w answer
+MayRun device journal (Err refusal) answer = answer ≡ refused refusal

@@ -1,0 +1,60 @@
+//! The command `audit SETTINGS JOURNAL PLAN...`.
+
+ghost use Rattle.std.specs.Prelude.{◌≡◌, IfOk, false};
+ghost use Rattle.clap.specs.Words.{app_of, found_of, rows_of};
+ghost use Rattle.clap.specs.declared.builder.command.Command.TheViews.{out-Command};
+ghost use Rattle.pp_words.specs.CommandLine.{asked_audit, audit_among, audit_command};
+
+use crate::parts::{path, paths, settings, value_of, values_of};
+use clap::{ArgMatches, Command};
+use std::alloc::{AllocError, Global};
+
+/// The files of `audit`, by their paths, in the order of the words.
+#[derive(Debug, Drop)]
+pub struct AuditPaths<'a> {
+    /// The settings of the pool, a TOML text.
+    pub settings: &'a str,
+    /// The journal, a text with an event on each line.
+    pub journal: &'a str,
+    /// The plans that the journal is of, in the order in which they were submitted: JSON texts. There is one at least.
+    pub plans: Vec<&'a str>,
+}
+
+impl<'a> AuditPaths<'a> {
+    /// The command with its arguments.
+    pub fn command(alloc: Global) -> Result<Command<'a>, AllocError>
+        ensures { IfOk result (λ command. ((out-Command command).has_globals ≡ false)
+            × (app_of command ≡ audit_command)) }
+    {
+        let journal = path(
+            alloc,
+            "journal",
+            "JOURNAL",
+            "The journal of a run, an event on each line: a text",
+        );
+        let plans = paths(
+            alloc,
+            "plans",
+            "PLAN",
+            "The plans of the run, in the order in which it took them: JSON texts",
+        );
+        Command::new(alloc, "audit")
+            .about(
+                "Says whether a journal is a true one of these plans, to their end, and where it is not.",
+            )
+            .arg(settings(alloc))?
+            .arg(journal)?
+            .arg(plans)
+    }
+
+    /// The paths among the matches of the command.
+    pub fn among(alloc: Global, matches: &ArgMatches<'a>) -> Result<AuditPaths<'a>, AllocError>
+        ensures { IfOk result (λ paths. asked_audit paths ≡ audit_among (rows_of (found_of matches.now))) }
+    {
+        Ok(AuditPaths {
+            settings: value_of(matches, "settings"),
+            journal: value_of(matches, "journal"),
+            plans: values_of(alloc, matches, "plans")?,
+        })
+    }
+}

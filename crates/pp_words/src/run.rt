@@ -1,0 +1,81 @@
+//! The command `run [--journal FILE] SETTINGS DEVICE SEED PLAN...`.
+
+ghost use Rattle.std.specs.Prelude.{◌≡◌, IfOk, false};
+ghost use Rattle.clap.specs.Words.{app_of, found_of, rows_of};
+ghost use Rattle.clap.specs.declared.builder.command.Command.TheViews.{out-Command};
+ghost use Rattle.pp_words.specs.CommandLine.{asked_run, run_among, run_command};
+
+use crate::parts::{
+    number, number_of, option, option_of, path, paths, settings, value_of, values_of,
+};
+use clap::{ArgMatches, Command};
+use std::alloc::{AllocError, Global};
+
+/// The files of `run`, by their paths, and its seed.
+#[derive(Debug, Drop)]
+pub struct RunPaths<'a> {
+    /// The file that the journal is written to, where one is wanted.
+    pub journal: Option<&'a str>,
+    /// The settings of the pool, a TOML text.
+    pub settings: &'a str,
+    /// The device, a file of page images.
+    pub device: &'a str,
+    /// Where the choices begin that plans leave open.
+    pub seed: u32,
+    /// The plans that the workers take, in this order: JSON texts. There is one at least.
+    pub plans: Vec<&'a str>,
+}
+
+impl<'a> RunPaths<'a> {
+    /// The command with its arguments.
+    pub fn command(alloc: Global) -> Result<Command<'a>, AllocError>
+        ensures { IfOk result (λ command. ((out-Command command).has_globals ≡ false)
+            × (app_of command ≡ run_command)) }
+    {
+        let journal = option(
+            alloc,
+            "journal",
+            "FILE",
+            "Writes the journal, all that was done, to this file",
+        );
+        let device = path(
+            alloc,
+            "device",
+            "DEVICE",
+            "The device, a file of page images, as `pinpool format` writes one",
+        );
+        let seed = number(
+            alloc,
+            "seed",
+            "SEED",
+            "Where the choices begin that plans leave open: 0 to 4294967295",
+        );
+        let plans = paths(
+            alloc,
+            "plans",
+            "PLAN",
+            "The plans that workers take, in this order: JSON texts",
+        );
+        let command = Command::new(alloc, "run")
+            .about("Runs plans on threads over a device, and prints a report.")
+            .arg(journal)?
+            .arg(settings(alloc))?
+            .arg(device)?
+            .arg(seed)?
+            .arg(plans)?;
+        Ok(command)
+    }
+
+    /// The paths and the seed among the matches of the command.
+    pub fn among(alloc: Global, matches: &ArgMatches<'a>) -> Result<RunPaths<'a>, AllocError>
+        ensures { IfOk result (λ paths. asked_run paths ≡ run_among (rows_of (found_of matches.now))) }
+    {
+        Ok(RunPaths {
+            journal: option_of(matches, "journal"),
+            settings: value_of(matches, "settings"),
+            device: value_of(matches, "device"),
+            seed: number_of(matches, "seed"),
+            plans: values_of(alloc, matches, "plans")?,
+        })
+    }
+}
