@@ -1,0 +1,103 @@
+//! A worker's work: it follows a trace, and notes when its first operation began and when its last one ended.
+
+ghost use Rattle.std.specs.Prelude.{◌<◌};
+
+use pp_pool::Work;
+use pp_traces::Trace;
+use std::io;
+use std::sync::atomic::{AtomicU64, Ordering};
+use std::time::{Clock, Instant};
+
+/// When the first operation of all workers began and when the last one ended, in nanoseconds from a start.
+#[derive(Drop)]
+pub struct Span {
+    start: Instant,
+    began: AtomicU64,
+    ended: AtomicU64,
+}
+
+impl Span {
+    /// It starts now.
+    pub fn new(clock: &impl Clock) -> io::Result<Span> {
+        Ok(Span {
+            start: Instant::now(clock)?,
+            began: AtomicU64::new(u64::MAX),
+            ended: AtomicU64::new(0),
+        })
+    }
+
+    /// Nanoseconds from the start; 0 where the clock can't be read.
+    fn now(&self, clock: &impl Clock) -> u64 {
+        match self.start.elapsed(clock) {
+            Ok(time) => u64::try_from(time.as_nanos()).unwrap_or(0),
+            Err(_) => 0,
+        }
+    }
+
+    /// A worker begins.
+    fn begin(&self, clock: &impl Clock) {
+        self.began.fetch_min(self.now(clock), Ordering::SeqCst);
+    }
+
+    /// A worker has done its last operation.
+    fn end(&self, clock: &impl Clock) {
+        self.ended.fetch_max(self.now(clock), Ordering::SeqCst);
+    }
+
+    /// How long the operations of all workers took, in nanoseconds; 0 where there was none.
+    pub fn nanos(&self) -> u64 {
+        let began = self.began.load(Ordering::SeqCst);
+        self.ended.load(Ordering::SeqCst).saturating_sub(began)
+    }
+}
+
+/// A work that asks for the pages of a trace.
+#[derive(Drop)]
+pub struct Clocked<'a, R: Clock> {
+    clock: R,
+    span: &'a Span,
+    trace: Trace,
+    page: u32,
+    left: u64,
+    has_begun: bool,
+}
+
+impl<'a, R: Clock> Clocked<'a, R> {
+    /// Of so many operations on the pages of the trace.
+    pub fn new(clock: R, span: &'a Span, trace: Trace, ops: u64) -> Clocked<'a, R> {
+        let mut trace = trace;
+        let page = trace.next_page();
+        Clocked {
+            clock,
+            span,
+            trace,
+            page,
+            left: ops,
+            has_begun: false,
+        }
+    }
+}
+
+impl<'a, R: Clock> Work for Clocked<'a, R> {
+    fn page(&mut self, _region: u8, first: u32, count: u32) -> u32 {
+        if !self.has_begun {
+            self.has_begun = true;
+            self.span.begin(&self.clock);
+        }
+        first + self.page % count
+    }
+
+    fn branch(&mut self, _count: u16) -> u16 {
+        0
+    }
+
+    fn change(&mut self, _page: u32, _body: &mut [u8]) {}
+
+    fn see(&mut self, _page: u32, _mark: u64, _image: &[u8]) {
+        self.page = self.trace.next_page();
+        self.left = self.left.saturating_sub(1);
+        if self.left == 0 {
+            self.span.end(&self.clock);
+        }
+    }
+}

@@ -1,0 +1,55 @@
+//! The program `pp_bench_run`: workers on threads follow traces in a pool over pages in memory.
+//!
+//! `pp_bench_run WORKERS hit|skew|loop|mixed OPS` shares so many operations among the workers. Each fixes a page, latches
+//! it S, reads it, unlatches it and unfixes it, which are four events. It prints how many pages had to be read. On
+//! standard error it says how long the run took, from the first operation's begin to the last one's end, divided by the
+//! number of all operations and of all events; and how long as many threads took to lock and unlock a lock as often as
+//! there were events. Without WORKERS it is one worker, and no lock is timed.
+#![tactic(auto)]
+
+mod clocked;
+mod locks;
+mod run;
+mod trouble;
+mod words;
+
+use std::env;
+use std::io::Write;
+use std::process::ExitCode;
+use std::rt::Runtime;
+use std::sync::Wait;
+use std::thread::Threads;
+use trouble::Trouble;
+use words::Asked;
+
+/// Runs what the words of the command line ask for, and says what went wrong.
+fn main(rt: HostRuntime) -> ExitCode {
+    match play(&rt) {
+        Ok(()) => ExitCode::SUCCESS,
+        Err(trouble) => {
+            let _ = writeln!(rt.stderr(), "{trouble}");
+            ExitCode::from(trouble.status())
+        }
+    }
+}
+
+/// Runs what the words ask for, and prints what was counted. The times go to standard error.
+fn play<R: Runtime + AllocGlobal + Threads + Wait + Copy + Sync + Send>(
+    rt: &R,
+) -> Result<(), Trouble> {
+    let words: Vec<String> = env::args(rt)?.collect(rt.alloc())?;
+    let asked = Asked::of(&words)?;
+    let ran = run::run(*rt, asked)?;
+    println!(rt; "{}", ran.misses)?;
+    eprintln!(rt;
+        "{} ns an operation, {} ns an event",
+        ran.nanos / ran.operations.max(1),
+        ran.nanos / ran.events.max(1)
+    )?;
+    if asked.times_lock {
+        let times = ran.events / u64::from(asked.workers);
+        let locked = locks::nanos(rt, rt.alloc(), asked.workers, times)?;
+        eprintln!(rt; "{} ns a lock and unlock", locked / ran.events.max(1))?;
+    }
+    Ok(())
+}

@@ -1,0 +1,99 @@
+//! A run of a pool on threads, over pages in memory.
+
+ghost use Rattle.std.specs.Prelude.{◌≡◌, ◌≤◌, IfOk, length, vec_len};
+
+use crate::clocked::{Clocked, Span};
+use crate::trouble::Trouble;
+use crate::words::Asked;
+use pp_cert::Accepted;
+use pp_model::{Event, Reply};
+use pp_run::Pool;
+use pp_settings::Settings;
+use pp_shared::SharedDevice;
+use pp_traces::{PAGES, Trace};
+use std::alloc::{AllocError, Global};
+use std::sync::Wait;
+use std::thread::Threads;
+use std::time::Clock;
+
+/// What a run was, and how long its operations took.
+#[derive(Clone, Copy)]
+pub struct Ran {
+    /// How many pages had to be read.
+    pub misses: usize,
+    /// How many operations all workers did.
+    pub operations: u64,
+    /// How many events there are in these: four for each.
+    pub events: u64,
+    /// From the begin of the first to the end of the last, in nanoseconds.
+    pub nanos: u64,
+}
+
+/// Runs a worker for each thread, each with a plan and a trace of its own.
+pub fn run<R: AllocGlobal + Threads + Wait + Clock + Copy + Drop + Sync + Send>(
+    rt: R,
+    asked: Asked,
+) -> Result<Ran, Trouble>
+    requires { asked.ops ≤ 250000 }
+{
+    let alloc = rt.alloc();
+    let settings = pp_traces::settings(alloc, asked.workers)?;
+    let workers = settings.workers();
+    let span = Span::new(&rt)?;
+    let plans = plans(alloc, &settings, asked.ops)?;
+    let works = works(rt, alloc, &settings, &span, asked)?;
+    let page_bytes = settings.page_bytes() as usize;
+    let devices = SharedDevice::over_memory(rt, alloc, PAGES, page_bytes, workers as usize + 1)?;
+    let (record, _devices) = Pool::run(&rt, alloc, &settings, plans, devices, works)?;
+    let operations = u64::from(workers) * asked.ops;
+    Ok(Ran {
+        misses: misses(record.events.as_slice()),
+        operations,
+        events: 4 * operations,
+        nanos: span.nanos(),
+    })
+}
+
+/// A plan of so many operations for each worker.
+fn plans(alloc: Global, settings: &Settings, ops: u64) -> Result<Vec<Accepted>, Trouble> {
+    let mut plans = Vec::new(alloc);
+    for _worker in 0..settings.workers() {
+        let accepted = pp_traces::accepted(alloc, settings, ops)?;
+        plans.push(accepted).map_err(|_| Trouble::Memory)?;
+    }
+    Ok(plans)
+}
+
+/// A work for each worker, with a trace of its own.
+fn works<'a, R: Clock + Copy + Drop>(
+    rt: R,
+    alloc: Global,
+    settings: &Settings,
+    span: &'a Span,
+    asked: Asked,
+) -> Result<Vec<Clocked<'a, R>>, AllocError>
+    ensures { IfOk result (λ works. vec_len works ≡ settings.now.workers) }
+{
+    let mut works = Vec::new(alloc);
+    for worker in 0..settings.workers() {
+        let trace = Trace::of_worker(asked.kind, settings.frames(), worker);
+        works.push(Clocked::new(rt, span, trace, asked.ops))?;
+    }
+    Ok(works)
+}
+
+/// How many of the events are of a page that was read.
+fn misses(events: &[Event]) -> usize
+    ensures { result ≤ length events.now }
+{
+    let is_loaded = |event: &&Event| {
+        matches!(
+            event,
+            Event::Step {
+                reply: Reply::Loaded { .. },
+                ..
+            }
+        )
+    };
+    events.iter().filter(is_loaded).count()
+}
