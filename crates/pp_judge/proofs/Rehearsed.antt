@@ -4,7 +4,8 @@ use Rattle.std.proofs.Common.{refl, sym, ap, subst, ◌∙◌, inl, inr}
 use Rattle.std.proofs.Common.{◌⊎◌, String}
 use Rattle.pp_core.specs.Opening.{kept_of}
 use Rattle.pp_model.specs.Pool.{opening}
-use Rattle.pp_simulate.specs.Simulating.{Simulates, TellsSubmit, after_submits}
+use Rattle.pp_model.specs.Submitting.{after_submits}
+use Rattle.pp_simulate.specs.Simulating.{Simulates, TellsSubmit}
 use Rattle.pp_simulate.specs.declared.error.SimulateError.{SimulateError}
 use Rattle.pp_simulate.specs.declared.error.SimulateError.TheVariants.{Submit, OutOfMemory}
 use Rattle.pp_judge.specs.Answers.{IsSimulationAnswer, Rehearses, refused, simulated}

@@ -5,8 +5,9 @@ use Rattle.pp_cert.specs.Accepted.{Acceptance}
 use Rattle.pp_cert.specs.Limits.{step_events, plan_events}
 use Rattle.pp_core.specs.Opening.{kept_of}
 use Rattle.pp_model.specs.Pool.{opening}
+use Rattle.pp_model.specs.Submitting.{after_submits}
 use Rattle.pp_model.specs.declared.refusals.SubmitError.{SubmitError}
-use Rattle.pp_simulate.specs.Simulating.{Simulates, after_submits}
+use Rattle.pp_simulate.specs.Simulating.{Simulates}
 use Rattle.pp_simulate.specs.declared.error.SimulateError.TheVariants.{Submit}
 use Rattle.pp_judge.specs.Judgement.{Stage, audited_in, certification, judgement, staged_in}
 use Rattle.pp_judge.specs.Steps.{is_want_of_memory}

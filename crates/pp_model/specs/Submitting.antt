@@ -1,11 +1,13 @@
--- Submitting a plan: it waits behind the others, or is refused.
-use Rattle.std.specs.Prelude.{ℕ, ◌+◌, Bool, true, false, nat_le, nat_lt, Option, None, Some, length, [], ◌∷◌, ◌++◌}
+-- Submitting plans: each waits behind the others, or is refused.
+use Rattle.std.specs.Prelude.{ℕ, ◌+◌, Bool, true, false, nat_le, nat_lt, Option, None, Some, Result, Ok, Err}
+use Rattle.std.specs.Prelude.{List, [], ◌∷◌, ◌++◌, length}
 use Rattle.pp_cert.specs.Accepted.{Acceptance}
 use Rattle.pp_cert.specs.Walk.{same_layout}
 use Rattle.pp_model.specs.declared.refusals.SubmitError.{SubmitError}
 use Rattle.pp_model.specs.declared.refusals.SubmitError.TheVariants.{OtherSettings, TooManyPlans, JournalLimit}
 use Rattle.pp_model.specs.Pool.{State}
 use Rattle.pp_model.specs.Budget.{cost_of, journal_need}
+use Rattle.pp_text.specs.Steps.{◌>>=◌}
 
 -- The most plans that a pool keeps, and the most events besides submits that its journal may have to hold.
 abbrev pub most_plans : ℕ
@@ -39,3 +41,14 @@ submitted_unless (Some error) s a = s
 
 abbrev pub after_submit : State → Acceptance → State
 after_submit s a = submitted_unless (submit_error s a) s a
+
+-- The state after, where there is no refusal.
+abbrev pub unless_refused : Option SubmitError → State → Result State SubmitError
+unless_refused None after = Ok after
+unless_refused (Some error) after = Err error
+
+-- The state after the plans were submitted in their order, or the refusal of the first that isn't taken in.
+abbrev pub after_submits : State → List Acceptance → Result State SubmitError
+after_submits s [] = Ok s
+after_submits s (plan ∷ plans) =
+    unless_refused (submit_error s plan) (submitted s plan) >>= λ after. after_submits after plans

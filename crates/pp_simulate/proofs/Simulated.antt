@@ -3,6 +3,7 @@ use Rattle.std.proofs.Common.{◌≡◌, ℕ, List, [], ◌++◌, length, Result
 use Rattle.pp_cert.specs.Accepted.{Acceptance}
 use Rattle.pp_core.specs.Opening.{kept_of}
 use Rattle.pp_model.specs.Pool.{State, opening}
+use Rattle.pp_model.specs.Submitting.{after_submits}
 use Rattle.pp_model.specs.declared.refusals.SubmitError.{SubmitError}
 use Rattle.pp_play.specs.Exact.{PlaysAll, PlaysFrom}
 use Rattle.pp_play.specs.declared.line.Line.{Line}
@@ -14,7 +15,7 @@ use Rattle.pp_vault.specs.Parts.{Parts}
 use Rattle.pp_vault.specs.StandsFor.{StandsFor}
 use Rattle.pp_vault.specs.declared.hands.Hands.{Hands}
 use Rattle.pp_simulate.specs.Lines.{transcript}
-use Rattle.pp_simulate.specs.Simulating.{after_submits, Simulates, TakesAll}
+use Rattle.pp_simulate.specs.Simulating.{Simulates, TakesAll}
 use Rattle.pp_simulate.proofs.Exactly.{in_turn}
 
 -- Where all plans are taken in, there is a state after, for which the vault stands.

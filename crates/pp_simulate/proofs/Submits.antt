@@ -3,9 +3,8 @@ use Rattle.std.proofs.Common.{◌≡◌, List, [], ◌∷◌, ◌++◌, None, So
 use Rattle.std.proofs.lemmas.List.{reverse-append}
 use Rattle.pp_cert.specs.Accepted.{Acceptance}
 use Rattle.pp_model.specs.Pool.{State}
-use Rattle.pp_model.specs.Submitting.{submit_error, after_submit}
+use Rattle.pp_model.specs.Submitting.{submit_error, after_submit, after_submits}
 use Rattle.pp_model.specs.declared.refusals.SubmitError.{SubmitError}
-use Rattle.pp_simulate.specs.Simulating.{after_submits}
 
 -- The last that waits is the first in the other order.
 pub last_first : (waiting before : List Acceptance) (plan : Acceptance) → waiting ≡ before ++ plan ∷ []

@@ -1,9 +1,9 @@
 -- What playing a script over a new pool may come to.
-use Rattle.std.specs.Prelude.{◌≡◌, ℕ, List, [], ◌∷◌, length, Option, None, Some, Result, Ok, Err, ⊤}
+use Rattle.std.specs.Prelude.{◌≡◌, ℕ, List, length, Result, Ok, Err, ⊤}
 use Rattle.pp_cert.specs.Accepted.{Acceptance}
 use Rattle.pp_core.specs.Opening.{kept_of}
 use Rattle.pp_model.specs.Pool.{State, opening}
-use Rattle.pp_model.specs.Submitting.{submit_error, submitted}
+use Rattle.pp_model.specs.Submitting.{after_submits}
 use Rattle.pp_model.specs.declared.refusals.SubmitError.{SubmitError}
 use Rattle.pp_play.specs.ByStates.{ComeInTurn}
 use Rattle.pp_play.specs.Exact.{PlaysAll}
@@ -11,7 +11,6 @@ use Rattle.pp_play.specs.declared.line.Line.{Line}
 use Rattle.pp_script.specs.Scripts.{Scenario}
 use Rattle.pp_script.specs.declared.cue.Cue.{Cue}
 use Rattle.pp_settings.specs.Settings.{Configuration}
-use Rattle.pp_text.specs.Steps.{◌>>=◌}
 use Rattle.pp_vault.specs.Hands.{HandsFit}
 use Rattle.pp_vault.specs.Parts.{Parts}
 use Rattle.pp_vault.specs.StandsFor.{StandsFor}
@@ -19,17 +18,6 @@ use Rattle.pp_vault.specs.declared.hands.Hands.{Hands}
 use Rattle.pp_simulate.specs.Lines.{transcript}
 use Rattle.pp_simulate.specs.declared.error.SimulateError.{SimulateError}
 use Rattle.pp_simulate.specs.declared.error.SimulateError.TheVariants.{Submit, OutOfMemory}
-
--- The state after, where there is no refusal.
-abbrev pub unless_refused : Option SubmitError → State → Result State SubmitError
-unless_refused None after = Ok after
-unless_refused (Some error) after = Err error
-
--- The state after the plans were submitted in their order, or the refusal of the first that isn't taken in.
-abbrev pub after_submits : State → List Acceptance → Result State SubmitError
-after_submits s [] = Ok s
-after_submits s (plan ∷ plans) =
-    unless_refused (submit_error s plan) (submitted s plan) >>= λ after. after_submits after plans
 
 -- The vault stands for the state after all plans were taken in; a refusal is that of the first that isn't.
 abbrev pub TakesAll : Result State SubmitError → Parts → Result (Unit {0}) SubmitError → Type 0

@@ -2,11 +2,12 @@
 
 ghost use Rattle.std.specs.Prelude.{◌≡◌, ◌≤◌, Err, IfOk, IfErr, string_bytes};
 ghost use Rattle.pp_model.specs.Pool.{State, opening};
+ghost use Rattle.pp_model.specs.Submitting.{after_submits};
 ghost use Rattle.pp_core.specs.Opening.{kept_of};
 ghost use Rattle.pp_vault.specs.Hands.{HandsFit};
 ghost use Rattle.pp_vault.specs.StandsFor.{StandsFor};
 ghost use Rattle.pp_vault.specs.declared.hands.Hands as hands;
-ghost use Rattle.pp_simulate.specs.Simulating.{Simulates, TellsSubmit, after_submits, TakesAll};
+ghost use Rattle.pp_simulate.specs.Simulating.{Simulates, TellsSubmit, TakesAll};
 
 use crate::error::SimulateError;
 use crate::printing::transcript;

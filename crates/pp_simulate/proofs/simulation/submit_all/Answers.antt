@@ -1,8 +1,7 @@
 use Rattle.std.proofs.Common.{sym, ap, subst, ◌∙◌}
+use Rattle.pp_model.specs.Submitting.{after_submit, after_submits}
 use Rattle.pp_vault.specs.Hands.{HandsFit}
-use Rattle.pp_simulate.specs.Simulating.{after_submits}
 use Rattle.pp_simulate.proofs.Submits.{last_first, taken_next}
-use Rattle.pp_model.specs.Submitting.{after_submit}
 use Rattle.pp_simulate.proofs.simulation.submit_all.Goals as goal
 
 pub loop-plan-preserved : goal.loop-plan-preserved

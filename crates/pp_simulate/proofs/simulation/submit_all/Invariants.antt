@@ -1,9 +1,9 @@
 use Rattle.std.proofs.Common.{◌≡◌, reverse, vec_len}
 use Rattle.pp_model.specs.Pool.{State}
+use Rattle.pp_model.specs.Submitting.{after_submits}
 use Rattle.pp_vault.specs.Hands.{HandsFit}
 use Rattle.pp_vault.specs.StandsFor.{StandsFor, IsKept}
 use Rattle.pp_vault.specs.declared.hands.Hands.{Hands}
-use Rattle.pp_simulate.specs.Simulating.{after_submits}
 use Rattle.pp_simulate.proofs.simulation.submit_all.Given as goal
 
 abbrev pub invariant-loop-plan : goal.invariant-loop-plan
