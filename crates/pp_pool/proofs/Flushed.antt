@@ -1,5 +1,5 @@
 -- What the flusher has in hand after an answer that fits its request.
-use Rattle.std.proofs.Common.{◌≡◌, ◌∙◌, ◌+◌, ◌<◌, ℕ, Option, Some, None, List, refl, sym, subst, inl, arith}
+use Rattle.std.proofs.Common.{◌≡◌, ◌∙◌, ◌+◌, ◌<◌, ℕ, Option, Some, None, List, sym, subst, inl, arith}
 use Rattle.std.specs.Prelude.{OnOk, OnErr, Ok, Err, is_ok, if◌then◌else◌}
 use Rattle.pp_device.specs.Answers.{Answer as DeviceAnswer}
 use Rattle.pp_vault.specs.declared.tokens.Returned.{Returned}

@@ -16,6 +16,7 @@ use Rattle.pp_model.specs.Submitting.{submit_error, submitted_unless, after_subm
 use Rattle.pp_model.specs.Journals.{after_plan, replay, IsTrueFrom, IsJournalOf}
 use Rattle.pp_model.proofs.Alone.{settings_stay, submit_leaves}
 use Rattle.pp_model.proofs.Changes.{refused_by}
+use Rattle.pp_model.proofs.Counts.{counted}
 use Rattle.pp_model.proofs.Journeys.{same_plans, step_told, submit_told}
 use Rattle.pp_model.proofs.BoundLaws.{bound_falls, bound_rises}
 use Rattle.pp_vault.specs.Parts as vault
@@ -283,5 +284,15 @@ module _ (b : Parts) (k : IsBook b) (a : Acceptance) (number : ℕ) (v : vault.P
         settings =
             kept_settings v b.workers (after_submit s a) leads_with.stands leads_with.workers ∙ (submit_leaves s a).1
             ∙ state_settings b;
+        state = state_is book_with (after_submit s a) leads_with ∙ ap (λ o. submitted_unless o s a) allowed;
+        few =
+            let counts = counted (after_submit s a) leads_with.stands.core.reached in
+            omega (
+              arith,
+              counts.few,
+              ap length plans_after,
+              length-append s.plans (a ∷ []),
+              numbered,
+            );
         vault = t;
       }

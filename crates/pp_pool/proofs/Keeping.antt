@@ -1,5 +1,5 @@
 -- A worker's tokens stay that worker's over a turn.
-use Rattle.std.proofs.Common.{◌≡◌, ◌∙◌, ℕ, Bool, Option, Some, None, List, refl, sym, ap, subst}
+use Rattle.std.proofs.Common.{◌≡◌, ◌∙◌, ℕ, Option, Some, None, List, refl, sym, ap, subst}
 use Rattle.std.specs.Prelude.{IfSome}
 use Rattle.pp_settings.specs.Layout.{Geometry}
 use Rattle.pp_device.specs.Answers.{Answer as DeviceAnswer}

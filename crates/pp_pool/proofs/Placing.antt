@@ -1,5 +1,5 @@
 -- Places from which a guard is taken, and to which it goes back.
-use Rattle.std.proofs.Common.{◌≡◌, ◌∙◌, ◌<◌, ℕ, suc, Bool, true, false, Option, Some, None, List, [], ◌∷◌, length, refl, sym, ap, subst, inl, inr, arith}
+use Rattle.std.proofs.Common.{◌≡◌, ◌∙◌, ◌<◌, ℕ, suc, true, false, Option, Some, None, List, [], ◌∷◌, length, refl, sym, ap, subst, inl, inr, arith}
 use Rattle.std.specs.Prelude.{ltb, ◌&&◌, is_none, slice_set, IfSome, IfOk, Result, Ok, Err}
 use Rattle.std.proofs.lemmas.List.{get_or-set_same, length-set, set-set, set-get_or, get_or_past}
 use Rattle.std.proofs.lemmas.Bool.{lt-ltb, cases_lt, false≢true}

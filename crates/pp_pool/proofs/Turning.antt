@@ -1,5 +1,5 @@
 -- What a worker has in hand after an answer that fits its request.
-use Rattle.std.proofs.Common.{◌≡◌, ◌∙◌, ◌+◌, ◌++◌, ◌<◌, ◌≤◌, length, ℕ, Bool, true, false, inl, inr, arith, Option, Some, None, List, refl, sym, ap, subst}
+use Rattle.std.proofs.Common.{◌≡◌, ◌∙◌, ◌++◌, ◌<◌, ◌≤◌, length, ℕ, Bool, true, false, inl, inr, arith, Option, Some, None, List, refl, sym, ap, subst}
 use Rattle.std.specs.Prelude.{IfSome, IsSome, vec_len, vec_capacity}
 use Rattle.std.proofs.lemmas.Bool.{false≢true}
 use Rattle.pp_device.specs.Answers.{Answer as DeviceAnswer}
@@ -25,7 +25,7 @@ use Rattle.pp_pool.specs.declared.turned.Turned.{Turned}
 use Rattle.pp_pool.specs.declared.turned.Turned.TheVariants.{Done, NotNow, Ended, NoMemory, Broken}
 use Rattle.pp_pool.specs.declared.worker.Worker.{Worker}
 use Rattle.pp_pool.specs.Requests.{events_in}
-use Rattle.pp_pool.specs.Turns.{guard_asked, guard_in, slot_for, stage_asked, stage_in, FindsPlace, LeavesNone, IsOwn, IsWorkers, IsLong, Works}
+use Rattle.pp_pool.specs.Turns.{guard_asked, guard_in, stage_asked, stage_in, FindsPlace, LeavesNone, IsOwn, IsWorkers, IsLong, Works}
 use Rattle.pp_pool.specs.Turns.{Asks, Prepares, places_without, places_with, IsTurned, Turns, MayWait, TurnIs, can_ask}
 
 -- ---- the stage

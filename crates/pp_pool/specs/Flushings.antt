@@ -1,5 +1,5 @@
 -- What the flusher asks, and what comes of it.
-use Rattle.std.specs.Prelude.{◌≡◌, ◌⊎◌, ℕ, ◌+◌, ◌-◌, ◌^◌, ◌<◌, min, Bool, List, Option, None, Some, is_ok, if◌then◌else◌}
+use Rattle.std.specs.Prelude.{◌≡◌, ℕ, ◌+◌, ◌-◌, ◌^◌, min, List, Option, None, Some, is_ok, if◌then◌else◌}
 use Rattle.pp_model.specs.declared.moves.Move.TheVariants.{FlushBegin, FlushDone}
 use Rattle.pp_model.specs.declared.event.Event.{Event}
 use Rattle.pp_model.specs.declared.event.Event.TheVariants.{Step}
@@ -18,7 +18,7 @@ use Rattle.pp_pool.specs.declared.request.Request.TheVariants as request
 use Rattle.pp_pool.specs.declared.outcome.Answer.{Answer}
 use Rattle.pp_pool.specs.declared.outcome.Answer.TheVariants as answer
 use Rattle.pp_pool.specs.declared.turned.Turned.{Turned}
-use Rattle.pp_pool.specs.declared.turned.Turned.TheVariants.{Done, NotNow, Ended, NoMemory, Broken}
+use Rattle.pp_pool.specs.declared.turned.Turned.TheVariants.{Done, NotNow, Ended, Broken}
 
 -- ---- what is asked
 

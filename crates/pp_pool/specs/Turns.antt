@@ -2,10 +2,12 @@
 use Rattle.std.specs.Prelude.{◌≡◌, ◌⊎◌, ℕ, ◌<◌, ◌≤◌, nat_lt, Bool, true, false, ◌&&◌, List, length, ◌++◌, slice_get, slice_set}
 use Rattle.std.specs.Prelude.{Option, None, Some, IfSome, IsSome, vec_len, vec_capacity}
 use Rattle.std.specs.Option.{is_some}
+use Rattle.std.specs.Global.{Vec}
 use Rattle.pp_settings.specs.Layout.{Geometry, HasPage}
 use Rattle.pp_plan.specs.declared.mode.Mode.TheVariants as mode
 use Rattle.pp_plan.specs.declared.action.Ask.{Ask}
 use Rattle.pp_plan.specs.declared.action.Ask.TheVariants as ask
+use Rattle.pp_model.specs.declared.event.Event.{Event}
 use Rattle.pp_model.specs.declared.refusals.Delay.TheVariants.{NothingWaiting}
 use Rattle.pp_device.specs.Answers.{Answer as DeviceAnswer}
 use Rattle.pp_vault.specs.declared.refusal.Refusal.{Refusal}
@@ -278,3 +280,17 @@ abbrev pub TurnIs : {S D : Type 0} → (S → Request → Outcome → S → Type
     → (D → ℕ) → (D → ℕ) → Worker S D → Turned → Worker S D → Type 0
 TurnIs gives reads writes calls failures old turned new =
     Turns gives reads writes calls failures old turned new ⊎ Waits old turned new
+
+-- ---- a turn by what it changes
+
+-- The worker with these tokens, this site and device, and this log.
+abbrev pub worker_with : {S D : Type 0} → Worker S D → Stage → List (Option Guard) → S → D → Vec Event → Worker S D
+worker_with w stage guards site device log =
+    record w { site = site; device = device; hand = record { stage = stage; guards = guards }; log = log }
+
+-- A turn makes of the one worker the other, whatever a worker of this layout has besides.
+abbrev pub TurnOf : {S D : Type 0} → (S → Request → Outcome → S → Type 0)
+    → (D → ℕ → List ℕ → DeviceAnswer → List ℕ → D → Type 0) → (D → ℕ → List ℕ → DeviceAnswer → D → Type 0)
+    → (D → ℕ) → (D → ℕ) → Geometry → (Worker S D → Worker S D) → Turned → (Worker S D → Worker S D) → Type 0
+TurnOf gives reads writes calls failures layout old turned new =
+    (w : Worker _ _) → w.layout ≡ layout → TurnIs gives reads writes calls failures (old w) turned (new w)

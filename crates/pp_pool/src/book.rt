@@ -16,7 +16,7 @@ ghost use Rattle.pp_pool.specs.Books.{greatest_cost, IsBook, HeadlineHolds};
 ghost use Rattle.pp_pool.specs.Requests.{event_for, events_in};
 ghost use Rattle.pp_pool.specs.Performing.{ComesTo};
 ghost use Rattle.pp_pool.specs.Replies.{Replies};
-ghost use Rattle.pp_pool.specs.Submits.{TakesIn, IsCause, HasRoom, LacksRoom};
+ghost use Rattle.pp_pool.specs.Submits.{TakesIn, IsCause, HadRoom, HasRoom, LacksRoom};
 ghost use Rattle.pp_model.specs.Submitting.{submit_error};
 
 use crate::asking::ask;
@@ -114,6 +114,7 @@ impl Book {
     pub fn submit(&mut self, accepted: Accepted) -> Result<PlanId, (Accepted, BookError)>
         ensures ok { IfOk result (λ id. TakesIn self.old accepted id self.new) }
         ensures error { IfErr result (λ e. IsCause self.old accepted e.1) }
+        ensures room { IfErr result (λ e. HadRoom self.new accepted e.1) }
         ensures back { IfErr result (λ e. e.0 ≡ accepted) }
         ensures unchanged { OnErr result (self.new ≡ record self.old { capacity = self.new.capacity }) }
         ensures kept { IsBook self.new }

@@ -5,7 +5,7 @@ ghost use Rattle.std.specs.Prelude.{vec_len, vec_capacity};
 ghost use Rattle.pp_pool.specs.Requests.{events_in};
 ghost use Rattle.pp_vault.specs.Stages.{is_chair, stage_worker};
 ghost use Rattle.pp_settings.specs.Settings.{geometry_of};
-ghost use Rattle.pp_pool.specs.Turns.{TurnIs, Works, IsTurned, IsLong, turned_by as turned_then};
+ghost use Rattle.pp_pool.specs.Turns.{TurnIs, TurnOf, worker_with, Works, IsTurned, IsLong, turned_by as turned_then};
 
 use crate::asked::next;
 use crate::outcome::{Answer, Outcome};
@@ -17,7 +17,7 @@ use core::mem;
 use pp_device::{Device, image};
 use pp_model::Event;
 use pp_settings::{Layout, Settings};
-use pp_vault::{Delay, Hand, ReadGuard, Refusal, Stage};
+use pp_vault::{Delay, Guards, Hand, ReadGuard, Refusal, Stage};
 use std::alloc::{AllocError, Global};
 
 /// A worker with its tokens, the site where it asks, the device that it calls, and a log of what it did.
@@ -101,7 +101,22 @@ impl<S: Site, D: Device> Worker<S, D> {
         ensures worker { stage_worker self.new.hand.stage ≡ stage_worker self.old.hand.stage }
         ensures layout { self.new.layout ≡ self.old.layout }
     {
-        mem::replace_with(self, work, |worker, work| worker.turned(work))
+        if self.make_room().is_err() {
+            return Turned::NoMemory;
+        }
+        if self.log.len() >= self.log.capacity() {
+            return Turned::Broken;
+        }
+        ask(
+            &mut self.hand.stage,
+            &mut self.hand.guards,
+            &self.layout,
+            &mut self.site,
+            &mut self.device,
+            &mut self.log,
+            &mut self.seen,
+            work,
+        )
     }
 
     /// Ends the worker: its site, its device, its tokens and its log.
@@ -119,63 +134,6 @@ impl<S: Site, D: Device> Worker<S, D> {
             alloc: _,
         } = self;
         (site, device, hand, log)
-    }
-
-    /// One turn.
-    #[tactic(auto, using(crate::proofs::Turning::turn_from))]
-    fn turned<W: Work>(mut self, work: &mut W) -> (Worker<S, D>, Turned)
-        ensures turn { TurnIs S.gives D.read_gives D.write_leaves D.calls D.failures self result.1 result.0 }
-        ensures worker { stage_worker result.0.hand.stage ≡ stage_worker self.hand.stage }
-        ensures layout { result.0.layout ≡ self.layout }
-    {
-        if self.make_room().is_err() {
-            return (self, Turned::NoMemory);
-        }
-        if self.log.len() >= self.log.capacity() {
-            return (self, Turned::Broken);
-        }
-        self.asking(work)
-    }
-
-    /// Makes the request, if the hand has one; the log has room for its event.
-    #[tactic(auto, using(crate::proofs::Turning::long_by, crate::proofs::Turning::stage_after, crate::proofs::Turning::placed_after, crate::proofs::Turning::turns))]
-    fn asking<W: Work>(self, work: &mut W) -> (Worker<S, D>, Turned)
-        requires { length self.log.items < vec_capacity self.log }
-        ensures turn { TurnIs S.gives D.read_gives D.write_leaves D.calls D.failures self result.1 result.0 }
-        ensures worker { stage_worker result.0.hand.stage ≡ stage_worker self.hand.stage }
-        ensures layout { result.0.layout ≡ self.layout }
-    {
-        let Worker {
-            mut site,
-            mut device,
-            hand,
-            mut log,
-            layout,
-            page_bytes,
-            mut seen,
-            alloc,
-        } = self;
-        let Hand { stage, mut guards } = hand;
-        let (stage, turned) = match next(stage, &mut guards, &layout, &mut device, work) {
-            Ok(request) => {
-                let Outcome { event, answer } = site.perform(request);
-                add(&mut log, event);
-                let (answer, turned) = used(answer, &mut site, &mut seen, work);
-                (stage_after(&mut guards, answer), turned)
-            }
-            Err(stage) => (stage, Turned::Broken),
-        };
-        let worker = Worker {
-            site,
-            device,
-            hand: Hand { stage, guards },
-            log,
-            layout,
-            page_bytes,
-            seen,
-            alloc,
-        };
-        (worker, turned)
     }
 
     /// Gets the room that a plan wants, where the worker is idle: for one image, and in the log for the dearest of all
@@ -199,6 +157,73 @@ impl<S: Site, D: Device> Worker<S, D> {
         }
         let most = self.site.most().max(1);
         self.log.reserve(most as usize)
+    }
+}
+
+/// Makes the request, if the stage has one; the log has room for its event. The stage alone goes out of its place for
+/// that, since it is small.
+fn ask<S: Site, D: Device, W: Work>(
+    stage: &mut Stage,
+    guards: &mut Guards,
+    layout: &Layout,
+    site: &mut S,
+    device: &mut D,
+    log: &mut Vec<Event>,
+    seen: &mut Vec<u8>,
+    work: &mut W,
+) -> Turned
+    requires { length log.old.items < vec_capacity log.old }
+    ensures turn { TurnOf S.gives D.read_gives D.write_leaves D.calls D.failures layout.now
+        (λ w. worker_with w stage.old guards.old site.old device.old log.old) result
+        (λ w. worker_with w stage.new guards.new site.new device.new log.new) }
+    ensures worker { stage_worker stage.new ≡ stage_worker stage.old }
+{
+    let around = (guards, site, device, log, seen, work);
+    let (turned, around) = mem::replace_with(stage, around, |stage, around| {
+        let (guards, site, device, log, seen, work) = around;
+        let (stage, turned) = asked(stage, guards, layout, site, device, log, seen, work);
+        (stage, (turned, (guards, site, device, log, seen, work)))
+    });
+    let (guards, site, device, log, _seen, _work) = around;
+    taken_back(guards);
+    taken_back(site);
+    taken_back(device);
+    taken_back(log);
+    turned
+}
+
+/// It does nothing. Where a call was lent a reference and gave it back, a use of that tells the prover that the two are
+/// the same.
+fn taken_back<T>(lent: &mut T)
+    ensures { lent.new ≡ lent.old }
+{}
+
+/// The stage after the request, if this stage has one.
+#[tactic(auto, using(crate::proofs::Turning::long_by, crate::proofs::Turning::stage_after, crate::proofs::Turning::placed_after, crate::proofs::Turning::turns))]
+fn asked<S: Site, D: Device, W: Work>(
+    stage: Stage,
+    guards: &mut Guards,
+    layout: &Layout,
+    site: &mut S,
+    device: &mut D,
+    log: &mut Vec<Event>,
+    seen: &mut Vec<u8>,
+    work: &mut W,
+) -> (Stage, Turned)
+    requires { length log.old.items < vec_capacity log.old }
+    ensures turn { TurnOf S.gives D.read_gives D.write_leaves D.calls D.failures layout.now
+        (λ w. worker_with w stage guards.old site.old device.old log.old) result.1
+        (λ w. worker_with w result.0 guards.new site.new device.new log.new) }
+    ensures worker { stage_worker result.0 ≡ stage_worker stage }
+{
+    match next(stage, guards, layout, device, work) {
+        Ok(request) => {
+            let Outcome { event, answer } = site.perform(request);
+            add(log, event);
+            let (answer, turned) = used(answer, site, seen, work);
+            (stage_after(guards, answer), turned)
+        }
+        Err(stage) => (stage, Turned::Broken),
     }
 }
 
