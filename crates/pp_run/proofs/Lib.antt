@@ -7,3 +7,4 @@ pub mod Joined
 pub mod Ran
 pub mod Sent
 pub mod Desks
+pub mod Taken

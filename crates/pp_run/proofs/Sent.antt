@@ -1,4 +1,5 @@
 -- The desk of a run can be handed to another thread. (A search for this gives up where so many types stand in one another.)
+use denote.Ref.{NamedLft}
 use denote.RattleType.{RattleType}
 use denote.Param.Send.{IsSend, sendable}
 use denote.Param.SendFields.{declared_send}
@@ -67,7 +68,7 @@ book_send = search (book_inside_send, sendable)
 site_send : IsSend site_row
 site_send = declared_send site_type (search (book_send, sendable), tt)
 
-pub desk_send : (N : RattleType) (g : Ghosts N.Denot) → IsSend N → IsSend (desk_row N g)
-desk_send N g n =
-    declared_send (desk_type N g)
-    (site_send, (search (hands.the_send, sendable), (search (layout.the_send, sendable), (search sendable, tt))))
+pub desk_send : (κ : NamedLft) (N : RattleType) (g : Ghosts N.Denot) → IsSend N → IsSend (desk_row κ N g)
+desk_send κ N g n =
+    declared_send (desk_type κ N g)
+    (site_send, (search (hands.the_send, sendable), (search (layout.the_send, sendable), (search sendable, (search (sendable, crosses), tt)))))

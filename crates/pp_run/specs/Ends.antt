@@ -1,7 +1,10 @@
 -- What the threads give back.
-use Rattle.std.specs.Prelude.{◌≡◌, ◌≢◌, ℕ, ◌+◌, ◌<◌, List, [], length, slice_index_or}
+use Rattle.std.specs.Prelude.{◌≡◌, ◌≢◌, ℕ, ◌+◌, ◌<◌, ◌≤◌, Bool, true, false, ⊤, List, [], length, slice_index_or}
 use Rattle.pp_model.specs.declared.event.Event.{Event}
 use Rattle.pp_model.specs.WorkerParts.{part_of}
+use Rattle.pp_run.specs.declared.error.RunError.{RunError}
+use Rattle.pp_run.specs.declared.error.RunError.TheVariants.{OutOfMemory, Mismatch, NoThread}
+use Rattle.pp_run.specs.declared.error.RunError.TheVariants as run_errors
 use Rattle.pp_run.specs.declared.stop.Stop.{Stop}
 use Rattle.pp_run.specs.declared.stop.Stop.TheVariants.{Ended, NoMemory, Broken}
 use Rattle.pp_run.specs.declared.stop.Worked.{Worked}
@@ -41,6 +44,12 @@ AllWorkedFrom calls failures devices worked =
     (length worked ≡ length devices)
     × ((w : ℕ) (d : _) (x : _) → w < length devices
     → WorkedFrom calls failures (slice_index_or devices w d) (slice_index_or worked w x))
+
+-- One of so many threads wasn't started, or memory ran out.
+abbrev pub IsUnstarted : (threads : ℕ) → RunError → Type 0
+IsUnstarted threads (NoThread w) = w < threads
+IsUnstarted threads OutOfMemory = ⊤
+IsUnstarted threads _ = ⊥
 
 -- ---- what is left of it beside the journal
 

@@ -1,5 +1,6 @@
 pub mod RunErrors
 pub mod Calling
 pub mod Ends
+pub mod Verdicts
 pub mod Counted
 pub mod Runs

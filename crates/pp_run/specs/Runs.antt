@@ -1,12 +1,15 @@
 -- What a run leaves.
-use Rattle.std.specs.Prelude.{◌≡◌, ℕ, ◌+◌, ◌<◌, List, [], length, slice_index_or}
+use Rattle.std.specs.Prelude.{◌≡◌, ℕ, ◌+◌, ◌<◌, ◌≤◌, ⊤, List, [], length, slice_index_or, Err, IsOk}
 use Rattle.pp_cert.specs.Accepted.{Acceptance}
 use Rattle.pp_model.specs.declared.event.Event.{Event}
 use Rattle.pp_model.specs.Pool.{State, Settings, opening, dirty_pages}
 use Rattle.pp_model.specs.Journals.{IsTrueFrom, replay}
+use Rattle.pp_model.specs.Submitting.{after_submits}
 use Rattle.pp_model.specs.Turns.{IsUnderWay}
 use Rattle.pp_model.specs.WorkerParts.{part_of}
 use Rattle.pp_report.specs.declared.record.RunRecord.{RunRecord}
+use Rattle.pp_run.specs.declared.error.RunError.{RunError}
+use Rattle.pp_run.specs.declared.error.RunError.TheVariants.{Refused, OutOfMemory, Mismatch, Broken, NoThread}
 use Rattle.pp_run.specs.Calling.{calls_in, failed_calls_in, ended_flushes_in, failed_flushes_in, begun_flushes_in}
 
 -- ---- the journal
@@ -25,6 +28,28 @@ pub record IsRun (k : Settings) (plans : List Acceptance) (r : RunRecord) : Type
   pub count : r.plans ≡ length plans
   pub dirty : r.dirty ≡ dirty_pages (end_of k plans r.events.items)
   pub flushed : 0 < r.dirty → begun_flushes_in r.events.items ≡ k.flushes
+
+-- ---- no record
+
+-- The error is the refusal of the first plan that isn't taken in from this state, or memory ran out.
+abbrev pub IsNotTakenIn : State → List Acceptance → RunError → Type 0
+IsNotTakenIn s plans (Refused error) = after_submits s plans ≡ Err error
+IsNotTakenIn s plans OutOfMemory = ⊤
+IsNotTakenIn s plans _ = ⊥
+
+-- All plans are taken in by a new pool of these settings, and the number is that of a worker, or of the flusher.
+pub record IsOfThread (k : Settings) (plans : List Acceptance) (w : ℕ) : Type 0 where
+  pub taken : IsOk (after_submits (opening k) plans)
+  pub within : w ≤ k.workers
+
+-- The error is the refusal of the first plan that a new pool of these settings doesn't take in, or it names a thread of
+-- the run, or memory ran out.
+abbrev pub IsRunError : Settings → List Acceptance → RunError → Type 0
+IsRunError k plans (Refused error) = after_submits (opening k) plans ≡ Err error
+IsRunError k plans OutOfMemory = ⊤
+IsRunError k plans (Mismatch w) = IsOfThread k plans w
+IsRunError k plans (Broken w) = IsOfThread k plans w
+IsRunError k plans (NoThread w) = IsOfThread k plans w
 
 -- ---- the devices
 

@@ -8,10 +8,12 @@ ghost use Rattle.pp_vault.specs.Stages.{stage_worker};
 ghost use Rattle.pp_pool.specs.Parts.{settings_of, plans_of};
 ghost use Rattle.pp_pool.specs.Replies.{Replies};
 
+use pp_model::{Event, Reply};
 use pp_pool::{Book, Outcome, OwnSite, Request, Site};
 use pp_settings::{Layout, Settings};
 use pp_vault::{Flushing, Hand, Hands, ReadGuard};
 use std::marker::{Brand, PhantomData};
+use std::sync::atomic::{AtomicU64, Ordering};
 
 /// A book with the tokens that nobody has in hand.
 ///
@@ -52,21 +54,27 @@ pub(crate) trait Naming {
     ghost plans: { List Acceptance };
 }
 
-/// The book of a run, of these settings and plans, with its tokens.
+/// The book of a run, of these settings and plans, with its tokens. It counts the plans that end.
 ///
 /// The compiler refuses code that lets it fall.
-pub(crate) struct RunDesk<N: Naming> {
+pub(crate) struct RunDesk<'a, N: Naming> {
     site: OwnSite,
     hands: Hands,
     pages: (Layout, u32),
     of: PhantomData<N>,
+    finished: &'a AtomicU64,
     ghost settings: { settings_of site.book ≡ N.settings },
     ghost plans: { plans_of site.book ≡ N.plans } by { Coded-set (coded_list coded_acceptance) (plans_of site.book) N.plans },
 }
 
-impl<N: Naming> RunDesk<N> {
-    /// A book with the tokens of its vault.
-    pub(crate) fn new(book: Book, hands: Hands, settings: &Settings) -> RunDesk<N>
+impl<'a, N: Naming> RunDesk<'a, N> {
+    /// A book with the tokens of its vault, and where the plans that end are counted.
+    pub(crate) fn new(
+        book: Book,
+        hands: Hands,
+        settings: &Settings,
+        finished: &'a AtomicU64,
+    ) -> RunDesk<'a, N>
         requires settings { settings_of book ≡ N.settings }
         requires plans { plans_of book ≡ N.plans }
     {
@@ -75,6 +83,7 @@ impl<N: Naming> RunDesk<N> {
             hands,
             pages: (settings.layout(), settings.page_bytes()),
             of: PhantomData,
+            finished,
         }
     }
 
@@ -88,18 +97,23 @@ impl<N: Naming> RunDesk<N> {
             hands,
             pages: _,
             of: _,
+            finished: _,
         } = self;
         (book, hands)
     }
 }
 
-impl<N: Naming> Site for RunDesk<N> {
+impl<'a, N: Naming> Site for RunDesk<'a, N> {
     ghost use Rattle.pp_pool.specs.Replies.{Replies};
 
     ghost gives = { λ s request outcome t. Replies request outcome };
 
     fn perform(&mut self, request: Request) -> Outcome {
-        self.site.perform(request)
+        let outcome = self.site.perform(request);
+        if ends_plan(outcome.event.as_ref()) {
+            self.finished.fetch_add(1, Ordering::SeqCst);
+        }
+        outcome
     }
 
     fn look(&mut self, guard: &ReadGuard, bytes: &mut [u8]) -> bool {
@@ -111,7 +125,7 @@ impl<N: Naming> Site for RunDesk<N> {
     }
 }
 
-impl<N: Naming> Desk for RunDesk<N> {
+impl<'a, N: Naming> Desk for RunDesk<'a, N> {
     fn pages(&self) -> (Layout, u32) {
         self.pages
     }
@@ -133,6 +147,17 @@ impl<N: Naming> Desk for RunDesk<N> {
             Some(other) => Err(other),
         }
     }
+}
+
+/// Whether a plan ended by the event.
+fn ends_plan(event: Option<&Event>) -> bool {
+    matches!(
+        event,
+        Some(Event::Step {
+            reply: Reply::Finished(_),
+            ..
+        })
+    )
 }
 
 impl Naming for Brand {

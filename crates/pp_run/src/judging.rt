@@ -1,9 +1,13 @@
 //! Whether what the threads give back fits the journal.
 
-ghost use Rattle.std.specs.Prelude.{◌≡◌, ◌≢◌, ◌<◌, ◌^◌, true, false, IfOk, IfNone, OnOk, length, vec_len};
+ghost use Rattle.std.specs.Prelude.{◌≡◌, ◌≢◌, ◌↔◌, ◌<◌, ◌^◌, true, false, IfOk, IfErr, IfNone, IfSome, OnOk, Err, length};
+ghost use Rattle.std.specs.Prelude.{vec_len};
+ghost use Rattle.std.specs.List.{list_all};
+ghost use Rattle.pp_run.specs.declared.error.RunError.TheVariants as run_errors;
 ghost use Rattle.pp_run.specs.declared.stop.Stop.TheVariants.{Broken};
 ghost use Rattle.pp_run.specs.Calling.{begun_flushes_in};
 ghost use Rattle.pp_run.specs.Ends.{AllSound, FlushSettled, Settled};
+ghost use Rattle.pp_run.specs.Verdicts.{is_no_memory, IsFirstBroken, IsStarved, IsUnlike, IsUnsettled, IsVerdict, LeavesAPage};
 
 use crate::comparing::is_part;
 use crate::counting::{FlushCounts, flush_counts};
@@ -42,16 +46,18 @@ pub fn judge<D: Drop>(
     ensures flushed { OnOk result (0 < left.dirty → begun_flushes_in events.now ≡ left.flushes) }
     ensures flusher { OnOk result (FlushSettled flushed.now events.now) }
     ensures workers { IfOk result (λ back. Settled worked.items events.now back.items) }
+    ensures error { IfErr result (IsVerdict worked.items flushed.now events.now left) }
+    ensures starved { IsStarved worked.items left → result ≡ Err run_errors.OutOfMemory }
 {
     let flusher = worked.len() as u32;
-    if !left.over && all_without_memory(worked.as_slice()) {
+    if is_starved(worked.as_slice(), left) {
         return Err(RunError::OutOfMemory);
     }
     if let Some(worker) = first_broken(worked.as_slice()) {
         return Err(RunError::Broken(worker));
     }
     let counts = flush_counts(events);
-    if flushed.stop.is_broken() || !left.over || leaves_a_page(left, counts) {
+    if is_unsettled(flushed, left, counts) {
         return Err(RunError::Broken(flusher));
     }
     let back = settle(alloc, worked, events)?;
@@ -61,15 +67,25 @@ pub fn judge<D: Drop>(
     Ok(back)
 }
 
+/// Whether something is left undone, and every worker stopped for want of memory.
+fn is_starved<D>(worked: &[Worked<D>], left: Left) -> bool
+    ensures { (result ≡ true) ↔ IsStarved worked.now left }
+{
+    !left.over && all_without_memory(worked)
+}
+
 /// Whether every worker stopped for want of memory.
-fn all_without_memory<D>(worked: &[Worked<D>]) -> bool {
+fn all_without_memory<D>(worked: &[Worked<D>]) -> bool
+    ensures { result ≡ list_all (λ x. is_no_memory x.stop) worked.now }
+{
     worked.iter().all(|end| end.stop.is_no_memory())
 }
 
 /// The least worker that met a slip.
 fn first_broken<D>(worked: &[Worked<D>]) -> Option<u32>
     requires { length worked.now < 2 ^ 32 }
-    ensures { IfNone result (AllSound worked.now) }
+    ensures none { IfNone result (AllSound worked.now) }
+    ensures some { IfSome result (IsFirstBroken worked.now) }
 {
     let mut worker = 0u32;
     for end in worked {
@@ -81,16 +97,23 @@ fn first_broken<D>(worked: &[Worked<D>]) -> Option<u32>
     None
 }
 
+/// Whether a slip ended the flusher, or something is left undone that could have been done.
+fn is_unsettled<D>(flushed: &Flushed<D>, left: Left, counts: FlushCounts) -> bool
+    ensures { (result ≡ true) ↔ IsUnsettled flushed.now left counts.begun }
+{
+    flushed.stop.is_broken() || !left.over || leaves_a_page(left, counts)
+}
+
 /// Whether the flusher left a page that it could have flushed.
 fn leaves_a_page(left: Left, counts: FlushCounts) -> bool
-    ensures { result ≡ false → 0 < left.dirty → counts.begun ≡ left.flushes }
+    ensures { (result ≡ true) ↔ LeavesAPage left counts.begun }
 {
     left.dirty > 0 && counts.begun != left.flushes as usize
 }
 
 /// Whether the flusher's counts are these.
 fn is_counted<D>(flushed: &Flushed<D>, counts: FlushCounts) -> bool
-    ensures { result ≡ true → (flushed.now.ended ≡ counts.ended) × (flushed.now.failed ≡ counts.failed) }
+    ensures { (result ≡ true) ↔ ((flushed.now.ended ≡ counts.ended) × (flushed.now.failed ≡ counts.failed)) }
 {
     flushed.ended == counts.ended as u64 && flushed.failed == counts.failed as u64
 }
@@ -103,7 +126,8 @@ fn settle<D: Drop>(
 ) -> Result<Vec<D>, RunError>
     requires few { vec_len worked < 2 ^ 32 }
     requires sound { AllSound worked.items }
-    ensures { IfOk result (λ back. Settled worked.items events.now back.items) }
+    ensures ok { IfOk result (λ back. Settled worked.items events.now back.items) }
+    ensures error { IfErr result (IsUnlike worked.items events.now) }
 {
     let mut back = Vec::new(alloc);
     let mut worker = 0u32;

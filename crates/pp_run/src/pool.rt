@@ -1,12 +1,13 @@
 //! All plans at once, on threads.
 
-ghost use Rattle.std.specs.Prelude.{◌≡◌, ◌+◌, ◌++◌, true, IfOk, OnOk, vec_len};
+ghost use Rattle.std.specs.Prelude.{◌≡◌, ◌+◌, ◌++◌, true, [], Ok, IfOk, IfErr, OnOk, length, vec_len};
 ghost use Rattle.pp_core.specs.Opening.{kept_of};
-ghost use Rattle.pp_model.specs.Pool.{dirty_pages};
+ghost use Rattle.pp_model.specs.Pool.{dirty_pages, opening};
+ghost use Rattle.pp_model.specs.Submitting.{after_submits};
 ghost use Rattle.pp_model.specs.Turns.{IsUnderWay};
 ghost use Rattle.pp_pool.specs.Parts.{settings_of, plans_of, state_of};
 ghost use Rattle.pp_pool.specs.Books.{IsBook, HeadlineHolds};
-ghost use Rattle.pp_run.specs.Runs.{AllCalled, IsRun};
+ghost use Rattle.pp_run.specs.Runs.{AllCalled, IsNotTakenIn, IsRun, IsRunError};
 
 use crate::desk::{Naming, RunDesk};
 use crate::error::RunError;
@@ -15,13 +16,14 @@ use crate::locked::Locked;
 use crate::threads::run_all;
 use pp_cert::Accepted;
 use pp_device::Device;
-use pp_model::{Event, SubmitError};
+use pp_model::Event;
 use pp_pool::{Book, Work};
 use pp_report::RunRecord;
 use pp_settings::Settings;
 use pp_vault::Hands;
 use std::alloc::Global;
 use std::marker::Brand;
+use std::sync::atomic::AtomicU64;
 use std::sync::{Condvar, Mutex, Wait};
 use std::thread::Threads;
 
@@ -40,7 +42,8 @@ impl Pool {
     ///
     /// [`RunError::Refused`] with the refusal of the first plan that isn't taken in; nothing is run then. After the
     /// threads are joined, in this order, the least worker first: [`RunError::NoThread`], [`RunError::OutOfMemory`],
-    /// [`RunError::Broken`], [`RunError::Mismatch`]. On an error the devices, the works and the plans are let go.
+    /// [`RunError::Broken`], [`RunError::Mismatch`]. The flusher's number is that of the workers. On an error the devices,
+    /// the works and the plans are let go.
     pub fn run<D: Device + Drop + Send, W: Work + Drop + Send, R: Threads + Wait + Sync>(
         rt: &R,
         alloc: Global,
@@ -54,12 +57,39 @@ impl Pool {
         ensures journal { IfOk result (λ r. IsRun (kept_of settings.now) plans.items r.0) }
         ensures devices { IfOk result (λ r. AllCalled D.calls D.failures settings.now.workers devices.items
             r.0.events.items r.1.items) }
+        ensures error { IfErr result (IsRunError (kept_of settings.now) plans.items) }
     {
-        run_named::<Brand, D, W, R>(rt, alloc, settings, plans, devices, works)
+        let finished = AtomicU64::new(0);
+        Pool::run_watched(rt, alloc, settings, plans, devices, works, &finished)
+    }
+
+    /// As [`Pool::run`], and adds 1 to `finished` as each plan ends, for a watcher in another thread. Counting takes no
+    /// lock and no memory. Where all plans end, as many were added as were given.
+    ///
+    /// # Errors
+    ///
+    /// Those of [`Pool::run`].
+    pub fn run_watched<D: Device + Drop + Send, W: Work + Drop + Send, R: Threads + Wait + Sync>(
+        rt: &R,
+        alloc: Global,
+        settings: &Settings,
+        plans: Vec<Accepted>,
+        devices: Vec<D>,
+        works: Vec<W>,
+        finished: &AtomicU64,
+    ) -> Result<(RunRecord, Vec<D>), RunError>
+        requires ends { vec_len devices ≡ settings.now.workers + 1 }
+        requires works { vec_len works ≡ settings.now.workers }
+        ensures journal { IfOk result (λ r. IsRun (kept_of settings.now) plans.items r.0) }
+        ensures devices { IfOk result (λ r. AllCalled D.calls D.failures settings.now.workers devices.items
+            r.0.events.items r.1.items) }
+        ensures error { IfErr result (IsRunError (kept_of settings.now) plans.items) }
+    {
+        run_named::<Brand, D, W, R>(rt, alloc, settings, plans, devices, works, finished)
     }
 }
 
-/// The same, with a name for the settings and the plans.
+/// As [`Pool::run_watched`], with a name for the settings and the plans.
 fn run_named<
     N: Naming + Send,
     D: Device + Drop + Send,
@@ -72,6 +102,7 @@ fn run_named<
     plans: Vec<Accepted>,
     devices: Vec<D>,
     works: Vec<W>,
+    finished: &AtomicU64,
 ) -> Result<(RunRecord, Vec<D>), RunError>
     requires settings { N.settings ≡ kept_of settings.now }
     requires plans { N.plans ≡ plans.items }
@@ -80,14 +111,14 @@ fn run_named<
     ensures journal { IfOk result (λ r. IsRun (kept_of settings.now) plans.items r.0) }
     ensures devices { IfOk result (λ r. AllCalled D.calls D.failures settings.now.workers devices.items
         r.0.events.items r.1.items) }
+    ensures error { IfErr result (IsRunError (kept_of settings.now) plans.items) }
 {
-    let count = plans.len();
-    let (book, hands) = opened(alloc, settings, plans)?;
+    let (book, hands, plans) = opened(alloc, settings, plans)?;
     let mut devices = devices;
     let Some(last) = devices.pop() else {
         unreachable!();
     };
-    let desk = RunDesk::<N>::new(book, hands, settings);
+    let desk = RunDesk::<N>::new(book, hands, settings, finished);
     let lock = Mutex::new(Locked::new(desk));
     let (moved, changed) = (Condvar::new(), Condvar::new());
     let joined = run_all(rt, alloc, &lock, &moved, &changed, devices, last, works);
@@ -97,9 +128,6 @@ fn run_named<
     let mut back = judge(alloc, worked, &flushed, events.as_slice(), left)?;
     back.reserve(1)?;
     back.push_reserved(flushed.device);
-    let Ok(plans) = u16::try_from(count) else {
-        return Err(RunError::Refused(SubmitError::TooManyPlans));
-    };
     let record = RunRecord {
         plans,
         events,
@@ -108,18 +136,21 @@ fn run_named<
     Ok((record, back))
 }
 
-/// A book with all plans submitted, and its tokens.
+/// A book with all plans submitted, its tokens, and how many plans there are.
 fn opened(
     alloc: Global,
     settings: &Settings,
     plans: Vec<Accepted>,
-) -> Result<(Book, Hands), RunError>
+) -> Result<(Book, Hands, u16), RunError>
     ensures settings { IfOk result (λ made. settings_of made.0 ≡ kept_of settings.now) }
     ensures plans { IfOk result (λ made. plans_of made.0 ≡ plans.items) }
+    ensures count { IfOk result (λ made. made.2 ≡ vec_len plans) }
+    ensures taken { IfOk result (λ made. after_submits (opening (kept_of settings.now)) plans.items ≡ Ok (state_of made.0)) }
+    ensures error { IfErr result (IsNotTakenIn (opening (kept_of settings.now)) plans.items) }
 {
     let (mut book, hands) = Book::new(alloc, settings)?;
     match submit_all(&mut book, plans) {
-        Ok(()) => Ok((book, hands)),
+        Ok(count) => Ok((book, hands, count)),
         Err(error) => {
             book.close(hands);
             Err(error)
@@ -127,17 +158,22 @@ fn opened(
     }
 }
 
-/// Submits the plans in their order, up to the first that isn't taken in.
-fn submit_all(book: &mut Book, plans: Vec<Accepted>) -> Result<(), RunError>
+/// Submits the plans in their order, up to the first that isn't taken in, and answers how many there are.
+fn submit_all(book: &mut Book, plans: Vec<Accepted>) -> Result<u16, RunError>
     ensures plans { OnOk result (plans_of book.new ≡ plans_of book.old ++ plans.items) }
+    ensures count { IfOk result (λ count. count ≡ vec_len plans) }
+    ensures taken { OnOk result (after_submits (state_of book.old) plans.items ≡ Ok (state_of book.new)) }
+    ensures error { IfErr result (IsNotTakenIn (state_of book.old) plans.items) }
     ensures settings { settings_of book.new ≡ settings_of book.old }
 {
+    let mut count = 0u16;
     for plan in plans {
         if let Err((_plan, error)) = book.submit(plan) {
             return Err(RunError::from(error));
         }
+        count += 1;
     }
-    Ok(())
+    Ok(count)
 }
 
 /// What is left, and the journal.

@@ -1,7 +1,8 @@
 //! Why a thread stopped, and what it gives back.
 
-ghost use Rattle.std.specs.Prelude.{◌≡◌, ◌≢◌, false};
+ghost use Rattle.std.specs.Prelude.{◌≡◌, ◌↔◌, true};
 ghost use Rattle.pp_run.specs.declared.stop.Stop.TheVariants.{Broken};
+ghost use Rattle.pp_run.specs.Verdicts.{is_no_memory};
 
 use pp_model::Event;
 
@@ -19,13 +20,15 @@ pub enum Stop {
 impl Stop {
     /// Whether a slip ended it.
     pub(crate) fn is_broken(self) -> bool
-        ensures { result ≡ false → self ≢ Broken }
+        ensures { (result ≡ true) ↔ (self ≡ Broken) }
     {
         matches!(self, Stop::Broken)
     }
 
     /// Whether want of memory ended it.
-    pub(crate) fn is_no_memory(self) -> bool {
+    pub(crate) fn is_no_memory(self) -> bool
+        ensures { result ≡ is_no_memory self }
+    {
         matches!(self, Stop::NoMemory)
     }
 }

@@ -1,7 +1,7 @@
 //! The threads of a run.
 
-ghost use Rattle.std.specs.Prelude.{◌≡◌, ◌^◌, ◌<◌, IfOk, vec_len};
-ghost use Rattle.pp_run.specs.Ends.{AllWorkedFrom, FlushedFrom};
+ghost use Rattle.std.specs.Prelude.{◌≡◌, ◌+◌, ◌^◌, ◌<◌, IfOk, IfErr, vec_len};
+ghost use Rattle.pp_run.specs.Ends.{AllWorkedFrom, FlushedFrom, IsUnstarted};
 
 use crate::desk::Desk;
 use crate::error::RunError;
@@ -16,7 +16,7 @@ use std::alloc::Global;
 use std::snapshot::Snapshot;
 use std::sync::{Condvar, Mutex, Wait};
 use std::thread;
-use std::thread::{Promise, Scope, Threads};
+use std::thread::{Promise, PromisedHandle, Scope, Threads};
 
 /// What a worker's thread gives back fits the device that it began with.
 #[derive(Drop)]
@@ -38,11 +38,20 @@ impl<D: Device + Drop> Promise<Flushed<D>> for FlushPromise<D> {
     ghost kept_by = { λ p r. FlushedFrom D.calls D.failures p.0.value r };
 }
 
+/// Waits until these threads have ended, and lets go what they give back.
+fn join_all<T: Drop, P: Promise<T>, R: Threads>(rt: &R, handles: Vec<PromisedHandle<T, P>>) {
+    for handle in handles {
+        handle.join(rt);
+    }
+}
+
 /// Starts a thread for each worker, and joins them all.
 ///
 /// # Errors
 ///
-/// [`RunError::NoThread`] with the first worker whose thread couldn't be started; the workers before it run.
+/// [`RunError::NoThread`] with the first worker whose thread couldn't be started; the threads of the workers before it
+/// are joined first. [`RunError::OutOfMemory`] where there is none for the handles, and no thread is started then, or
+/// for what the joined threads gave back.
 fn run_workers<
     's,
     E,
@@ -62,7 +71,8 @@ fn run_workers<
 ) -> Result<Vec<Worked<D>>, RunError>
     requires few { vec_len devices < 2 ^ 32 }
     requires works { vec_len works ≡ vec_len devices }
-    ensures { IfOk result (λ v. AllWorkedFrom D.calls D.failures devices.items v.items) }
+    ensures workers { IfOk result (λ v. AllWorkedFrom D.calls D.failures devices.items v.items) }
+    ensures error { IfErr result (IsUnstarted (vec_len devices)) }
 {
     let mut handles = Vec::new(alloc);
     handles.reserve(devices.len())?;
@@ -84,18 +94,31 @@ fn run_workers<
             work_on(site, alloc, number, device, work)
         };
         match scope.spawn_with(promise, job) {
-            Ok(handle) => {
-                if handles.push(handle).is_err() {
-                    return Err(RunError::OutOfMemory);
-                }
+            Ok(handle) => handles.push_reserved(handle),
+            Err(_) => {
+                join_all(rt, handles);
+                return Err(RunError::NoThread(worker));
             }
-            Err(_) => return Err(RunError::NoThread(worker)),
         }
         worker += 1;
     }
     match thread::join_promised(rt, handles) {
         Ok(all) => Ok(all),
-        Err(_) => Err(RunError::OutOfMemory),
+        Err(kept) => {
+            join_all(rt, kept.value);
+            Err(RunError::OutOfMemory)
+        }
+    }
+}
+
+/// The first thread that wasn't started, where the flusher's wasn't and the workers came to this.
+fn first_unstarted<D: Drop>(worked: Result<Vec<Worked<D>>, RunError>, flusher: u32) -> RunError
+    requires { IfErr worked (IsUnstarted flusher) }
+    ensures { IsUnstarted (flusher + 1) result }
+{
+    match worked {
+        Err(RunError::NoThread(worker)) => RunError::NoThread(worker),
+        _ => RunError::NoThread(flusher),
     }
 }
 
@@ -104,7 +127,8 @@ fn run_workers<
 /// # Errors
 ///
 /// [`RunError::NoThread`] with the first worker whose thread couldn't be started, or with the number of the workers where
-/// that was the flusher's alone. Those whose threads were started do the plans, and are joined.
+/// that was the flusher's. [`RunError::OutOfMemory`] where memory runs out for the handles or for what the threads give
+/// back. The workers whose threads were started do the plans, and the book is closed only when all of them have ended.
 pub fn run_all<
     B: Desk + Send,
     D: Device + Drop + Send,
@@ -124,8 +148,8 @@ pub fn run_all<
     requires works { vec_len works ≡ vec_len devices }
     ensures workers { IfOk result (λ v. AllWorkedFrom D.calls D.failures devices.items v.0.items) }
     ensures flusher { IfOk result (λ v. FlushedFrom D.calls D.failures last v.1) }
+    ensures error { IfErr result (IsUnstarted (vec_len devices + 1)) }
 {
-    let flusher = devices.len() as u32;
     thread::scope(
         thread::scope_env(),
         rt,
@@ -134,7 +158,9 @@ pub fn run_all<
             requires works { vec_len works ≡ vec_len devices }
             ensures workers { IfOk result (λ v. AllWorkedFrom D.calls D.failures devices.items v.0.items) }
             ensures flusher { IfOk result (λ v. FlushedFrom D.calls D.failures last v.1) }
+            ensures error { IfErr result (IsUnstarted (vec_len devices + 1)) }
         {
+            let flusher = devices.len() as u32;
             let promise = FlushPromise(Snapshot::of(&last));
             let job = move || {
                 let site = LockedSite {
@@ -159,10 +185,7 @@ pub fn run_all<
                     let flushed = handle.join(rt);
                     Ok((worked?, flushed))
                 }
-                Err(_) => match worked {
-                    Err(RunError::NoThread(worker)) => Err(RunError::NoThread(worker)),
-                    _ => Err(RunError::NoThread(flusher)),
-                },
+                Err(_) => Err(first_unstarted(worked, flusher)),
             }
         },
     )

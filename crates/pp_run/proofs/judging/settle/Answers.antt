@@ -1,4 +1,5 @@
 use Rattle.std.proofs.Common.{◌≡◌, ◌≢◌, ◌+◌, get_or, vec_items, subst, rules, arith, below_more, ap, sym, ◌∙◌}
+use Rattle.std.proofs.lemmas.Bool.{false≢true}
 use Rattle.std.specs.Vec.Iter.{into_iter_items}
 use Rattle.pp_model.specs.WorkerParts.{part_of}
 use Rattle.pp_run.specs.Ends.{SettledAt}
@@ -34,3 +35,19 @@ loop-end-preserved g c =
           subst (λ (x : Worked g.row.D.Denot). SettledAt x c.args.events.now done (get_or all done d)) next here) k
           (omega arith),
     )
+
+pub returns-then-not-is_part-clause-error : goal.returns-then-not-is_part-clause-error
+returns-then-not-is_part-clause-error g c =
+    let was = c.loop-end.invariant in let done = c.loop-end.worker in
+    let worked = into_iter_items c.into_iter-end-iterator.result in
+    let same : worked ≡ c.args.worked.items = search rules in
+    record {
+      within = search rules;
+      other = λ x is.
+          let next : c.in-Some.end ≡ get_or worked done x = let h = was.2 0 x in grind rules in
+          let log : c.in-Some.end.log.items ≡ part_of done c.args.events.now
+          = ap (λ (e : Worked g.row.D.Denot). e.log.items) (next ∙ ap (λ xs. get_or xs done x) same) ∙ is in
+          false≢true (sym c.if-not-is_part.true ∙ c.is_part.ensures.1 (let l = log in grind rules));
+      before = λ v x low.
+          ap (λ xs. (get_or xs v x).log.items) (sym same) ∙ (was.3 v x c.in-Some.end.device low).log;
+    }

@@ -32,4 +32,4 @@ returns-clause-devices g c =
 
 pub run_all-joined-requires-send-B : goal.run_all-joined-requires-send-B
 run_all-joined-requires-send-B g c κs within =
-    param_send 0 _ (arg_send _ no _ (desk_send _ g.N.Naming c.type_bounds.send-N))
+    param_send 0 _ (arg_send _ no _ (desk_send _ _ g.N.Naming c.type_bounds.send-N))

@@ -5,4 +5,4 @@ use Rattle.pp_run.proofs.desk.RunDeskSite.look.Goals as goal
 pub returns-clause-same : goal.returns-clause-same
 returns-clause-same g c =
     let d = c.args.self.now in
-    same_desk g.row.N g.N.Naming _ d (ap (λ s. (s, (d.hands, (d.pages, (d.of, tt))))) c.look.ensures.same)
+    same_desk g.row.N g.N.Naming _ d (ap (λ s. (s, (d.hands, (d.pages, (d.of, (d.finished, tt)))))) c.look.ensures.same)

@@ -5,4 +5,4 @@ use Rattle.pp_run.proofs.desk.RunDeskSite.most.Goals as goal
 pub returns : goal.returns
 returns g c =
     let d = c.args.self.now in
-    record { same = same_desk g.row.N g.N.Naming _ d (ap (λ s. (s, (d.hands, (d.pages, (d.of, tt))))) c.most.ensures.same) }
+    record { same = same_desk g.row.N g.N.Naming _ d (ap (λ s. (s, (d.hands, (d.pages, (d.of, (d.finished, tt)))))) c.most.ensures.same) }

@@ -1,0 +1,29 @@
+use Rattle.std.proofs.Common.{◌≡◌, ◌∙◌, [], ◌∷◌, ◌++◌, append_assoc, length, arith, rules, sym, ap, length-append}
+use Rattle.std.specs.Vec.Iter.{into_iter_items}
+use Rattle.pp_model.specs.Submitting.{after_submits}
+use Rattle.pp_pool.specs.Parts.{plans_of, state_of}
+use Rattle.pp_run.proofs.Taken.{taken_next}
+use Rattle.pp_run.proofs.pool.submit_all.Goals as goal
+
+pub overflow_add-count : goal.overflow_add-count
+overflow_add-count c =
+    let taken = c.in_default.ensures.ok in omega (arith, taken.few, taken.numbered, c.loop-plan.invariant.4)
+
+pub loop-plan-preserved : goal.loop-plan-preserved
+loop-plan-preserved c =
+    let was = c.loop-plan.invariant in
+    let taken = c.in_default.ensures.ok in
+    let book = c.loop-plan.book in
+    let rest = into_iter_items c.next.new.self in
+    let step : into_iter_items c.loop-plan.plan-iterator ≡ c.in-Some.plan ∷ rest = search rules in
+    let longer = ap length taken.plans ∙ length-append (plans_of book) (c.in-Some.plan ∷ []) in (
+      search rules,
+      was.1
+          ∙ (ap (λ r. plans_of book ++ r) step
+          ∙ (sym (append_assoc (plans_of book) (c.in-Some.plan ∷ []) rest) ∙ ap (λ ps. ps ++ rest) (sym taken.plans))),
+      search rules,
+      was.3
+          ∙ (ap (after_submits (state_of book)) step
+          ∙ (taken_next (state_of book) c.in-Some.plan rest taken.allowed ∙ ap (λ s. after_submits s rest) (sym taken.state))),
+      omega (arith, longer, was.4),
+    )
