@@ -34,6 +34,11 @@ impl<W: Write> Bar<W> {
         Bar::on(None)
     }
 
+    /// The terminal, if there is one.
+    pub fn terminal(&mut self) -> Option<&mut W> {
+        self.terminal.as_mut()
+    }
+
     /// Draws the empty bar, where the device is large.
     pub fn begin(&mut self, size: DeviceSize) {
         self.filled = 0;

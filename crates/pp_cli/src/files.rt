@@ -25,6 +25,7 @@ use std::io::{ErrorKind, Write};
 use std::rt::Files;
 use std::sync::Wait;
 use std::thread::Threads;
+use std::time::Clock;
 
 /// Why the bytes of a job's files aren't there.
 #[derive(Clone, Copy, Debug)]
@@ -38,8 +39,8 @@ pub enum Unread<'a> {
 /// What the job comes to. All its files are read, in the order of the words, before any is refused.
 pub fn perform<
     'a,
-    R: Files<File = File> + AllocGlobal + Threads + Wait + Sync + Copy + Send + Drop,
-    P: Write,
+    R: Files<File = File> + AllocGlobal + Threads + Wait + Clock + Sync + Copy + Send + Drop,
+    P: Write + Send,
 >(rt: &R, job: Job<'a>, bar: &mut Bar<P>) -> Outcome<'a>
     ensures { ComesOf (asked_by job.entry) (seen result) }
 {
@@ -48,7 +49,7 @@ pub fn perform<
         Job::Annotate(paths) => annotate(rt, paths),
         Job::Simulate(paths) => simulate(rt, paths),
         Job::Format(paths) => format(rt, paths, bar),
-        Job::Run(paths) => run(rt, paths),
+        Job::Run(paths) => run(rt, paths, bar.terminal()),
         Job::Audit(paths) => audit(rt, paths),
     };
     match ended {

@@ -20,14 +20,15 @@ use std::io::{ErrorKind, Write};
 use std::rt::Files;
 use std::sync::Wait;
 use std::thread::Threads;
+use std::time::Clock;
 
 /// Runs the program on its words, the program's name first, where they can be read, and answers the status. The bar
 /// shows how far a long job is.
 pub fn run<
-    R: Files<File = File> + AllocGlobal + Threads + Wait + Sync + Copy + Send + Drop,
+    R: Files<File = File> + AllocGlobal + Threads + Wait + Clock + Sync + Copy + Send + Drop,
     O: Write,
     E: Write,
-    P: Write,
+    P: Write + Send,
 >(rt: &R, words: &io::Result<Vec<String>>, out: &mut O, err: &mut E, bar: &mut Bar<P>) -> u8
     ensures status { result ≤ 4 }
     // What `serve` does of the words.
@@ -54,7 +55,7 @@ pub fn run<
 /// written; standard error names it. Or a run left a plan or a flush undone; standard output has its report then. 4: out
 /// of memory.
 pub fn serve<
-    R: Files<File = File> + AllocGlobal + Threads + Wait + Sync + Copy + Send + Drop,
+    R: Files<File = File> + AllocGlobal + Threads + Wait + Clock + Sync + Copy + Send + Drop,
     S: AsStr,
     O: Write,
     E: Write,
@@ -78,11 +79,11 @@ pub fn serve<
 
 /// As [`serve`], with a bar that shows how far a long job is.
 fn serve_with<
-    R: Files<File = File> + AllocGlobal + Threads + Wait + Sync + Copy + Send + Drop,
+    R: Files<File = File> + AllocGlobal + Threads + Wait + Clock + Sync + Copy + Send + Drop,
     S: AsStr,
     O: Write,
     E: Write,
-    P: Write,
+    P: Write + Send,
 >(rt: &R, words: &[S], out: &mut O, err: &mut E, bar: &mut Bar<P>) -> u8
     ensures status { result ≤ 4 }
     ensures words { IsSome (asked (map S.text words.now)) → result ≢ 2 }
@@ -98,9 +99,9 @@ fn serve_with<
 /// What the words come to, the program's name first, before anything is told.
 fn outcome_of_words<
     'a,
-    R: Files<File = File> + AllocGlobal + Threads + Wait + Sync + Copy + Send + Drop,
+    R: Files<File = File> + AllocGlobal + Threads + Wait + Clock + Sync + Copy + Send + Drop,
     S: AsStr,
-    P: Write,
+    P: Write + Send,
 >(rt: &R, words: &'a [S], bar: &mut Bar<P>) -> Outcome<'a>
     ensures { ComesOfWords (map S.text words.entry.now) (seen result) }
 {

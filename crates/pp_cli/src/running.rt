@@ -10,27 +10,31 @@ use crate::fault::fault;
 use crate::files::{Unread, contents, contents_of_all};
 use pp_judge::{Outcome, Workload};
 use pp_model::Event;
-use pp_report::RunRecord;
+use pp_report::{RunRecord, journal_text};
 use pp_runner::{RunnerError, stopped_line, told, write_journal};
 use pp_words::RunPaths;
 use std::fs;
 use std::fs::File;
+use std::io::Write;
 use std::rt::Files;
 use std::sync::Wait;
 use std::thread::Threads;
+use std::time::Clock;
 
-/// What the files of `run` come to, where all texts can be read: their refusal, or what the run comes to.
-pub fn run<'a, R: Files<File = File> + AllocGlobal + Threads + Wait + Sync + Copy + Send + Drop>(
-    rt: &R,
-    paths: RunPaths<'a>,
-) -> Result<Outcome<'a>, Unread<'a>>
+/// What the files of `run` come to, where all texts can be read: their refusal, or what the run comes to. Where there is a
+/// terminal, it shows how far a long run is.
+pub fn run<
+    'a,
+    R: Files<File = File> + AllocGlobal + Threads + Wait + Clock + Sync + Copy + Send + Drop,
+    P: Write + Send,
+>(rt: &R, paths: RunPaths<'a>, terminal: Option<&mut P>) -> Result<Outcome<'a>, Unread<'a>>
     ensures { MatchResult result (λ outcome. ComesOf (asked_run paths.entry) (seen outcome))
         (λ why. ComesOf (asked_run paths.entry) (stopped_by why)) }
 {
     let settings = contents(rt, paths.settings)?;
     let plans = contents_of_all(rt, &paths.plans)?;
     match Workload::read(rt.alloc(), settings.as_slice(), plans.as_slice()) {
-        Ok(workload) => Ok(run_workload(rt, workload, &paths)),
+        Ok(workload) => Ok(run_workload(rt, workload, &paths, terminal)),
         Err(refusal) => Ok(Outcome::from(refusal)),
     }
 }
@@ -38,12 +42,13 @@ pub fn run<'a, R: Files<File = File> + AllocGlobal + Threads + Wait + Sync + Cop
 /// What running the plans over the device comes to.
 fn run_workload<
     'a,
-    R: Files<File = File> + AllocGlobal + Threads + Wait + Sync + Copy + Send + Drop,
->(rt: &R, workload: Workload, paths: &RunPaths<'a>) -> Outcome<'a>
+    R: Files<File = File> + AllocGlobal + Threads + Wait + Clock + Sync + Copy + Send + Drop,
+    P: Write + Send,
+>(rt: &R, workload: Workload, paths: &RunPaths<'a>, terminal: Option<&mut P>) -> Outcome<'a>
     ensures { MayEnd paths.now.device.now (option_map (λ text. text.now) paths.now.journal)
         (workload.settings, workload.plans.items) (seen result) }
 {
-    match pp_runner::run(rt, workload, paths.device, paths.seed) {
+    match pp_runner::run(rt, workload, paths.device, paths.seed, terminal) {
         Ok(done) => ended(rt, &done, paths.journal),
         Err(RunnerError::Unopened) => Outcome::Unread(paths.device),
         Err(RunnerError::OutOfMemory) => Outcome::OutOfMemory,
@@ -73,7 +78,7 @@ fn ended<'a, R: Files + AllocGlobal>(
     }
 }
 
-/// Writes the journal to the file at the path. What stood there is lost.
+/// Writes the journal to the file at the path. What stood there is lost, and not where memory runs out for the text.
 fn keep_journal<'a, R: Files + AllocGlobal>(
     rt: &R,
     path: &'a str,
@@ -81,8 +86,11 @@ fn keep_journal<'a, R: Files + AllocGlobal>(
 ) -> Result<(), Outcome<'a>>
     ensures { IfErr result (λ outcome. IsUnwritten path.entry.now (seen outcome)) }
 {
+    let Ok(text) = journal_text(rt.alloc(), events) else {
+        return Err(Outcome::OutOfMemory);
+    };
     let written = match fs::create(rt, path) {
-        Ok(mut file) => write_journal(rt.alloc(), &mut file, events),
+        Ok(mut file) => write_journal(&mut file, &text),
         Err(error) => Err(error),
     };
     match written {

@@ -2,3 +2,4 @@
 pub mod Choices
 pub mod Endings
 pub mod Runs
+pub mod Showing

@@ -4,7 +4,7 @@ use Rattle.pp_cert.specs.Accepted.{Acceptance}
 use Rattle.pp_core.specs.Opening.{kept_of}
 use Rattle.pp_settings.specs.Settings.{Configuration}
 use Rattle.pp_report.specs.declared.record.RunRecord.{RunRecord}
-use Rattle.pp_run.specs.Runs.{IsRun}
+use Rattle.pp_run.specs.Runs.{IsRun, IsRunError}
 use Rattle.pp_run.specs.RunErrors.{run_error_row}
 use Rattle.pp_run.specs.declared.error.RunError.{RunError}
 use Rattle.pp_run.specs.declared.error.RunError.TheVariants as run_error
@@ -26,6 +26,16 @@ unopened open_error.OutOfMemory = OutOfMemory
 abbrev pub runner_error_of : RunError → RunnerError
 runner_error_of run_error.OutOfMemory = OutOfMemory
 runner_error_of error = Stopped error
+
+-- A run of these settings and plans stops so: the pool doesn't take the first of these plans in, or a thread came to no
+-- good end. Want of memory isn't told so.
+abbrev pub IsStop : Configuration × List Acceptance → RunError → Type 0
+IsStop w run_error.OutOfMemory = ⊥
+IsStop w error = IsRunError (kept_of w.0) w.1 error
+
+abbrev pub IsRunnerError : Configuration × List Acceptance → RunnerError → Type 0
+IsRunnerError w (Stopped error) = IsStop w error
+IsRunnerError w _ = ⊤
 
 -- The text is the report of a run of these settings and plans, and it is told whether that went well.
 pub record IsReport (w : Configuration × List Acceptance) (text : List ℕ) (is_well : Bool) : Type 0 where
@@ -49,11 +59,12 @@ IsUnwritten path out_of_memory = ⊤
 IsUnwritten path _ = ⊥
 
 -- What a run may come to that is asked for these settings and plans, of the device and with the journal in these files:
--- its report; the refusal of a plan by the pool, or what became of a worker; the device isn't opened; the file of the
--- journal isn't written; or memory ran out.
+-- its report; the refusal of the first plan that the pool doesn't take in, or what became of a thread; the device isn't
+-- opened; the file of the journal isn't written; or memory ran out.
 abbrev pub MayEnd : (device : List ℕ) → (journal : Option (List ℕ)) → Configuration × List Acceptance → Answer → Type 0
 MayEnd device journal w (ran text is_well) = IsReport w text is_well
-MayEnd device journal w (stopped text) = (error : RunError) × (text ≡ stopped_line (run_error_row error))
+MayEnd device journal w (stopped text) =
+    (error : RunError) × IsStop w error × (text ≡ stopped_line (run_error_row error))
 MayEnd device journal w (unread path) = path ≡ device
 MayEnd device journal w (unwritten path) = journal ≡ Some path
 MayEnd device journal w out_of_memory = ⊤

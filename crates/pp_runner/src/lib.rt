@@ -3,11 +3,14 @@
 #![tactic(auto)]
 
 mod error;
+mod progress;
 mod rounds;
 mod running;
 mod telling;
+mod watching;
 
 pub use error::RunnerError;
+pub use progress::progress_line;
 pub use rounds::Rounds;
 pub use running::run;
 pub use telling::{stopped_line, told, write_journal};

@@ -1,37 +1,56 @@
 //! Running plans over the file of a device.
 
-ghost use Rattle.std.specs.Prelude.{◌≡◌, IfOk, vec_len};
+ghost use Rattle.std.specs.Prelude.{◌≡◌, ◌+◌, IfOk, IfErr, vec_len};
 ghost use Rattle.pp_core.specs.Opening.{kept_of};
-ghost use Rattle.pp_run.specs.Runs.{IsRun};
+ghost use Rattle.pp_run.specs.Runs.{IsRun, IsRunError};
 ghost use Rattle.pp_runner.specs.Choices.{new_works};
+ghost use Rattle.pp_runner.specs.Runs.{IsRunnerError};
 
 use crate::error::RunnerError;
+use crate::progress::{Counted, Progress};
 use crate::rounds::Rounds;
+use crate::watching::{Ending, watch};
+use pp_cert::Accepted;
+use pp_device::Device;
 use pp_judge::Workload;
+use pp_pool::Work;
 use pp_report::RunRecord;
-use pp_run::Pool;
+use pp_run::{Pool, RunError};
+use pp_settings::Settings;
 use pp_shared::SharedDevice;
 use std::alloc::{AllocError, Global};
 use std::fs::File;
+use std::io::Write;
 use std::rt::Files;
 use std::sync::Wait;
+use std::thread;
 use std::thread::Threads;
+use std::time::Clock;
 
 /// Runs the plans on threads over the device in the file at the path, and answers what was done. The work of each worker
 /// is [`Rounds`] with this seed.
+///
+/// Where there is a terminal, a thread beside shows on it how far a run of more than two seconds is: how many plans have
+/// ended, and how many pages were read and written. What the terminal doesn't take is lost.
 ///
 /// # Errors
 ///
 /// `Unopened` where the file can't be opened for reading and writing; then, as [`Pool::run`] has them, `Stopped` and
 /// `OutOfMemory`, which may come before.
-pub fn run<R: Files<File = File> + AllocGlobal + Threads + Wait + Sync + Copy + Send + Drop>(
+pub fn run<
+    R: Files<File = File> + AllocGlobal + Threads + Wait + Clock + Sync + Copy + Send + Drop,
+    T: Write + Send,
+>(
     rt: &R,
     workload: Workload,
     device: &str,
     seed: u32,
+    terminal: Option<&mut T>,
 ) -> Result<RunRecord, RunnerError>
     // What was done is a true journal of these settings and plans, to their end.
-    ensures { IfOk result (λ done. IsRun (kept_of workload.settings) workload.plans.items done) }
+    ensures journal { IfOk result (λ done. IsRun (kept_of workload.settings) workload.plans.items done) }
+    // A run stops where the pool doesn't take a plan in, or by a thread of its own.
+    ensures error { IfErr result (IsRunnerError (workload.settings, workload.plans.items)) }
 {
     let Workload { settings, plans } = workload;
     let alloc = rt.alloc();
@@ -39,8 +58,67 @@ pub fn run<R: Files<File = File> + AllocGlobal + Threads + Wait + Sync + Copy + 
     let page_bytes = settings.page_bytes() as usize;
     let ends = SharedDevice::over_file(*rt, alloc, device, page_bytes, workers as usize + 1)?;
     let works = works_of(alloc, seed, workers)?;
+    if let Some(terminal) = terminal {
+        return Ok(run_shown(rt, alloc, &settings, plans, ends, works, terminal)?);
+    }
     let (done, _ends) = Pool::run(rt, alloc, &settings, plans, ends, works)?;
     Ok(done)
+}
+
+/// As [`Pool::run`], and shows on the terminal how far the run is.
+fn run_shown<
+    R: Threads + Wait + Clock + Sync,
+    D: Device + Drop + Send,
+    W: Work + Drop + Send,
+    T: Write + Send,
+>(
+    rt: &R,
+    alloc: Global,
+    settings: &Settings,
+    plans: Vec<Accepted>,
+    ends: Vec<D>,
+    works: Vec<W>,
+    terminal: &mut T,
+) -> Result<RunRecord, RunError>
+    requires ends { vec_len ends ≡ settings.now.workers + 1 }
+    requires works { vec_len works ≡ settings.now.workers }
+    ensures journal { IfOk result (λ done. IsRun (kept_of settings.now) plans.items done) }
+    ensures error { IfErr result (IsRunError (kept_of settings.now) plans.items) }
+{
+    let all = plans.len();
+    let (progress, ending) = (Progress::new(), Ending::new());
+    let ends = counted(alloc, ends, &progress)?;
+    let (_watched, done) = thread::join(
+        rt,
+        || watch(rt, alloc, &progress, all, &ending, terminal),
+        || -> Result<RunRecord, RunError>
+            requires ends { vec_len ends ≡ settings.now.workers + 1 }
+            requires works { vec_len works ≡ settings.now.workers }
+            ensures journal { IfOk result (λ done. IsRun (kept_of settings.entry.now) plans.items done) }
+            ensures error { IfErr result (IsRunError (kept_of settings.entry.now) plans.items) }
+        {
+            let ran = Pool::run_watched(rt, alloc, settings, plans, ends, works, &progress.plans);
+            ending.tell(rt);
+            let (done, _ends) = ran?;
+            Ok(done)
+        },
+    );
+    done
+}
+
+/// The same ends of a device, which count the pages that they read and write.
+fn counted<'a, D: Device + Drop>(
+    alloc: Global,
+    ends: Vec<D>,
+    progress: &'a Progress,
+) -> Result<Vec<Counted<'a, D>>, AllocError>
+    ensures { IfOk result (λ counted. vec_len counted ≡ vec_len ends) }
+{
+    let mut counted = Vec::with_capacity(alloc, ends.len())?;
+    for device in ends {
+        counted.push(Counted { device, progress })?;
+    }
+    Ok(counted)
 }
 
 /// The works of so many workers.

@@ -2,14 +2,13 @@
 
 ghost use Rattle.std.specs.Prelude.{◌≡◌, IfOk, OnOk, string_bytes};
 ghost use Rattle.std.specs.Io.KnownBytes.{Appends};
-ghost use Rattle.pp_report.specs.Lines.{journal_words};
 ghost use Rattle.pp_report.specs.Reports.{report_text};
 ghost use Rattle.pp_run.specs.RunErrors.{run_error_row};
 ghost use Rattle.pp_runner.specs.Endings.{is_trouble, stopped_line, went_well};
 
 use pp_judge::RunReport;
 use pp_model::{Ending, Event, Move, Reply};
-use pp_report::{RunRecord, journal_text, report};
+use pp_report::{RunRecord, report};
 use pp_run::RunError;
 use std::alloc::{AllocError, Global};
 use std::io;
@@ -66,16 +65,16 @@ fn is_trouble(event: &Event) -> bool
     )
 }
 
-/// Writes the journal's text, a line for each event.
+/// Writes the text of a journal, which [`pp_report::journal_text`] gives, so that memory for it can be had before there is
+/// a file.
 ///
 /// # Errors
 ///
-/// What the writer tells; it may have a part of the text then. Want of memory is told before anything is written.
-pub fn write_journal<W: Write>(alloc: Global, file: &mut W, events: &[Event]) -> io::Result<()>
-    // The writer takes exactly the journal's text.
-    ensures { OnOk result (Appends (W.contents file.old) (W.contents file.new) (journal_words events.now)) }
+/// What the writer tells; it may have a part of the text then.
+pub fn write_journal<W: Write>(file: &mut W, text: &str) -> io::Result<()>
+    // The writer takes exactly the text.
+    ensures { OnOk result (Appends (W.contents file.old) (W.contents file.new) text.now) }
 {
-    let text = journal_text(alloc, events)?;
     file.write_all(text.as_bytes())?;
     file.flush()
 }

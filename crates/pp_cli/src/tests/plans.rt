@@ -7,6 +7,7 @@ use std::rt::Files;
 use std::sync::Wait;
 use std::test::Fail;
 use std::thread::Threads;
+use std::time::Clock;
 use std::{fs, io};
 
 /// One worker and no flush, so that the journal is the same each time.
@@ -34,7 +35,7 @@ pub const PLAN: &str =
     {\"unlatch\":\"a\"},{\"unfix\":\"a\"}],\"version\":1}";
 
 /// The report of the plan on a device that was just formatted.
-const REPORT: &str = " plan worker    steps     hits    loads  outcome
+pub const REPORT: &str = " plan worker    steps     hits    loads  outcome
     0      0        4        0        1  done
 moves               7
 hits                0
@@ -61,18 +62,7 @@ flushes             0
 dirty               0
 ";
 
-/// The journal of the plan with the seed 2 on a device that was just formatted.
-const JOURNAL: &str = "submit 0 = queued
-take 0 = taken 0
-fix 0 18 = mustread 0
-came 0 18 0 = loaded 0
-latch 0 = latched 0
-unlatch 0 = unlatched 1
-unfix 0 = did
-finish 0 = done
-";
-
-/// The same where the page can't be read.
+/// The journal of the plan where the page can't be read.
 const FAULTY: &str = "submit 0 = queued
 take 0 = taken 0
 fix 0 18 = mustread 0
@@ -80,8 +70,24 @@ came 0 fault = failed read
 finish 0 = gone
 ";
 
+/// The journal of the plan on a device that was just formatted, where it writes this page.
+fn journal_of<R: AllocGlobal>(rt: &R, page: u32) -> Result<String, Fail> {
+    let lines = format!(in rt.alloc();
+        "submit 0 = queued
+take 0 = taken 0
+fix 0 {page} = mustread 0
+came 0 {page} 0 = loaded 0
+latch 0 = latched 0
+unlatch 0 = unlatched 1
+unfix 0 = did
+finish 0 = done
+"
+    )?;
+    Ok(lines)
+}
+
 /// The folder of the test with this name, with settings and a plan.
-fn folder_of(rt: &HostRuntime, test: &str) -> io::Result<Folder> {
+pub fn folder_of(rt: &HostRuntime, test: &str) -> io::Result<Folder> {
     let files: [(&str, &[u8]); 2] = [
         ("settings.toml", SETTINGS.as_bytes()),
         ("plan.json", PLAN.as_bytes()),
@@ -90,23 +96,31 @@ fn folder_of(rt: &HostRuntime, test: &str) -> io::Result<Folder> {
 }
 
 /// Formats a device in the folder.
-fn format<R: Files<File = File> + AllocGlobal + Abort + Threads + Wait + Sync + Copy + Send + Drop>(
-    rt: &R,
-    folder: &Folder,
-) -> Result<(), Fail> {
+fn format<
+    R: Files<File = File>
+        + AllocGlobal
+        + Abort
+        + Threads
+        + Wait
+        + Clock
+        + Sync
+        + Copy
+        + Send
+        + Drop,
+>(rt: &R, folder: &Folder) -> Result<(), Fail> {
     let ended = folder.run(rt, "format", &["settings.toml", "device"])?;
     ended.is(rt, 0, "formatted 24 pages\n", "");
     Ok(())
 }
 
-/// Runs the plan over this device with this seed, and keeps the journal in this file.
-fn run_over<R: Files<File = File> + AllocGlobal + Threads + Wait + Sync + Copy + Send + Drop>(
+/// The words that run the plan over this device with this seed, and keep the journal in this file.
+pub fn words_of<R: AllocGlobal>(
     rt: &R,
     folder: &Folder,
     device: &str,
     seed: &str,
     journal: &str,
-) -> Result<Ended, Fail> {
+) -> io::Result<Vec<String>> {
     let mut words = folder.words(rt, "run", &["settings.toml", device])?;
     for word in [seed, "--journal"] {
         words.push(String::from_str(rt.alloc(), word)?)?;
@@ -114,12 +128,28 @@ fn run_over<R: Files<File = File> + AllocGlobal + Threads + Wait + Sync + Copy +
     for file in [journal, "plan.json"] {
         words.push(folder.at(rt, file)?)?;
     }
-    run(rt, words.as_slice())
+    Ok(words)
+}
+
+/// Runs the plan over this device with this seed, and keeps the journal in this file.
+fn run_over<
+    R: Files<File = File> + AllocGlobal + Threads + Wait + Clock + Sync + Copy + Send + Drop,
+>(rt: &R, folder: &Folder, device: &str, seed: &str, journal: &str) -> Result<Ended, Fail> {
+    run(rt, words_of(rt, folder, device, seed, journal)?.as_slice())
 }
 
 /// Sees that the file has this text, and that it is a true journal of the plan.
 fn is_true<
-    R: Files<File = File> + AllocGlobal + Abort + Threads + Wait + Sync + Copy + Send + Drop,
+    R: Files<File = File>
+        + AllocGlobal
+        + Abort
+        + Threads
+        + Wait
+        + Clock
+        + Sync
+        + Copy
+        + Send
+        + Drop,
 >(rt: &R, folder: &Folder, journal: &str, text: &str) -> Result<(), Fail> {
     folder.has(rt, journal, text.as_bytes())?;
     let ended = folder.run(rt, "audit", &["settings.toml", journal, "plan.json"])?;
@@ -141,7 +171,7 @@ fn a_plan_is_run_and_audited(rt: HostRuntime) -> Result<(), Fail> {
     let folder = folder_of(&rt, "a_plan_is_run_and_audited")?;
     format(&rt, &folder)?;
     run_over(&rt, &folder, "device", "2", "journal")?.is(&rt, 0, REPORT, "");
-    is_true(&rt, &folder, "journal", JOURNAL)?;
+    is_true(&rt, &folder, "journal", journal_of(&rt, 18)?.as_str())?;
     folder.remove(&rt)?;
     Ok(())
 }
@@ -168,6 +198,18 @@ fn a_run_wants_a_device_a_journal_and_a_seed(rt: HostRuntime) -> Result<(), Fail
     for seed in ["4294967296", "1.5"] {
         run_over(&rt, &folder, "device", seed, "journal")?.says(&rt, 2, "SEED");
     }
+    folder.lacks(&rt, "journal")?;
+    folder.remove(&rt)?;
+    Ok(())
+}
+
+/// The greatest seed modulo eight pages is 7: the last leaf.
+#[test]
+fn the_greatest_seed_is_taken(rt: HostRuntime) -> Result<(), Fail> {
+    let folder = folder_of(&rt, "the_greatest_seed_is_taken")?;
+    format(&rt, &folder)?;
+    run_over(&rt, &folder, "device", "4294967295", "journal")?.is(&rt, 0, REPORT, "");
+    is_true(&rt, &folder, "journal", journal_of(&rt, 23)?.as_str())?;
     folder.remove(&rt)?;
     Ok(())
 }

@@ -8,6 +8,7 @@ use std::rt::Files;
 use std::sync::Wait;
 use std::test::Fail;
 use std::thread::Threads;
+use std::time::Clock;
 use std::{env, fs, io};
 
 /// What a run of the program wrote, and its status.
@@ -59,7 +60,7 @@ impl Ended {
 
 /// Runs the program on these words, its name first.
 pub fn run<
-    R: Files<File = File> + AllocGlobal + Threads + Wait + Sync + Copy + Send + Drop,
+    R: Files<File = File> + AllocGlobal + Threads + Wait + Clock + Sync + Copy + Send + Drop,
     S: AsStr,
 >(rt: &R, words: &[S]) -> Result<Ended, Fail> {
     let mut out = Vec::new(rt.alloc());
@@ -117,12 +118,9 @@ impl Folder {
     }
 
     /// Runs a command on these files of the folder.
-    pub fn run<R: Files<File = File> + AllocGlobal + Threads + Wait + Sync + Copy + Send + Drop>(
-        &self,
-        rt: &R,
-        command: &str,
-        files: &[&str],
-    ) -> Result<Ended, Fail> {
+    pub fn run<
+        R: Files<File = File> + AllocGlobal + Threads + Wait + Clock + Sync + Copy + Send + Drop,
+    >(&self, rt: &R, command: &str, files: &[&str]) -> Result<Ended, Fail> {
         run(rt, self.words(rt, command, files)?.as_slice())
     }
 
@@ -135,6 +133,13 @@ impl Folder {
     ) -> io::Result<()> {
         let found = fs::read(rt, self.at(rt, file)?.as_str())?;
         assert!(rt; found.as_slice() == bytes, "{file} has other bytes");
+        Ok(())
+    }
+
+    /// Sees that the folder has no such file.
+    pub fn lacks<R: Files + AllocGlobal + Abort>(&self, rt: &R, file: &str) -> io::Result<()> {
+        let found = fs::read(rt, self.at(rt, file)?.as_str());
+        assert!(rt; found.is_err(), "{file} is there");
         Ok(())
     }
 
