@@ -29,7 +29,7 @@ pub struct Ran {
     pub nanos: u64,
 }
 
-/// Runs a worker for each thread, each with a plan and a trace of its own.
+/// Runs a worker for each thread, each with a trace of its own, and as many plans as there are workers.
 pub fn run<R: AllocGlobal + Threads + Wait + Clock + Copy + Drop + Sync + Send>(
     rt: R,
     asked: Asked,

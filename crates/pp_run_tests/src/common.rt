@@ -176,7 +176,7 @@ pub fn watch<R: Abort + Clock>(rt: &R, over: &AtomicBool) {
     panic!(rt; "the run hangs");
 }
 
-/// Runs plans over devices, and is watched; the numbers of both are tested first.
+/// Runs plans over devices, and is watched.
 pub fn run_over<
     D: Device + Drop + Send,
     W: Work + Drop + Send,
@@ -188,6 +188,24 @@ pub fn run_over<
     plans: Vec<Accepted>,
     devices: Vec<D>,
     works: Vec<W>,
+) -> Result<(RunRecord, Vec<D>), RunError> {
+    run_counted(rt, alloc, settings, plans, devices, works, None)
+}
+
+/// As [`run_over`], and counts the plans that have ended where there is a counter. The numbers of devices and works are
+/// tested first.
+pub fn run_counted<
+    D: Device + Drop + Send,
+    W: Work + Drop + Send,
+    R: Abort + Threads + Wait + Clock + Sync,
+>(
+    rt: &R,
+    alloc: Global,
+    settings: &Settings,
+    plans: Vec<Accepted>,
+    devices: Vec<D>,
+    works: Vec<W>,
+    finished: Option<&AtomicU64>,
 ) -> Result<(RunRecord, Vec<D>), RunError> {
     let workers = settings.workers() as usize;
     assert!(rt; workers < 64);
@@ -201,7 +219,12 @@ pub fn run_over<
             requires ends { vec_len devices ≡ settings.now.workers + 1 }
             requires works { vec_len works ≡ settings.now.workers }
         {
-            let ran = Pool::run(rt, alloc, settings, plans, devices, works);
+            let ran = match finished {
+                Some(finished) => {
+                    Pool::run_watched(rt, alloc, settings, plans, devices, works, finished)
+                }
+                None => Pool::run(rt, alloc, settings, plans, devices, works),
+            };
             over.store(true, Ordering::SeqCst);
             ran
         },

@@ -8,6 +8,8 @@
 #[cfg(test)]
 mod common;
 #[cfg(test)]
+mod counted;
+#[cfg(test)]
 mod devices;
 #[cfg(test)]
 mod memory;

@@ -20,7 +20,7 @@ const SETTINGS: &str = "
 frames = 6
 page_bytes = 64
 workers = 8
-flushes = 400
+flushes = 4000
 
 [[region]]
 name = \"root\"
@@ -146,7 +146,8 @@ fn is_audited<R: AllocGlobal + Abort>(rt: &R, events: &[Event]) -> Result<(), Fa
     Ok(())
 }
 
-/// Every plan ends, the journal is true, every page's bytes are those of its stamp, and where nothing is left to flush no change is lost.
+/// Every plan ends, the journal is true, and the bytes of each page are those of its stamp. There are flushes enough to
+/// write every page back, so that no change is lost.
 #[test]
 fn many_workers_lose_no_change(rt: HostRuntime) -> Result<(), Fail> {
     let seen = Seen::new();
@@ -158,6 +159,8 @@ fn many_workers_lose_no_change(rt: HostRuntime) -> Result<(), Fail> {
         seen.bad.load(Ordering::SeqCst) == 0,
         "a bad image was seen"
     );
+    assert!(rt; seen.good.load(Ordering::SeqCst) > 0, "no image was seen");
+    assert!(rt; record.dirty == 0, "a page is left");
     let mut stamps = 0u64;
     for page in 0..24 {
         let mut bytes = [0; 64];
@@ -171,7 +174,7 @@ fn many_workers_lose_no_change(rt: HostRuntime) -> Result<(), Fail> {
         stamps = stamps.saturating_add(stamp);
     }
     assert!(rt;
-        record.dirty > 0 || stamps == seen.changed.load(Ordering::SeqCst),
+        stamps == seen.changed.load(Ordering::SeqCst),
         "a change is lost"
     );
     Ok(())
