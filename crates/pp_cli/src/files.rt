@@ -36,7 +36,8 @@ pub enum Unread<'a> {
     Memory,
 }
 
-/// What the job comes to. All its files are read, in the order of the words, before any is refused.
+/// What the job comes to. All texts that it needs are read, in the order of the words, before any is refused; the device
+/// of a run is opened after that.
 pub fn perform<
     'a,
     R: Files<File = File> + AllocGlobal + Threads + Wait + Clock + Sync + Copy + Send + Drop,

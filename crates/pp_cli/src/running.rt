@@ -78,7 +78,8 @@ fn ended<'a, R: Files + AllocGlobal>(
     }
 }
 
-/// Writes the journal to the file at the path. What stood there is lost, and not where memory runs out for the text.
+/// Writes the journal to the file at the path. What stood there is lost, unless memory runs out for the text, which is
+/// made first.
 fn keep_journal<'a, R: Files + AllocGlobal>(
     rt: &R,
     path: &'a str,

@@ -22,11 +22,11 @@ pub enum RunError {
     /// The log of this worker isn't its part of the journal, or the counts of the flusher aren't the journal's.
     #[error("the log of worker {0} is not its part of the journal")]
     Mismatch(u32),
-    /// A turn of this worker met a slip, or the flusher left a page that it could have flushed, or something was left
-    /// undone.
+    /// A turn of this worker met a slip; or, as the flusher's number, one of the flusher's did, or a plan, a flush or a page
+    /// that could have been flushed is left.
     #[error("worker {0} is broken")]
     Broken(u32),
-    /// The thread of this worker wasn't started. The others did the plans.
+    /// The thread of this worker wasn't started, or the flusher's. The workers before it, if any, did the plans.
     #[error("no thread for worker {0}")]
     NoThread(u32),
 }

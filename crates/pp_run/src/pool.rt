@@ -35,15 +35,16 @@ impl Pool {
     /// the devices in their order.
     ///
     /// The devices are ends of one device, one for each worker in order, and the last for the flusher; `works` has one
-    /// [`Work`] for each worker. The plans are taken in their order, each by a worker that is idle. When all are done, the
-    /// flusher writes back while a page is newer than the device's and a flush is left.
+    /// [`Work`] for each worker. The plans are taken in their order, each by a worker that is idle. The flusher writes back
+    /// meanwhile, and goes on when all are done while a page is newer than the device's and a flush is left.
     ///
     /// # Errors
     ///
     /// [`RunError::Refused`] with the refusal of the first plan that isn't taken in; nothing is run then. After the
-    /// threads are joined, in this order, the least worker first: [`RunError::NoThread`], [`RunError::OutOfMemory`],
-    /// [`RunError::Broken`], [`RunError::Mismatch`]. The flusher's number is that of the workers. On an error the devices,
-    /// the works and the plans are let go.
+    /// threads are joined, in this order, the least worker first: [`RunError::NoThread`], [`RunError::OutOfMemory`] where
+    /// every worker stopped for it and something is left, [`RunError::Broken`], [`RunError::Mismatch`]. The flusher's
+    /// number is that of the workers. Memory may run out for the run itself, too. On an error the devices, the works and
+    /// the plans are let go.
     pub fn run<D: Device + Drop + Send, W: Work + Drop + Send, R: Threads + Wait + Sync>(
         rt: &R,
         alloc: Global,

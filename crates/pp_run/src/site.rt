@@ -15,9 +15,9 @@ use std::sync::{Condvar, Mutex, Wait};
 
 /// A site that threads share: a book under a lock, with what they wait on.
 ///
-/// Each call takes the lock once and gives it back before it returns. A request that isn't possible yet waits, and is
-/// tried again when something was done; nobody is woken where nobody waits. What the site gives is known by the request
-/// alone: others move between two calls.
+/// Each call takes the lock, and gives it back before it returns. A request that isn't possible yet waits, for which it
+/// lets the lock go, and is tried again when something was done; nobody is woken where nobody waits. What the site gives
+/// is known by the request alone: others move between two calls.
 #[derive(Drop)]
 pub struct LockedSite<'a, B: Desk, R: Wait> {
     pub rt: &'a R,
