@@ -2,11 +2,15 @@
 
 ghost use Rattle.std.specs.Prelude.{◌<◌};
 
+use pp_device::image::HEAD;
 use pp_pool::Work;
 use pp_traces::Trace;
 use std::io;
 use std::sync::atomic::{AtomicU64, Ordering};
 use std::time::{Clock, Instant};
+
+/// How many bytes of a body a work looks at, from its first one on.
+const LOOKED_AT: usize = 8;
 
 /// When the first operation of all workers began and when the last one ended, in nanoseconds from a start.
 #[derive(Drop)]
@@ -51,7 +55,7 @@ impl Span {
     }
 }
 
-/// A work that asks for the pages of a trace.
+/// A work that asks for the pages of a trace, and looks at the front of each.
 #[derive(Drop)]
 pub struct Clocked<'a, R: Clock> {
     clock: R,
@@ -60,6 +64,8 @@ pub struct Clocked<'a, R: Clock> {
     page: u32,
     left: u64,
     has_begun: bool,
+    // What was looked at, added up.
+    sum: u64,
 }
 
 impl<'a, R: Clock> Clocked<'a, R> {
@@ -74,6 +80,7 @@ impl<'a, R: Clock> Clocked<'a, R> {
             page,
             left: ops,
             has_begun: false,
+            sum: 0,
         }
     }
 }
@@ -93,7 +100,14 @@ impl<'a, R: Clock> Work for Clocked<'a, R> {
 
     fn change(&mut self, _page: u32, _body: &mut [u8]) {}
 
-    fn see(&mut self, _page: u32, _mark: u64, _image: &[u8]) {
+    fn reach(&self) -> usize {
+        HEAD + LOOKED_AT
+    }
+
+    fn see(&mut self, _page: u32, _mark: u64, image: &[u8]) {
+        for byte in &image[HEAD..HEAD + LOOKED_AT] {
+            self.sum = self.sum.wrapping_add(u64::from(*byte));
+        }
         self.page = self.trace.next_page();
         self.left = self.left.saturating_sub(1);
         if self.left == 0 {

@@ -2,11 +2,11 @@
 //!
 //! `pp_bench_run WORKERS hit|skew|loop|mixed OPS` shares so many operations among the workers: there are as many plans as
 //! workers, and a worker that is done before another has begun takes the other's plan too. Each operation fixes a page,
-//! latches it S, reads it, unlatches it and unfixes it, which are four events where the page is cached. It prints how
-//! many pages had to be read. For few operations that depends on who did how many, since each worker follows a trace of
-//! its own. On standard error it says how long the run took, from the first operation's begin to the last one's end,
-//! divided by the number of all operations and of four events each; and how long as many threads took to lock and unlock
-//! a lock as often as there were events. Without WORKERS it is one worker, and no lock is timed.
+//! latches it S, looks at its front, unlatches it and unfixes it, which are four events where the page is cached. It
+//! prints how many pages had to be read. For few operations that depends on who did how many, since each worker follows a
+//! trace of its own. On standard error it says how long the run took, from the first operation's begin to the last one's
+//! end, divided by the number of all operations and of four events each; and how long as many threads took to lock and
+//! unlock a lock as often as there were events. Without WORKERS it is one worker, and no lock is timed.
 #![tactic(auto)]
 
 mod clocked;

@@ -49,7 +49,7 @@ pub fn run<R: AllocGlobal + Threads + Wait + Clock + Copy + Drop + Sync + Send>(
     Ok(Ran {
         misses: misses(record.events.as_slice()),
         operations,
-        events: 4 * operations,
+        events: operations.saturating_mul(4),
         nanos: span.nanos(),
     })
 }

@@ -7,6 +7,7 @@ pub mod Submits
 pub mod BookErrors
 pub mod Replies
 pub mod Performs
+pub mod Fronts
 pub mod Flushings
 pub mod FlushTurns
 pub mod Turns

@@ -1,7 +1,7 @@
 //! Where workers and the flusher ask.
 
-ghost use Rattle.std.specs.Prelude.{◌≡◌, ◌≤◌, true, false, length};
-ghost use Rattle.pp_device.specs.Image.{head_of};
+ghost use Rattle.std.specs.Prelude.{◌≡◌, ◌≤◌, ◌-◌, true, false, length, take};
+ghost use Rattle.pp_device.specs.Image.{head_of, body_of};
 ghost use Rattle.pp_pool.specs.declared.request.Request.{Request};
 ghost use Rattle.pp_pool.specs.declared.outcome.Outcome.{Outcome};
 ghost use Rattle.pp_pool.specs.Replies.{Replies};
@@ -9,7 +9,12 @@ ghost use Rattle.pp_pool.specs.Replies.{Replies};
 use crate::book::Book;
 use crate::outcome::Outcome;
 use crate::request::Request;
+use pp_device::image;
+use pp_device::image::HEAD;
 use pp_vault::ReadGuard;
+
+/// How many bytes of an image a work is shown at least.
+pub(crate) const SHORTEST: usize = 64;
 
 /// Performs requests on a book: its own, or one that it shares with others.
 ///
@@ -25,7 +30,9 @@ pub trait Site {
         ensures given { gives self.old request result self.new }
         ensures fits { Replies request result };
 
-    /// Copies the image of a page that is latched S into the slice, as [`Book::look`] does, and tells whether it did.
+    /// Copies the image of a page that is latched S into the slice, from its first byte on, as far as the slice goes, and
+    /// tells whether it did. It did not, and the slice is as it was, where the guard isn't one of this state, or the slice
+    /// has fewer than 64 bytes or more than a page.
     fn look(&mut self, guard: &ReadGuard, bytes: &mut [u8]) -> bool
         ensures shown { result ≡ true → (head_of bytes.new).0 ≡ guard.now.page }
         ensures long { result ≡ true → 64 ≤ length bytes.new }
@@ -37,6 +44,23 @@ pub trait Site {
         ensures same { self.new ≡ self.old };
 }
 
+/// Copies the front of the image that has this head and this body into the slice, as far as the slice goes, where that is
+/// 64 bytes at least and no more than the image has. Tells whether it did.
+fn copy_front(page: u32, mark: u64, body: &[u8], bytes: &mut [u8]) -> bool
+    ensures head { result ≡ true → head_of bytes.new ≡ (page, mark) }
+    ensures body { result ≡ true → body_of bytes.new ≡ take (length bytes.old - HEAD) body.now }
+    ensures long { result ≡ true → 64 ≤ length bytes.new }
+    ensures unchanged { result ≡ false → bytes.new ≡ bytes.old }
+{
+    if bytes.len() < SHORTEST || bytes.len() - HEAD > body.len() {
+        return false;
+    }
+    let front = bytes.len() - HEAD;
+    bytes[HEAD..].copy_from_slice(&body[..front]);
+    image::make(bytes, page, mark);
+    true
+}
+
 /// A site for one thread. It has a book of its own, and answers at once.
 #[derive(Drop)]
 pub struct OwnSite {
@@ -45,6 +69,9 @@ pub struct OwnSite {
 
 impl Site for OwnSite {
     ghost use Rattle.pp_pool.specs.Performs.{Performs};
+    ghost use Rattle.pp_pool.specs.Parts.{plans_of};
+    ghost use Rattle.pp_pool.specs.Books.{greatest_cost};
+    ghost use Rattle.pp_pool.specs.Fronts.{ShowsFront};
 
     // The book's event and its answer, from the state that its journal leads to.
     ghost gives = { λ s request outcome t. Performs s.book request outcome t.book };
@@ -53,13 +80,23 @@ impl Site for OwnSite {
         self.book.perform(request)
     }
 
-    #[tactic(auto, using(crate::proofs::Looking::shown_page, crate::proofs::Looking::shown_long))]
-    fn look(&mut self, guard: &ReadGuard, bytes: &mut [u8]) -> bool {
-        self.book.known();
-        self.book.look(guard, bytes)
+    fn look(&mut self, guard: &ReadGuard, bytes: &mut [u8]) -> bool
+        ensures shown { result ≡ true → (head_of bytes.new).0 ≡ guard.now.page }
+        ensures front { result ≡ true → ShowsFront self.old.book guard.now bytes.new }
+        ensures long { result ≡ true → 64 ≤ length bytes.new }
+        ensures unchanged { result ≡ false → bytes.new ≡ bytes.old }
+        ensures same { self.new ≡ self.old }
+    {
+        match self.book.see(guard) {
+            Some(body) => copy_front(guard.page(), guard.mark(), body, bytes),
+            None => false,
+        }
     }
 
-    fn most(&mut self) -> u64 {
+    fn most(&mut self) -> u64
+        ensures same { self.new ≡ self.old }
+        ensures most { result ≡ greatest_cost (plans_of self.old.book) }
+    {
         self.book.most()
     }
 }

@@ -23,9 +23,9 @@ ghost use Rattle.pp_device.specs.Image.{head_of};
 /// where a later fix fails. Until then nobody else changes the page, and one that is latched X nobody else sees.
 ///
 /// An image has as many bytes as the settings give a page: a head of 12 bytes, the page's number and its mark, and then
-/// the body. A mark rises by one each time a latch X is taken off its page. `see` gets a copy of the image, whose head
-/// names the page and the mark. `change` gets the body where it stands; what it leaves there is the page from then on,
-/// also where a later fix of the plan fails.
+/// the body. A mark rises by one each time a latch X is taken off its page. `see` gets a copy of the image, or of as much
+/// of its front as [`Work::reach`] says; the head names the page and the mark. `change` gets the body where it stands; what
+/// it leaves there is the page from then on, also where a later fix of the plan fails.
 ///
 /// A call may do what it likes with the work's own values, and may write the body as it likes. The pool can't be
 /// reached from it, so it can't wait for a page. It should not wait for anything else either: meanwhile the worker
@@ -46,12 +46,21 @@ pub trait Work {
         requires { 1 ≤ count }
         ensures { result < count };
 
+    /// How many bytes of an image [`Work::see`] is to get, from the first of the head on: all of them, unless a work says
+    /// fewer. It gets 64 at least, and never more than a page has.
+    ///
+    /// They are copied for it, where the pool is shared while its lock is held. So a work that looks at the front of pages
+    /// alone keeps the others waiting for less.
+    fn reach(&self) -> usize {
+        usize::MAX
+    }
+
     /// Changes the body of the page, which the worker has latched X: 52 bytes or more.
     fn change(&mut self, page: u32, body: &mut [u8])
         requires { 52 ≤ length body.old };
 
-    /// Sees the image of the page, which the worker has latched S: 64 bytes or more, and its head names the page and
-    /// this mark.
+    /// Sees the image of the page, which the worker has latched S, as far as the work's reach goes: 64 bytes or more, and
+    /// its head names the page and this mark.
     fn see(&mut self, page: u32, mark: u64, image: &[u8])
         requires head { head_of image.now ≡ (page, mark) }
         requires long { 64 ≤ length image.now };

@@ -9,7 +9,7 @@ ghost use Rattle.pp_pool.specs.Turns.{TurnIs, TurnOf, worker_with, Works, IsTurn
 
 use crate::asked::next;
 use crate::outcome::{Answer, Outcome};
-use crate::site::Site;
+use crate::site::{SHORTEST, Site};
 use crate::taken::stage_after;
 use crate::turned::Turned;
 use crate::work::Work;
@@ -268,19 +268,21 @@ fn used<S: Site, W: Work>(
     }
 }
 
-/// Looks at the guard's page and shows it to the work.
+/// Looks at the guard's page as far as the work's reach goes, and shows that to the work.
 fn see<S: Site, W: Work>(site: &mut S, guard: &ReadGuard, seen: &mut [u8], work: &mut W) -> Turned
     ensures turned { (result ≡ Turned.Done) ⊎ (result ≡ Turned.Broken) }
     ensures site { site.new ≡ site.old }
 {
-    if !site.look(guard, seen) {
+    let reach = work.reach().max(SHORTEST).min(seen.len());
+    let front = &mut seen[..reach];
+    if !site.look(guard, front) {
         return Turned::Broken;
     }
     let (page, mark) = (guard.page(), guard.mark());
-    if image::head(seen) != (page, mark) {
+    if image::head(front) != (page, mark) {
         return Turned::Broken;
     }
-    work.see(page, mark, seen);
+    work.see(page, mark, front);
     Turned::Done
 }
 

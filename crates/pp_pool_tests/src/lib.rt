@@ -10,6 +10,8 @@ mod fails;
 #[cfg(test)]
 mod pairs;
 #[cfg(test)]
+mod reaches;
+#[cfg(test)]
 mod rooms;
 #[cfg(test)]
 mod turns;

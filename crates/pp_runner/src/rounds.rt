@@ -72,6 +72,11 @@ impl Work for Rounds {
         raise_first(body);
     }
 
+    // It looks at nothing.
+    fn reach(&self) -> usize {
+        0
+    }
+
     fn see(&mut self, _page: u32, _mark: u64, _image: &[u8])
         ensures unchanged { self.new ≡ self.old }
     {}
