@@ -11,7 +11,14 @@ use pp_model::{Event, Failure, Reply};
 use pp_pool::{Answer, Outcome, Request, Site};
 use pp_settings::Layout;
 use pp_vault::{Flushing, Guard, Hand, ReadGuard};
-use std::sync::{Condvar, Mutex, Wait};
+use std::hint::spin_loop;
+use std::sync::{Condvar, Mutex, MutexGuard, Wait};
+
+/// How often the lock is tried before a thread sleeps until it is let go.
+const TRIES: u32 = 100;
+
+/// How many times a thread pauses between two tries.
+const PAUSES: u32 = 20;
 
 /// A site that threads share: a book under a lock, with what they wait on.
 ///
@@ -39,11 +46,11 @@ impl<'a, B: Desk, R: Wait> Site for LockedSite<'a, B, R> {
     }
 
     fn look(&mut self, guard: &ReadGuard, bytes: &mut [u8]) -> bool {
-        self.lock.lock(self.rt).desk.look(guard, bytes)
+        self.hold().desk.look(guard, bytes)
     }
 
     fn most(&mut self) -> u64 {
-        self.lock.lock(self.rt).desk.most()
+        self.hold().desk.most()
     }
 }
 
@@ -54,7 +61,7 @@ impl<'a, B: Desk, R: Wait> LockedSite<'a, B, R> {
         ensures { Replies request result }
     {
         let mut request = request;
-        let mut locked = self.lock.lock(self.rt);
+        let mut locked = self.hold();
         for _ in self.rt.forever() {
             let takes_writer_off = takes_writer_off(&request);
             let Outcome { event, answer } = locked.desk.perform(request);
@@ -88,6 +95,20 @@ impl<'a, B: Desk, R: Wait> LockedSite<'a, B, R> {
         unreachable!()
     }
 
+    /// Takes the lock. Who has it lets go in less time than a thread takes to fall asleep and be woken, so it is tried for a
+    /// while first.
+    fn hold(&self) -> MutexGuard<'a, Locked<B>> {
+        for _ in 0..TRIES {
+            if let Some(locked) = self.lock.try_lock() {
+                return locked;
+            }
+            for _ in 0..PAUSES {
+                spin_loop();
+            }
+        }
+        self.lock.lock(self.rt)
+    }
+
     /// Wakes those that wait for a move, and those that wait for a page to be changed where the move lets one be flushed.
     fn wake(&self, waiters: (u64, u64), lets_flush: bool) {
         let (waiting, idle) = waiters;
@@ -101,14 +122,14 @@ impl<'a, B: Desk, R: Wait> LockedSite<'a, B, R> {
 
     /// Where the regions of the plans lie, and how many bytes a page has.
     pub(crate) fn pages(&self) -> (Layout, u32) {
-        self.lock.lock(self.rt).desk.pages()
+        self.hold().desk.pages()
     }
 
     /// Takes the worker's hand out, where it is there.
     pub(crate) fn part(&self, worker: u32) -> Option<Hand>
         ensures { IfSome result (λ hand. stage_worker hand.stage ≡ Some worker) }
     {
-        self.lock.lock(self.rt).desk.part(worker)
+        self.hold().desk.part(worker)
     }
 
     /// Puts a worker's hand back, and wakes all that wait.
@@ -118,7 +139,7 @@ impl<'a, B: Desk, R: Wait> LockedSite<'a, B, R> {
     /// by itself. No test has met it, and no clause rules it out.
     pub(crate) fn put_back(&self, hand: Hand) {
         let mut hand = hand;
-        let mut locked = self.lock.lock(self.rt);
+        let mut locked = self.hold();
         for _ in self.rt.forever() {
             match locked.desk.join(hand) {
                 Ok(()) => {
@@ -137,7 +158,7 @@ impl<'a, B: Desk, R: Wait> LockedSite<'a, B, R> {
     /// Puts the flush in hand back, and wakes all that wait. Where there is another it waits for ever, as for a hand.
     pub(crate) fn put_flush_back(&self, flushing: Flushing) {
         let mut flushing = flushing;
-        let mut locked = self.lock.lock(self.rt);
+        let mut locked = self.hold();
         for _ in self.rt.forever() {
             match locked.desk.join_flush(flushing) {
                 Ok(()) => {
@@ -155,7 +176,7 @@ impl<'a, B: Desk, R: Wait> LockedSite<'a, B, R> {
 
     /// From now on a request that finds nothing to flush goes back. Wakes all that wait.
     pub(crate) fn close(&self) {
-        self.lock.lock(self.rt).close();
+        self.hold().close();
         self.wake_all();
     }
 
