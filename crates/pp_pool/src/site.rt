@@ -1,6 +1,6 @@
 //! Where workers and the flusher ask.
 
-ghost use Rattle.std.specs.Prelude.{◌≡◌, ◌≤◌, ◌-◌, true, false, length, take};
+ghost use Rattle.std.specs.Prelude.{◌≡◌, ◌≤◌, ◌<◌, ◌⊎◌, ◌-◌, true, false, length, take};
 ghost use Rattle.pp_device.specs.Image.{head_of, body_of};
 ghost use Rattle.pp_pool.specs.declared.request.Request.{Request};
 ghost use Rattle.pp_pool.specs.declared.outcome.Outcome.{Outcome};
@@ -50,6 +50,7 @@ fn copy_front(page: u32, mark: u64, body: &[u8], bytes: &mut [u8]) -> bool
     ensures head { result ≡ true → head_of bytes.new ≡ (page, mark) }
     ensures body { result ≡ true → body_of bytes.new ≡ take (length bytes.old - HEAD) body.now }
     ensures long { result ≡ true → 64 ≤ length bytes.new }
+    ensures refused { result ≡ false → (length bytes.old < 64) ⊎ (length body.now < length bytes.old - HEAD) }
     ensures unchanged { result ≡ false → bytes.new ≡ bytes.old }
 {
     if bytes.len() < SHORTEST || bytes.len() - HEAD > body.len() {
@@ -71,7 +72,7 @@ impl Site for OwnSite {
     ghost use Rattle.pp_pool.specs.Performs.{Performs};
     ghost use Rattle.pp_pool.specs.Parts.{plans_of};
     ghost use Rattle.pp_pool.specs.Books.{greatest_cost};
-    ghost use Rattle.pp_pool.specs.Fronts.{ShowsFront};
+    ghost use Rattle.pp_pool.specs.Fronts.{ShowsFront, ShowsNot};
 
     // The book's event and its answer, from the state that its journal leads to.
     ghost gives = { λ s request outcome t. Performs s.book request outcome t.book };
@@ -84,9 +85,11 @@ impl Site for OwnSite {
         ensures shown { result ≡ true → (head_of bytes.new).0 ≡ guard.now.page }
         ensures front { result ≡ true → ShowsFront self.old.book guard.now bytes.new }
         ensures long { result ≡ true → 64 ≤ length bytes.new }
+        ensures refused { result ≡ false → ShowsNot self.old.book guard.now (length bytes.old) }
         ensures unchanged { result ≡ false → bytes.new ≡ bytes.old }
         ensures same { self.new ≡ self.old }
     {
+        self.book.known();
         match self.book.see(guard) {
             Some(body) => copy_front(guard.page(), guard.mark(), body, bytes),
             None => false,

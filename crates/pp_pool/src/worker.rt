@@ -32,7 +32,8 @@ pub struct Worker<S, D> {
     pub log: Vec<Event>,
     /// Where the regions of the plans lie.
     pub layout: Layout,
-    page_bytes: u32,
+    /// How many bytes a page has.
+    pub page_bytes: u32,
     // A copy of a page that is seen; empty before a plan is taken.
     seen: Vec<u8>,
     alloc: Global,
@@ -46,6 +47,7 @@ impl<S: Site, D: Device> Worker<S, D> {
         ensures hand { result.hand ≡ hand }
         ensures log { result.log.items ≡ [] }
         ensures layout { result.layout ≡ geometry_of settings.now }
+        ensures page_bytes { result.page_bytes ≡ settings.now.page_bytes }
     {
         Worker::over(
             alloc,
@@ -72,6 +74,7 @@ impl<S: Site, D: Device> Worker<S, D> {
         ensures hand { result.hand ≡ hand }
         ensures log { result.log.items ≡ [] }
         ensures layout { result.layout ≡ layout }
+        ensures page_bytes { result.page_bytes ≡ page_bytes }
     {
         Worker {
             site,
@@ -100,6 +103,7 @@ impl<S: Site, D: Device> Worker<S, D> {
         ensures turn { TurnIs S.gives D.read_gives D.write_leaves D.calls D.failures self.old result self.new }
         ensures worker { stage_worker self.new.hand.stage ≡ stage_worker self.old.hand.stage }
         ensures layout { self.new.layout ≡ self.old.layout }
+        ensures page_bytes { self.new.page_bytes ≡ self.old.page_bytes }
     {
         if self.make_room().is_err() {
             return Turned::NoMemory;
@@ -144,6 +148,7 @@ impl<S: Site, D: Device> Worker<S, D> {
         ensures hand { self.new.hand ≡ self.old.hand }
         ensures log { self.new.log.items ≡ self.old.log.items }
         ensures layout { self.new.layout ≡ self.old.layout }
+        ensures page_bytes { self.new.page_bytes ≡ self.old.page_bytes }
         ensures busy { is_chair self.old.hand.stage ≡ false → self.new.log ≡ self.old.log }
         ensures err { OnErr result (is_chair self.old.hand.stage ≡ true) }
         ensures room { OnOk result (is_chair self.old.hand.stage ≡ true → vec_len self.new.log < vec_capacity self.new.log) }
