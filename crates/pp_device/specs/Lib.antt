@@ -1,5 +1,6 @@
 -- What the contracts of this crate cite.
 pub mod Answers
 pub mod Disk
+pub mod Faults
 pub mod Image
 pub mod Troubled
