@@ -31,6 +31,7 @@ pub mod MarkChanges
 pub mod Places
 pub mod FreeFrames
 pub mod Framed
+pub mod Settled
 pub mod MarkSteps
 pub mod PinRoom
 pub mod MarkBounds

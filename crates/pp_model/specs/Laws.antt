@@ -1,11 +1,13 @@
 -- Laws of reached states, in the words of those who use a pool.
 use Rattle.std.specs.Prelude.{◌≡◌, ◌≢◌, ◌⊎◌, ◌↔◌, ℕ, ◌+◌, ◌^◌, ◌<◌, ◌≤◌, true, false, None, Some, List, [], ◌∷◌}
 use Rattle.std.specs.Prelude.{◌++◌, ◌==◌, Bool, Option, length, count_by, slice_get, All, IsTrue, IsSome}
+use Rattle.pp_settings.specs.Layout.{page_count}
 use Rattle.pp_plan.specs.declared.mode.Mode.{Mode}
 use Rattle.pp_plan.specs.declared.action.Action.TheVariants as action
+use Rattle.pp_plan.specs.Traces.{Begins}
 use Rattle.pp_cert.specs.Held.{Holding, holding_at, IsAboveLatched}
 use Rattle.pp_cert.specs.Accepted.{Acceptance, IsAccepted}
-use Rattle.pp_arc.specs.FourLists.{is_cached, cached_count}
+use Rattle.pp_arc.specs.FourLists.{is_cached, cached_count, times_named}
 use Rattle.pp_frames.specs.Marks.{marks_of, with_marks, all_pins, least_free}
 use Rattle.pp_model.specs.declared.event.Event.{Event}
 use Rattle.pp_model.specs.declared.event.Event.TheVariants.{Submit, Step}
@@ -15,8 +17,9 @@ use Rattle.pp_model.specs.declared.moves.Move.TheVariants as moves
 use Rattle.pp_model.specs.declared.refusals.Delay.TheVariants.{FlushHolds}
 use Rattle.pp_model.specs.declared.reply.Reply.TheVariants.{NotNow}
 use Rattle.pp_model.specs.Pool.{acting, writing, Running, Finished, Flush, State, opening, frame_of, is_dirty}
-use Rattle.pp_model.specs.Pool.{known_mark}
-use Rattle.pp_model.specs.Holders.{holdings, loading, is_taken, readers_of, writers_of, errands_of, flushes_of}
+use Rattle.pp_model.specs.Pool.{known_mark, note_of, untouched}
+use Rattle.pp_model.specs.Holders.{holdings, loading, is_taken, is_in_flight, readers_of, writers_of, errands_of}
+use Rattle.pp_model.specs.Holders.{flushes_of}
 use Rattle.pp_model.specs.Budget.{cost_of, bound}
 use Rattle.pp_model.specs.Moves.{seat_of, reply_of, next_of, is_possible, IsPossible}
 use Rattle.pp_model.specs.Submitting.{most_events, submit_error, after_submit}
@@ -26,6 +29,37 @@ use Rattle.pp_model.specs.JournalMarks.{journal_mark}
 use Rattle.pp_model.specs.Reached.{IsReached}
 use Rattle.pp_model.specs.Marks.{marks_at, marks}
 use Rattle.pp_model.specs.Turns.{Asks, IsOpen, next_turn, IsUnderWay}
+
+-- ---- what the settings say
+
+-- There is one seat for each worker.
+abbrev pub SeatsAreWorkers : State → Type 0
+SeatsAreWorkers s = length s.seats ≡ s.settings.workers
+
+-- Each submitted plan is of the pool's layout.
+abbrev pub PlansAreOfTheLayout : State → Type 0
+PlansAreOfTheLayout s = (k : ℕ) (a : Acceptance) → slice_get s.plans k ≡ Some a → a.plan.layout ≡ s.settings.layout
+
+-- There is a note for each page of the layout, and no other page has to do with the pool.
+pub record PagesAreOfTheLayout (s : State) : Type 0 where
+  -- as many notes as pages
+  pub notes : length s.notes ≡ page_count s.settings.layout
+  -- nothing is noted of any other page: it has no frame, isn't dirty, and its mark isn't known
+  pub others : (page : ℕ) → page_count s.settings.layout ≤ page → note_of s page ≡ untouched
+  -- a page that is cached, or whose name is remembered, is one of them
+  pub named : (page : ℕ) → 0 < times_named s.lists page → page < page_count s.settings.layout
+  -- so is one that a slot holds or loads
+  pub taken : (page : ℕ) → IsTrue (is_taken s page) → page < page_count s.settings.layout
+  -- so is one that is loaded, or written back as a victim
+  pub in_flight : (page : ℕ) → IsTrue (is_in_flight s page) → page < page_count s.settings.layout
+  -- so is one that is flushed
+  pub flushed : (f : Flush) → s.flush ≡ Some f → f.page < page_count s.settings.layout
+
+-- What a worker has done begins a trace of its plan.
+abbrev pub DoneBeginsATrace : State → Type 0
+DoneBeginsATrace s =
+    (w : ℕ) (r : Running) → seat_of s w ≡ Some (Some r)
+    → Begins r.accepted.plan.layout r.accepted.plan.body r.done
 
 -- ---- all frames fixed
 

@@ -13,6 +13,7 @@ pub mod Flushing
 pub mod Moves
 pub mod Submitting
 pub mod SubmitErrors
+pub mod Refusals
 pub mod Runs
 pub mod Journals
 pub mod JournalMarks

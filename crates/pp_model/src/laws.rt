@@ -13,6 +13,7 @@ ghost use Rattle.pp_model.specs.Laws.{JournalGrows, JournalTakesIn, MarksTell, O
 ghost use Rattle.pp_model.specs.Laws.{FrameIsLeft, PinIsLeft, DirtyAreKept, HeldAreKnown, LoadedAreKnown};
 ghost use Rattle.pp_model.specs.Laws.{MarksAreTheJournals, MarksAreSmall, PlansAreAccounted};
 ghost use Rattle.pp_model.specs.Laws.{NextWhileUnderWay, NextIsOpen};
+ghost use Rattle.pp_model.specs.Laws.{SeatsAreWorkers, PlansAreOfTheLayout, PagesAreOfTheLayout, DoneBeginsATrace};
 ghost use Rattle.pp_model.specs.Ready.{OpensEmpty, ReadyAreCached, ReadyStand, ReadyAreApart, FramedAreReadyOrAway};
 ghost use Rattle.pp_model.specs.Ready.{AwayAreOfPages, AwayAreApart, SharedAreReady, ExclusiveAreAway, LoadingAreAway};
 ghost use Rattle.pp_model.specs.Ready.{StillKeeps, ReadVacates, WriteLeaves, WrittenKeeps, UnwrittenEnters};
@@ -22,6 +23,19 @@ ghost use Rattle.pp_model.specs.Ready.{VictimsKeep};
 ghost use Rattle.pp_model.specs.Shapes.{RepliesFit};
 ghost use Rattle.pp_model.specs.Alone.{FlushStays, FlushStarts, FlushEnds, SettingsStay, OthersSit, AllSit};
 ghost use Rattle.pp_model.specs.Alone.{SubmitLeaves};
+
+/// A state is of its settings. It has a seat for each worker and a note for each page, and its plans are of its layout.
+/// No page past the last one is cached or remembered, held, loaded, written back or flushed.
+pub fn states_are_of_their_settings()
+    ensures seats { (s : State) → IsReached s → SeatsAreWorkers s }
+    ensures plans { (s : State) → IsReached s → PlansAreOfTheLayout s }
+    ensures pages { (s : State) → IsReached s → PagesAreOfTheLayout s }
+{}
+
+/// What a worker has done begins a trace of its plan, whether it acts, waits for an errand or leaves.
+pub fn workers_follow_their_plans()
+    ensures begun { (s : State) → IsReached s → DoneBeginsATrace s }
+{}
 
 /// Room: the peaks of all plans that run sum to at most the frames, and each worker holds and loads at most its peak.
 pub fn peaks_fit()

@@ -41,6 +41,32 @@ impl fmt::Display for Delay {
     }
 }
 
+impl Delay {
+    ghost use Rattle.pp_text.specs.Views.{row_of_refusal};
+    ghost use Rattle.pp_model.specs.Refusals.{delay_row};
+
+    /// The refusal that it is a cause of: the number and the name, `61 NotNow`.
+    pub fn refusal(self) -> Refusal
+        ensures { row_of_refusal result ≡ delay_row self }
+    {
+        Refusal::new(61, "NotNow", About::Nothing)
+    }
+
+    /// The number of the refusal: 61, whatever delays the move.
+    pub fn number(self) -> u8
+        ensures { result ≡ (delay_row self).number }
+    {
+        self.refusal().number
+    }
+
+    /// The name of the refusal: `NotNow`.
+    pub fn name(self) -> &'static str
+        ensures { result.now ≡ (delay_row self).name }
+    {
+        self.refusal().name
+    }
+}
+
 /// Why a move isn't one that may be asked here at all.
 #[derive(Clone, Copy, Debug, PartialEq, Eq)]
 pub enum Cause {
@@ -84,6 +110,32 @@ impl fmt::Display for Cause {
             Cause::NotDirty => "notdirty",
             Cause::NoFlushLeft => "noflushleft",
         })
+    }
+}
+
+impl Cause {
+    ghost use Rattle.pp_text.specs.Views.{row_of_refusal};
+    ghost use Rattle.pp_model.specs.Refusals.{cause_row};
+
+    /// The refusal that it is a cause of: the number and the name, `62 OffPlan`.
+    pub fn refusal(self) -> Refusal
+        ensures { row_of_refusal result ≡ cause_row self }
+    {
+        Refusal::new(62, "OffPlan", About::Nothing)
+    }
+
+    /// The number of the refusal: 62, whatever the cause.
+    pub fn number(self) -> u8
+        ensures { result ≡ (cause_row self).number }
+    {
+        self.refusal().number
+    }
+
+    /// The name of the refusal: `OffPlan`.
+    pub fn name(self) -> &'static str
+        ensures { result.now ≡ (cause_row self).name }
+    {
+        self.refusal().name
     }
 }
 

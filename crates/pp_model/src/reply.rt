@@ -1,8 +1,9 @@
 //! What the pool answers.
 
-ghost use Rattle.std.specs.Prelude.{Some};
+ghost use Rattle.std.specs.Prelude.{◌≡◌, Some};
 
 use crate::refusals::{Cause, Delay};
+use pp_text::{About, Refusal};
 use std::fmt;
 
 /// Why a fix failed at the device.
@@ -28,6 +29,36 @@ impl fmt::Display for Failure {
             Failure::ReadFault => "read",
             Failure::Misread => "misread",
         })
+    }
+}
+
+impl Failure {
+    ghost use Rattle.pp_text.specs.Views.{row_of_refusal};
+    ghost use Rattle.pp_model.specs.Refusals.{failure_row};
+
+    /// The number and the name of the failure, as in `73 Misread`.
+    pub fn refusal(self) -> Refusal
+        ensures { row_of_refusal result ≡ failure_row self }
+    {
+        match self {
+            Failure::WriteFault => Refusal::new(72, "WriteFault", About::Nothing),
+            Failure::ReadFault => Refusal::new(71, "ReadFault", About::Nothing),
+            Failure::Misread => Refusal::new(73, "Misread", About::Nothing),
+        }
+    }
+
+    /// The number of the failure: 71 to 73.
+    pub fn number(self) -> u8
+        ensures { result ≡ (failure_row self).number }
+    {
+        self.refusal().number
+    }
+
+    /// The name of the failure: `ReadFault`, `WriteFault` or `Misread`.
+    pub fn name(self) -> &'static str
+        ensures { result.now ≡ (failure_row self).name }
+    {
+        self.refusal().name
     }
 }
 
