@@ -1,3 +1,4 @@
 -- What the contracts of this crate cite.
 pub mod End
+pub mod Refusals
 pub mod Stores

@@ -17,6 +17,30 @@ pub enum OpenError {
     OutOfMemory,
 }
 
+impl OpenError {
+    ghost use Rattle.pp_shared.specs.Refusals.{open_error_number, open_error_name};
+
+    /// The number of the fault, 71 or 72, or 19 for want of memory.
+    pub fn number(self) -> u8
+        ensures { result ≡ open_error_number self }
+    {
+        match self {
+            OpenError::Fault(fault) => fault.number(),
+            OpenError::OutOfMemory => 19,
+        }
+    }
+
+    /// The name of the fault, or `OutOfMemory`.
+    pub fn name(self) -> &'static str
+        ensures { result.now ≡ open_error_name self }
+    {
+        match self {
+            OpenError::Fault(fault) => fault.name(),
+            OpenError::OutOfMemory => "OutOfMemory",
+        }
+    }
+}
+
 impl From<AllocError> for OpenError {
     ghost from_gives = { λ _ e. e ≡ OutOfMemory };
 
