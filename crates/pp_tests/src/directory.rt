@@ -222,10 +222,10 @@ fn quotients_are_rounded_down(rt: HostRuntime) -> Result<(), Fail> {
 
 /// Brings the victim back where that may be asked, and says whether it may.
 fn bring_back(directory: &mut Directory, page: u32, victim: u32) -> bool
-    requires { 64 ≤ directory.old.pages }
+    requires { 16 ≤ directory.old.pages }
     ensures { directory.new.pages ≡ directory.old.pages }
 {
-    let victim = victim % 64;
+    let victim = victim % 16;
     if !is_cached(directory, page) || is_cached(directory, victim) {
         return false;
     }
@@ -239,25 +239,25 @@ fn is_cached(directory: &Directory, page: u32) -> bool
     matches!(directory.place(page), Some(List::T1) | Some(List::T2))
 }
 
-/// A directory and the plain program.
+/// A directory of 16 pages and the plain program.
 #[derive(Drop)]
 struct Pair {
     directory: Directory,
     plain: Plain,
-    ghost wide: { 64 ≤ directory.pages },
+    ghost wide: { 16 ≤ directory.pages },
 }
 
 impl Pair {
     fn new(alloc: Global, c: u32) -> Result<Self, AllocError> {
-        let directory = Directory::new(alloc, c.max(1), 64)?;
+        let directory = Directory::new(alloc, c.max(1), 16)?;
         let plain = Plain::new(alloc, c.max(1));
         Ok(Pair { directory, plain })
     }
 
     /// Asks both for the page, and says what they answer if it is the same.
     fn ask(&mut self, page: u32, busy: &[u32]) -> Result<Option<Answer>, AllocError> {
-        let answer = self.directory.request(page % 64, &Among(busy));
-        let other = self.plain.request(page % 64, busy)?;
+        let answer = self.directory.request(page % 16, &Among(busy));
+        let other = self.plain.request(page % 16, busy)?;
         Ok(if answer == other { Some(answer) } else { None })
     }
 
@@ -282,17 +282,33 @@ impl Pair {
         ];
         has(&self.directory, lists, plain.target)
     }
+
+    /// Which of the lists were met: those that were met before, and those that have a page now.
+    fn met(&self, before: [bool; 4]) -> [bool; 4] {
+        let directory = &self.directory;
+        [
+            before[0] || directory.len(List::T1) > 0,
+            before[1] || directory.len(List::T2) > 0,
+            before[2] || directory.len(List::B1) > 0,
+            before[3] || directory.len(List::B2) > 0,
+        ]
+    }
 }
 
+/// Each request is of page `s % 7`. At the first one `s` is 0, and then it is `(5 * s + 3) % 16` each time. The requests
+/// meet all four lists.
 #[test]
 fn a_thousand_requests_while_a_page_is_busy(rt: HostRuntime) -> Result<(), Fail> {
     let mut pair = Pair::new(rt.alloc(), 3)?;
+    let mut met = [false; 4];
     let mut s: u32 = 0;
     for count in 0..1000u32 {
-        s = (s % 16 * 5 + 3) % 16;
         let answer = pair.ask(s % 7, &[3])?;
         assert!(rt; answer.is_some() && pair.agrees(), "request {count}");
+        met = pair.met(met);
+        s = (s % 16 * 5 + 3) % 16;
     }
+    assert!(rt; met == [true; 4], "a list was never met: {met:?}");
     Ok(())
 }
 
