@@ -30,9 +30,9 @@ pub trait Site {
         ensures given { gives self.old request result self.new }
         ensures fits { Replies request result };
 
-    /// Copies the image of a page that is latched S into the slice, from its first byte on, as far as the slice goes, and
-    /// tells whether it did. It did not, and the slice is as it was, where the guard isn't one of this state, or the slice
-    /// has fewer than 64 bytes or more than a page.
+    /// Fills the slice with the front of the image of a page that is latched S: the guard's page and mark, and then the body,
+    /// as far as the slice goes. Tells whether it did. It did not, and the slice is as it was, where the guard isn't one of
+    /// this state, or the slice has fewer than 64 bytes or more than a page.
     fn look(&mut self, guard: &ReadGuard, bytes: &mut [u8]) -> bool
         ensures shown { result ≡ true → (head_of bytes.new).0 ≡ guard.now.page }
         ensures long { result ≡ true → 64 ≤ length bytes.new }
@@ -70,7 +70,8 @@ pub struct OwnSite {
 
 impl Site for OwnSite {
     ghost use Rattle.pp_pool.specs.Performs.{Performs};
-    ghost use Rattle.pp_pool.specs.Parts.{plans_of};
+    ghost use Rattle.pp_vault.specs.Looks.{may_see};
+    ghost use Rattle.pp_pool.specs.Parts.{plans_of, state_of};
     ghost use Rattle.pp_pool.specs.Books.{greatest_cost};
     ghost use Rattle.pp_pool.specs.Fronts.{ShowsFront, ShowsNot};
 
@@ -85,6 +86,7 @@ impl Site for OwnSite {
         ensures shown { result ≡ true → (head_of bytes.new).0 ≡ guard.now.page }
         ensures front { result ≡ true → ShowsFront self.old.book guard.now bytes.new }
         ensures long { result ≡ true → 64 ≤ length bytes.new }
+        ensures held { result ≡ true → may_see guard.now (state_of self.old.book) ≡ true }
         ensures refused { result ≡ false → ShowsNot self.old.book guard.now (length bytes.old) }
         ensures unchanged { result ≡ false → bytes.new ≡ bytes.old }
         ensures same { self.new ≡ self.old }

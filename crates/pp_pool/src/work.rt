@@ -5,7 +5,7 @@ ghost use Rattle.pp_device.specs.Image.{head_of};
 
 /// What a worker does with the pages of its plans, and which way it takes where a plan leaves that open.
 ///
-/// Each worker has a work of its own. A turn of the worker makes at most one of these calls, so they come one after
+/// Each worker has a work of its own. A turn of the worker makes at most one of these four calls, so they come one after
 /// another, in the order of the plan's statements:
 ///
 /// | Call | When |
@@ -14,6 +14,8 @@ ghost use Rattle.pp_device.specs.Image.{head_of};
 /// | [`Work::branch`] | each time it asks for a choice |
 /// | [`Work::change`] | once after each latch X |
 /// | [`Work::see`] | once after each latch S |
+///
+/// [`Work::reach`] is asked besides, just before each look at a page, and may answer another number each time.
 ///
 /// A fix may have to wait. A site of one's own refuses it then, and the worker's next turn asks `page` anew; a site
 /// that is shared waits, and asks for the same page again. So let `page` only tell the page, and go on in `see` or in
@@ -49,8 +51,8 @@ pub trait Work {
     /// How many bytes of an image [`Work::see`] is to get, from the first of the head on: all of them, unless a work says
     /// fewer. It gets 64 at least, and never more than a page has.
     ///
-    /// They are copied for it, where the pool is shared while its lock is held. So a work that looks at the front of pages
-    /// alone keeps the others waiting for less.
+    /// So many are copied for it. Where the pool is shared, its lock is held meanwhile, so a work that looks at the front of
+    /// pages alone keeps the others waiting for less time.
     fn reach(&self) -> usize {
         usize::MAX
     }

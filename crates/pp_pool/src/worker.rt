@@ -34,7 +34,7 @@ pub struct Worker<S, D> {
     pub layout: Layout,
     /// How many bytes a page has.
     pub page_bytes: u32,
-    // A copy of a page that is seen; empty before a plan is taken.
+    // Room for one page; the front of it has what was shown last. Empty before a plan is taken.
     seen: Vec<u8>,
     alloc: Global,
 }
@@ -61,6 +61,9 @@ impl<S: Site, D: Device> Worker<S, D> {
 
     /// The same, with what a worker wants of the settings: the layout, and how many bytes a page has. A thread can take
     /// these along.
+    ///
+    /// The bytes should be as many as the site's pages have. With fewer, its work is shown no more than so many; where a look
+    /// wants more than a page has, or so many are fewer than 64, the turn ends as [`Turned::Broken`].
     pub fn over(
         alloc: Global,
         site: S,

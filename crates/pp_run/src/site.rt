@@ -17,7 +17,7 @@ use std::sync::{Condvar, Mutex, MutexGuard, Wait};
 /// How often the lock is tried before a thread sleeps until it is let go.
 const TRIES: u32 = 100;
 
-/// How many times a thread pauses between two tries.
+/// How many times a thread pauses after each try that failed.
 const PAUSES: u32 = 20;
 
 /// A site that threads share: a book under a lock, with what they wait on.
@@ -95,7 +95,7 @@ impl<'a, B: Desk, R: Wait> LockedSite<'a, B, R> {
         unreachable!()
     }
 
-    /// Takes the lock. Who has it lets go in less time than a thread takes to fall asleep and be woken, so it is tried for a
+    /// Takes the lock. Who has it mostly lets go sooner than a thread could fall asleep and be woken, so it is tried for a
     /// while first.
     fn hold(&self) -> MutexGuard<'a, Locked<B>> {
         for _ in 0..TRIES {
