@@ -1,2 +1,3 @@
 mod DiskLemmas
 mod Heads
+mod Planting

@@ -2,5 +2,6 @@
 pub mod Answers
 pub mod Disk
 pub mod Faults
+pub mod Honest
 pub mod Image
 pub mod Troubled

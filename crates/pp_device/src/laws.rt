@@ -1,9 +1,11 @@
-//! Laws of the definitions: what was written is read.
+//! Laws of the definitions: what was written is read, and which devices keep every byte.
 
 ghost use Rattle.std.specs.Prelude.{◌≡◌, ◌≢◌, ℕ, ◌^◌, ◌<◌, ◌≤◌, List, length, All, Ok};
 ghost use Rattle.pp_device.specs.Image.{with_head, head_of, body_of};
 ghost use Rattle.pp_device.specs.Disk.{Disk, DiskReads, DiskWrites, image_of};
+ghost use Rattle.pp_device.specs.Honest.{SoloIsHonest, FailingIsHonest};
 
+use crate::device::Device;
 use crate::image::HEAD;
 
 /// A head is read as it was written, and the body stays; writing the head that stands there changes nothing.
@@ -25,4 +27,15 @@ pub fn pages_are_read_as_written()
         → other ≢ page → image_of e other ≡ image_of d other }
     ensures readings { (d e : Disk) (page other : ℕ) (slice given : List ℕ)
         → DiskReads d page slice (Ok tt) given e → image_of e other ≡ image_of d other }
+{}
+
+/// A device in memory keeps every byte.
+pub fn solo_devices_are_honest()
+    ensures { SoloIsHonest }
+{}
+
+/// A device with planted troubles keeps every byte where the device inside does and no lie is planted: a call that is planted
+/// to fail changes nothing.
+pub fn failing_devices_are_honest<D: Device>()
+    ensures { FailingIsHonest D.read_gives D.write_leaves }
 {}
