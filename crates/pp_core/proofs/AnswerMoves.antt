@@ -109,7 +109,7 @@ reads_so (Some (Some (Reading a b))) e h =
     ap {B = Option (Option Phase)} (λ (x : Read). Some (Some (Reading x.slot x.page))) (sym same)
 reads_so (Some (Some Leaving)) e h = cc
 
-writer : (f : Parts) (s : State) (w : ℕ) (e : Write) → StandsFor f s
+pub writer : (f : Parts) (s : State) (w : ℕ) (e : Write) → StandsFor f s
     → ◌≡◌ {A = Result Write Cause} (writing_of (phase_of f w)) (Ok e) → Errand f s w (writing e.slot e.page e.victim)
 writer f s w e st h =
     let at = in_phase f w (Writing e.slot e.page e.victim) (writes_so (phase_of f w) e h) in
@@ -125,7 +125,7 @@ writer f s w e st h =
       fits = two.fits;
     }
 
-reader : (f : Parts) (s : State) (w : ℕ) (e : Read) → StandsFor f s
+pub reader : (f : Parts) (s : State) (w : ℕ) (e : Read) → StandsFor f s
     → ◌≡◌ {A = Result Read Cause} (reading_of (phase_of f w)) (Ok e) → Errand f s w (reading e.slot e.page)
 reader f s w e st h =
     let at = in_phase f w (Reading e.slot e.page) (reads_so (phase_of f w) e h) in

@@ -152,7 +152,7 @@ module _ (f : Parts) (w page slot region : ℕ) (asks : Asks f w (ask.Fix slot r
 
     -- ARC was asked.
     module _ (free : is_flying f page ≡ false) (a : Answer) (is : a ≡ (request f.lists page (is_busy_in f)).0) where
-      abbrev after : FourLists
+      abbrev pub after : FourLists
       after = (request f.lists page (is_busy_in f)).1
 
       told : (s : State) (st : StandsFor f s) → request f.lists page (is_busy_in f) ≡ request s.lists page (is_busy s)
@@ -166,7 +166,7 @@ module _ (f : Parts) (w page slot region : ℕ) (asks : Asks f w (ask.Fix slot r
       }
 
       -- The outcome, by what ARC answers.
-      by_answer : (s : State) (st : StandsFor f s)
+      pub by_answer : (s : State) (st : StandsFor f s)
           → outcome_of s (move.Fix w page) ≡ fix_by s after w (asks s st).0 slot page a
       by_answer s st =
           outcome_is s st true has

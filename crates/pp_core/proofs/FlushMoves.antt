@@ -229,6 +229,11 @@ module _ (f : Parts) (page : ℕ) where
         unwritten = same_latch s st changed ∙ unlatched;
       }
 
+      -- The outcome, where it is done.
+      pub begin_outcome : (s : State) → StandsFor f s
+          → outcome_of s (move.FlushBegin page) ≡ flush_where s page true true false
+      begin_outcome s st = begins s true true false st changed (some_left left) (same_latch s st changed ∙ unlatched)
+
       begin_leads : (s : State) (mark : ℕ) → StandsFor f s → mark ≡ mark_in f.marks page
           → Leads s (move.FlushBegin page) (Flushing mark) (flush_begun f page mark)
       begin_leads s mark st e =
@@ -237,7 +242,7 @@ module _ (f : Parts) (page : ℕ) where
           e ∙ ap (λ (m : PageMap). mark_in m page) st.marks ∙ mark_told s page (changed_low s st changed) in
           record {
             after = record { reply = Flushing (mark_at s page); state = t };
-            is = begins s true true false st changed (some_left left) (same_latch s st changed ∙ unlatched);
+            is = begin_outcome s st;
             replies = ap Flushing at;
             stands = λ reached. flush_stands f s t f.marks (Some (record { page = page; began = mark }))
                 (f.flushes_left - 1) (f.budget - 1) st reached

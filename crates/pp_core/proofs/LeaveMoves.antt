@@ -163,7 +163,7 @@ can_end f s w r left st e few =
 
 module _ (f : Parts) (w : ℕ) (leaves : is_leaving (phase_of f w) ≡ true) where
   -- The outcome, by what the worker holds.
-  leaver_outcome : (s : State) (l : Leaver f s w)
+  pub leaver_outcome : (s : State) (l : Leaver f s w)
       → outcome_of s (move.Finish w) ≡ finish_holding s w l.running (holdings l.running)
   leaver_outcome s l = ap (finish_by s w) l.at.seat ∙ ap (finish_in s w l.running) l.at.stage
 
@@ -186,7 +186,7 @@ module _ (f : Parts) (w : ℕ) (leaves : is_leaving (phase_of f w) ≡ true) whe
       leaver_outcome s l
       ∙ still_holds s l.running (holdings l.running) (omega (arith, lt, tells l.seat l.is_in, l.fits.holds)))
 
-  empty : (s : State) (l : Leaver f s w) (n : ℕ) → TellsHolds n → n ≤ 0 → holdings l.running ≡ []
+  pub empty : (s : State) (l : Leaver f s w) (n : ℕ) → TellsHolds n → n ≤ 0 → holdings l.running ≡ []
   empty s l n tells le = none_held (holdings l.running) (omega (arith, le, tells l.seat l.is_in, l.fits.holds))
 
   pub can_leave : IsKept f → (n : ℕ) → TellsHolds n → n ≤ 0 → CanEnd f w 1

@@ -14,6 +14,7 @@ mod FlushMoves
 mod LeaveMoves
 mod TakeMoves
 mod UnwindMoves
+mod RefusalTies
 pub mod Standing
 mod OpeningTies
 mod SubmitTies

@@ -107,15 +107,15 @@ module _ (f : Parts) (w : ℕ) where
         (λ s st. take_outcome s None st (none_by (slice_get f.plans f.taken) e))
 
     -- The plan that waits, and its peak.
-    abbrev Next : Option Acceptance → ℕ → Type 0
+    abbrev pub Next : Option Acceptance → ℕ → Type 0
     Next o peak = (a : Acceptance) × (o ≡ Some a) × (a.peak ≡ peak)
 
-    next_by : (o : Option Acceptance) (peak : ℕ) → option_map (λ (a : Acceptance). a.peak) o ≡ Some peak → Next o peak
+    pub next_by : (o : Option Acceptance) (peak : ℕ) → option_map (λ (a : Acceptance). a.peak) o ≡ Some peak → Next o peak
     next_by None peak e = cc
     next_by (Some a) peak e = (a, refl, cc)
 
     module _ (peak : ℕ) (waits : waiting_peak f ≡ Some peak) where
-      abbrev next : Next (slice_get f.plans f.taken) peak
+      abbrev pub next : Next (slice_get f.plans f.taken) peak
       next = next_by (slice_get f.plans f.taken) peak waits
 
       same_room : (s : State) → StandsFor f s → has_room_in s next.0 ≡ has_room f peak
@@ -148,6 +148,12 @@ module _ (f : Parts) (w : ℕ) where
             budget = omega (arith, st.budget, numbers.take_bound s w next.0 (idle_there idle s st) (next_there s st));
           }
 
+      -- The outcome where there is room.
+      pub take_outcome_is : has_room f peak ≡ true → (s : State) → StandsFor f s
+          → outcome_of s (move.Take w) ≡ take_where s w next.0 true
+      take_outcome_is room s st =
+          take_outcome s (Some next.0) st next.1 ∙ ap (take_where s w next.0) (same_room s st ∙ room)
+
       pub take_moves : (g : Parts) → has_room f peak ≡ true
           → ((a : Acceptance) → slice_get f.plans f.taken ≡ Some a → Began f g w a)
           → Moves f (move.Take w) (Taken f.taken) g
@@ -163,7 +169,7 @@ module _ (f : Parts) (w : ℕ) where
               let fits = begun_fits s f.taken b.seat a st.taken there b.begun in
               record {
                 after = record { reply = Taken s.taken; state = t };
-                is = take_outcome s (Some a) st next.1 ∙ ap (take_where s w a) (same_room s st ∙ room);
+                is = take_outcome_is room s st;
                 replies = ap Taken st.taken;
                 stands = λ reached. subst (λ (z : Parts). StandsFor z t) (sym b.rest) (record {
                   reached = reached;

@@ -205,7 +205,7 @@ seats_stay s X page = refl
 
 module _ (f : Parts) (w slot : ℕ) (leaves : is_leaving (phase_of f w) ≡ true) where
   -- The outcome, by what the slot still holds.
-  unwind_outcome : (s : State) (l : Leaver f s w)
+  pub unwind_outcome : (s : State) (l : Leaver f s w)
       → outcome_of s (move.Unwind w slot)
       ≡ unwind_where s w l.running slot l.given (holding_at (holdings l.running) slot)
   unwind_outcome s l = ap (unwind_by s w slot) l.at.seat ∙ ap (unwind_in s w slot l.running) l.at.stage
@@ -220,7 +220,7 @@ module _ (f : Parts) (w slot : ℕ) (leaves : is_leaving (phase_of f w) ≡ true
       unwind_outcome s l ∙ ap (unwind_where s w l.running slot l.given) none)
 
   module _ (held : Hold) (told : (x : Seat) → IsIn f w x → Some held ≡ hold_at x.slots slot) where
-    behind : (s : State) (l : Leaver f s w) → Behind (holding_at (holdings l.running) slot) held
+    pub behind : (s : State) (l : Leaver f s w) → Behind (holding_at (holdings l.running) slot) held
     behind s l =
         held_by (holding_at (holdings l.running) slot) held (sym (l.fits.slots slot) ∙ sym (told l.seat l.is_in))
 

@@ -26,7 +26,7 @@ use Rattle.pp_model.proofs.Sums.{sum_by-term}
 use Rattle.pp_model.proofs.Falls.{left_at}
 use Rattle.pp_model.specs.Marks.{marks}
 use Rattle.pp_model.specs.Outcome.{having_done, did}
-use Rattle.pp_model.specs.Moves.{asked_by, seat_of}
+use Rattle.pp_model.specs.Moves.{asked_by, seat_of, outcome_of}
 use Rattle.pp_model.specs.Reached.{IsReached}
 use Rattle.pp_model.specs.Using.{unfix_asked, goes_with, latch_asked, latch_where}
 use Rattle.pp_model.proofs.HoldingSteps as steps
@@ -294,14 +294,20 @@ module _ (f : Parts) (w slot page : ℕ) (m : Mode) (asks : Asks f w (ask.Latch 
       ∙ ap (λ (z : PageMap). map.is_compatible (latch_mode_of m) (map.latches_of z page)) (sym st.marks)
       ∙ sym e
 
+  -- The outcome, by the same.
+  pub latch_outcome : (s : State) (st : StandsFor f s) (b : Bool)
+      → b ≡ map.is_compatible (latch_mode_of m) (map.latches_of f.marks page)
+      → outcome_of s (move.Latch w) ≡ latch_where s w (asks s st).0 slot m b
+  latch_outcome s st b e =
+      acted_outcome s w (asks s st).0 (λ q. latch_asked s w q (asked_by q)) (asks s st).1
+      ∙ ap (latch_asked s w (asks s st).0) (asks s st).2
+      ∙ ap (latch_where s w (asks s st).0 slot m) (latch_goes s st b e)
+
   pub latch_refused : (n : PageMap) → false ≡ map.is_compatible (latch_mode_of m) (map.latches_of f.marks page)
       → n ≡ f.marks → Moves f (move.Latch w) (NotNow LatchHeld) (record f { marks = n })
   latch_refused n e same =
       subst (λ (z : PageMap). Moves f (move.Latch w) (NotNow LatchHeld) (record f { marks = z })) (sym same)
-      (refuses f (move.Latch w) (NotNow LatchHeld) (λ s st.
-      acted_outcome s w (asks s st).0 (λ q. latch_asked s w q (asked_by q)) (asks s st).1
-      ∙ ap (latch_asked s w (asks s st).0) (asks s st).2
-      ∙ ap (latch_where s w (asks s st).0 slot m) (latch_goes s st false e)))
+      (refuses f (move.Latch w) (NotNow LatchHeld) (λ s st. latch_outcome s st false e))
 
   pub latch_moves : (g : Parts) (n : PageMap) (mark : ℕ)
       → true ≡ map.is_compatible (latch_mode_of m) (map.latches_of f.marks page)
@@ -338,8 +344,7 @@ module _ (f : Parts) (w slot page : ℕ) (m : Mode) (asks : Asks f w (ask.Latch 
           let here : g.marks ≡ marks t = ap (λ (z : Parts). z.marks) spent.rest ∙ now in
           record {
             after = record { reply = Latched (mark_at s (page_in r slot)); state = t };
-            is = acted_outcome s w r (λ q. latch_asked s w q (asked_by q)) (asks s st).1
-                ∙ ap (latch_asked s w r) (asks s st).2 ∙ ap (latch_where s w r slot m) fit;
+            is = latch_outcome s st true e;
             replies = ap Latched (tells ∙ ap (λ (z : PageMap). mark_in z page) here ∙ ap (mark_in (marks t)) at
                 ∙ mark_told t (page_in r slot) (latch_low h));
             stands = λ reached. spent_stands f g s t w r d n st reached h.asked spent_here

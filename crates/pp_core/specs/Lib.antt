@@ -16,5 +16,6 @@ pub mod Opening
 pub mod Submits
 pub mod Runs
 pub mod Queries
+pub mod Refusals
 pub mod Draining
 pub mod AfterMoves

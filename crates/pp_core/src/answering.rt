@@ -33,7 +33,7 @@ pub struct Read {
 }
 
 /// What a worker at this phase has a device write, or why nothing.
-fn writing_of(phase: Option<Option<Phase>>) -> Result<Write, Cause>
+pub(crate) fn writing_of(phase: Option<Option<Phase>>) -> Result<Write, Cause>
     ensures { result ≡ writing_of phase }
 {
     match phase {
@@ -44,7 +44,7 @@ fn writing_of(phase: Option<Option<Phase>>) -> Result<Write, Cause>
 }
 
 /// What a worker at this phase has a device read, or why nothing.
-fn reading_of(phase: Option<Option<Phase>>) -> Result<Read, Cause>
+pub(crate) fn reading_of(phase: Option<Option<Phase>>) -> Result<Read, Cause>
     ensures { result ≡ reading_of phase }
 {
     match phase {

@@ -23,7 +23,7 @@ use pp_plan::{Action, Ask};
 
 impl Table {
     /// Whether the region has the page.
-    fn has_page(&self, region: u8, page: u32) -> bool
+    pub(crate) fn has_page(&self, region: u8, page: u32) -> bool
         ensures { result ≡ region_has self.now.layout region page }
     {
         match self.layout.extent(region) {
@@ -33,7 +33,7 @@ impl Table {
     }
 
     /// Whether the page is loaded for a worker or written back as a victim. A page past the last one isn't.
-    fn is_flying(&self, page: u32) -> bool
+    pub(crate) fn is_flying(&self, page: u32) -> bool
         ensures { result ≡ is_flying (parts_of self.now) page }
     {
         self.in_flight.get(page as usize).copied().unwrap_or(false)

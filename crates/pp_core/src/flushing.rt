@@ -40,14 +40,14 @@ impl Table {
     }
 
     /// Whether the page is cached and newer than the device's.
-    fn is_changed(&self, page: u32) -> bool
+    pub(crate) fn is_changed(&self, page: u32) -> bool
         ensures { result ≡ is_changed (parts_of self.now) page }
     {
         self.is_cached(page) && self.marks.is_dirty(page)
     }
 
     /// Whether the page is cached.
-    fn is_cached(&self, page: u32) -> bool
+    pub(crate) fn is_cached(&self, page: u32) -> bool
         ensures { result ≡ is_cached self.now.directory page }
     {
         matches!(self.directory.place(page), Some(List::T1 | List::T2))

@@ -73,7 +73,7 @@ impl Table {
     }
 
     /// How many slots of a worker in its plan hold a page.
-    fn holds(&self, worker: u32) -> u32
+    pub(crate) fn holds(&self, worker: u32) -> u32
         requires { HasPlan (parts_of self.now) worker }
         ensures { (x : Seat) → IsIn (parts_of self.now) worker x → result ≡ x.holds }
     {

@@ -20,6 +20,7 @@ mod machine;
 mod moves;
 mod opening;
 mod queries;
+mod refusing;
 mod seat;
 mod submitting;
 mod table;

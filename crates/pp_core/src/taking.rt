@@ -36,7 +36,7 @@ impl Table {
     }
 
     /// The peak of the first plan that waits.
-    fn waiting_peak(&self) -> Option<u64>
+    pub(crate) fn waiting_peak(&self) -> Option<u64>
         ensures { result ≡ waiting_peak (parts_of self.now) }
     {
         match self.plans.get(self.taken as usize) {
@@ -46,7 +46,7 @@ impl Table {
     }
 
     /// Whether a plan of this peak fits beside those that run.
-    fn has_room(&self, peak: u64) -> bool
+    pub(crate) fn has_room(&self, peak: u64) -> bool
         requires { self.now.running ≤ self.now.layout.frames }
         ensures { result ≡ has_room (parts_of self.now) peak }
     {
