@@ -19,7 +19,7 @@ use Rattle.pp_model.proofs.BoundLaws.{Taken, taken_kept}
 use Rattle.pp_model.proofs.MarkBounds.{need_is_small, bound_within}
 use Rattle.pp_core.specs.Parts.{Parts}
 use Rattle.pp_core.specs.StandsFor.{StandsFor, IsKept, Moves}
-use Rattle.pp_core.specs.Draining.{IsMoveOf, IsNextMove, GoesByTurns, Drains, Rests, CanBeMade}
+use Rattle.pp_core.specs.Draining.{Host, IsNextMove, GoesByTurns, Drains, Rests, CanBeMade, DecidesIn}
 
 -- ---- one move more
 
@@ -28,32 +28,33 @@ after_more : (s : State) (ms : List Move) (m : Move)
 after_more s [] m = refl
 after_more s (n ∷ ms) m = after_more (next_of s n) ms m
 
-turns_more : (s : State) (ms : List Move) (m : Move) → GoesByTurns s ms → IsNextMove (state_after s ms) m
-    → GoesByTurns s (ms ++ m ∷ [])
-turns_more s [] m goes next = (next, tt)
-turns_more s (n ∷ ms) m goes next = (goes.0, turns_more (next_of s n) ms m goes.1 next)
+turns_more : {H : Type 0} (host : Host H) (s : State) (h : H) (ms : List Move) (i : H) (m : Move) (j : H)
+    → GoesByTurns host s h ms i → IsNextMove host (state_after s ms) i m j → GoesByTurns host s h (ms ++ m ∷ []) j
+turns_more host s h [] i m j goes next = (j, subst (λ z. IsNextMove host s z m j) goes next, refl)
+turns_more host s h (n ∷ ms) i m j goes next =
+    (goes.0, goes.1, turns_more host (next_of s n) goes.0 ms i m j goes.2 next)
 
--- So many moves lead from each state at the start to what is kept now.
-abbrev pub Leads : (old new : Parts) → (count : ℕ) → Type 0
-Leads old new count = (s : State) → StandsFor old s → Drains s new count
+-- So many moves lead from each state and host at the start to what is kept and to the host that there is now.
+abbrev pub Leads : {H : Type 0} → Host H → (old : Parts) → H → (new : Parts) → (count : ℕ) → H → Type 0
+Leads host old h new count i = (s : State) → StandsFor old s → Drains host s h new count i
 
-pub leads_nowhere : (f : Parts) → Leads f f 0
-leads_nowhere f = λ s st. record { moves = []; many = refl; by_turns = tt; leads = st }
+pub leads_nowhere : {H : Type 0} (host : Host H) (f : Parts) (h : H) → Leads host f h f 0 h
+leads_nowhere host f h = λ s st. record { moves = []; many = refl; by_turns = refl; leads = st }
 
-pub leads_on : (old f g : Parts) (count : ℕ) (turn : Turn) (m : Move) (reply : Reply) → Leads old f count
-    → ((s : State) → StandsFor f s → Some turn ≡ next_turn s) → CanBeMade f m → IsMoveOf turn m → Moves f m reply g
-    → Leads old g (count + 1)
-leads_on old f g count turn m reply leads next can is step = λ s st.
+pub leads_on : {H : Type 0} (host : Host H) (old f g : Parts) (h i j : H) (count : ℕ) (turn : Turn) (m : Move)
+    (reply : Reply) → Leads host old h f count i → ((s : State) → StandsFor f s → Some turn ≡ next_turn s)
+    → CanBeMade f m → DecidesIn host f turn i m j → Moves f m reply g → Leads host old h g (count + 1) j
+leads_on host old f g h i j count turn m reply leads next can decided step = λ s st.
     let d = leads s st in
     let mid = state_after s d.moves in
     record {
       moves = d.moves ++ m ∷ [];
       many = omega (arith, d.many, length-append d.moves (m ∷ []));
-      by_turns = turns_more s d.moves m d.by_turns (record {
+      by_turns = turns_more host s h d.moves i m j d.by_turns (record {
         possible = can mid d.leads;
         turn = turn;
         next = sym (next mid d.leads);
-        of_turn = is;
+        decided = decided mid d.leads;
       });
       leads = subst (StandsFor g) (sym (after_more s d.moves m)) (step.stands mid d.leads);
     }

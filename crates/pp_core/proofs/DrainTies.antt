@@ -1,9 +1,10 @@
 -- What is decided in an open turn is possible.
 use Rattle.std.proofs.Common.{◌≡◌, ◌∙◌, ℕ, zero, suc, ◌<◌, ◌≤◌, ◌+◌, Bool, true, false, Option, Some, None, List, [], ◌∷◌}
 use Rattle.std.proofs.Common.{length, refl, sym, ap, subst, inl, inr, arith}
-use Rattle.std.specs.Prelude.{slice_get, option_map, IsSome}
+use Rattle.std.specs.Prelude.{slice_get, option_map, nat_lt, IsSome}
 use Rattle.std.specs.Option.{is_some}
 use Rattle.std.proofs.lemmas.Bool.Decides.{nat_tests}
+use Rattle.std.proofs.lemmas.List.Quantifiers.{position-Some}
 use Rattle.std.proofs.lemmas.Option.{get_or_from_slice_get, slice_get_within}
 use Rattle.pp_settings.specs.declared.extent.Extent.{Extent}
 use Rattle.pp_settings.specs.Layout.{Geometry, has_page, IsExtent, IsLayout}
@@ -14,6 +15,7 @@ use Rattle.pp_plan.specs.declared.action.Ask.TheVariants as ask
 use Rattle.pp_plan.specs.Cursor.{NamesAction, IsAskOf}
 use Rattle.pp_plan.proofs.Asking.{asks_named, asked_within}
 use Rattle.pp_cert.specs.Held.{Holding, Holdings, holding_at}
+use Rattle.pp_model.specs.declared.moves.Move.{Move}
 use Rattle.pp_model.specs.declared.moves.Move.TheVariants as move
 use Rattle.pp_model.specs.declared.moves.Came.{Came}
 use Rattle.pp_model.specs.declared.refusals.Cause.{Cause}
@@ -34,12 +36,14 @@ use Rattle.pp_model.proofs.TurnsErrands.{Passes, IsFirst, first_is}
 use Rattle.pp_model.proofs.TurnsLeaving.{a_worker_at_its_end_can_finish}
 use Rattle.pp_core.specs.declared.seat.Seat.{Seat}
 use Rattle.pp_core.specs.declared.seat.Hold.{Hold}
+use Rattle.pp_core.specs.declared.table.Flush.{Flush}
 use Rattle.pp_core.specs.Slots.{hold_at, hold_of, first_filled}
 use Rattle.pp_core.specs.Effects.{IsIn}
 use Rattle.pp_core.specs.Parts.{Parts}
 use Rattle.pp_core.specs.StandsFor.{FitsSeat, FitsRunning, StandsFor, IsKept, in_flight_as, Asks, CannotAct}
-use Rattle.pp_core.specs.Queries.{errand_in, errand_by, errand_seat}
-use Rattle.pp_core.specs.Draining.{IsOpenIn, CanBeMade, CanGo}
+use Rattle.pp_core.specs.Queries.{leaves, errand_in, errand_by, errand_seat}
+use Rattle.pp_core.specs.Draining.{Host, AnswersErrand, AnswersFlush, DoesAsked, Leaves, Acts}
+use Rattle.pp_core.specs.Draining.{IsOpenIn, CanBeMade, DecidesIn, CanGo, LeavesIn}
 use Rattle.pp_core.proofs.Crew.{seat_to}
 use Rattle.pp_core.proofs.Asking.{both}
 use Rattle.pp_core.proofs.QueryTies.{errand_told}
@@ -100,6 +104,57 @@ some_errand f w kept opens is =
     let o = opens kept.state kept.stands in
     let r : Running = o.0 in
     can_nothing kept.state w r.stage (errand_there f kept.state w None r kept.stands is o.1) o.2
+
+-- The host's answer is to the errand that is out.
+abbrev page_of : Option (ℕ × ℕ × Option ℕ) → ℕ
+page_of None = 0
+page_of (Some (slot, page, o)) = page
+
+writes_errand : {H : Type 0} (host : Host H) (w : ℕ) (g : Stage) (slot page v : ℕ) (ok : Bool) (h i : H)
+    → errand_in g ≡ Some (slot, page, Some v) → host.writes h v ok i
+    → AnswersErrand host w g h (move.WriteDone w ok) i
+writes_errand host w acting slot page v ok h i e told = cc
+writes_errand host w (writing t x u) slot page v ok h i e told =
+    let same : Some u ≡ Some v = ap victim_of e in
+    (ok, subst (λ z. host.writes h z ok i) (sym cc) told, refl)
+writes_errand host w (reading t x) slot page v ok h i e told = let same = ap victim_of e in cc
+writes_errand host w (leaving given) slot page v ok h i e told = cc
+
+reads_errand : {H : Type 0} (host : Host H) (w : ℕ) (g : Stage) (slot page : ℕ) (came : Came) (h i : H)
+    → errand_in g ≡ Some (slot, page, None) → host.reads h page came i
+    → AnswersErrand host w g h (move.ReadDone w came) i
+reads_errand host w acting slot page came h i e given = cc
+reads_errand host w (writing t x u) slot page came h i e given = let same = ap victim_of e in cc
+reads_errand host w (reading t x) slot page came h i e given =
+    let same : x ≡ page = ap page_of e in (came, subst (λ z. host.reads h z came i) (sym same) given, refl)
+reads_errand host w (leaving other) slot page came h i e given = cc
+
+pub write_decided : {H : Type 0} (host : Host H) (f : Parts) (w slot page v : ℕ) (o : Option ℕ) (ok : Bool) (h i : H)
+    → IsOpenIn f (Device w) → Some (slot, page, o) ≡ errand_seat (slice_get f.seats w) → o ≡ Some v
+    → host.writes h v ok i → DecidesIn host f (Device w) h (move.WriteDone w ok) i
+write_decided host f w slot page v o ok h i opens is e told = λ s st.
+    let p = opens s st in
+    let r : Running = p.0 in
+    let out : errand_in r.stage ≡ Some (slot, page, Some v) =
+    errand_there f s w (Some (slot, page, o)) r st is p.1 ∙ ap (λ (z : Option ℕ). Some (slot, page, z)) e in
+    (r, p.1, writes_errand host w r.stage slot page v ok h i out told)
+
+pub read_decided : {H : Type 0} (host : Host H) (f : Parts) (w slot page : ℕ) (o : Option ℕ) (came : Came) (h i : H)
+    → IsOpenIn f (Device w) → Some (slot, page, o) ≡ errand_seat (slice_get f.seats w) → o ≡ None
+    → host.reads h page came i → DecidesIn host f (Device w) h (move.ReadDone w came) i
+read_decided host f w slot page o came h i opens is e given = λ s st.
+    let p = opens s st in
+    let r : Running = p.0 in
+    let out : errand_in r.stage ≡ Some (slot, page, None) =
+    errand_there f s w (Some (slot, page, o)) r st is p.1 ∙ ap (λ (z : Option ℕ). Some (slot, page, z)) e in
+    (r, p.1, reads_errand host w r.stage slot page came h i out given)
+
+-- It is to the flush that is in flight.
+pub flush_decided : {H : Type 0} (host : Host H) (f : Parts) (x : Flush) (ok : Bool) (h i : H) → f.flush ≡ Some x
+    → host.flushes h x.page ok i → DecidesIn host f FlushDevice h (move.FlushDone ok) i
+flush_decided host f x ok h i e told = λ s st.
+    subst (λ o. AnswersFlush host o h (move.FlushDone ok) i) (sym (ap (option_map in_flight_as) e) ∙ st.flush)
+    (ok, told, refl)
 
 -- A flush is in flight, where its end can be told.
 no_end : (s : State) (o : Option FlushInFlight) → o ≡ None → Passes (flushed_by s true o) → ⊥
@@ -166,6 +221,20 @@ asked_action f w x a opens asks n = λ s st.
     (subst (λ (y : Ask). NamesAction s.settings.layout y a) (sym at.2)
     (subst (λ (g : Geometry). NamesAction g x a) st.layout n))
 
+-- And it is decided so, where the host was asked what the plan asks.
+pub asked_decided : {H : Type 0} (host : Host H) (f : Parts) (w : ℕ) (x : Ask) (h : H) (m : Move) (i : H)
+    → Asks f w x → DoesAsked host f.layout w x h m i → DecidesIn host f (Act w) h m i
+asked_decided host f w x h m i asks does = λ s st.
+    let at = asks s st in
+    let r : Running = at.0 in
+    let here : DoesAsked host s.settings.layout w (asked_by r) h m i =
+    subst (λ (y : Ask). DoesAsked host s.settings.layout w y h m i) (sym at.2)
+    (subst (λ (g : Geometry). DoesAsked host g w x h m i) st.layout does) in (
+      r,
+      at.1.seat,
+      subst (λ (g : Stage). Acts host s.settings.layout w r g h m i) (sym at.1.stage) here,
+    )
+
 -- At its plan's end a worker can finish.
 pub asked_end : (f : Parts) (w : ℕ) → Asks f w ask.End → CanBeMade f (move.Finish w)
 asked_end f w asks = λ s st.
@@ -221,11 +290,11 @@ abbrev some_outcome : State → Running → Outcome
 some_outcome s r = record { reply = Did; state = s }
 
 leaves_by : (s : State) (w : ℕ) (r : Running) (g : Stage) (cause : Cause)
-    → act_in s (some_outcome s) r g ≡ off_plan s cause → CanAct s w r g → CanLeave s w r
+    → act_in s (some_outcome s) r g ≡ off_plan s cause → CanAct s w r g → CanLeave s w r × (leaves g ≡ true)
 leaves_by s w r acting cause e can = let same = ap (λ (o : Outcome). o.reply) e in cc
 leaves_by s w r (writing t x u) cause e can = absurd can
 leaves_by s w r (reading t x) cause e can = absurd can
-leaves_by s w r (leaving given) cause e can = can
+leaves_by s w r (leaving given) cause e can = (can, refl)
 
 -- A worker whose turn it is and that doesn't act leaves its plan.
 pub goes : (f : Parts) (w : ℕ) (cause : Cause) → IsOpenIn f (Act w) → CannotAct f w cause → CanGo f w
@@ -234,7 +303,7 @@ goes f w cause opens cannot = λ s st.
     let r : Running = o.0 in
     let e : act_by s (some_outcome s) (Some (Some r)) ≡ off_plan s cause =
     ap (act_by s (some_outcome s)) (sym o.1) ∙ cannot s (some_outcome s) st in
-    (r, o.1, leaves_by s w r r.stage cause e o.2)
+    let gone = leaves_by s w r r.stage cause e o.2 in (r, o.1, gone.0, gone.1)
 
 -- Its seat.
 seat_by : (f : Parts) (s : State) (w : ℕ) (x : Option Seat) (r : Running) → slice_get f.seats w ≡ Some x
@@ -303,3 +372,85 @@ finishes f w can is = λ s st.
     let fits : FitsRunning s.plans x r = subst (λ (q : Running). FitsRunning s.plans x q) same two.fits in
     o.2.last (nothing_held (holdings r) (λ k. empty_holds (hold_at x.slots k) (holding_at (holdings r) k) (fits.slots k)
     (none_at x.slots (is x at.1) k)))
+
+-- ---- what a leaving worker does
+
+-- No slot before the first one that holds a page holds one.
+least_at : (slots : List (Option Hold)) (k other : ℕ) → Some k ≡ first_filled slots
+    → is_some (hold_at slots other) ≡ true → k ≤ other
+least_at slots k other e there = go (nat_lt other k) refl
+  where
+    go : (b : Bool) → nat_lt other k ≡ b → k ≤ other
+    go true l =
+        let lt : other < k = grind (arith, nat_tests) in
+        let empty : is_some (hold_at slots other) ≡ false =
+        (position-Some is_some slots k None (sym e)).2 other lt in
+        cc
+    go false l = grind (arith, nat_tests)
+
+held_filled : (o : Option Hold) (h : Option Holding) → o ≡ option_map hold_of h → IsSome h → is_some o ≡ true
+held_filled o None e some = cc
+held_filled o (Some h) e some = ap is_some e
+
+pub leaves_slot : (f : Parts) (w slot : ℕ) → CanGo f w
+    → ((x : Seat) → IsIn f w x → Some slot ≡ first_filled x.slots) → LeavesIn f w (move.Unwind w slot)
+leaves_slot f w slot can is = λ s st.
+    let o = can s st in
+    let r : Running = o.0 in
+    let there = seat_to s.plans f.seats s.seats w (Some r) st.seats o.1 in
+    let at = seat_by f s w there.0 r there.1 there.2 in
+    let x : Seat = at.0 in
+    let two = both f s w x st at.1 in
+    let same : two.running ≡ r = (let a = two.there in let b = o.1 in cc) in
+    let fits : FitsRunning s.plans x r = subst (λ (q : Running). FitsRunning s.plans x q) same two.fits in
+    let first : Some slot ≡ first_filled x.slots = is x at.1 in (
+      r,
+      o.1,
+      o.3,
+      inl (
+        slot,
+        record {
+          holds = filled_held (hold_at x.slots slot) (holding_at (holdings r) slot) (fits.slots slot)
+              (first_at x.slots slot first);
+          least = λ other some. least_at x.slots slot other first
+              (held_filled (hold_at x.slots other) (holding_at (holdings r) other) (fits.slots other) some);
+        },
+        refl,
+      ),
+    )
+
+pub leaves_last : (f : Parts) (w : ℕ) → CanGo f w → ((x : Seat) → IsIn f w x → None ≡ first_filled x.slots)
+    → LeavesIn f w (move.Finish w)
+leaves_last f w can is = λ s st.
+    let o = can s st in
+    let r : Running = o.0 in
+    let there = seat_to s.plans f.seats s.seats w (Some r) st.seats o.1 in
+    let at = seat_by f s w there.0 r there.1 there.2 in
+    let x : Seat = at.0 in
+    let two = both f s w x st at.1 in
+    let same : two.running ≡ r = (let a = two.there in let b = o.1 in cc) in
+    let fits : FitsRunning s.plans x r = subst (λ (q : Running). FitsRunning s.plans x q) same two.fits in (
+      r,
+      o.1,
+      o.3,
+      inr (
+        nothing_held (holdings r) (λ k. empty_holds (hold_at x.slots k) (holding_at (holdings r) k) (fits.slots k)
+            (none_at x.slots (is x at.1) k)),
+        refl,
+      ),
+    )
+
+acts_leaving : {H : Type 0} (host : Host H) (g : Geometry) (w : ℕ) (r : Running) (stage : Stage) (h : H) (m : Move)
+    → leaves stage ≡ true → Leaves w (holdings r) m → Acts host g w r stage h m h
+acts_leaving host g w r acting h m e goes = cc
+acts_leaving host g w r (writing t x u) h m e goes = cc
+acts_leaving host g w r (reading t x) h m e goes = cc
+acts_leaving host g w r (leaving given) h m e goes = (goes, refl)
+
+-- It asks the host nothing.
+pub leaving_decided : {H : Type 0} (host : Host H) (f : Parts) (w : ℕ) (h : H) (m : Move) → LeavesIn f w m
+    → DecidesIn host f (Act w) h m h
+leaving_decided host f w h m goes = λ s st.
+    let o = goes s st in
+    let r : Running = o.0 in
+    (r, o.1, acts_leaving host s.settings.layout w r r.stage h m o.2 o.3)

@@ -1,11 +1,12 @@
 //! What is left to decide in a turn, and who decides it.
 
-ghost use Rattle.std.specs.Prelude.{◌≡◌, ◌<◌, ◌≤◌, ◌+◌, slice_get};
+ghost use Rattle.std.specs.Prelude.{◌≡◌, ◌<◌, ◌≤◌, ◌+◌, ℕ, Bool, slice_get};
+ghost use Rattle.pp_model.specs.declared.moves.Came.{Came};
 ghost use Rattle.pp_core.specs.declared.seat.Seat.{Seat};
 ghost use Rattle.pp_core.specs.Parts.{parts_of};
 ghost use Rattle.pp_core.specs.StandsFor.{IsKept, Asks};
 ghost use Rattle.pp_core.specs.Effects.{IsIn};
-ghost use Rattle.pp_core.specs.Draining.{IsMoveOf, IsOpenIn, CanBeMade, CanGo};
+ghost use Rattle.pp_core.specs.Draining.{host_of, IsOpenIn, CanBeMade, DecidesIn, CanGo, LeavesIn};
 ghost use Rattle.pp_core.specs.Slots.{first_filled};
 
 use crate::table::Table;
@@ -14,28 +15,47 @@ use pp_plan::Ask;
 
 /// What decides for workers and device, where a pool is driven to its end by [`Core::drain`].
 ///
+/// Each host says what its answers mean by a relation of its own for each question: from the host as it was, with these
+/// numbers, this answer, and the host as it is then. A relation that holds of all says nothing; one that pins the answer,
+/// or keeps the numbers, lets a caller of `drain` know which moves were made.
+///
 /// [`Core::drain`]: crate::Core::drain
 pub trait Decide {
+    ghost picks: { Self → (region first count page : ℕ) → Self → Type 0 };
+
+    ghost chooses: { Self → (count branch : ℕ) → Self → Type 0 };
+
+    ghost reads: { Self → (page : ℕ) → Came → Self → Type 0 };
+
+    ghost writes: { Self → (page : ℕ) → (ok : Bool) → Self → Type 0 };
+
+    ghost flushes: { Self → (page : ℕ) → (ok : Bool) → Self → Type 0 };
+
     /// The page that a worker fixes, of a region that has so many pages from the first on.
     fn page(&mut self, region: u8, first: u32, count: u32) -> u32
         requires some { 1 ≤ count }
         requires ends { first + count ≤ 65536 }
         ensures from { first ≤ result }
-        ensures below { result < first + count };
+        ensures below { result < first + count }
+        ensures picked { picks self.old region first count result self.new };
 
     /// The branch that a worker goes on with, of so many.
     fn branch(&mut self, count: u16) -> u16
         requires { 1 ≤ count }
-        ensures { result < count };
+        ensures below { result < count }
+        ensures chosen { chooses self.old count result self.new };
 
     /// What the device gives where it is asked to read the page.
-    fn came(&mut self, page: u32) -> Came;
+    fn came(&mut self, page: u32) -> Came
+        ensures given { reads self.old page result self.new };
 
     /// Whether the device has written the page back.
-    fn wrote(&mut self, page: u32) -> bool;
+    fn wrote(&mut self, page: u32) -> bool
+        ensures told { writes self.old page result self.new };
 
     /// Whether the device has written the flusher's page.
-    fn flushed(&mut self, page: u32) -> bool;
+    fn flushed(&mut self, page: u32) -> bool
+        ensures told { flushes self.old page result self.new };
 }
 
 impl Table {
@@ -44,7 +64,8 @@ impl Table {
         requires kept { IsKept (parts_of self.now) }
         requires open { IsOpenIn (parts_of self.now) turn }
         ensures possible { CanBeMade (parts_of self.now) result }
-        ensures of_turn { IsMoveOf turn result }
+        ensures decided { DecidesIn (host_of D.picks D.chooses D.reads D.writes D.flushes) (parts_of self.now)
+            turn decide.old result decide.new }
     {
         match turn {
             Turn::Device(worker) => self.answer(worker, decide),
@@ -61,7 +82,8 @@ impl Table {
         requires kept { IsKept (parts_of self.now) }
         requires open { IsOpenIn (parts_of self.now) (Turn.Device worker) }
         ensures possible { CanBeMade (parts_of self.now) result }
-        ensures of_turn { IsMoveOf (Turn.Device worker) result }
+        ensures decided { DecidesIn (host_of D.picks D.chooses D.reads D.writes D.flushes) (parts_of self.now)
+            (Turn.Device worker) decide.old result decide.new }
     {
         match self.errand(worker) {
             Some((_, _, Some(victim))) => Move::WriteDone {
@@ -81,7 +103,8 @@ impl Table {
         requires kept { IsKept (parts_of self.now) }
         requires open { IsOpenIn (parts_of self.now) Turn.FlushDevice }
         ensures possible { CanBeMade (parts_of self.now) result }
-        ensures of_turn { IsMoveOf Turn.FlushDevice result }
+        ensures decided { DecidesIn (host_of D.picks D.chooses D.reads D.writes D.flushes) (parts_of self.now)
+            Turn.FlushDevice decide.old result decide.new }
     {
         match self.flush {
             Some(flush) => Move::FlushDone {
@@ -98,7 +121,8 @@ impl Table {
         requires kept { IsKept (parts_of self.now) }
         requires open { IsOpenIn (parts_of self.now) (Turn.Act worker) }
         ensures possible { CanBeMade (parts_of self.now) result }
-        ensures of_turn { IsMoveOf (Turn.Act worker) result }
+        ensures decided { DecidesIn (host_of D.picks D.chooses D.reads D.writes D.flushes) (parts_of self.now)
+            (Turn.Act worker) decide.old result decide.new }
     {
         match self.asked(worker) {
             Ok(ask) => self.do_asked(worker, ask, decide),
@@ -112,7 +136,8 @@ impl Table {
         requires open { IsOpenIn (parts_of self.now) (Turn.Act worker) }
         requires asks { Asks (parts_of self.now) worker ask }
         ensures possible { CanBeMade (parts_of self.now) result }
-        ensures of_turn { IsMoveOf (Turn.Act worker) result }
+        ensures decided { DecidesIn (host_of D.picks D.chooses D.reads D.writes D.flushes) (parts_of self.now)
+            (Turn.Act worker) decide.old result decide.new }
     {
         match ask {
             Ask::Fix { region, .. } => match self.layout.extent(region) {
@@ -138,7 +163,7 @@ impl Table {
         requires kept { IsKept (parts_of self.now) }
         requires open { CanGo (parts_of self.now) worker }
         ensures possible { CanBeMade (parts_of self.now) result }
-        ensures of_turn { IsMoveOf (Turn.Act worker) result }
+        ensures goes { LeavesIn (parts_of self.now) worker result }
     {
         match self.first_held(worker) {
             Some(slot) => Move::Unwind { worker, slot },

@@ -13,7 +13,7 @@ ghost use Rattle.pp_core.specs.StandsFor.{StandsFor, IsKept, Moves};
 ghost use Rattle.pp_core.specs.Opening.{kept_of};
 ghost use Rattle.pp_core.specs.Submits.{TakesIn};
 ghost use Rattle.pp_core.specs.Runs.{MovesAll};
-ghost use Rattle.pp_core.specs.Draining.{IsMoveOf, IsOpenIn, CanBeMade, Drains, Rests};
+ghost use Rattle.pp_core.specs.Draining.{host_of, IsOpenIn, CanBeMade, DecidesIn, Drains, Rests};
 ghost use Rattle.pp_core.specs.Queries.{is_idle, is_leaving, ask_of, held_of, errand_of, flushed_page, plan_count};
 ghost use Rattle.pp_core.specs.Headline.{HeadlineHolds};
 
@@ -214,10 +214,11 @@ impl Core {
     ///
     /// Each of the moves is possible, whatever is decided, and there are at most as many as [`Core::budget`] tells at
     /// the start. In the end every plan was ended, exactly once, and no flush is in flight.
-    pub fn drain(&mut self, decide: &mut impl Decide) -> u64
+    pub fn drain<D: Decide>(&mut self, decide: &mut D) -> u64
         ensures within { result + self.new.budget ≤ self.old.budget }
         ensures rest { Rests self.new }
-        ensures moved { (s : State) → StandsFor self.old s → Drains s self.new result }
+        ensures moved { (s : State) → StandsFor self.old s
+            → Drains (host_of D.picks D.chooses D.reads D.writes D.flushes) s decide.old self.new result decide.new }
         ensures kept { IsKept self.new }
         ensures headline { HeadlineHolds self.new }
     {
@@ -232,10 +233,10 @@ impl Core {
     }
 
     /// The move of an open turn, as it is decided.
-    fn decided(&self, turn: Turn, decide: &mut impl Decide) -> Move
+    fn decided<D: Decide>(&self, turn: Turn, decide: &mut D) -> Move
         requires { IsOpenIn self.now turn }
         ensures possible { CanBeMade self.now result }
-        ensures of_turn { IsMoveOf turn result }
+        ensures decided { DecidesIn (host_of D.picks D.chooses D.reads D.writes D.flushes) self.now turn decide.old result decide.new }
     {
         self.table.decided(turn, decide)
     }

@@ -1,4 +1,5 @@
 use Rattle.std.proofs.Common.{◌∙◌, sym, arith}
+use Rattle.pp_core.specs.Draining.{host_of}
 use Rattle.pp_core.proofs.Standing.{headline_holds}
 use Rattle.pp_core.proofs.DrainRuns.{leads_on, spends, budget_small, rests}
 use Rattle.pp_core.proofs.machine.Core.drain.Goals as goal
@@ -12,15 +13,17 @@ loop-turn-preserved g c =
     let f = c.loop-turn.self in
     let next = c.step.new.self in
     let asked = c.decided-asked.result in
+    let d = g.D.Decide in
     let less =
     spends f next asked c.step.result c.loop-turn.invariant.kept c.decided-asked.ensures.possible c.step.ensures.moves
     c.step.ensures.budget in
     record {
       kept = c.step.ensures.kept;
       spent = omega (arith, less, c.loop-turn.invariant.spent);
-      leads = leads_on c.args.self.now f next c.loop-turn.count c.in-Some.turn asked c.step.result
+      leads = leads_on (host_of d.picks d.chooses d.reads d.writes d.flushes) c.args.self.now f next c.args.decide.now
+          c.loop-turn.decide c.decided-asked.new.decide c.loop-turn.count c.in-Some.turn asked c.step.result
           c.loop-turn.invariant.leads (λ s st. sym c.in-Some.is ∙ c.next_possible.ensures.turn s st)
-          c.decided-asked.ensures.possible c.decided-asked.ensures.of_turn c.step.ensures.moves;
+          c.decided-asked.ensures.possible c.decided-asked.ensures.decided c.step.ensures.moves;
     }
 
 pub returns-clause-rest : goal.returns-clause-rest

@@ -2,9 +2,11 @@ use Rattle.std.proofs.Common.{◌≡◌, ◌∙◌, Some, refl, sym, subst}
 use Rattle.std.specs.Prelude.{slice_get}
 use Rattle.pp_plan.specs.declared.action.Action.TheVariants as action
 use Rattle.pp_plan.specs.Cursor.{NamesAction}
+use Rattle.pp_model.specs.declared.moves.Move.TheVariants as move
+use Rattle.pp_core.specs.Draining.{host_of, DoesAsked}
 use Rattle.pp_core.specs.Parts.{parts_of}
 use Rattle.pp_core.specs.StandsFor.{Asks}
-use Rattle.pp_core.proofs.DrainTies.{asked_action, some_region, page_asked, some_branch}
+use Rattle.pp_core.proofs.DrainTies.{asked_action, asked_decided, some_region, page_asked, some_branch}
 use Rattle.pp_core.proofs.table.Table.do_asked.Goals as goal
 
 pub unreachable-requires : goal.unreachable-requires
@@ -36,3 +38,16 @@ returns-in-Latch-clause-possible g c =
     let a = action.Latch c.in-Latch.slot c.in-Latch.mode in
     asked_action f c.args.worker c.args.ask a c.requires.open c.requires.asks
     (subst (λ x. NamesAction f.layout x a) (sym c.in-Latch.is) (refl, refl))
+
+pub returns-in-Some-clause-decided : goal.returns-in-Some-clause-decided
+returns-in-Some-clause-decided g c =
+    let f = parts_of c.args.self.now in
+    let d = g.D.Decide in
+    let host = host_of d.picks d.chooses d.reads d.writes d.flushes in
+    let w = c.args.worker in
+    let m = move.Fix w c.page.result in
+    let there : slice_get f.layout.extents c.in-Fix.region ≡ Some c.in-Some.extent =
+    sym c.extent.ensures ∙ c.in-Some.is in
+    asked_decided host f w c.args.ask c.args.decide.now m c.page.new.self c.requires.asks
+    (subst (λ a. DoesAsked host f.layout w a c.args.decide.now m c.page.new.self) (sym c.in-Fix.is)
+    (c.in-Some.extent, c.page.result, there, c.page.ensures.picked, refl))
