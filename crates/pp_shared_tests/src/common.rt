@@ -3,7 +3,9 @@
 use pp_device::{Device, Fault};
 use std::process::Abort;
 use std::rt::Files;
-use std::{env, fs, io};
+use std::sync::atomic::{AtomicBool, Ordering};
+use std::time::{Clock, Duration};
+use std::{env, fs, io, thread};
 
 /// How long the images of these tests are.
 pub const BYTES: usize = 16;
@@ -94,4 +96,20 @@ pub fn holds<R: Files + AllocGlobal + Abort>(rt: &R, path: &str, want: &[u8]) ->
     let bytes = fs::read(rt, path)?;
     same_bytes(rt, &bytes, want);
     Ok(())
+}
+
+// ---- patience
+
+/// How many hundredths of a second threads may take.
+const PATIENCE: u32 = 4_000;
+
+/// Waits until it is over. The test fails where that takes too long.
+pub fn watch<R: Abort + Clock>(rt: &R, over: &AtomicBool) {
+    for _moment in 0..PATIENCE {
+        if over.load(Ordering::SeqCst) {
+            return;
+        }
+        let _slept = thread::sleep(rt, Duration::from_millis(10));
+    }
+    panic!(rt; "the threads hang");
 }

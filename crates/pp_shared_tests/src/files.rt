@@ -4,10 +4,12 @@ use crate::common::{
     BLANK, BYTES, CHANGED, fails, holds, path_of, reads, refuses, same_bytes, two_of, writes,
 };
 use pp_device::Fault;
+use pp_format::{Nobody, format_onto};
 use pp_shared::{OpenError, SharedDevice};
 use std::alloc::{AllocError, Global};
 use std::fs;
 use std::fs::File;
+use std::io::BufWriter;
 use std::process::Abort;
 use std::rt::Files;
 use std::sync::Wait;
@@ -70,6 +72,38 @@ fn pages_that_are_cut_off_are_not_read(rt: HostRuntime) -> Result<(), Fail> {
     fails(&rt, &mut one, 1);
     fs::write(&rt, path.as_str(), AFTER.as_slice())?;
     reads(&rt, &mut other, 1, &CHANGED);
+    fs::remove_file(&rt, path.as_str())?;
+    Ok(())
+}
+
+/// No byte of the file is the one that a new device would have there.
+const USED: [u8; 39] = [
+    1, 2, 3, 4, 5, 6, 7, 8, 9, 10, 11, 12, 13, 14, 15, 16, 17, 18, 19, 20, 21, 22, 23, 24, 25, 26,
+    27, 28, 29, 30, 31, 32, 33, 34, 35, 36, 37, 38, 39,
+];
+
+/// Opening leaves the bytes as they are, also those behind the last whole page.
+#[test]
+fn opening_leaves_the_bytes(rt: HostRuntime) -> Result<(), Fail> {
+    let path = path_of(&rt, "opening")?;
+    fs::write(&rt, path.as_str(), USED.as_slice())?;
+    let ends = SharedDevice::over_file(rt, rt.alloc(), &path, BYTES, 3)?;
+    holds(&rt, &path, &USED)?;
+    let (mut one, _other) = two_of(&rt, ends);
+    reads(&rt, &mut one, 1, &USED[16..32]);
+    holds(&rt, &path, &USED)?;
+    fs::remove_file(&rt, path.as_str())?;
+    Ok(())
+}
+
+/// A device that was written into a buffer is in its file while the buffer still stands.
+#[test]
+fn what_is_formatted_leaves_the_buffer(rt: HostRuntime) -> Result<(), Fail> {
+    let path = path_of(&rt, "buffer")?;
+    let blank = Vec::from_elem(rt.alloc(), 0, BYTES)?;
+    let mut buffer = BufWriter::new(rt.alloc(), fs::create(&rt, path.as_str())?)?;
+    format_onto(&mut buffer, blank, 2, &mut Nobody)?;
+    holds(&rt, &path, &FILE[..32])?;
     fs::remove_file(&rt, path.as_str())?;
     Ok(())
 }
