@@ -17,7 +17,7 @@ const BYTES: usize = 4096;
 
 /// How long the images of a file are: the system reads and writes them in many pieces, which only the lock keeps
 /// together.
-const LONG: usize = 1 << 20;
+const LONG: usize = 1 << 22;
 
 /// How long the images are, and how often each thread calls its end.
 #[derive(Clone, Copy)]
@@ -160,7 +160,7 @@ fn no_reading_of_a_file_gives_a_part_of_a_writing(rt: HostRuntime) -> Result<(),
     let ends = SharedDevice::over_file(rt, rt.alloc(), &path, LONG, 2)?;
     let load = Load {
         page_bytes: LONG,
-        turns: 300,
+        turns: 100,
         is_writing: true,
     };
     goes_well(&rt, ends, load);
