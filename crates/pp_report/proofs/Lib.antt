@@ -7,6 +7,7 @@ pub mod Same
 pub mod SameEvents
 pub mod Passing
 pub mod Verdicts
+pub mod Whole
 pub mod Readback
 pub mod Columns
 pub mod OneMore

@@ -507,7 +507,7 @@ audited c plans text n e =
       number = omega arith;
     }
 
-audited_again : (c : Configuration) (plans : List Acceptance) (text : List ℕ) (n : ℕ) → IsAudited c plans text n
+pub audited_again : (c : Configuration) (plans : List Acceptance) (text : List ℕ) (n : ℕ) → IsAudited c plans text n
     → auditing c plans text ≡ Ok n
 audited_again c plans text n h =
     ap (auditing_from (outset c plans) 0) (spelled_lines text h.events h.spelled)

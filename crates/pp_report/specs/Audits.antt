@@ -36,6 +36,11 @@ pub record IsOver (plans : List Acceptance) (s : State) : Type 0 where
   pub submitted : s.plans ≡ plans
   pub ended : next_turn s ≡ None
 
+-- The events are a whole journal of these plans: a true one, at whose end they are all submitted and ended.
+pub record IsWhole (c : Configuration) (plans : List Acceptance) (es : List Event) : Type 0 where
+  pub is_true : IsTrue c plans es
+  pub over : IsOver plans (reached c plans es)
+
 -- The text is a true journal of these plans with so many lines, at whose end they are all submitted and ended.
 pub record IsAudited (c : Configuration) (plans : List Acceptance) (text : List ℕ) (lines : ℕ) : Type 0 where
   pub events : List Event

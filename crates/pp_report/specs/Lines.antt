@@ -91,6 +91,28 @@ FitsReply (reply.Flushed clean) = Unit {0}
 FitsReply (reply.NotNow delay) = ⊥
 FitsReply (reply.OffPlan cause) = ⊥
 
+-- The numbers of a reply have as many bits, whether or not it is a refusal, which has none.
+abbrev pub HasNumbersOf : Reply → Type 0
+HasNumbersOf (reply.Taken plan) = plan < 2 ^ 32
+HasNumbersOf (reply.Hit frame mark) = (frame < 2 ^ 32) × (mark < 2 ^ 64)
+HasNumbersOf (reply.MustRead frame) = frame < 2 ^ 32
+HasNumbersOf (reply.MustWrite frame victim) = (frame < 2 ^ 32) × (victim < 2 ^ 32)
+HasNumbersOf (reply.Failed failure) = Unit {0}
+HasNumbersOf (reply.Loaded mark) = mark < 2 ^ 64
+HasNumbersOf reply.Did = Unit {0}
+HasNumbersOf (reply.Latched mark) = mark < 2 ^ 64
+HasNumbersOf (reply.Unlatched mark) = mark < 2 ^ 64
+HasNumbersOf (reply.Finished ending) = Unit {0}
+HasNumbersOf (reply.Flushing mark) = mark < 2 ^ 64
+HasNumbersOf (reply.Flushed clean) = Unit {0}
+HasNumbersOf (reply.NotNow delay) = Unit {0}
+HasNumbersOf (reply.OffPlan cause) = Unit {0}
+
+-- So have those of an event.
+abbrev pub HasNumbers : Event → Type 0
+HasNumbers (event.Submit plan) = plan < 2 ^ 32
+HasNumbers (event.Step m r) = FitsMove m × HasNumbersOf r
+
 abbrev pub FitsTold : Told → Type 0
 FitsTold Queued = Unit {0}
 FitsTold (Answer r) = FitsReply r

@@ -1,7 +1,9 @@
-//! Whose move an event is, and whether two events are the same.
+//! Whose move an event is, whether two events are the same, and how large their numbers are.
 
 ghost use Rattle.std.specs.Prelude.{◌≡◌, ◌↔◌, true};
+ghost use Rattle.std.specs.List.{AllByRecursion};
 ghost use Rattle.pp_model.specs.WorkerParts.{worker_of, names_worker};
+ghost use Rattle.pp_report.specs.Lines.{HasNumbers};
 
 use pp_model::{Event, Move};
 
@@ -39,4 +41,18 @@ pub fn is_same_event(left: Event, right: Event) -> bool
     ensures { (result ≡ true) ↔ (left ≡ right) }
 {
     left == right
+}
+
+/// The numbers of an event have as many bits as their types. It does nothing: its contract is what is known.
+fn has_numbers(_event: Event)
+    ensures { HasNumbers _event }
+{}
+
+/// The same of all these events.
+pub(crate) fn have_numbers(events: &[Event])
+    ensures { AllByRecursion HasNumbers events.now }
+{
+    for event in events {
+        has_numbers(*event);
+    }
 }

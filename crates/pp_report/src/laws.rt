@@ -1,10 +1,17 @@
-//! Laws of journals as texts, and of reports. The functions have no body: their contracts are the laws.
+//! Laws of journals as texts, and of reports. The functions do nothing: their contracts are the laws.
 
-ghost use Rattle.std.specs.Prelude.{◌≡◌, ◌⊎◌, ◌++◌, ℕ, List, codes};
+ghost use Rattle.std.specs.Prelude.{◌≡◌, ◌⊎◌, ◌++◌, ℕ, List, Ok, codes, length};
 ghost use Rattle.std.specs.List.{AllByRecursion};
+ghost use Rattle.pp_settings.specs.Settings.{Configuration};
+ghost use Rattle.pp_cert.specs.Accepted.{Acceptance};
 ghost use Rattle.pp_model.specs.declared.event.Event.{Event};
+ghost use Rattle.pp_report.specs.Auditing.{auditing};
+ghost use Rattle.pp_report.specs.Audits.{IsWhole, IsAudited};
 ghost use Rattle.pp_report.specs.Complete.{EachHasRow};
 ghost use Rattle.pp_report.specs.Lines.{journal_words, FitsEvent, Spells};
+
+use crate::events::have_numbers;
+use pp_model::Event;
 
 /// What is written is read: the text of events that may stand in a journal spells them, and no others. What is read is
 /// written again: a text that spells events is their text, or lacks its last line feed.
@@ -20,3 +27,17 @@ pub fn journals_are_read_back()
 pub fn reports_are_complete()
     ensures each { (es : List Event) → EachHasRow es }
 {}
+
+/// What was done to the end is accepted: where these events are a true journal of plans, at whose end they are all
+/// submitted and ended, the verdict of [`audit`](crate::audit) on the text that [`journal_text`](crate::journal_text)
+/// writes of them is their number.
+///
+/// It is handed the events since a text has no number of more bits than an event has.
+pub fn whole_journals_are_audited(events: &[Event])
+    ensures text { (c : Configuration) (plans : List Acceptance) → IsWhole c plans events.now
+        → IsAudited c plans (journal_words events.now) (length events.now) }
+    ensures verdict { (c : Configuration) (plans : List Acceptance) → IsWhole c plans events.now
+        → auditing c plans (journal_words events.now) ≡ Ok (length events.now) }
+{
+    have_numbers(events);
+}
