@@ -8,3 +8,5 @@ pub mod Ran
 pub mod Sent
 pub mod Desks
 pub mod Taken
+pub mod Begun
+pub mod Judged

@@ -1,10 +1,9 @@
 -- What the threads give back.
-use Rattle.std.specs.Prelude.{◌≡◌, ◌≢◌, ℕ, ◌+◌, ◌<◌, ◌≤◌, Bool, true, false, ⊤, List, [], length, slice_index_or}
+use Rattle.std.specs.Prelude.{◌≡◌, ◌≢◌, ℕ, ◌+◌, ◌<◌, ⊤, List, [], length, slice_index_or}
 use Rattle.pp_model.specs.declared.event.Event.{Event}
 use Rattle.pp_model.specs.WorkerParts.{part_of}
 use Rattle.pp_run.specs.declared.error.RunError.{RunError}
-use Rattle.pp_run.specs.declared.error.RunError.TheVariants.{OutOfMemory, Mismatch, NoThread}
-use Rattle.pp_run.specs.declared.error.RunError.TheVariants as run_errors
+use Rattle.pp_run.specs.declared.error.RunError.TheVariants.{OutOfMemory, NoThread}
 use Rattle.pp_run.specs.declared.stop.Stop.{Stop}
 use Rattle.pp_run.specs.declared.stop.Stop.TheVariants.{Ended, NoMemory, Broken}
 use Rattle.pp_run.specs.declared.stop.Worked.{Worked}

@@ -4,3 +4,4 @@ pub mod Ends
 pub mod Verdicts
 pub mod Counted
 pub mod Runs
+pub mod Joins

@@ -1,13 +1,18 @@
 -- What a run leaves.
-use Rattle.std.specs.Prelude.{◌≡◌, ℕ, ◌+◌, ◌<◌, ◌≤◌, ⊤, List, [], length, slice_index_or, Err, IsOk}
+use Rattle.std.specs.Prelude.{◌≡◌, ℕ, ◌+◌, ◌<◌, ◌≤◌, ⊤, true, List, [], length, map, take, drop, slice_index_or, Err, IsOk}
+use Rattle.std.specs.Coded.{Coded, coded_list}
+use Rattle.std.specs.List.{list_all, range_with_len}
 use Rattle.pp_cert.specs.Accepted.{Acceptance}
 use Rattle.pp_model.specs.declared.event.Event.{Event}
+use Rattle.pp_model.specs.declared.event.Event.TheVariants.{Submit}
+use Rattle.pp_model.specs.contracts.event.Event.{the_row as event_row}
 use Rattle.pp_model.specs.Pool.{State, Settings, opening, dirty_pages}
 use Rattle.pp_model.specs.Journals.{IsTrueFrom, replay}
 use Rattle.pp_model.specs.Submitting.{after_submits}
 use Rattle.pp_model.specs.Turns.{IsUnderWay}
 use Rattle.pp_model.specs.WorkerParts.{part_of}
 use Rattle.pp_report.specs.declared.record.RunRecord.{RunRecord}
+use Rattle.pp_report.specs.Reports.{is_move}
 use Rattle.pp_run.specs.declared.error.RunError.{RunError}
 use Rattle.pp_run.specs.declared.error.RunError.TheVariants.{Refused, OutOfMemory, Mismatch, Broken, NoThread}
 use Rattle.pp_run.specs.Calling.{calls_in, failed_calls_in, ended_flushes_in, failed_flushes_in, begun_flushes_in}
@@ -18,11 +23,21 @@ use Rattle.pp_run.specs.Calling.{calls_in, failed_calls_in, ended_flushes_in, fa
 abbrev pub end_of : Settings → List Acceptance → List Event → State
 end_of k plans es = replay plans (opening k) es
 
--- The events are a true journal of these settings and plans. All plans are submitted in it, in their order, and at its
--- end no plan waits or is unfinished, and no flush is in flight. A page is newer than the device's only where all
--- flushes of the settings were begun.
+-- The submits of so many plans, from one with this number on, in their order.
+abbrev pub submits : (first count : ℕ) → List Event
+submits first count = map Submit (range_with_len first count)
+
+-- Where two lists of events are the same, they are so in one way.
+abbrev pub coded_events : Coded (List Event)
+coded_events = coded_list event_row.coded
+
+-- The events are a true journal of these settings and plans. It begins with the submits of all plans, in their order,
+-- and each event behind these is a move. At its end no plan waits or is unfinished, and no flush is in flight. A page is
+-- newer than the device's only where all flushes of the settings were begun.
 pub record IsRun (k : Settings) (plans : List Acceptance) (r : RunRecord) : Type 0 where
   pub is_true : IsTrueFrom plans (opening k) r.events.items
+  pub submits_first : take (length plans) r.events.items ≡ submits 0 (length plans)
+  pub then_moves : list_all is_move (drop (length plans) r.events.items) ≡ true
   pub submitted : (end_of k plans r.events.items).plans ≡ plans
   pub over : IsUnderWay (end_of k plans r.events.items) → ⊥
   pub count : r.plans ≡ length plans

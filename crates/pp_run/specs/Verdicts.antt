@@ -1,5 +1,5 @@
 -- What is wrong with a run whose threads are joined, in the order in which it is looked for.
-use Rattle.std.specs.Prelude.{◌≡◌, ◌≢◌, ◌⊎◌, ◌<◌, ℕ, ⊤, Bool, true, false, List, length, slice_index_or}
+use Rattle.std.specs.Prelude.{◌≡◌, ◌≢◌, ◌⊎◌, ◌<◌, ◌≤◌, ℕ, Bool, true, false, List, length, slice_index_or}
 use Rattle.std.specs.List.{list_all}
 use Rattle.pp_model.specs.declared.event.Event.{Event}
 use Rattle.pp_model.specs.WorkerParts.{part_of}
@@ -66,13 +66,21 @@ pub record IsMiscounted {D : Type 0} (worked : List (Worked D)) (f : Flushed D) 
 
 -- ---- the verdict
 
--- The error of the logs: the first that isn't its worker's part of the journal. Memory may run out at any time.
+-- There was no memory to give the device of a worker back. Its log, and those of the workers before it, are their parts
+-- of the journal.
+pub record LacksPlace {D : Type 0} (worked : List (Worked D)) (events : List Event) : Type 0 where
+  pub worker : ℕ
+  pub within : worker < length worked
+  pub logs : (v : ℕ) (x : Worked D) → v ≤ worker → (slice_index_or worked v x).log.items ≡ part_of v events
+
+-- The error of the logs: the first that isn't its worker's part of the journal, or there was no memory for its device.
 abbrev pub IsUnlike : {D : Type 0} → List (Worked D) → List Event → RunError → Type 0
 IsUnlike worked events (Mismatch w) = IsFirstMismatch worked events w
-IsUnlike worked events OutOfMemory = ⊤
+IsUnlike worked events OutOfMemory = LacksPlace worked events
 IsUnlike worked events _ = ⊥
 
--- The first thing that is wrong, and the number of the worker, or of the flusher, which is that of the workers.
+-- The first thing that is wrong, and the number of the worker, or of the flusher, which is that of the workers. Memory is
+-- wanting where something is left undone for want of it; or, where nothing is wrong, to give the devices back.
 abbrev pub IsVerdict : {D : Type 0} → List (Worked D) → Flushed D → List Event → Left → RunError → Type 0
 IsVerdict worked f events left (run_errors.Broken w) =
     (IsStarved worked left → ⊥)
@@ -81,5 +89,6 @@ IsVerdict worked f events left (run_errors.Broken w) =
 IsVerdict worked f events left (Mismatch w) =
     IsSound worked f events left
     × (IsFirstMismatch worked events w ⊎ ((w ≡ length worked) × IsMiscounted worked f events))
-IsVerdict worked f events left OutOfMemory = ⊤
+IsVerdict worked f events left OutOfMemory =
+    IsStarved worked left ⊎ (IsSound worked f events left × LacksPlace worked events)
 IsVerdict worked f events left _ = ⊥

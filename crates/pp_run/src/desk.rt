@@ -1,12 +1,15 @@
 //! What the threads of a run share: its book, with the tokens that no thread has in hand.
 
-ghost use Rattle.std.specs.Prelude.{◌≡◌, true, false, Some, IfSome, IfErr, length};
+ghost use Rattle.std.specs.Prelude.{◌≡◌, true, false, Some, IfSome, IfErr, length, take, drop};
 ghost use Rattle.std.specs.Coded.{Coded-set, coded_list};
+ghost use Rattle.std.specs.List.{list_all};
 ghost use Rattle.pp_cert.specs.Accepted.{coded_acceptance};
 ghost use Rattle.pp_device.specs.Image.{head_of};
 ghost use Rattle.pp_vault.specs.Stages.{stage_worker};
 ghost use Rattle.pp_pool.specs.Parts.{settings_of, plans_of};
 ghost use Rattle.pp_pool.specs.Replies.{Replies};
+ghost use Rattle.pp_report.specs.Reports.{is_move};
+ghost use Rattle.pp_run.specs.Runs.{submits, coded_events};
 
 use pp_model::{Event, Reply};
 use pp_pool::{Book, Outcome, OwnSite, Request, Site};
@@ -54,7 +57,8 @@ pub(crate) trait Naming {
     ghost plans: { List Acceptance };
 }
 
-/// The book of a run, of these settings and plans, with its tokens. It counts the plans that end.
+/// The book of a run, of these settings and plans, with its tokens. It counts the plans that end. Its journal begins with
+/// the submits of all plans, and each event behind these is a move.
 ///
 /// The compiler refuses code that lets it fall.
 pub(crate) struct RunDesk<'a, N: Naming> {
@@ -65,6 +69,8 @@ pub(crate) struct RunDesk<'a, N: Naming> {
     finished: &'a AtomicU64,
     ghost settings: { settings_of site.book ≡ N.settings },
     ghost plans: { plans_of site.book ≡ N.plans } by { Coded-set (coded_list coded_acceptance) (plans_of site.book) N.plans },
+    ghost begun: { take (length N.plans) site.book.journal ≡ submits 0 (length N.plans) } by { Coded-set coded_events (take (length N.plans) site.book.journal) (submits 0 (length N.plans)) },
+    ghost moving: { list_all is_move (drop (length N.plans) site.book.journal) ≡ true },
 }
 
 impl<'a, N: Naming> RunDesk<'a, N> {
@@ -77,6 +83,7 @@ impl<'a, N: Naming> RunDesk<'a, N> {
     ) -> RunDesk<'a, N>
         requires settings { settings_of book ≡ N.settings }
         requires plans { plans_of book ≡ N.plans }
+        requires journal { book.journal ≡ submits 0 (length N.plans) }
     {
         RunDesk {
             site: OwnSite { book },
@@ -91,6 +98,8 @@ impl<'a, N: Naming> RunDesk<'a, N> {
     pub(crate) fn into_parts(self) -> (Book, Hands)
         ensures settings { settings_of result.0 ≡ N.settings }
         ensures plans { plans_of result.0 ≡ N.plans }
+        ensures submits { take (length N.plans) result.0.journal ≡ submits 0 (length N.plans) }
+        ensures moves { list_all is_move (drop (length N.plans) result.0.journal) ≡ true }
     {
         let RunDesk {
             site: OwnSite { book },

@@ -1,13 +1,16 @@
 //! All plans at once, on threads.
 
-ghost use Rattle.std.specs.Prelude.{◌≡◌, ◌+◌, ◌++◌, true, [], Ok, IfOk, IfErr, OnOk, length, vec_len};
+ghost use Rattle.std.specs.Prelude.{◌≡◌, ◌+◌, ◌++◌, true, [], Ok, is_none, IfOk, IfErr, OnOk, length, vec_len};
 ghost use Rattle.pp_core.specs.Opening.{kept_of};
 ghost use Rattle.pp_model.specs.Pool.{dirty_pages, opening};
 ghost use Rattle.pp_model.specs.Submitting.{after_submits};
-ghost use Rattle.pp_model.specs.Turns.{IsUnderWay};
+ghost use Rattle.pp_model.specs.Turns.{IsUnderWay, next_turn};
 ghost use Rattle.pp_pool.specs.Parts.{settings_of, plans_of, state_of};
 ghost use Rattle.pp_pool.specs.Books.{IsBook, HeadlineHolds};
-ghost use Rattle.pp_run.specs.Runs.{AllCalled, IsNotTakenIn, IsRun, IsRunError};
+ghost use Rattle.pp_report.specs.Auditing.{auditing};
+ghost use Rattle.pp_report.specs.Lines.{journal_words};
+ghost use Rattle.pp_run.specs.Joins.{IsAnswer};
+ghost use Rattle.pp_run.specs.Runs.{AllCalled, IsNotTakenIn, IsRun, IsRunError, submits};
 
 use crate::desk::{Naming, RunDesk};
 use crate::error::RunError;
@@ -19,6 +22,7 @@ use pp_device::Device;
 use pp_model::Event;
 use pp_pool::{Book, Work};
 use pp_report::RunRecord;
+use pp_report::laws::whole_journals_are_audited;
 use pp_settings::Settings;
 use pp_vault::Hands;
 use std::alloc::Global;
@@ -37,6 +41,9 @@ impl Pool {
     /// The devices are ends of one device, one for each worker in order, and the last for the flusher; `works` has one
     /// [`Work`] for each worker. The plans are taken in their order, each by a worker that is idle. The flusher writes back
     /// meanwhile, and goes on when all are done while a page is newer than the device's and a flush is left.
+    ///
+    /// What a run leaves is accepted: the verdict of [`audit`](pp_report::audit) on the text of the events, as
+    /// [`journal_text`](pp_report::journal_text) writes it, is their number.
     ///
     /// # Errors
     ///
@@ -58,7 +65,10 @@ impl Pool {
         ensures journal { IfOk result (λ r. IsRun (kept_of settings.now) plans.items r.0) }
         ensures devices { IfOk result (λ r. AllCalled D.calls D.failures settings.now.workers devices.items
             r.0.events.items r.1.items) }
+        ensures audited { IfOk result (λ r. auditing settings.now plans.items (journal_words r.0.events.items)
+            ≡ Ok (length r.0.events.items)) }
         ensures error { IfErr result (IsRunError (kept_of settings.now) plans.items) }
+        ensures verdict { IfErr result (IsAnswer D.calls D.failures (kept_of settings.now) plans.items devices.items) }
     {
         let finished = AtomicU64::new(0);
         Pool::run_watched(rt, alloc, settings, plans, devices, works, &finished)
@@ -84,7 +94,10 @@ impl Pool {
         ensures journal { IfOk result (λ r. IsRun (kept_of settings.now) plans.items r.0) }
         ensures devices { IfOk result (λ r. AllCalled D.calls D.failures settings.now.workers devices.items
             r.0.events.items r.1.items) }
+        ensures audited { IfOk result (λ r. auditing settings.now plans.items (journal_words r.0.events.items)
+            ≡ Ok (length r.0.events.items)) }
         ensures error { IfErr result (IsRunError (kept_of settings.now) plans.items) }
+        ensures verdict { IfErr result (IsAnswer D.calls D.failures (kept_of settings.now) plans.items devices.items) }
     {
         run_named::<Brand, D, W, R>(rt, alloc, settings, plans, devices, works, finished)
     }
@@ -112,7 +125,10 @@ fn run_named<
     ensures journal { IfOk result (λ r. IsRun (kept_of settings.now) plans.items r.0) }
     ensures devices { IfOk result (λ r. AllCalled D.calls D.failures settings.now.workers devices.items
         r.0.events.items r.1.items) }
+    ensures audited { IfOk result (λ r. auditing settings.now plans.items (journal_words r.0.events.items)
+        ≡ Ok (length r.0.events.items)) }
     ensures error { IfErr result (IsRunError (kept_of settings.now) plans.items) }
+    ensures verdict { IfErr result (IsAnswer D.calls D.failures (kept_of settings.now) plans.items devices.items) }
 {
     let (book, hands, plans) = opened(alloc, settings, plans)?;
     let mut devices = devices;
@@ -126,7 +142,9 @@ fn run_named<
     let (book, hands) = lock.into_inner().into_desk().into_parts();
     let (left, events) = closed(book, hands, settings);
     let (worked, flushed) = joined?;
-    let mut back = judge(alloc, worked, &flushed, events.as_slice(), left)?;
+    let journal = events.as_slice();
+    let mut back = judge(alloc, worked, &flushed, journal, left)?;
+    whole_journals_are_audited(journal);
     back.reserve(1)?;
     back.push_reserved(flushed.device);
     let record = RunRecord {
@@ -146,6 +164,7 @@ fn opened(
     ensures settings { IfOk result (λ made. settings_of made.0 ≡ kept_of settings.now) }
     ensures plans { IfOk result (λ made. plans_of made.0 ≡ plans.items) }
     ensures count { IfOk result (λ made. made.2 ≡ vec_len plans) }
+    ensures journal { IfOk result (λ made. made.0.journal ≡ submits 0 (length plans.items)) }
     ensures taken { IfOk result (λ made. after_submits (opening (kept_of settings.now)) plans.items ≡ Ok (state_of made.0)) }
     ensures error { IfErr result (IsNotTakenIn (opening (kept_of settings.now)) plans.items) }
 {
@@ -163,6 +182,8 @@ fn opened(
 fn submit_all(book: &mut Book, plans: Vec<Accepted>) -> Result<u16, RunError>
     ensures plans { OnOk result (plans_of book.new ≡ plans_of book.old ++ plans.items) }
     ensures count { IfOk result (λ count. count ≡ vec_len plans) }
+    ensures journal { OnOk result (book.new.journal ≡ book.old.journal
+        ++ submits (length (plans_of book.old)) (length plans.items)) }
     ensures taken { OnOk result (after_submits (state_of book.old) plans.items ≡ Ok (state_of book.new)) }
     ensures error { IfErr result (IsNotTakenIn (state_of book.old) plans.items) }
     ensures settings { settings_of book.new ≡ settings_of book.old }
@@ -180,6 +201,7 @@ fn submit_all(book: &mut Book, plans: Vec<Accepted>) -> Result<u16, RunError>
 /// What is left, and the journal.
 fn closed(book: Book, hands: Hands, settings: &Settings) -> (Left, Vec<Event>)
     ensures over { result.0.over ≡ true → IsUnderWay (state_of book) → ⊥ }
+    ensures ended { result.0.over ≡ is_none (next_turn (state_of book)) }
     ensures dirty { result.0.dirty ≡ dirty_pages (state_of book) }
     ensures flushes { result.0.flushes ≡ settings.now.flushes }
     ensures journal { result.1.items ≡ book.journal }

@@ -51,3 +51,19 @@ returns-then-not-is_part-clause-error g c =
       before = λ v x low.
           ap (λ xs. (get_or xs v x).log.items) (sym same) ∙ (was.3 v x c.in-Some.end.device low).log;
     }
+
+pub returns-then-is_err-clause-error : goal.returns-then-is_err-clause-error
+returns-then-is_err-clause-error g c =
+    let was = c.loop-end.invariant in let done = c.loop-end.worker in
+    let worked = into_iter_items c.into_iter-end-iterator.result in
+    let same : worked ≡ c.args.worked.items = search rules in
+    let log : c.in-Some.end.log.items ≡ part_of done c.args.events.now = search rules in
+    record {
+      worker = done;
+      within = search rules;
+      logs = λ v x low. below_more (λ i. (get_or c.args.worked.items i x).log.items ≡ part_of i c.args.events.now) done
+          (λ i less. ap (λ xs. (get_or xs i x).log.items) (sym same) ∙ (was.3 i x c.in-Some.end.device less).log)
+          (let next : c.in-Some.end ≡ get_or worked done x = let h = was.2 0 x in grind rules in
+          ap (λ xs. (get_or xs done x).log.items) (sym same)
+          ∙ (ap (λ (e : Worked g.row.D.Denot). e.log.items) (sym next) ∙ log)) v (omega (arith, low));
+    }

@@ -2,6 +2,7 @@ use Rattle.std.proofs.Common.{◌≡◌, ◌∙◌, [], ◌∷◌, ◌++◌, app
 use Rattle.std.specs.Vec.Iter.{into_iter_items}
 use Rattle.pp_model.specs.Submitting.{after_submits}
 use Rattle.pp_pool.specs.Parts.{plans_of, state_of}
+use Rattle.pp_run.proofs.Begun.{submit_next}
 use Rattle.pp_run.proofs.Taken.{taken_next}
 use Rattle.pp_run.proofs.pool.submit_all.Goals as goal
 
@@ -26,4 +27,5 @@ loop-plan-preserved c =
           ∙ (ap (after_submits (state_of book)) step
           ∙ (taken_next (state_of book) c.in-Some.plan rest taken.allowed ∙ ap (λ s. after_submits s rest) (sym taken.state))),
       omega (arith, longer, was.4),
+      submit_next book.journal _ _ _ _ _ _ _ taken.numbered taken.journal (ap length taken.plans ∙ length-append (plans_of book) (c.in-Some.plan ∷ [])) (search rules) was.5,
     )

@@ -2,6 +2,7 @@ use Rattle.std.proofs.Common.{◌≡◌, ◌+◌, ◌≤◌, ◌++◌, length}
 use Rattle.std.specs.Vec.Iter.{into_iter_items, into_iter_len}
 use Rattle.pp_model.specs.Submitting.{after_submits}
 use Rattle.pp_pool.specs.Parts.{settings_of, plans_of, state_of}
+use Rattle.pp_run.specs.Runs.{submits}
 use Rattle.pp_run.proofs.pool.submit_all.Given as goal
 
 abbrev pub invariant-loop-plan : goal.invariant-loop-plan
@@ -13,3 +14,5 @@ invariant-loop-plan l =
     × (after_submits (state_of l.fn.book) (into_iter_items l.initial.plan-iterator)
     ≡ after_submits (state_of l.book) rest)
     × (l.count ≤ length (plans_of l.book))
+    × (l.fn.book.journal ++ submits (length (plans_of l.fn.book)) (into_iter_len l.initial.plan-iterator)
+    ≡ l.book.journal ++ submits (length (plans_of l.book)) (into_iter_len l.plan-iterator))

@@ -1,0 +1,134 @@
+-- A run answers the verdict on what its threads gave back.
+use Rattle.std.proofs.Common.{◌≡◌, ◌∙◌, ℕ, ◌≤◌, true, List, [], ◌∷◌, ◌++◌, length, take, drop, get_or, sym, ap, subst, inl, inr, arith}
+use Rattle.std.specs.Prelude.{◌⊎◌, is_none, IsOk}
+use Rattle.std.specs.List.{list_all}
+use Rattle.std.proofs.lemmas.List.{take_all, take-append-le}
+use Rattle.std.proofs.Math.Seq.{get_or-append_seam}
+use Rattle.pp_cert.specs.Accepted.{Acceptance}
+use Rattle.pp_model.specs.declared.event.Event.{Event}
+use Rattle.pp_model.specs.Pool.{State, Settings, opening, dirty_pages}
+use Rattle.pp_model.specs.Submitting.{after_submits}
+use Rattle.pp_model.specs.Turns.{next_turn}
+use Rattle.pp_pool.specs.Parts.{Parts, settings_of, plans_of, state_of}
+use Rattle.pp_pool.specs.Books.{IsBook}
+use Rattle.pp_report.specs.Reports.{is_move}
+use Rattle.pp_run.specs.declared.error.RunError.{RunError}
+use Rattle.pp_run.specs.declared.error.RunError.TheVariants.{Refused, OutOfMemory, Mismatch, Broken, NoThread}
+use Rattle.pp_run.specs.declared.judging.Left.{Left}
+use Rattle.pp_run.specs.declared.stop.Flushed.{Flushed}
+use Rattle.pp_run.specs.declared.stop.Worked.{Worked}
+use Rattle.pp_run.specs.Ends.{AllSound, AllWorkedFrom, FlushedFrom, IsUnstarted}
+use Rattle.pp_run.specs.Joins.{IsJoined, IsAnswer}
+use Rattle.pp_run.specs.Runs.{submits, IsNotTakenIn, IsRunError}
+use Rattle.pp_run.specs.Calling.{begun_flushes_in}
+use Rattle.pp_run.specs.Verdicts.{IsFirstBroken, IsFirstMismatch, IsMiscounted, IsSound, IsUnlike, IsUnsettled, IsVerdict}
+
+-- What the threads gave back, where the book has these settings and plans.
+joined_of : {D : Type 0} (calls failures : D → ℕ) (b : Parts) (front : List D) (last : D) (devices : List D)
+    (worked : List (Worked D)) (f : Flushed D) (left : Left) → IsBook b
+    → take (length (plans_of b)) b.journal ≡ submits 0 (length (plans_of b))
+    → list_all is_move (drop (length (plans_of b)) b.journal) ≡ true
+    → length front ≡ (settings_of b).workers → devices ≡ front ++ last ∷ []
+    → AllWorkedFrom calls failures front worked → FlushedFrom calls failures last f
+    → left.over ≡ is_none (next_turn (state_of b)) → left.dirty ≡ dirty_pages (state_of b)
+    → left.flushes ≡ (settings_of b).flushes
+    → IsJoined calls failures (settings_of b) (plans_of b) devices worked f b.journal left
+joined_of calls failures b front last devices worked f left book first moves long given ends ending over dirty flushes =
+    let workers = (settings_of b).workers in
+    let fronts : take workers devices ≡ front
+    = ap (take workers) given ∙ (take-append-le workers front (last ∷ []) (omega (arith, long))
+    ∙ take_all workers front (omega (arith, long))) in
+    record {
+      is_true = book.is_true;
+      submits_first = first;
+      then_moves = moves;
+      submitted = sym book.stands.core.plans;
+      count = ends.0 ∙ long;
+      workers = subst (λ ds. AllWorkedFrom calls failures ds worked) (sym fronts) ends;
+      flusher = λ d.
+          subst (λ e. FlushedFrom calls failures e f) (sym (ap (λ xs. get_or xs workers d) given
+          ∙ (ap (λ n. get_or (front ++ last ∷ []) n d) (sym long) ∙ get_or-append_seam front last [] d))) ending;
+      over = over;
+      dirty = dirty;
+      flushes = flushes;
+    }
+
+pub joined : {D : Type 0} (calls failures : D → ℕ) (k : Settings) (plans : List Acceptance) (b : Parts) (front : List D)
+    (last : D) (devices : List D) (worked : List (Worked D)) (f : Flushed D) (events : List Event) (left : Left)
+    → settings_of b ≡ k → plans_of b ≡ plans → b.journal ≡ events → IsBook b
+    → take (length plans) b.journal ≡ submits 0 (length plans)
+    → list_all is_move (drop (length plans) b.journal) ≡ true
+    → length front ≡ k.workers → devices ≡ front ++ last ∷ []
+    → AllWorkedFrom calls failures front worked → FlushedFrom calls failures last f
+    → left.over ≡ is_none (next_turn (state_of b)) → left.dirty ≡ dirty_pages (state_of b) → left.flushes ≡ k.flushes
+    → IsJoined calls failures k plans devices worked f events left
+joined calls failures k plans b front last devices worked f events left of_settings of_plans journal book first moves long given ends ending over dirty flushes =
+    subst (λ es. IsJoined calls failures k plans devices worked f es left) journal
+    (subst (λ j. IsJoined calls failures j plans devices worked f b.journal left) of_settings
+    (subst (λ ps. IsJoined calls failures (settings_of b) ps devices worked f b.journal left) of_plans
+    (joined_of calls failures b front last devices worked f left book
+    (subst (λ ps. take (length ps) b.journal ≡ submits 0 (length ps)) (sym of_plans) first)
+    (subst (λ ps. list_all is_move (drop (length ps) b.journal) ≡ true) (sym of_plans) moves)
+    (long ∙ ap (λ j. j.workers) (sym of_settings)) given ends ending over dirty
+    (flushes ∙ ap (λ j. j.flushes) (sym of_settings)))))
+
+pub judged : {D : Type 0} (calls failures : D → ℕ) (k : Settings) (plans : List Acceptance) (devices : List D)
+    (worked : List (Worked D)) (f : Flushed D) (events : List Event) (left : Left) (error : RunError)
+    → IsJoined calls failures k plans devices worked f events left → IsVerdict worked f events left error
+    → IsAnswer calls failures k plans devices error
+judged calls failures k plans devices worked f events left (Refused error) joined verdict = tt
+judged calls failures k plans devices worked f events left OutOfMemory joined verdict = tt
+judged calls failures k plans devices worked f events left (NoThread w) joined verdict = tt
+judged calls failures k plans devices worked f events left (Mismatch w) joined verdict =
+    record { worked = worked; flushed = f; events = events; left = left; joined = joined; verdict = verdict }
+judged calls failures k plans devices worked f events left (Broken w) joined verdict =
+    record { worked = worked; flushed = f; events = events; left = left; joined = joined; verdict = verdict }
+
+-- Before the threads are joined.
+pub unopened : {D : Type 0} (calls failures : D → ℕ) (k : Settings) (plans : List Acceptance) (devices : List D) (s : State)
+    (error : RunError) → IsNotTakenIn s plans error → IsAnswer calls failures k plans devices error
+unopened calls failures k plans devices s (Refused error) h = tt
+unopened calls failures k plans devices s OutOfMemory h = tt
+unopened calls failures k plans devices s (NoThread w) h = absurd h
+unopened calls failures k plans devices s (Mismatch w) h = absurd h
+unopened calls failures k plans devices s (Broken w) h = absurd h
+
+pub unstarted : {D : Type 0} (calls failures : D → ℕ) (k : Settings) (plans : List Acceptance) (devices : List D) (threads : ℕ)
+    (error : RunError) → IsUnstarted threads error → IsAnswer calls failures k plans devices error
+unstarted calls failures k plans devices threads (Refused error) h = absurd h
+unstarted calls failures k plans devices threads OutOfMemory h = tt
+unstarted calls failures k plans devices threads (NoThread w) h = tt
+unstarted calls failures k plans devices threads (Mismatch w) h = absurd h
+unstarted calls failures k plans devices threads (Broken w) h = absurd h
+
+-- What is wrong with the logs of a run that is sound is the verdict.
+pub unlike_verdict : {D : Type 0} (worked : List (Worked D)) (f : Flushed D) (events : List Event) (left : Left)
+    (error : RunError) → IsSound worked f events left → IsUnlike worked events error
+    → IsVerdict worked f events left error
+unlike_verdict worked f events left (Refused error) sound h = absurd h
+unlike_verdict worked f events left OutOfMemory sound h = inr (sound, h)
+unlike_verdict worked f events left (NoThread w) sound h = absurd h
+unlike_verdict worked f events left (Mismatch w) sound h = (sound, inl h)
+unlike_verdict worked f events left (Broken w) sound h = absurd h
+
+-- A verdict names a worker, or the flusher.
+broken_within : {D : Type 0} (worked : List (Worked D)) (w : ℕ) (A B : Type 0)
+    → IsFirstBroken worked w ⊎ ((w ≡ length worked) × A × B) → w ≤ length worked
+broken_within worked w A B (inl first) = let b = first.within in omega (arith, b)
+broken_within worked w A B (inr last) = let e = last.0 in omega (arith, e)
+
+mismatch_within : {D : Type 0} (worked : List (Worked D)) (events : List Event) (w : ℕ) (B : Type 0)
+    → IsFirstMismatch worked events w ⊎ ((w ≡ length worked) × B) → w ≤ length worked
+mismatch_within worked events w B (inl first) = let b = first.within in omega (arith, b)
+mismatch_within worked events w B (inr last) = let e = last.0 in omega (arith, e)
+
+pub names_thread : {D : Type 0} (k : Settings) (plans : List Acceptance) (worked : List (Worked D)) (f : Flushed D)
+    (events : List Event) (left : Left) (error : RunError) → IsOk (after_submits (opening k) plans)
+    → length worked ≡ k.workers → IsVerdict worked f events left error → IsRunError k plans error
+names_thread k plans worked f events left (Refused error) taken long h = absurd h
+names_thread k plans worked f events left OutOfMemory taken long h = tt
+names_thread k plans worked f events left (NoThread w) taken long h = absurd h
+names_thread k plans worked f events left (Mismatch w) taken long h =
+    let low = mismatch_within worked events w (IsMiscounted worked f events) h.1 in record { taken = taken; within = omega (arith, low, long) }
+names_thread k plans worked f events left (Broken w) taken long h =
+    let low = broken_within worked w (AllSound worked) (IsUnsettled f left (begun_flushes_in events)) h.1 in record { taken = taken; within = omega (arith, low, long) }
