@@ -15,8 +15,11 @@ use Rattle.pp_pool.specs.declared.outcome.Answer.{Answer}
 use Rattle.pp_pool.specs.declared.outcome.Answer.TheVariants as answer
 use Rattle.pp_pool.specs.declared.outcome.Outcome.{Outcome}
 use Rattle.pp_pool.specs.Replies.{TokensFit, Replies}
-use Rattle.pp_pool.specs.Turns.{stage_asked, stage_in, Works, IsStep, IsWayOut, Asks}
-use Rattle.pp_pool.proofs.Turning.{works_stage}
+use Rattle.pp_pool.specs.declared.turned.Turned.{Turned}
+use Rattle.pp_pool.specs.declared.site.Site as Site
+use Rattle.pp_pool.specs.declared.work.Work as Work
+use Rattle.pp_pool.specs.Turns.{stage_asked, stage_in, Uses, IsStep, IsWayOut, Asks}
+use Rattle.pp_pool.proofs.Turning.{used_stage}
 
 -- The worker of a request; none where it is the flusher's.
 abbrev worker_asked : Request → Option ℕ
@@ -132,12 +135,16 @@ of_answer asked out fit = absurd fit
 
 -- ---- a turn
 
-pub keeps_worker : {D : Type 0} (reads : D → ℕ → List ℕ → DeviceAnswer → List ℕ → D → Type 0)
+pub keeps_worker : {S D W : Type 0} (s : Site.Ghosts S) (k : Work.Ghosts W)
+    (reads : D → ℕ → List ℕ → DeviceAnswer → List ℕ → D → Type 0)
     (writes : D → ℕ → List ℕ → DeviceAnswer → D → Type 0) (calls failures : D → ℕ) (layout : Geometry)
-    (before after : Stage) (old : D) (asked : Request) (new : D) (outcome : Outcome) (used : Answer)
+    (before after : Stage) (old : D) (asked : Request) (new : D) (outcome : Outcome) (site : S) (room : ℕ) (work : W)
+    (turned : Turned) (used : Answer) (left : W)
     → Asks reads writes calls failures layout before old asked new → Replies asked outcome
-    → Works outcome.answer used → stage_in used ≡ Some after → stage_worker after ≡ stage_worker before
-keeps_worker reads writes calls failures layout before after old asked new outcome used asks replies works there =
-    subst (IsOf (worker_asked asked)) (sym (works_stage outcome.answer used works) ∙ there)
+    → Uses s k site room work outcome.answer turned used left → stage_in used ≡ Some after
+    → stage_worker after ≡ stage_worker before
+keeps_worker s k reads writes calls failures layout before after old asked new outcome site room work turned used left asks
+    replies uses there =
+    subst (IsOf (worker_asked asked)) (sym (used_stage s k site room work turned left outcome.answer used uses) ∙ there)
     (of_answer asked outcome.answer replies.tokens)
     ∙ of_stage reads writes calls failures layout before old asked new asks

@@ -1,14 +1,16 @@
 -- What is looked at names its page, and is as long as it has to be.
-use Rattle.std.proofs.Common.{◌≡◌, ◌∙◌, ◌<◌, ◌^◌, ◌-◌, ◌⊎◌, ◌++◌, ℕ, List, length, false, ap, arith, inl, inr, length-drop}
+use Rattle.std.proofs.Common.{◌≡◌, ◌∙◌, ◌≤◌, ◌<◌, ◌^◌, ◌-◌, ◌++◌, ℕ, Bool, true, false, List, length, refl, sym, ap, arith, inl, inr, length-drop}
+use Rattle.std.specs.Prelude.{◌&&◌, nat_le, take}
+use Rattle.std.proofs.lemmas.Bool.{cases_lt, lt-leb, le-leb, false≢true}
 use Rattle.std.specs.Int.{w32, w64, to_be_bytes}
-use Rattle.pp_device.specs.Image.{head_of}
+use Rattle.pp_device.specs.Image.{head_of, body_of}
 use Rattle.pp_vault.proofs.Heads.{head_written}
 use Rattle.pp_vault.specs.declared.guards.ReadGuard.{ReadGuard}
 use Rattle.pp_vault.specs.Flushes.{IsImageOf}
-use Rattle.pp_vault.specs.Looks.{ShowsBody}
+use Rattle.pp_vault.specs.Looks.{ShowsBody, may_see}
 use Rattle.pp_pool.specs.Parts.{Parts, state_of}
 use Rattle.pp_pool.specs.Books.{IsBook}
-use Rattle.pp_pool.specs.Fronts.{ShowsNot}
+use Rattle.pp_pool.specs.Fronts.{ShowsPage}
 
 -- Bytes that begin with a head have that head.
 pub head_made : (bytes rest : List ℕ) (page stamp : ℕ) → bytes ≡ to_be_bytes w32 page ++ to_be_bytes w64 stamp ++ rest
@@ -25,8 +27,46 @@ body_long b page body k h =
     let images = k.stands.images in
     ap length h.body_is ∙ length-drop 12 h.image ∙ ap (λ n. n - 12) (images.long at.frame h.image at.there)
 
-pub not_shown : (b : Parts) (guard : ReadGuard) (body : List ℕ) (bytes : ℕ) → IsBook b
-    → ShowsBody b.vault guard.page body → (bytes < 64) ⊎ (length body < bytes - 12) → ShowsNot b guard bytes
-not_shown b guard body bytes k h refused =
-    let long : length body ≡ b.vault.page_bytes - 12 = body_long b guard.page body k h in
-    elim refused [ inl short ↦ inr (inl short) | inr wide ↦ inr (inr (omega arith)) ]
+-- So many bytes are no more than a page has exactly where those behind the head are no more than the body has.
+cut_le : (n p : ℕ) → 64 ≤ p → (nat_le 64 n && nat_le (n - 12) (p - 12)) ≡ (nat_le 64 n && nat_le n p)
+cut_le n p wide =
+    elim (cases_lt p n) [
+      | inl more ↦ ap (λ b. nat_le 64 n && b) (lt-leb (n - 12) (p - 12) (omega (arith, more, wide)) ∙ sym (lt-leb n p more))
+      | inr fits ↦ ap (λ b. nat_le 64 n && b) (le-leb (n - 12) (p - 12) (omega (arith, fits)) ∙ sym (le-leb n p fits))
+    ]
+
+-- The front of a body that is there is shown where it can be copied.
+pub shows_page : (b : Parts) (guard : ReadGuard) (body before after : List ℕ) (shown : Bool) → IsBook b
+    → may_see guard (state_of b) ≡ true → ShowsBody b.vault guard.page body
+    → shown ≡ (nat_le 64 (length before) && nat_le (length before - 12) (length body))
+    → (shown ≡ true → head_of after ≡ (guard.page, guard.mark))
+    → (shown ≡ true → body_of after ≡ take (length before - 12) body) → (shown ≡ true → 64 ≤ length after)
+    → (shown ≡ false → after ≡ before) → length after ≡ length before → ShowsPage b guard before shown after
+shows_page b guard body before after shown k may there copied head front long unchanged same =
+    record {
+      exact =
+          copied
+          ∙ ap (λ n. nat_le 64 (length before) && nat_le (length before - 12) n) (body_long b guard.page body k there)
+          ∙ cut_le (length before) b.vault.page_bytes k.stands.images.wide
+          ∙ sym (ap (λ t. t && (nat_le 64 (length before) && nat_le (length before) b.vault.page_bytes)) may);
+      front = λ yes. record {
+        long = long yes;
+        head = head yes;
+        body = body;
+        shown = there;
+        front = front yes ∙ ap (λ n. take (n - 12) body) (sym same);
+      };
+      length = same;
+      unchanged = unchanged;
+    }
+
+-- Nothing is shown to a guard that isn't one of the book's state.
+pub no_page : (b : Parts) (guard : ReadGuard) (bytes : List ℕ) → may_see guard (state_of b) ≡ false
+    → ShowsPage b guard bytes false bytes
+no_page b guard bytes stranger =
+    record {
+      exact = sym (ap (λ t. t && (nat_le 64 (length bytes) && nat_le (length bytes) b.vault.page_bytes)) stranger);
+      front = λ yes. absurd (false≢true yes);
+      length = refl;
+      unchanged = λ _. refl;
+    }

@@ -1,8 +1,7 @@
 -- What a worker has in hand after an answer that fits its request.
 use Rattle.std.proofs.Common.{◌≡◌, ◌∙◌, ◌++◌, ◌<◌, ◌≤◌, length, ℕ, Bool, true, false, inl, inr, arith, Option, Some, None, List, refl, sym, ap, subst}
-use Rattle.std.specs.Prelude.{IfSome, IsSome, vec_len, vec_capacity}
+use Rattle.std.specs.Prelude.{IfSome, IsSome, IfOk, Result, Ok, Err, vec_len, vec_capacity}
 use Rattle.std.proofs.lemmas.Bool.{false≢true}
-use Rattle.pp_device.specs.Answers.{Answer as DeviceAnswer}
 use Rattle.pp_vault.specs.declared.tokens.Session.{Session}
 use Rattle.pp_vault.specs.declared.guards.PinGuard.{PinGuard}
 use Rattle.pp_vault.specs.declared.guards.ReadGuard.{ReadGuard}
@@ -11,6 +10,7 @@ use Rattle.pp_vault.specs.declared.guards.Guard.{Guard}
 use Rattle.pp_vault.specs.Holding.{slot_by, is_free}
 use Rattle.pp_vault.specs.Lending.{with_body}
 use Rattle.pp_vault.specs.Stages.{is_chair}
+use Rattle.pp_device.specs.Image.{body_of}
 use Rattle.pp_vault.specs.declared.stage.Hand.{Hand}
 use Rattle.pp_vault.specs.Duties.{duty_slot, duty_worker}
 use Rattle.pp_vault.specs.declared.tokens.Duty.{Duty}
@@ -25,8 +25,14 @@ use Rattle.pp_pool.specs.declared.turned.Turned.{Turned}
 use Rattle.pp_pool.specs.declared.turned.Turned.TheVariants.{Done, NotNow, Ended, NoMemory, Broken}
 use Rattle.pp_pool.specs.declared.worker.Worker.{Worker}
 use Rattle.pp_pool.specs.Requests.{events_in}
-use Rattle.pp_pool.specs.Turns.{guard_asked, guard_in, stage_asked, stage_in, FindsPlace, LeavesNone, IsOwn, IsWorkers, IsLong, Works}
-use Rattle.pp_pool.specs.Turns.{Asks, Prepares, places_without, places_with, IsTurned, Turns, MayWait, TurnIs, can_ask}
+use Rattle.pp_pool.specs.declared.site.Site as Site
+use Rattle.pp_pool.specs.declared.work.Work as Work
+use Rattle.pp_device.specs.declared.device.Device as Device
+use Rattle.pp_pool.specs.Replies.{Replies}
+use Rattle.pp_settings.specs.Layout.{Geometry}
+use Rattle.pp_pool.specs.Turns.{guard_asked, guard_in, stage_asked, stage_in, FindsPlace, LeavesNone, IsOwn, IsWorkers, IsLong}
+use Rattle.pp_pool.specs.Turns.{Asks, Consults, Prepares, places_without, places_with, Uses, Turns, MayWait, TurnIs, can_ask}
+use Rattle.pp_pool.specs.Turns.{room_of, IsStep, IsWayOut, AsksSlot}
 
 -- ---- the stage
 
@@ -198,101 +204,180 @@ long_by asked (answer.Away errand) fit = tt
 long_by asked (answer.Flushed clean) fit = tt
 long_by asked (answer.No back why) fit = tt
 
-pub works_stage : (before after : Answer) → Works before after → stage_in after ≡ stage_in before
-works_stage (answer.Exclusive x g) after h = ap stage_in h.1
-works_stage (answer.Acts x) after h = ap stage_in h
-works_stage (answer.Idle chair) after h = ap stage_in h
-works_stage (answer.Leaves x) after h = ap stage_in h
-works_stage (answer.Pinned x g) after h = ap stage_in h
-works_stage (answer.Shared x g) after h = ap stage_in h
-works_stage (answer.Away errand) after h = ap stage_in h
-works_stage (answer.Flushed clean) after h = ap stage_in h
-works_stage (answer.No back why) after h = ap stage_in h
+-- What an answer is once the work has used it.
+module _ {S W : Type 0} (s : Site.Ghosts S) (k : Work.Ghosts W) (site : S) (room : ℕ) (old : W) (turned : Turned)
+    (new : W) where
+  -- Its stage is what it was.
+  pub used_stage : (before after : Answer) → Uses s k site room old before turned after new
+      → stage_in after ≡ stage_in before
+  used_stage (answer.Exclusive x g) after h = ap stage_in h.0.stays
+  used_stage (answer.Shared x g) after h = ap stage_in h.1
+  used_stage (answer.Acts x) after h = ap stage_in h.1
+  used_stage (answer.Idle chair) after h = ap stage_in h.1
+  used_stage (answer.Leaves x) after h = ap stage_in h.1
+  used_stage (answer.Pinned x g) after h = ap stage_in h.1
+  used_stage (answer.Away errand) after h = ap stage_in h.1
+  used_stage (answer.Flushed clean) after h = ap stage_in h.1
+  used_stage (answer.No back why) after h = ap stage_in h.1
 
-pub works_placed : (places : List (Option Guard)) (before after : Answer) → Works before after
-    → IsPlaced places (guard_in before) → IsPlaced places (guard_in after)
-works_placed places (answer.Exclusive x g) after h free =
-    subst (λ o. IsPlaced places (guard_in o)) (sym h.1) free
-works_placed places (answer.Acts x) after h free = subst (λ o. IsPlaced places (guard_in o)) (sym h) free
-works_placed places (answer.Idle chair) after h free = subst (λ o. IsPlaced places (guard_in o)) (sym h) free
-works_placed places (answer.Leaves x) after h free = subst (λ o. IsPlaced places (guard_in o)) (sym h) free
-works_placed places (answer.Pinned x g) after h free = subst (λ o. IsPlaced places (guard_in o)) (sym h) free
-works_placed places (answer.Shared x g) after h free = subst (λ o. IsPlaced places (guard_in o)) (sym h) free
-works_placed places (answer.Away errand) after h free = subst (λ o. IsPlaced places (guard_in o)) (sym h) free
-works_placed places (answer.Flushed clean) after h free = subst (λ o. IsPlaced places (guard_in o)) (sym h) free
-works_placed places (answer.No back why) after h free = subst (λ o. IsPlaced places (guard_in o)) (sym h) free
+  -- So its guard finds its place free, as before.
+  pub used_placed : (places : List (Option Guard)) (before after : Answer)
+      → Uses s k site room old before turned after new → IsPlaced places (guard_in before) → IsPlaced places (guard_in after)
+  used_placed places (answer.Exclusive x g) after h free =
+      subst (λ o. IsPlaced places (guard_in o)) (sym h.0.stays) free
+  used_placed places (answer.Shared x g) after h free = subst (λ o. IsPlaced places (guard_in o)) (sym h.1) free
+  used_placed places (answer.Acts x) after h free = subst (λ o. IsPlaced places (guard_in o)) (sym h.1) free
+  used_placed places (answer.Idle chair) after h free = subst (λ o. IsPlaced places (guard_in o)) (sym h.1) free
+  used_placed places (answer.Leaves x) after h free = subst (λ o. IsPlaced places (guard_in o)) (sym h.1) free
+  used_placed places (answer.Pinned x g) after h free = subst (λ o. IsPlaced places (guard_in o)) (sym h.1) free
+  used_placed places (answer.Away errand) after h free = subst (λ o. IsPlaced places (guard_in o)) (sym h.1) free
+  used_placed places (answer.Flushed clean) after h free = subst (λ o. IsPlaced places (guard_in o)) (sym h.1) free
+  used_placed places (answer.No back why) after h free = subst (λ o. IsPlaced places (guard_in o)) (sym h.1) free
 
 -- What the work leaves of a page is in the guard.
-pub worked : (before : Answer) (x : Session) (g : WriteGuard) (body : List ℕ) → before ≡ answer.Exclusive x g
-    → Works before (answer.Exclusive x (record g { image = with_body g.image body }))
-worked before x g body is =
-    subst (λ a. Works a (answer.Exclusive x (record g { image = with_body g.image body }))) (sym is) (body, refl)
+pub changed : {S W : Type 0} (s : Site.Ghosts S) (k : Work.Ghosts W) (site : S) (room : ℕ) (old new : W) (before : Answer)
+    (x : Session) (g : WriteGuard) (page : ℕ) (lent body : List ℕ) → before ≡ answer.Exclusive x g → page ≡ g.page
+    → lent ≡ body_of g.image → length body ≡ length lent → k.change_leaves old page lent body new
+    → Uses s k site room old before Done (answer.Exclusive x (record g { image = with_body g.image body })) new
+changed s k site room old new before x g page lent body is of front long left =
+    subst (λ a. Uses s k site room old a Done (answer.Exclusive x (record g { image = with_body g.image body })) new) (sym is) (
+      record {
+        body = body;
+        left =
+            subst (λ p. k.change_leaves old p (body_of g.image) body new) of
+            (subst (λ bytes. k.change_leaves old page bytes body new) front left);
+        long = long ∙ ap length front;
+        stays = refl;
+      },
+      refl,
+    )
 
 -- ---- a turn
 
-pub stage_after : (asked : Request) (out after : Answer) → IsWorkers asked → TokensFit asked out → Works out after
-    → IsSome (stage_in after)
-stage_after asked out after h fit works =
-    subst IsSome (sym (works_stage out after works)) (stage_there asked out h fit)
+pub stage_after : {S W : Type 0} (s : Site.Ghosts S) (k : Work.Ghosts W) (site : S) (room : ℕ) (old : W) (turned : Turned)
+    (new : W) (asked : Request) (out after : Answer) → IsWorkers asked → TokensFit asked out
+    → Uses s k site room old out turned after new → IsSome (stage_in after)
+stage_after s k site room old turned new asked out after h fit uses =
+    subst IsSome (sym (used_stage s k site room old turned new out after uses)) (stage_there asked out h fit)
 
-pub placed_after : (places rest : List (Option Guard)) (asked : Request) (out after : Answer) → Prepares places asked rest
-    → TokensFit asked out → Works out after → IfSome (guard_in after) (λ g. is_free rest (slot_by g) ≡ true)
-placed_after places rest asked out after p fit works =
-    works_placed rest out after works (guard_placed rest asked out p.finds fit)
+pub placed_after : {S W : Type 0} (s : Site.Ghosts S) (k : Work.Ghosts W) (site : S) (room : ℕ) (old : W) (turned : Turned)
+    (new : W) (places rest : List (Option Guard)) (asked : Request) (out after : Answer) → Prepares places asked rest
+    → TokensFit asked out → Uses s k site room old out turned after new
+    → IfSome (guard_in after) (λ g. is_free rest (slot_by g) ≡ true)
+placed_after s k site room old turned new places rest asked out after p fit uses =
+    used_placed s k site room old turned new rest out after uses (guard_placed rest asked out p.finds fit)
 
-pub turns : {S D : Type 0} (gives : S → Request → Outcome → S → Type 0)
-    (reads : D → ℕ → List ℕ → DeviceAnswer → List ℕ → D → Type 0) (writes : D → ℕ → List ℕ → DeviceAnswer → D → Type 0)
-    (calls failures : D → ℕ) (old new : Worker S D) (turned : Turned) (asked : Request) (outcome : Outcome)
-    (after : Answer) (rest : List (Option Guard)) (site : S)
-    → Asks reads writes calls failures old.layout old.hand.stage old.device asked new.device
-    → Prepares old.hand.guards asked rest → gives old.site asked outcome site → new.site ≡ site
-    → new.log.items ≡ old.log.items ++ events_in outcome.event → Works outcome.answer after
+pub turns : {S D W : Type 0} (s : Site.Ghosts S) (d : Device.Ghosts D) (k : Work.Ghosts W) (old new : Worker S D)
+    (before between left : W) (turned : Turned) (asked : Request) (outcome : Outcome) (after : Answer)
+    (rest : List (Option Guard)) (site : S) (room : ℕ)
+    → Asks d.read_gives d.write_leaves d.calls d.failures old.layout old.hand.stage old.device asked new.device
+    → Consults k old.layout before asked between → Prepares old.hand.guards asked rest
+    → s.gives old.site asked outcome site → Replies asked outcome → new.site ≡ site
+    → new.log.items ≡ old.log.items ++ events_in outcome.event → room_of new ≡ room
+    → Uses s k site room between outcome.answer turned after left
     → stage_in after ≡ Some new.hand.stage → new.hand.guards ≡ places_with rest (guard_in after)
-    → IsTurned outcome.answer turned → TurnIs gives reads writes calls failures old turned new
-turns gives reads writes calls failures old new turned asked outcome after rest site asks prepares given same
-    log works stage guards how =
+    → TurnIs s d k old before turned new left
+turns s d k old new before between left turned asked outcome after rest site room asks consults prepares given fits same
+    log long uses stage guards =
     inl (record {
       asked = asked;
       outcome = outcome;
       after = after;
+      between = between;
       asks = asks;
+      consults = consults;
       own = prepares.own;
       none = prepares.none;
-      given = subst (gives old.site asked outcome) (sym same) given;
+      given = subst (s.gives old.site asked outcome) (sym same) given;
+      fits = fits;
       log = log;
-      works = works;
+      uses =
+          subst (λ n. Uses s k new.site n between outcome.answer turned after left) (sym long)
+          (subst (λ t. Uses s k t room between outcome.answer turned after left) (sym same) uses);
       stage = stage;
       guards = guards ∙ ap (λ ps. places_with ps (guard_in after)) prepares.keeps;
-      turned_is = how;
     })
 
--- The room that a worker gets before changes nothing that a turn speaks of.
-module _ {S D : Type 0} (gives : S → Request → Outcome → S → Type 0)
-    (reads : D → ℕ → List ℕ → DeviceAnswer → List ℕ → D → Type 0) (writes : D → ℕ → List ℕ → DeviceAnswer → D → Type 0)
-    (calls failures : D → ℕ) (old mid new : Worker S D) (turned : Turned) (site : mid.site ≡ old.site)
+-- ---- where the work is asked nothing
+
+module _ {W : Type 0} (k : Work.Ghosts W) (layout : Geometry) (old : W) where
+  -- On the way out of a plan.
+  pub way_consults : (x : _) (asked : Request) → IsWayOut x asked → Consults k layout old asked old
+  way_consults x (request.GiveBack y g) h = refl
+  way_consults x (request.End y) h = refl
+  way_consults x (request.Take chair) h = absurd h
+  way_consults x (request.Fix y page) h = absurd h
+  way_consults x (request.Unfix y g) h = absurd h
+  way_consults x (request.LatchShared y g) h = absurd h
+  way_consults x (request.LatchExclusive y g) h = absurd h
+  way_consults x (request.UnlatchShared y g) h = absurd h
+  way_consults x (request.UnlatchExclusive y g) h = absurd h
+  way_consults x (request.Choose y branch) h = absurd h
+  way_consults x (request.Finish y) h = absurd h
+  way_consults x (request.Answer returned) h = absurd h
+  way_consults x (request.Flush page) h = absurd h
+  way_consults x (request.FlushNext number) h = absurd h
+
+  -- Where the plan asks something of a slot that holds a page.
+  pub slot_consults : (x : Session) (slot : ℕ) (asked : Request) → AsksSlot slot x.ask → IsStep layout x asked
+      → Consults k layout old asked old
+  slot_consults x slot (request.Fix y page) of step = absurd (subst (AsksSlot slot) step.3 of)
+  slot_consults x slot (request.Choose y branch) of step = absurd (subst (AsksSlot slot) step.2 of)
+  slot_consults x slot (request.Unfix y g) of step = refl
+  slot_consults x slot (request.LatchShared y g) of step = refl
+  slot_consults x slot (request.LatchExclusive y g) of step = refl
+  slot_consults x slot (request.UnlatchShared y g) of step = refl
+  slot_consults x slot (request.UnlatchExclusive y g) of step = refl
+  slot_consults x slot (request.Finish y) of step = refl
+  slot_consults x slot (request.Take chair) of step = absurd step
+  slot_consults x slot (request.End y) of step = absurd step
+  slot_consults x slot (request.GiveBack y g) of step = absurd step
+  slot_consults x slot (request.Answer returned) of step = absurd step
+  slot_consults x slot (request.Flush page) of step = absurd step
+  slot_consults x slot (request.FlushNext number) of step = absurd step
+
+  -- So it is of a request that comes, if one comes.
+  pub slot_consults_at : (x : Session) (slot : ℕ) (r : Result Request Session) → AsksSlot slot x.ask
+      → IfOk r (λ asked. (l : Geometry) → IsStep l x asked) → IfOk r (λ asked. Consults k layout old asked old)
+  slot_consults_at x slot (Ok asked) of step = slot_consults x slot asked of (step layout)
+  slot_consults_at x slot (Err e) of step = tt
+
+-- What is asked in every layout is asked in this one.
+pub consults_at : {W : Type 0} (k : Work.Ghosts W) (layout : Geometry) (old new : W) (r : Result Request Session)
+    → IfOk r (λ asked. (l : Geometry) → Consults k l old asked new) → IfOk r (λ asked. Consults k layout old asked new)
+consults_at k layout old new (Ok asked) h = h layout
+consults_at k layout old new (Err e) h = tt
+
+-- ---- the room that is got before
+
+-- It changes nothing that a turn speaks of, but the room for a page.
+module _ {S D W : Type 0} (s : Site.Ghosts S) (d : Device.Ghosts D) (k : Work.Ghosts W) (old mid new : Worker S D)
+    (before left : W) (turned : Turned) (site : mid.site ≡ old.site)
     (device : mid.device ≡ old.device) (hand : mid.hand ≡ old.hand) (log : mid.log.items ≡ old.log.items)
     (layout : mid.layout ≡ old.layout) (room : vec_len mid.log < vec_capacity mid.log) where
-  turns_from : Turns gives reads writes calls failures mid turned new
-      → Turns gives reads writes calls failures old turned new
+  turns_from : Turns s d k mid before turned new left → Turns s d k old before turned new left
   turns_from t =
       record {
         asked = t.asked;
         outcome = t.outcome;
         after = t.after;
+        between = t.between;
         asks =
-            subst (λ l. Asks reads writes calls failures l old.hand.stage old.device t.asked new.device) layout
-            (subst (λ h. Asks reads writes calls failures mid.layout h.stage old.device t.asked new.device) hand
-            (subst (λ d. Asks reads writes calls failures mid.layout mid.hand.stage d t.asked new.device) device t.asks));
+            subst (λ l. Asks d.read_gives d.write_leaves d.calls d.failures l old.hand.stage old.device t.asked new.device) layout
+            (subst (λ h. Asks d.read_gives d.write_leaves d.calls d.failures mid.layout h.stage old.device t.asked new.device) hand
+            (subst (λ e. Asks d.read_gives d.write_leaves d.calls d.failures mid.layout mid.hand.stage e t.asked new.device)
+            device t.asks));
+        consults = subst (λ l. Consults k l before t.asked t.between) layout t.consults;
         own = subst (λ (h : Hand). IsOwn h.guards t.asked) hand t.own;
         none = subst (λ (h : Hand). LeavesNone h.guards t.asked) hand t.none;
-        given = subst (λ s. gives s t.asked t.outcome new.site) site t.given;
+        given = subst (λ x. s.gives x t.asked t.outcome new.site) site t.given;
+        fits = t.fits;
         log = t.log ∙ ap (λ es. es ++ events_in t.outcome.event) log;
-        works = t.works;
+        uses = t.uses;
         stage = t.stage;
         guards =
             t.guards
             ∙ ap (λ (h : Hand). places_with (places_without h.guards (guard_asked t.asked)) (guard_in t.after)) hand;
-        turned_is = t.turned_is;
       }
 
   may_from : (t : Turned) → MayWait mid t → MayWait old t
@@ -306,8 +391,7 @@ module _ {S D : Type 0} (gives : S → Request → Outcome → S → Type 0)
   may_from NotNow may = absurd may
   may_from Ended may = absurd may
 
-  pub turn_from : TurnIs gives reads writes calls failures mid turned new
-      → TurnIs gives reads writes calls failures old turned new
+  pub turn_from : TurnIs s d k mid before turned new left → TurnIs s d k old before turned new left
   turn_from h =
       elim (h) [
         | inl t ↦ inl (turns_from t)
@@ -317,5 +401,6 @@ module _ {S D : Type 0} (gives : S → Request → Outcome → S → Type 0)
           device = w.device ∙ device;
           hand = w.hand ∙ hand;
           log = w.log ∙ log;
+          work = w.work;
         })
       ]

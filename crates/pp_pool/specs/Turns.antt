@@ -1,19 +1,25 @@
 -- What a turn of a worker does.
-use Rattle.std.specs.Prelude.{◌≡◌, ◌⊎◌, ℕ, ◌<◌, ◌≤◌, nat_lt, Bool, true, false, ◌&&◌, List, length, ◌++◌, slice_get, slice_set}
+use Rattle.std.specs.Prelude.{◌≡◌, ◌≢◌, ◌⊎◌, ◌==◌, if◌then◌else◌, ℕ, ◌+◌, ◌-◌, ◌^◌, ◌<◌, ◌≤◌, nat_lt, min, max, Bool, true, false, ◌&&◌}
+use Rattle.std.specs.Prelude.{List, length, ◌++◌, slice_get, slice_set}
 use Rattle.std.specs.Prelude.{Option, None, Some, IfSome, IsSome, vec_len, vec_capacity}
 use Rattle.std.specs.Option.{is_some}
 use Rattle.std.specs.Global.{Vec}
 use Rattle.pp_settings.specs.Layout.{Geometry, HasPage}
+use Rattle.pp_settings.specs.declared.extent.Extent.{Extent}
 use Rattle.pp_plan.specs.declared.mode.Mode.TheVariants as mode
 use Rattle.pp_plan.specs.declared.action.Ask.{Ask}
 use Rattle.pp_plan.specs.declared.action.Ask.TheVariants as ask
 use Rattle.pp_model.specs.declared.event.Event.{Event}
 use Rattle.pp_model.specs.declared.refusals.Delay.TheVariants.{NothingWaiting}
+use Rattle.pp_device.specs.declared.device.Device as Device
 use Rattle.pp_device.specs.Answers.{Answer as DeviceAnswer}
+use Rattle.pp_device.specs.Image.{head_of, body_of}
 use Rattle.pp_vault.specs.declared.refusal.Refusal.{Refusal}
 use Rattle.pp_vault.specs.declared.refusal.Refusal.TheVariants as refusal
 use Rattle.pp_vault.specs.declared.tokens.Session.{Session}
 use Rattle.pp_vault.specs.declared.tokens.Leaver.{Leaver}
+use Rattle.pp_vault.specs.declared.guards.ReadGuard.{ReadGuard}
+use Rattle.pp_vault.specs.declared.guards.WriteGuard.{WriteGuard}
 use Rattle.pp_vault.specs.declared.guards.Guard.{Guard}
 use Rattle.pp_vault.specs.declared.guards.Guard.TheVariants as guard
 use Rattle.pp_vault.specs.declared.stage.Stage.{Stage}
@@ -31,9 +37,16 @@ use Rattle.pp_pool.specs.declared.outcome.Answer.TheVariants as answer
 use Rattle.pp_pool.specs.declared.outcome.Outcome.{Outcome}
 use Rattle.pp_pool.specs.declared.turned.Turned.{Turned}
 use Rattle.pp_pool.specs.declared.turned.Turned.TheVariants.{Done, NotNow, Ended, NoMemory, Broken}
+use Rattle.pp_pool.specs.declared.site.Site as Site
+use Rattle.pp_pool.specs.declared.work.Work as Work
 use Rattle.pp_pool.specs.declared.worker.Worker.{Worker}
 use Rattle.pp_pool.specs.Requests.{events_in}
+use Rattle.pp_pool.specs.Replies.{Replies}
 use Rattle.pp_pool.specs.Flushings.{Sends}
+
+-- As many bytes as can be counted: a work that wants all of a page reaches for them.
+abbrev pub all_bytes : ℕ
+all_bytes = 2 ^ 64 - 1
 
 -- ---- what a worker asks
 
@@ -67,6 +80,17 @@ Asks reads writes calls failures layout (stage.Out errand) old asked new =
 Asks reads writes calls failures layout (stage.Back returned) old asked new =
     (asked ≡ request.Answer returned) × (new ≡ old)
 Asks reads writes calls failures layout (stage.Leaving leaver) old asked new = IsWayOut leaver asked × (new ≡ old)
+
+-- What the work is asked for the request. For a fix it is a page: of the region that the plan names, from the region's first
+-- page on, of as many as the region has. For a choice it is a branch, of as many as the choice has. For any other request it
+-- is asked nothing, and is as it was.
+abbrev pub Consults : {W : Type 0} → Work.Ghosts W → Geometry → (old : W) → Request → (new : W) → Type 0
+Consults k layout old (request.Fix x page) new =
+    (slot : ℕ) × (region : ℕ) × (e : Extent) × (x.ask ≡ ask.Fix slot region) × (slice_get layout.extents region ≡ Some e)
+    × k.page_gives old region e.first e.count page new
+Consults k layout old (request.Choose x branch) new =
+    (count : ℕ) × (x.ask ≡ ask.Choose count) × k.branch_gives old count branch new
+Consults k layout old _ new = new ≡ old
 
 -- ---- the guards in hand
 
@@ -219,12 +243,35 @@ abbrev pub IsLong : Answer → Type 0
 IsLong (answer.Exclusive x g) = 64 ≤ length g.image
 IsLong _ = Unit {0}
 
--- What the work leaves of an answer: after a latch X the guard's image has the body that the work has left there, and
--- nothing else changes.
-abbrev pub Works : Answer → Answer → Type 0
-Works (answer.Exclusive x g) after =
-    (body : List ℕ) × (after ≡ answer.Exclusive x (record g { image = with_body g.image body }))
-Works before after = after ≡ before
+-- After a latch X the work changes the body of the guard's image, which it is told is the guard's page. What it leaves there
+-- is the body from then on.
+pub record Changes {W : Type 0} (k : Work.Ghosts W) (old : W) (x : Session) (g : WriteGuard) (after : Answer) (new : W)
+    : Type 0 where
+  pub body : List ℕ
+  pub left : k.change_leaves old g.page (body_of g.image) body new
+  pub long : length body ≡ length (body_of g.image)
+  pub stays : after ≡ answer.Exclusive x (record g { image = with_body g.image body })
+
+-- Whether the guard's page was shown: the site says so, and the bytes begin with the guard's page and mark.
+abbrev pub is_shown : ReadGuard → (shown : Bool) → (bytes : List ℕ) → Bool
+is_shown guard shown bytes =
+    shown && (((head_of bytes).0 == guard.page) && ((head_of bytes).1 == guard.mark))
+
+-- After a latch S the site is asked to show the guard's page: as many bytes as the work reaches for, 64 at least, but no more
+-- than there is room for. If it was shown, the work sees exactly the bytes that the site showed; else it sees nothing, and
+-- the turn is broken.
+pub record LooksAt {S W : Type 0} (s : Site.Ghosts S) (k : Work.Ghosts W) (site : S) (room : ℕ) (guard : ReadGuard) (old : W)
+    (turned : Turned) (new : W) : Type 0 where
+  pub reach : ℕ
+  pub reaches : k.reach_gives old reach ⊎ (reach ≡ all_bytes)
+  pub before : List ℕ
+  pub asked : length before ≡ min (max reach 64) room
+  pub shown : Bool
+  pub bytes : List ℕ
+  pub given : s.shows site guard before shown bytes
+  pub turned_is : turned ≡ (if is_shown guard shown bytes then Done else Broken)
+  pub seen : is_shown guard shown bytes ≡ true → k.see_leaves old guard.page guard.mark bytes new
+  pub unseen : is_shown guard shown bytes ≡ false → new ≡ old
 
 -- A refusal ends a turn so: nothing waits; it may be possible later; or it is a slip.
 abbrev pub turned_by : Refusal → Turned
@@ -233,31 +280,41 @@ turned_by (refusal.NotNow _) = NotNow
 turned_by (refusal.OffPlan cause) = Broken
 turned_by refusal.Stranger = Broken
 
--- So does an answer. After a latch S the page is looked at, which may be refused.
-abbrev pub IsTurned : Answer → Turned → Type 0
-IsTurned (answer.No back why) turned = turned ≡ turned_by why
-IsTurned (answer.Shared session guard) turned = (turned ≡ Done) ⊎ (turned ≡ Broken)
-IsTurned _ turned = turned ≡ Done
+-- What the work does with an answer's page, and how the turn ends: after a latch X it changes the page, after a latch S it
+-- sees it. Any other answer stays as it is, the work too, and the turn is done but for a refusal.
+abbrev pub Uses : {S W : Type 0} → Site.Ghosts S → Work.Ghosts W → (site : S) → (room : ℕ) → (old : W) → Answer → Turned
+    → (after : Answer) → (new : W) → Type 0
+Uses s k site room old (answer.Exclusive x g) turned after new = Changes k old x g after new × (turned ≡ Done)
+Uses s k site room old (answer.Shared x g) turned after new =
+    LooksAt s k site room g old turned new × (after ≡ answer.Shared x g)
+Uses s k site room old (answer.No back why) turned after new =
+    (turned ≡ turned_by why) × (after ≡ answer.No back why) × (new ≡ old)
+Uses s k site room old out turned after new = (turned ≡ Done) × (after ≡ out) × (new ≡ old)
 
 -- ---- a turn
 
--- One request is made of the site. The log grows by its event, and what comes of it is in hand.
-pub record Turns {S D : Type 0} (gives : S → Request → Outcome → S → Type 0)
-    (reads : D → ℕ → List ℕ → DeviceAnswer → List ℕ → D → Type 0)
-    (writes : D → ℕ → List ℕ → DeviceAnswer → D → Type 0) (calls failures : D → ℕ) (old : Worker S D)
-    (turned : Turned) (new : Worker S D) : Type 0 where
+-- How many bytes of a page the worker has room for.
+abbrev pub room_of : {S D : Type 0} → Worker S D → ℕ
+room_of w = length w.seen.items
+
+-- One request is made of the site. The log grows by its event, and what comes of it is in hand. The work is asked for what the
+-- request wants, and does what the answer lets it do.
+pub record Turns {S D W : Type 0} (s : Site.Ghosts S) (d : Device.Ghosts D) (k : Work.Ghosts W) (old : Worker S D) (before : W)
+    (turned : Turned) (new : Worker S D) (left : W) : Type 0 where
   pub asked : Request
   pub outcome : Outcome
   pub after : Answer
-  pub asks : Asks reads writes calls failures old.layout old.hand.stage old.device asked new.device
+  pub between : W
+  pub asks : Asks d.read_gives d.write_leaves d.calls d.failures old.layout old.hand.stage old.device asked new.device
+  pub consults : Consults k old.layout before asked between
   pub own : IsOwn old.hand.guards asked
   pub none : LeavesNone old.hand.guards asked
-  pub given : gives old.site asked outcome new.site
+  pub given : s.gives old.site asked outcome new.site
+  pub fits : Replies asked outcome
   pub log : new.log.items ≡ old.log.items ++ events_in outcome.event
-  pub works : Works outcome.answer after
+  pub uses : Uses s k new.site (room_of new) between outcome.answer turned after left
   pub stage : stage_in after ≡ Some new.hand.stage
   pub guards : new.hand.guards ≡ places_with (places_without old.hand.guards (guard_asked asked)) (guard_in after)
-  pub turned_is : IsTurned outcome.answer turned
 
 -- Why nothing is asked: memory ran out before a plan is taken; or the hand can make no request, or the log has no room
 -- for an event. No test has met the last two.
@@ -266,20 +323,32 @@ MayWait old NoMemory = is_chair old.hand.stage ≡ true
 MayWait old Broken = (can_ask old.layout old.hand ≡ false) ⊎ (vec_capacity old.log ≤ vec_len old.log)
 MayWait old _ = ⊥
 
--- Nothing is asked: the site, the device, the tokens and the log are as they were.
-pub record Waits {S D : Type 0} (old : Worker S D) (turned : Turned) (new : Worker S D) : Type 0 where
+-- Nothing is asked: the site, the device, the tokens, the log and the work are as they were.
+pub record Waits {S D W : Type 0} (old : Worker S D) (before : W) (turned : Turned) (new : Worker S D) (left : W) : Type 0 where
   pub may : MayWait old turned
   pub site : new.site ≡ old.site
   pub device : new.device ≡ old.device
   pub hand : new.hand ≡ old.hand
   pub log : new.log.items ≡ old.log.items
+  pub work : left ≡ before
 
 -- A turn makes one request, or waits.
-abbrev pub TurnIs : {S D : Type 0} → (S → Request → Outcome → S → Type 0)
-    → (D → ℕ → List ℕ → DeviceAnswer → List ℕ → D → Type 0) → (D → ℕ → List ℕ → DeviceAnswer → D → Type 0)
-    → (D → ℕ) → (D → ℕ) → Worker S D → Turned → Worker S D → Type 0
-TurnIs gives reads writes calls failures old turned new =
-    Turns gives reads writes calls failures old turned new ⊎ Waits old turned new
+abbrev pub TurnIs : {S D W : Type 0} → Site.Ghosts S → Device.Ghosts D → Work.Ghosts W → (old : Worker S D) → (before : W)
+    → Turned → (new : Worker S D) → (left : W) → Type 0
+TurnIs s d k old before turned new left =
+    Turns s d k old before turned new left ⊎ Waits old before turned new left
+
+-- ---- room
+
+-- The room that a turn leaves. A worker that was idle has it for a page, and in its log for as many events as the dearest plan
+-- can add that the site tells of, one at least; unless memory ran out. Any other has what it had.
+pub record MakesRoom {S D : Type 0} (s : Site.Ghosts S) (old : Worker S D) (turned : Turned) (new : Worker S D) : Type 0 where
+  pub log : is_chair old.hand.stage ≡ true → turned ≢ NoMemory
+      → (most : ℕ) × s.tells old.site most × (vec_len old.log + max most 1 ≤ vec_capacity new.log)
+  pub page : is_chair old.hand.stage ≡ true → turned ≢ NoMemory
+      → room_of new ≡ (if room_of old == 0 then old.page_bytes else room_of old)
+  pub log_kept : is_chair old.hand.stage ≡ false → vec_capacity new.log ≡ vec_capacity old.log
+  pub page_kept : is_chair old.hand.stage ≡ false → room_of new ≡ room_of old
 
 -- ---- a turn by what it changes
 
@@ -288,9 +357,8 @@ abbrev pub worker_with : {S D : Type 0} → Worker S D → Stage → List (Optio
 worker_with w stage guards site device log =
     record w { site = site; device = device; hand = record { stage = stage; guards = guards }; log = log }
 
--- A turn makes of the one worker the other, whatever a worker of this layout has besides.
-abbrev pub TurnOf : {S D : Type 0} → (S → Request → Outcome → S → Type 0)
-    → (D → ℕ → List ℕ → DeviceAnswer → List ℕ → D → Type 0) → (D → ℕ → List ℕ → DeviceAnswer → D → Type 0)
-    → (D → ℕ) → (D → ℕ) → Geometry → (Worker S D → Worker S D) → Turned → (Worker S D → Worker S D) → Type 0
-TurnOf gives reads writes calls failures layout old turned new =
-    (w : Worker _ _) → w.layout ≡ layout → TurnIs gives reads writes calls failures (old w) turned (new w)
+-- A turn makes of the one worker the other, whatever a worker of this layout, with so much room for a page, has besides.
+abbrev pub TurnOf : {S D W : Type 0} → Site.Ghosts S → Device.Ghosts D → Work.Ghosts W → Geometry → (room : ℕ)
+    → (Worker S D → Worker S D) → (before : W) → Turned → (Worker S D → Worker S D) → (left : W) → Type 0
+TurnOf s d k layout room old before turned new left =
+    (w : Worker _ _) → w.layout ≡ layout → room_of w ≡ room → TurnIs s d k (old w) before turned (new w) left

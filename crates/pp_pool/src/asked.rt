@@ -6,7 +6,7 @@ ghost use Rattle.pp_vault.specs.Holding.{slot_by, placed, is_free};
 ghost use Rattle.pp_vault.specs.declared.guards.Guard.{Guard};
 ghost use Rattle.pp_vault.specs.declared.guards.Guard.TheVariants as guard_kinds;
 ghost use Rattle.pp_settings.specs.Layout.{Geometry};
-ghost use Rattle.pp_pool.specs.Turns.{Asks, IsStep, IsWayOut, Prepares, AsksSlot, IsWorkers};
+ghost use Rattle.pp_pool.specs.Turns.{Asks, Consults, IsStep, IsWayOut, Prepares, AsksSlot, IsWorkers};
 ghost use Rattle.pp_pool.specs.Turns.{guard_asked, slot_for, places_without, suits, is_suited, can_step, can_ask_at};
 ghost use Rattle.pp_pool.specs.Turns.{has_place as place_is_free};
 
@@ -19,7 +19,7 @@ use pp_vault::{Guard, Guards, Leaver, PinGuard, Session, Stage};
 
 /// The request that a worker of this stage makes, whose guard is taken out of its place; or the stage, where it makes none.
 /// With an errand in hand the device is called.
-#[tactic(auto, using(crate::proofs::Flushed::failed_by))]
+#[tactic(auto, using(crate::proofs::Flushed::failed_by, crate::proofs::Turning::way_consults))]
 pub(crate) fn next<D: Device, W: Work>(
     stage: Stage,
     guards: &mut Guards,
@@ -29,11 +29,13 @@ pub(crate) fn next<D: Device, W: Work>(
 ) -> Result<Request, Stage>
     ensures asks { IfOk result (λ asked. Asks D.read_gives D.write_leaves D.calls D.failures layout.now stage
         device.old asked device.new) }
+    ensures consults { IfOk result (λ asked. Consults W.Work layout.now work.old asked work.new) }
     ensures prepares { IfOk result (λ asked. Prepares guards.old asked guards.new) }
     ensures err { OnErr result (can_ask_at layout.now guards.old stage ≡ false) }
     ensures back { IfErr result (λ e. e ≡ stage) }
     ensures guards { OnErr result (guards.new ≡ guards.old) }
     ensures device { OnErr result (device.new ≡ device.old) }
+    ensures work { OnErr result (work.new ≡ work.old) }
 {
     match stage {
         Stage::Idle(chair) => Ok(Request::Take(chair)),
@@ -75,10 +77,12 @@ fn in_plan<W: Work>(
     work: &mut W,
 ) -> Result<Request, Session>
     ensures step { IfOk result (λ asked. IsStep layout.now session asked) }
+    ensures consults { IfOk result (λ asked. Consults W.Work layout.now work.old asked work.new) }
     ensures prepares { IfOk result (λ asked. Prepares guards.old asked guards.new) }
     ensures err { OnErr result (can_step layout.now guards.old session.ask ≡ false) }
     ensures back { IfErr result (λ e. e ≡ session) }
     ensures guards { OnErr result (guards.new ≡ guards.old) }
+    ensures work { OnErr result (work.new ≡ work.old) }
 {
     match session.ask() {
         Ask::Fix { slot, region } => fix(session, guards, slot, region, layout, work),
@@ -101,9 +105,11 @@ fn fix<W: Work>(
 ) -> Result<Request, Session>
     requires { session.ask ≡ plan_ask.Fix slot region }
     ensures step { IfOk result (λ asked. IsStep layout.now session asked) }
+    ensures consults { IfOk result (λ asked. Consults W.Work layout.now work.old asked work.new) }
     ensures prepares { IfOk result (λ asked. Prepares guards.now asked guards.now) }
     ensures err { OnErr result (can_step layout.now guards.now (plan_ask.Fix slot region) ≡ false) }
     ensures back { IfErr result (λ e. e ≡ session) }
+    ensures work { OnErr result (work.new ≡ work.old) }
 {
     let _extents = layout.extents();
     match layout.extent(region) {
@@ -119,9 +125,11 @@ fn fix<W: Work>(
 fn choose<W: Work>(session: Session, branches: u16, work: &mut W) -> Result<Request, Session>
     requires { session.ask ≡ plan_ask.Choose branches }
     ensures step { IfOk result (λ asked. (layout : Geometry) → IsStep layout session asked) }
+    ensures consults { IfOk result (λ asked. (layout : Geometry) → Consults W.Work layout work.old asked work.new) }
     ensures prepares { IfOk result (λ asked. (guards : List (Option Guard)) → Prepares guards asked guards) }
     ensures err { OnErr result (nat_lt 0 branches ≡ false) }
     ensures back { IfErr result (λ e. e ≡ session) }
+    ensures work { OnErr result (work.new ≡ work.old) }
 {
     if branches == 0 {
         return Err(session);

@@ -1,7 +1,8 @@
 //! Where workers and the flusher ask.
 
-ghost use Rattle.std.specs.Prelude.{◌≡◌, ◌≤◌, ◌<◌, ◌⊎◌, ◌-◌, true, false, length, take};
+ghost use Rattle.std.specs.Prelude.{◌≡◌, ◌≤◌, ◌-◌, ◌&&◌, nat_le, ℕ, Bool, List, true, false, length, take};
 ghost use Rattle.pp_device.specs.Image.{head_of, body_of};
+ghost use Rattle.pp_vault.specs.declared.guards.ReadGuard.{ReadGuard};
 ghost use Rattle.pp_pool.specs.declared.request.Request.{Request};
 ghost use Rattle.pp_pool.specs.declared.outcome.Outcome.{Outcome};
 ghost use Rattle.pp_pool.specs.Replies.{Replies};
@@ -22,8 +23,15 @@ pub(crate) const SHORTEST: usize = 64;
 /// outcome, and the site as it is then. Of every outcome a caller knows that it fits its request (`Replies`): there is
 /// an event exactly where the answer is no refusal, it is of the request's move, the tokens are of the request's
 /// worker, and what is refused comes back.
+///
+/// Two more relations say what it answers without an event: `shows`, whether it shows the page of this guard, with the
+/// slice before and after, and `tells`, which number it takes for the greatest cost of a submitted plan.
 pub trait Site {
     ghost gives: { Self → Request → Outcome → Self → Type 0 };
+
+    ghost shows: { Self → ReadGuard → (before : List ℕ) → (shown : Bool) → (after : List ℕ) → Type 0 };
+
+    ghost tells: { Self → (most : ℕ) → Type 0 };
 
     /// Performs the request, as [`Book::perform`] does. A shared site may wait before.
     fn perform(&mut self, request: Request) -> Outcome
@@ -34,6 +42,7 @@ pub trait Site {
     /// as far as the slice goes. Tells whether it did. It did not, and the slice is as it was, where the guard isn't one of
     /// this state, or the slice has fewer than 64 bytes or more than a page.
     fn look(&mut self, guard: &ReadGuard, bytes: &mut [u8]) -> bool
+        ensures given { shows self.old guard.now bytes.old result bytes.new }
         ensures shown { result ≡ true → (head_of bytes.new).0 ≡ guard.now.page }
         ensures long { result ≡ true → 64 ≤ length bytes.new }
         ensures unchanged { result ≡ false → bytes.new ≡ bytes.old }
@@ -41,16 +50,18 @@ pub trait Site {
 
     /// The greatest cost of a submitted plan, as [`Book::most`] tells it.
     fn most(&mut self) -> u64
+        ensures given { tells self.old result }
         ensures same { self.new ≡ self.old };
 }
 
 /// Copies the front of the image that has this head and this body into the slice, as far as the slice goes, where that is
 /// 64 bytes at least and no more than the image has. Tells whether it did.
 fn copy_front(page: u32, mark: u64, body: &[u8], bytes: &mut [u8]) -> bool
+    ensures result { result ≡ (nat_le 64 (length bytes.old) && nat_le (length bytes.old - HEAD) (length body.now)) }
     ensures head { result ≡ true → head_of bytes.new ≡ (page, mark) }
     ensures body { result ≡ true → body_of bytes.new ≡ take (length bytes.old - HEAD) body.now }
     ensures long { result ≡ true → 64 ≤ length bytes.new }
-    ensures refused { result ≡ false → (length bytes.old < 64) ⊎ (length body.now < length bytes.old - HEAD) }
+    ensures length { length bytes.new ≡ length bytes.old }
     ensures unchanged { result ≡ false → bytes.new ≡ bytes.old }
 {
     if bytes.len() < SHORTEST || bytes.len() - HEAD > body.len() {
@@ -70,27 +81,25 @@ pub struct OwnSite {
 
 impl Site for OwnSite {
     ghost use Rattle.pp_pool.specs.Performs.{Performs};
-    ghost use Rattle.pp_vault.specs.Looks.{may_see};
-    ghost use Rattle.pp_pool.specs.Parts.{plans_of, state_of};
+    ghost use Rattle.pp_pool.specs.Parts.{plans_of};
     ghost use Rattle.pp_pool.specs.Books.{greatest_cost};
-    ghost use Rattle.pp_pool.specs.Fronts.{ShowsFront, ShowsNot};
+    ghost use Rattle.pp_pool.specs.Fronts.{ShowsPage};
 
     // The book's event and its answer, from the state that its journal leads to.
     ghost gives = { λ s request outcome t. Performs s.book request outcome t.book };
+
+    // The front of the page's image, exactly where the guard is one of that state and the slice has 64 bytes at least and no
+    // more than a page has.
+    ghost shows = { λ s guard before shown after. ShowsPage s.book guard before shown after };
+
+    ghost tells = { λ s most. most ≡ greatest_cost (plans_of s.book) };
 
     fn perform(&mut self, request: Request) -> Outcome {
         self.book.perform(request)
     }
 
-    fn look(&mut self, guard: &ReadGuard, bytes: &mut [u8]) -> bool
-        ensures shown { result ≡ true → (head_of bytes.new).0 ≡ guard.now.page }
-        ensures front { result ≡ true → ShowsFront self.old.book guard.now bytes.new }
-        ensures long { result ≡ true → 64 ≤ length bytes.new }
-        ensures held { result ≡ true → may_see guard.now (state_of self.old.book) ≡ true }
-        ensures refused { result ≡ false → ShowsNot self.old.book guard.now (length bytes.old) }
-        ensures unchanged { result ≡ false → bytes.new ≡ bytes.old }
-        ensures same { self.new ≡ self.old }
-    {
+    #[tactic(auto, using(crate::proofs::Looking::no_page))]
+    fn look(&mut self, guard: &ReadGuard, bytes: &mut [u8]) -> bool {
         self.book.known();
         match self.book.see(guard) {
             Some(body) => copy_front(guard.page(), guard.mark(), body, bytes),
@@ -98,10 +107,7 @@ impl Site for OwnSite {
         }
     }
 
-    fn most(&mut self) -> u64
-        ensures same { self.new ≡ self.old }
-        ensures most { result ≡ greatest_cost (plans_of self.old.book) }
-    {
+    fn most(&mut self) -> u64 {
         self.book.most()
     }
 }

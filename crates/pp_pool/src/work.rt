@@ -1,6 +1,6 @@
 //! What a worker does with its pages.
 
-ghost use Rattle.std.specs.Prelude.{◌≡◌, ◌<◌, ◌≤◌, ◌+◌, length};
+ghost use Rattle.std.specs.Prelude.{◌≡◌, ◌<◌, ◌≤◌, ◌+◌, ◌-◌, ◌^◌, ◌⊎◌, ℕ, List, length};
 ghost use Rattle.pp_device.specs.Image.{head_of};
 
 /// What a worker does with the pages of its plans, and which way it takes where a plan leaves that open.
@@ -35,35 +35,58 @@ ghost use Rattle.pp_device.specs.Image.{head_of};
 ///
 /// Nothing tells a work that a plan begins, ends, or is left, as it is where a device fails. Whether all was done, the
 /// work has to see from its calls.
+///
+/// Contracts see of a work what its calls do, by ghost members: `page_gives`, which page it can answer to these numbers,
+/// `branch_gives`, which branch to this count, `change_leaves`, which body it can leave in place of this one of the page,
+/// and `see_leaves`, what it can be once it has seen this image of the page with this mark; each with the work before and
+/// after. `reach_gives` is which reach it can answer, beside all bytes. A turn of a worker says by these that the work was
+/// asked for exactly what its plan asks, and was handed exactly the page that is latched. A work that gives none of them is
+/// known by the clauses of its calls alone, and reaches for all bytes.
 pub trait Work {
+    ghost page_gives: { Self → (region first count : ℕ) → (page : ℕ) → Self → Type 0 } = { λ work region first count page after. Unit {0} };
+
+    ghost branch_gives: { Self → (count : ℕ) → (branch : ℕ) → Self → Type 0 } = { λ work count branch after. Unit {0} };
+
+    ghost reach_gives: { Self → (bytes : ℕ) → Type 0 } = { λ work bytes. ⊥ };
+
+    ghost change_leaves: { Self → (page : ℕ) → (before after : List ℕ) → Self → Type 0 } = { λ work page before left after. Unit {0} };
+
+    ghost see_leaves: { Self → (page mark : ℕ) → (image : List ℕ) → Self → Type 0 } = { λ work page mark image after. Unit {0} };
+
     /// The page to fix, of a region that has `count` pages from `first` on.
     fn page(&mut self, region: u8, first: u32, count: u32) -> u32
         requires some { 1 ≤ count }
         requires ends { first + count ≤ 65536 }
         ensures from { first ≤ result }
-        ensures below { result < first + count };
+        ensures below { result < first + count }
+        ensures given { page_gives self.old region first count result self.new };
 
     /// The branch to go on with, of `count` branches, counted from 0.
     fn branch(&mut self, count: u16) -> u16
         requires { 1 ≤ count }
-        ensures { result < count };
+        ensures below { result < count }
+        ensures given { branch_gives self.old count result self.new };
 
     /// How many bytes of an image [`Work::see`] is to get, from the first of the head on: all of them, unless a work says
     /// fewer. It gets 64 at least, and never more than a page has.
     ///
     /// So many are copied for it. Where the pool is shared, its lock is held meanwhile, so a work that looks at the front of
     /// pages alone keeps the others waiting for less time.
-    fn reach(&self) -> usize {
+    fn reach(&self) -> usize
+        ensures given { reach_gives self.now result ⊎ (result ≡ 2 ^ 64 - 1) }
+    {
         usize::MAX
     }
 
     /// Changes the body of the page, which the worker has latched X: 52 bytes or more.
     fn change(&mut self, page: u32, body: &mut [u8])
-        requires { 52 ≤ length body.old };
+        requires { 52 ≤ length body.old }
+        ensures left { change_leaves self.old page body.old body.new self.new };
 
     /// Sees the image of the page, which the worker has latched S, as far as the work's reach goes: 64 bytes or more, and
     /// its head names the page and this mark.
     fn see(&mut self, page: u32, mark: u64, image: &[u8])
         requires head { head_of image.now ≡ (page, mark) }
-        requires long { 64 ≤ length image.now };
+        requires long { 64 ≤ length image.now }
+        ensures seen { see_leaves self.old page mark image.now self.new };
 }

@@ -1,11 +1,12 @@
 //! A worker: it runs plans, one request a turn.
 
-ghost use Rattle.std.specs.Prelude.{◌≡◌, ◌<◌, ◌⊎◌, ◌++◌, true, false, [], OnOk, OnErr, length};
+ghost use Rattle.std.specs.Prelude.{◌≡◌, ◌<◌, ◌≤◌, ◌+◌, ◌==◌, if◌then◌else◌, ◌++◌, ℕ, max, true, false, [], OnOk, OnErr, IfOk, length};
 ghost use Rattle.std.specs.Prelude.{vec_len, vec_capacity};
 ghost use Rattle.pp_pool.specs.Requests.{events_in};
 ghost use Rattle.pp_vault.specs.Stages.{is_chair, stage_worker};
 ghost use Rattle.pp_settings.specs.Settings.{geometry_of};
-ghost use Rattle.pp_pool.specs.Turns.{TurnIs, TurnOf, worker_with, Works, IsTurned, IsLong, turned_by as turned_then};
+ghost use Rattle.pp_pool.specs.Turns.{TurnIs, TurnOf, MakesRoom, room_of, worker_with, Uses, LooksAt, IsLong};
+ghost use Rattle.pp_pool.specs.Turns.{turned_by as turned_then};
 
 use crate::asked::next;
 use crate::outcome::{Answer, Outcome};
@@ -48,6 +49,7 @@ impl<S: Site, D: Device> Worker<S, D> {
         ensures log { result.log.items ≡ [] }
         ensures layout { result.layout ≡ geometry_of settings.now }
         ensures page_bytes { result.page_bytes ≡ settings.now.page_bytes }
+        ensures room { room_of result ≡ 0 }
     {
         Worker::over(
             alloc,
@@ -78,6 +80,7 @@ impl<S: Site, D: Device> Worker<S, D> {
         ensures log { result.log.items ≡ [] }
         ensures layout { result.layout ≡ layout }
         ensures page_bytes { result.page_bytes ≡ page_bytes }
+        ensures room { room_of result ≡ 0 }
     {
         Worker {
             site,
@@ -103,7 +106,8 @@ impl<S: Site, D: Device> Worker<S, D> {
     ///
     /// Over each turn the hand stays the same worker's.
     pub fn turn<W: Work>(&mut self, work: &mut W) -> Turned
-        ensures turn { TurnIs S.gives D.read_gives D.write_leaves D.calls D.failures self.old result self.new }
+        ensures turn { TurnIs S.Site D.Device W.Work self.old work.old result self.new work.new }
+        ensures room { MakesRoom S.Site self.old result self.new }
         ensures worker { stage_worker self.new.hand.stage ≡ stage_worker self.old.hand.stage }
         ensures layout { self.new.layout ≡ self.old.layout }
         ensures page_bytes { self.new.page_bytes ≡ self.old.page_bytes }
@@ -152,9 +156,12 @@ impl<S: Site, D: Device> Worker<S, D> {
         ensures log { self.new.log.items ≡ self.old.log.items }
         ensures layout { self.new.layout ≡ self.old.layout }
         ensures page_bytes { self.new.page_bytes ≡ self.old.page_bytes }
-        ensures busy { is_chair self.old.hand.stage ≡ false → self.new.log ≡ self.old.log }
+        ensures busy { is_chair self.old.hand.stage ≡ false → self.new ≡ self.old }
         ensures err { OnErr result (is_chair self.old.hand.stage ≡ true) }
-        ensures room { OnOk result (is_chair self.old.hand.stage ≡ true → vec_len self.new.log < vec_capacity self.new.log) }
+        ensures room { OnOk result (is_chair self.old.hand.stage ≡ true
+            → (most : ℕ) × S.tells self.old.site most × (vec_len self.old.log + max most 1 ≤ vec_capacity self.new.log)) }
+        ensures page { OnOk result (is_chair self.old.hand.stage ≡ true
+            → room_of self.new ≡ (if room_of self.old == 0 then self.old.page_bytes else room_of self.old)) }
     {
         match &self.hand.stage {
             Stage::Idle(_) => {}
@@ -181,9 +188,11 @@ fn ask<S: Site, D: Device, W: Work>(
     work: &mut W,
 ) -> Turned
     requires { length log.old.items < vec_capacity log.old }
-    ensures turn { TurnOf S.gives D.read_gives D.write_leaves D.calls D.failures layout.now
-        (λ w. worker_with w stage.old guards.old site.old device.old log.old) result
-        (λ w. worker_with w stage.new guards.new site.new device.new log.new) }
+    ensures turn { TurnOf S.Site D.Device W.Work layout.now (length seen.old.items)
+        (λ w. worker_with w stage.old guards.old site.old device.old log.old) work.old result
+        (λ w. worker_with w stage.new guards.new site.new device.new log.new) work.new }
+    ensures memory { vec_capacity log.new ≡ vec_capacity log.old }
+    ensures seen { length seen.new.items ≡ length seen.old.items }
     ensures worker { stage_worker stage.new ≡ stage_worker stage.old }
 {
     let around = (guards, site, device, log, seen, work);
@@ -192,11 +201,13 @@ fn ask<S: Site, D: Device, W: Work>(
         let (stage, turned) = asked(stage, guards, layout, site, device, log, seen, work);
         (stage, (turned, (guards, site, device, log, seen, work)))
     });
-    let (guards, site, device, log, _seen, _work) = around;
+    let (guards, site, device, log, seen, work) = around;
     taken_back(guards);
     taken_back(site);
     taken_back(device);
     taken_back(log);
+    taken_back(seen);
+    taken_back(work);
     turned
 }
 
@@ -207,7 +218,7 @@ fn taken_back<T>(lent: &mut T)
 {}
 
 /// The stage after the request, if this stage has one.
-#[tactic(auto, using(crate::proofs::Turning::long_by, crate::proofs::Turning::stage_after, crate::proofs::Turning::placed_after, crate::proofs::Turning::turns))]
+#[tactic(auto, using(crate::proofs::Turning::long_by, crate::proofs::Turning::turns))]
 fn asked<S: Site, D: Device, W: Work>(
     stage: Stage,
     guards: &mut Guards,
@@ -219,9 +230,11 @@ fn asked<S: Site, D: Device, W: Work>(
     work: &mut W,
 ) -> (Stage, Turned)
     requires { length log.old.items < vec_capacity log.old }
-    ensures turn { TurnOf S.gives D.read_gives D.write_leaves D.calls D.failures layout.now
-        (λ w. worker_with w stage guards.old site.old device.old log.old) result.1
-        (λ w. worker_with w result.0 guards.new site.new device.new log.new) }
+    ensures turn { TurnOf S.Site D.Device W.Work layout.now (length seen.old.items)
+        (λ w. worker_with w stage guards.old site.old device.old log.old) work.old result.1
+        (λ w. worker_with w result.0 guards.new site.new device.new log.new) work.new }
+    ensures memory { vec_capacity log.new ≡ vec_capacity log.old }
+    ensures seen { length seen.new.items ≡ length seen.old.items }
     ensures worker { stage_worker result.0 ≡ stage_worker stage }
 {
     match next(stage, guards, layout, device, work) {
@@ -238,7 +251,8 @@ fn asked<S: Site, D: Device, W: Work>(
 /// Adds the event, if there is one.
 fn add(log: &mut Vec<Event>, event: Option<Event>)
     requires { length log.old.items < vec_capacity log.old }
-    ensures { log.new.items ≡ log.old.items ++ events_in event }
+    ensures items { log.new.items ≡ log.old.items ++ events_in event }
+    ensures memory { vec_capacity log.new ≡ vec_capacity log.old }
 {
     match event {
         Some(event) => log.push_reserved(event),
@@ -254,8 +268,7 @@ fn used<S: Site, W: Work>(
     work: &mut W,
 ) -> (Answer, Turned)
     requires { IsLong answer }
-    ensures works { Works answer result.0 }
-    ensures turned { IsTurned answer result.1 }
+    ensures uses { Uses S.Site W.Work site.old (length seen.old) work.old answer result.1 result.0 work.new }
     ensures site { site.new ≡ site.old }
 {
     match answer {
@@ -278,7 +291,7 @@ fn used<S: Site, W: Work>(
 
 /// Looks at the guard's page as far as the work's reach goes, and shows that to the work.
 fn see<S: Site, W: Work>(site: &mut S, guard: &ReadGuard, seen: &mut [u8], work: &mut W) -> Turned
-    ensures turned { (result ≡ Turned.Done) ⊎ (result ≡ Turned.Broken) }
+    ensures looks { LooksAt S.Site W.Work site.old (length seen.old) guard.now work.old result work.new }
     ensures site { site.new ≡ site.old }
 {
     let reach = work.reach().max(SHORTEST).min(seen.len());

@@ -7,7 +7,7 @@ pub returns-clause-turn : goal.returns-clause-turn
 returns-clause-turn g c =
     let made = c.make_room.new.self in
     let room : vec_len made.log < vec_capacity made.log = search rules in
-    turn_from g.S.Site.gives g.D.Device.read_gives g.D.Device.write_leaves g.D.Device.calls g.D.Device.failures _ _ _ _
+    turn_from g.S.Site g.D.Device g.W.Work _ _ _ _ _ _
     c.make_room.ensures.site c.make_room.ensures.device c.make_room.ensures.hand c.make_room.ensures.log
     c.make_room.ensures.layout room
     (c.ask.ensures.turn
@@ -20,4 +20,4 @@ returns-clause-turn g c =
       page_bytes = made.page_bytes;
       seen = c.ask.new.seen;
       alloc = made.alloc;
-    } refl)
+    } refl c.ask.ensures.seen)
