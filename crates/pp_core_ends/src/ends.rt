@@ -11,6 +11,19 @@ pub struct Host<'a> {
 }
 
 impl Decide for Host<'_> {
+    ghost use Rattle.std.specs.Prelude.{◌<◌, ◌≤◌, ◌+◌};
+
+    // Chance decides, so nothing is known but that an answer is within what was asked; and of the device nothing at all.
+    ghost picks = { λ h region first count page i. (first ≤ page) × (page < first + count) };
+
+    ghost chooses = { λ h count branch i. branch < count };
+
+    ghost reads = { λ h page came i. Unit {0} };
+
+    ghost writes = { λ h page ok i. Unit {0} };
+
+    ghost flushes = { λ h page ok i. Unit {0} };
+
     fn page(&mut self, _region: u8, first: u32, count: u32) -> u32 {
         first + self.chance.below(count)
     }
