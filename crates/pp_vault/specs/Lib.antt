@@ -1,4 +1,5 @@
 pub mod Words
+pub mod Refusals
 pub mod Calls
 pub mod Fits
 pub mod Parts

@@ -1,6 +1,6 @@
 //! Why a call of a vault does nothing.
 
-ghost use Rattle.std.specs.Prelude.{Some};
+ghost use Rattle.std.specs.Prelude.{◌≡◌, Some};
 
 use pp_model::{Cause, Delay};
 use std::fmt;
@@ -16,6 +16,32 @@ pub enum Refusal {
     /// doesn't hold that page with that latch, or its errand isn't out. Or two tokens are of different workers. Or an
     /// image isn't as long as a page, or one that was to be written back isn't the victim's with its known mark.
     Stranger,
+}
+
+impl Refusal {
+    ghost use Rattle.pp_vault.specs.Refusals.{refusal_number, refusal_name};
+
+    /// The number of the refusal: 61 where the move isn't possible now, else 62.
+    pub fn number(self) -> u8
+        ensures { result ≡ refusal_number self }
+    {
+        match self {
+            Refusal::NotNow(delay) => delay.number(),
+            Refusal::OffPlan(cause) => cause.number(),
+            Refusal::Stranger => 62,
+        }
+    }
+
+    /// The name of the refusal: `NotNow` or `OffPlan`. A stranger's is `OffPlan`.
+    pub fn name(self) -> &'static str
+        ensures { result.now ≡ refusal_name self }
+    {
+        match self {
+            Refusal::NotNow(delay) => delay.name(),
+            Refusal::OffPlan(cause) => cause.name(),
+            Refusal::Stranger => "OffPlan",
+        }
+    }
 }
 
 impl fmt::Display for Refusal {
