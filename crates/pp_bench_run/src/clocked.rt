@@ -1,6 +1,6 @@
 //! A worker's work: it follows a trace, and notes when its first operation began and when its last one ended.
 
-ghost use Rattle.std.specs.Prelude.{◌<◌};
+ghost use Rattle.std.specs.Prelude.{◌≡◌, ◌+◌, ◌<◌};
 
 use pp_device::image::HEAD;
 use pp_pool::Work;
@@ -86,6 +86,11 @@ impl<'a, R: Clock> Clocked<'a, R> {
 }
 
 impl<'a, R: Clock> Work for Clocked<'a, R> {
+    ghost use Rattle.pp_device.specs.declared.image.TheConstants.{HEAD};
+    ghost use Rattle.pp_bench_run.specs.declared.clocked.TheConstants.{LOOKED_AT};
+
+    ghost reach_gives = { λ work bytes. bytes ≡ HEAD + LOOKED_AT };
+
     fn page(&mut self, _region: u8, first: u32, count: u32) -> u32 {
         if !self.has_begun {
             self.has_begun = true;

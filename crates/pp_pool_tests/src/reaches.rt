@@ -1,5 +1,7 @@
 //! A work is shown as much of a page as it reaches for.
 
+ghost use Rattle.std.specs.Prelude.{◌≡◌};
+
 use crate::common::{READ, WRITE, accepted};
 use pp_device::{SoloDevice, image};
 use pp_pool::{Book, OwnSite, Turned, Work, Worker};
@@ -44,6 +46,8 @@ fn has_places(front: &[u8]) -> bool {
 }
 
 impl Work for Reaching {
+    ghost reach_gives = { λ work bytes. bytes ≡ work.reach };
+
     fn page(&mut self, _region: u8, first: u32, _count: u32) -> u32 {
         first
     }

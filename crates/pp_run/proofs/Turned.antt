@@ -1,10 +1,11 @@
 -- A turn of a worker calls its device as often as its event tells.
-use Rattle.std.proofs.Common.{◌≡◌, ◌≢◌, ◌∙◌, ◌+◌, ◌++◌, inl, inr, ℕ, true, false, Option, Some, None, List, []}
+use Rattle.std.proofs.Common.{◌≡◌, ◌≢◌, ◌∙◌, ◌+◌, ◌++◌, inl, inr, ℕ, Bool, true, false, Option, Some, None, List, []}
 use Rattle.std.proofs.Common.{refl, sym, ap, subst, arith}
-use Rattle.std.specs.Prelude.{is_ok}
+use Rattle.std.specs.Prelude.{is_ok, if◌then◌else◌}
 use Rattle.std.proofs.lemmas.Bool.{false≢true}
 use Rattle.pp_settings.specs.Layout.{Geometry}
 use Rattle.pp_model.specs.declared.event.Event.{Event}
+use Rattle.pp_device.specs.declared.device.Device as Device
 use Rattle.pp_device.specs.Answers.{Answer as DeviceAnswer}
 use Rattle.pp_vault.specs.declared.refusal.Refusal.{Refusal}
 use Rattle.pp_vault.specs.declared.refusal.Refusal.TheVariants as refusal
@@ -18,12 +19,15 @@ use Rattle.pp_pool.specs.declared.request.Request.TheVariants as request
 use Rattle.pp_pool.specs.declared.outcome.Answer.{Answer}
 use Rattle.pp_pool.specs.declared.outcome.Answer.TheVariants as answer
 use Rattle.pp_pool.specs.declared.outcome.Outcome.{Outcome}
-use Rattle.pp_pool.specs.declared.turned.Turned.TheVariants.{Done, Ended, NoMemory}
+use Rattle.pp_pool.specs.declared.site.Site as Site
+use Rattle.pp_pool.specs.declared.work.Work as Work
+use Rattle.pp_pool.specs.declared.turned.Turned.{Turned}
+use Rattle.pp_pool.specs.declared.turned.Turned.TheVariants.{Done, Ended, NoMemory, Broken}
 use Rattle.pp_pool.specs.declared.worker.Worker.{Worker}
 use Rattle.pp_pool.specs.Requests.{events_in}
 use Rattle.pp_pool.specs.Performing.{is_no}
-use Rattle.pp_pool.specs.Replies.{Replies, TokensFit}
-use Rattle.pp_pool.specs.Turns.{Asks, IsStep, IsWayOut, Works, IsTurned, turned_by, stage_asked, stage_in, Turns}
+use Rattle.pp_pool.specs.Replies.{TokensFit}
+use Rattle.pp_pool.specs.Turns.{Asks, IsStep, IsWayOut, Uses, turned_by, stage_asked, stage_in, Turns}
 use Rattle.pp_pool.specs.Turns.{TurnIs}
 use Rattle.pp_run.specs.Calling.{calls_of, failed_calls_of, total}
 use Rattle.pp_run.specs.Counted.{IsAtWork}
@@ -53,43 +57,56 @@ not_no_memory (refusal.NotNow delay.FlushBusy) e = cc
 not_no_memory (refusal.OffPlan cause) e = cc
 not_no_memory refusal.Stranger e = cc
 
--- A turn that is done was no refusal.
-done_is_yes : (out : Answer) → IsTurned out Done → is_no out ≡ false
-done_is_yes (answer.Acts x) h = refl
-done_is_yes (answer.Idle x) h = refl
-done_is_yes (answer.Leaves x) h = refl
-done_is_yes (answer.Pinned x g) h = refl
-done_is_yes (answer.Shared x g) h = refl
-done_is_yes (answer.Exclusive x g) h = refl
-done_is_yes (answer.Away errand) h = refl
-done_is_yes (answer.Flushed clean) h = refl
-done_is_yes (answer.No back why) h = absurd (not_done why (sym h))
+ended_not_done : ◌≡◌ {A = Turned} Ended Done → ⊥
+ended_not_done e = cc
 
--- A turn that has ended was a refusal.
-ended_is_no : (out : Answer) → IsTurned out Ended → is_no out ≡ true
-ended_is_no (answer.Acts x) h = absurd cc
-ended_is_no (answer.Idle x) h = absurd cc
-ended_is_no (answer.Leaves x) h = absurd cc
-ended_is_no (answer.Pinned x g) h = absurd cc
-ended_is_no (answer.Shared x g) (inl h) = absurd cc
-ended_is_no (answer.Shared x g) (inr h) = absurd cc
-ended_is_no (answer.Exclusive x g) h = absurd cc
-ended_is_no (answer.Away errand) h = absurd cc
-ended_is_no (answer.Flushed clean) h = absurd cc
-ended_is_no (answer.No back why) h = refl
+ended_not_looked : (shown : Bool) → ◌≡◌ {A = Turned} Ended (if shown then Done else Broken) → ⊥
+ended_not_looked true e = cc
+ended_not_looked false e = cc
 
--- No turn that asked has run out of memory.
-never_no_memory : (out : Answer) → IsTurned out NoMemory → ⊥
-never_no_memory (answer.Acts x) h = cc
-never_no_memory (answer.Idle x) h = cc
-never_no_memory (answer.Leaves x) h = cc
-never_no_memory (answer.Pinned x g) h = cc
-never_no_memory (answer.Shared x g) (inl h) = cc
-never_no_memory (answer.Shared x g) (inr h) = cc
-never_no_memory (answer.Exclusive x g) h = cc
-never_no_memory (answer.Away errand) h = cc
-never_no_memory (answer.Flushed clean) h = cc
-never_no_memory (answer.No back why) h = not_no_memory why (sym h)
+no_memory_not_done : ◌≡◌ {A = Turned} NoMemory Done → ⊥
+no_memory_not_done e = cc
+
+no_memory_not_looked : (shown : Bool) → ◌≡◌ {A = Turned} NoMemory (if shown then Done else Broken) → ⊥
+no_memory_not_looked true e = cc
+no_memory_not_looked false e = cc
+
+module _ {S W : Type 0} (s : Site.Ghosts S) (k : Work.Ghosts W) (site : S) (room : ℕ) (old left : W) where
+  -- A turn that is done was no refusal.
+  done_is_yes : (out after : Answer) → Uses s k site room old out Done after left → is_no out ≡ false
+  done_is_yes (answer.Acts x) after h = refl
+  done_is_yes (answer.Idle x) after h = refl
+  done_is_yes (answer.Leaves x) after h = refl
+  done_is_yes (answer.Pinned x g) after h = refl
+  done_is_yes (answer.Shared x g) after h = refl
+  done_is_yes (answer.Exclusive x g) after h = refl
+  done_is_yes (answer.Away errand) after h = refl
+  done_is_yes (answer.Flushed clean) after h = refl
+  done_is_yes (answer.No back why) after h = absurd (not_done why (sym h.0))
+
+  -- A turn that has ended was a refusal.
+  ended_is_no : (out after : Answer) → Uses s k site room old out Ended after left → is_no out ≡ true
+  ended_is_no (answer.Acts x) after h = absurd (ended_not_done h.0)
+  ended_is_no (answer.Idle x) after h = absurd (ended_not_done h.0)
+  ended_is_no (answer.Leaves x) after h = absurd (ended_not_done h.0)
+  ended_is_no (answer.Pinned x g) after h = absurd (ended_not_done h.0)
+  ended_is_no (answer.Away errand) after h = absurd (ended_not_done h.0)
+  ended_is_no (answer.Flushed clean) after h = absurd (ended_not_done h.0)
+  ended_is_no (answer.Shared x g) after h = absurd (ended_not_looked _ h.0.turned_is)
+  ended_is_no (answer.Exclusive x g) after h = absurd (ended_not_done h.1)
+  ended_is_no (answer.No back why) after h = refl
+
+  -- No turn that asked has run out of memory.
+  never_no_memory : (out after : Answer) → Uses s k site room old out NoMemory after left → ⊥
+  never_no_memory (answer.Acts x) after h = no_memory_not_done h.0
+  never_no_memory (answer.Idle x) after h = no_memory_not_done h.0
+  never_no_memory (answer.Leaves x) after h = no_memory_not_done h.0
+  never_no_memory (answer.Pinned x g) after h = no_memory_not_done h.0
+  never_no_memory (answer.Away errand) after h = no_memory_not_done h.0
+  never_no_memory (answer.Flushed clean) after h = no_memory_not_done h.0
+  never_no_memory (answer.Shared x g) after h = no_memory_not_looked _ h.0.turned_is
+  never_no_memory (answer.Exclusive x g) after h = no_memory_not_done h.1
+  never_no_memory (answer.No back why) after h = not_no_memory why (sym h.0)
 
 -- ---- the stage after a turn that was done
 
@@ -155,25 +172,26 @@ away_of_worker (request.GiveBack x g) errand of fit = absurd fit
 at_work : (s t : Stage) → ◌≡◌ {A = Option Stage} (Some s) (Some t) → IsAtWork s → IsAtWork t
 at_work s t e h = let same : s ≡ t = cc in subst (λ x. IsAtWork x) same h
 
-still_at_work : (asked : Request) (out after : Answer) (s : Stage) → IsOfWorker asked → TokensFit asked out
-    → is_no out ≡ false → Works out after → stage_in after ≡ Some s → IsAtWork s
-still_at_work asked (answer.Acts x) after s of fit went works is =
-    at_work (stage.In x) s (sym (ap stage_in works) ∙ is) tt
-still_at_work asked (answer.Idle x) after s of fit went works is =
-    at_work (stage.Idle x) s (sym (ap stage_in works) ∙ is) tt
-still_at_work asked (answer.Leaves x) after s of fit went works is =
-    at_work (stage.Leaving x) s (sym (ap stage_in works) ∙ is) tt
-still_at_work asked (answer.Pinned x g) after s of fit went works is =
-    at_work (stage.In x) s (sym (ap stage_in works) ∙ is) tt
-still_at_work asked (answer.Shared x g) after s of fit went works is =
-    at_work (stage.In x) s (sym (ap stage_in works) ∙ is) tt
-still_at_work asked (answer.Exclusive x g) after s of fit went works is =
+still_at_work : {S W : Type 0} (own : Site.Ghosts S) (k : Work.Ghosts W) (site : S) (room : ℕ) (old left : W) (turned : Turned)
+    (asked : Request) (out after : Answer) (s : Stage) → IsOfWorker asked → TokensFit asked out
+    → is_no out ≡ false → Uses own k site room old out turned after left → stage_in after ≡ Some s → IsAtWork s
+still_at_work own k site room old left turned asked (answer.Acts x) after s of fit went works is =
     at_work (stage.In x) s (sym (ap stage_in works.1) ∙ is) tt
-still_at_work asked (answer.Away errand) after s of fit went works is =
-    at_work (stage.Out errand) s (sym (ap stage_in works) ∙ is) (away_of_worker asked errand of fit)
-still_at_work asked (answer.Flushed clean) after s of fit went works is =
-    let h : ◌≡◌ {A = Option Stage} None (Some s) = sym (ap stage_in works) ∙ is in absurd cc
-still_at_work asked (answer.No back why) after s of fit went works is = absurd (false≢true (sym went))
+still_at_work own k site room old left turned asked (answer.Idle x) after s of fit went works is =
+    at_work (stage.Idle x) s (sym (ap stage_in works.1) ∙ is) tt
+still_at_work own k site room old left turned asked (answer.Leaves x) after s of fit went works is =
+    at_work (stage.Leaving x) s (sym (ap stage_in works.1) ∙ is) tt
+still_at_work own k site room old left turned asked (answer.Pinned x g) after s of fit went works is =
+    at_work (stage.In x) s (sym (ap stage_in works.1) ∙ is) tt
+still_at_work own k site room old left turned asked (answer.Shared x g) after s of fit went works is =
+    at_work (stage.In x) s (sym (ap stage_in works.1) ∙ is) tt
+still_at_work own k site room old left turned asked (answer.Exclusive x g) after s of fit went works is =
+    at_work (stage.In x) s (sym (ap stage_in works.0.stays) ∙ is) tt
+still_at_work own k site room old left turned asked (answer.Away errand) after s of fit went works is =
+    at_work (stage.Out errand) s (sym (ap stage_in works.1) ∙ is) (away_of_worker asked errand of fit)
+still_at_work own k site room old left turned asked (answer.Flushed clean) after s of fit went works is =
+    let h : ◌≡◌ {A = Option Stage} None (Some s) = sym (ap stage_in works.1) ∙ is in absurd cc
+still_at_work own k site room old left turned asked (answer.No back why) after s of fit went works is = absurd (false≢true (sym went))
 
 -- ---- the counts
 
@@ -232,17 +250,14 @@ pub record Kept {S D : Type 0} (calls failures : D → ℕ) (old new : Worker S 
   pub counts : CountsBy calls failures old.device old.log.items new.device new.log.items
   pub work : IsAtWork new.hand.stage
 
-abbrev Told : {S : Type 0} → S → Request → Outcome → S → Type 0
-Told s asked outcome t = Replies asked outcome
-
-module _ {S D : Type 0} (reads : D → ℕ → List ℕ → DeviceAnswer → List ℕ → D → Type 0)
-    (writes : D → ℕ → List ℕ → DeviceAnswer → D → Type 0) (calls failures : D → ℕ) (old new : Worker S D) where
-  turns_kept : (t : Turns Told reads writes calls failures old Done new) → IsAtWork old.hand.stage
-      → Kept calls failures old new
+module _ {S D W : Type 0} (s : Site.Ghosts S) (d : Device.Ghosts D) (k : Work.Ghosts W) (old new : Worker S D)
+    (before left : W) where
+  turns_kept : (t : Turns s d k old before Done new left) → IsAtWork old.hand.stage
+      → Kept d.calls d.failures old new
   turns_kept t work =
-      let went = done_is_yes t.outcome.answer t.turned_is in
-      let tells = told t.asked t.outcome t.given went in
-      let c = asked_calls reads writes calls failures old.layout old.hand.stage old.device t.asked new.device
+      let went = done_is_yes s k new.site _ t.between left t.outcome.answer t.after t.uses in
+      let tells = told t.asked t.outcome t.fits went in
+      let c = asked_calls d.read_gives d.write_leaves d.calls d.failures old.layout old.hand.stage old.device t.asked new.device
       t.outcome.event work t.asks tells in
       let log : new.log.items ≡ old.log.items ++ events_in (Some tells.e) = t.log ∙ ap (λ e. old.log.items ++ events_in e) tells.is_event in
       let n : total calls_of new.log.items ≡ total calls_of old.log.items + total calls_of (events_in (Some tells.e))
@@ -252,57 +267,58 @@ module _ {S D : Type 0} (reads : D → ℕ → List ℕ → DeviceAnswer → Lis
       let a = c.called in let b = c.failed in let p = tells.step calls_of in let q = tells.step failed_calls_of in
       record {
         counts = record { called = omega (arith, n, a, p); failed = omega (arith, m, b, q) };
-        work = still_at_work t.asked t.outcome.answer t.after new.hand.stage
-            (asked_of_worker reads writes calls failures old.layout old.hand.stage old.device t.asked new.device work t.asks)
-            t.given.tokens went t.works t.stage;
+        work = still_at_work s k new.site _ t.between left Done t.asked t.outcome.answer t.after new.hand.stage
+            (asked_of_worker d.read_gives d.write_leaves d.calls d.failures old.layout old.hand.stage old.device t.asked new.device work t.asks)
+            t.fits.tokens went t.uses t.stage;
       }
 
-  pub done_kept : TurnIs Told reads writes calls failures old Done new → IsAtWork old.hand.stage
-      → Kept calls failures old new
+  pub done_kept : TurnIs s d k old before Done new left → IsAtWork old.hand.stage
+      → Kept d.calls d.failures old new
   done_kept (inl t) work = turns_kept t work
   done_kept (inr w) work = absurd w.may
 
   same_counts : new.device ≡ old.device → new.log.items ≡ old.log.items
-      → CountsBy calls failures old.device old.log.items new.device new.log.items
+      → CountsBy d.calls d.failures old.device old.log.items new.device new.log.items
   same_counts device log =
-      let a = ap calls device in let b = ap failures device in
+      let a = ap d.calls device in let b = ap d.failures device in
       let n = ap (total calls_of) log in let m = ap (total failed_calls_of) log in
       record { called = omega (arith, a, n); failed = omega (arith, b, m) }
 
-  pub no_memory_counts : TurnIs Told reads writes calls failures old NoMemory new
-      → CountsBy calls failures old.device old.log.items new.device new.log.items
-  no_memory_counts (inl t) = absurd (never_no_memory t.outcome.answer t.turned_is)
+  pub no_memory_counts : TurnIs s d k old before NoMemory new left
+      → CountsBy d.calls d.failures old.device old.log.items new.device new.log.items
+  no_memory_counts (inl t) = absurd (never_no_memory s k new.site _ t.between left t.outcome.answer t.after t.uses)
   no_memory_counts (inr w) = same_counts w.device w.log
 
-  back_stage : (asked : Request) (out after : Answer) (s : Stage) → is_no out ≡ true → TokensFit asked out
-      → Works out after → stage_in after ≡ Some s → stage_asked asked ≡ Some s
-  back_stage asked (answer.No r why) after s is_back fit works is =
-      sym (ap stage_asked fit) ∙ (sym (ap stage_in works) ∙ is)
-  back_stage asked (answer.Acts x) after s is_back fit works is = absurd (false≢true is_back)
-  back_stage asked (answer.Idle x) after s is_back fit works is = absurd (false≢true is_back)
-  back_stage asked (answer.Leaves x) after s is_back fit works is = absurd (false≢true is_back)
-  back_stage asked (answer.Pinned x g) after s is_back fit works is = absurd (false≢true is_back)
-  back_stage asked (answer.Shared x g) after s is_back fit works is = absurd (false≢true is_back)
-  back_stage asked (answer.Exclusive x g) after s is_back fit works is = absurd (false≢true is_back)
-  back_stage asked (answer.Away errand) after s is_back fit works is = absurd (false≢true is_back)
-  back_stage asked (answer.Flushed clean) after s is_back fit works is = absurd (false≢true is_back)
+  back_stage : (site : S) (room : ℕ) (work : W) (turned : Turned) (asked : Request) (out after : Answer) (t : Stage)
+      → is_no out ≡ true → TokensFit asked out → Uses s k site room work out turned after left
+      → stage_in after ≡ Some t → stage_asked asked ≡ Some t
+  back_stage site room work turned asked (answer.No r why) after t is_back fit uses is =
+      sym (ap stage_asked fit) ∙ (sym (ap stage_in uses.1) ∙ is)
+  back_stage site room work turned asked (answer.Acts x) after t is_back fit uses is = absurd (false≢true is_back)
+  back_stage site room work turned asked (answer.Idle x) after t is_back fit uses is = absurd (false≢true is_back)
+  back_stage site room work turned asked (answer.Leaves x) after t is_back fit uses is = absurd (false≢true is_back)
+  back_stage site room work turned asked (answer.Pinned x g) after t is_back fit uses is = absurd (false≢true is_back)
+  back_stage site room work turned asked (answer.Shared x g) after t is_back fit uses is = absurd (false≢true is_back)
+  back_stage site room work turned asked (answer.Exclusive x g) after t is_back fit uses is = absurd (false≢true is_back)
+  back_stage site room work turned asked (answer.Away errand) after t is_back fit uses is = absurd (false≢true is_back)
+  back_stage site room work turned asked (answer.Flushed clean) after t is_back fit uses is = absurd (false≢true is_back)
 
-  turns_ended : (t : Turns Told reads writes calls failures old Ended new) → is_chair new.hand.stage ≡ true
-      → CountsBy calls failures old.device old.log.items new.device new.log.items
+  turns_ended : (t : Turns s d k old before Ended new left) → is_chair new.hand.stage ≡ true
+      → CountsBy d.calls d.failures old.device old.log.items new.device new.log.items
   turns_ended t chair =
-      let is_back = ended_is_no t.outcome.answer t.turned_is in
-      let none = untold t.asked t.outcome t.given is_back in
-      let back = back_stage t.asked t.outcome.answer t.after new.hand.stage is_back t.given.tokens t.works t.stage in
-      let device = chair_calls_none reads writes calls failures old.layout old.hand.stage old.device t.asked new.device
+      let is_back = ended_is_no s k new.site _ t.between left t.outcome.answer t.after t.uses in
+      let none = untold t.asked t.outcome t.fits is_back in
+      let back = back_stage new.site _ t.between Ended t.asked t.outcome.answer t.after new.hand.stage is_back t.fits.tokens t.uses t.stage in
+      let device = chair_calls_none d.read_gives d.write_leaves d.calls d.failures old.layout old.hand.stage old.device t.asked new.device
       new.hand.stage chair back t.asks in
       let log : new.log.items ≡ old.log.items ++ [] = t.log ∙ ap (λ e. old.log.items ++ events_in e) none in
       let n : total calls_of new.log.items ≡ total calls_of old.log.items + 0 = ap (total calls_of) log ∙ total_append calls_of old.log.items [] in
       let m : total failed_calls_of new.log.items ≡ total failed_calls_of old.log.items + 0 = ap (total failed_calls_of) log ∙ total_append failed_calls_of old.log.items [] in
-      let a = ap calls device in let b = ap failures device in
+      let a = ap d.calls device in let b = ap d.failures device in
       record { called = omega (arith, a, n); failed = omega (arith, b, m) }
 
-  pub ended_counts : TurnIs Told reads writes calls failures old Ended new → is_chair new.hand.stage ≡ true
-      → CountsBy calls failures old.device old.log.items new.device new.log.items
+  pub ended_counts : TurnIs s d k old before Ended new left → is_chair new.hand.stage ≡ true
+      → CountsBy d.calls d.failures old.device old.log.items new.device new.log.items
   ended_counts (inl t) chair = turns_ended t chair
   ended_counts (inr w) chair = absurd w.may
 

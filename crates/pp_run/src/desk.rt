@@ -114,8 +114,14 @@ impl<'a, N: Naming> RunDesk<'a, N> {
 
 impl<'a, N: Naming> Site for RunDesk<'a, N> {
     ghost use Rattle.pp_pool.specs.Replies.{Replies};
+    ghost use Rattle.pp_pool.specs.Books.{greatest_cost};
+    ghost use Rattle.pp_pool.specs.Fronts.{ShowsPage};
 
     ghost gives = { λ s request outcome t. Replies request outcome };
+
+    ghost shows = { λ s guard before shown after. ShowsPage s.site.book guard before shown after };
+
+    ghost tells = { λ s most. most ≡ greatest_cost N.plans };
 
     fn perform(&mut self, request: Request) -> Outcome {
         let outcome = self.site.perform(request);

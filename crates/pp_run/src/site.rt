@@ -24,7 +24,8 @@ const PAUSES: u32 = 20;
 ///
 /// Each call takes the lock, and gives it back before it returns. A request that isn't possible yet waits, for which it
 /// lets the lock go, and is tried again when something was done; nobody is woken where nobody waits. What the site gives
-/// is known by the request alone: others move between two calls.
+/// is known by the request alone: others move between two calls. What it shows and tells is what the desk did, as it was
+/// while the lock was held.
 #[derive(Drop)]
 pub struct LockedSite<'a, B: Desk, R: Wait> {
     pub rt: &'a R,
@@ -40,6 +41,10 @@ impl<'a, B: Desk, R: Wait> Site for LockedSite<'a, B, R> {
     ghost use Rattle.pp_pool.specs.Replies.{Replies};
 
     ghost gives = { λ s request outcome t. Replies request outcome };
+
+    ghost shows = { λ s guard before shown after. (desk : B) × B.shows desk guard before shown after };
+
+    ghost tells = { λ s most. (desk : B) × B.tells desk most };
 
     fn perform(&mut self, request: Request) -> Outcome {
         self.perform_when_possible(request)

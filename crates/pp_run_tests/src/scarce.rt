@@ -66,8 +66,13 @@ fn has_chair(rt: &impl Abort, hands: &mut Hands, worker: u32) -> bool {
 
 impl Site for Scarce {
     ghost use Rattle.pp_pool.specs.Replies.{Replies};
+    ghost use Rattle.pp_pool.specs.Fronts.{ShowsPage};
 
     ghost gives = { λ s request outcome t. Replies request outcome };
+
+    ghost shows = { λ s guard before shown after. ShowsPage s.site.book guard before shown after };
+
+    ghost tells = { λ s most. Unit {0} };
 
     fn perform(&mut self, request: Request) -> Outcome {
         self.site.perform(request)

@@ -45,30 +45,26 @@ impl Rounds {
 }
 
 impl Work for Rounds {
-    fn page(&mut self, _region: u8, first: u32, count: u32) -> u32
-        requires some { 1 ≤ count }
-        requires ends { first + count ≤ 65536 }
-        ensures from { first ≤ result }
-        ensures below { result < first + count }
-        ensures number { result ≡ first + choice self.old count }
-        ensures after { self.new ≡ after_choice self.old }
-    {
+    ghost page_gives = { λ work region first count page after.
+        (page ≡ first + choice work count) × (after ≡ after_choice work) };
+
+    ghost branch_gives = { λ work count branch after. (branch ≡ choice work count) × (after ≡ after_choice work) };
+
+    ghost reach_gives = { λ work bytes. bytes ≡ 0 };
+
+    ghost change_leaves = { λ work page before left after. (left ≡ raised before) × (after ≡ work) };
+
+    ghost see_leaves = { λ work page mark image after. after ≡ work };
+
+    fn page(&mut self, _region: u8, first: u32, count: u32) -> u32 {
         first + self.choose(count)
     }
 
-    fn branch(&mut self, count: u16) -> u16
-        requires { 1 ≤ count }
-        ensures below { result < count }
-        ensures number { result ≡ choice self.old count }
-        ensures after { self.new ≡ after_choice self.old }
-    {
+    fn branch(&mut self, count: u16) -> u16 {
         self.choose(u32::from(count)) as u16
     }
 
-    fn change(&mut self, _page: u32, body: &mut [u8])
-        ensures body { body.new ≡ raised body.old }
-        ensures unchanged { self.new ≡ self.old }
-    {
+    fn change(&mut self, _page: u32, body: &mut [u8]) {
         raise_first(body);
     }
 
@@ -77,9 +73,7 @@ impl Work for Rounds {
         0
     }
 
-    fn see(&mut self, _page: u32, _mark: u64, _image: &[u8])
-        ensures unchanged { self.new ≡ self.old }
-    {}
+    fn see(&mut self, _page: u32, _mark: u64, _image: &[u8]) {}
 }
 
 /// Adds 1 to the first byte, where 255 becomes 0.

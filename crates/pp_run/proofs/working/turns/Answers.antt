@@ -6,19 +6,19 @@ use Rattle.pp_run.proofs.working.turns.Goals as goal
 
 pub loop-preserved : goal.loop-preserved
 loop-preserved g c =
-    let k = done_kept g.D.Device.read_gives g.D.Device.write_leaves g.D.Device.calls g.D.Device.failures c.loop.worker
-    c.turn.new.self c.in-Done.ensures.turn c.loop.invariant.0 in
+    let k = done_kept _ g.D.Device g.W.Work c.loop.worker
+    c.turn.new.self _ _ c.in-Done.ensures.turn c.loop.invariant.0 in
     (k.work, counts_join g.D.Device.calls g.D.Device.failures _ _ _ _ _ _ c.loop.invariant.1 k.counts)
 
 pub returns-in-NoMemory : goal.returns-in-NoMemory
 returns-in-NoMemory g c =
     counts_join g.D.Device.calls g.D.Device.failures _ _ _ _ _ _ c.loop.invariant.1
-    (no_memory_counts g.D.Device.read_gives g.D.Device.write_leaves g.D.Device.calls g.D.Device.failures
-    c.loop.worker c.turn.new.self c.in-NoMemory.ensures.turn)
+    (no_memory_counts _ g.D.Device g.W.Work
+    c.loop.worker c.turn.new.self _ _ c.in-NoMemory.ensures.turn)
 
 pub returns-then-is_idle : goal.returns-then-is_idle
 returns-then-is_idle g c =
     let idle : is_chair c.turn.new.self.hand.stage ≡ true = grind rules in
     counts_join g.D.Device.calls g.D.Device.failures _ _ _ _ _ _ c.loop.invariant.1
-    (ended_counts g.D.Device.read_gives g.D.Device.write_leaves g.D.Device.calls g.D.Device.failures
-    c.loop.worker c.turn.new.self c.in-Ended.ensures.turn idle)
+    (ended_counts _ g.D.Device g.W.Work
+    c.loop.worker c.turn.new.self _ _ c.in-Ended.ensures.turn idle)
