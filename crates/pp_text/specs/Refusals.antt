@@ -23,6 +23,10 @@ pub record Row : Type 0 where
 abbrev pub row : ℕ → List ℕ → Matter → Row
 row number name about = record { number = number; name = name; about = about }
 
+-- Want of memory, which is about nothing. (In settings it has a number of its own.)
+abbrev pub out_of_memory : Row
+out_of_memory = row 19 (codes "OutOfMemory") nothing
+
 -- The words that follow the name.
 abbrev pub matter_text : Matter → List ℕ
 matter_text nothing = []

@@ -2,6 +2,7 @@
 
 ghost use Rattle.std.specs.Prelude.{◌≡◌, Some};
 
+use std::alloc::AllocError;
 use std::fmt;
 
 /// What a refusal is about.
@@ -49,6 +50,19 @@ impl Refusal {
             name,
             about,
         }
+    }
+}
+
+/// Want of memory as programs print it, `19 OutOfMemory`, where a call answers no other error. (Settings have an error
+/// of their own for it, of number 7.)
+impl From<AllocError> for Refusal {
+    ghost use Rattle.pp_text.specs.Refusals.{out_of_memory};
+    ghost use Rattle.pp_text.specs.Views.{row_of_refusal};
+
+    ghost from_gives = { λ _ refusal. row_of_refusal refusal ≡ out_of_memory };
+
+    fn from(_refused: AllocError) -> Refusal {
+        Refusal::new(19, "OutOfMemory", About::Nothing)
     }
 }
 

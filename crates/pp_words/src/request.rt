@@ -1,6 +1,6 @@
 //! What the program's words ask for, and why they ask for nothing.
 
-ghost use Rattle.std.specs.Prelude.{◌≡◌};
+ghost use Rattle.std.specs.Prelude.{◌≡◌, option_map};
 ghost use Rattle.pp_words.specs.declared.request.JobError.TheVariants.{OutOfMemory};
 
 use crate::annotate::AnnotatePaths;
@@ -41,6 +41,30 @@ pub enum JobError {
     /// Memory ran out. It says nothing of the words.
     #[error("out of memory")]
     OutOfMemory,
+}
+
+impl JobError {
+    ghost use Rattle.pp_words.specs.Refusals.{job_error_number, job_error_name};
+
+    /// The number of the refusal: 19 for want of memory. Help and faults of the words have none.
+    pub fn number(&self) -> Option<u8>
+        ensures { result ≡ job_error_number self.now }
+    {
+        match self {
+            JobError::Shown(_) | JobError::Words(_) => None,
+            JobError::OutOfMemory => Some(19),
+        }
+    }
+
+    /// The name of the refusal: `OutOfMemory` for want of memory. Help and faults of the words have none.
+    pub fn name(&self) -> Option<&'static str>
+        ensures { option_map (λ name. name.now) result ≡ job_error_name self.now }
+    {
+        match self {
+            JobError::Shown(_) | JobError::Words(_) => None,
+            JobError::OutOfMemory => Some("OutOfMemory"),
+        }
+    }
 }
 
 impl From<AllocError> for JobError {
