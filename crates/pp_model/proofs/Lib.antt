@@ -54,3 +54,4 @@ pub mod TurnsLeaving
 pub mod TurnsActing
 pub mod TurnsLatches
 pub mod Turns
+pub mod Dirties

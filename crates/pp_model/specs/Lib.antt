@@ -24,3 +24,4 @@ pub mod Laws
 pub mod Ready
 pub mod Shapes
 pub mod Alone
+pub mod Dirty

@@ -23,6 +23,7 @@ ghost use Rattle.pp_model.specs.Ready.{VictimsKeep};
 ghost use Rattle.pp_model.specs.Shapes.{RepliesFit};
 ghost use Rattle.pp_model.specs.Alone.{FlushStays, FlushStarts, FlushEnds, SettingsStay, OthersSit, AllSit};
 ghost use Rattle.pp_model.specs.Alone.{SubmitLeaves};
+ghost use Rattle.pp_model.specs.Dirty.{DirtyRises, DirtyFalls, CleanAreEvicted};
 
 /// A state is of its settings. It has a seat for each worker and a note for each page, and its plans are of its layout.
 /// No page past the last one is cached or remembered, held, loaded, written back or flushed.
@@ -195,4 +196,13 @@ pub fn moves_leave_others()
 pub fn next_turn_is_open()
     ensures some { (s : State) → IsReached s → NextWhileUnderWay s }
     ensures possible { (s : State) → IsReached s → NextIsOpen s }
+{}
+
+/// A page becomes newer than the device's only where a latch X on it ends, and is so no longer only where the device has
+/// it: it was written back as a victim, or a flush of it went well and no latch X on it ended meanwhile. A page whose
+/// frame is read into at once isn't newer.
+pub fn dirty_pages_are_written()
+    ensures rises { (s : State) → DirtyRises s }
+    ensures falls { (s : State) → DirtyFalls s }
+    ensures evicted { (s : State) → CleanAreEvicted s }
 {}
