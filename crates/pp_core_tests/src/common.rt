@@ -107,11 +107,29 @@ fn same_reply(rt: &impl Abort, line: u32, asked: Move, got: Reply, want: Reply) 
     );
 }
 
-/// Makes the moves in turn, and compares what each is answered.
+/// The reply, where it is a refusal.
+fn refusal_in(reply: Reply) -> Option<Reply> {
+    match reply {
+        Reply::NotNow(_) | Reply::OffPlan(_) => Some(reply),
+        _ => None,
+    }
+}
+
+/// Compares what a move is refused with, as it is told without making it.
+fn same_refusal(rt: &impl Abort, line: u32, asked: Move, got: Option<Reply>, want: Option<Reply>) {
+    assert_eq!(rt;
+        got,
+        want,
+        "at line {line}, {asked:?}: told {got:?}, wanted {want:?}"
+    );
+}
+
+/// Makes the moves in turn, and compares what each is answered, and what it is refused with before it is made.
 pub fn follow(rt: &impl Abort, core: &mut Core, rows: &[(Move, Reply)]) {
     let mut line: u32 = 0;
     for row in rows {
         let (asked, want) = *row;
+        same_refusal(rt, line, asked, core.refusal(&asked), refusal_in(want));
         let got = core.step(&asked);
         same_reply(rt, line, asked, got, want);
         line = line.saturating_add(1);

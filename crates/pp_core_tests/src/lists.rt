@@ -165,7 +165,8 @@ fn a_page_has_one_writer(rt: HostRuntime) -> Result<(), Fail> {
     )
 }
 
-static TOUCH_MOVES: [Move; 5] = [
+/// A plan that touches a root, from its begin to its end.
+pub static TOUCH_MOVES: [Move; 5] = [
     Take { worker: 0 },
     Fix { worker: 0, page: 1 },
     ReadDone {
@@ -176,7 +177,8 @@ static TOUCH_MOVES: [Move; 5] = [
     Finish { worker: 0 },
 ];
 
-static TOUCH_REPLIES: [Reply; 5] = [
+/// What it is answered.
+pub static TOUCH_REPLIES: [Reply; 5] = [
     Taken { plan: 0 },
     MustRead { frame: 0 },
     Loaded { mark: 0 },

@@ -1,6 +1,7 @@
 //! Plans that are refused, and those that are taken in up to the limits.
 
 use crate::common::{NOTHING, TOUCH, accepted, core_with, replies, same_replies, settings_of};
+use crate::lists::{TOUCH_MOVES, TOUCH_REPLIES};
 use pp_cert::Accepted;
 use pp_core::Cause::NoWorker;
 use pp_core::Move::Take;
@@ -81,6 +82,31 @@ fn plans_of_other_settings(rt: HostRuntime) -> Result<(), Fail> {
         let plan = accepted(&rt, rt.alloc(), &others, TOUCH)?;
         same_answer(&rt, submit(&mut core, plan), want);
     }
+    Ok(())
+}
+
+/// The plan comes back from the core, which refuses it for this reason.
+fn refused(rt: &impl Abort, core: &mut Core, accepted: Accepted, want: SubmitError) -> Accepted {
+    match core.submit(accepted) {
+        Ok(_) => panic!(rt; "taken in"),
+        Err((back, error)) => {
+            assert!(rt; error == want, "refused as {error:?}");
+            back
+        }
+    }
+}
+
+/// A plan that one core refuses comes back whole: another core takes it in, and a worker does it.
+#[test]
+fn a_refused_plan_is_taken_in_later(rt: HostRuntime) -> Result<(), Fail> {
+    let settings = settings_of(rt.alloc(), 3, 4)?;
+    let plan = accepted(&rt, rt.alloc(), &settings, TOUCH)?;
+    let mut other = core_with(&rt, rt.alloc(), &settings_of(rt.alloc(), 1, 4)?, &[])?;
+    let back = refused(&rt, &mut other, plan, SubmitError::OtherSettings);
+    let mut core = core_with(&rt, rt.alloc(), &settings, &[])?;
+    same_answer(&rt, submit(&mut core, back), Answer::Number(0));
+    let got = replies(rt.alloc(), &mut core, &TOUCH_MOVES)?;
+    same_replies(&rt, &got, &TOUCH_REPLIES);
     Ok(())
 }
 

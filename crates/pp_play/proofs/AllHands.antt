@@ -113,7 +113,7 @@ tells_count s t cue (Did m r) h = ap (λ (u : State). u.settings) h.3 ∙ settin
 tells_count s t cue (Refused asked why) h = ap (λ (u : State). u.settings) h.1
 tells_count s t cue Wrote h = ap (λ (u : State). u.settings) h.1
 tells_count s t cue (Looked byte) h = ap (λ (u : State). u.settings) h.1
-tells_count s t cue NoLatch h = ap (λ (u : State). u.settings) h
+tells_count s t cue NoLatch h = ap (λ (u : State). u.settings) h.1
 
 pub count_stays : (old new : Parts) (cue : Cue) (line : Line) → ComesTo old cue line new → (s t : State)
     → StandsFor old s → StandsFor new t → length t.seats ≡ length s.seats

@@ -49,7 +49,7 @@ same_places places slot g e =
     ap (λ o. slice_set places slot o) (sym e) ∙ set-get_or places slot None
 
 -- What was taken out and put back.
-put_again : (places now : List (Option Guard)) (slot k : ℕ) (g : Guard) → k ≡ slot
+pub put_again : (places now : List (Option Guard)) (slot k : ℕ) (g : Guard) → k ≡ slot
     → now ≡ slice_set (slice_set places slot None) k (Some g) → now ≡ slice_set places slot (Some g)
 put_again places now slot k g same is =
     is ∙ ap (λ n. slice_set (slice_set places slot None) n (Some g)) same ∙ set-set places slot None (Some g)

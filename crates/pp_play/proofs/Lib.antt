@@ -30,3 +30,4 @@ pub mod Putting
 pub mod Latching
 pub mod Leaves
 pub mod Called
+pub mod Answered

@@ -22,6 +22,12 @@ WritesInto byte (guard.Pin g) NoLatch new = new ≡ guard.Pin g
 WritesInto byte (guard.Read g) NoLatch new = new ≡ guard.Read g
 WritesInto byte g line new = ⊥
 
+-- The line of a look with this guard: the first byte of the image that it lets its worker see, or none.
+abbrev pub SeesWith : Parts → State → Guard → Line → Type 0
+SeesWith v s g (Looked byte) = (image : List ℕ) × Lets v s (Some g) image × (first_of image ≡ Some byte)
+SeesWith v s g NoLatch = Unit {0}
+SeesWith v s g line = ⊥
+
 -- The line of a look with this guard, whose slot is held so.
 abbrev pub LooksWith : Parts → State → Option (ℕ × Held) → Guard → Line → Type 0
 LooksWith v s held g (Looked byte) =

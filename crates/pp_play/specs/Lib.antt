@@ -2,6 +2,7 @@ pub mod Words
 pub mod Plays
 pub mod Doing
 pub mod Exact
+pub mod AnyHands
 pub mod ByStates
 pub mod FirstBytes
 pub mod Guarding

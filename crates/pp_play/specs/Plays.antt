@@ -40,6 +40,12 @@ abbrev pub is_look : Cue → Bool
 is_look (Look w slot) = true
 is_look _ = false
 
+-- Whether it does one of the two.
+abbrev pub asks_byte : Cue → Bool
+asks_byte (Write w slot byte) = true
+asks_byte (Look w slot) = true
+asks_byte _ = false
+
 -- What a line tells of a cue. A move that is done is one that the cue asks and that is possible in the state; the reply
 -- is the model's, and so is the state after it. Every other line leaves the state.
 abbrev pub Tells : (s : State) → Cue → Line → (t : State) → Type 0
@@ -48,7 +54,7 @@ Tells s cue (Did m reply) t =
 Tells s cue (Refused asked why) t = (asked ≡ cue) × (t ≡ s)
 Tells s cue Wrote t = (is_write cue ≡ true) × (t ≡ s)
 Tells s cue (Looked byte) t = (is_look cue ≡ true) × (t ≡ s)
-Tells s cue NoLatch t = t ≡ s
+Tells s cue NoLatch t = (asks_byte cue ≡ true) × (t ≡ s)
 
 -- Each cue in its turn: a line for each, from the state that the one before it left.
 abbrev pub TellsAll : (s : State) → List Cue → List Line → (t : State) → Type 0

@@ -9,6 +9,7 @@ ghost use Rattle.pp_vault.specs.HandLaws.{FitsIn};
 ghost use Rattle.pp_script.specs.declared.cue.Cue.TheVariants as cue;
 ghost use Rattle.pp_play.specs.Plays.{ComesTo};
 ghost use Rattle.pp_play.specs.Exact.{Plays};
+ghost use Rattle.pp_play.specs.AnyHands.{IsStrangers, IsHandLine, IsHandsLine};
 ghost use Rattle.pp_play.specs.Calling.{tells_answer, is_back, NoneBack, IsCalled};
 ghost use Rattle.pp_play.specs.Doing.{ErrandHasPlace, HandPlays};
 
@@ -41,6 +42,7 @@ pub(crate) fn work<D: Device>(
     requires { stage_worker hand.stage ≡ Some worker }
     ensures of { stage_worker result.0.stage ≡ Some worker }
     ensures comes { ComesTo vault.old (cue.Device worker) result.1 vault.new }
+    ensures own { IsHandLine vault.old (Some hand) (Some result.0) (cue.Device worker) result.1 }
     ensures plays { FitsIn vault.old worker hand
         → HandPlays vault.old worker hand (cue.Device worker) result.1 vault.new result.0 }
     ensures called { FitsIn vault.old worker hand → is_back hand.stage ≡ false
@@ -79,13 +81,15 @@ pub(crate) fn work<D: Device>(
     }
 }
 
-/// The answer to an errand of a worker; the place of its slot is free.
+/// The answer to an errand of a worker; the place of its slot is free. An errand that is out is taken, whatever came of
+/// it, so that one that is refused is a stranger's.
 fn answer(vault: &mut Vault, returned: Returned, guards: &mut Guards, worker: u32) -> (Stage, Line)
     requires kept { IsKept vault.old }
     requires of { duty_worker returned.duty ≡ Some worker }
     requires place { ErrandHasPlace vault.old worker guards.old }
     ensures of { stage_worker result.0 ≡ Some worker }
     ensures comes { ComesTo vault.old (cue.Device worker) result.1 vault.new }
+    ensures strangers { IsStrangers result.1 }
     ensures plays { FitsIn vault.old worker (record { stage = Stage.Back returned; guards = guards.old })
         → HandPlays vault.old worker (record { stage = Stage.Back returned; guards = guards.old })
         (cue.Device worker) result.1 vault.new (record { stage = result.0; guards = guards.new }) }
@@ -100,10 +104,10 @@ fn answer(vault: &mut Vault, returned: Returned, guards: &mut Guards, worker: u3
         }
         Answered::Away(errand) => (Stage::Out(errand), did(vault)),
         Answered::Lost(leaver) => (Stage::Leaving(leaver), did(vault)),
-        Answered::No(returned, refusal) => {
+        Answered::No(returned, _) => {
             (
                 Stage::Back(returned),
-                Line::Refused(Cue::Device { worker }, refusal),
+                Line::Refused(Cue::Device { worker }, Refusal::Stranger),
             )
         }
         Answered::Flushed(_) => unreachable!(),
@@ -148,6 +152,7 @@ pub(crate) fn flush(vault: &mut Vault, hands: &mut Hands, page: u32) -> Line
 /// An errand of a worker that was put into the flusher's place stays there: it is a stranger.
 pub(crate) fn flush_work<D: Device>(vault: &mut Vault, hands: &mut Hands, device: &mut D) -> Line
     ensures comes { ComesTo vault.old cue.FlushDevice result vault.new }
+    ensures own { IsHandsLine vault.old hands.old hands.new cue.FlushDevice result }
     ensures plays { HandsFit vault.old hands.old
         → Plays vault.old hands.old cue.FlushDevice result vault.new hands.new }
     ensures called { HandsFit vault.old hands.old → NoneBack hands.old
@@ -174,12 +179,13 @@ pub(crate) fn flush_work<D: Device>(vault: &mut Vault, hands: &mut Hands, device
     }
 }
 
-/// The answer to a flush.
+/// The answer to a flush. One that is in flight is taken, so that one that is refused is a stranger's.
 fn flushed(vault: &mut Vault, hands: &mut Hands, returned: Returned) -> Line
     requires kept { IsKept vault.old }
     requires flush { duty_worker returned.duty ≡ None }
     requires free { hands.old.flushing ≡ None }
     ensures comes { ComesTo vault.old cue.FlushDevice result vault.new }
+    ensures strangers { IsStrangers result }
     ensures plays { HandsFit vault.old (record hands.old { flushing = Some (Flushing.Back returned) })
         → Plays vault.old (record hands.old { flushing = Some (Flushing.Back returned) }) cue.FlushDevice result
         vault.new hands.new }
@@ -189,9 +195,9 @@ fn flushed(vault: &mut Vault, hands: &mut Hands, returned: Returned) -> Line
     laws::hands_still_fit();
     match vault.answer(returned) {
         Answered::Flushed(_) => did(vault),
-        Answered::No(returned, refusal) => {
+        Answered::No(returned, _) => {
             put_flushing(hands, Flushing::Back(returned));
-            Line::Refused(Cue::FlushDevice, refusal)
+            Line::Refused(Cue::FlushDevice, Refusal::Stranger)
         }
         _ => unreachable!(),
     }

@@ -14,4 +14,5 @@ mod devices;
 mod guards;
 mod line;
 mod playing;
+mod refusing;
 mod workers;

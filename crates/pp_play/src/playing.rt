@@ -2,10 +2,13 @@
 
 ghost use Rattle.std.specs.Prelude.{◌≡◌, ◌+◌, false, Some, None, length, OnOk, OnErr, take, drop};
 ghost use Rattle.pp_vault.specs.StandsFor.{IsKept};
+ghost use Rattle.pp_vault.specs.Parts.{Parts};
 ghost use Rattle.pp_model.specs.Pool.{State};
 ghost use Rattle.pp_vault.specs.Stages.{stage_worker};
 ghost use Rattle.pp_play.specs.Plays.{Tells, ComesTo, AllComeTo};
 ghost use Rattle.pp_play.specs.Exact.{Plays, PlaysFrom};
+ghost use Rattle.pp_play.specs.AnyHands.{AnswersFrom, IsLineWith, IsHandLine, IsHandsLine};
+ghost use Rattle.pp_vault.specs.StandsFor.{StandsFor};
 ghost use Rattle.pp_play.specs.Calling.{tells_answer, is_back, answers, NoneBack, IsCalled};
 ghost use Rattle.pp_play.specs.Doing.{cue_worker, HandPlays, IsLineWithout};
 ghost use Rattle.pp_vault.specs.Hands.{HandsFit};
@@ -13,6 +16,7 @@ ghost use Rattle.pp_vault.specs.HandLaws.{FitsIn};
 ghost use Rattle.pp_vault.specs.Headline.{HeadlineHolds};
 
 use crate::line::{Line, off_plan};
+use crate::refusing::told;
 use crate::{bytes, devices, guards, workers};
 use pp_script::Cue;
 use pp_vault::{Cause, Device, Hand, Hands, Vault};
@@ -35,6 +39,10 @@ impl From<AllocError> for PlayError {
 /// Plays the cues in turn, each with the tokens that are in the hands, and adds their lines to those that are there. A
 /// cue that is refused doesn't end the script.
 ///
+/// A cue whose tokens aren't in the hands, or don't fit the vault, gets the refusal that the core gives to its move; or
+/// `offplan stranger` where that move is possible. A cue of a device is refused with `offplan noerrand` where no errand
+/// is in the hands, and as a stranger's where the vault doesn't take the one that is there.
+///
 /// Where the hands fit the vault, a cue that is refused changes nothing but what [`Vault::done`] tells, and the device is
 /// called once for each of its answers that a line tells, but for one that was in the hands already. An errand of another
 /// vault may be carried out before its answer is refused: then the device was called, and the answer stays in the hands.
@@ -52,7 +60,9 @@ pub fn play<D: Device>(
     lines: &mut Vec<Line>,
 ) -> Result<(), PlayError>
     ensures plays { OnOk result (AllComeTo vault.old cues.now lines.old.items lines.new.items vault.new) }
-    ensures exact { OnOk result (HandsFit vault.old hands.old
+    ensures exact { OnOk result
+        (AnswersFrom vault.old hands.old cues.now lines.old.items lines.new.items vault.new hands.new) }
+    ensures fitting { OnOk result (HandsFit vault.old hands.old
         → PlaysFrom vault.old hands.old cues.now lines.old.items lines.new.items vault.new hands.new) }
     ensures fit { HandsFit vault.old hands.old → HandsFit vault.new hands.new }
     ensures calls { OnOk result (HandsFit vault.old hands.old → NoneBack hands.old → D.calls device.new
@@ -78,6 +88,21 @@ pub fn play<D: Device>(
 /// Plays one cue.
 fn play_one<D: Device>(vault: &mut Vault, hands: &mut Hands, device: &mut D, cue: Cue) -> Line
     ensures comes { ComesTo vault.old cue result vault.new }
+    ensures exact { (s : State) → StandsFor vault.old s → IsLineWith vault.old s hands.old hands.new cue result }
+    ensures plays { HandsFit vault.old hands.old → Plays vault.old hands.old cue result vault.new hands.new }
+    ensures called { HandsFit vault.old hands.old → NoneBack hands.old
+        → IsCalled D.calls (tells_answer result) device.old device.new }
+    ensures none_back { HandsFit vault.old hands.old → NoneBack hands.old → NoneBack hands.new }
+{
+    vault.known();
+    let line = by_tokens(vault, hands, device, cue);
+    told(vault, cue, line)
+}
+
+/// Plays one cue with the tokens that are in the hands. A line that says that it isn't done says why by these tokens.
+fn by_tokens<D: Device>(vault: &mut Vault, hands: &mut Hands, device: &mut D, cue: Cue) -> Line
+    ensures comes { ComesTo vault.old cue result vault.new }
+    ensures own { IsHandsLine vault.old hands.old hands.new cue result }
     ensures plays { HandsFit vault.old hands.old → Plays vault.old hands.old cue result vault.new hands.new }
     ensures called { HandsFit vault.old hands.old → NoneBack hands.old
         → IsCalled D.calls (tells_answer result) device.old device.new }
@@ -111,6 +136,7 @@ fn by_worker<D: Device>(
 ) -> Line
     requires { cue_worker cue ≡ Some worker }
     ensures comes { ComesTo vault.old cue result vault.new }
+    ensures own { IsHandsLine vault.old hands.old hands.new cue result }
     ensures plays { HandsFit vault.old hands.old → Plays vault.old hands.old cue result vault.new hands.new }
     ensures called { HandsFit vault.old hands.old → NoneBack hands.old
         → IsCalled D.calls (tells_answer result) device.old device.new }
@@ -131,6 +157,7 @@ fn by_worker<D: Device>(
 fn without_hand(cue: Cue) -> Line
     ensures tells { (s : State) → Tells s cue result s }
     ensures exact { IsLineWithout cue result }
+    ensures own { (v : Parts) → IsHandLine v None None cue result }
     ensures quiet { tells_answer result ≡ false }
 {
     match cue {
@@ -153,6 +180,7 @@ fn with_hand<D: Device>(
     requires kept { IsKept vault.old }
     ensures of { stage_worker result.0.stage ≡ Some worker }
     ensures comes { ComesTo vault.old cue result.1 vault.new }
+    ensures own { IsHandLine vault.old (Some hand) (Some result.0) cue result.1 }
     ensures plays { FitsIn vault.old worker hand
         → HandPlays vault.old worker hand cue result.1 vault.new result.0 }
     ensures called { FitsIn vault.old worker hand → is_back hand.stage ≡ false

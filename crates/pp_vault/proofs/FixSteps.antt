@@ -31,7 +31,7 @@ use Rattle.pp_vault.specs.declared.tokens.Duty.TheVariants.{Read, Write}
 use Rattle.pp_vault.specs.Parts.{Parts}
 use Rattle.pp_vault.specs.StandsFor.{image_in, IsRight, ImagesFit, StandsFor, IsKept}
 use Rattle.pp_vault.specs.Calls.{asks, stranger}
-use Rattle.pp_vault.specs.Fits.{is_acting_by, fix_slot, names_slot, fix_call}
+use Rattle.pp_vault.specs.Fits.{is_acting_by, names_slot, fix_call}
 use Rattle.pp_vault.specs.ImageMoves.{TakenOut}
 use Rattle.pp_vault.specs.Steps.{Stepped}
 use Rattle.pp_vault.specs.Events.{Does}

@@ -28,6 +28,7 @@ pub mod Heads
 pub mod Unlatching
 pub mod Unwinding
 pub mod LeavesDone
+mod RefusalTies
 mod Placed
 mod StillFits
 mod OpeningHands

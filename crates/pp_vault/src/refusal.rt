@@ -1,8 +1,13 @@
 //! Why a call of a vault does nothing.
 
 ghost use Rattle.std.specs.Prelude.{◌≡◌, Some};
+ghost use Rattle.pp_core.specs.StandsFor.{StandsFor};
+ghost use Rattle.pp_model.specs.Moves.{reply_of};
+ghost use Rattle.pp_model.specs.Pool.{State};
+ghost use Rattle.pp_vault.specs.Calls.{refusal_in};
 
-use pp_model::{Cause, Delay};
+use pp_core::Core;
+use pp_model::{Cause, Delay, Move, Reply};
 use std::fmt;
 
 /// Why a call does nothing. The tokens that it was handed come back.
@@ -55,5 +60,26 @@ impl fmt::Display for Refusal {
             Refusal::OffPlan(cause) => write!(f, "offplan {cause}"),
             Refusal::Stranger => f.write_str("offplan stranger"),
         }
+    }
+}
+
+/// The refusal that a reply of the core is, if it is one.
+pub(crate) fn refusal_in(reply: Reply) -> Option<Refusal>
+    ensures { result ≡ refusal_in reply }
+{
+    match reply {
+        Reply::NotNow(delay) => Some(Refusal::NotNow(delay)),
+        Reply::OffPlan(cause) => Some(Refusal::OffPlan(cause)),
+        _ => None,
+    }
+}
+
+/// The refusal that the core would give to the move; none where the move is possible.
+pub(crate) fn refusal_by(core: &Core, asked: &Move) -> Option<Refusal>
+    ensures { (s : State) → StandsFor core.now s → result ≡ refusal_in (reply_of s asked.now) }
+{
+    match core.refusal(asked) {
+        Some(reply) => refusal_in(reply),
+        None => None,
     }
 }

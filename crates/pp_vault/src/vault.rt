@@ -3,6 +3,7 @@
 ghost use Rattle.std.specs.Prelude.{◌≡◌, ◌↔◌, true, false, Some, None, IsSome, IfOk, IfErr, IfSome, OnErr, length};
 ghost use Rattle.std.specs.Option.{is_some};
 ghost use Rattle.pp_model.specs.Pool.{State, opening, dirty_pages};
+ghost use Rattle.pp_model.specs.Moves.{reply_of};
 ghost use Rattle.pp_model.specs.Budget.{bound};
 ghost use Rattle.pp_model.specs.Submitting.{submit_error};
 ghost use Rattle.pp_vault.specs.Submits.{TakesIn};
@@ -14,6 +15,7 @@ ghost use Rattle.pp_vault.specs.Hands.{HandsFit};
 ghost use Rattle.pp_vault.specs.Holding.{slot_by};
 ghost use Rattle.pp_vault.specs.Leaves.{GivesBack, give_back_call};
 ghost use Rattle.pp_vault.specs.StandsFor.{StandsFor, IsKept};
+ghost use Rattle.pp_vault.specs.Calls.{refusal_in};
 ghost use Rattle.pp_vault.specs.Headline.{HeadlineHolds};
 ghost use Rattle.pp_vault.specs.Events.{Refuses, Does, untold};
 ghost use Rattle.pp_vault.specs.Fits.{take_call, choose_call, finish_call, end_call, unfix_call, latch_call};
@@ -32,7 +34,7 @@ use crate::answering::Answered;
 use crate::fixing::Fixed;
 use crate::guards::{Guard, PinGuard, ReadGuard, WriteGuard};
 use crate::hands::Hands;
-use crate::refusal::Refusal;
+use crate::refusal::{Refusal, refusal_by};
 use crate::stopped::Stopped;
 use crate::store::Store;
 use crate::tokens::{Chair, Errand, Leaver, Returned, Session};
@@ -259,6 +261,16 @@ impl Vault {
         ensures { result ≡ self.now.page_bytes }
     {
         self.store.page_bytes
+    }
+
+    /// The refusal that the core would give to the move; none where the move is possible. Nothing changes.
+    ///
+    /// No tokens are asked for: a call of a possible move is still refused as [`Refusal::Stranger`] where its tokens don't
+    /// fit. A fix that would need the frame of another page looks at each page.
+    pub fn refusal(&self, asked: &Move) -> Option<Refusal>
+        ensures { (s : State) → StandsFor self.now s → result ≡ refusal_in (reply_of s asked.now) }
+    {
+        refusal_by(&self.store.core, asked)
     }
 
     /// What the worker's plan asks next. None where the worker doesn't act in a plan.

@@ -5,7 +5,9 @@ use Rattle.pp_vault.specs.Holding.{placed, slot_by}
 use Rattle.pp_script.specs.declared.cue.Cue.TheVariants as cue
 use Rattle.pp_play.specs.declared.line.Line.TheVariants.{NoLatch}
 use Rattle.pp_play.specs.Doing.{HandPlays}
-use Rattle.pp_play.proofs.FirstBytes.{look_none, look_plays}
+use Rattle.pp_play.specs.AnyHands.{IsLookLine}
+use Rattle.pp_play.proofs.FirstBytes.{put_again, look_none, look_plays}
+use Rattle.pp_play.proofs.Answered.{look_line}
 use Rattle.pp_play.proofs.bytes.look.Goals.{in-Some, in-None}
 use Rattle.pp_play.proofs.bytes.look.Goals as goal
 
@@ -31,4 +33,26 @@ returns-clause-plays c w fits =
           let same : now ≡ hand.guards = cc b.in-None.ensures.unchanged in
           subst (λ l. HandPlays v w hand (cue.Look w slot) l v (record { stage = hand.stage; guards = now })) line
           (look_none v w hand slot fits now none same)
+    ]
+
+pub returns-clause-own : goal.returns-clause-own
+returns-clause-own c w s st =
+    let v = c.args.vault.now in
+    let hand = c.args.hand in
+    let slot = c.args.slot in
+    let now = c.match-take.guards in
+    elim c.match-take.branch [
+      | in-Some b ↦
+          let g = b.in-Some.guard in
+          let there : placed hand.guards slot ≡ Some g = cc in
+          let line : b.looked-line.result ≡ c.match-take.line = cc in
+          let put : now ≡ slice_set c.take.new.self (slot_by g) (Some g) = cc b.put.ensures in
+          subst (λ l. IsLookLine v s slot hand.guards now l) line
+          (look_line v s slot hand.guards now g b.looked-line.result (b.looked-line.ensures.sees s st) there
+          (put_again hand.guards now slot (slot_by g) g b.in-Some.ensures.slot
+          (put ∙ ap (λ (l : List (Option Guard)). slice_set l (slot_by g) (Some g)) b.in-Some.ensures.taken)))
+      | in-None b ↦
+          let line : NoLatch ≡ c.match-take.line = cc in
+          let same : now ≡ hand.guards = cc b.in-None.ensures.unchanged in
+          subst (λ l. IsLookLine v s slot hand.guards now l) line same
     ]

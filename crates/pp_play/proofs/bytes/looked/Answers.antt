@@ -1,8 +1,9 @@
 use Rattle.std.proofs.Common.{sym, subst}
 use Rattle.pp_core.specs.Queries.{held_of}
 use Rattle.pp_vault.specs.Hands.{GuardFits}
-use Rattle.pp_play.specs.FirstBytes.{LooksWith}
+use Rattle.pp_play.specs.FirstBytes.{LooksWith, SeesWith}
 use Rattle.pp_play.proofs.FirstBytes.{looks_read, looks_write}
+use Rattle.pp_play.proofs.Answered.{sees_read, sees_write}
 use Rattle.pp_play.proofs.bytes.looked.Goals as goal
 
 pub returns-in-Some-clause-looks : goal.returns-in-Some-clause-looks
@@ -18,3 +19,17 @@ returns-in-Write-clause-looks c s st w slot fits =
     subst (λ g. LooksWith v s (held_of s w slot) g c.first_byte-in-Write.result) (sym c.in-Write.is)
     (looks_write v s st w slot c.in-Write.guard c.first_byte-in-Write.result c.body.result.now
     (subst (λ g. GuardFits v.page_bytes s w slot g) c.in-Write.is fits) c.body.ensures c.first_byte-in-Write.ensures)
+
+pub returns-in-Some-clause-sees : goal.returns-in-Some-clause-sees
+returns-in-Some-clause-sees c s st =
+    let v = c.args.vault.now in
+    subst (λ g. SeesWith v s g c.first_byte.result) (sym c.in-Read.is)
+    (sees_read v s st c.in-Read.guard c.first_byte.result c.in-Some.body.now c.in-Some.ensures.shown
+    c.first_byte.ensures)
+
+pub returns-in-Write-clause-sees : goal.returns-in-Write-clause-sees
+returns-in-Write-clause-sees c s st =
+    let v = c.args.vault.now in
+    subst (λ g. SeesWith v s g c.first_byte-in-Write.result) (sym c.in-Write.is)
+    (sees_write v s c.in-Write.guard c.first_byte-in-Write.result c.body.result.now c.body.ensures
+    c.first_byte-in-Write.ensures)

@@ -7,6 +7,7 @@ use Rattle.pp_play.proofs.DeviceHands.{got_hand, away_hand, lost_hand}
 use Rattle.pp_play.proofs.Carried.{back_hand, not_refused}
 use Rattle.std.proofs.Common.{refl}
 use Rattle.pp_play.proofs.Called.{device_told}
+use Rattle.pp_play.proofs.Answered.{taken_answer}
 use Rattle.pp_play.proofs.devices.answer.Goals as goal
 
 pub put-requires : goal.put-requires
@@ -62,7 +63,7 @@ returns-in-Lost-clause-plays c fits =
 
 pub returns-in-No-clause-plays : goal.returns-in-No-clause-plays
 returns-in-No-clause-plays c fits =
-    absurd (not_refused c.args.vault.now c.args.worker c.args.returned c.in-No.refusal c.requires.kept
+    absurd (not_refused c.args.vault.now c.args.worker c.args.returned c.in-No.field-1 c.requires.kept
     (λ s st. (fits s st).stage) c.in-No.ensures.answers.1)
 
 pub returns-in-Got-clause-answered : goal.returns-in-Got-clause-answered
@@ -97,5 +98,32 @@ returns-in-Lost-clause-answered c fits =
 
 pub returns-in-No-clause-answered : goal.returns-in-No-clause-answered
 returns-in-No-clause-answered c fits =
-    absurd (not_refused c.args.vault.now c.args.worker c.args.returned c.in-No.refusal c.requires.kept
+    absurd (not_refused c.args.vault.now c.args.worker c.args.returned c.in-No.field-1 c.requires.kept
     (λ s st. (fits s st).stage) c.in-No.ensures.answers.1)
+
+pub returns-in-Got-clause-strangers : goal.returns-in-Got-clause-strangers
+returns-in-Got-clause-strangers c =
+    let old = c.args.vault.now in
+    let new = c.answer.new.self in
+    taken_answer c.did.result
+    (device_told old new c.requires.kept c.did.result c.did.ensures c.args.worker
+    (got_done old new c.requires.kept c.args.worker c.args.returned.image (is_ok c.args.returned.answer)
+    c.args.returned.duty c.in-Got.session c.in-Got.guard c.requires.of c.in-Got.ensures.answers))
+
+pub returns-in-Away-clause-strangers : goal.returns-in-Away-clause-strangers
+returns-in-Away-clause-strangers c =
+    let old = c.args.vault.now in
+    let new = c.answer.new.self in
+    taken_answer c.did-in-Away.result
+    (device_told old new c.requires.kept c.did-in-Away.result c.did-in-Away.ensures c.args.worker
+    (away_done old new c.requires.kept c.args.worker c.args.returned.image (is_ok c.args.returned.answer)
+    c.args.returned.duty c.in-Away.errand c.requires.of c.in-Away.ensures.answers))
+
+pub returns-in-Lost-clause-strangers : goal.returns-in-Lost-clause-strangers
+returns-in-Lost-clause-strangers c =
+    let old = c.args.vault.now in
+    let new = c.answer.new.self in
+    taken_answer c.did-in-Lost.result
+    (device_told old new c.requires.kept c.did-in-Lost.result c.did-in-Lost.ensures c.args.worker
+    (lost_done old new c.requires.kept c.args.worker c.args.returned.image (is_ok c.args.returned.answer)
+    c.args.returned.duty c.in-Lost.leaver c.requires.of c.in-Lost.ensures.answers))

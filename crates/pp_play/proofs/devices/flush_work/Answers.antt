@@ -1,10 +1,12 @@
 use Rattle.pp_play.proofs.FlushHands.{given_back_fits, still_back_fits, back_flush_plays}
 use Rattle.pp_play.proofs.Called.{called_once, none_of_workers}
 use Rattle.std.proofs.Common.{◌≡◌, ◌∙◌, Some, None, sym, ap}
+use Rattle.std.specs.Option.{is_some}
 use Rattle.pp_vault.specs.declared.hands.Flushing.TheVariants as flushing
 use Rattle.pp_vault.specs.declared.hands.Hands.{Hands}
 use Rattle.std.proofs.lemmas.Bool.{false≢true}
 use Rattle.pp_play.specs.Calling.{is_flush_back}
+use Rattle.pp_play.proofs.Answered.{flush_line}
 use Rattle.pp_play.proofs.devices.flush_work.Goals as goal
 
 pub returns-else-is_some-clause-plays : goal.returns-else-is_some-clause-plays
@@ -54,3 +56,17 @@ pub returns-else-is_some-2-clause-none_back : goal.returns-else-is_some-2-clause
 returns-else-is_some-2-clause-none_back g c fits none =
     let there : c.args.hands.now.flushing ≡ Some (flushing.Back c.in-Some-Back.returned) = cc in
     absurd (false≢true (sym none.flushing ∙ ap is_flush_back there))
+
+pub returns-else-is_some-clause-own : goal.returns-else-is_some-clause-own
+returns-else-is_some-clause-own g c =
+    let hands = c.args.hands.now in
+    let there : hands.flushing ≡ Some (flushing.Out c.in-Some-Out.errand) = cc in
+    flush_line c.args.vault.now hands c.flushed.new.hands c.flushed.result (ap is_some there)
+    c.flushed.ensures.strangers
+
+pub returns-else-is_some-2-clause-own : goal.returns-else-is_some-2-clause-own
+returns-else-is_some-2-clause-own g c =
+    let hands = c.args.hands.now in
+    let there : hands.flushing ≡ Some (flushing.Back c.in-Some-Back.returned) = cc in
+    flush_line c.args.vault.now hands c.flushed-in-Some-Back.new.hands c.flushed-in-Some-Back.result (ap is_some there)
+    c.flushed-in-Some-Back.ensures.strangers

@@ -6,6 +6,7 @@ use Rattle.pp_play.proofs.Others.{still_fits}
 use Rattle.pp_play.proofs.FlushHands.{flushed_plays, flush_not_refused}
 use Rattle.std.proofs.Common.{refl}
 use Rattle.pp_play.proofs.Called.{flush_told}
+use Rattle.pp_play.proofs.Answered.{taken_answer}
 use Rattle.pp_play.proofs.devices.flushed.Goals as goal
 
 pub returns-in-Flushed-clause-comes : goal.returns-in-Flushed-clause-comes
@@ -28,7 +29,7 @@ returns-in-Flushed-clause-plays c fits =
 
 pub returns-in-No-clause-plays : goal.returns-in-No-clause-plays
 returns-in-No-clause-plays c fits =
-    absurd (flush_not_refused c.args.vault.now c.args.hands.now c.args.returned c.in-No.refusal c.requires.kept fits
+    absurd (flush_not_refused c.args.vault.now c.args.hands.now c.args.returned c.in-No.field-1 c.requires.kept fits
     c.in-No.ensures.answers.1)
 
 pub returns-in-Flushed-clause-answered : goal.returns-in-Flushed-clause-answered
@@ -43,5 +44,14 @@ returns-in-Flushed-clause-answered c fits =
 
 pub returns-in-No-clause-answered : goal.returns-in-No-clause-answered
 returns-in-No-clause-answered c fits =
-    absurd (flush_not_refused c.args.vault.now c.args.hands.now c.args.returned c.in-No.refusal c.requires.kept fits
+    absurd (flush_not_refused c.args.vault.now c.args.hands.now c.args.returned c.in-No.field-1 c.requires.kept fits
     c.in-No.ensures.answers.1)
+
+pub returns-in-Flushed-clause-strangers : goal.returns-in-Flushed-clause-strangers
+returns-in-Flushed-clause-strangers c =
+    let old = c.args.vault.now in
+    let new = c.answer.new.self in
+    taken_answer c.did.result
+    (flush_told old new c.requires.kept c.did.result c.did.ensures
+    (flush_over old new c.requires.kept 0 c.args.returned.image (is_ok c.args.returned.answer) c.args.returned.duty
+    c.in-Flushed.field-0 c.in-Flushed.ensures.answers))

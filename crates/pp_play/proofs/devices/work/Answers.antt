@@ -4,7 +4,11 @@ use Rattle.pp_play.proofs.Carried.{back_fits, back_plays, carried}
 use Rattle.pp_play.proofs.NoErrand.{place_is_free}
 use Rattle.std.proofs.lemmas.Bool.{false≢true}
 use Rattle.pp_play.specs.Calling.{is_back}
+use Rattle.pp_vault.specs.declared.stage.Hand.{Hand}
 use Rattle.pp_play.proofs.Called.{called_once}
+use Rattle.std.specs.Prelude.{Some}
+use Rattle.pp_play.specs.AnyHands.{is_errand}
+use Rattle.pp_play.proofs.Answered.{errand_line}
 use Rattle.pp_play.proofs.devices.work.Goals as goal
 
 pub returns-then-not-has_place-clause-plays : goal.returns-then-not-has_place-clause-plays
@@ -67,3 +71,17 @@ returns-else-not-has_place-2-clause-called g c fits none =
 pub returns-else-not-has_place-2-clause-forth : goal.returns-else-not-has_place-2-clause-forth
 returns-else-not-has_place-2-clause-forth g c fits none =
     absurd (false≢true (sym none ∙ ap is_back c.in-Back.is))
+
+pub returns-else-not-has_place-clause-own : goal.returns-else-not-has_place-clause-own
+returns-else-not-has_place-clause-own g c =
+    let left : Hand = record { stage = c.answer-stage.result.0; guards = c.answer-stage.new.guards } in
+    errand_line c.args.vault.now c.args.hand (Some left) c.args.worker c.answer-stage.result.1 (ap is_errand c.in-Out.is)
+    c.answer-stage.ensures.strangers
+
+pub returns-else-not-has_place-2-clause-own : goal.returns-else-not-has_place-2-clause-own
+returns-else-not-has_place-2-clause-own g c =
+    let left : Hand =
+    record { stage = c.answer-stage-in-Back.result.0; guards = c.answer-stage-in-Back.new.guards } in
+    errand_line c.args.vault.now c.args.hand (Some left) c.args.worker c.answer-stage-in-Back.result.1
+    (ap is_errand c.in-Back.is)
+    c.answer-stage-in-Back.ensures.strangers

@@ -1,9 +1,11 @@
 use Rattle.std.proofs.Common.{◌≡◌, ◌∙◌, None, sym, ap, subst}
 use Rattle.std.specs.Prelude.{IfNone, slice_set, Some}
 use Rattle.pp_vault.specs.Stages.{put_for}
+use Rattle.pp_vault.specs.Holding.{placed}
 use Rattle.pp_play.proofs.AllHands.{absent_plays, same_hands, not_there, part_fits, joined_plays}
 use Rattle.pp_play.specs.Calling.{is_flush_back}
 use Rattle.pp_play.proofs.Called.{not_called, none_of_workers, none_after}
+use Rattle.pp_play.proofs.Answered.{lifted, joined_there}
 use Rattle.pp_play.proofs.playing.by_worker.Goals as goal
 
 pub returns-in_default-clause-plays : goal.returns-in_default-clause-plays
@@ -64,3 +66,28 @@ returns-clause-none_back g c fits none =
     none_after hands c.join.new.self w hand left there none
     (c.with_hand-hand.ensures.forth (part_fits c.args.vault.now hands w hand there fits) (none.workers w hand there))
     joined (c.join.ensures.flushing ∙ c.part.ensures.flushing)
+
+pub returns-in_default-clause-own : goal.returns-in_default-clause-own
+returns-in_default-clause-own g c =
+    let hands = c.args.hands.now in
+    let w = c.args.worker in
+    let none = not_there c.part.result c.in_default.not-Some in
+    let same : c.part.new.self.workers ≡ hands.workers =
+    subst (λ o. IfNone o (c.part.new.self.workers ≡ hands.workers)) none c.part.ensures.unchanged in
+    let gone : placed hands.workers w ≡ None = sym c.part.ensures.hand ∙ none in
+    lifted c.args.vault.now hands c.part.new.self w None None gone (ap (λ ws. placed ws w) same ∙ gone) c.args.cue
+    c.requires c.without_hand.result (c.without_hand.ensures.own c.args.vault.now)
+
+pub returns-clause-own : goal.returns-clause-own
+returns-clause-own g c =
+    let hands = c.args.hands.now in
+    let w = c.args.worker in
+    let hand = c.in-Some.hand in
+    let left = c.with_hand-hand.result.0 in
+    let there = sym c.part.ensures.hand ∙ c.in-Some.is in
+    let joined : c.join.new.self.workers ≡ slice_set (slice_set hands.workers w None) w (Some left) =
+    c.in-Ok.ensures.joined ∙ ap (λ o. put_for c.part.new.self.workers left o) c.with_hand-hand.ensures.of
+    ∙ ap (λ ws. slice_set ws w (Some left)) c.in-Some.ensures.taken in
+    lifted c.args.vault.now hands c.join.new.self w (Some hand) (Some left) there
+    (joined_there hands.workers c.join.new.self.workers w hand left there joined) c.args.cue c.requires
+    c.with_hand-hand.result.1 c.with_hand-hand.ensures.own

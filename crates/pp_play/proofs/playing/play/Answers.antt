@@ -3,6 +3,7 @@ use Rattle.std.proofs.lemmas.List.{take-append-le}
 use Rattle.pp_play.proofs.Runs.{goes_on, went}
 use Rattle.pp_play.proofs.Scripts.{plays_on, all_played, still_fit}
 use Rattle.pp_play.proofs.Called.{calls_on}
+use Rattle.pp_play.proofs.Answered.{answers_on, all_answered}
 use Rattle.pp_play.proofs.playing.play.Goals as goal
 
 pub loop-cue-preserved : goal.loop-cue-preserved
@@ -29,6 +30,11 @@ loop-cue-preserved g c =
           rw pushed
           (goes_on _ _ _ _ _ _ _ c.loop-cue.cue-index _ _ c.loop-cue-test.true refl c.loop-cue.invariant.goes
           c.play_one-line.ensures.comes);
+      answered =
+          rw pushed
+          (answers_on _ _ _ _ _ _ _ _ _ _ c.loop-cue.cue-index _ _ c.loop-cue-test.true refl
+          c.loop-cue.invariant.answered
+          (record { comes = c.play_one-line.ensures.comes; exact = c.play_one-line.ensures.exact }));
       plays =
           rw pushed
           (plays_on _ _ _ _ _ _ _ _ _ _ c.loop-cue.cue-index _ _ c.loop-cue-test.true refl c.loop-cue.invariant.plays
@@ -49,6 +55,11 @@ returns-clause-plays g c =
 
 pub returns-clause-exact : goal.returns-clause-exact
 returns-clause-exact g c =
+    all_answered c.args.vault.now c.args.hands.now c.args.cues.now c.args.lines.now.items c.loop-cue.vault
+    c.loop-cue.hands c.loop-cue.lines.items c.loop-cue.cue-index (search rules) c.loop-cue.invariant.answered
+
+pub returns-clause-fitting : goal.returns-clause-fitting
+returns-clause-fitting g c =
     all_played c.args.vault.now c.args.hands.now c.args.cues.now c.args.lines.now.items c.loop-cue.vault
     c.loop-cue.hands c.loop-cue.lines.items c.loop-cue.cue-index (search rules) c.loop-cue.invariant.plays
 

@@ -2,6 +2,7 @@ use Rattle.std.proofs.Common.{◌≡◌, ◌≤◌, ◌+◌, ◌-◌, length, dr
 use Rattle.std.specs.Vec.{vec_len, vec_capacity}
 use Rattle.pp_play.proofs.Runs.{Goes}
 use Rattle.pp_play.proofs.Scripts.{PlayedTo}
+use Rattle.pp_play.proofs.Answered.{AnsweredTo}
 use Rattle.pp_play.proofs.playing.play.Given as goal
 use Rattle.pp_vault.specs.Hands.{HandsFit}
 use Rattle.pp_play.specs.Calling.{answers, NoneBack}
@@ -12,6 +13,8 @@ invariant-loop-cue g l = record {
   count : length l.lines.items ≡ length l.fn.lines.items + l.cue-index;
   behind : take (length l.fn.lines.items) l.lines.items ≡ l.fn.lines.items;
   goes : Goes l.fn.vault l.cues l.fn.lines.items l.vault (drop l.cue-index l.cues) l.lines.items;
+  answered :
+      AnsweredTo l.fn.vault l.fn.hands l.cues l.fn.lines.items l.vault l.hands (drop l.cue-index l.cues) l.lines.items;
   plays :
       PlayedTo l.fn.vault l.fn.hands l.cues l.fn.lines.items l.vault l.hands (drop l.cue-index l.cues) l.lines.items;
   calls :

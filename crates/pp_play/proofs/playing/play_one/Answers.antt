@@ -1,15 +1,38 @@
-use Rattle.std.proofs.Common.{refl, sym, subst}
-use Rattle.pp_script.specs.declared.cue.Cue.TheVariants as cue
+use Rattle.std.proofs.Common.{sym, subst}
 use Rattle.pp_play.specs.Exact.{Plays}
-use Rattle.pp_play.proofs.Called.{quiet}
+use Rattle.pp_play.specs.Calling.{tells_answer, IsCalled}
+use Rattle.pp_play.proofs.Answered.{told_comes, told_exact, told_same}
 use Rattle.pp_play.proofs.playing.play_one.Goals as goal
 
-pub returns-in-Flush-clause-called : goal.returns-in-Flush-clause-called
-returns-in-Flush-clause-called g c fits none =
-    quiet g.D.Device.calls c.args.vault.now c.flush.new.vault c.known.ensures.kept (cue.Flush c.in-Flush.page)
-    c.flush.result c.args.device.now refl c.flush.ensures.comes
+pub returns-clause-comes : goal.returns-clause-comes
+returns-clause-comes g c =
+    told_comes c.args.vault.now c.by_tokens-line.new.vault c.args.cue c.by_tokens-line.result c.told.result
+    c.by_tokens-line.ensures.comes c.told.ensures
 
-pub returns-in-Flush-clause-plays : goal.returns-in-Flush-clause-plays
-returns-in-Flush-clause-plays g c fits =
-    subst (λ q. Plays c.args.vault.now c.args.hands.now q c.flush.result c.flush.new.vault c.flush.new.hands)
-    (sym c.in-Flush.is) (c.flush.ensures.plays fits)
+pub returns-clause-exact : goal.returns-clause-exact
+returns-clause-exact g c s st =
+    told_exact c.args.vault.now c.by_tokens-line.new.vault c.args.hands.now c.by_tokens-line.new.hands c.told.result s st
+    c.args.cue c.by_tokens-line.result c.by_tokens-line.ensures.comes c.by_tokens-line.ensures.own c.told.ensures
+
+pub returns-clause-plays : goal.returns-clause-plays
+returns-clause-plays g c fits =
+    let old = c.args.vault.now in
+    let mid = c.by_tokens-line.new.vault in
+    let hands = c.args.hands.now in
+    let left = c.by_tokens-line.new.hands in
+    let plays = c.by_tokens-line.ensures.plays fits in
+    let same = told_same old mid hands left c.args.cue c.by_tokens-line.result c.told.result c.known.ensures.kept plays
+    c.told.ensures in
+    subst (λ l. Plays old hands c.args.cue l mid left) (sym same) plays
+
+pub returns-clause-called : goal.returns-clause-called
+returns-clause-called g c fits none =
+    let old = c.args.vault.now in
+    let mid = c.by_tokens-line.new.vault in
+    let hands = c.args.hands.now in
+    let left = c.by_tokens-line.new.hands in
+    let plays = c.by_tokens-line.ensures.plays fits in
+    let same = told_same old mid hands left c.args.cue c.by_tokens-line.result c.told.result c.known.ensures.kept plays
+    c.told.ensures in
+    subst (λ l. IsCalled g.D.Device.calls (tells_answer l) c.args.device.now c.by_tokens-line.new.device) (sym same)
+    (c.by_tokens-line.ensures.called fits none)

@@ -1,6 +1,8 @@
 use Rattle.std.proofs.Common.{◌∙◌, refl, sym, ap, subst}
 use Rattle.pp_script.specs.declared.cue.Cue.TheVariants as cue
+use Rattle.std.specs.Prelude.{Some}
 use Rattle.pp_play.specs.Plays.{ComesTo}
+use Rattle.pp_play.specs.AnyHands.{IsHandLine}
 use Rattle.pp_play.specs.Doing.{cue_worker, HandPlays}
 use Rattle.pp_play.proofs.Asked.{same}
 use Rattle.pp_play.proofs.Called.{quiet}
@@ -147,3 +149,54 @@ returns-in-Look-clause-called g c fits none =
     let asked = cue.Look c.args.worker c.in-Look.slot in
     quiet g.D.Device.calls c.args.vault.now c.args.vault.now c.requires.kept asked c.look.result.1 c.args.device.now
     refl (λ s st. (s, c.look.ensures.tells asked refl s, st))
+
+pub returns-in-Take-clause-own : goal.returns-in-Take-clause-own
+returns-in-Take-clause-own g c =
+    subst (λ q. IsHandLine c.args.vault.now (Some c.args.hand) (Some c.take.result.0) q c.take.result.1) (sym c.in-Take.is) tt
+
+pub returns-in-Fix-clause-own : goal.returns-in-Fix-clause-own
+returns-in-Fix-clause-own g c =
+    subst (λ q. IsHandLine c.args.vault.now (Some c.args.hand) (Some c.fix.result.0) q c.fix.result.1) (sym c.in-Fix.is) tt
+
+pub returns-in-Unfix-clause-own : goal.returns-in-Unfix-clause-own
+returns-in-Unfix-clause-own g c =
+    subst (λ q. IsHandLine c.args.vault.now (Some c.args.hand) (Some c.unfix.result.0) q c.unfix.result.1) (sym c.in-Unfix.is) tt
+
+pub returns-in-Latch-clause-own : goal.returns-in-Latch-clause-own
+returns-in-Latch-clause-own g c =
+    subst (λ q. IsHandLine c.args.vault.now (Some c.args.hand) (Some c.latch.result.0) q c.latch.result.1) (sym c.in-Latch.is) tt
+
+pub returns-in-Unlatch-clause-own : goal.returns-in-Unlatch-clause-own
+returns-in-Unlatch-clause-own g c =
+    subst (λ q. IsHandLine c.args.vault.now (Some c.args.hand) (Some c.unlatch.result.0) q c.unlatch.result.1) (sym c.in-Unlatch.is) tt
+
+pub returns-in-Choose-clause-own : goal.returns-in-Choose-clause-own
+returns-in-Choose-clause-own g c =
+    subst (λ q. IsHandLine c.args.vault.now (Some c.args.hand) (Some c.choose.result.0) q c.choose.result.1) (sym c.in-Choose.is) tt
+
+pub returns-in-Unwind-clause-own : goal.returns-in-Unwind-clause-own
+returns-in-Unwind-clause-own g c =
+    subst (λ q. IsHandLine c.args.vault.now (Some c.args.hand) (Some c.unwind.result.0) q c.unwind.result.1) (sym c.in-Unwind.is) tt
+
+pub returns-in-Finish-clause-own : goal.returns-in-Finish-clause-own
+returns-in-Finish-clause-own g c =
+    subst (λ q. IsHandLine c.args.vault.now (Some c.args.hand) (Some c.finish.result.0) q c.finish.result.1) (sym c.in-Finish.is) tt
+
+pub returns-in-Device-clause-own : goal.returns-in-Device-clause-own
+returns-in-Device-clause-own g c =
+    let of = same _ _ (sym (ap cue_worker c.in-Device.is) ∙ c.requires.cue) in
+    subst (λ q. IsHandLine c.args.vault.now (Some c.args.hand) (Some c.work.result.0) q c.work.result.1)
+    (ap (λ w. cue.Device w) (sym of) ∙ sym c.in-Device.is) c.work.ensures.own
+
+pub returns-in-Write-clause-own : goal.returns-in-Write-clause-own
+returns-in-Write-clause-own g c =
+    let of = same _ _ (sym (ap cue_worker c.in-Write.is) ∙ c.requires.cue) in
+    subst (λ q. IsHandLine c.args.vault.now (Some c.args.hand) (Some c.write.result.0) q c.write.result.1)
+    (ap (λ w. cue.Write w c.in-Write.slot c.in-Write.byte) (sym of) ∙ sym c.in-Write.is)
+    (c.write.ensures.own c.args.vault.now c.args.worker)
+
+pub returns-in-Look-clause-own : goal.returns-in-Look-clause-own
+returns-in-Look-clause-own g c =
+    let of = same _ _ (sym (ap cue_worker c.in-Look.is) ∙ c.requires.cue) in
+    subst (λ q. IsHandLine c.args.vault.now (Some c.args.hand) (Some c.look.result.0) q c.look.result.1)
+    (ap (λ w. cue.Look w c.in-Look.slot) (sym of) ∙ sym c.in-Look.is) (c.look.ensures.own c.args.worker)

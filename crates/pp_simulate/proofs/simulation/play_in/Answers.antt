@@ -10,4 +10,4 @@ returns-clause-ok c =
     c.submit_all.new.vault c.play.new.vault c.args.hands.now c.play.new.hands c.deref.result.now _
     c.play.new.lines.items (c.in_ok-submit_all.ensures.takes (opening (kept_of c.args.settings.now)) c.requires.opens)
     (c.submit_all.ensures.fit c.args.hands.now c.requires.fit) c.new-lines.ensures.items
-    (c.deref.ensures.value ∙ c.into_parts-cues.ensures.cues) c.in_ok-play.ensures.exact (search rules)
+    (c.deref.ensures.value ∙ c.into_parts-cues.ensures.cues) c.in_ok-play.ensures.fitting (search rules)
