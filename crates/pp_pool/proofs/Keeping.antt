@@ -1,24 +1,29 @@
--- A worker's tokens stay that worker's over a turn.
+-- A worker's tokens stay that worker's over a turn, and an errand keeps the place of its slot free.
 use Rattle.std.proofs.Common.{◌≡◌, ◌∙◌, ℕ, Option, Some, None, List, refl, sym, ap, subst}
-use Rattle.std.specs.Prelude.{IfSome}
+use Rattle.std.specs.Prelude.{true, IfSome, IsSome}
+use Rattle.std.proofs.lemmas.Bool.{false≢true}
 use Rattle.pp_settings.specs.Layout.{Geometry}
 use Rattle.pp_device.specs.Answers.{Answer as DeviceAnswer}
 use Rattle.pp_vault.specs.declared.tokens.Session.{Session}
 use Rattle.pp_vault.specs.declared.tokens.Leaver.{Leaver}
+use Rattle.pp_vault.specs.declared.tokens.Errand.{Errand}
+use Rattle.pp_vault.specs.declared.guards.Guard.{Guard}
 use Rattle.pp_vault.specs.declared.stage.Stage.{Stage}
 use Rattle.pp_vault.specs.declared.stage.Stage.TheVariants as stage
 use Rattle.pp_vault.specs.Stages.{stage_worker}
-use Rattle.pp_vault.specs.Duties.{duty_worker}
+use Rattle.pp_vault.specs.Duties.{duty_worker, duty_slot}
+use Rattle.pp_vault.specs.Holding.{is_free}
 use Rattle.pp_pool.specs.declared.request.Request.{Request}
 use Rattle.pp_pool.specs.declared.request.Request.TheVariants as request
 use Rattle.pp_pool.specs.declared.outcome.Answer.{Answer}
 use Rattle.pp_pool.specs.declared.outcome.Answer.TheVariants as answer
 use Rattle.pp_pool.specs.declared.outcome.Outcome.{Outcome}
-use Rattle.pp_pool.specs.Replies.{TokensFit, Replies}
+use Rattle.pp_pool.specs.Replies.{TokensFit, slot_for, SlotFits, Replies}
 use Rattle.pp_pool.specs.declared.turned.Turned.{Turned}
 use Rattle.pp_pool.specs.declared.site.Site as Site
 use Rattle.pp_pool.specs.declared.work.Work as Work
-use Rattle.pp_pool.specs.Turns.{stage_asked, stage_in, Uses, IsStep, IsWayOut, Asks}
+use Rattle.pp_pool.specs.Turns.{stage_asked, stage_in, Uses, IsStep, IsWayOut, Asks, guard_asked, guard_in, places_with}
+use Rattle.pp_pool.specs.Turns.{FindsPlace, IsWorkers, Prepares, has_place, keeps_place}
 use Rattle.pp_pool.proofs.Turning.{used_stage}
 
 -- The worker of a request; none where it is the flusher's.
@@ -148,3 +153,79 @@ keeps_worker s k reads writes calls failures layout before after old asked new o
     subst (IsOf (worker_asked asked)) (sym (used_stage s k site room work turned left outcome.answer used uses) ∙ there)
     (of_answer asked outcome.answer replies.tokens)
     ∙ of_stage reads writes calls failures layout before old asked new asks
+
+-- ---- an errand's place stays free
+
+-- The place of a slot, which is there and is free.
+place_there : (places : List (Option Guard)) (o : Option ℕ) → IsSome o → IfSome o (λ slot. is_free places slot ≡ true)
+    → has_place places o ≡ true
+place_there places (Some slot) some free = free
+place_there places None some free = absurd (false≢true some)
+
+-- What is known of a stage that comes.
+abbrev KeepsIn : List (Option Guard) → Option Stage → Type 0
+KeepsIn places o = IfSome o (λ at. keeps_place places at ≡ true)
+
+-- A request that comes back keeps its place.
+back_keeps : (rest : List (Option Guard)) (asked : Request) → FindsPlace rest asked → IsWorkers asked
+    → KeepsIn (places_with rest (guard_asked asked)) (stage_asked asked)
+back_keeps rest (request.Answer returned) free workers = place_there rest (duty_slot returned.duty) workers free
+back_keeps rest (request.Take chair) free workers = refl
+back_keeps rest (request.Fix x page) free workers = refl
+back_keeps rest (request.Unfix x g) free workers = refl
+back_keeps rest (request.LatchShared x g) free workers = refl
+back_keeps rest (request.LatchExclusive x g) free workers = refl
+back_keeps rest (request.UnlatchShared x g) free workers = refl
+back_keeps rest (request.UnlatchExclusive x g) free workers = refl
+back_keeps rest (request.Choose x branch) free workers = refl
+back_keeps rest (request.Finish x) free workers = refl
+back_keeps rest (request.End x) free workers = refl
+back_keeps rest (request.GiveBack x g) free workers = refl
+back_keeps rest (request.Flush page) free workers = tt
+back_keeps rest (request.FlushNext number) free workers = tt
+
+-- A worker's request to which an errand comes is for a slot.
+away_slot : (asked : Request) (errand : Errand) → IsWorkers asked → TokensFit asked (answer.Away errand)
+    → IsSome (slot_for asked)
+away_slot (request.Fix x page) errand workers fit = refl
+away_slot (request.Answer returned) errand workers fit = workers
+away_slot (request.Flush page) errand workers fit = absurd workers
+away_slot (request.FlushNext number) errand workers fit = absurd workers
+away_slot (request.Take chair) errand workers fit = absurd fit
+away_slot (request.Unfix x g) errand workers fit = absurd fit
+away_slot (request.LatchShared x g) errand workers fit = absurd fit
+away_slot (request.LatchExclusive x g) errand workers fit = absurd fit
+away_slot (request.UnlatchShared x g) errand workers fit = absurd fit
+away_slot (request.UnlatchExclusive x g) errand workers fit = absurd fit
+away_slot (request.Choose x branch) errand workers fit = absurd fit
+away_slot (request.Finish x) errand workers fit = absurd fit
+away_slot (request.End x) errand workers fit = absurd fit
+away_slot (request.GiveBack x g) errand workers fit = absurd fit
+
+module _ {S W : Type 0} (s : Site.Ghosts S) (k : Work.Ghosts W) (site : S) (room : ℕ) (old : W) (turned : Turned)
+    (new : W) (places rest : List (Option Guard)) (asked : Request) (p : Prepares places asked rest) where
+  answer_keeps : (out after : Answer) → TokensFit asked out → SlotFits asked out
+      → Uses s k site room old out turned after new → KeepsIn (places_with rest (guard_in after)) (stage_in out)
+  answer_keeps (answer.Away errand) after fit slot uses =
+      subst (λ o. has_place (places_with rest (guard_in o)) (duty_slot errand.duty) ≡ true) (sym uses.1)
+      (ap (has_place rest) slot ∙ place_there rest (slot_for asked) (away_slot asked errand p.workers fit) p.finds)
+  answer_keeps (answer.No back why) after fit slot uses =
+      subst (λ o. KeepsIn (places_with rest (guard_in o)) (stage_asked back)) (sym uses.1)
+      (subst (λ r. KeepsIn (places_with rest (guard_asked r)) (stage_asked r)) (sym fit)
+      (back_keeps rest asked p.finds p.workers))
+  answer_keeps (answer.Acts x) after fit slot uses = refl
+  answer_keeps (answer.Idle chair) after fit slot uses = refl
+  answer_keeps (answer.Leaves x) after fit slot uses = refl
+  answer_keeps (answer.Pinned x g) after fit slot uses = refl
+  answer_keeps (answer.Shared x g) after fit slot uses = refl
+  answer_keeps (answer.Exclusive x g) after fit slot uses = refl
+  answer_keeps (answer.Flushed clean) after fit slot uses = tt
+
+  -- So the hand after a request keeps it.
+  pub keeps_after : (out after : Answer) (at : Stage) (guards : List (Option Guard)) → TokensFit asked out
+      → SlotFits asked out → Uses s k site room old out turned after new → stage_in after ≡ Some at
+      → guards ≡ places_with rest (guard_in after) → keeps_place guards at ≡ true
+  keeps_after out after at guards fit slot uses there are =
+      ap (λ ps. keeps_place ps at) are
+      ∙ subst (KeepsIn (places_with rest (guard_in after)))
+      (sym (used_stage s k site room old turned new out after uses) ∙ there) (answer_keeps out after fit slot uses)

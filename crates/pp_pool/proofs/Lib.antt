@@ -2,6 +2,7 @@ pub mod Noted
 pub mod Growing
 pub mod Tokens
 pub mod Fitting
+pub mod Sending
 pub mod Replying
 pub mod Looking
 pub mod Placing

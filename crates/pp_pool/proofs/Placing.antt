@@ -9,7 +9,8 @@ use Rattle.pp_vault.specs.declared.guards.Guard.{Guard}
 use Rattle.pp_vault.specs.Holding.{slot_by, placed, is_free, all_free}
 use Rattle.pp_pool.specs.declared.request.Request.{Request}
 use Rattle.pp_pool.specs.declared.request.Request.TheVariants as request
-use Rattle.pp_pool.specs.Turns.{guard_asked, slot_for, places_without, IsStep, IsWorkers, LeavesNone, Prepares}
+use Rattle.pp_pool.specs.Replies.{slot_for}
+use Rattle.pp_pool.specs.Turns.{guard_asked, places_without, IsStep, IsWorkers, LeavesNone, Prepares}
 
 none_is_some : (g : Guard) → ◌≡◌ {A = Option Guard} None (Some g) → ⊥
 none_is_some g e = cc

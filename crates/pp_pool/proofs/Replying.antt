@@ -24,6 +24,7 @@ use Rattle.pp_pool.specs.Replies.{IsEventOf, TokensFit, Replies}
 use Rattle.pp_pool.proofs.Noted.{noted, refused_call}
 use Rattle.pp_pool.proofs.Growing.{event_in}
 use Rattle.pp_pool.proofs.Fitting.{event_fits}
+use Rattle.pp_pool.proofs.Sending.{slot_fits}
 
 -- A reply that tells no cause doesn't refuse.
 no_cause : (r : Reply) → refusal_in r ≡ None → is_refusal r ≡ false
@@ -86,4 +87,5 @@ replies b k asked out v h d e is fit =
           ∙ told_by b.vault v asked s k.stands out h d;
       event = subst (λ x. IfSome x (IsEventOf asked)) (sym here) (event_fits b.vault asked s);
       tokens = fit;
+      slot = slot_fits b.vault v s k.stands asked out h fit;
     }

@@ -34,6 +34,11 @@ back_same old new x (guard.Pin g) y h = h.still.same
 back_same old new x (guard.Read g) y h = h.still.same
 back_same old new x (guard.Write g) y h = h.still.same
 
+pub no_slot : (d : Duty) → duty_worker d ≡ None → duty_slot d ≡ None
+no_slot (Read w slot page) e = cc
+no_slot (Write w slot page victim) e = cc
+no_slot (Flush page) e = refl
+
 module _ (old new : Parts) (image : List ℕ) (ok : Bool) where
   pub got_worker : (d : Duty) (x : Session) (g : PinGuard) → DutyEnds old d image ok (answered.Got x g) new
       → duty_worker d ≡ Some x.worker
@@ -52,6 +57,12 @@ module _ (old new : Parts) (image : List ℕ) (ok : Bool) where
   away_worker (Read w slot page) errand h = absurd h
   away_worker (Write w slot page victim) errand h = ap duty_worker h.2.duty
   away_worker (Flush page) errand h = absurd h
+
+  pub away_slot : (d : Duty) (errand : Errand) → DutyEnds old d image ok (answered.Away errand) new
+      → duty_slot errand.duty ≡ duty_slot d
+  away_slot (Read w slot page) errand h = absurd h
+  away_slot (Write w slot page victim) errand h = ap duty_slot h.2.duty
+  away_slot (Flush page) errand h = absurd h
 
   pub lost_worker : (d : Duty) (x : Leaver) → DutyEnds old d image ok (answered.Lost x) new
       → duty_worker d ≡ Some x.worker

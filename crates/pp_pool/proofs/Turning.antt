@@ -1,7 +1,7 @@
 -- What a worker has in hand after an answer that fits its request.
 use Rattle.std.proofs.Common.{◌≡◌, ◌∙◌, ◌++◌, ◌<◌, ◌≤◌, length, ℕ, Bool, true, false, inl, inr, arith, Option, Some, None, List, refl, sym, ap, subst}
-use Rattle.std.specs.Prelude.{IfSome, IsSome, IfOk, Result, Ok, Err, vec_len, vec_capacity}
-use Rattle.std.proofs.lemmas.Bool.{false≢true}
+use Rattle.std.specs.Prelude.{IfSome, IsSome, IfOk, Result, Ok, Err, vec_len, vec_capacity, if◌then◌else◌}
+use Rattle.std.proofs.lemmas.Bool.{false≢true, true_from_ne_false}
 use Rattle.pp_vault.specs.declared.tokens.Session.{Session}
 use Rattle.pp_vault.specs.declared.guards.PinGuard.{PinGuard}
 use Rattle.pp_vault.specs.declared.guards.ReadGuard.{ReadGuard}
@@ -11,6 +11,8 @@ use Rattle.pp_vault.specs.Holding.{slot_by, is_free}
 use Rattle.pp_vault.specs.Lending.{with_body}
 use Rattle.pp_vault.specs.Stages.{is_chair}
 use Rattle.pp_device.specs.Image.{body_of}
+use Rattle.pp_vault.specs.declared.stage.Stage.{Stage}
+use Rattle.pp_vault.specs.declared.stage.Stage.TheVariants as stage
 use Rattle.pp_vault.specs.declared.stage.Hand.{Hand}
 use Rattle.pp_vault.specs.Duties.{duty_slot, duty_worker}
 use Rattle.pp_vault.specs.declared.tokens.Duty.{Duty}
@@ -24,14 +26,14 @@ use Rattle.pp_pool.specs.declared.outcome.Outcome.{Outcome}
 use Rattle.pp_pool.specs.declared.turned.Turned.{Turned}
 use Rattle.pp_pool.specs.declared.turned.Turned.TheVariants.{Done, NotNow, Ended, NoMemory, Broken}
 use Rattle.pp_pool.specs.declared.worker.Worker.{Worker}
-use Rattle.pp_pool.specs.Requests.{events_in}
 use Rattle.pp_pool.specs.declared.site.Site as Site
 use Rattle.pp_pool.specs.declared.work.Work as Work
 use Rattle.pp_device.specs.declared.device.Device as Device
 use Rattle.pp_pool.specs.Replies.{Replies}
 use Rattle.pp_settings.specs.Layout.{Geometry}
 use Rattle.pp_pool.specs.Turns.{guard_asked, guard_in, stage_asked, stage_in, FindsPlace, LeavesNone, IsOwn, IsWorkers, IsLong}
-use Rattle.pp_pool.specs.Turns.{Asks, Consults, Prepares, places_without, places_with, Uses, Turns, MayWait, TurnIs, can_ask}
+use Rattle.pp_pool.specs.Turns.{Asks, Consults, Prepares, places_without, places_with, Uses, MayWait, TurnIs, can_ask, can_ask_at}
+use Rattle.pp_pool.specs.Turns.{Makes, MakesOne, logged_events, has_errand, keeps_place, KeepsPlace}
 use Rattle.pp_pool.specs.Turns.{room_of, IsStep, IsWayOut, AsksSlot}
 
 -- ---- the stage
@@ -267,36 +269,65 @@ pub placed_after : {S W : Type 0} (s : Site.Ghosts S) (k : Work.Ghosts W) (site 
 placed_after s k site room old turned new places rest asked out after p fit uses =
     used_placed s k site room old turned new rest out after uses (guard_placed rest asked out p.finds fit)
 
-pub turns : {S D W : Type 0} (s : Site.Ghosts S) (d : Device.Ghosts D) (k : Work.Ghosts W) (old new : Worker S D)
-    (before between left : W) (turned : Turned) (asked : Request) (outcome : Outcome) (after : Answer)
-    (rest : List (Option Guard)) (site : S) (room : ℕ)
-    → Asks d.read_gives d.write_leaves d.calls d.failures old.layout old.hand.stage old.device asked new.device
-    → Consults k old.layout before asked between → Prepares old.hand.guards asked rest
-    → s.gives old.site asked outcome site → Replies asked outcome → new.site ≡ site
-    → new.log.items ≡ old.log.items ++ events_in outcome.event → room_of new ≡ room
-    → Uses s k site room between outcome.answer turned after left
-    → stage_in after ≡ Some new.hand.stage → new.hand.guards ≡ places_with rest (guard_in after)
-    → TurnIs s d k old before turned new left
-turns s d k old new before between left turned asked outcome after rest site room asks consults prepares given fits same
-    log long uses stage guards =
-    inl (record {
-      asked = asked;
-      outcome = outcome;
-      after = after;
-      between = between;
-      asks = asks;
-      consults = consults;
-      own = prepares.own;
-      none = prepares.none;
-      given = subst (s.gives old.site asked outcome) (sym same) given;
-      fits = fits;
-      log = log;
-      uses =
-          subst (λ n. Uses s k new.site n between outcome.answer turned after left) (sym long)
-          (subst (λ t. Uses s k t room between outcome.answer turned after left) (sym same) uses);
-      stage = stage;
-      guards = guards ∙ ap (λ ps. places_with ps (guard_in after)) prepares.keeps;
-    })
+module _ {S D W : Type 0} (s : Site.Ghosts S) (d : Device.Ghosts D) (k : Work.Ghosts W) (old new : Worker S D)
+    (before between left : W) (asked : Request) (outcome : Outcome) (after : Answer) (rest : List (Option Guard)) (site : S)
+    (room : ℕ) where
+  makes : (is_logged : Bool) (ends : Turned)
+      → Asks d.read_gives d.write_leaves d.calls d.failures old.layout old.hand.stage old.device asked new.device
+      → Consults k old.layout before asked between → Prepares old.hand.guards asked rest
+      → s.gives old.site asked outcome site → Replies asked outcome → new.site ≡ site
+      → new.log.items ≡ old.log.items ++ logged_events is_logged outcome.event → room_of new ≡ room
+      → Uses s k site room between outcome.answer ends after left
+      → stage_in after ≡ Some new.hand.stage → new.hand.guards ≡ places_with rest (guard_in after)
+      → Makes s d k is_logged old before ends new left
+  makes is_logged ends asks consults prepares given fits same log long uses stage guards =
+      record {
+        asked = asked;
+        outcome = outcome;
+        after = after;
+        between = between;
+        asks = asks;
+        consults = consults;
+        own = prepares.own;
+        none = prepares.none;
+        given = subst (s.gives old.site asked outcome) (sym same) given;
+        fits = fits;
+        log = log;
+        uses =
+            subst (λ n. Uses s k new.site n between outcome.answer ends after left) (sym long)
+            (subst (λ t. Uses s k t room between outcome.answer ends after left) (sym same) uses);
+        stage = stage;
+        guards = guards ∙ ap (λ ps. places_with ps (guard_in after)) prepares.keeps;
+      }
+
+  -- The event is logged, or there was an errand in hand, since any other turn had room.
+  makes_one : (is_logged : Bool) (ends : Turned) → Makes s d k is_logged old before ends new left
+      → (has_errand old.hand.stage ≡ false → vec_len old.log < vec_capacity old.log)
+      → (is_logged ≡ false → vec_capacity old.log ≤ vec_len old.log)
+      → MakesOne s d k old before (if is_logged then ends else Broken) new left
+  makes_one true ends m has_room full = inl m
+  makes_one false ends m has_room full =
+      inr (record { errand = errand; full = full refl; ends = ends; makes = m; broken = refl })
+    where
+      errand : has_errand old.hand.stage ≡ true
+      errand =
+          true_from_ne_false (has_errand old.hand.stage)
+          (λ no. let lt = has_room no in let le = full refl in omega (arith, lt, le))
+
+  pub turns : (is_logged : Bool) (ends turned : Turned)
+      → Asks d.read_gives d.write_leaves d.calls d.failures old.layout old.hand.stage old.device asked new.device
+      → Consults k old.layout before asked between → Prepares old.hand.guards asked rest
+      → s.gives old.site asked outcome site → Replies asked outcome → new.site ≡ site
+      → new.log.items ≡ old.log.items ++ logged_events is_logged outcome.event → room_of new ≡ room
+      → Uses s k site room between outcome.answer ends after left
+      → stage_in after ≡ Some new.hand.stage → new.hand.guards ≡ places_with rest (guard_in after)
+      → (has_errand old.hand.stage ≡ false → vec_len old.log < vec_capacity old.log)
+      → (is_logged ≡ false → vec_capacity old.log ≤ vec_len old.log)
+      → turned ≡ (if is_logged then ends else Broken) → TurnIs s d k old before turned new left
+  turns is_logged ends turned asks consults prepares given fits same log long uses stage guards has_room full ended =
+      inl (subst (λ t. MakesOne s d k old before t new left) (sym ended)
+      (makes_one is_logged ends
+      (makes is_logged ends asks consults prepares given fits same log long uses stage guards) has_room full))
 
 -- ---- where the work is asked nothing
 
@@ -350,13 +381,18 @@ consults_at k layout old new (Err e) h = tt
 
 -- ---- the room that is got before
 
--- It changes nothing that a turn speaks of, but the room for a page.
+-- It changes nothing that a turn speaks of, but the room for a page, and how much the log has room for.
 module _ {S D W : Type 0} (s : Site.Ghosts S) (d : Device.Ghosts D) (k : Work.Ghosts W) (old mid new : Worker S D)
     (before left : W) (turned : Turned) (site : mid.site ≡ old.site)
     (device : mid.device ≡ old.device) (hand : mid.hand ≡ old.hand) (log : mid.log.items ≡ old.log.items)
-    (layout : mid.layout ≡ old.layout) (room : vec_len mid.log < vec_capacity mid.log) where
-  turns_from : Turns s d k mid before turned new left → Turns s d k old before turned new left
-  turns_from t =
+    (layout : mid.layout ≡ old.layout) (len : vec_len mid.log ≡ vec_len old.log)
+    (grown : vec_capacity old.log ≤ vec_capacity mid.log) where
+  full_from : vec_capacity mid.log ≤ vec_len mid.log → vec_capacity old.log ≤ vec_len old.log
+  full_from full = omega (arith, len, grown, full)
+
+  makes_from : (is_logged : Bool) (ends : Turned) → Makes s d k is_logged mid before ends new left
+      → Makes s d k is_logged old before ends new left
+  makes_from is_logged ends t =
       record {
         asked = t.asked;
         outcome = t.outcome;
@@ -372,7 +408,7 @@ module _ {S D W : Type 0} (s : Site.Ghosts S) (d : Device.Ghosts D) (k : Work.Gh
         none = subst (λ (h : Hand). LeavesNone h.guards t.asked) hand t.none;
         given = subst (λ x. s.gives x t.asked t.outcome new.site) site t.given;
         fits = t.fits;
-        log = t.log ∙ ap (λ es. es ++ events_in t.outcome.event) log;
+        log = t.log ∙ ap (λ es. es ++ logged_events is_logged t.outcome.event) log;
         uses = t.uses;
         stage = t.stage;
         guards =
@@ -380,12 +416,25 @@ module _ {S D W : Type 0} (s : Site.Ghosts S) (d : Device.Ghosts D) (k : Work.Gh
             ∙ ap (λ (h : Hand). places_with (places_without h.guards (guard_asked t.asked)) (guard_in t.after)) hand;
       }
 
+  one_from : MakesOne s d k mid before turned new left → MakesOne s d k old before turned new left
+  one_from h =
+      elim (h) [
+        | inl t ↦ inl (makes_from true turned t)
+        | inr t ↦ inr (record {
+          errand = subst (λ (x : Hand). has_errand x.stage ≡ true) hand t.errand;
+          full = full_from t.full;
+          ends = t.ends;
+          makes = makes_from false t.ends t.makes;
+          broken = t.broken;
+        })
+      ]
+
   may_from : (t : Turned) → MayWait mid t → MayWait old t
   may_from NoMemory may = subst (λ (h : Hand). is_chair h.stage ≡ true) hand may
   may_from Broken may =
       elim (may) [
         | inl lacks ↦ inl (subst (λ l. can_ask l old.hand ≡ false) layout (subst (λ h. can_ask mid.layout h ≡ false) hand lacks))
-        | inr full ↦ absurd (omega (arith, room, full))
+        | inr lacks ↦ inr (subst (λ (h : Hand). has_errand h.stage ≡ false) hand lacks.0, full_from lacks.1)
       ]
   may_from Done may = absurd may
   may_from NotNow may = absurd may
@@ -394,7 +443,7 @@ module _ {S D W : Type 0} (s : Site.Ghosts S) (d : Device.Ghosts D) (k : Work.Gh
   pub turn_from : TurnIs s d k mid before turned new left → TurnIs s d k old before turned new left
   turn_from h =
       elim (h) [
-        | inl t ↦ inl (turns_from t)
+        | inl t ↦ inl (one_from t)
         | inr w ↦ inr (record {
           may = may_from turned w.may;
           site = w.site ∙ site;
@@ -404,3 +453,44 @@ module _ {S D W : Type 0} (s : Site.Ghosts S) (d : Device.Ghosts D) (k : Work.Gh
           work = w.work;
         })
       ]
+
+-- ---- with an errand in hand
+
+-- An errand that keeps its place can be sent.
+errand_can : (layout : Geometry) (hand : Hand) → has_errand hand.stage ≡ true → KeepsPlace hand
+    → can_ask layout hand ≡ true
+errand_can layout hand has keeps = by_stage hand.stage has keeps
+  where
+    by_stage : (at : Stage) → has_errand at ≡ true → keeps_place hand.guards at ≡ true
+        → can_ask_at layout hand.guards at ≡ true
+    by_stage (stage.Out errand) has keeps = keeps
+    by_stage (stage.Back returned) has keeps = keeps
+    by_stage (stage.Idle chair) has keeps = absurd (false≢true has)
+    by_stage (stage.In x) has keeps = absurd (false≢true has)
+    by_stage (stage.Leaving x) has keeps = absurd (false≢true has)
+
+pub no_chair : (at : Stage) → has_errand at ≡ true → is_chair at ≡ true → ⊥
+no_chair (stage.Idle chair) has is = false≢true has
+no_chair (stage.In x) has is = false≢true has
+no_chair (stage.Out errand) has is = false≢true is
+no_chair (stage.Back returned) has is = false≢true is
+no_chair (stage.Leaving x) has is = false≢true has
+
+never_waits : {S D : Type 0} (old : Worker S D) (turned : Turned) → has_errand old.hand.stage ≡ true
+    → KeepsPlace old.hand → MayWait old turned → ⊥
+never_waits old NoMemory has keeps may = no_chair old.hand.stage has may
+never_waits old Broken has keeps may =
+    elim (may) [
+      | inl lacks ↦ false≢true (sym lacks ∙ errand_can old.layout old.hand has keeps)
+      | inr lacks ↦ false≢true (sym lacks.0 ∙ has)
+    ]
+never_waits old Done has keeps may = may
+never_waits old NotNow has keeps may = may
+never_waits old Ended has keeps may = may
+
+-- So its turn makes its request.
+pub errand_made : {S D W : Type 0} (s : Site.Ghosts S) (d : Device.Ghosts D) (k : Work.Ghosts W) (old new : Worker S D)
+    (before left : W) (turned : Turned) → TurnIs s d k old before turned new left → has_errand old.hand.stage ≡ true
+    → KeepsPlace old.hand → MakesOne s d k old before turned new left
+errand_made s d k old new before left turned (inl one) has keeps = one
+errand_made s d k old new before left turned (inr w) has keeps = absurd (never_waits old turned has keeps w.may)

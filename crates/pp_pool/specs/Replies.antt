@@ -1,5 +1,5 @@
 -- What every site promises of an outcome, whatever others have done meanwhile.
-use Rattle.std.specs.Prelude.{◌≡◌, ◌≤◌, ℕ, length, Bool, not, Some, None, IfSome, List, is_ok}
+use Rattle.std.specs.Prelude.{◌≡◌, ◌≤◌, ℕ, length, Bool, not, Option, Some, None, IfSome, List, is_ok}
 use Rattle.std.specs.Option.{is_some}
 use Rattle.pp_model.specs.declared.moves.Move.{Move}
 use Rattle.pp_model.specs.declared.moves.Move.TheVariants as move
@@ -78,10 +78,32 @@ TokensFit (request.Flush page) (Away errand) = duty_worker errand.duty ≡ None
 TokensFit (request.FlushNext number) (Away errand) = duty_worker errand.duty ≡ None
 TokensFit asked out = ⊥
 
+-- ---- the slot
+
+-- The slot of a guard that can come of the request, if one can.
+abbrev pub slot_for : Request → Option ℕ
+slot_for (request.Fix x page) = Some (fix_slot x.ask)
+slot_for (request.Unfix x g) = Some g.slot
+slot_for (request.LatchShared x g) = Some g.slot
+slot_for (request.LatchExclusive x g) = Some g.slot
+slot_for (request.UnlatchShared x g) = Some g.slot
+slot_for (request.UnlatchExclusive x g) = Some g.slot
+slot_for (request.GiveBack x g) = Some (slot_by g)
+slot_for (request.Answer returned) = duty_slot returned.duty
+slot_for _ = None
+
+-- An errand is for the request's slot: the one that a fix names, or the one for which a device has worked. One of the flusher
+-- is for none.
+abbrev pub SlotFits : Request → Answer → Type 0
+SlotFits asked (Away errand) = duty_slot errand.duty ≡ slot_for asked
+SlotFits asked out = Unit {0}
+
 -- ---- an outcome
 
--- There is an event exactly where the answer is no refusal, and it is the request's; and the tokens fit.
+-- There is an event exactly where the answer is no refusal, and it is the request's; and the tokens fit, an errand's slot
+-- too.
 pub record Replies (asked : Request) (outcome : Outcome) : Type 0 where
   pub done : is_some outcome.event ≡ not (is_no outcome.answer)
   pub event : IfSome outcome.event (IsEventOf asked)
   pub tokens : TokensFit asked outcome.answer
+  pub slot : SlotFits asked outcome.answer

@@ -1,6 +1,6 @@
 -- What a turn of a worker does.
 use Rattle.std.specs.Prelude.{◌≡◌, ◌≢◌, ◌⊎◌, ◌==◌, if◌then◌else◌, ℕ, ◌+◌, ◌-◌, ◌^◌, ◌<◌, ◌≤◌, nat_lt, min, max, Bool, true, false, ◌&&◌}
-use Rattle.std.specs.Prelude.{List, length, ◌++◌, slice_get, slice_set}
+use Rattle.std.specs.Prelude.{List, [], length, ◌++◌, slice_get, slice_set}
 use Rattle.std.specs.Prelude.{Option, None, Some, IfSome, IsSome, vec_len, vec_capacity}
 use Rattle.std.specs.Option.{is_some}
 use Rattle.std.specs.Global.{Vec}
@@ -27,7 +27,6 @@ use Rattle.pp_vault.specs.declared.stage.Stage.TheVariants as stage
 use Rattle.pp_vault.specs.declared.stage.Hand.{Hand}
 use Rattle.pp_vault.specs.Stages.{is_chair}
 use Rattle.pp_vault.specs.Duties.{duty_slot}
-use Rattle.pp_vault.specs.Fits.{fix_slot}
 use Rattle.pp_vault.specs.Holding.{slot_by, placed, is_free, all_free}
 use Rattle.pp_vault.specs.Lending.{with_body}
 use Rattle.pp_pool.specs.declared.request.Request.{Request}
@@ -41,7 +40,7 @@ use Rattle.pp_pool.specs.declared.site.Site as Site
 use Rattle.pp_pool.specs.declared.work.Work as Work
 use Rattle.pp_pool.specs.declared.worker.Worker.{Worker}
 use Rattle.pp_pool.specs.Requests.{events_in}
-use Rattle.pp_pool.specs.Replies.{Replies}
+use Rattle.pp_pool.specs.Replies.{slot_for, Replies}
 use Rattle.pp_pool.specs.Flushings.{Sends}
 
 -- As many bytes as can be counted: a work that wants all of a page reaches for them.
@@ -121,18 +120,6 @@ abbrev pub places_with : List (Option Guard) → Option Guard → List (Option G
 places_with places None = places
 places_with places (Some g) = slice_set places (slot_by g) (Some g)
 
--- The slot of a guard that can come of the request, if one can.
-abbrev pub slot_for : Request → Option ℕ
-slot_for (request.Fix x page) = Some (fix_slot x.ask)
-slot_for (request.Unfix x g) = Some g.slot
-slot_for (request.LatchShared x g) = Some g.slot
-slot_for (request.LatchExclusive x g) = Some g.slot
-slot_for (request.UnlatchShared x g) = Some g.slot
-slot_for (request.UnlatchExclusive x g) = Some g.slot
-slot_for (request.GiveBack x g) = Some (slot_by g)
-slot_for (request.Answer returned) = duty_slot returned.duty
-slot_for _ = None
-
 -- A guard that comes of the request finds its place free.
 abbrev pub FindsPlace : List (Option Guard) → Request → Type 0
 FindsPlace places asked = IfSome (slot_for asked) (λ slot. is_free places slot ≡ true)
@@ -207,6 +194,24 @@ can_ask_at layout places (stage.Leaving leaver) = true
 
 abbrev pub can_ask : Geometry → Hand → Bool
 can_ask layout hand = can_ask_at layout hand.guards hand.stage
+
+-- ---- with an errand in hand
+
+-- Whether an errand is in hand: a device has to work for the worker, or has worked and the site wasn't told yet.
+abbrev pub has_errand : Stage → Bool
+has_errand (stage.Out errand) = true
+has_errand (stage.Back returned) = true
+has_errand _ = false
+
+-- Whether the place of the errand's slot is free for the page that comes; true where no errand is in hand.
+abbrev pub keeps_place : List (Option Guard) → Stage → Bool
+keeps_place places (stage.Out errand) = has_place places (duty_slot errand.duty)
+keeps_place places (stage.Back returned) = has_place places (duty_slot returned.duty)
+keeps_place places _ = true
+
+-- A hand in which an errand, if there is one, finds the place of its slot free. An idle hand is one, and each turn leaves one.
+abbrev pub KeepsPlace : Hand → Type 0
+KeepsPlace hand = keeps_place hand.guards hand.stage ≡ true
 
 -- ---- what comes of it
 
@@ -297,10 +302,15 @@ Uses s k site room old out turned after new = (turned ≡ Done) × (after ≡ ou
 abbrev pub room_of : {S D : Type 0} → Worker S D → ℕ
 room_of w = length w.seen.items
 
--- One request is made of the site. The log grows by its event, and what comes of it is in hand. The work is asked for what the
--- request wants, and does what the answer lets it do.
-pub record Turns {S D W : Type 0} (s : Site.Ghosts S) (d : Device.Ghosts D) (k : Work.Ghosts W) (old : Worker S D) (before : W)
-    (turned : Turned) (new : Worker S D) (left : W) : Type 0 where
+-- What is added to a log: the event, unless the log had no room for it.
+abbrev pub logged_events : (is_logged : Bool) → Option Event → List Event
+logged_events true event = events_in event
+logged_events false event = []
+
+-- One request is made of the site, and what comes of it is in hand. The work is asked for what the request wants, and does
+-- what the answer lets it do; by that the turn would end so. The log grows by the event, if that is logged.
+pub record Makes {S D W : Type 0} (s : Site.Ghosts S) (d : Device.Ghosts D) (k : Work.Ghosts W) (is_logged : Bool)
+    (old : Worker S D) (before : W) (ends : Turned) (new : Worker S D) (left : W) : Type 0 where
   pub asked : Request
   pub outcome : Outcome
   pub after : Answer
@@ -311,16 +321,39 @@ pub record Turns {S D W : Type 0} (s : Site.Ghosts S) (d : Device.Ghosts D) (k :
   pub none : LeavesNone old.hand.guards asked
   pub given : s.gives old.site asked outcome new.site
   pub fits : Replies asked outcome
-  pub log : new.log.items ≡ old.log.items ++ events_in outcome.event
-  pub uses : Uses s k new.site (room_of new) between outcome.answer turned after left
+  pub log : new.log.items ≡ old.log.items ++ logged_events is_logged outcome.event
+  pub uses : Uses s k new.site (room_of new) between outcome.answer ends after left
   pub stage : stage_in after ≡ Some new.hand.stage
   pub guards : new.hand.guards ≡ places_with (places_without old.hand.guards (guard_asked asked)) (guard_in after)
 
--- Why nothing is asked: memory ran out before a plan is taken; or the hand can make no request, or the log has no room
--- for an event. No test has met the last two.
+-- One request is made, and its event is logged.
+abbrev pub Turns : {S D W : Type 0} → Site.Ghosts S → Device.Ghosts D → Work.Ghosts W → (old : Worker S D) → (before : W)
+    → Turned → (new : Worker S D) → (left : W) → Type 0
+Turns s d k old before turned new left = Makes s d k true old before turned new left
+
+-- One request is made, though the log has no room for its event: an errand was in hand, and waits for no room. The log
+-- stays, and the turn is broken.
+pub record TurnsUnlogged {S D W : Type 0} (s : Site.Ghosts S) (d : Device.Ghosts D) (k : Work.Ghosts W) (old : Worker S D)
+    (before : W) (turned : Turned) (new : Worker S D) (left : W) : Type 0 where
+  pub errand : has_errand old.hand.stage ≡ true
+  pub full : vec_capacity old.log ≤ vec_len old.log
+  pub ends : Turned
+  pub makes : Makes s d k false old before ends new left
+  pub broken : turned ≡ Broken
+
+-- One request is made.
+abbrev pub MakesOne : {S D W : Type 0} → Site.Ghosts S → Device.Ghosts D → Work.Ghosts W → (old : Worker S D) → (before : W)
+    → Turned → (new : Worker S D) → (left : W) → Type 0
+MakesOne s d k old before turned new left =
+    Turns s d k old before turned new left ⊎ TurnsUnlogged s d k old before turned new left
+
+-- Why nothing is asked: memory ran out before a plan is taken; or the hand can make no request; or no errand is in hand, and
+-- the log has no room for an event. So an errand that keeps its place never waits.
 abbrev pub MayWait : {S D : Type 0} → Worker S D → Turned → Type 0
 MayWait old NoMemory = is_chair old.hand.stage ≡ true
-MayWait old Broken = (can_ask old.layout old.hand ≡ false) ⊎ (vec_capacity old.log ≤ vec_len old.log)
+MayWait old Broken =
+    (can_ask old.layout old.hand ≡ false)
+    ⊎ ((has_errand old.hand.stage ≡ false) × (vec_capacity old.log ≤ vec_len old.log))
 MayWait old _ = ⊥
 
 -- Nothing is asked: the site, the device, the tokens, the log and the work are as they were.
@@ -336,18 +369,21 @@ pub record Waits {S D W : Type 0} (old : Worker S D) (before : W) (turned : Turn
 abbrev pub TurnIs : {S D W : Type 0} → Site.Ghosts S → Device.Ghosts D → Work.Ghosts W → (old : Worker S D) → (before : W)
     → Turned → (new : Worker S D) → (left : W) → Type 0
 TurnIs s d k old before turned new left =
-    Turns s d k old before turned new left ⊎ Waits old before turned new left
+    MakesOne s d k old before turned new left ⊎ Waits old before turned new left
 
 -- ---- room
 
 -- The room that a turn leaves. A worker that was idle has it for a page, and in its log for as many events as the dearest plan
--- can add that the site tells of, one at least; unless memory ran out. Any other has what it had.
+-- can add that the site tells of, one at least; unless memory ran out. Any other has what it had, and may have got more where
+-- its log was full.
 pub record MakesRoom {S D : Type 0} (s : Site.Ghosts S) (old : Worker S D) (turned : Turned) (new : Worker S D) : Type 0 where
   pub log : is_chair old.hand.stage ≡ true → turned ≢ NoMemory
       → (most : ℕ) × s.tells old.site most × (vec_len old.log + max most 1 ≤ vec_capacity new.log)
   pub page : is_chair old.hand.stage ≡ true → turned ≢ NoMemory
       → room_of new ≡ (if room_of old == 0 then old.page_bytes else room_of old)
-  pub log_kept : is_chair old.hand.stage ≡ false → vec_capacity new.log ≡ vec_capacity old.log
+  pub log_kept : is_chair old.hand.stage ≡ false → vec_len old.log < vec_capacity old.log
+      → vec_capacity new.log ≡ vec_capacity old.log
+  pub log_grown : vec_capacity old.log ≤ vec_capacity new.log
   pub page_kept : is_chair old.hand.stage ≡ false → room_of new ≡ room_of old
 
 -- ---- a turn by what it changes

@@ -7,7 +7,8 @@ ghost use Rattle.pp_vault.specs.declared.guards.Guard.{Guard};
 ghost use Rattle.pp_vault.specs.declared.guards.Guard.TheVariants as guard_kinds;
 ghost use Rattle.pp_settings.specs.Layout.{Geometry};
 ghost use Rattle.pp_pool.specs.Turns.{Asks, Consults, IsStep, IsWayOut, Prepares, AsksSlot, IsWorkers};
-ghost use Rattle.pp_pool.specs.Turns.{guard_asked, slot_for, places_without, suits, is_suited, can_step, can_ask_at};
+ghost use Rattle.pp_pool.specs.Replies.{slot_for};
+ghost use Rattle.pp_pool.specs.Turns.{guard_asked, places_without, suits, is_suited, can_step, can_ask_at};
 ghost use Rattle.pp_pool.specs.Turns.{has_place as place_is_free};
 
 use crate::request::Request;

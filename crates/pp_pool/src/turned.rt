@@ -11,6 +11,7 @@ pub enum Turned {
     Ended,
     /// Memory ran out before a plan was taken. Nothing has changed.
     NoMemory,
-    /// A token doesn't fit, or the plan asks something else: a slip, which no test has met.
+    /// A token doesn't fit, or the plan asks something else: a slip. Or there was no memory for the event of an errand's
+    /// answer, which was sent all the same.
     Broken,
 }

@@ -2,11 +2,12 @@
 
 ghost use Rattle.std.specs.Prelude.{◌≡◌, ◌<◌, ◌≤◌, ◌+◌, ◌==◌, if◌then◌else◌, ◌++◌, ℕ, max, true, false, [], OnOk, OnErr, IfOk, length};
 ghost use Rattle.std.specs.Prelude.{vec_len, vec_capacity};
-ghost use Rattle.pp_pool.specs.Requests.{events_in};
 ghost use Rattle.pp_vault.specs.Stages.{is_chair, stage_worker};
 ghost use Rattle.pp_settings.specs.Settings.{geometry_of};
-ghost use Rattle.pp_pool.specs.Turns.{TurnIs, TurnOf, MakesRoom, room_of, worker_with, Uses, LooksAt, IsLong};
-ghost use Rattle.pp_pool.specs.Turns.{turned_by as turned_then};
+ghost use Rattle.pp_pool.specs.declared.turned.Turned.TheVariants.{Broken};
+ghost use Rattle.pp_pool.specs.Turns.{TurnIs, TurnOf, MakesOne, MakesRoom, room_of, worker_with, Uses, LooksAt, IsLong};
+ghost use Rattle.pp_pool.specs.Turns.{KeepsPlace, keeps_place, logged_events};
+ghost use Rattle.pp_pool.specs.Turns.{has_errand as errand_is_there, turned_by as turned_then};
 
 use crate::asked::next;
 use crate::outcome::{Answer, Outcome};
@@ -99,14 +100,23 @@ impl<S: Site, D: Device> Worker<S, D> {
     ///
     /// The event of the request, if it is done, comes into the log. Before it takes a plan the worker gets room for one
     /// image, and in its log for as many events as the dearest of all plans can make; where that can't be had, the
-    /// answer is [`Turned::NoMemory`] and nothing was done.
+    /// answer is [`Turned::NoMemory`] and nothing was done. A log that is full all the same, as it was taken out or replaced
+    /// meanwhile, gets room for one event, if there is memory.
     ///
-    /// Where the hand can make no request, as a slot that the plan unfixes has no guard in it, or the log has no room for an
-    /// event, the answer is [`Turned::Broken`], and nothing was asked. No test has met either.
+    /// An errand in hand never waits. Its call is made, and what came back is sent, also where the log gets no room; then the
+    /// log lacks the event, and the answer is [`Turned::Broken`]. For that the place of the errand's slot has to be free
+    /// in the hand. It is so in an idle hand, as a vault gives it, and after each turn from there on; only a hand that was put
+    /// together otherwise can be another.
+    ///
+    /// Where the hand can make no request, as a slot that the plan unfixes has no guard in it, or where no errand is in hand
+    /// and the log gets no room, the answer is [`Turned::Broken`], and nothing was asked.
     ///
     /// Over each turn the hand stays the same worker's.
     pub fn turn<W: Work>(&mut self, work: &mut W) -> Turned
         ensures turn { TurnIs S.Site D.Device W.Work self.old work.old result self.new work.new }
+        ensures errand { errand_is_there self.old.hand.stage ≡ true → KeepsPlace self.old.hand
+            → MakesOne S.Site D.Device W.Work self.old work.old result self.new work.new }
+        ensures keeps { KeepsPlace self.old.hand → KeepsPlace self.new.hand }
         ensures room { MakesRoom S.Site self.old result self.new }
         ensures worker { stage_worker self.new.hand.stage ≡ stage_worker self.old.hand.stage }
         ensures layout { self.new.layout ≡ self.old.layout }
@@ -115,7 +125,7 @@ impl<S: Site, D: Device> Worker<S, D> {
         if self.make_room().is_err() {
             return Turned::NoMemory;
         }
-        if self.log.len() >= self.log.capacity() {
+        if !has_room(&mut self.log) && !has_errand(&self.hand.stage) {
             return Turned::Broken;
         }
         ask(
@@ -154,6 +164,8 @@ impl<S: Site, D: Device> Worker<S, D> {
         ensures device { self.new.device ≡ self.old.device }
         ensures hand { self.new.hand ≡ self.old.hand }
         ensures log { self.new.log.items ≡ self.old.log.items }
+        ensures len { vec_len self.new.log ≡ vec_len self.old.log }
+        ensures grown { vec_capacity self.old.log ≤ vec_capacity self.new.log }
         ensures layout { self.new.layout ≡ self.old.layout }
         ensures page_bytes { self.new.page_bytes ≡ self.old.page_bytes }
         ensures busy { is_chair self.old.hand.stage ≡ false → self.new ≡ self.old }
@@ -175,8 +187,30 @@ impl<S: Site, D: Device> Worker<S, D> {
     }
 }
 
-/// Makes the request, if the stage has one; the log has room for its event. The stage alone goes out of its place for
-/// that, since it is small.
+/// Whether the log has room for an event. A full one gets room first, where there is memory.
+fn has_room(log: &mut Vec<Event>) -> bool
+    ensures items { log.new.items ≡ log.old.items }
+    ensures len { vec_len log.new ≡ vec_len log.old }
+    ensures room { result ≡ true → vec_len log.new < vec_capacity log.new }
+    ensures full { result ≡ false → vec_capacity log.old ≤ vec_len log.old }
+    ensures kept { vec_len log.old < vec_capacity log.old → vec_capacity log.new ≡ vec_capacity log.old }
+    ensures grown { vec_capacity log.old ≤ vec_capacity log.new }
+{
+    if log.len() < log.capacity() {
+        return true;
+    }
+    log.reserve(1).is_ok()
+}
+
+/// Whether an errand is in hand.
+fn has_errand(stage: &Stage) -> bool
+    ensures { result ≡ errand_is_there stage.now }
+{
+    matches!(stage, Stage::Out(_) | Stage::Back(_))
+}
+
+/// Makes the request, if the stage has one; the log has room for its event, or an errand is in hand. The stage alone goes out
+/// of its place for that, since it is small.
 fn ask<S: Site, D: Device, W: Work>(
     stage: &mut Stage,
     guards: &mut Guards,
@@ -187,10 +221,11 @@ fn ask<S: Site, D: Device, W: Work>(
     seen: &mut Vec<u8>,
     work: &mut W,
 ) -> Turned
-    requires { length log.old.items < vec_capacity log.old }
+    requires { errand_is_there stage.old ≡ false → vec_len log.old < vec_capacity log.old }
     ensures turn { TurnOf S.Site D.Device W.Work layout.now (length seen.old.items)
         (λ w. worker_with w stage.old guards.old site.old device.old log.old) work.old result
         (λ w. worker_with w stage.new guards.new site.new device.new log.new) work.new }
+    ensures keeps { keeps_place guards.old stage.old ≡ true → keeps_place guards.new stage.new ≡ true }
     ensures memory { vec_capacity log.new ≡ vec_capacity log.old }
     ensures seen { length seen.new.items ≡ length seen.old.items }
     ensures worker { stage_worker stage.new ≡ stage_worker stage.old }
@@ -229,10 +264,11 @@ fn asked<S: Site, D: Device, W: Work>(
     seen: &mut Vec<u8>,
     work: &mut W,
 ) -> (Stage, Turned)
-    requires { length log.old.items < vec_capacity log.old }
+    requires { errand_is_there stage ≡ false → vec_len log.old < vec_capacity log.old }
     ensures turn { TurnOf S.Site D.Device W.Work layout.now (length seen.old.items)
         (λ w. worker_with w stage guards.old site.old device.old log.old) work.old result.1
         (λ w. worker_with w result.0 guards.new site.new device.new log.new) work.new }
+    ensures keeps { keeps_place guards.old stage ≡ true → keeps_place guards.new result.0 ≡ true }
     ensures memory { vec_capacity log.new ≡ vec_capacity log.old }
     ensures seen { length seen.new.items ≡ length seen.old.items }
     ensures worker { stage_worker result.0 ≡ stage_worker stage }
@@ -240,24 +276,37 @@ fn asked<S: Site, D: Device, W: Work>(
     match next(stage, guards, layout, device, work) {
         Ok(request) => {
             let Outcome { event, answer } = site.perform(request);
-            add(log, event);
+            let is_logged = add(log, event);
             let (answer, turned) = used(answer, site, seen, work);
-            (stage_after(guards, answer), turned)
+            (stage_after(guards, answer), ended(is_logged, turned))
         }
         Err(stage) => (stage, Turned::Broken),
     }
 }
 
-/// Adds the event, if there is one.
-fn add(log: &mut Vec<Event>, event: Option<Event>)
-    requires { length log.old.items < vec_capacity log.old }
-    ensures items { log.new.items ≡ log.old.items ++ events_in event }
+/// Adds the event, if there is one and the log has room for it. Tells whether none is left out.
+fn add(log: &mut Vec<Event>, event: Option<Event>) -> bool
+    ensures items { log.new.items ≡ log.old.items ++ logged_events result event }
+    ensures full { result ≡ false → vec_capacity log.old ≤ vec_len log.old }
     ensures memory { vec_capacity log.new ≡ vec_capacity log.old }
 {
     match event {
-        Some(event) => log.push_reserved(event),
-        None => {}
+        Some(event) => {
+            if log.len() >= log.capacity() {
+                return false;
+            }
+            log.push_reserved(event);
+            true
+        }
+        None => true,
     }
+}
+
+/// How a turn ends: as its answer says, but broken where its event is left out.
+fn ended(is_logged: bool, turned: Turned) -> Turned
+    ensures { result ≡ (if is_logged then turned else Broken) }
+{
+    if is_logged { turned } else { Turned::Broken }
 }
 
 /// What the work does with an answer's page, and how the turn ends.

@@ -1,4 +1,4 @@
-//! A worker that is refused room for its log.
+//! A worker that is refused room for its log, and one whose log is taken out.
 
 use crate::common::{FirstPages, SETTINGS, WRITE, accepted, part, same_events};
 use pp_cert::Accepted;
@@ -7,6 +7,7 @@ use pp_pool::{Book, Event, Outcome, OwnSite, Request, Site, Turned, Worker};
 use pp_settings::Settings;
 use pp_vault::{Hand, Hands, ReadGuard, Stage};
 use std::alloc::Global;
+use std::mem;
 use std::process::Abort;
 use std::test::*;
 
@@ -132,5 +133,102 @@ fn a_worker_without_room_stops_with_its_chair(rt: HostRuntime) -> Result<(), Fai
     assert!(rt; noted.last == Turned::Ended, "a plan is left");
     assert!(rt; noted.log.len() == 7, "another number of events");
     same_events(&rt, part(&noted.journal, 1, 8), &noted.log);
+    Ok(())
+}
+
+/// What came of a plan where the log was taken out while an errand was in hand.
+#[derive(Drop)]
+struct WithoutLog {
+    /// How the turn ended that found the log empty, and how many events it added.
+    sent: (Turned, usize),
+    /// Whether the worker acted in its plan then, and had an errand in hand before.
+    is_answered: bool,
+    /// How the last turn ended.
+    last: Turned,
+    /// What was logged before and after.
+    logs: (Vec<Event>, Vec<Event>),
+    journal: Vec<Event>,
+}
+
+/// The worker takes its plan and asks a fix; then its log is taken out, and it makes six turns.
+fn log_taken(
+    rt: &impl Abort,
+    alloc: Global,
+    settings: &Settings,
+    device: SoloDevice,
+    book: Book,
+    hands: Hands,
+) -> WithoutLog {
+    let mut hands = hands;
+    let Some(hand) = hands.part(0) else {
+        panic!(rt; "no hand")
+    };
+    let mut work = FirstPages {
+        changed: 0,
+        seen: 0,
+        last: (0, 0),
+        is_blank: false,
+    };
+    let mut worker = Worker::new(alloc, OwnSite { book }, device, hand, settings);
+    for _turn in 0..2 {
+        let turned = worker.turn(&mut work);
+        assert!(rt; turned == Turned::Done, "{turned:?} before the errand");
+    }
+    let is_out = matches!(&worker.hand.stage, Stage::Out(_));
+    let before = mem::replace(&mut worker.log, Vec::new(alloc));
+    let turned = worker.turn(&mut work);
+    let sent = (turned, worker.log.len());
+    let is_answered = is_out && matches!(&worker.hand.stage, Stage::In(_));
+    let mut last = Turned::Broken;
+    for _turn in 0..5 {
+        last = worker.turn(&mut work);
+    }
+    let (OwnSite { book }, _device, hand, after) = worker.end();
+    match hands.join(hand) {
+        Ok(()) => {}
+        Err(_) => panic!(rt; "the hand has no place"),
+    }
+    WithoutLog {
+        sent,
+        is_answered,
+        last,
+        logs: (before, after),
+        journal: book.close(hands),
+    }
+}
+
+/// The same with a new book in which the plan waits.
+fn run_on(
+    rt: &impl Abort,
+    alloc: Global,
+    settings: &Settings,
+    plan: Accepted,
+) -> Result<WithoutLog, Fail> {
+    let device = SoloDevice::new(alloc, 24, 64)?;
+    let (mut book, hands) = Book::new(alloc, settings)?;
+    let is_taken_in = book.submit(plan).is_ok();
+    assert!(rt; is_taken_in, "not taken in");
+    Ok(log_taken(rt, alloc, settings, device, book, hands))
+}
+
+/// An errand in hand is sent though the log has no room. Its event is in the log where there is memory for it; where there
+/// is none, which an allocation that is refused shows, the turn is broken, and the event is in the journal alone.
+#[test]
+fn an_errand_is_sent_though_the_log_was_taken_out(rt: HostRuntime) -> Result<(), Fail> {
+    let alloc = rt.alloc();
+    let settings = Settings::from_text(alloc, SETTINGS)?;
+    let plan = accepted(&rt, alloc, &settings, WRITE)?;
+    let came = run_on(&rt, alloc, &settings, plan)?;
+    assert!(rt; came.is_answered, "the errand was not sent");
+    assert!(rt;
+        came.sent == (Turned::Done, 1) || came.sent == (Turned::Broken, 0),
+        "the turn ended as {:?}",
+        came.sent
+    );
+    assert!(rt; came.last == Turned::Ended, "a plan is left");
+    let (before, after) = &came.logs;
+    same_events(&rt, part(&came.journal, 1, 3), before);
+    let from = if came.sent.1 == 0 { 4 } else { 3 };
+    same_events(&rt, part(&came.journal, from, 8), after);
     Ok(())
 }

@@ -274,7 +274,8 @@ module _ {S D W : Type 0} (s : Site.Ghosts S) (d : Device.Ghosts D) (k : Work.Gh
 
   pub done_kept : TurnIs s d k old before Done new left → IsAtWork old.hand.stage
       → Kept d.calls d.failures old new
-  done_kept (inl t) work = turns_kept t work
+  done_kept (inl (inl t)) work = turns_kept t work
+  done_kept (inl (inr t)) work = let broken = t.broken in absurd cc
   done_kept (inr w) work = absurd w.may
 
   same_counts : new.device ≡ old.device → new.log.items ≡ old.log.items
@@ -286,7 +287,8 @@ module _ {S D W : Type 0} (s : Site.Ghosts S) (d : Device.Ghosts D) (k : Work.Gh
 
   pub no_memory_counts : TurnIs s d k old before NoMemory new left
       → CountsBy d.calls d.failures old.device old.log.items new.device new.log.items
-  no_memory_counts (inl t) = absurd (never_no_memory s k new.site _ t.between left t.outcome.answer t.after t.uses)
+  no_memory_counts (inl (inr t)) = let broken = t.broken in absurd cc
+  no_memory_counts (inl (inl t)) = absurd (never_no_memory s k new.site _ t.between left t.outcome.answer t.after t.uses)
   no_memory_counts (inr w) = same_counts w.device w.log
 
   back_stage : (site : S) (room : ℕ) (work : W) (turned : Turned) (asked : Request) (out after : Answer) (t : Stage)
@@ -319,7 +321,8 @@ module _ {S D W : Type 0} (s : Site.Ghosts S) (d : Device.Ghosts D) (k : Work.Gh
 
   pub ended_counts : TurnIs s d k old before Ended new left → is_chair new.hand.stage ≡ true
       → CountsBy d.calls d.failures old.device old.log.items new.device new.log.items
-  ended_counts (inl t) chair = turns_ended t chair
+  ended_counts (inl (inl t)) chair = turns_ended t chair
+  ended_counts (inl (inr t)) chair = let broken = t.broken in absurd cc
   ended_counts (inr w) chair = absurd w.may
 
 pub chair_at_work : (s : Stage) → is_chair s ≡ true → IsAtWork s
