@@ -88,7 +88,7 @@ module _ (g : Geometry) (c : Claims) where
         body.0 in (
           fair_both (note_tests (k + 1) (same k) ++ sequence_tests (k + 1) b) (loop_keeps end k ∷ []) inner
               (inr tt, tt),
-          e,
+          body.1,
         )
     statement_fair k (choice none) n e h = (tt, e)
     statement_fair k (choice (either b bs)) n e h =

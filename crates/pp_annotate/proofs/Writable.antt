@@ -121,7 +121,8 @@ module _ (slots regions : ℕ) where
           let p = both_pass g c (note_tests (k + 1) (same k) ++ sequence_tests (k + 1) b) (loop_keeps end k ∷ []) h in
           let q = both_pass g c (note_tests (k + 1) (same k)) (sequence_tests (k + 1) b) p.0 in
           let at : note_at c (k + 1) ≡ n = (note_passes g c (k + 1) (same k) q.0).1 ∙ e in
-          (All-cons (Rises 0) n (sequence_notes b n) r (sequence_rises (k + 1) b n at q.1 is.3 r).0, r)
+          let body = sequence_rises (k + 1) b n at q.1 is.3 r in
+          (All-cons (Rises 0) n (sequence_notes b n) r body.0, body.1)
       statement_rises k (choice none) n e h is r = (All-nil (Rises 0), r)
       statement_rises k (choice (either b bs)) n e h is r =
           let end : ℕ = sequence_end (k + 1) b in

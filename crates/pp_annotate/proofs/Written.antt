@@ -27,7 +27,8 @@ module _ (g : Geometry) (c : Claims) where
         let q = both_pass g c (note_tests (k + 1) (same k)) (sequence_tests (k + 1) b) p.0 in
         let note = note_passes g c (k + 1) (same k) q.0 in
         let is : note_at c (k + 1) ≡ n = note.1 ∙ e in
-        ((note.0 ∙ ap Some is, subst (λ x. length x ≤ c.peak) is note.2, (sequence_written (k + 1) b n is q.1).0), e)
+        let body = sequence_written (k + 1) b n is q.1 in
+        ((note.0 ∙ ap Some is, subst (λ x. length x ≤ c.peak) is note.2, body.0), body.1)
     statement_written k (choice none) n e h = (tt, e)
     statement_written k (choice (either b bs)) n e h =
         let end : ℕ = sequence_end (k + 1) b in

@@ -11,10 +11,10 @@ use Rattle.pp_cert.specs.Longest.{sequence_longest}
 -- ---- what is noted after a part of a plan, where `n` is noted before it
 
 abbrev mutual
-  -- After a loop the same as before it; after a choice what is noted at the end of its first branch.
+  -- After a loop what is noted at the end of its body; after a choice what is noted at the end of its first branch.
   pub after_statement : Statement → Entries → Entries
   after_statement (step s) n = noted_after s n
-  after_statement (loop c b) n = n
+  after_statement (loop c b) n = after_sequence b n
   after_statement (choice bs) n = after_first bs n
 
   pub after_sequence : Sequence → Entries → Entries

@@ -89,10 +89,7 @@ impl Draft {
             Stmt::Unfix { slot } => removed(alloc, before, *slot),
             Stmt::Latch { slot, mode } => held_as(alloc, before, Held::from(*mode), *slot),
             Stmt::Unlatch { slot } => held_as(alloc, before, Held::Free, *slot),
-            Stmt::Loop { body, .. } => {
-                self.inside(alloc, before, body)?;
-                Vec::from_slice(alloc, before)
-            }
+            Stmt::Loop { body, .. } => self.inside(alloc, before, body),
             Stmt::Choice { branches } => self.choice(alloc, before, branches),
         }
     }

@@ -191,13 +191,14 @@ module _ (g : Geometry) (l : IsLayout g) (c : Claims) where
         let q = both_pass g c (note_tests (k + 1) (same k)) (sequence_tests (k + 1) b) p.0 in
         let note = note_passes g c (k + 1) (same k) q.0 in
         let keeps = note_same (note_at c end) (note_at c k) (first_passes g c (loop_keeps end k) [] p.1).0 in
-        let last = note_passes g c (end + 1) (same k) n in
+        let last = note_passes g c (end + 1) (same end) n in
         let body : (ms : Holdings) → Fits g (note_at c k) ms → (u : List Action) → IsTrace g b u
         → GoesTo (note_at c k) ms u = λ ms m u d.
         subst (λ x. GoesTo x ms u) keeps
         (sequence_goes (k + 1) b note.2 q.1 ms (fits_same (note_at c k) (note_at c (k + 1)) ms (sym note.1) m) u
         d) in
-        subst (λ x. GoesTo x hs t) (sym last.1) (repeats_go (note_at c k) (IsTrace g b) small body turns hs f t r)
+        subst (λ x. GoesTo x hs t) (sym (last.1 ∙ keeps))
+        (repeats_go (note_at c k) (IsTrace g b) small body turns hs f t r)
     statement_goes k (choice none) small h n hs f t r = absurd r.3
     statement_goes k (choice (either b bs)) small h n hs f t r =
         let end : ℕ = sequence_end (k + 1) b in

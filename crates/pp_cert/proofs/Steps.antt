@@ -55,21 +55,21 @@ module _ (g : Geometry) (c : Certificate) where
 
   pub turns_err : (k n : ℕ) (b : Sequence) (fault : CheckError)
       → Err fault ≡ walked g c (note_tests (k + 1) (same k) ++ sequence_tests (k + 1) b) (sequence_end (k + 1) b)
-      → Err fault ≡ walked g c (statement_tests k (loop n b) ++ note_tests (sequence_end (k + 1) b + 1) (same k))
+      → Err fault ≡ walked g c (statement_tests k (loop n b) ++ note_tests (sequence_end (k + 1) b + 1) (same (sequence_end (k + 1) b)))
       (sequence_end (k + 1) b + 1)
   turns_err k n b fault h =
       let inner : List Test = note_tests (k + 1) (same k) ++ sequence_tests (k + 1) b in
       let end : ℕ = sequence_end (k + 1) b in
       let first : walked g c (inner ++ loop_keeps end k ∷ []) end ≡ Err fault =
       ends_at g (claims_of c) inner (loop_keeps end k ∷ []) end end fault h in
-      sym (ends_at g (claims_of c) (inner ++ loop_keeps end k ∷ []) (note_tests (end + 1) (same k)) end (end + 1) fault
+      sym (ends_at g (claims_of c) (inner ++ loop_keeps end k ∷ []) (note_tests (end + 1) (same end)) end (end + 1) fault
       (sym first))
 
   pub turns_changed : (k n : ℕ) (b : Sequence) (v : ℕ)
       → Ok v ≡ walked g c (note_tests (k + 1) (same k) ++ sequence_tests (k + 1) b) (sequence_end (k + 1) b)
       → same_note (note_at (claims_of c) v) (note_at (claims_of c) k) ≡ false
       → Err (LoopChanges v) ≡ walked g c
-      (statement_tests k (loop n b) ++ note_tests (sequence_end (k + 1) b + 1) (same k)) (sequence_end (k + 1) b + 1)
+      (statement_tests k (loop n b) ++ note_tests (sequence_end (k + 1) b + 1) (same (sequence_end (k + 1) b))) (sequence_end (k + 1) b + 1)
   turns_changed k n b v h d =
       let inner : List Test = note_tests (k + 1) (same k) ++ sequence_tests (k + 1) b in
       let end : ℕ = sequence_end (k + 1) b in
@@ -80,14 +80,14 @@ module _ (g : Geometry) (c : Certificate) where
       goes_on g (claims_of c) inner (loop_keeps end k ∷ []) end v end h
       ∙ ap (λ f. unless_fault f end) (failed g (claims_of c) (loop_keeps end k) [] differs) in
       ap (λ n. Err (LoopChanges n)) at
-      ∙ sym (ends_at g (claims_of c) (inner ++ loop_keeps end k ∷ []) (note_tests (end + 1) (same k)) end (end + 1)
+      ∙ sym (ends_at g (claims_of c) (inner ++ loop_keeps end k ∷ []) (note_tests (end + 1) (same end)) end (end + 1)
       (LoopChanges end) (sym first))
 
   pub turns_ok : (k n : ℕ) (b : Sequence) (v : ℕ)
       → Ok v ≡ walked g c (note_tests (k + 1) (same k) ++ sequence_tests (k + 1) b) (sequence_end (k + 1) b)
       → same_note (note_at (claims_of c) v) (note_at (claims_of c) k) ≡ true
-      → walked g c (note_tests (v + 1) (same k)) (v + 1)
-      ≡ walked g c (statement_tests k (loop n b) ++ note_tests (sequence_end (k + 1) b + 1) (same k))
+      → walked g c (note_tests (v + 1) (same v)) (v + 1)
+      ≡ walked g c (statement_tests k (loop n b) ++ note_tests (sequence_end (k + 1) b + 1) (same (sequence_end (k + 1) b)))
       (sequence_end (k + 1) b + 1)
   turns_ok k n b v h d =
       let inner : List Test = note_tests (k + 1) (same k) ++ sequence_tests (k + 1) b in
@@ -98,8 +98,8 @@ module _ (g : Geometry) (c : Certificate) where
       let first : walked g c (inner ++ loop_keeps end k ∷ []) end ≡ Ok end =
       goes_on g (claims_of c) inner (loop_keeps end k ∷ []) end v end h
       ∙ ap (λ f. unless_fault f end) (passed g (claims_of c) (loop_keeps end k) [] keeps) in
-      ap (λ n. walked g c (note_tests (n + 1) (same k)) (n + 1)) at
-      ∙ sym (goes_on g (claims_of c) (inner ++ loop_keeps end k ∷ []) (note_tests (end + 1) (same k)) end end
+      ap (λ n. walked g c (note_tests (n + 1) (same n)) (n + 1)) at
+      ∙ sym (goes_on g (claims_of c) (inner ++ loop_keeps end k ∷ []) (note_tests (end + 1) (same end)) end end
       (end + 1) (sym first))
 
   pub later_err : (before first k : ℕ) (b : Sequence) (bs : Alternatives) (fault : CheckError)

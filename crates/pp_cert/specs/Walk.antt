@@ -61,11 +61,11 @@ expected_note c empty = []
 expected_note c (same k) = note_at c k
 expected_note c (after s k) = noted_after s (note_at c k)
 
--- What is held after the statement at place k. A loop leaves what was held before it; a choice what is held at the
--- end of its first branch.
+-- What is held after the statement at place k. A loop leaves what is held at the end of its body, and a choice what is
+-- held at the end of its first branch.
 abbrev pub outcome : ℕ → Statement → Expectation
 outcome k (step s) = after s k
-outcome k (loop n b) = same k
+outcome k (loop n b) = same (sequence_end (k + 1) b)
 outcome k (choice none) = same k
 outcome k (choice (either b bs)) = same (sequence_end (k + 1) b)
 

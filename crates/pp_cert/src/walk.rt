@@ -210,13 +210,14 @@ impl Walk<'_> {
         ensures { result
             ≡ walked self.now.layout.now self.now.certificate.now
             (statement_tests at (loop 1 body.now)
-            ++ note_tests (sequence_end (at + 1) body.now + 1) (same at)) (sequence_end (at + 1) body.now + 1) }
+            ++ note_tests (sequence_end (at + 1) body.now + 1) (same (sequence_end (at + 1) body.now)))
+            (sequence_end (at + 1) body.now + 1) }
     {
         let end = self.inside(at, at + 1, body)?;
         if !is_same(self.entries(end), self.entries(at)) {
             return Err(CheckError::LoopChanges { place: end });
         }
-        self.keep(end + 1, at)
+        self.keep(end + 1, end)
     }
 
     /// Walks over a choice and the note after it.
