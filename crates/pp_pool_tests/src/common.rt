@@ -111,8 +111,18 @@ pub fn accepted(
 pub fn do_plan(rt: &impl Abort, alloc: Global, text: &str) -> Result<Run, Fail> {
     let settings = Settings::from_text(alloc, SETTINGS)?;
     let accepted = accepted(rt, alloc, &settings, text)?;
+    do_accepted(rt, alloc, &settings, accepted)
+}
+
+/// The same with a plan that was accepted under these settings.
+pub fn do_accepted(
+    rt: &impl Abort,
+    alloc: Global,
+    settings: &Settings,
+    accepted: Accepted,
+) -> Result<Run, Fail> {
     let device = SoloDevice::new(alloc, 24, 64)?;
-    let (mut book, mut hands) = Book::new(alloc, &settings)?;
+    let (mut book, mut hands) = Book::new(alloc, settings)?;
     let is_taken_in = book.submit(accepted).is_ok();
     assert!(rt; is_taken_in, "not taken in");
     let Some(hand) = hands.part(0) else {
@@ -124,7 +134,7 @@ pub fn do_plan(rt: &impl Abort, alloc: Global, text: &str) -> Result<Run, Fail> 
         last: (0, 0),
         is_blank: false,
     };
-    let mut worker = Worker::new(alloc, OwnSite { book }, device, hand, &settings);
+    let mut worker = Worker::new(alloc, OwnSite { book }, device, hand, settings);
     let mut turns = [Turned::Broken; 8];
     for turn in turns.iter_mut() {
         *turn = worker.turn(&mut work);

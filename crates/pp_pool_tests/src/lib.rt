@@ -12,6 +12,10 @@ mod pairs;
 #[cfg(test)]
 mod reaches;
 #[cfg(test)]
+mod refusing;
+#[cfg(test)]
 mod rooms;
+#[cfg(test)]
+mod strict;
 #[cfg(test)]
 mod turns;

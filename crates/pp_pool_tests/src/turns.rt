@@ -1,8 +1,14 @@
 //! A turn does its work.
 
-use crate::common::{READ, WRITE, do_plan, part, same_events, same_turns};
-use pp_pool::{Event, Turned};
+use crate::common::{
+    READ, SETTINGS, WRITE, accepted, do_accepted, do_plan, part, same_events, same_turns,
+};
+use pp_cert::Accepted;
+use pp_pool::{Book, Event, Turned};
+use pp_settings::Settings;
 use pp_vault::{Came, Ending, Move, Reply};
+use std::alloc::Global;
+use std::process::Abort;
 use std::test::*;
 
 /// What the worker does that writes a leaf.
@@ -93,6 +99,54 @@ fn a_writers_events_are_noted(rt: HostRuntime) -> Result<(), Fail> {
     same_events(&rt, part(&run.journal, 0, 1), &[Event::Submit { plan: 0 }]);
     same_events(&rt, part(&run.journal, 1, 8), WRITTEN);
     same_events(&rt, part(&run.journal, 8, 10), FLUSHED);
+    Ok(())
+}
+
+/// One frame, and else the sample settings.
+const NARROW: &str = "
+frames = 1
+page_bytes = 64
+workers = 2
+flushes = 4
+
+[[region]]
+name = \"root\"
+first = 0
+count = 4
+class = 1
+
+[[region]]
+name = \"leaf\"
+first = 16
+count = 8
+class = 2
+";
+
+/// The plan comes back from a book of other settings, and nothing is noted there.
+fn refused(rt: &impl Abort, alloc: Global, plan: Accepted) -> Result<Accepted, Fail> {
+    let settings = Settings::from_text(alloc, NARROW)?;
+    let (mut book, hands) = Book::new(alloc, &settings)?;
+    let answer = book.submit(plan);
+    let journal = book.close(hands);
+    assert!(rt; journal.is_empty(), "something is noted");
+    match answer {
+        Ok(_) => panic!(rt; "taken in"),
+        Err((back, error)) => {
+            assert!(rt; error.number() == 53, "refused as {error:?}");
+            Ok(back)
+        }
+    }
+}
+
+/// A plan that one book refuses comes back whole: another book takes it in, and a worker does it.
+#[test]
+fn a_refused_plan_is_done_later(rt: HostRuntime) -> Result<(), Fail> {
+    let settings = Settings::from_text(rt.alloc(), SETTINGS)?;
+    let plan = accepted(&rt, rt.alloc(), &settings, WRITE)?;
+    let back = refused(&rt, rt.alloc(), plan)?;
+    let run = do_accepted(&rt, rt.alloc(), &settings, back)?;
+    same_events(&rt, &run.log, WRITTEN);
+    same_events(&rt, part(&run.journal, 0, 1), &[Event::Submit { plan: 0 }]);
     Ok(())
 }
 

@@ -1,0 +1,101 @@
+//! A run of moves of the core, and its journal.
+
+use pp_annotate::annotate;
+use pp_cert::{Accepted, check};
+use pp_core::Core;
+use pp_model::Came::Image;
+use pp_model::Move::{Finish, Fix, ReadDone, Take, Unfix};
+use pp_model::{Event, Move, Reply};
+use pp_plan::Plan;
+use pp_report::journal_text;
+use pp_settings::Settings;
+use std::alloc::{AllocError, Global};
+use std::process::Abort;
+use std::test::Fail;
+
+const SETTINGS: &str = "
+frames = 3
+page_bytes = 64
+workers = 2
+flushes = 4
+
+[[region]]
+name = \"root\"
+first = 0
+count = 4
+class = 1
+
+[[region]]
+name = \"leaf\"
+first = 16
+count = 8
+class = 2
+";
+
+/// Fixes a root and gives it back.
+const PLAN: &str =
+    "{\"body\":[{\"fix\":\"a\",\"region\":\"root\"},{\"unfix\":\"a\"}],\"version\":1}";
+
+/// The plan from its begin to its end.
+static MOVES: [Move; 5] = [
+    Take { worker: 0 },
+    Fix { worker: 0, page: 1 },
+    ReadDone {
+        worker: 0,
+        came: Image(1, 0),
+    },
+    Unfix { worker: 0 },
+    Finish { worker: 0 },
+];
+
+const JOURNAL: &str = "submit 0 = queued
+take 0 = taken 0
+fix 0 1 = mustread 0
+came 0 1 0 = loaded 0
+unfix 0 = did
+finish 0 = done
+";
+
+/// The plan, with its certificate accepted.
+fn accepted(rt: &impl Abort, alloc: Global, settings: &Settings) -> Result<Accepted, Fail> {
+    let plan = Plan::from_text(alloc, settings, PLAN)?;
+    let certificate = annotate(alloc, settings, &plan)?;
+    match check(settings, plan, &certificate) {
+        Ok(accepted) => Ok(accepted),
+        Err(_) => panic!(rt; "not accepted"),
+    }
+}
+
+/// The number that the core gives the plan, and its replies to the moves.
+fn run(rt: &impl Abort, alloc: Global) -> Result<(u32, Vec<Reply>), Fail> {
+    let settings = Settings::from_text(alloc, SETTINGS)?;
+    let mut core = Core::new(alloc, &settings)?;
+    let Ok(id) = core.submit(accepted(rt, alloc, &settings)?) else {
+        panic!(rt; "not taken in")
+    };
+    let mut replies = Vec::new(alloc);
+    core.run(&MOVES, &mut replies)?;
+    Ok((id.number(), replies))
+}
+
+/// The submit of the plan, and each move with its reply.
+fn events_of(alloc: Global, plan: u32, replies: &[Reply]) -> Result<Vec<Event>, AllocError> {
+    let mut events = Vec::new(alloc);
+    events.push(Event::Submit { plan })?;
+    for (did, reply) in MOVES.iter().zip(replies.iter()) {
+        events.push(Event::Step {
+            did: *did,
+            reply: *reply,
+        })?;
+    }
+    Ok(events)
+}
+
+#[test]
+fn a_run_of_moves_has_its_journal(rt: HostRuntime) -> Result<(), Fail> {
+    let (plan, replies) = run(&rt, rt.alloc())?;
+    let events = events_of(rt.alloc(), plan, &replies)?;
+    let text = journal_text(rt.alloc(), &events)?;
+    assert!(rt; text.as_str() == JOURNAL, "got {text}");
+    Ok(())
+}
