@@ -12,14 +12,22 @@ mod counted;
 #[cfg(test)]
 mod devices;
 #[cfg(test)]
+mod hands;
+#[cfg(test)]
 mod memory;
 #[cfg(test)]
 mod overlap;
+#[cfg(test)]
+mod patient;
 #[cfg(test)]
 mod rows;
 #[cfg(test)]
 mod scarce;
 #[cfg(test)]
+mod sizes;
+#[cfg(test)]
 mod stress;
 #[cfg(test)]
 mod waiting;
+#[cfg(test)]
+mod waking;

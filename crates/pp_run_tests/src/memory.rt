@@ -5,6 +5,7 @@ ghost use Rattle.std.specs.Prelude.{◌≡◌, ◌^◌, ◌<◌, vec_len};
 use crate::common::{
     Counting, READ, Seen, TOUCH, WRITE, all_accepted, run_over, settings_of, watch, works_of,
 };
+use crate::patient::Patient;
 use crate::rows::{count, is_done, is_loading};
 use crate::scarce::Scarce;
 use pp_cert::Accepted;
@@ -170,5 +171,25 @@ fn memory_is_there(rt: HostRuntime) -> Result<(), Fail> {
         }
         Err(error) => panic!(rt; "refused: {error}"),
     }
+    Ok(())
+}
+
+/// A worker that stops without an event wakes who waits for a move.
+#[test]
+fn a_worker_that_stops_wakes_the_other(rt: HostRuntime) -> Result<(), Fail> {
+    let alloc = rt.alloc();
+    let seen = Seen::new();
+    let settings = settings_of(alloc, 2, 0)?;
+    let mut devices = SharedDevice::over_memory(rt, alloc, 24, 64, 3)?;
+    let works = works_of(alloc, 2, &seen)?;
+    let Some(last) = devices.pop() else {
+        panic!(rt; "no end")
+    };
+    let (book, hands) = Book::new(alloc, &settings)?;
+    let lock = Mutex::new(Locked::new(Patient::new(book, hands, &settings)));
+    let ends = threads_over(&rt, &lock, devices, last, works);
+    let events = lock.into_inner().into_desk().close();
+    assert!(rt; ends.is_ok(), "the threads are refused");
+    assert!(rt; events.is_empty(), "a move was done");
     Ok(())
 }

@@ -9,7 +9,7 @@ use std::sync::atomic::{AtomicBool, Ordering};
 use std::test::*;
 
 /// For how many turns a reading waits for the other one.
-const PATIENCE: u64 = 1_000_000_000;
+const PATIENCE: u64 = 50_000_000;
 
 /// Whether a reading of page 1, and one of page 2, has begun.
 #[derive(Drop)]
