@@ -29,11 +29,6 @@ impl<W: Write> Bar<W> {
         }
     }
 
-    /// A bar that nobody sees.
-    pub fn hidden() -> Bar<W> {
-        Bar::on(None)
-    }
-
     /// The terminal, if there is one.
     pub fn terminal(&mut self) -> Option<&mut W> {
         self.terminal.as_mut()

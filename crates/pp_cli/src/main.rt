@@ -11,19 +11,20 @@ mod telling;
 #[cfg(test)]
 mod tests;
 
-use bar::Bar;
+use program::serve;
 use std::io::IsTerminal;
 use std::process::ExitCode;
 use std::{env, io};
 
-/// Runs the program on the words of the command line.
+/// Runs the program on the words of the command line. Where standard error is a terminal, that shows how far a long job is.
 fn main(rt: HostRuntime) -> ExitCode {
     let mut out = rt.stdout();
     let mut err = rt.stderr();
     let terminal = rt.stderr();
-    let mut bar = Bar::on(terminal.is_terminal().then_some(terminal));
+    let terminal = terminal.is_terminal().then_some(terminal);
     let words = words(&rt);
-    ExitCode::from(program::run(&rt, &words, &mut out, &mut err, &mut bar))
+    let words = words.as_deref();
+    ExitCode::from(serve(&rt, words, &mut out, &mut err, terminal))
 }
 
 /// The words of the command line, the program's name first.

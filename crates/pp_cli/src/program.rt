@@ -1,6 +1,6 @@
 //! The whole program, over two writers.
 
-ghost use Rattle.std.specs.Prelude.{◌≡◌, ◌≢◌, ◌≤◌, ◌⊎◌, IfErr, IfOk, IsSome, None, false, map, string_bytes};
+ghost use Rattle.std.specs.Prelude.{◌≡◌, ◌≢◌, ◌≤◌, ◌⊎◌, IfErr, IfOk, IsSome, None, false, map};
 ghost use Rattle.std.specs.IoError.{error_kind};
 ghost use Rattle.pp_judge.specs.Answers.{seen};
 ghost use Rattle.pp_words.specs.CommandLine.{asked};
@@ -22,63 +22,50 @@ use std::sync::Wait;
 use std::thread::Threads;
 use std::time::Clock;
 
-/// Runs the program on its words, the program's name first, where they can be read, and answers the status. The bar
-/// shows how far a long job is.
-pub fn run<
+/// Does what the words ask for, the program's name first, and answers the status. Where there is a terminal, it shows how
+/// far a long job is.
+///
+/// 0: done. 1: refused; standard output has the one line `refused N NAME` with what it is about. 2: the words are
+/// no command, or can't be read; the fault is on standard error. 3: a file can't be read or written, or standard output
+/// can't be written; standard error names it. Or a run left a plan or a flush undone; standard output has its report
+/// then. 4: out of memory.
+pub fn serve<
     R: Files<File = File> + AllocGlobal + Threads + Wait + Clock + Sync + Copy + Send + Drop,
+    S: AsStr,
     O: Write,
     E: Write,
-    P: Write + Send,
->(rt: &R, words: &io::Result<Vec<String>>, out: &mut O, err: &mut E, bar: &mut Bar<P>) -> u8
+    P: Write + Send + Drop,
+>(rt: &R, words: Result<&[S], &io::Error>, out: &mut O, err: &mut E, terminal: Option<P>) -> u8
+    // There are no other statuses.
     ensures status { result ≤ 4 }
-    // What `serve` does of the words.
-    ensures words { IfOk words.now (λ words.
-        IsRun O.contents (map string_bytes words.items) result out.old out.new err.old err.new) }
+    // Words that ask for a job are no bad command line.
+    ensures words { IfOk words.entry (λ words. IsSome (asked (map S.text words.now)) → result ≢ 2) }
+    // Words that ask for no job are no refusal of files.
+    ensures nothing { IfOk words.entry (λ words. asked (map S.text words.now) ≡ None → result ≢ 1) }
+    // Words that ask for no job and no help are a bad command line, unless memory ran out.
+    ensures mistake { IfOk words.entry (λ words. asked (map S.text words.now) ≡ None
+        → asks_for_help (map S.text words.now) ≡ false → (result ≡ 2) ⊎ (result ≡ 4)) }
+    // What the words ask for is done on some bytes as the contents of the files, and told: the status is that of what
+    // is told in the end, an output has exactly its text more on standard output and nothing more on standard error,
+    // and a complaint leaves standard output as it was.
+    ensures run { IfOk words.entry (λ words.
+        IsRun O.contents (map S.text words.now) result out.old out.new err.old err.new) }
     // Words that can't be read are a complaint: a bad command line, or want of memory where reading them failed by
     // that.
-    ensures unread { IfErr words.now (λ _. out.new ≡ out.old) }
-    ensures wordless { IfErr words.now (λ error. error_kind error ≢ ErrorKind.OutOfMemory → result ≡ 2) }
-    ensures memory { IfErr words.now (λ error. error_kind error ≡ ErrorKind.OutOfMemory → result ≡ 4) }
+    ensures unread { IfErr words.entry (λ _. out.new ≡ out.old) }
+    ensures wordless { IfErr words.entry (λ error. error_kind error.now ≢ ErrorKind.OutOfMemory → result ≡ 2) }
+    ensures memory { IfErr words.entry (λ error. error_kind error.now ≡ ErrorKind.OutOfMemory → result ≡ 4) }
 {
     match words {
-        Ok(words) => serve_with(rt, words.as_slice(), out, err, bar),
+        Ok(words) => serve_words(rt, words, out, err, &mut Bar::on(terminal)),
         Err(error) => tell(fault(error, Outcome::Wordless), out, err)
             .outcome
             .status(),
     }
 }
 
-/// Does what the words ask for, the program's name first, and answers the status.
-///
-/// 0: done. 1: refused; standard output has the one line `refused N NAME` with what it is about. 2: the words are
-/// no command; the fault is on standard error. 3: a file can't be read or written, or standard output can't be
-/// written; standard error names it. Or a run left a plan or a flush undone; standard output has its report then. 4: out
-/// of memory.
-pub fn serve<
-    R: Files<File = File> + AllocGlobal + Threads + Wait + Clock + Sync + Copy + Send + Drop,
-    S: AsStr,
-    O: Write,
-    E: Write,
->(rt: &R, words: &[S], out: &mut O, err: &mut E) -> u8
-    // There are no other statuses.
-    ensures status { result ≤ 4 }
-    // Words that ask for a job are no bad command line.
-    ensures words { IsSome (asked (map S.text words.now)) → result ≢ 2 }
-    // Words that ask for no job are no refusal of files.
-    ensures nothing { asked (map S.text words.now) ≡ None → result ≢ 1 }
-    // Words that ask for no job and no help are a bad command line, unless memory ran out.
-    ensures mistake { asked (map S.text words.now) ≡ None → asks_for_help (map S.text words.now) ≡ false
-        → (result ≡ 2) ⊎ (result ≡ 4) }
-    // What the words ask for is done on some bytes as the contents of the files, and told: the status is that of what
-    // is told in the end, an output has exactly its text more on standard output and nothing more on standard error,
-    // and a complaint leaves standard output as it was.
-    ensures run { IsRun O.contents (map S.text words.now) result out.old out.new err.old err.new }
-{
-    serve_with(rt, words, out, err, &mut Bar::<io::Sink>::hidden())
-}
-
-/// As [`serve`], with a bar that shows how far a long job is.
-fn serve_with<
+/// As [`serve`], of words that were read, with a bar that shows how far a long job is.
+fn serve_words<
     R: Files<File = File> + AllocGlobal + Threads + Wait + Clock + Sync + Copy + Send + Drop,
     S: AsStr,
     O: Write,

@@ -1,37 +1,63 @@
 //! What a terminal shows of a long job.
 
 use super::plans::{REPORT, folder_of, words_of};
-use crate::bar::Bar;
-use crate::program::run;
-use pp_format::Watch;
-use pp_judge::DeviceSize;
+use super::runs::{Folder, run, run_unseen};
 use pp_runner::progress_line;
+use std::fs;
+use std::fs::File;
 use std::process::Abort;
+use std::rt::Files;
+use std::sync::Wait;
 use std::test::Fail;
+use std::thread::Threads;
+use std::time::Clock;
 
-/// What the bar has drawn of a device with so many pages of 64 KiB, told after every fourth of them.
-fn drawn(rt: &impl AllocGlobal, pages: u32) -> Result<Vec<u8>, Fail> {
-    let mut terminal = Vec::new(rt.alloc());
-    let mut bar = Bar::on(Some(&mut terminal));
-    bar.begin(DeviceSize {
-        pages,
-        page_bytes: 65_536,
-    });
-    for quarter in 1..=4 {
-        bar.written(pages / 4 * quarter, pages);
-    }
-    bar.end();
-    Ok(terminal)
+/// What a terminal shows of a device with so many pages of 64 KiB that is written anew.
+fn shown<
+    R: Files<File = File>
+        + AllocGlobal
+        + Abort
+        + Threads
+        + Wait
+        + Clock
+        + Sync
+        + Copy
+        + Send
+        + Drop,
+>(rt: &R, folder: &Folder, pages: u32) -> Result<String, Fail> {
+    let settings = format!(in rt.alloc();
+        "frames = 1
+page_bytes = 65536
+workers = 1
+flushes = 0
+
+[[region]]
+name = \"all\"
+first = 0
+count = {pages}
+class = 0
+"
+    )?;
+    fs::write(
+        rt,
+        folder.at(rt, "large.toml")?.as_str(),
+        settings.as_bytes(),
+    )?;
+    let ended = folder.run(rt, "format", &["large.toml", "device"])?;
+    let told = format!(in rt.alloc(); "formatted {pages} pages\n")?;
+    ended.is(rt, 0, told.as_str(), "");
+    Ok(ended.shown)
 }
 
 #[test]
 fn a_large_device_has_a_bar(rt: HostRuntime) -> Result<(), Fail> {
-    let long = drawn(&rt, 1028)?;
+    let folder = folder_of(&rt, "a_large_device_has_a_bar")?;
+    // 64 MiB are written without one.
+    assert!(&rt; shown(&rt, &folder, 1024)?.is_empty());
     let whole =
         "[..................................................]\r[##################################################\n";
-    assert!(&rt; long.as_slice() == whole.as_bytes());
-    // 64 MiB are drawn without one.
-    assert!(&rt; drawn(&rt, 1024)?.is_empty());
+    assert!(&rt; shown(&rt, &folder, 1025)?.as_str() == whole);
+    folder.remove(&rt)?;
     Ok(())
 }
 
@@ -43,13 +69,10 @@ fn a_short_run_shows_nothing(rt: HostRuntime) -> Result<(), Fail> {
         .run(&rt, "format", &["settings.toml", "device"])?
         .is(&rt, 0, "formatted 24 pages\n", "");
     let words = words_of(&rt, &folder, "device", "2", "journal")?;
-    let mut out = Vec::new(rt.alloc());
-    let mut err = Vec::new(rt.alloc());
-    let mut terminal = Vec::new(rt.alloc());
-    let mut bar = Bar::on(Some(&mut terminal));
-    let status = run(&rt, &Ok(words), &mut out, &mut err, &mut bar);
-    assert!(&rt; status == 0 && out.as_slice() == REPORT.as_bytes() && err.is_empty());
-    assert!(&rt; terminal.is_empty());
+    let ended = run(&rt, words.as_slice())?;
+    ended.is(&rt, 0, REPORT, "");
+    assert!(&rt; ended.shown.is_empty());
+    run_unseen(&rt, words.as_slice(), REPORT);
     folder.remove(&rt)?;
     Ok(())
 }

@@ -20,6 +20,8 @@ pub struct Ended {
     pub out: String,
     /// What went to standard error.
     pub err: String,
+    /// What the terminal showed.
+    pub shown: String,
 }
 
 impl Ended {
@@ -58,19 +60,42 @@ impl Ended {
     }
 }
 
-/// Runs the program on these words, its name first.
+/// Runs the program on these words, its name first, before a terminal.
 pub fn run<
     R: Files<File = File> + AllocGlobal + Threads + Wait + Clock + Sync + Copy + Send + Drop,
     S: AsStr,
 >(rt: &R, words: &[S]) -> Result<Ended, Fail> {
     let mut out = Vec::new(rt.alloc());
     let mut err = Vec::new(rt.alloc());
-    let status = serve(rt, words, &mut out, &mut err);
+    let mut terminal = Vec::new(rt.alloc());
+    let status = serve(rt, Ok(words), &mut out, &mut err, Some(&mut terminal));
     Ok(Ended {
         status,
         out: String::from_utf8(out)?,
         err: String::from_utf8(err)?,
+        shown: String::from_utf8(terminal)?,
     })
+}
+
+/// Runs the program on these words, its name first, where there is no terminal. It ends with status 0 and writes exactly
+/// this text to standard output.
+pub fn run_unseen<
+    R: Files<File = File>
+        + AllocGlobal
+        + Abort
+        + Threads
+        + Wait
+        + Clock
+        + Sync
+        + Copy
+        + Send
+        + Drop,
+    S: AsStr,
+>(rt: &R, words: &[S], text: &str) {
+    let mut out = Vec::new(rt.alloc());
+    let mut err = Vec::new(rt.alloc());
+    let status = serve(rt, Ok(words), &mut out, &mut err, None::<io::Sink>);
+    assert!(rt; status == 0 && out.as_slice() == text.as_bytes() && err.is_empty());
 }
 
 /// A folder of a test's own.
