@@ -1,0 +1,68 @@
+//! The calls that write journals and reports, and audit journals.
+
+use crate::samples::{JOURNAL, SET1, TOUCH, all_accepted, events, record};
+use crate::stand::{answer, call};
+use pp_report::{audit, journal_text, report};
+use pp_settings::Settings;
+
+/// Does the case of this call.
+pub fn case<R: AllocGlobal + Print>(rt: &R, call: &str) -> anyhow::Result<()> {
+    match call {
+        "journal_text" => journal(rt),
+        "report" => reports(rt),
+        "audit" => audits(rt),
+        _ => anyhow::bail!("there is no such call"),
+    }
+}
+
+fn journal<R: AllocGlobal + Print>(rt: &R) -> anyhow::Result<()> {
+    let events = events(rt.alloc())?;
+    for _time in 0..2 {
+        call(rt)?;
+        let written = journal_text(rt.alloc(), &events);
+        answer(rt)?;
+        match written {
+            Ok(text) => {
+                println!(rt; "{text}")?;
+                return Ok(());
+            }
+            Err(error) => println!(rt; "{error}")?,
+        }
+    }
+    Ok(())
+}
+
+fn reports<R: AllocGlobal + Print>(rt: &R) -> anyhow::Result<()> {
+    let record = record(rt.alloc())?;
+    for _time in 0..2 {
+        call(rt)?;
+        let written = report(rt.alloc(), &record);
+        answer(rt)?;
+        match written {
+            Ok(text) => {
+                println!(rt; "{text}")?;
+                return Ok(());
+            }
+            Err(error) => println!(rt; "{error}")?,
+        }
+    }
+    Ok(())
+}
+
+fn audits<R: AllocGlobal + Print>(rt: &R) -> anyhow::Result<()> {
+    let settings = Settings::from_text(rt.alloc(), SET1)?;
+    for _time in 0..2 {
+        let plans = all_accepted(rt.alloc(), &settings, &[TOUCH])?;
+        call(rt)?;
+        let audited = audit(rt.alloc(), &settings, plans, JOURNAL.as_bytes());
+        answer(rt)?;
+        match audited {
+            Ok(audited) => {
+                println!(rt; "{} lines", audited.lines)?;
+                return Ok(());
+            }
+            Err(error) => println!(rt; "{}", error.refusal())?,
+        }
+    }
+    Ok(())
+}

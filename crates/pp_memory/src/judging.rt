@@ -1,0 +1,105 @@
+//! The calls that judge the bytes of files.
+
+use crate::samples::{JOURNAL, PIN, PIN_NOTES, SCRIPT, SET1, TOUCH, WRITE};
+use crate::stand::{answer, call};
+use pp_judge::{
+    AnnotateFiles, AuditFiles, CheckFiles, Contents, SimulateFiles, Workload, device_size,
+    outcome_of,
+};
+use std::alloc::Global;
+
+/// Does the case of this call and this row.
+pub fn case<R: AllocGlobal + Print>(rt: &R, call: &str, row: &str) -> anyhow::Result<()> {
+    match call {
+        "outcome_of" => outcome(rt, row),
+        "device_size" => size(rt),
+        "Workload::read" => workload(rt),
+        _ => anyhow::bail!("there is no such call"),
+    }
+}
+
+/// The bytes of these texts.
+fn bytes_of(alloc: Global, texts: &[&str]) -> anyhow::Result<Vec<Vec<u8>>> {
+    let mut all = Vec::new(alloc);
+    for text in texts {
+        let mut bytes = Vec::new(alloc);
+        bytes.extend_from_slice(text.as_bytes())?;
+        all.push(bytes)?;
+    }
+    Ok(all)
+}
+
+/// The contents of the files of a command.
+fn contents<'a>(row: &str, plans: &'a [Vec<u8>]) -> Contents<'a> {
+    let settings = SET1.as_bytes();
+    match row {
+        "check" => Contents::Check(CheckFiles {
+            settings,
+            plan: PIN.as_bytes(),
+            certificate: PIN_NOTES.as_bytes(),
+        }),
+        "annotate" => Contents::Annotate(AnnotateFiles {
+            settings,
+            plan: PIN.as_bytes(),
+        }),
+        "simulate" => Contents::Simulate(SimulateFiles {
+            settings,
+            script: SCRIPT.as_bytes(),
+            plans,
+        }),
+        _ => Contents::Audit(AuditFiles {
+            settings,
+            journal: JOURNAL.as_bytes(),
+            plans,
+        }),
+    }
+}
+
+fn outcome<R: AllocGlobal + Print>(rt: &R, row: &str) -> anyhow::Result<()> {
+    let text = if row == "audit" { TOUCH } else { WRITE };
+    let plans = bytes_of(rt.alloc(), &[text])?;
+    for _time in 0..2 {
+        let contents = contents(row, &plans);
+        call(rt)?;
+        let outcome = outcome_of(rt.alloc(), contents);
+        answer(rt)?;
+        println!(rt; "status {}: {outcome}", outcome.status())?;
+        if outcome.is_output() {
+            return Ok(());
+        }
+    }
+    Ok(())
+}
+
+fn size<R: AllocGlobal + Print>(rt: &R) -> anyhow::Result<()> {
+    for _time in 0..2 {
+        call(rt)?;
+        let size = device_size(rt.alloc(), SET1.as_bytes());
+        answer(rt)?;
+        match size {
+            Ok(size) => {
+                println!(rt; "{size:?}")?;
+                return Ok(());
+            }
+            Err(refusal) => println!(rt; "{refusal}")?,
+        }
+    }
+    Ok(())
+}
+
+fn workload<R: AllocGlobal + Print>(rt: &R) -> anyhow::Result<()> {
+    let plans = bytes_of(rt.alloc(), &[TOUCH, WRITE])?;
+    for _time in 0..2 {
+        call(rt)?;
+        let read = Workload::read(rt.alloc(), SET1.as_bytes(), &plans);
+        answer(rt)?;
+        match read {
+            Ok(workload) => {
+                println!(rt; "{} plans", workload.plans.len())?;
+                return Ok(());
+            }
+            Err(refusal) => println!(rt; "{refusal}")?,
+        }
+    }
+    Ok(())
+}

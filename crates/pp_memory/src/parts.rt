@@ -1,0 +1,147 @@
+//! The calls that make a directory, marks, a core, a device and a vault, and a run of a core.
+
+use crate::samples::{MOVES, SET1, TOUCH, accepted};
+use crate::stand::{answer, call};
+use pp_arc::{Directory, List};
+use pp_core::Core;
+use pp_device::{Device, SoloDevice};
+use pp_frames::Marks;
+use pp_model::Reply;
+use pp_settings::Settings;
+use pp_vault::{Hands, Vault};
+
+/// Does the case of this call.
+pub fn case<R: AllocGlobal + Print>(rt: &R, library: &str, call: &str) -> anyhow::Result<()> {
+    match (library, call) {
+        ("pp_arc", "Directory::new") => directory(rt),
+        ("pp_frames", "Marks::new") => marks(rt),
+        ("pp_device", "SoloDevice::new") => solo(rt),
+        ("pp_core", "Core::new") => core_of(rt),
+        ("pp_core", "Core::run") => core_runs(rt),
+        ("pp_vault", "Vault::new") => vault(rt),
+        _ => anyhow::bail!("there is no such call"),
+    }
+}
+
+fn directory<R: AllocGlobal + Print>(rt: &R) -> anyhow::Result<()> {
+    for _time in 0..2 {
+        call(rt)?;
+        let made = Directory::new(rt.alloc(), 2, 5);
+        answer(rt)?;
+        match made {
+            Ok(directory) => {
+                println!(rt;
+                    "target {}, {} pages",
+                    directory.target(),
+                    directory.len(List::T1)
+                )?;
+                return Ok(());
+            }
+            Err(error) => println!(rt; "{error}")?,
+        }
+    }
+    Ok(())
+}
+
+fn marks<R: AllocGlobal + Print>(rt: &R) -> anyhow::Result<()> {
+    for _time in 0..2 {
+        call(rt)?;
+        let made = Marks::new(rt.alloc(), 3, 24);
+        answer(rt)?;
+        match made {
+            Ok(marks) => {
+                println!(rt; "free {:?}", marks.least_free())?;
+                return Ok(());
+            }
+            Err(error) => println!(rt; "{error}")?,
+        }
+    }
+    Ok(())
+}
+
+fn solo<R: AllocGlobal + Print>(rt: &R) -> anyhow::Result<()> {
+    for _time in 0..2 {
+        call(rt)?;
+        let made = SoloDevice::new(rt.alloc(), 24, 64);
+        answer(rt)?;
+        match made {
+            Ok(mut device) => {
+                let mut image = [1; 64];
+                println!(rt; "{:?}, {}", device.read(16, &mut image), image[3])?;
+                return Ok(());
+            }
+            Err(error) => println!(rt; "{error}")?,
+        }
+    }
+    Ok(())
+}
+
+fn core_of<R: AllocGlobal + Print>(rt: &R) -> anyhow::Result<()> {
+    let settings = Settings::from_text(rt.alloc(), SET1)?;
+    for _time in 0..2 {
+        call(rt)?;
+        let made = Core::new(rt.alloc(), &settings);
+        answer(rt)?;
+        match made {
+            Ok(core) => {
+                println!(rt; "budget {}", core.budget())?;
+                return Ok(());
+            }
+            Err(error) => println!(rt; "{}", error.refusal())?,
+        }
+    }
+    Ok(())
+}
+
+fn core_runs<R: AllocGlobal + Print>(rt: &R) -> anyhow::Result<()> {
+    let settings = Settings::from_text(rt.alloc(), SET1)?;
+    let plan = accepted(rt.alloc(), &settings, TOUCH)?;
+    let mut core = Core::new(rt.alloc(), &settings)?;
+    let queued = core.submit(plan).is_ok();
+    let mut replies = Vec::new(rt.alloc());
+    replies.push(Reply::Did)?;
+    for _time in 0..2 {
+        println!(rt;
+            "stand: queued {queued}, budget {}, {} replies",
+            core.budget(),
+            replies.len()
+        )?;
+        call(rt)?;
+        let ran = core.run(&MOVES, &mut replies);
+        answer(rt)?;
+        match ran {
+            Ok(()) => {
+                println!(rt; "budget {}, replies {replies:?}", core.budget())?;
+                return Ok(());
+            }
+            Err(error) => println!(rt; "{}", error.refusal())?,
+        }
+    }
+    Ok(())
+}
+
+/// Gives a vault up, and answers its budget.
+fn given_up(vault: Vault, hands: Hands) -> u64 {
+    let budget = vault.budget();
+    vault.scrap(hands);
+    budget
+}
+
+fn vault<R: AllocGlobal + Print>(rt: &R) -> anyhow::Result<()> {
+    let settings = Settings::from_text(rt.alloc(), SET1)?;
+    for _time in 0..2 {
+        call(rt)?;
+        let made = Vault::new(rt.alloc(), &settings);
+        let said = answer(rt);
+        let made = made.map(|(vault, hands)| given_up(vault, hands));
+        said?;
+        match made {
+            Ok(budget) => {
+                println!(rt; "budget {budget}")?;
+                return Ok(());
+            }
+            Err(error) => println!(rt; "{}", error.refusal())?,
+        }
+    }
+    Ok(())
+}

@@ -1,0 +1,166 @@
+//! Sample settings, plans and other texts, and what is made of them.
+
+use pp_annotate::annotate;
+use pp_cert::{Accepted, check};
+use pp_model::{Came, Ending, Event, Move, Reply};
+use pp_plan::Plan;
+use pp_report::RunRecord;
+use pp_settings::Settings;
+use std::alloc::Global;
+
+/// Three frames, two workers, four flushes, and two regions.
+pub const SET1: &str = "frames = 3
+page_bytes = 64
+workers = 2
+flushes = 4
+
+[[region]]
+name = \"root\"
+first = 0
+count = 4
+class = 1
+
+[[region]]
+name = \"leaf\"
+first = 16
+count = 8
+class = 2
+";
+
+/// No frame, and no region.
+pub const NO_FRAMES: &str = "frames = 0
+page_bytes = 64
+workers = 2
+flushes = 4
+region = [{}]
+";
+
+/// From a root to a leaf, which is written.
+pub const PIN: &str =
+    "{\"body\":[{\"fix\":\"a\",\"region\":\"root\"},{\"latch\":\"a\",\"mode\":\"S\"},\
+    {\"fix\":\"b\",\"region\":\"leaf\"},{\"unlatch\":\"a\"},{\"unfix\":\"a\"},{\"latch\":\"b\",\"mode\":\"X\"},\
+    {\"unlatch\":\"b\"},{\"unfix\":\"b\"}],\"version\":1}";
+
+/// Its certificate.
+pub const PIN_NOTES: &str = "{\"notes\":[{},{\"a\":[\"root\",\"-\"]},{\"a\":[\"root\",\"S\"]},\
+    {\"a\":[\"root\",\"S\"],\"b\":[\"leaf\",\"-\"]},{\"a\":[\"root\",\"-\"],\"b\":[\"leaf\",\"-\"]},\
+    {\"b\":[\"leaf\",\"-\"]},{\"b\":[\"leaf\",\"X\"]},{\"b\":[\"leaf\",\"-\"]},{}],\"peak\":2,\"steps\":8}";
+
+/// The same with a slot that the plan doesn't have.
+pub const OTHER_NOTES: &str = "{\"notes\":[{},{\"c\":[\"root\",\"-\"]}],\"peak\":2,\"steps\":8}";
+
+/// No statement.
+pub const EMPTY: &str = "{\"body\":[],\"version\":1}";
+
+/// Each kind of statement.
+pub const EVERY: &str = "{\"body\":[{\"body\":[{\"choice\":[[{\"fix\":\"a\",\"region\":\"leaf\"},\
+    {\"latch\":\"a\",\"mode\":\"X\"},{\"unlatch\":\"a\"},{\"unfix\":\"a\"}],[]]}],\"loop\":3}],\"version\":1}";
+
+/// Branches that end holding something else.
+pub const BRANCHES: &str =
+    "{\"body\":[{\"choice\":[[{\"fix\":\"a\",\"region\":\"root\"}],[]]}],\"version\":1}";
+
+/// A list of statements that isn't closed.
+pub const CUT_OFF: &str = "{\"body\":[";
+
+/// Writes a leaf.
+pub const WRITE: &str =
+    "{\"body\":[{\"fix\":\"a\",\"region\":\"leaf\"},{\"latch\":\"a\",\"mode\":\"X\"},\
+    {\"unlatch\":\"a\"},{\"unfix\":\"a\"}],\"version\":1}";
+
+/// Fixes a root and lets go of it.
+pub const TOUCH: &str =
+    "{\"body\":[{\"fix\":\"a\",\"region\":\"root\"},{\"unfix\":\"a\"}],\"version\":1}";
+
+/// A script for two plans [`WRITE`], with a trouble.
+pub const SCRIPT: &str = "fail 2
+take 0
+fix 0 16
+device 0
+latch 0
+write 0 0 7
+unlatch 0
+unfix 0
+finish 0
+look 0 0
+";
+
+/// A script with a line that is no cue.
+pub const NO_CUE: &str = "take 0
+take
+";
+
+/// The journal of [`TOUCH`].
+pub const JOURNAL: &str = "submit 0 = queued
+take 0 = taken 0
+fix 0 1 = mustread 0
+came 0 1 0 = loaded 0
+unfix 0 = did
+finish 0 = done
+";
+
+/// The moves of that journal.
+pub static MOVES: [Move; 5] = [
+    Move::Take { worker: 0 },
+    Move::Fix { worker: 0, page: 1 },
+    Move::ReadDone {
+        worker: 0,
+        came: Came::Image(1, 0),
+    },
+    Move::Unfix { worker: 0 },
+    Move::Finish { worker: 0 },
+];
+
+/// Their replies.
+static REPLIES: [Reply; 5] = [
+    Reply::Taken { plan: 0 },
+    Reply::MustRead { frame: 0 },
+    Reply::Loaded { mark: 0 },
+    Reply::Did,
+    Reply::Finished(Ending::Done),
+];
+
+/// The events of that journal.
+pub fn events(alloc: Global) -> anyhow::Result<Vec<Event>> {
+    let mut events = Vec::new(alloc);
+    events.push(Event::Submit { plan: 0 })?;
+    for (did, reply) in MOVES.iter().zip(REPLIES.iter()) {
+        events.push(Event::Step {
+            did: *did,
+            reply: *reply,
+        })?;
+    }
+    Ok(events)
+}
+
+/// What a run of one plan [`TOUCH`] leaves.
+pub fn record(alloc: Global) -> anyhow::Result<RunRecord> {
+    Ok(RunRecord {
+        plans: 1,
+        events: events(alloc)?,
+        dirty: 0,
+    })
+}
+
+/// The plan of this text, accepted with the certificate that is made for it.
+pub fn accepted(alloc: Global, settings: &Settings, text: &str) -> anyhow::Result<Accepted> {
+    let plan = Plan::from_text(alloc, settings, text)?;
+    let certificate = annotate(alloc, settings, &plan)?;
+    match check(settings, plan, &certificate) {
+        Ok(accepted) => Ok(accepted),
+        Err((_plan, error)) => Err(anyhow::Error::from(error)),
+    }
+}
+
+/// The plans of these texts.
+pub fn all_accepted(
+    alloc: Global,
+    settings: &Settings,
+    texts: &[&str],
+) -> anyhow::Result<Vec<Accepted>> {
+    let mut plans = Vec::new(alloc);
+    for text in texts {
+        plans.push(accepted(alloc, settings, text)?)?;
+    }
+    Ok(plans)
+}
