@@ -21,9 +21,19 @@ use std::time::{Clock, Duration};
 
 /// Three frames, two regions, so many workers and flushes.
 pub fn settings_of(alloc: Global, workers: u32, flushes: u32) -> Result<Settings, Fail> {
+    settings_with(alloc, 3, workers, flushes)
+}
+
+/// Two regions, so many frames, workers and flushes.
+pub fn settings_with(
+    alloc: Global,
+    frames: u32,
+    workers: u32,
+    flushes: u32,
+) -> Result<Settings, Fail> {
     let text = format!(in alloc;
         "
-frames = 3
+frames = {frames}
 page_bytes = 64
 workers = {workers}
 flushes = {flushes}
@@ -160,6 +170,20 @@ pub fn works_of<'a>(
         works.push(Counting { seen, behind: 0 })?;
     }
     Ok(works)
+}
+
+/// How many times a thread looks whether another one has come so far: for five seconds.
+const LOOKS: u32 = 1_000;
+
+/// Waits until the counter has come so far. It is told whether it has.
+pub fn comes_to(rt: &impl Clock, counter: &AtomicU64, number: u64) -> bool {
+    for _look in 0..LOOKS {
+        if counter.load(Ordering::SeqCst) >= number {
+            return true;
+        }
+        let _slept = thread::sleep(rt, Duration::from_millis(5));
+    }
+    false
 }
 
 /// How many hundredths of a second a run may take.

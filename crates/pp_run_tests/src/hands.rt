@@ -1,27 +1,17 @@
 //! A run's many hands: each work and each end of the device goes to its own worker, and is asked what the plans ask.
 
-use crate::common::{all_accepted, run_counted, run_over, settings_of};
+use crate::common::{WRITE, all_accepted, comes_to, run_counted, run_over, settings_of};
 use pp_device::{Count, Device, Fault, image};
 use pp_pool::{Event, Work};
 use pp_shared::SharedDevice;
 use pp_vault::Move;
 use std::marker::Model;
 use std::process::Abort;
+use std::sync::Wait;
 use std::sync::atomic::{AtomicU64, Ordering};
 use std::test::*;
-
-/// For how many turns a work waits for another one.
-const PATIENCE: u64 = 50_000_000;
-
-/// Waits until the counter has come so far. It is told whether it has.
-pub fn comes_to(counter: &AtomicU64, number: u64) -> bool {
-    for _turn in 0..PATIENCE {
-        if counter.load(Ordering::SeqCst) >= number {
-            return true;
-        }
-    }
-    false
-}
+use std::thread::Threads;
+use std::time::Clock;
 
 /// What the works and the devices of a run were asked amiss.
 #[derive(Drop)]
@@ -67,25 +57,27 @@ const OTHER: &str =
 /// The work of the worker with this number. It waits until all have begun, takes the page of its own number in each region,
 /// and the last branch of three or the first of two; and it notes whatever else it is handed.
 #[derive(Drop)]
-struct Numbered<'a> {
+struct Numbered<'a, R> {
+    rt: R,
     asked: &'a Asked,
     number: u32,
     workers: u64,
     begun: bool,
 }
 
-impl<'a> Numbered<'a> {
+impl<'a, R: Clock> Numbered<'a, R> {
     fn begin(&mut self) {
         if self.begun {
             return;
         }
         self.begun = true;
         self.asked.works.fetch_add(1, Ordering::SeqCst);
-        self.asked.note(comes_to(&self.asked.works, self.workers));
+        self.asked
+            .note(comes_to(&self.rt, &self.asked.works, self.workers));
     }
 }
 
-impl<'a> Work for Numbered<'a> {
+impl<'a, R: Clock> Work for Numbered<'a, R> {
     fn page(&mut self, region: u8, first: u32, count: u32) -> u32 {
         self.begin();
         self.asked
@@ -130,8 +122,7 @@ impl<'a> Device for End<'a> {
 
     fn read(&mut self, page: u32, image: &mut [u8]) -> Result<(), Fault> {
         self.calls.raise();
-        self.asked
-            .note(page == self.number || page == self.number.wrapping_add(16));
+        self.asked.note(page == self.number || page == self.number.wrapping_add(16));
         image::make(image, page, 0);
         Ok(())
     }
@@ -153,24 +144,20 @@ fn strays(event: &Event) -> bool {
     }
 }
 
-/// Three workers at once: each fixes the pages that its own work names, reads them by its own end, and hands its work these
-/// pages and no others, over different plans.
-#[test]
-fn each_worker_has_its_own_work_and_device(rt: HostRuntime) -> Result<(), Fail> {
+/// Three workers do different plans, each with its own work and its own end of a device. The ends come back in their order.
+fn run_apart<R: AllocGlobal + Abort + Threads + Wait + Clock + Copy + Drop + Sync + Send>(
+    rt: &R,
+    asked: &Asked,
+) -> Result<(), Fail> {
     let alloc = rt.alloc();
-    let asked = Asked::new();
     let settings = settings_of(alloc, 3, 0)?;
-    let plans = all_accepted(
-        &rt,
-        alloc,
-        &settings,
-        &[OTHER, OTHER, OTHER, CROSSED, OTHER],
-    )?;
+    let plans = all_accepted(rt, alloc, &settings, &[OTHER, OTHER, OTHER, CROSSED, OTHER])?;
     let mut devices = Vec::new(alloc);
     let mut works = Vec::new(alloc);
     for number in 0..3 {
         works.push(Numbered {
-            asked: &asked,
+            rt: *rt,
+            asked,
             number,
             workers: 3,
             begun: false,
@@ -178,13 +165,13 @@ fn each_worker_has_its_own_work_and_device(rt: HostRuntime) -> Result<(), Fail> 
     }
     for number in 0..4 {
         devices.push(End {
-            asked: &asked,
+            asked,
             number,
             calls: Count::new(),
             failures: Count::new(),
         })?;
     }
-    let (record, devices) = match run_over(&rt, alloc, &settings, plans, devices, works) {
+    let (record, devices) = match run_over(rt, alloc, &settings, plans, devices, works) {
         Ok(ran) => ran,
         Err(error) => panic!(rt; "refused: {error}"),
     };
@@ -195,6 +182,15 @@ fn each_worker_has_its_own_work_and_device(rt: HostRuntime) -> Result<(), Fail> 
             "the ends are in another order"
         );
     }
+    Ok(())
+}
+
+/// Three workers at once: each fixes the pages that its own work names, reads them by its own end, and hands its work these
+/// pages and no others, over different plans.
+#[test]
+fn each_worker_has_its_own_work_and_device(rt: HostRuntime) -> Result<(), Fail> {
+    let asked = Asked::new();
+    run_apart(&rt, &asked)?;
     assert!(rt;
         asked.works.load(Ordering::SeqCst) == 3,
         "a work was left out"
@@ -241,7 +237,7 @@ fn plans_are_counted_as_they_end(rt: HostRuntime) -> Result<(), Fail> {
     let asked = Asked::new();
     let finished = AtomicU64::new(0);
     let settings = settings_of(alloc, 1, 0)?;
-    let plans = all_accepted(&rt, alloc, &settings, &[crate::common::WRITE; 4])?;
+    let plans = all_accepted(&rt, alloc, &settings, &[WRITE; 4])?;
     let devices = SharedDevice::over_memory(rt, alloc, 24, 64, 2)?;
     let mut works = Vec::new(alloc);
     works.push(Watching {

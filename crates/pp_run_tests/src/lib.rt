@@ -12,7 +12,11 @@ mod counted;
 #[cfg(test)]
 mod devices;
 #[cfg(test)]
+mod failing;
+#[cfg(test)]
 mod hands;
+#[cfg(test)]
+mod latches;
 #[cfg(test)]
 mod memory;
 #[cfg(test)]
@@ -25,6 +29,8 @@ mod rows;
 mod scarce;
 #[cfg(test)]
 mod sizes;
+#[cfg(test)]
+mod stopping;
 #[cfg(test)]
 mod stress;
 #[cfg(test)]

@@ -5,10 +5,10 @@ ghost use Rattle.std.specs.Prelude.{◌≡◌, ◌^◌, ◌<◌, vec_len};
 use crate::common::{
     Counting, READ, Seen, TOUCH, WRITE, all_accepted, run_over, settings_of, watch, works_of,
 };
-use crate::patient::Patient;
 use crate::rows::{count, is_done, is_loading};
 use crate::scarce::Scarce;
 use pp_cert::Accepted;
+use pp_device::Device;
 use pp_pool::Book;
 use pp_run::{Desk, Flushed, Locked, RunError, Stop, Worked, judge, run_all};
 use pp_settings::Settings;
@@ -22,8 +22,8 @@ use std::thread;
 use std::thread::Threads;
 use std::time::Clock;
 
-/// What the threads of two workers and the flusher give back.
-type Ends<R> = (Vec<Worked<SharedDevice<R>>>, Flushed<SharedDevice<R>>);
+/// What the threads of the workers and the flusher give back.
+type Ends<D> = (Vec<Worked<D>>, Flushed<D>);
 
 /// A book in which the plans wait, on a desk that refuses room so many times.
 fn scarce(
@@ -42,24 +42,25 @@ fn scarce(
 }
 
 /// Runs the threads over the desk, and is watched.
-fn threads_over<
+pub fn threads_over<
     B: Desk + Send,
+    D: Device + Drop + Send,
     R: Abort + Threads + Wait + Clock + AllocGlobal + Copy + Drop + Sync + Send,
 >(
     rt: &R,
     lock: &Mutex<Locked<B>>,
-    devices: Vec<SharedDevice<R>>,
-    last: SharedDevice<R>,
+    devices: Vec<D>,
+    last: D,
     works: Vec<Counting>,
-) -> Result<Ends<R>, RunError> {
+) -> Result<Ends<D>, RunError> {
     let alloc = rt.alloc();
-    assert!(rt; devices.len() == 2 && works.len() == 2);
+    assert!(rt; devices.len() < 64 && works.len() == devices.len());
     let (moved, changed) = (Condvar::new(), Condvar::new());
     let over = AtomicBool::new(false);
     let (_watched, ran) = thread::join(
         rt,
         || watch(rt, &over),
-        || -> Result<Ends<R>, RunError>
+        || -> Result<Ends<D>, RunError>
             requires few { vec_len devices < 2 ^ 32 }
             requires works { vec_len works ≡ vec_len devices }
         {
@@ -171,25 +172,5 @@ fn memory_is_there(rt: HostRuntime) -> Result<(), Fail> {
         }
         Err(error) => panic!(rt; "refused: {error}"),
     }
-    Ok(())
-}
-
-/// A worker that stops without an event wakes who waits for a move.
-#[test]
-fn a_worker_that_stops_wakes_the_other(rt: HostRuntime) -> Result<(), Fail> {
-    let alloc = rt.alloc();
-    let seen = Seen::new();
-    let settings = settings_of(alloc, 2, 0)?;
-    let mut devices = SharedDevice::over_memory(rt, alloc, 24, 64, 3)?;
-    let works = works_of(alloc, 2, &seen)?;
-    let Some(last) = devices.pop() else {
-        panic!(rt; "no end")
-    };
-    let (book, hands) = Book::new(alloc, &settings)?;
-    let lock = Mutex::new(Locked::new(Patient::new(book, hands, &settings)));
-    let ends = threads_over(&rt, &lock, devices, last, works);
-    let events = lock.into_inner().into_desk().close();
-    assert!(rt; ends.is_ok(), "the threads are refused");
-    assert!(rt; events.is_empty(), "a move was done");
     Ok(())
 }

@@ -120,10 +120,9 @@ fn run_with<R: AllocGlobal + Abort + Threads + Wait + Clock + Copy + Drop + Sync
     let mut bytes = vec![in alloc; 0; page_bytes]?;
     match devices.pop() {
         Some(mut end) => {
-            assert!(rt;
-                end.read(16, bytes.as_mut_slice()).is_ok(),
-                "the page was not read"
-            );
+            let page = bytes.as_mut_slice();
+            assert!(rt; page.len() >= image::HEAD, "pages are too short");
+            assert!(rt; end.read(16, page).is_ok(), "the page was not read");
         }
         None => panic!(rt; "no end came back"),
     }

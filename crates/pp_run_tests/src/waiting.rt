@@ -10,11 +10,11 @@ use std::test::*;
 use std::thread;
 use std::time::{Clock, Duration};
 
-/// A device whose readings take a while.
+/// A device whose calls take a while.
 #[derive(Drop)]
-struct Slow<R, D> {
-    rt: R,
-    device: D,
+pub struct Slow<R, D> {
+    pub rt: R,
+    pub device: D,
 }
 
 impl<R: Clock, D: Device> Device for Slow<R, D> {
@@ -32,6 +32,7 @@ impl<R: Clock, D: Device> Device for Slow<R, D> {
     }
 
     fn write(&mut self, page: u32, image: &[u8]) -> Result<(), Fault> {
+        let _slept = thread::sleep(&self.rt, Duration::from_millis(50));
         self.device.write(page, image)
     }
 }

@@ -1,10 +1,8 @@
 //! Each wake-up is needed: who waits is woken by the very move that lets it go on, and not only when a worker ends.
 
-use crate::common::{all_accepted, run_over, settings_of};
-use crate::hands::comes_to;
+use crate::common::{all_accepted, comes_to, run_over, settings_of, settings_with};
 use pp_device::{Device, Fault};
 use pp_pool::Work;
-use pp_settings::Settings;
 use pp_shared::SharedDevice;
 use std::marker::Model;
 use std::process::Abort;
@@ -20,19 +18,20 @@ const WRITE_THEN_TOUCH: &str =
 
 /// What the threads of a run tell one another.
 #[derive(Drop)]
-struct Told {
+pub struct Told {
     /// How many leaves were asked for.
-    leaves: AtomicU64,
+    pub leaves: AtomicU64,
     /// How many pages were changed.
-    changed: AtomicU64,
+    pub changed: AtomicU64,
     /// How many writings have begun.
-    writings: AtomicU64,
+    pub writings: AtomicU64,
     /// How often somebody waited in vain.
-    in_vain: AtomicU64,
+    pub in_vain: AtomicU64,
 }
 
 impl Told {
-    fn new() -> Told {
+    /// Nothing was told yet.
+    pub fn new() -> Told {
         Told {
             leaves: AtomicU64::new(0),
             changed: AtomicU64::new(0),
@@ -42,8 +41,8 @@ impl Told {
     }
 
     /// Waits until the counter has come so far, and tells where that was in vain.
-    fn wait_for(&self, counter: &AtomicU64, number: u64) {
-        if !comes_to(counter, number) {
+    pub fn wait_for(&self, rt: &impl Clock, counter: &AtomicU64, number: u64) {
+        if !comes_to(rt, counter, number) {
             self.in_vain.fetch_add(1, Ordering::SeqCst);
         }
     }
@@ -65,8 +64,10 @@ impl<'a, R: Clock> Work for Meeting<'a, R> {
         if region == 1 {
             self.told.leaves.fetch_add(1, Ordering::SeqCst);
         } else {
-            self.told.wait_for(&self.told.changed, self.changes);
-            self.told.wait_for(&self.told.writings, self.writings);
+            self.told
+                .wait_for(&self.rt, &self.told.changed, self.changes);
+            self.told
+                .wait_for(&self.rt, &self.told.writings, self.writings);
         }
         first
     }
@@ -76,7 +77,7 @@ impl<'a, R: Clock> Work for Meeting<'a, R> {
     }
 
     fn change(&mut self, _page: u32, _body: &mut [u8]) {
-        self.told.wait_for(&self.told.leaves, self.leaves);
+        self.told.wait_for(&self.rt, &self.told.leaves, self.leaves);
         let _slept = thread::sleep(&self.rt, Duration::from_millis(50));
         self.told.changed.fetch_add(1, Ordering::SeqCst);
     }
@@ -173,33 +174,13 @@ fn an_unlatch_wakes_the_flusher(rt: HostRuntime) -> Result<(), Fail> {
     Ok(())
 }
 
-/// One frame, one worker and a flusher.
-const ONE_FRAME: &str = "
-frames = 1
-page_bytes = 64
-workers = 1
-flushes = 4
-
-[[region]]
-name = \"root\"
-first = 0
-count = 4
-class = 1
-
-[[region]]
-name = \"leaf\"
-first = 16
-count = 8
-class = 2
-";
-
 /// The only worker wants the frame of the page that is being flushed, and waits. Nobody but the flusher can wake it: without
 /// that the run hangs.
 #[test]
 fn the_end_of_a_flush_wakes_the_only_worker(rt: HostRuntime) -> Result<(), Fail> {
     let alloc = rt.alloc();
     let told = Told::new();
-    let settings = Settings::from_text(alloc, ONE_FRAME)?;
+    let settings = settings_with(alloc, 1, 1, 4)?;
     let plans = all_accepted(&rt, alloc, &settings, &[WRITE_THEN_TOUCH])?;
     let mut devices = Vec::new(alloc);
     for device in SharedDevice::over_memory(rt, alloc, 24, 64, 2)? {
