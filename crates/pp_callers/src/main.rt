@@ -1,10 +1,11 @@
-//! Six small callers, to copy from: the checker of certificates alone, ARC's directory alone, marks alone, a tiny cache
-//! of the directory and the marks together, devices alone, and a vault over a device.
+//! Seven small callers, to copy from: the checker of certificates alone, ARC's directory alone, marks alone, stacks of
+//! pages alone, a tiny cache of the directory and the marks together, devices alone, and a vault over a device.
 //!
 //! Each stands in a file of its own, asks for nothing else of the pool, and is proved against the public contracts of
 //! the parts that it uses.
 #![tactic(auto)]
 
+mod bundles;
 mod cache;
 mod checker;
 mod device;
@@ -21,6 +22,10 @@ fn main(rt: HostRuntime) -> anyhow::Result<()> {
     if let Some(frame) = marks::load(rt.alloc(), 16)? {
         println!(rt; "marks: page 16 was read in frame {frame}, and is given back")?;
     }
+    let (last, rest, other) = bundles::last_gathered(rt.alloc(), 5, 7)?;
+    println!(rt;
+        "bundles: {last:?} comes back first, then {rest} page more, and {other} stays in another bundle"
+    )?;
     let (while_in_use, unfixed) = cache::fourth_page(rt.alloc())?;
     println!(rt;
         "cache: page 4 gets {while_in_use:?} while 3 pages are in use, {unfixed:?} once page 1 is unfixed"

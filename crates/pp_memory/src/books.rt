@@ -129,11 +129,8 @@ fn turns_of_worker<R: AllocGlobal + Print>(
     let mut work = Rounds::new(0, 0);
     for _time in 0..9 {
         if whose == Whose::Worker {
-            println!(rt;
-                "stand: {:?}, {} events",
-                worker.hand.worker(),
-                worker.log.len()
-            )?;
+            let (of, events) = (worker.hand.worker(), worker.log.len());
+            println!(rt; "stand: {of:?}, {events} events")?;
             call(rt)?;
         }
         let turned = worker.turn(&mut work);

@@ -55,7 +55,7 @@ fn case<
         "pp_settings" | "pp_plan" | "pp_cert" | "pp_annotate" | "pp_script" => texts::case(
             rt, call, row,
         ),
-        "pp_arc" | "pp_frames" | "pp_core" | "pp_device" | "pp_vault" => parts::case(
+        "pp_arc" | "pp_frames" | "pp_bundles" | "pp_core" | "pp_device" | "pp_vault" => parts::case(
             rt, library, call,
         ),
         "pp_shared" => shared::case(rt, call),

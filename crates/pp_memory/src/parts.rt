@@ -1,8 +1,9 @@
-//! The calls that make a directory, marks, a core, a device and a vault, and a run of a core.
+//! The calls that make a directory, marks, stacks of pages, a core, a device and a vault, and a run of a core.
 
 use crate::samples::{MOVES, SET1, TOUCH, accepted};
 use crate::stand::{answer, call};
 use pp_arc::{Directory, List};
+use pp_bundles::Bundles;
 use pp_core::Core;
 use pp_device::{Device, SoloDevice};
 use pp_frames::Marks;
@@ -15,6 +16,7 @@ pub fn case<R: AllocGlobal + Print>(rt: &R, library: &str, call: &str) -> anyhow
     match (library, call) {
         ("pp_arc", "Directory::new") => directory(rt),
         ("pp_frames", "Marks::new") => marks(rt),
+        ("pp_bundles", "Bundles::new") => bundles(rt),
         ("pp_device", "SoloDevice::new") => solo(rt),
         ("pp_core", "Core::new") => core_of(rt),
         ("pp_core", "Core::run") => core_runs(rt),
@@ -51,6 +53,22 @@ fn marks<R: AllocGlobal + Print>(rt: &R) -> anyhow::Result<()> {
         match made {
             Ok(marks) => {
                 println!(rt; "free {:?}", marks.least_free())?;
+                return Ok(());
+            }
+            Err(error) => println!(rt; "{error}")?,
+        }
+    }
+    Ok(())
+}
+
+fn bundles<R: AllocGlobal + Print>(rt: &R) -> anyhow::Result<()> {
+    for _time in 0..2 {
+        call(rt)?;
+        let made = Bundles::new(rt.alloc(), 64, 5);
+        answer(rt)?;
+        match made {
+            Ok(bundles) => {
+                println!(rt; "{} places, {} free", bundles.places(), bundles.free())?;
                 return Ok(());
             }
             Err(error) => println!(rt; "{error}")?,

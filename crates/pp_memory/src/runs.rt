@@ -1,7 +1,5 @@
 //! The calls that run plans on threads, and what is told of a run.
 
-ghost use Rattle.std.specs.Prelude.{◌≡◌, IfOk, vec_len};
-
 use crate::samples::{SET1, TOUCH, WRITE, all_accepted, record};
 use crate::stand::{answer, call};
 use pp_judge::Workload;
@@ -42,9 +40,7 @@ pub fn case<
 }
 
 /// The works of so many workers.
-fn works_of(alloc: Global, workers: u32) -> Result<Vec<Rounds>, AllocError>
-    ensures { IfOk result (λ works. vec_len works ≡ workers) }
-{
+fn works_of(alloc: Global, workers: u32) -> Result<Vec<Rounds>, AllocError> {
     let mut works = Vec::with_capacity(alloc, workers as usize)?;
     for worker in 0..workers {
         works.push(Rounds::new(0, worker))?;
@@ -75,6 +71,9 @@ fn pool<
         let plans = all_accepted(rt.alloc(), &settings, &[TOUCH, WRITE, TOUCH])?;
         let ends = SharedDevice::over_memory(*rt, rt.alloc(), 24, 64, workers as usize + 1)?;
         let works = works_of(rt.alloc(), workers)?;
+        if works.len() != workers as usize {
+            anyhow::bail!("there is not a work for each worker");
+        }
         call(rt)?;
         let ran = Pool::run(rt, rt.alloc(), &settings, plans, ends, works);
         answer(rt)?;

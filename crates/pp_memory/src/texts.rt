@@ -1,5 +1,8 @@
 //! The calls that read or write settings, plans, certificates and scripts.
 
+ghost use Rattle.std.specs.Prelude.{◌≡◌};
+ghost use Rattle.pp_settings.specs.Settings.{geometry_of};
+
 use crate::samples::{
     BRANCHES, CUT_OFF, EMPTY, EVERY, NO_CUE, NO_FRAMES, OTHER_NOTES, PIN, PIN_NOTES, SCRIPT, SET1,
 };
@@ -107,7 +110,9 @@ fn plan_from<R: AllocGlobal + Print>(
     Ok(())
 }
 
-fn plan_to<R: AllocGlobal + Print>(rt: &R, settings: &Settings, plan: &Plan) -> anyhow::Result<()> {
+fn plan_to<R: AllocGlobal + Print>(rt: &R, settings: &Settings, plan: &Plan) -> anyhow::Result<()>
+    requires { plan.now.layout ≡ geometry_of settings.now }
+{
     for _time in 0..2 {
         call(rt)?;
         let written = plan.to_text(rt.alloc(), settings);
