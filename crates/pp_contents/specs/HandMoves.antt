@@ -1,0 +1,94 @@
+-- What a call of a vault that is done makes of the hand in which its tokens were.
+use Rattle.std.specs.Prelude.{◌≡◌, ℕ, Some, None, slice_set}
+use Rattle.pp_vault.specs.declared.guards.Guard.{Guard}
+use Rattle.pp_vault.specs.declared.guards.Guard.TheVariants.{Pin, Read, Write}
+use Rattle.pp_vault.specs.declared.guards.PinGuard.{PinGuard}
+use Rattle.pp_vault.specs.declared.guards.ReadGuard.{ReadGuard}
+use Rattle.pp_vault.specs.declared.guards.WriteGuard.{WriteGuard}
+use Rattle.pp_vault.specs.declared.tokens.Chair.{Chair}
+use Rattle.pp_vault.specs.declared.tokens.Session.{Session}
+use Rattle.pp_vault.specs.declared.tokens.Leaver.{Leaver}
+use Rattle.pp_vault.specs.declared.tokens.Returned.{Returned}
+use Rattle.pp_vault.specs.declared.stage.Stage.{Stage}
+use Rattle.pp_vault.specs.declared.stage.Stage.TheVariants.{Idle, In, Out, Back, Leaving}
+use Rattle.pp_vault.specs.declared.stage.Hand.{Hand}
+use Rattle.pp_vault.specs.declared.fixing.Fixed.{Fixed}
+use Rattle.pp_vault.specs.declared.fixing.Fixed.TheVariants as fixed
+use Rattle.pp_vault.specs.declared.answering.Answered.{Answered}
+use Rattle.pp_vault.specs.declared.answering.Answered.TheVariants as answered
+use Rattle.pp_vault.specs.Parts.{Parts}
+use Rattle.pp_vault.specs.Events.{Does}
+use Rattle.pp_vault.specs.Fits.{take_call, choose_call, finish_call, end_call}
+use Rattle.pp_vault.specs.Fixes.{FixAnswers}
+use Rattle.pp_vault.specs.Answers.{AnswerComesTo}
+use Rattle.pp_vault.specs.Uses.{Unfixes, LatchesShared, LatchesExclusive, UnlatchesShared, UnlatchesExclusive}
+use Rattle.pp_vault.specs.Leaves.{GivesBack}
+use Rattle.pp_vault.specs.ImageMoves.{ImagesStay}
+use Rattle.pp_vault.specs.Holding.{placed}
+
+-- The hand has this token now, and its guards are as they were.
+abbrev pub IsNowAt : (hand : Hand) → Stage → (left : Hand) → Type 0
+IsNowAt hand stage left = left ≡ record hand { stage = stage }
+
+-- It has this token, and in the place of the slot this guard in place of the one that was there.
+abbrev pub HasNow : (hand : Hand) → Stage → (slot : ℕ) → Guard → (left : Hand) → Type 0
+HasNow hand stage slot guard left =
+    left ≡ record { stage = stage; guards = slice_set (slice_set hand.guards slot None) slot (Some guard) }
+
+-- It has this token, and the guard of the slot is spent.
+abbrev pub HasSpent : (hand : Hand) → Stage → (slot : ℕ) → (left : Hand) → Type 0
+HasSpent hand stage slot left = left ≡ record { stage = stage; guards = slice_set hand.guards slot None }
+
+-- What a fix gave: the guard of a slot, or an errand.
+abbrev pub HasFixed : (hand : Hand) → Fixed → (left : Hand) → Type 0
+HasFixed hand (fixed.Got session guard) left =
+    left ≡ record { stage = In session; guards = slice_set hand.guards guard.slot (Some (Pin guard)) }
+HasFixed hand (fixed.Away errand) left = IsNowAt hand (Out errand) left
+HasFixed hand (fixed.No session refusal) left = ⊥
+
+-- What an answer gave: the guard of a slot, a further errand, or the way out of the plan.
+abbrev pub HasAnswer : (hand : Hand) → Answered → (left : Hand) → Type 0
+HasAnswer hand (answered.Got session guard) left =
+    left ≡ record { stage = In session; guards = slice_set hand.guards guard.slot (Some (Pin guard)) }
+HasAnswer hand (answered.Away errand) left = IsNowAt hand (Out errand) left
+HasAnswer hand (answered.Lost leaver) left = IsNowAt hand (Leaving leaver) left
+HasAnswer hand (answered.Flushed clean) left = ⊥
+HasAnswer hand (answered.No returned refusal) left = ⊥
+
+-- A call of a vault is done with the tokens of this hand, and what it gave is in the hand.
+pub data HandMoves (old : Parts) (hand : Hand) (new : Parts) (left : Hand) : Type 0 where
+  takes : (chair : Chair) (session : Session) → hand.stage ≡ Idle chair → Does old (take_call chair.worker) new
+      → ImagesStay old new → IsNowAt hand (In session) left → HandMoves old hand new left
+  chooses : (session now : Session) (branch : ℕ) → hand.stage ≡ In session
+      → Does old (choose_call session.worker branch) new → ImagesStay old new → IsNowAt hand (In now) left
+      → HandMoves old hand new left
+  finishes : (session : Session) (chair : Chair) → hand.stage ≡ In session → Does old (finish_call session.worker) new
+      → ImagesStay old new → IsNowAt hand (Idle chair) left → HandMoves old hand new left
+  ends : (leaver : Leaver) (chair : Chair) → hand.stage ≡ Leaving leaver → Does old (end_call leaver.worker) new
+      → ImagesStay old new → IsNowAt hand (Idle chair) left → HandMoves old hand new left
+  fixes : (session : Session) (page : ℕ) (fixed : Fixed) → hand.stage ≡ In session
+      → FixAnswers old session page fixed new → HasFixed hand fixed left → HandMoves old hand new left
+  answers : (returned : Returned) (answered : Answered) → hand.stage ≡ Back returned
+      → AnswerComesTo old returned answered new → HasAnswer hand answered left → HandMoves old hand new left
+  unfixes : (session now : Session) (slot : ℕ) (guard : PinGuard) → hand.stage ≡ In session
+      → placed hand.guards slot ≡ Some (Pin guard) → Unfixes old session guard new now
+      → HasSpent hand (In now) slot left → HandMoves old hand new left
+  latches_shared : (session now : Session) (slot : ℕ) (guard : PinGuard) (latched : ReadGuard)
+      → hand.stage ≡ In session → placed hand.guards slot ≡ Some (Pin guard)
+      → LatchesShared old session guard new now latched → HasNow hand (In now) slot (Read latched) left
+      → HandMoves old hand new left
+  latches_exclusive : (session now : Session) (slot : ℕ) (guard : PinGuard) (latched : WriteGuard)
+      → hand.stage ≡ In session → placed hand.guards slot ≡ Some (Pin guard)
+      → LatchesExclusive old session guard new now latched → HasNow hand (In now) slot (Write latched) left
+      → HandMoves old hand new left
+  unlatches_shared : (session now : Session) (slot : ℕ) (guard : ReadGuard) (pinned : PinGuard)
+      → hand.stage ≡ In session → placed hand.guards slot ≡ Some (Read guard)
+      → UnlatchesShared old session guard new now pinned → HasNow hand (In now) slot (Pin pinned) left
+      → HandMoves old hand new left
+  unlatches_exclusive : (session now : Session) (slot : ℕ) (guard : WriteGuard) (pinned : PinGuard)
+      → hand.stage ≡ In session → placed hand.guards slot ≡ Some (Write guard)
+      → UnlatchesExclusive old session guard new now pinned → HasNow hand (In now) slot (Pin pinned) left
+      → HandMoves old hand new left
+  gives_back : (leaver now : Leaver) (slot : ℕ) (guard : Guard) → hand.stage ≡ Leaving leaver
+      → placed hand.guards slot ≡ Some guard → GivesBack old leaver guard new now
+      → HasSpent hand (Leaving now) slot left → HandMoves old hand new left
