@@ -9,7 +9,7 @@ use Rattle.pp_plan.specs.Tree.{Alternatives, none, either}
 use Rattle.pp_plan.specs.Terms.{Terms}
 use Rattle.pp_cert.specs.declared.check_error.CheckError.{CheckError}
 use Rattle.pp_cert.specs.declared.check_error.CheckError.TheVariants.{StepsTooMany}
-use Rattle.pp_cert.specs.Notes.{Entries, same_note, noted_after}
+use Rattle.pp_cert.specs.Notes.{Entries, note_pins, same_note, noted_after}
 use Rattle.pp_cert.specs.Longest.{sequence_longest}
 use Rattle.pp_cert.specs.Walk.{Claims, note_at, Expectation, empty, same, expected_note, outcome, Test, same_settings}
 use Rattle.pp_cert.specs.Walk.{loop_keeps, branch_agrees, holds_nothing, no_more_notes, steps_allowed, steps_enough}
@@ -61,14 +61,14 @@ module _ (g : Geometry) (c : Claims) where
   is_at k n s = ap (λ o. unwrap_or o []) s
 
   -- a note that stands at its place, is the expected one and is small
-  note_fair : (k : ℕ) (x : Expectation) (n : Entries) → slice_get c.notes k ≡ Some n → length n ≤ c.peak
+  note_fair : (k : ℕ) (x : Expectation) (n : Entries) → slice_get c.notes k ≡ Some n → note_pins n ≤ c.peak
       → expected_note c x ≡ n → AllFair (note_tests k x)
   note_fair k x n s small e =
       let is : note_at c k ≡ n = is_at k n s in
       let same : same_note (note_at c k) (expected_note c x) ≡ true = ap (λ m. same_note (note_at c k) m) (e ∙ sym is)
       ∙ note_itself (note_at c k) in
-      let fits : length (note_at c k) ≤ c.peak = subst (λ m. length m ≤ c.peak) (sym is) small in
-      (inl (ap is_some s), (inl same, (inl (le-leb (length (note_at c k)) c.peak fits), tt)))
+      let fits : note_pins (note_at c k) ≤ c.peak = subst (λ m. note_pins m ≤ c.peak) (sym is) small in
+      (inl (ap is_some s), (inl same, (inl (le-leb (note_pins (note_at c k)) c.peak fits), tt)))
 
   step_fair : (k : ℕ) (s : Step) → AllFair (step_tests k s)
   step_fair k (fix s r) = (inr tt, tt)

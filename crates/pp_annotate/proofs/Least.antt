@@ -8,7 +8,7 @@ use Rattle.pp_plan.specs.Tree.{Step, fix, unfix, latch, unlatch, Statement, step
 use Rattle.pp_plan.specs.Tree.{Alternatives, none, either}
 use Rattle.pp_plan.specs.Terms.{Terms}
 use Rattle.pp_cert.specs.declared.check_error.CheckError.{CheckError}
-use Rattle.pp_cert.specs.Notes.{Entries}
+use Rattle.pp_cert.specs.Notes.{Entries, note_pins}
 use Rattle.pp_cert.specs.Longest.{sequence_longest}
 use Rattle.pp_cert.specs.Walk.{Claims, note_at, outcome, Test, same_settings, there, as_expected, within_peak}
 use Rattle.pp_cert.specs.Walk.{slot_unused, slot_fixed, slot_unlatched, slot_latched, slot_in_order, loop_keeps}
@@ -112,7 +112,7 @@ tests_ask m p h = (
 
 -- ---- the same notes with a smaller peak and fewer steps
 
-pub within_greatest : (ns : List Entries) (k : ℕ) → length (unwrap_or (slice_get ns k) []) ≤ greatest ns
+pub within_greatest : (ns : List Entries) (k : ℕ) → note_pins (unwrap_or (slice_get ns k) []) ≤ greatest ns
 within_greatest [] k = omega arith
 within_greatest (n ∷ ns) zero = omega arith
 within_greatest (n ∷ ns) (suc k) = omega (arith, within_greatest ns k)
@@ -129,7 +129,7 @@ module _ (g : Geometry) (ns : List Entries) (peak steps most count : ℕ) (small
   keeps (same_settings h) a e = e
   keeps (there k) a e = e
   keeps (as_expected k x) a e = e
-  keeps (within_peak k) a e = le-leb (length (note_at this k)) peak (omega (arith, within_greatest ns k, small))
+  keeps (within_peak k) a e = le-leb (note_pins (note_at this k)) peak (omega (arith, within_greatest ns k, small))
   keeps (slot_unused k s) a e = e
   keeps (slot_fixed k s) a e = e
   keeps (slot_unlatched k s) a e = e

@@ -10,12 +10,12 @@ use Rattle.pp_plan.specs.Tree.{Statement, step, loop, choice, Sequence, skip, an
 use Rattle.pp_plan.specs.Rules.{IsStatement, IsSequence, AreAlternatives}
 use Rattle.pp_plan.specs.Traces.{Repeats, IsStatementTrace, IsTrace, IsBranchTrace, Begins}
 use Rattle.pp_cert.specs.Held.{Holdings, held_next, held_after, held, size_of, pins}
-use Rattle.pp_cert.specs.Notes.{Entries}
+use Rattle.pp_cert.specs.Notes.{Entries, note_pins}
 use Rattle.pp_cert.specs.Longest.{sequence_longest}
 use Rattle.pp_cert.specs.Walk.{Claims, note_at, same, outcome, loop_keeps, branch_agrees, first_fault, note_tests}
 use Rattle.pp_cert.specs.Walk.{statement_tests, sequence_tests, later_tests, statement_end, sequence_end}
 use Rattle.pp_cert.proofs.Passing.{first_passes, both_pass, note_passes}
-use Rattle.pp_cert.proofs.Fits.{Fits, fits_length}
+use Rattle.pp_cert.proofs.Fits.{Fits, fits_pins}
 use Rattle.pp_cert.proofs.Goes.{goes_held}
 use Rattle.pp_cert.proofs.Sound.{statement_goes}
 use Rattle.pp_cert.proofs.Lengths as lengths
@@ -51,9 +51,9 @@ module _ (g : Geometry) (l : IsLayout g) (c : Claims) (slots : ℕ) where
     abbrev Onward : List Action → (List Action → Type 0) → Type 0
     Onward u P = (t : List Action) → P t → (rest : List Action) × IsTrace g whole (u ++ (t ++ rest))
 
-    -- some beginning of a trace holds as many slots as the note has entries
+    -- some beginning of a trace holds as many slots as the note has pins
     abbrev pub Reached : Entries → Type 0
-    Reached n = (t : List Action) × (pins t ≡ length n) × Begins g whole t
+    Reached n = (t : List Action) × (pins t ≡ note_pins n) × Begins g whole t
 
     abbrev pub AllReached : List Entries → Type 0
     AllReached [] = Unit {0}
@@ -79,7 +79,7 @@ module _ (g : Geometry) (l : IsLayout g) (c : Claims) (slots : ℕ) where
 
     -- after a statement, whose tests pass and those of the note after it
     at_next : (k : ℕ) (s : Statement) (n m : Entries) (u t : List Action) → note_at c k ≡ n
-        → note_at c (statement_end k s) ≡ m → length (note_at c k) ≤ c.peak
+        → note_at c (statement_end k s) ≡ m → note_pins (note_at c k) ≤ c.peak
         → first_fault g c (statement_tests k s) ≡ None
         → first_fault g c (note_tests (statement_end k s) (outcome k s)) ≡ None
         → IsStatementTrace g s t → At u n → At (u ++ t) m
@@ -93,7 +93,7 @@ module _ (g : Geometry) (l : IsLayout g) (c : Claims) (slots : ℕ) where
         → Reached n
     at_reached u n P t a on d =
         let w = on t d in
-        (u, ap size_of a.1 ∙ sym (fits_length g n a.0 a.2), (t ++ w.0, w.1))
+        (u, ap size_of a.1 ∙ sym (fits_pins g n a.0 a.2), (t ++ w.0, w.1))
 
     -- one more list before it
     further : (u v : List Action) (P Q : List Action → Type 0) → Onward u Q → ((t : List Action) → P t → Q (v ++ t))
@@ -148,7 +148,7 @@ module _ (g : Geometry) (l : IsLayout g) (c : Claims) (slots : ℕ) where
           )
           (later_reached k end (end + 1) bs n e p.1 is.2.1 u a suc (λ i. all (suc i)))
 
-      sequence_reached : (k : ℕ) (b : Sequence) (n : Entries) → note_at c k ≡ n → length (note_at c k) ≤ c.peak
+      sequence_reached : (k : ℕ) (b : Sequence) (n : Entries) → note_at c k ≡ n → note_pins (note_at c k) ≤ c.peak
           → first_fault g c (sequence_tests k b) ≡ None → IsSequence slots (length g.extents) b
           → (u : List Action) → At u n → Onward u (IsTrace g b) → AllReached (sequence_notes b n)
       sequence_reached k skip n e small h is u a on = tt
@@ -196,7 +196,7 @@ module _ (g : Geometry) (l : IsLayout g) (c : Claims) (slots : ℕ) where
           (later_reached before first later bs n e rest.1 is.1 u a (λ i. number (suc i)) (λ i. on (suc i)))
 
     -- the notes of a body, the first one too
-    pub body_reached : (k : ℕ) (b : Sequence) (n : Entries) → note_at c k ≡ n → length (note_at c k) ≤ c.peak
+    pub body_reached : (k : ℕ) (b : Sequence) (n : Entries) → note_at c k ≡ n → note_pins (note_at c k) ≤ c.peak
         → first_fault g c (sequence_tests k b) ≡ None → IsSequence slots (length g.extents) b
         → (u : List Action) → At u n → Onward u (IsTrace g b) → AllReached (n ∷ sequence_notes b n)
     body_reached k b n e small h is u a on =
@@ -209,17 +209,17 @@ module _ (g : Geometry) (l : IsLayout g) (c : Claims) (slots : ℕ) where
     greatest_reached n [] a = (a.0.0, a.0.1 ∙ omega arith, a.0.2)
     greatest_reached n (m ∷ ns) a =
         let rest = greatest_reached m ns a.1 in
-        elim (nat_le (length n) (greatest (m ∷ ns))) as (λ x. nat_le (length n) (greatest (m ∷ ns)) ≡ x
+        elim (nat_le (note_pins n) (greatest (m ∷ ns))) as (λ x. nat_le (note_pins n) (greatest (m ∷ ns)) ≡ x
         → (t : List Action) × (pins t ≡ greatest (n ∷ (m ∷ ns))) × Begins g whole t) [
           | true ↦ λ e. (
             rest.0,
-            (let le : length n ≤ greatest (m ∷ ns) = leb-true (length n) (greatest (m ∷ ns)) e in
+            (let le : note_pins n ≤ greatest (m ∷ ns) = leb-true (note_pins n) (greatest (m ∷ ns)) e in
                 rest.1 ∙ omega arith),
             rest.2,
           )
           | false ↦ λ e. (
             a.0.0,
-            (let lt : greatest (m ∷ ns) < length n = leb-false (length n) (greatest (m ∷ ns)) e in
+            (let lt : greatest (m ∷ ns) < note_pins n = leb-false (note_pins n) (greatest (m ∷ ns)) e in
                 a.0.1 ∙ omega arith),
             a.0.2,
           )

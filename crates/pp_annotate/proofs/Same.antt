@@ -9,7 +9,7 @@ use Rattle.pp_plan.specs.Tree.{Alternatives, none, either}
 use Rattle.pp_plan.specs.Terms.{Terms}
 use Rattle.pp_cert.specs.declared.check_error.CheckError.{CheckError}
 use Rattle.pp_cert.specs.Held.{is_latched_page}
-use Rattle.pp_cert.specs.Notes.{Entries, noted_at, same_note, is_above_latched}
+use Rattle.pp_cert.specs.Notes.{Entries, note_pins, noted_at, same_note, is_above_latched}
 use Rattle.pp_cert.specs.Longest.{sequence_longest}
 use Rattle.pp_cert.specs.Walk.{Claims, note_at, Expectation, empty, same, expected_note, outcome, Test, same_settings}
 use Rattle.pp_cert.specs.Walk.{there, as_expected, within_peak, slot_unused, slot_fixed, slot_unlatched, slot_latched}
@@ -94,20 +94,20 @@ module _ (g : Geometry) (d c : Claims) where
       ]
 
   -- a note of `c` that stands at its place, is the expected one and is small
-  note_none : (k : ℕ) (x : Expectation) (n : Entries) → slice_get c.notes k ≡ Some n → length n ≤ c.peak
+  note_none : (k : ℕ) (x : Expectation) (n : Entries) → slice_get c.notes k ≡ Some n → note_pins n ≤ c.peak
       → expected_note c x ≡ n → first_fault g c (note_tests k x) ≡ None
   note_none k x n s small e =
       let is : note_at c k ≡ n = ap (λ o. unwrap_or o []) s in
       let expected : passes g c (as_expected k x) ≡ true = ap (λ m. same_note (note_at c k) m) (e ∙ sym is)
       ∙ note_itself (note_at c k) in
       let fits : passes g c (within_peak k) ≡ true =
-      le-leb (length (note_at c k)) c.peak (subst (λ m. length m ≤ c.peak) (sym is) small) in
+      le-leb (note_pins (note_at c k)) c.peak (subst (λ m. note_pins m ≤ c.peak) (sym is) small) in
       ap (λ b. if b then first_fault g c (as_expected k x ∷ within_peak k ∷ []) else Some (fault_of (there k)))
       (ap is_some s)
       ∙ ap (λ b. if b then first_fault g c (within_peak k ∷ []) else Some (fault_of (as_expected k x))) expected
       ∙ ap (λ b. if b then None else Some (fault_of (within_peak k))) fits
 
-  same_notes : (k : ℕ) (x : Expectation) (n : Entries) → slice_get c.notes k ≡ Some n → length n ≤ c.peak
+  same_notes : (k : ℕ) (x : Expectation) (n : Entries) → slice_get c.notes k ≡ Some n → note_pins n ≤ c.peak
       → expected_note c x ≡ n → Same (note_tests k x)
   same_notes k x n s small e = (λ h. note_none k x n s small e, λ fault h own. absurd (note_never k x fault h own))
 

@@ -4,13 +4,13 @@ use Rattle.std.proofs.Common.{◌≡◌, ℕ, suc, ◌+◌, ◌≤◌, Some, Lis
 use Rattle.std.proofs.Common.{length-append}
 use Rattle.std.specs.Prelude.{slice_get}
 use Rattle.pp_plan.specs.Tree.{Statement, step, loop, choice, Sequence, skip, andthen, Alternatives, none, either}
-use Rattle.pp_cert.specs.Notes.{Entries}
+use Rattle.pp_cert.specs.Notes.{Entries, note_pins}
 use Rattle.pp_cert.specs.Walk.{statement_end, sequence_end, alternatives_end}
 use Rattle.pp_annotate.specs.Made.{after_statement, statement_notes, sequence_notes, branches_notes, greatest}
 
 abbrev pub Stand : (peak : ℕ) → List Entries → ℕ → List Entries → Type 0
 Stand peak all k [] = Unit {0}
-Stand peak all k (n ∷ ns) = (slice_get all k ≡ Some n) × (length n ≤ peak) × Stand peak all (k + 1) ns
+Stand peak all k (n ∷ ns) = (slice_get all k ≡ Some n) × (note_pins n ≤ peak) × Stand peak all (k + 1) ns
 
 pub stand_append : (peak : ℕ) (all : List Entries) (k m : ℕ) (xs ys : List Entries) → k + length xs ≡ m
     → Stand peak all k xs → Stand peak all m ys → Stand peak all k (xs ++ ys)

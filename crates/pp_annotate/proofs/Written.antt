@@ -3,7 +3,7 @@ use Rattle.std.proofs.Common.{◌≡◌, ℕ, ◌+◌, ◌≤◌, Some, None, Li
 use Rattle.pp_settings.specs.Layout.{Geometry}
 use Rattle.pp_plan.specs.Tree.{Statement, step, loop, choice, Sequence, skip, andthen, Alternatives, none, either}
 use Rattle.pp_plan.specs.Terms.{Terms}
-use Rattle.pp_cert.specs.Notes.{Entries, noted_after}
+use Rattle.pp_cert.specs.Notes.{Entries, note_pins, noted_after}
 use Rattle.pp_cert.specs.Walk.{Claims, note_at, same, expected_note, outcome, loop_keeps, branch_agrees, first_fault}
 use Rattle.pp_cert.specs.Walk.{note_tests, statement_tests, sequence_tests, later_tests, statement_end, sequence_end}
 use Rattle.pp_cert.proofs.Passing.{first_passes, both_pass, note_passes, AllPass}
@@ -28,7 +28,7 @@ module _ (g : Geometry) (c : Claims) where
         let note = note_passes g c (k + 1) (same k) q.0 in
         let is : note_at c (k + 1) ≡ n = note.1 ∙ e in
         let body = sequence_written (k + 1) b n is q.1 in
-        ((note.0 ∙ ap Some is, subst (λ x. length x ≤ c.peak) is note.2, body.0), body.1)
+        ((note.0 ∙ ap Some is, subst (λ x. note_pins x ≤ c.peak) is note.2, body.0), body.1)
     statement_written k (choice none) n e h = (tt, e)
     statement_written k (choice (either b bs)) n e h =
         let end : ℕ = sequence_end (k + 1) b in
@@ -40,7 +40,7 @@ module _ (g : Geometry) (c : Claims) where
         let is : note_at c (k + 1) ≡ n = note.1 ∙ e in
         let body = sequence_written (k + 1) b n is q.1 in
         let first : Here (k + 1) (n ∷ sequence_notes b n) =
-        (note.0 ∙ ap Some is, subst (λ x. length x ≤ c.peak) is note.2, body.0) in
+        (note.0 ∙ ap Some is, subst (λ x. note_pins x ≤ c.peak) is note.2, body.0) in
         let at : k + 1 + length (n ∷ sequence_notes b n) ≡ end + 1 = omega (arith, sequence_places (k + 1) b n) in (
           stand_append c.peak c.notes (k + 1) (end + 1) (n ∷ sequence_notes b n) (branches_notes bs n) at first
               (later_written k end (end + 1) bs n e p.1),
@@ -61,7 +61,7 @@ module _ (g : Geometry) (c : Claims) where
         let is : note_at c next ≡ m = note.1 ∙ inner.1 in
         let rest = sequence_written next b m is p.1 in
         let behind : Here next (m ∷ sequence_notes b m) =
-        (note.0 ∙ ap Some is, subst (λ x. length x ≤ c.peak) is note.2, rest.0) in (
+        (note.0 ∙ ap Some is, subst (λ x. note_pins x ≤ c.peak) is note.2, rest.0) in (
           stand_append c.peak c.notes (k + 1) next (statement_notes s n) (m ∷ sequence_notes b m)
               (statement_places k s n) inner.0 behind,
           rest.1,
@@ -81,7 +81,7 @@ module _ (g : Geometry) (c : Claims) where
         let note = note_passes g c k (same before) q.0 in
         let is : note_at c k ≡ n = note.1 ∙ e in
         let body : Here k (n ∷ sequence_notes b n) =
-        (note.0 ∙ ap Some is, subst (λ x. length x ≤ c.peak) is note.2, (sequence_written k b n is q.1).0) in
+        (note.0 ∙ ap Some is, subst (λ x. note_pins x ≤ c.peak) is note.2, (sequence_written k b n is q.1).0) in
         let at : k + length (n ∷ sequence_notes b n) ≡ end + 1 = omega (arith, sequence_places k b n) in
         stand_append c.peak c.notes k (end + 1) (n ∷ sequence_notes b n) (branches_notes bs n) at body
         (later_written before first (end + 1) bs n e rest.1)
@@ -95,7 +95,7 @@ pub notes_are : (g : Geometry) (p : Terms) (c : Claims) → AllPass g p c → No
 notes_are g p c is =
     let note = is.first in
     let rest = sequence_written g c 0 p.body [] note.1 is.walk in
-    let small = subst (λ x. length x ≤ c.peak) note.1 note.2 in
+    let small = subst (λ x. note_pins x ≤ c.peak) note.1 note.2 in
     let all : Stand c.peak c.notes 0 (made_notes p) = (note.0 ∙ ap Some note.1, small, rest.0) in
     let few : length c.notes ≤ length (made_notes p) = omega (arith, is.few, sequence_places 0 p.body []) in
     record {

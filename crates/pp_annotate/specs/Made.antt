@@ -1,11 +1,11 @@
 -- The certificate that is made of a plan: what is held at each place, noted statement by statement. Nothing is tested
 -- here: a statement that may not happen is noted as if it did.
-use Rattle.std.specs.Prelude.{ℕ, min, max, List, [], ◌∷◌, ◌++◌, length}
+use Rattle.std.specs.Prelude.{ℕ, min, max, List, [], ◌∷◌, ◌++◌}
 use Rattle.pp_plan.specs.Tree.{Statement, step, loop, choice, Sequence, skip, andthen, Alternatives, none, either}
 use Rattle.pp_plan.specs.Terms.{Terms}
 use Rattle.pp_cert.specs.Limits.{counted}
 use Rattle.pp_cert.specs.Claims.{Claims}
-use Rattle.pp_cert.specs.Notes.{Entries, noted_after}
+use Rattle.pp_cert.specs.Notes.{Entries, note_pins, noted_after}
 use Rattle.pp_cert.specs.Longest.{sequence_longest}
 
 -- ---- what is noted after a part of a plan, where `n` is noted before it
@@ -48,12 +48,12 @@ abbrev mutual
 abbrev pub made_notes : Terms → List Entries
 made_notes p = [] ∷ sequence_notes p.body []
 
--- The size of the greatest note.
+-- The most pages that a note pins.
 abbrev pub greatest : List Entries → ℕ
 greatest [] = 0
-greatest (n ∷ ns) = max (length n) (greatest ns)
+greatest (n ∷ ns) = max (note_pins n) (greatest ns)
 
--- The notes, the greatest one's size as peak, and the longest trace's length as steps, counted up to one more than
+-- The notes, the pins of the one with most as peak, and the longest trace's length as steps, counted up to one more than
 -- the steps that are allowed.
 abbrev pub made : Terms → Claims
 made p = record {

@@ -18,7 +18,7 @@ use pp_plan::{Plan, Stmt};
 use pp_settings::Settings;
 use std::alloc::{AllocError, Global};
 
-/// Makes the least certificate of the plan: what is held at each place, the size of the greatest note as peak, and
+/// Makes the least certificate of the plan: what is held at each place, the pins of the note with most as peak, and
 /// the length of the longest trace as steps.
 ///
 /// What it does grows with the statements of the plan and the entries of the notes that it writes.
@@ -83,14 +83,14 @@ fn notes_of(alloc: Global, stmts: &[Stmt]) -> Result<Vec<Note>, AllocError>
     Ok(draft.into_notes())
 }
 
-/// The size of the greatest note.
+/// The most pages that a note pins.
 #[tactic(auto, using(crate::proofs::Walk::walks))]
 fn greatest(notes: &[Note]) -> u64
     ensures { result ≡ greatest notes.now }
 {
     let mut most = 0;
     for note in notes {
-        most = most.max(note.entries().len() as u64);
+        most = most.max(note.pins());
     }
     most
 }

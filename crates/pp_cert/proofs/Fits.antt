@@ -13,7 +13,7 @@ use Rattle.pp_cert.specs.declared.note.Held.{Held}
 use Rattle.pp_cert.specs.Slots.{slot_insert, slot_remove}
 use Rattle.pp_cert.specs.Held.{Holding, Holdings, holding_slot, holding_at, held_at, holding_as, is_latched}
 use Rattle.pp_cert.specs.Held.{IsClassBelow, IsAboveLatched}
-use Rattle.pp_cert.specs.Notes.{Entries, entry_slot, entry_at, noted_at, noted_as, region_class, slot_class}
+use Rattle.pp_cert.specs.Notes.{Entries, note_pins, entry_slot, entry_at, noted_at, noted_as, region_class, slot_class}
 use Rattle.pp_cert.specs.Notes.{is_above_latched}
 
 -- ---- notes and holdings
@@ -27,11 +27,11 @@ Fits g [] (h ∷ hs) = ⊥
 Fits g (e ∷ es) [] = ⊥
 Fits g (e ∷ es) (h ∷ hs) = Tells g e h × Fits g es hs
 
-pub fits_length : (g : Geometry) (n : Entries) (hs : Holdings) → Fits g n hs → length n ≡ length hs
-fits_length g [] [] f = refl
-fits_length g [] (h ∷ hs) f = absurd f
-fits_length g (e ∷ es) [] f = absurd f
-fits_length g (e ∷ es) (h ∷ hs) f = ap suc (fits_length g es hs f.1)
+pub fits_pins : (g : Geometry) (n : Entries) (hs : Holdings) → Fits g n hs → note_pins n ≡ length hs
+fits_pins g [] [] f = refl
+fits_pins g [] (h ∷ hs) f = absurd f
+fits_pins g (e ∷ es) [] f = absurd f
+fits_pins g (e ∷ es) (h ∷ hs) f = omega (arith, fits_pins g es hs f.1)
 
 pub fits_empty : (g : Geometry) (hs : Holdings) → Fits g [] hs → hs ≡ []
 fits_empty g [] f = refl

@@ -4,6 +4,7 @@ pub mod Passing
 pub mod Steps
 pub mod Places
 pub mod Rules
+pub mod Pins
 pub mod Fits
 pub mod Goes
 pub mod Sound

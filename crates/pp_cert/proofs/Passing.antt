@@ -12,7 +12,7 @@ use Rattle.pp_cert.specs.declared.note.Held.{Held}
 use Rattle.pp_cert.specs.declared.note.Held.TheVariants.{Free, S, X}
 use Rattle.pp_cert.specs.declared.note.Entry.{Entry}
 use Rattle.pp_cert.specs.declared.check_error.CheckError.{CheckError}
-use Rattle.pp_cert.specs.Notes.{Entries, same_held, same_entry, same_note}
+use Rattle.pp_cert.specs.Notes.{Entries, note_pins, same_held, same_entry, same_note}
 use Rattle.pp_cert.specs.Longest.{sequence_longest}
 use Rattle.pp_cert.specs.Walk.{Claims, note_at, Expectation, empty, expected_note, Test, same_settings, there}
 use Rattle.pp_cert.specs.Walk.{as_expected, within_peak, holds_nothing, no_more_notes, steps_allowed, steps_enough}
@@ -120,14 +120,14 @@ some_of (Some n) h = refl
 
 -- A note that passes its tests stands at its place, is the expected one, and is small.
 pub note_passes : (g : Geometry) (c : Claims) (k : ℕ) (e : Expectation) → first_fault g c (note_tests k e) ≡ None
-    → (slice_get c.notes k ≡ Some (note_at c k)) × (note_at c k ≡ expected_note c e) × (length (note_at c k) ≤ c.peak)
+    → (slice_get c.notes k ≡ Some (note_at c k)) × (note_at c k ≡ expected_note c e) × (note_pins (note_at c k) ≤ c.peak)
 note_passes g c k e h =
     let p = first_passes g c (there k) (as_expected k e ∷ within_peak k ∷ []) h in
     let q = first_passes g c (as_expected k e) (within_peak k ∷ []) p.1 in
     let r = first_passes g c (within_peak k) [] q.1 in (
       some_of (slice_get c.notes k) p.0,
       note_same (note_at c k) (expected_note c e) q.0,
-      leb-true (length (note_at c k)) c.peak r.0,
+      leb-true (note_pins (note_at c k)) c.peak r.0,
     )
 
 -- ---- all tests of a plan
@@ -135,7 +135,7 @@ note_passes g c k e h =
 -- What holds where every test of the claims passes.
 pub record AllPass (g : Geometry) (p : Terms) (c : Claims) : Type 0 where
   pub settings : g ≡ p.layout
-  pub first : (slice_get c.notes 0 ≡ Some (note_at c 0)) × (note_at c 0 ≡ []) × (length (note_at c 0) ≤ c.peak)
+  pub first : (slice_get c.notes 0 ≡ Some (note_at c 0)) × (note_at c 0 ≡ []) × (note_pins (note_at c 0) ≤ c.peak)
   pub walk : first_fault g c (sequence_tests 0 p.body) ≡ None
   pub last : length (note_at c (sequence_end 0 p.body)) ≡ 0
   pub few : length c.notes ≤ sequence_end 0 p.body + 1

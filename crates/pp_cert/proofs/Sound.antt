@@ -15,12 +15,12 @@ use Rattle.pp_cert.specs.declared.note.Held.TheVariants.{Free, S, X}
 use Rattle.pp_cert.specs.Held.{Holding, Holdings, held_in, held_at, held_next, holding_as, holding_slot, is_free_page}
 use Rattle.pp_cert.specs.Held.{is_latched_page}
 use Rattle.pp_cert.specs.Slots.{slot_insert, slot_remove}
-use Rattle.pp_cert.specs.Notes.{Entries, noted_at, noted_after}
+use Rattle.pp_cert.specs.Notes.{Entries, note_pins, noted_at, noted_after}
 use Rattle.pp_cert.specs.Walk.{Claims, note_at, same, after, outcome, Test, slot_unused, slot_fixed, slot_unlatched}
 use Rattle.pp_cert.specs.Walk.{slot_latched, slot_in_order, loop_keeps, branch_agrees, first_fault, note_tests}
 use Rattle.pp_cert.specs.Walk.{step_tests, statement_tests, sequence_tests, later_tests, statement_end, sequence_end}
 use Rattle.pp_cert.specs.Walk.{alternatives_end}
-use Rattle.pp_cert.proofs.Fits.{Fits, fits_length, fits_held, fits_insert, fits_remove, fits_held_as, above_latched}
+use Rattle.pp_cert.proofs.Fits.{Fits, fits_pins, fits_held, fits_insert, fits_remove, fits_held_as, above_latched}
 use Rattle.pp_cert.proofs.Passing.{first_passes, both_pass, note_same, note_passes}
 use Rattle.pp_cert.proofs.Goes.{Goes, MayDo, goes_on}
 
@@ -142,8 +142,8 @@ module _ (g : Geometry) (l : IsLayout g) (c : Claims) where
   GoesTo n hs t = (last : Holdings) × Goes g c.peak hs t last × Fits g n last
 
   -- a list of no action stays
-  stays : (n : Entries) (hs : Holdings) → Fits g n hs → length n ≤ c.peak → GoesTo n hs []
-  stays n hs f small = (hs, (refl, let e : length n ≡ length hs = fits_length g n hs f in omega arith), f)
+  stays : (n : Entries) (hs : Holdings) → Fits g n hs → note_pins n ≤ c.peak → GoesTo n hs []
+  stays n hs f small = (hs, (refl, let e : note_pins n ≡ length hs = fits_pins g n hs f in omega arith), f)
 
   goes_to : (n m : Entries) (hs : Holdings) (t u : List Action) → GoesTo n hs t
       → ((ms : Holdings) → Fits g n ms → GoesTo m ms u) → GoesTo m hs (t ++ u)
@@ -156,11 +156,11 @@ module _ (g : Geometry) (l : IsLayout g) (c : Claims) where
       → held_next hs a ≡ Some ms → GoesTo n ms t → GoesTo n hs (a ∷ t)
   goes_first n hs ms a t small may next to = (to.0, (small, may, (ms, next, to.1)), to.2)
 
-  small_too : (n : Entries) (hs : Holdings) → Fits g n hs → length n ≤ c.peak → length hs ≤ c.peak
-  small_too n hs f small = let e : length n ≡ length hs = fits_length g n hs f in omega arith
+  small_too : (n : Entries) (hs : Holdings) → Fits g n hs → note_pins n ≤ c.peak → length hs ≤ c.peak
+  small_too n hs f small = let e : note_pins n ≡ length hs = fits_pins g n hs f in omega arith
 
   -- turns of a body that ends as it begins
-  repeats_go : (n : Entries) (P : List Action → Type 0) → length n ≤ c.peak
+  repeats_go : (n : Entries) (P : List Action → Type 0) → note_pins n ≤ c.peak
       → ((hs : Holdings) → Fits g n hs → (u : List Action) → P u → GoesTo n hs u) → (turns : ℕ) (hs : Holdings)
       → Fits g n hs → (t : List Action) → Repeats turns P t → GoesTo n hs t
   repeats_go n P small body zero hs f t r = subst (λ u. GoesTo n hs u) (sym r) (stays n hs f small)
@@ -173,7 +173,7 @@ module _ (g : Geometry) (l : IsLayout g) (c : Claims) where
   fits_same n m hs e f = subst (λ x. Fits g x hs) e f
 
   mutual
-    pub statement_goes : (k : ℕ) (s : Statement) → length (note_at c k) ≤ c.peak
+    pub statement_goes : (k : ℕ) (s : Statement) → note_pins (note_at c k) ≤ c.peak
         → first_fault g c (statement_tests k s) ≡ None
         → first_fault g c (note_tests (statement_end k s) (outcome k s)) ≡ None → (hs : Holdings)
         → Fits g (note_at c k) hs → (t : List Action) → IsStatementTrace g s t
@@ -219,7 +219,7 @@ module _ (g : Geometry) (l : IsLayout g) (c : Claims) where
         subst (λ u. GoesTo (note_at c (alternatives_end (end + 1) bs)) hs u) (sym r.2)
         (subst (λ x. GoesTo x hs (Choose r.0 ∷ r.1)) (sym last.1) chosen)
 
-    pub sequence_goes : (k : ℕ) (b : Sequence) → length (note_at c k) ≤ c.peak
+    pub sequence_goes : (k : ℕ) (b : Sequence) → note_pins (note_at c k) ≤ c.peak
         → first_fault g c (sequence_tests k b) ≡ None → (hs : Holdings) → Fits g (note_at c k) hs → (t : List Action)
         → IsTrace g b t → GoesTo (note_at c (sequence_end k b)) hs t
     sequence_goes k skip small h hs f t r =

@@ -1,6 +1,6 @@
 -- Notes: what a certificate says is held at a place, and what is held there after one more statement.
-use Rattle.std.specs.Prelude.{ℕ, Bool, true, false, ◌==◌, ◌&&◌, ◌||◌, not, nat_lt, Option, option_map, List, slice_get}
-use Rattle.std.specs.Prelude.{unwrap_or}
+use Rattle.std.specs.Prelude.{ℕ, ◌+◌, Bool, true, false, ◌==◌, ◌&&◌, ◌||◌, not, nat_lt, Option, option_map, List, []}
+use Rattle.std.specs.Prelude.{◌∷◌, slice_get, unwrap_or}
 use Rattle.std.specs.List.{list_all}
 use Rattle.std.specs.Cmp.Lexicographic.{pointwise}
 use Rattle.pp_settings.specs.Layout.{Geometry}
@@ -17,6 +17,17 @@ Entries = List Entry
 
 abbrev pub entry_slot : Entry → ℕ
 entry_slot e = e.slot
+
+-- ---- pins
+
+-- How many pages an entry pins: its slot's one.
+abbrev pub entry_pins : Entry → ℕ
+entry_pins e = 1
+
+-- How many pages a note pins: all its entries together.
+abbrev pub note_pins : Entries → ℕ
+note_pins [] = 0
+note_pins (e ∷ es) = entry_pins e + note_pins es
 
 -- ---- equal notes
 

@@ -18,7 +18,7 @@ use Rattle.pp_cert.specs.declared.check_error.CheckError.TheVariants.{OverPeak, 
 use Rattle.pp_cert.specs.declared.check_error.CheckError.TheVariants.{StepsTooFew, StepsTooMany, PeakTooBig}
 use Rattle.pp_cert.specs.declared.check_error.CheckError.TheVariants.{OtherSettings}
 use Rattle.pp_cert.specs.Held.{is_latched_page}
-use Rattle.pp_cert.specs.Notes.{Entries, same_note, noted_at, noted_after, is_above_latched}
+use Rattle.pp_cert.specs.Notes.{Entries, note_pins, same_note, noted_at, noted_after, is_above_latched}
 use Rattle.pp_cert.specs.Longest.{sequence_longest}
 
 -- The note at place k; the empty one where none is left.
@@ -79,7 +79,7 @@ pub data Test : Type 0 where
   there : (place : ℕ) → Test
   -- it is the expected one
   as_expected : (place : ℕ) → Expectation → Test
-  -- it has at most as many entries as the peak
+  -- it pins at most as many pages as the peak
   within_peak : (place : ℕ) → Test
   -- the slot holds nothing, or something; its page isn't latched, or is; its class is above every class that is latched
   slot_unused : (place slot : ℕ) → Test
@@ -112,7 +112,7 @@ abbrev pub passes : Geometry → Claims → Test → Bool
 passes g c (same_settings h) = same_layout g h
 passes g c (there k) = is_some (slice_get c.notes k)
 passes g c (as_expected k e) = same_note (note_at c k) (expected_note c e)
-passes g c (within_peak k) = nat_le (length (note_at c k)) c.peak
+passes g c (within_peak k) = nat_le (note_pins (note_at c k)) c.peak
 passes g c (slot_unused k s) = not (is_some (noted_at (note_at c k) s))
 passes g c (slot_fixed k s) = is_some (noted_at (note_at c k) s)
 passes g c (slot_unlatched k s) = not (is_latched_page (noted_at (note_at c k) s))
@@ -225,5 +225,5 @@ walked g c ts k = unless_fault (first_fault g (claims_of c) ts) k
 abbrev pub note_fault : Claims → ℕ → Bool → Option CheckError
 note_fault c k is_expected =
     if is_some (slice_get c.notes k) then (if is_expected then
-    (if nat_le (length (note_at c k)) c.peak then None else Some (OverPeak k)) else Some (NoteDiffers k)) else Some
+    (if nat_le (note_pins (note_at c k)) c.peak then None else Some (OverPeak k)) else Some (NoteDiffers k)) else Some
     (NotesShort k)

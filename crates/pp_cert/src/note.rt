@@ -66,6 +66,8 @@ impl Model for Note {
 }
 
 impl Note {
+    ghost use Rattle.pp_cert.specs.Notes.{note_pins};
+
     /// The note with these entries.
     pub fn new(entries: Vec<Entry>) -> Note
         ensures { result ≡ entries.items }
@@ -78,6 +80,14 @@ impl Note {
         ensures { result.now ≡ self.now }
     {
         &self.entries
+    }
+
+    /// How many pages are pinned where this is held: one for each entry.
+    #[tactic(auto, using(crate::proofs::Pins::pins_are_entries))]
+    pub fn pins(&self) -> u64
+        ensures { result ≡ note_pins self.now }
+    {
+        self.entries.len() as u64
     }
 
     /// Gives the entries back.

@@ -49,7 +49,7 @@ impl Walk<'_> {
         if !is_expected {
             return Err(CheckError::NoteDiffers { place });
         }
-        if note.entries().len() as u64 > self.certificate.peak {
+        if note.pins() > self.certificate.peak {
             return Err(CheckError::OverPeak { place });
         }
         Ok(place)

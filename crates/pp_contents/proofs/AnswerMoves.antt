@@ -54,7 +54,8 @@ use Rattle.pp_contents.proofs.ReadyMoves.{ready_same, ready_beside, entered_none
 use Rattle.pp_contents.proofs.StepKinds.{AnswerStep, loads, loses, writes, keeps}
 use Rattle.pp_contents.proofs.TokenMoves.{at_now, has_more}
 use Rattle.pp_contents.proofs.TokensApart.{Stands, token_unready, token_unloaded, written_unsent}
-use Rattle.pp_contents.proofs.ErrandsOut.{read_out, write_out}
+use Rattle.pp_vault.proofs.ReadSteps.{read_out}
+use Rattle.pp_vault.proofs.WriteSteps.{write_out}
 
 came_ok : (ok : Bool) (named stamp page mark : ℕ) → came_of ok (named, stamp) ≡ Image page mark → ok ≡ true
 came_ok true named stamp page mark e = refl

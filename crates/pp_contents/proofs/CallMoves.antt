@@ -57,7 +57,7 @@ use Rattle.pp_contents.proofs.ReadyMoves.{entered_is, entered_others}
 use Rattle.pp_contents.proofs.StepKinds.{CallStep, stays, takes, evicts, puts}
 use Rattle.pp_contents.proofs.TokenMoves.{WritesPage, at_now, now_there, has_now, has_spent, has_more}
 use Rattle.pp_contents.proofs.TokensApart.{Stands, token_unready}
-use Rattle.pp_contents.proofs.Replies.{latched_by, unlatched_by}
+use Rattle.pp_vault.proofs.UseReplies.{latched_by, unlatched_by}
 
 -- ---- guards that have no page latched X
 

@@ -30,7 +30,7 @@ use Rattle.pp_contents.proofs.ContentPlaces.{unready_image, content_at}
 use Rattle.pp_contents.proofs.ContentSteps.{is_left, was_there, has_after, one_is_set}
 use Rattle.pp_vault.proofs.FitTests.{some_some}
 use Rattle.pp_contents.proofs.ImageSteps.{guarded, SameToken}
-use Rattle.pp_contents.proofs.SharedReady.{shared_ready}
+use Rattle.pp_vault.proofs.Looked.{shared_ready}
 use Rattle.pp_contents.proofs.TokenMoves.{guards_now, set_there, set_others}
 use Rattle.pp_contents.proofs.TokensApart.{token_unloaded, loaded_unready}
 

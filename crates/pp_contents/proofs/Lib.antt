@@ -1,6 +1,3 @@
-pub mod SharedReady
-pub mod Replies
-pub mod ErrandsOut
 pub mod ImageSteps
 pub mod Finding
 pub mod TokensApart

@@ -47,7 +47,7 @@ use Rattle.pp_vault.proofs.Plain.{answered, taken, chosen, finished}
 use Rattle.pp_contents.proofs.StepKinds.{CallStep}
 use Rattle.pp_contents.proofs.TokenMoves.{has_spent}
 use Rattle.pp_contents.proofs.TokensApart.{Stands}
-use Rattle.pp_contents.proofs.Replies.{did_by}
+use Rattle.pp_vault.proofs.UseReplies.{did_by}
 use Rattle.pp_model.proofs.Shapes.{reply_fits}
 
 -- ---- one move

@@ -7,6 +7,7 @@ use Rattle.std.proofs.lemmas.List.{length-append}
 use Rattle.pp_plan.specs.declared.mode.Mode.{Mode}
 use Rattle.pp_plan.specs.declared.action.Action.{Action}
 use Rattle.pp_plan.specs.declared.action.Action.TheVariants as action
+use Rattle.pp_plan.specs.Limits.{most_slots}
 use Rattle.pp_plan.specs.Terms.{Terms}
 use Rattle.pp_plan.specs.PlanTraces.{PlanAsks}
 use Rattle.pp_plan.specs.Left.{Place}
@@ -14,10 +15,11 @@ use Rattle.pp_plan.specs.Cursor.{StandsFor as CursorStandsFor}
 use Rattle.pp_cert.specs.Accepted.{Acceptance}
 use Rattle.pp_cert.specs.Held.{Holding, holding_at}
 use Rattle.pp_model.specs.Pool.{Stage, acting, writing, reading, leaving, Running, State}
-use Rattle.pp_model.specs.Holders.{holdings}
+use Rattle.pp_model.specs.Holders.{holdings, held_slots}
 use Rattle.pp_model.specs.Outcome.{having_done}
 use Rattle.pp_model.specs.Moves.{seat_of}
 use Rattle.pp_model.proofs.Changes.{IsAt, IsAsked}
+use Rattle.pp_model.proofs.HeldSlots.{few_held}
 use Rattle.pp_model.proofs.HoldingSteps as steps
 use Rattle.pp_model.proofs.BoundSteps as numbers
 use Rattle.pp_core.specs.declared.seat.Hold.{Hold}
@@ -92,7 +94,7 @@ pub record IsDue (r : Running) (a : Action) : Type 0 where
   pub on : IsOnPlan r.stage
   pub asks : PlanAsks r.accepted.plan r.done a
   pub few : length r.done < 1000000
-  pub slots : FitsSlots a (length (holdings r)) 32
+  pub slots : FitsSlots a (held_slots most_slots (holdings r)) 32
 
 pub can_act : (f : Parts) (s : State) (w : ℕ) (r : Running) (a : Action) → StandsFor f s → seat_of s w ≡ Some (Some r)
     → IsDue r a → CanAct f w a
@@ -101,7 +103,7 @@ can_act f s w r a st e due =
     let x = k.seat in
     let cursor = cursor_of s.plans x r k.fits due.on in
     let slots = subst (λ (n : ℕ). FitsSlots a n (length x.slots)) (sym k.fits.holds)
-    (subst (λ (n : ℕ). FitsSlots a (length (holdings r)) n) (sym k.fits.width) due.slots) in
+    (subst (λ (n : ℕ). FitsSlots a (held_slots most_slots (holdings r)) n) (sym k.fits.width) due.slots) in
     let room : x.actions + 1 < 2 ^ 32 = omega (arith, k.fits.actions, due.few) in
     record {
       seat = x;
@@ -120,8 +122,8 @@ can_act f s w r a st e due =
 -- The worker's slots say after the action what its holdings say.
 abbrev pub SlotsFollow : Running → Action → Type 0
 SlotsFollow r a =
-    (xs : List (Option Hold)) (n : ℕ) → length xs ≡ 32 → Tell xs (holdings r) → n ≡ length (holdings r)
-    → (count_after a n ≡ length (holdings (having_done r a))) × Tell (slots_after a xs) (holdings (having_done r a))
+    (xs : List (Option Hold)) (n : ℕ) → length xs ≡ 32 → Tell xs (holdings r) → n ≡ held_slots most_slots (holdings r)
+    → (count_after a n ≡ held_slots most_slots (holdings (having_done r a))) × Tell (slots_after a xs) (holdings (having_done r a))
 
 pub acted_crew : (f g : Parts) (s : State) (w : ℕ) (r : Running) (a : Action) → StandsFor f s → Acted f g w a
     → seat_of s w ≡ Some (Some r) → IsOnPlan r.stage → SlotsFollow r a
@@ -155,10 +157,7 @@ module _ (f : Parts) (s : State) (w : ℕ) (r : Running) (st : StandsFor f s) wh
   limited : seat_of s w ≡ Some (Some r) → length r.done < r.accepted.steps → length r.done < 1000000
   limited e few = omega (arith, (steps.seat_is s st.reached w r e).accepted.limit)
 
-  held_few : seat_of s w ≡ Some (Some r) → length (holdings r) ≤ 32
-  held_few e = steps.slots_are_few s st.reached w r e
-
-  asked_due : (a : Action) → IsAsked s w r a → FitsSlots a (length (holdings r)) 32 → IsDue r a
+  asked_due : (a : Action) → IsAsked s w r a → FitsSlots a (held_slots most_slots (holdings r)) 32 → IsDue r a
   asked_due a asked fits = record {
     on = acting_on a asked;
     asks = steps.asks_it s st.reached w r a asked;
@@ -169,14 +168,14 @@ module _ (f : Parts) (s : State) (w : ℕ) (r : Running) (st : StandsFor f s) wh
   pub fix_due : (slot page : ℕ) → IsAsked s w r (action.Fix slot page) → IsDue r (action.Fix slot page)
   fix_due slot page asked =
       asked_due (action.Fix slot page) asked
-      ((steps.fix_finds s st.reached w r slot page asked).few, held_few asked.at.seat)
+      ((steps.fix_finds s st.reached w r slot page asked).few, few_held most_slots (holdings r))
 
   pub load_due : (slot page : ℕ) → IsAt s w r (reading slot page) → IsDue r (action.Fix slot page)
   load_due slot page at = record {
     on = reading_on slot page at;
     asks = steps.reading_asks s st.reached w r slot page at;
     few = limited at.seat (numbers.reading_few s st.reached w r slot page at);
-    slots = ((steps.reading_finds s st.reached w r slot page at).few, held_few at.seat);
+    slots = ((steps.reading_finds s st.reached w r slot page at).few, few_held most_slots (holdings r));
   }
 
   found_few : (slot : ℕ) (h : Holding) → seat_of s w ≡ Some (Some r) → holding_at (holdings r) slot ≡ Some h → slot < 32
@@ -185,7 +184,7 @@ module _ (f : Parts) (s : State) (w : ℕ) (r : Running) (st : StandsFor f s) wh
   pub unfix_due : (slot : ℕ) → IsAsked s w r (action.Unfix slot) → IsDue r (action.Unfix slot)
   unfix_due slot asked =
       let finds = steps.unfix_finds s st.reached w r slot asked in
-      let some : 0 < length (holdings r) = omega (arith, steps.unfix_length s st.reached w r slot asked) in
+      let some : 0 < held_slots most_slots (holdings r) = omega (arith, steps.unfix_slots s st.reached w r slot asked) in
       asked_due (action.Unfix slot) asked (found_few slot finds.0 asked.at.seat finds.1.found, some)
 
   pub latch_due : (slot : ℕ) (m : Mode) → IsAsked s w r (action.Latch slot m) → IsDue r (action.Latch slot m)
@@ -205,7 +204,7 @@ module _ (f : Parts) (s : State) (w : ℕ) (r : Running) (st : StandsFor f s) wh
   pub fix_follow : (slot page : ℕ) → IsAsked s w r (action.Fix slot page) → SlotsFollow r (action.Fix slot page)
   fix_follow slot page asked xs n wide tell e =
       let few = (steps.fix_finds s st.reached w r slot page asked).few in (
-        omega (arith, e, steps.fix_length s st.reached w r slot page asked),
+        omega (arith, e, steps.fix_slots s st.reached w r slot page asked),
         tell_set xs (holdings r) (holdings (having_done r (action.Fix slot page))) slot _ _ (omega
             (arith, few, wide)) refl tell
             (steps.fix_holds s st.reached w r slot page asked),
@@ -214,7 +213,7 @@ module _ (f : Parts) (s : State) (w : ℕ) (r : Running) (st : StandsFor f s) wh
   pub load_follow : (slot page : ℕ) → IsAt s w r (reading slot page) → SlotsFollow r (action.Fix slot page)
   load_follow slot page at xs n wide tell e =
       let few = (steps.reading_finds s st.reached w r slot page at).few in (
-        omega (arith, e, steps.loaded_length s st.reached w r slot page at),
+        omega (arith, e, steps.loaded_slots s st.reached w r slot page at),
         tell_set xs (holdings r) (holdings (having_done r (action.Fix slot page))) slot _ _ (omega
             (arith, few, wide)) refl tell
             (steps.loaded_holds s st.reached w r slot page at),
@@ -224,7 +223,7 @@ module _ (f : Parts) (s : State) (w : ℕ) (r : Running) (st : StandsFor f s) wh
   unfix_follow slot asked xs n wide tell e =
       let finds = steps.unfix_finds s st.reached w r slot asked in
       let few = found_few slot finds.0 asked.at.seat finds.1.found in (
-        omega (arith, e, steps.unfix_length s st.reached w r slot asked),
+        omega (arith, e, steps.unfix_slots s st.reached w r slot asked),
         tell_set xs (holdings r) (holdings (having_done r (action.Unfix slot))) slot None None (omega
             (arith, few, wide)) refl tell
             (steps.unfix_holds s st.reached w r slot asked),
@@ -234,7 +233,7 @@ module _ (f : Parts) (s : State) (w : ℕ) (r : Running) (st : StandsFor f s) wh
   latch_follow slot m asked xs n wide tell e =
       let finds = steps.latch_finds s st.reached w r slot m asked in
       let few = found_few slot finds.0 asked.at.seat finds.1.found in (
-        omega (arith, e, steps.latch_length s st.reached w r slot m asked),
+        omega (arith, e, steps.latch_slots s st.reached w r slot m asked),
         tell_as xs (holdings r) (holdings (having_done r (action.Latch slot m))) slot finds.0 _ (omega
             (arith, few, wide)) finds.1.found tell
             (steps.latch_holds s st.reached w r slot m asked finds.0 finds.1.found),
@@ -244,7 +243,7 @@ module _ (f : Parts) (s : State) (w : ℕ) (r : Running) (st : StandsFor f s) wh
   unlatch_follow slot asked xs n wide tell e =
       let finds = steps.unlatch_finds s st.reached w r slot asked in
       let few = found_few slot finds.0 asked.at.seat finds.1.found in (
-        omega (arith, e, steps.unlatch_length s st.reached w r slot asked),
+        omega (arith, e, steps.unlatch_slots s st.reached w r slot asked),
         tell_as xs (holdings r) (holdings (having_done r (action.Unlatch slot))) slot finds.0 _ (omega
             (arith, few, wide)) finds.1.found tell
             (steps.unlatch_holds s st.reached w r slot asked finds.0 finds.1.found),
@@ -253,4 +252,4 @@ module _ (f : Parts) (s : State) (w : ℕ) (r : Running) (st : StandsFor f s) wh
   pub choose_follow : (i : ℕ) → IsAsked s w r (action.Choose i) → SlotsFollow r (action.Choose i)
   choose_follow i asked xs n wide tell e =
       let same = steps.choose_holds s st.reached w r i asked in
-      (e ∙ ap length (sym same), subst (Tell xs) (sym same) tell)
+      (e ∙ ap (held_slots most_slots) (sym same), subst (Tell xs) (sym same) tell)

@@ -4,6 +4,7 @@ use Rattle.std.proofs.Common.{length}
 use Rattle.std.proofs.Common.{refl, sym, ap, subst, arith}
 use Rattle.std.specs.Prelude.{slice_get, slice_set, option_map, unwrap_or, Result, Ok, Err, not, ◌||◌, ◌==◌}
 use Rattle.pp_plan.specs.declared.action.Action.TheVariants as action
+use Rattle.pp_plan.specs.Limits.{most_slots}
 use Rattle.pp_cert.specs.Accepted.{Acceptance}
 use Rattle.pp_arc.specs.FourLists.{FourLists, is_cached}
 use Rattle.pp_arc.specs.Figure.{forget, bring_back as bring_back_in}
@@ -18,7 +19,7 @@ use Rattle.pp_model.specs.declared.reply.Reply.TheVariants.{MustRead, Failed, Lo
 use Rattle.pp_model.specs.declared.reply.Failure.{Failure}
 use Rattle.pp_model.specs.declared.reply.Failure.TheVariants.{WriteFault, ReadFault, Misread}
 use Rattle.pp_model.specs.Pool.{Stage, acting, writing, reading, leaving, Running, State, note_of, frame_of, frame_at}
-use Rattle.pp_model.specs.Holders.{loading as loading_of, is_in_flight, given_back, latches_at}
+use Rattle.pp_model.specs.Holders.{loading as loading_of, is_in_flight, given_back, latches_at, holdings}
 use Rattle.pp_model.specs.Budget.{bound, left_to}
 use Rattle.pp_model.specs.Marks.{marks}
 use Rattle.pp_model.specs.Outcome.{off_plan, did, with_lists, with_stage, with_frame, with_dirty, with_mark}
@@ -29,6 +30,7 @@ use Rattle.pp_model.specs.Moves.{seat_of, outcome_of}
 use Rattle.pp_model.proofs.Changes.{IsAt}
 use Rattle.pp_model.proofs.Sums.{sum_by-term}
 use Rattle.pp_model.proofs.Falls.{left_at}
+use Rattle.pp_model.proofs.HeldSlots.{few_held}
 use Rattle.pp_model.proofs.HoldingSteps as steps
 use Rattle.pp_model.proofs.BoundSteps as numbers
 use Rattle.pp_model.proofs.FlightSteps as flights
@@ -240,7 +242,7 @@ can_lose f s w g spare st x small left =
       runs = runs f s w x.seat r st x.is_in x.fits;
       actions = omega (arith, x.fits.actions, numbers.done_few s st.reached w r x.at.seat);
       short = seat.accepted.limit;
-      holds = omega (arith, x.fits.holds, steps.slots_are_few s st.reached w r x.at.seat);
+      holds = omega (arith, x.fits.holds, few_held most_slots (holdings r));
       budget = omega (arith, x.fits.actions, st.budget, left, sum_by-term left_to s.seats w (Some r) x.at.seat);
       small = omega (arith, st.budget, bound_within s st.reached, need_is_small s st.reached);
       spare_is_small = small;

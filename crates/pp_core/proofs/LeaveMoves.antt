@@ -1,8 +1,9 @@
 -- Finish, where it is done: what the core's calls need, and that its parts stand for the next state.
 use Rattle.std.proofs.Common.{◌≡◌, ◌∙◌, ℕ, ◌+◌, ◌-◌, ◌<◌, ◌≤◌, true, false, Option, Some, None, List, [], ◌∷◌, refl}
 use Rattle.std.proofs.Common.{sym, ap, subst, arith}
-use Rattle.std.specs.Prelude.{slice_set, option_map, length}
+use Rattle.std.specs.Prelude.{slice_set, option_map}
 use Rattle.pp_plan.specs.declared.action.Ask.TheVariants as ask
+use Rattle.pp_plan.specs.Limits.{most_slots}
 use Rattle.pp_cert.specs.Accepted.{Acceptance}
 use Rattle.pp_cert.specs.Held.{Holdings}
 use Rattle.pp_model.specs.declared.moves.Move.TheVariants as move
@@ -12,7 +13,7 @@ use Rattle.pp_model.specs.declared.reply.Ending.TheVariants.{Done, Gone}
 use Rattle.pp_model.specs.declared.refusals.Cause.{Cause}
 use Rattle.pp_model.specs.declared.refusals.Cause.TheVariants.{NotEnded}
 use Rattle.pp_model.specs.Pool.{Stage, acting, writing, reading, leaving, Running, State}
-use Rattle.pp_model.specs.Holders.{holdings, is_in_flight}
+use Rattle.pp_model.specs.Holders.{holdings, held_slots, is_in_flight}
 use Rattle.pp_model.specs.Budget.{peak_of, running_peaks, bound}
 use Rattle.pp_model.specs.Marks.{marks}
 use Rattle.pp_model.specs.Outcome.{Outcome}
@@ -22,6 +23,7 @@ use Rattle.pp_model.specs.Leaving.{ended as ended_in}
 use Rattle.pp_model.specs.Reached.{IsReached}
 use Rattle.pp_model.proofs.Changes.{IsAt}
 use Rattle.pp_model.proofs.Sums.{sum_by-term}
+use Rattle.pp_model.proofs.HeldSlots.{none_held}
 use Rattle.pp_model.proofs.HoldingSteps as steps
 use Rattle.pp_model.proofs.MarkSteps as marked
 use Rattle.pp_model.proofs.BoundSteps as numbers
@@ -167,14 +169,10 @@ module _ (f : Parts) (w : ℕ) (leaves : is_leaving (phase_of f w) ≡ true) whe
       → outcome_of s (move.Finish w) ≡ finish_holding s w l.running (holdings l.running)
   leaver_outcome s l = ap (finish_by s w) l.at.seat ∙ ap (finish_in s w l.running) l.at.stage
 
-  still_holds : (s : State) (r : Running) (hs : Holdings) → 0 < length hs
+  still_holds : (s : State) (r : Running) (hs : Holdings) → 0 < held_slots most_slots hs
       → finish_holding s w r hs ≡ record { reply = OffPlan NotEnded; state = s }
-  still_holds s r [] lt = absurd (omega arith)
+  still_holds s r [] lt = absurd (omega (arith, lt, none_held most_slots))
   still_holds s r (h ∷ hs) lt = refl
-
-  none_held : (hs : Holdings) → length hs ≡ 0 → hs ≡ []
-  none_held [] e = refl
-  none_held (h ∷ hs) e = absurd (omega (arith, e))
 
   abbrev TellsHolds : ℕ → Type 0
   TellsHolds n = (x : Seat) → IsIn f w x → n ≡ x.holds
@@ -186,14 +184,15 @@ module _ (f : Parts) (w : ℕ) (leaves : is_leaving (phase_of f w) ≡ true) whe
       leaver_outcome s l
       ∙ still_holds s l.running (holdings l.running) (omega (arith, lt, tells l.seat l.is_in, l.fits.holds)))
 
-  pub empty : (s : State) (l : Leaver f s w) (n : ℕ) → TellsHolds n → n ≤ 0 → holdings l.running ≡ []
-  empty s l n tells le = none_held (holdings l.running) (omega (arith, le, tells l.seat l.is_in, l.fits.holds))
+  pub empty : (s : State) → IsReached s → (l : Leaver f s w) (n : ℕ) → TellsHolds n → n ≤ 0 → holdings l.running ≡ []
+  empty s h l n tells le =
+      steps.none_holds s h w l.running l.at.seat (omega (arith, le, tells l.seat l.is_in, l.fits.holds))
 
   pub can_leave : IsKept f → (n : ℕ) → TellsHolds n → n ≤ 0 → CanEnd f w 1
   can_leave k n tells le =
       let s = k.state in
       let l = leaver f s w k.stands leaves in
-      let falls = numbers.leave_bound s k.stands.reached w l.running l.given l.at (empty s l n tells le) in
+      let falls = numbers.leave_bound s k.stands.reached w l.running l.given l.at (empty s k.stands.reached l n tells le) in
       can_end f s w l.running 1 k.stands l.at.seat (omega (arith, falls))
 
   pub gone_moves : (g : Parts) (n : ℕ) → TellsHolds n → n ≤ 0 → IsEnded f g w 1
@@ -204,7 +203,7 @@ module _ (f : Parts) (w : ℕ) (leaves : is_leaving (phase_of f w) ≡ true) whe
       leads s st =
           let l = leaver f s w st leaves in
           let r = l.running in
-          let none = empty s l n tells le in
+          let none = empty s st.reached l n tells le in
           record {
             after = ended_in s w r Gone;
             is = leaver_outcome s l ∙ ap (finish_holding s w r) none;

@@ -108,7 +108,7 @@ pub gone_possible : (f : Parts) (w : ℕ) (leaves : is_leaving (phase_of f w) �
 gone_possible f w leaves n told le = λ s st.
     let l = leaver f s w st leaves in
     done_so s (move.Finish w) (finish_holding s w l.running [])
-    (leaver_outcome f w leaves s l ∙ ap (finish_holding s w l.running) (empty f w leaves s l n told le)) refl
+    (leaver_outcome f w leaves s l ∙ ap (finish_holding s w l.running) (empty f w leaves s st.reached l n told le)) refl
 
 -- ---- a fix
 

@@ -2,10 +2,11 @@
 use Rattle.std.proofs.Common.{◌≡◌, ◌∙◌, ℕ, Some, List, length, sym, ap, subst}
 use Rattle.std.specs.Prelude.{slice_set}
 use Rattle.pp_plan.specs.declared.action.Action.{Action}
+use Rattle.pp_plan.specs.Limits.{most_slots}
 use Rattle.pp_cert.specs.Accepted.{Acceptance}
 use Rattle.pp_arc.specs.FourLists.{FourLists}
 use Rattle.pp_model.specs.Pool.{Stage, Running, State}
-use Rattle.pp_model.specs.Holders.{holdings, given_back}
+use Rattle.pp_model.specs.Holders.{holdings, held_slots, given_back}
 use Rattle.pp_model.specs.Outcome.{at_stage}
 use Rattle.pp_model.specs.Moves.{seat_of}
 use Rattle.pp_model.proofs.HoldingSteps.{stage_holds}
@@ -29,7 +30,7 @@ staged_fits plans x r p g fits same stage =
       cursor = fits.cursor;
       ask = fits.ask;
       actions = fits.actions;
-      holds = fits.holds ∙ ap length (sym holds);
+      holds = fits.holds ∙ ap (held_slots most_slots) (sym holds);
       width = fits.width;
       slots = subst (Tell x.slots) (sym holds) fits.slots;
       phase = stage;

@@ -6,12 +6,13 @@ use Rattle.std.proofs.lemmas.Bool.{eqb-true, eqb-false}
 use Rattle.std.proofs.lemmas.List.{get_or-set_same, get_or-set_other}
 use Rattle.pp_plan.specs.declared.action.Action.{Action}
 use Rattle.pp_plan.specs.declared.action.Action.TheVariants.{Fix, Unfix, Latch, Unlatch, Choose}
+use Rattle.pp_plan.specs.Limits.{most_slots}
 use Rattle.pp_plan.specs.Cursor.{StandsFor as CursorStandsFor}
 use Rattle.pp_cert.specs.declared.note.Held.{Held}
 use Rattle.pp_cert.specs.Accepted.{Acceptance}
 use Rattle.pp_cert.specs.Held.{Holding, Holdings, holding_at}
 use Rattle.pp_model.specs.Pool.{acting, Running}
-use Rattle.pp_model.specs.Holders.{holdings}
+use Rattle.pp_model.specs.Holders.{holdings, held_slots}
 use Rattle.pp_model.specs.Outcome.{having_done}
 use Rattle.pp_core.specs.declared.seat.Hold.{Hold}
 use Rattle.pp_core.specs.declared.seat.Phase.{Phase}
@@ -70,7 +71,7 @@ slots_width (Choose i) xs = refl
 
 pub acted_fits : (plans : List Acceptance) (x y : Seat) (r : Running) (a : Action) → FitsRunning plans x r
     → CursorStandsFor r.accepted.plan x.cursor r.done → Did r.accepted.plan x y a
-    → count_after a x.holds ≡ length (holdings (having_done r a))
+    → count_after a x.holds ≡ held_slots most_slots (holdings (having_done r a))
     → Tell (slots_after a x.slots) (holdings (having_done r a)) → length r.done + 1 ≡ length (r.done ++ a ∷ [])
     → FitsRunning plans y (having_done r a)
 acted_fits plans x y r a fits cursor did count tell more = record {

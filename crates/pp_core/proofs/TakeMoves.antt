@@ -2,6 +2,7 @@
 use Rattle.std.proofs.Common.{◌≡◌, ◌∙◌, ℕ, zero, suc, ◌+◌, ◌≤◌, true, false, Option, Some, None, List, refl, sym, ap}
 use Rattle.std.proofs.Common.{subst, arith}
 use Rattle.std.specs.Prelude.{slice_get, option_map, length, replicate, is_some, nat_le}
+use Rattle.pp_plan.specs.Limits.{most_slots}
 use Rattle.pp_cert.specs.Accepted.{Acceptance}
 use Rattle.pp_model.specs.declared.moves.Move.TheVariants as move
 use Rattle.pp_model.specs.declared.reply.Reply.TheVariants.{Taken, OffPlan, NotNow}
@@ -12,6 +13,7 @@ use Rattle.pp_model.specs.Budget.{running_peaks}
 use Rattle.pp_model.specs.Moves.{seat_of, outcome_of}
 use Rattle.pp_model.specs.Taking.{take_by, take_where, beginning, began}
 use Rattle.pp_model.specs.Taking.{has_room as has_room_in}
+use Rattle.pp_model.proofs.HeldSlots.{none_held}
 use Rattle.pp_model.proofs.MarkSteps as marked
 use Rattle.pp_model.proofs.BoundSteps as numbers
 use Rattle.pp_model.proofs.FlightSteps as flights
@@ -45,7 +47,7 @@ begun_fits s k x a number next begun = record {
   cursor = begun.cursor;
   ask = begun.ask;
   actions = begun.actions;
-  holds = begun.holds;
+  holds = begun.holds ∙ sym (none_held most_slots);
   width = ap length begun.slots;
   slots = λ slot. ap (λ (xs : List (Option Hold)). hold_at xs slot) begun.slots ∙ no_hold 32 slot;
   phase = subst (λ (p : Phase). FitsStage p acting) (sym begun.phase) tt;

@@ -153,7 +153,7 @@ emptied_fits s w slot x r given k h fits phase at found =
       cursor = fits.cursor;
       ask = fits.ask;
       actions = fits.actions;
-      holds = omega (arith, fits.holds, steps.unwind_length s h w r slot given k at found);
+      holds = omega (arith, fits.holds, steps.unwind_slots s h w r slot given k at found);
       width = set_length x.slots slot None ∙ fits.width;
       slots = tell_set x.slots (holdings r) (holdings y) slot None None (omega (arith, few, fits.width)) refl fits.slots
           (steps.unwind_holds s h w r slot given k at found);
@@ -269,7 +269,7 @@ module _ (f : Parts) (w slot : ℕ) (leaves : is_leaving (phase_of f w) ≡ true
         let l = leaver f s w st leaves in
         let b = behind s l in
         let few = (steps.slots_are_within s st.reached w l.running l.at.seat slot b.0 b.1).few in
-        let some = steps.unwind_length s st.reached w l.running slot l.given b.0 l.at b.1 in
+        let some = steps.unwind_slots s st.reached w l.running slot l.given b.0 l.at b.1 in
         record {
           can = record {
             seat = l.seat;

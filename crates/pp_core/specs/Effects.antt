@@ -1,8 +1,10 @@
 -- What the calls inside the core need of what it keeps, and what they do to it.
 use Rattle.std.specs.Prelude.{◌≡◌, ℕ, ◌+◌, ◌-◌, ◌<◌, ◌≤◌, ◌^◌, Bool, true, false, Option, None, Some, option_map}
-use Rattle.std.specs.Prelude.{unwrap_or, length, slice_get, slice_set}
+use Rattle.std.specs.Prelude.{option_and_then, unwrap_or, length, slice_get, slice_set}
 use Rattle.pp_plan.specs.declared.action.Action.{Action}
 use Rattle.pp_plan.specs.declared.action.Action.TheVariants as action
+use Rattle.pp_plan.specs.declared.action.Ask.{Ask}
+use Rattle.pp_plan.specs.declared.action.Ask.TheVariants as ask
 use Rattle.pp_cert.specs.declared.note.Held.{Held}
 use Rattle.pp_cert.specs.declared.note.Held.TheVariants.{Free, S, X}
 use Rattle.pp_cert.specs.Accepted.{Acceptance}
@@ -36,6 +38,10 @@ acting_fault (Some (Some Acting)) = None
 acting_fault (Some (Some (Writing slot page victim))) = Some NotActing
 acting_fault (Some (Some (Reading slot page))) = Some NotActing
 acting_fault (Some (Some Leaving)) = Some NotActing
+
+-- What worker w's plan asks, as its seat has it; the end where the worker is in no plan.
+abbrev pub ask_in : Parts → ℕ → Ask
+ask_in f w = unwrap_or (option_map (λ (x : Seat). x.ask) (option_and_then (λ o. o) (slice_get f.seats w))) ask.End
 
 -- Worker w is in its plan, and so.
 abbrev pub IsIn : Parts → ℕ → Seat → Type 0

@@ -1,13 +1,14 @@
 -- What a core stands for: how what it keeps hangs together with a state of the model. The core keeps cursors, counters
 -- and one map of marks; the state has lists of actions done.
 use Rattle.std.specs.Prelude.{◌≡◌, ℕ, Bool, Option, None, Some, option_map, List, length, slice_get}
+use Rattle.pp_plan.specs.Limits.{most_slots}
 use Rattle.pp_plan.specs.Cursor as cursor
 use Rattle.pp_cert.specs.Held.{holding_at}
 use Rattle.pp_cert.specs.Accepted.{Acceptance}
 use Rattle.pp_model.specs.declared.moves.Move.{Move}
 use Rattle.pp_model.specs.declared.reply.Reply.{Reply}
 use Rattle.pp_model.specs.Pool.{Stage, acting, writing, reading, leaving, Running, Flush as FlushInFlight, State}
-use Rattle.pp_model.specs.Holders.{holdings, is_in_flight}
+use Rattle.pp_model.specs.Holders.{holdings, held_slots, is_in_flight}
 use Rattle.pp_model.specs.Budget.{running_peaks, journal_need, bound}
 use Rattle.pp_model.specs.Marks.{marks}
 use Rattle.pp_model.specs.Moves.{asked_by, act_by, seat_of, outcome_of, reply_of, next_of}
@@ -41,7 +42,8 @@ pub record FitsRunning (plans : List Acceptance) (x : Seat) (r : Running) : Type
   -- what the plan asks after them
   pub ask : x.ask ≡ asked_by r
   pub actions : x.actions ≡ length r.done
-  pub holds : x.holds ≡ length (holdings r)
+  -- how many slots hold something
+  pub holds : x.holds ≡ held_slots most_slots (holdings r)
   -- a slot holds what the worker holds in it
   pub width : length x.slots ≡ 32
   pub slots : (slot : ℕ) → hold_at x.slots slot ≡ option_map hold_of (holding_at (holdings r) slot)

@@ -4,12 +4,14 @@
 ghost use Rattle.std.specs.Prelude.{◌≡◌, ◌<◌, ◌≤◌, ◌-◌, ℕ, IsTrue, Some};
 ghost use Rattle.pp_plan.specs.Asked.{region_has};
 ghost use Rattle.pp_arc.specs.Figure.{request};
+ghost use Rattle.pp_model.specs.Fixing.{fixes};
 ghost use Rattle.pp_model.specs.Moves.{is_refusal};
 ghost use Rattle.pp_core.specs.declared.seat.Seat.{Seat};
 ghost use Rattle.pp_core.specs.declared.seat.Phase.TheVariants.{Writing, Reading};
 ghost use Rattle.pp_core.specs.Parts.{parts_of};
 ghost use Rattle.pp_core.specs.StandsFor.{IsKept, Moves};
-ghost use Rattle.pp_core.specs.Effects.{IsIn, Spent, frame_at, mark_at, pinned, is_flying, flushed_page, is_busy};
+ghost use Rattle.pp_core.specs.Effects.{IsIn, Spent, ask_in, frame_at, mark_at, pinned, is_flying, flushed_page};
+ghost use Rattle.pp_core.specs.Effects.{is_busy};
 ghost use Rattle.pp_core.specs.Fixing.{CanHit, CanFill, CanEvict, CanSend, CanTakeOver, filled, evicted, sent};
 ghost use Rattle.pp_core.specs.Fixing.{taken_over};
 ghost use Rattle.pp_core.specs.Fixing.{free_frame};
@@ -100,8 +102,8 @@ impl Table {
     #[inline(always)]
     fn hit(&mut self, worker: u32, slot: u8, page: u32) -> Reply
         requires { CanHit (parts_of self.old) worker slot page }
-        ensures spent { Spent (parts_of self.old) (parts_of self.new) worker (Action.Fix slot page)
-            (pinned self.old.marks page) }
+        ensures spent { Spent (parts_of self.old) (parts_of self.new) worker
+            (fixes (ask_in (parts_of self.old) worker) slot page) (pinned self.old.marks page) }
         ensures reply { result ≡ Reply.Hit (frame_at self.old.marks page) (mark_at self.old.marks page) }
     {
         let reply = Reply::Hit {

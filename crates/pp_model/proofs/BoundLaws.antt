@@ -17,11 +17,12 @@ use Rattle.pp_model.specs.Holders.{page_in, held_in}
 use Rattle.pp_model.specs.Budget.{cost_of, left_to, left_to_flush, bound}
 use Rattle.pp_model.specs.Outcome.{with_seat, at_stage, having_done, released}
 use Rattle.pp_model.specs.Taking.{beginning}
-use Rattle.pp_model.specs.Moves.{next_of, is_possible, seat_of}
+use Rattle.pp_model.specs.Moves.{next_of, is_possible, seat_of, asked_by}
 use Rattle.pp_model.specs.Submitting.{submitted, submitted_unless, after_submit}
 use Rattle.pp_model.specs.Runs.{Input, plan, move, run, state_after, count_done}
 use Rattle.pp_model.specs.Reached.{IsReached}
 use Rattle.pp_model.specs.Laws.{BoundFalls, BoundRises, IsAcceptedInput}
+use Rattle.pp_model.specs.Fixing.{fixes}
 use Rattle.pp_model.proofs.Sums.{sum_by-slice_set}
 use Rattle.pp_model.proofs.Changes as change
 use Rattle.pp_model.proofs.Changes.{Change, IsAsked, IsReal, done_by, refused_by}
@@ -73,7 +74,7 @@ module _ (s t : State) (good : GoodSeats s) where
         sum_by-slice_set left_to s.seats w None
             (Some (beginning s a)) idle,
       )
-  falls (change.hits w r slot page l asked is e) real = action_falls w r (action.Fix slot page) asked (ap bound e)
+  falls (change.hits w r slot page l asked is e) real = action_falls w r (fixes (asked_by r) slot page) asked (ap bound e)
   falls (change.fills w r slot page l asked is e) real =
       seat_falls s t w r (Some (at_stage r (reading slot page))) asked.at.seat (ap bound e)
       (omega (arith, left_at r acting asked.at.stage))
@@ -100,7 +101,7 @@ module _ (s t : State) (good : GoodSeats s) where
       (subst (Sends r) at.stage seat.errand) (omega (arith, left)))
   falls (change.loads w r slot page stamp at known e) real =
       let seat = seat_at s w r good at.seat in
-      seat_falls s t w r (Some (having_done r (action.Fix slot page))) at.seat (ap bound e)
+      seat_falls s t w r (Some (having_done r (fixes (asked_by r) slot page))) at.seat (ap bound e)
       (loads_left s.settings.layout r slot page seat at.stage (subst (Sends r) at.stage seat.errand))
   falls (change.unfixes w r slot asked e) real = action_falls w r (action.Unfix slot) asked (ap bound e)
   falls (change.latches w r slot m asked goes e) real = action_falls w r (action.Latch slot m) asked (ap bound e)

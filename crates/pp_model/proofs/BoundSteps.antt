@@ -7,6 +7,7 @@ use Rattle.std.proofs.lemmas.List.{length-append}
 use Rattle.pp_plan.specs.declared.mode.Mode.{Mode}
 use Rattle.pp_plan.specs.declared.action.Action.{Action}
 use Rattle.pp_plan.specs.declared.action.Action.TheVariants as action
+use Rattle.pp_plan.specs.Limits.{most_slots}
 use Rattle.pp_cert.specs.Accepted.{Acceptance}
 use Rattle.pp_cert.specs.Held.{Holding, holding_at}
 use Rattle.pp_arc.specs.FourLists.{FourLists}
@@ -14,28 +15,29 @@ use Rattle.pp_arc.specs.Figure.{forget}
 use Rattle.pp_model.specs.declared.reply.Ending.{Ending}
 use Rattle.pp_model.specs.declared.reply.Ending.TheVariants.{Done, Gone}
 use Rattle.pp_model.specs.Pool.{Stage, acting, writing, reading, leaving, Running, Flush, State}
-use Rattle.pp_model.specs.Holders.{given_back, holdings, page_in, held_in}
+use Rattle.pp_model.specs.Holders.{given_back, holdings, held_slots, page_in, held_in}
 use Rattle.pp_model.specs.Budget.{peak_of, running_peaks, cost_of, left_to, left_to_flush, bound, journal_need}
 use Rattle.pp_model.specs.Outcome.{with_seat, with_stage, at_stage, having_done, did, with_lists, with_frame}
 use Rattle.pp_model.specs.Outcome.{with_dirty, with_mark, released}
 use Rattle.pp_model.specs.Taking.{has_room, beginning, began}
-use Rattle.pp_model.specs.Fixing.{with_frame_moved, free_frame}
+use Rattle.pp_model.specs.Fixing.{with_frame_moved, free_frame, fixes}
 use Rattle.pp_model.specs.Answers.{brought_back}
 use Rattle.pp_model.specs.Using.{unlatched}
 use Rattle.pp_model.specs.Leaving.{ended}
 use Rattle.pp_model.specs.Flushing.{flush_begun, flush_over}
-use Rattle.pp_model.specs.Moves.{seat_of}
+use Rattle.pp_model.specs.Moves.{seat_of, asked_by}
 use Rattle.pp_model.specs.Submitting.{submitted}
 use Rattle.pp_model.specs.Reached.{IsReached}
 use Rattle.pp_model.proofs.Sums.{sum_by-slice_set}
 use Rattle.pp_model.proofs.Changes.{IsAt, IsAsked, CanFlush}
 use Rattle.pp_model.proofs.ChangeTotals.{released_seats}
+use Rattle.pp_model.proofs.HeldSlots.{none_held}
 use Rattle.pp_model.proofs.Falls.{left_at, step_left}
 use Rattle.pp_model.proofs.BoundLaws.{next_cost, released_bound}
 use Rattle.pp_model.proofs.Room.{room}
 use Rattle.pp_model.proofs.Counts.{IsNumbered, counted, bounded, submit_raises, need_more}
 use Rattle.pp_model.proofs.HoldingSteps.{seat_is, asks_it, writing_asks, reading_asks, stage_holds}
-use Rattle.pp_model.proofs.HoldingSteps.{unwind_length}
+use Rattle.pp_model.proofs.HoldingSteps.{unwind_slots}
 
 -- ---- one seat
 
@@ -83,12 +85,12 @@ module _ (s : State) (h : IsReached s) (w : ℕ) (r : Running) where
   pub writing_few : (slot page v : ℕ) → IsAt s w r (writing slot page v) → length r.done < r.accepted.steps
   writing_few slot page v at =
       let asks = writing_asks s h w r slot page v at in
-      omega (arith, step_left r (action.Fix slot page) (seat_is s h w r at.seat).accepted asks)
+      omega (arith, step_left r (fixes (asked_by r) slot page) (seat_is s h w r at.seat).accepted asks)
 
   pub reading_few : (slot page : ℕ) → IsAt s w r (reading slot page) → length r.done < r.accepted.steps
   reading_few slot page at =
       let asks = reading_asks s h w r slot page at in
-      omega (arith, step_left r (action.Fix slot page) (seat_is s h w r at.seat).accepted asks)
+      omega (arith, step_left r (fixes (asked_by r) slot page) (seat_is s h w r at.seat).accepted asks)
 
   pub done_few : seat_of s w ≡ Some (Some r) → length r.done ≤ r.accepted.steps
   done_few e = let seat = seat_is s h w r e in omega (arith, seat.accepted.steps r.done seat.begun)
@@ -116,17 +118,17 @@ module _ (s : State) (h : IsReached s) (w : ℕ) (r : Running) where
   -- ---- fixes
 
   -- A hit costs three; a miss that reads at once two, and one that writes its victim first one. No peak changes.
-  pub hit_bound : (slot page : ℕ) (l : FourLists) → IsAsked s w r (action.Fix slot page)
-      → bound (did (with_lists s l) w r (action.Fix slot page)) + 3 ≡ bound s
+  pub hit_bound : (slot page : ℕ) (l : FourLists) → IsAsked s w r (fixes (asked_by r) slot page)
+      → bound (did (with_lists s l) w r (fixes (asked_by r) slot page)) + 3 ≡ bound s
   hit_bound slot page l asked =
-      action_bound (did (with_lists s l) w r (action.Fix slot page)) (action.Fix slot page) asked refl
+      action_bound (did (with_lists s l) w r (fixes (asked_by r) slot page)) (fixes (asked_by r) slot page) asked refl
 
-  pub hit_peaks : (slot page : ℕ) (l : FourLists) → IsAsked s w r (action.Fix slot page)
-      → running_peaks (did (with_lists s l) w r (action.Fix slot page)) ≡ running_peaks s
+  pub hit_peaks : (slot page : ℕ) (l : FourLists) → IsAsked s w r (fixes (asked_by r) slot page)
+      → running_peaks (did (with_lists s l) w r (fixes (asked_by r) slot page)) ≡ running_peaks s
   hit_peaks slot page l asked =
-      action_peaks (did (with_lists s l) w r (action.Fix slot page)) (action.Fix slot page) asked refl
+      action_peaks (did (with_lists s l) w r (fixes (asked_by r) slot page)) (fixes (asked_by r) slot page) asked refl
 
-  pub fill_bound : (slot page : ℕ) (l : FourLists) → IsAsked s w r (action.Fix slot page)
+  pub fill_bound : (slot page : ℕ) (l : FourLists) → IsAsked s w r (fixes (asked_by r) slot page)
       → bound (with_stage (with_frame (with_lists s l) page (Some (free_frame s))) w r (reading slot page)) + 2
       ≡ bound s
   fill_bound slot page l asked =
@@ -137,14 +139,14 @@ module _ (s : State) (h : IsReached s) (w : ℕ) (r : Running) where
         left_at r acting asked.at.stage,
       )
 
-  pub fill_peaks : (slot page : ℕ) (l : FourLists) → IsAsked s w r (action.Fix slot page)
+  pub fill_peaks : (slot page : ℕ) (l : FourLists) → IsAsked s w r (fixes (asked_by r) slot page)
       → running_peaks (with_stage (with_frame (with_lists s l) page (Some (free_frame s))) w r (reading slot page))
       ≡ running_peaks s
   fill_peaks slot page l asked =
       let t = with_stage (with_frame (with_lists s l) page (Some (free_frame s))) w r (reading slot page) in
       stage_peaks t (reading slot page) asked.at.seat refl
 
-  pub evict_bound : (slot page v : ℕ) (l : FourLists) → IsAsked s w r (action.Fix slot page)
+  pub evict_bound : (slot page v : ℕ) (l : FourLists) → IsAsked s w r (fixes (asked_by r) slot page)
       → bound (with_stage (with_frame_moved (with_lists s l) page v) w r (reading slot page)) + 2 ≡ bound s
   evict_bound slot page v l asked =
       let t = with_stage (with_frame_moved (with_lists s l) page v) w r (reading slot page) in
@@ -154,13 +156,13 @@ module _ (s : State) (h : IsReached s) (w : ℕ) (r : Running) where
         left_at r acting asked.at.stage,
       )
 
-  pub evict_peaks : (slot page v : ℕ) (l : FourLists) → IsAsked s w r (action.Fix slot page)
+  pub evict_peaks : (slot page v : ℕ) (l : FourLists) → IsAsked s w r (fixes (asked_by r) slot page)
       → running_peaks (with_stage (with_frame_moved (with_lists s l) page v) w r (reading slot page)) ≡ running_peaks s
   evict_peaks slot page v l asked =
       let t = with_stage (with_frame_moved (with_lists s l) page v) w r (reading slot page) in
       stage_peaks t (reading slot page) asked.at.seat refl
 
-  pub send_bound : (slot page v : ℕ) (l : FourLists) → IsAsked s w r (action.Fix slot page)
+  pub send_bound : (slot page v : ℕ) (l : FourLists) → IsAsked s w r (fixes (asked_by r) slot page)
       → bound (with_stage (with_frame_moved (with_lists s l) page v) w r (writing slot page v)) + 1 ≡ bound s
   send_bound slot page v l asked =
       let t = with_stage (with_frame_moved (with_lists s l) page v) w r (writing slot page v) in
@@ -170,7 +172,7 @@ module _ (s : State) (h : IsReached s) (w : ℕ) (r : Running) where
         left_at r acting asked.at.stage,
       )
 
-  pub send_peaks : (slot page v : ℕ) (l : FourLists) → IsAsked s w r (action.Fix slot page)
+  pub send_peaks : (slot page v : ℕ) (l : FourLists) → IsAsked s w r (fixes (asked_by r) slot page)
       → running_peaks (with_stage (with_frame_moved (with_lists s l) page v) w r (writing slot page v))
       ≡ running_peaks s
   send_peaks slot page v l asked =
@@ -196,9 +198,9 @@ module _ (s : State) (h : IsReached s) (w : ℕ) (r : Running) where
       stage_peaks (with_stage (with_dirty s v false) w r (reading slot page)) (reading slot page) at.seat refl
 
   pub load_bound : (slot page stamp : ℕ) → IsAt s w r (reading slot page)
-      → bound (did (with_mark s page stamp) w r (action.Fix slot page)) + 1 ≡ bound s
+      → bound (did (with_mark s page stamp) w r (fixes (asked_by r) slot page)) + 1 ≡ bound s
   load_bound slot page stamp at =
-      let a = action.Fix slot page in
+      let a = fixes (asked_by r) slot page in
       let t = did (with_mark s page stamp) w r a in
       omega (
         arith,
@@ -209,22 +211,22 @@ module _ (s : State) (h : IsReached s) (w : ℕ) (r : Running) where
       )
 
   pub load_peaks : (slot page stamp : ℕ) → IsAt s w r (reading slot page)
-      → running_peaks (did (with_mark s page stamp) w r (action.Fix slot page)) ≡ running_peaks s
+      → running_peaks (did (with_mark s page stamp) w r (fixes (asked_by r) slot page)) ≡ running_peaks s
   load_peaks slot page stamp at =
-      let a = action.Fix slot page in
+      let a = fixes (asked_by r) slot page in
       omega (arith, seat_peaks s (did (with_mark s page stamp) w r a) w (Some r) (Some (having_done r a)) at.seat refl)
 
   -- Where a fix fails, what was left of the plan goes, and what is held is to be given back.
   pub bring_bound : (slot page v : ℕ) → IsAt s w r (writing slot page v)
       → bound (with_stage (brought_back s page v) w r (leaving [])) + (3 * (r.accepted.steps - length r.done) + 32)
-      ≡ bound s + (length (holdings r) + 1)
+      ≡ bound s + (held_slots most_slots (holdings r) + 1)
   bring_bound slot page v at =
       let t = with_stage (brought_back s page v) w r (leaving []) in
       omega (
         arith,
         seat_moves s t w (Some r) (Some (at_stage r (leaving []))) at.seat refl,
         left_at r (writing slot page v) at.stage,
-        ap length (stage_holds r (leaving []) (sym (ap given_back at.stage))),
+        ap (held_slots most_slots) (stage_holds r (leaving []) (sym (ap given_back at.stage))),
       )
 
   pub bring_peaks : (slot page v : ℕ) → IsAt s w r (writing slot page v)
@@ -235,14 +237,14 @@ module _ (s : State) (h : IsReached s) (w : ℕ) (r : Running) where
   pub forget_bound : (slot page : ℕ) → IsAt s w r (reading slot page)
       → bound (with_stage (with_frame (with_lists s (forget s.lists page)) page None) w r (leaving []))
       + (3 * (r.accepted.steps - length r.done) + 31)
-      ≡ bound s + (length (holdings r) + 1)
+      ≡ bound s + (held_slots most_slots (holdings r) + 1)
   forget_bound slot page at =
       let t = with_stage (with_frame (with_lists s (forget s.lists page)) page None) w r (leaving []) in
       omega (
         arith,
         seat_moves s t w (Some r) (Some (at_stage r (leaving []))) at.seat refl,
         left_at r (reading slot page) at.stage,
-        ap length (stage_holds r (leaving []) (sym (ap given_back at.stage))),
+        ap (held_slots most_slots) (stage_holds r (leaving []) (sym (ap given_back at.stage))),
       )
 
   pub forget_peaks : (slot page : ℕ) → IsAt s w r (reading slot page)
@@ -305,7 +307,7 @@ module _ (s : State) (h : IsReached s) (w : ℕ) (r : Running) where
         arith,
         seat_moves s t w (Some r) y at.seat (released_bound s x.held x.page w y),
         left_at r (leaving given) at.stage,
-        unwind_length s h w r slot given x at found,
+        unwind_slots s h w r slot given x at found,
       )
 
   pub unwind_peaks : (slot : ℕ) (given : List ℕ) (x : Holding) → IsAt s w r (leaving given)
@@ -332,7 +334,8 @@ module _ (s : State) (h : IsReached s) (w : ℕ) (r : Running) where
         arith,
         seat_moves s (ended s w r Gone).state w (Some r) None at.seat refl,
         left_at r (leaving given) at.stage,
-        ap length none,
+        ap (held_slots most_slots) none,
+        none_held most_slots,
       )
 
   -- However a plan ends, its peak runs no more.

@@ -14,8 +14,9 @@ use Rattle.pp_model.specs.Pool.{Stage, acting, writing, reading, leaving, Runnin
 use Rattle.pp_model.specs.Holders.{given_back, holdings, loading}
 use Rattle.pp_model.specs.Outcome.{at_stage, having_done, released}
 use Rattle.pp_model.specs.Taking.{beginning}
-use Rattle.pp_model.specs.Moves.{seat_of}
+use Rattle.pp_model.specs.Moves.{seat_of, asked_by}
 use Rattle.pp_model.specs.Turns.{Asks}
+use Rattle.pp_model.specs.Fixing.{fixes}
 use Rattle.pp_model.proofs.Changes.{IsAt, IsAsked}
 use Rattle.pp_model.proofs.Crews.{crew_of}
 use Rattle.pp_model.proofs.Seats.{IsSeat, AreGood, Sends, asks_now}
@@ -48,12 +49,12 @@ module _ (s t : State) (w : ℕ) (r : Running) (good : AreGood (crew_of s)) wher
       subst (λ g. Swapped (Some r) (Some (having_done r a)) out into (loading g) [] (sent_in g) []) asked.at.stage c in
       totals s t w (Some r) (Some (having_done r a)) out into [] [] [] [] asked.at.seat f d
 
-  pub hit_totals : (slot page : ℕ) → IsAsked s w r (action.Fix slot page)
-      → t.seats ≡ slice_set s.seats w (Some (having_done r (action.Fix slot page)))
+  pub hit_totals : (slot page : ℕ) → IsAsked s w r (fixes (asked_by r) slot page)
+      → t.seats ≡ slice_set s.seats w (Some (having_done r (fixes (asked_by r) slot page)))
       → Totals s t [] (record { slot = slot; page = page; held = Free } ∷ []) [] [] [] []
   hit_totals slot page asked e =
-      acted (action.Fix slot page) [] (record { slot = slot; page = page; held = Free } ∷ []) asked
-      (asked_does (action.Fix slot page) asked).1 e
+      acted (fixes (asked_by r) slot page) [] (record { slot = slot; page = page; held = Free } ∷ []) asked
+      (asked_does (fixes (asked_by r) slot page) asked).1 e
 
   pub unfix_totals : (slot : ℕ) (asked : IsAsked s w r (action.Unfix slot))
       → t.seats ≡ slice_set s.seats w (Some (having_done r (action.Unfix slot)))
@@ -119,11 +120,11 @@ module _ (s t : State) (w : ℕ) (r : Running) (good : AreGood (crew_of s)) wher
 
   -- The page was read, and is fixed.
   pub loaded_totals : (slot page : ℕ) → IsAt s w r (reading slot page)
-      → t.seats ≡ slice_set s.seats w (Some (having_done r (action.Fix slot page)))
+      → t.seats ≡ slice_set s.seats w (Some (having_done r (fixes (asked_by r) slot page)))
       → Totals s t [] (record { slot = slot; page = page; held = Free } ∷ []) (page ∷ []) [] [] []
   loaded_totals slot page at e =
       let x : Holding = record { slot = slot; page = page; held = Free } in
-      let a = action.Fix slot page in
+      let a = fixes (asked_by r) slot page in
       let seat = seat_at s w r good at.seat in
       let asks : Asks r a = subst (Sends r) at.stage seat.errand in
       let does = asked_handles s.settings.layout r a seat (ap given_back at.stage) asks in

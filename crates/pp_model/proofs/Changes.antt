@@ -37,6 +37,7 @@ use Rattle.pp_model.specs.Holders.{holdings, is_in_flight, is_busy, latches_of, 
 use Rattle.pp_model.specs.Outcome.{Outcome, with_stage, did, with_lists, with_frame, with_dirty, with_mark, released}
 use Rattle.pp_model.specs.Taking.{has_room, began, take_where, take_by}
 use Rattle.pp_model.specs.Fixing.{fix_slot, with_frame_moved, free_frame, evict_where, fix_by, fix_where, fix_asked}
+use Rattle.pp_model.specs.Fixing.{fixes}
 use Rattle.pp_model.specs.Answers.{brought_back, write_where, write_in, write_by, is_other, is_misread, read_where}
 use Rattle.pp_model.specs.Answers.{read_came, read_in, read_by}
 use Rattle.pp_model.specs.Using.{unfix_asked, goes_with, latch_where, latch_asked, unlatched, unlatch_asked}
@@ -79,15 +80,15 @@ pub data Change (s t : State) : Type 0 where
   stays : t ≡ s → Change s t
   takes : (w : ℕ) (a : Acceptance) → seat_of s w ≡ Some None → slice_get s.plans s.taken ≡ Some a
       → has_room s a ≡ true → t ≡ began s w a → Change s t
-  hits : (w : ℕ) (r : Running) (slot page : ℕ) (l : FourLists) → IsAsked s w r (action.Fix slot page)
-      → IsAnswered s page l answer.Hit → t ≡ did (with_lists s l) w r (action.Fix slot page) → Change s t
-  fills : (w : ℕ) (r : Running) (slot page : ℕ) (l : FourLists) → IsAsked s w r (action.Fix slot page)
+  hits : (w : ℕ) (r : Running) (slot page : ℕ) (l : FourLists) → IsAsked s w r (fixes (asked_by r) slot page)
+      → IsAnswered s page l answer.Hit → t ≡ did (with_lists s l) w r (fixes (asked_by r) slot page) → Change s t
+  fills : (w : ℕ) (r : Running) (slot page : ℕ) (l : FourLists) → IsAsked s w r (fixes (asked_by r) slot page)
       → IsAnswered s page l answer.Free
       → t ≡ with_stage (with_frame (with_lists s l) page (Some (free_frame s))) w r (reading slot page) → Change s t
-  evicts : (w : ℕ) (r : Running) (slot page v : ℕ) (l : FourLists) → IsAsked s w r (action.Fix slot page)
+  evicts : (w : ℕ) (r : Running) (slot page v : ℕ) (l : FourLists) → IsAsked s w r (fixes (asked_by r) slot page)
       → IsAnswered s page l (answer.Evict v) → is_dirty s v ≡ false
       → t ≡ with_stage (with_frame_moved (with_lists s l) page v) w r (reading slot page) → Change s t
-  sends : (w : ℕ) (r : Running) (slot page v : ℕ) (l : FourLists) → IsAsked s w r (action.Fix slot page)
+  sends : (w : ℕ) (r : Running) (slot page v : ℕ) (l : FourLists) → IsAsked s w r (fixes (asked_by r) slot page)
       → IsAnswered s page l (answer.Evict v) → is_dirty s v ≡ true
       → t ≡ with_stage (with_frame_moved (with_lists s l) page v) w r (writing slot page v) → Change s t
   writes : (w : ℕ) (r : Running) (slot page v : ℕ) → IsAt s w r (writing slot page v)
@@ -97,7 +98,7 @@ pub data Change (s t : State) : Type 0 where
   forgets : (w : ℕ) (r : Running) (slot page : ℕ) → IsAt s w r (reading slot page)
       → t ≡ with_stage (with_frame (with_lists s (forget s.lists page)) page None) w r (leaving []) → Change s t
   loads : (w : ℕ) (r : Running) (slot page stamp : ℕ) → IsAt s w r (reading slot page)
-      → is_other (known_mark s page) stamp ≡ false → t ≡ did (with_mark s page stamp) w r (action.Fix slot page)
+      → is_other (known_mark s page) stamp ≡ false → t ≡ did (with_mark s page stamp) w r (fixes (asked_by r) slot page)
       → Change s t
   unfixes : (w : ℕ) (r : Running) (slot : ℕ) → IsAsked s w r (action.Unfix slot)
       → t ≡ did s w r (action.Unfix slot) → Change s t
@@ -160,7 +161,7 @@ asked_is r x a e n = subst (λ y. NamesAction r.accepted.plan.layout y a) (sym e
 
 -- The slot of a fix is one that the plan asks for the page.
 pub slot_asked : (r : Running) (page slot : ℕ) (x : Ask) → fix_slot r page x ≡ Some slot
-    → NamesAction r.accepted.plan.layout x (action.Fix slot page)
+    → NamesAction r.accepted.plan.layout x (fixes (asked_by r) slot page)
 slot_asked r page slot (ask.Fix t region) e = go (region_has r.accepted.plan.layout region page) refl e
   where
     go : (b : Bool) → region_has r.accepted.plan.layout region page ≡ b
@@ -175,20 +176,20 @@ slot_asked r page slot (ask.Choose n) e = cc
 slot_asked r page slot ask.End e = cc
 
 evicted : (s : State) (w : ℕ) (r : Running) (slot page v : ℕ) (l : FourLists) (b : Bool)
-    → IsAsked s w r (action.Fix slot page) → IsAnswered s page l (answer.Evict v) → is_dirty s v ≡ b
+    → IsAsked s w r (fixes (asked_by r) slot page) → IsAnswered s page l (answer.Evict v) → is_dirty s v ≡ b
     → Result s (evict_where (with_lists s l) w r slot page v b)
 evicted s w r slot page v l true asked is e = done refl (sends w r slot page v l asked is e refl) tt refl
 evicted s w r slot page v l false asked is e = done refl (evicts w r slot page v l asked is e refl) tt refl
 
 fix_answered : (s : State) (w : ℕ) (r : Running) (slot page : ℕ) (l : FourLists) (x : Answer)
-    → IsAsked s w r (action.Fix slot page) → IsAnswered s page l x → Result s (fix_by s l w r slot page x)
+    → IsAsked s w r (fixes (asked_by r) slot page) → IsAnswered s page l x → Result s (fix_by s l w r slot page x)
 fix_answered s w r slot page l answer.Hit asked is = done refl (hits w r slot page l asked is refl) tt refl
 fix_answered s w r slot page l answer.Free asked is = done refl (fills w r slot page l asked is refl) tt refl
 fix_answered s w r slot page l (answer.Evict v) asked is = evicted s w r slot page v l (is_dirty s v) asked is refl
 fix_answered s w r slot page l answer.AllBusy asked is = refused refl refl
 
 fix_flies : (s : State) (w : ℕ) (r : Running) (slot page : ℕ) (b : Bool) → is_in_flight s page ≡ b
-    → IsAsked s w r (action.Fix slot page) → Result s (fix_where s w r slot page b)
+    → IsAsked s w r (fixes (asked_by r) slot page) → Result s (fix_where s w r slot page b)
 fix_flies s w r slot page true e asked = refused refl refl
 fix_flies s w r slot page false e asked =
     let answered = request s.lists page (is_busy s) in

@@ -17,9 +17,10 @@ use Rattle.pp_model.specs.Holders.{held_in, page_in}
 use Rattle.pp_model.specs.Budget.{cost_of, left_to, bound, journal_need}
 use Rattle.pp_model.specs.Outcome.{with_seat, at_stage, having_done, released}
 use Rattle.pp_model.specs.Taking.{beginning}
-use Rattle.pp_model.specs.Moves.{seat_of}
+use Rattle.pp_model.specs.Moves.{seat_of, asked_by}
 use Rattle.pp_model.specs.Submitting.{most_plans, most_events, error_where, submitted}
 use Rattle.pp_model.specs.Reached.{IsReached}
+use Rattle.pp_model.specs.Fixing.{fixes}
 use Rattle.pp_model.proofs.Changes as change
 use Rattle.pp_model.proofs.Changes.{Change}
 use Rattle.pp_model.proofs.ChangeTotals.{released_seats}
@@ -75,7 +76,7 @@ advance s t (change.takes w a idle next fits e) =
     begins w a idle next (ap (λ x. x.settings) e) (ap (λ x. x.plans) e) (ap (λ x. x.taken) e)
     (ap (λ x. x.flushes_left) e) (ap (λ x. x.seats) e)
 advance s t (change.hits w r slot page l asked is e) =
-    went s t _ w r (Some (having_done r (action.Fix slot page))) e asked.at.seat (refl, refl)
+    went s t _ w r (Some (having_done r (fixes (asked_by r) slot page))) e asked.at.seat (refl, refl)
     (refl, refl, refl, refl) refl
 advance s t (change.fills w r slot page l asked is e) =
     went s t _ w r (Some (at_stage r (reading slot page))) e asked.at.seat (refl, refl) (refl, refl, refl, refl) refl
@@ -90,7 +91,7 @@ advance s t (change.brings w r slot page v at e) =
 advance s t (change.forgets w r slot page at e) =
     went s t _ w r (Some (at_stage r (leaving []))) e at.seat (refl, refl) (refl, refl, refl, refl) refl
 advance s t (change.loads w r slot page stamp at known e) =
-    went s t _ w r (Some (having_done r (action.Fix slot page))) e at.seat (refl, refl) (refl, refl, refl, refl) refl
+    went s t _ w r (Some (having_done r (fixes (asked_by r) slot page))) e at.seat (refl, refl) (refl, refl, refl, refl) refl
 advance s t (change.unfixes w r slot asked e) =
     went s t s w r (Some (having_done r (action.Unfix slot))) e asked.at.seat (refl, refl) (refl, refl, refl, refl) refl
 advance s t (change.latches w r slot m asked go e) =

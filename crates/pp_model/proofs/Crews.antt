@@ -15,6 +15,7 @@ use Rattle.pp_model.specs.Budget.{peak_of}
 use Rattle.pp_model.specs.Outcome.{at_stage, having_done, released}
 use Rattle.pp_model.specs.Using.{unlatched}
 use Rattle.pp_model.specs.Moves.{asked_by}
+use Rattle.pp_model.specs.Fixing.{fixes}
 use Rattle.pp_model.proofs.Changes as change
 use Rattle.pp_model.proofs.Changes.{Change}
 
@@ -33,10 +34,10 @@ IsErrand slot page (leaving given) = ⊥
 -- How a worker in its plan can go on.
 pub data Goes (r : Running) (x : Option Running) : Type 0 where
   acts : (a : Action) → r.stage ≡ acting → AsksNow r a → x ≡ Some (having_done r a) → Goes r x
-  sends : (slot page : ℕ) (g : Stage) → r.stage ≡ acting → AsksNow r (action.Fix slot page) → IsErrand slot page g
+  sends : (slot page : ℕ) (g : Stage) → r.stage ≡ acting → AsksNow r (fixes (asked_by r) slot page) → IsErrand slot page g
       → x ≡ Some (at_stage r g) → Goes r x
   reads : (slot page v : ℕ) → r.stage ≡ writing slot page v → x ≡ Some (at_stage r (reading slot page)) → Goes r x
-  loads : (slot page : ℕ) → r.stage ≡ reading slot page → x ≡ Some (having_done r (action.Fix slot page)) → Goes r x
+  loads : (slot page : ℕ) → r.stage ≡ reading slot page → x ≡ Some (having_done r (fixes (asked_by r) slot page)) → Goes r x
   loses : (slot page : ℕ) → IsErrand slot page r.stage → x ≡ Some (at_stage r (leaving [])) → Goes r x
   gives : (given : List ℕ) (slot : ℕ) (h : Holding) → r.stage ≡ leaving given → holding_at (holdings r) slot ≡ Some h
       → x ≡ Some (at_stage r (leaving (slot ∷ given))) → Goes r x
@@ -78,7 +79,7 @@ pub turn : (s t : State) → Change s t → Turn (crew_of s) (crew_of t)
 turn s t (change.stays e) = stays (ap crew_of e)
 turn s t (change.takes w a idle next fits e) = takes w s.taken a _ idle next fits (begins s.taken refl) (ap crew_of e)
 turn s t (change.hits w r slot page l asked is e) =
-    turns w r _ asked.at.seat (acts (action.Fix slot page) asked.at.stage asked.names refl) (ap crew_of e)
+    turns w r _ asked.at.seat (acts (fixes (asked_by r) slot page) asked.at.stage asked.names refl) (ap crew_of e)
 turn s t (change.fills w r slot page l asked is e) =
     turns w r _ asked.at.seat (sends slot page (reading slot page) asked.at.stage asked.names (refl, refl) refl)
     (ap crew_of e)

@@ -264,14 +264,14 @@ same_notes s t u q a b e (stays is) = stays (ap (λ x. is_dirty (record t { note
 same_notes s t u q a b e (rises is why) = rises (ap (λ x. is_dirty (record t { notes = x }) q) e ∙ is) why
 same_notes s t u q a b e (falls is why) = falls (ap (λ x. is_dirty (record t { notes = x }) q) e ∙ is) why
 
-unlatch_asks : (s : State) (w : ℕ) (r : Running) (x : Ask) (q : ℕ) → seat_of s w ≡ Some (Some r)
+unlatch_asks : (s : State) (w : ℕ) (r : Running) (x : Ask) (q : ℕ) → seat_of s w ≡ Some (Some r) → asked_by r ≡ x
     → Turns s (unlatch_asked s w r x).state q (EndsExclusive s (move.Unlatch w) q) ⊥
-unlatch_asks s w r (ask.Unlatch slot) q seat =
+unlatch_asks s w r (ask.Unlatch slot) q seat asks =
     same_notes s (unlatched s r slot) (unlatch_asked s w r (ask.Unlatch slot)).state q (EndsExclusive s (move.Unlatch w) q)
     ⊥ refl
     (let_go s (held_in r slot) (page_in r slot) q (EndsExclusive s (move.Unlatch w) q) ⊥
-    (λ held page. (slot, (r, seat, held, page))))
-unlatch_asks s w r _ q seat = stays refl
+    (λ held page. (slot, (r, seat, asks), (r, seat, held, page))))
+unlatch_asks s w r _ q seat asks = stays refl
 
 unlatch_turns : (s : State) (w : ℕ) (o : Option (Option Running)) (q : ℕ) → seat_of s w ≡ o
     → Turns s (act_by s (λ r. unlatch_asked s w r (asked_by r)) o).state q (EndsExclusive s (move.Unlatch w) q) ⊥
@@ -281,7 +281,7 @@ unlatch_turns s w (Some (Some r)) q e = go r.stage
   where
     go : (g : Stage) → Turns s (act_in s (λ r. unlatch_asked s w r (asked_by r)) r g).state q
         (EndsExclusive s (move.Unlatch w) q) ⊥
-    go acting = unlatch_asks s w r (asked_by r) q e
+    go acting = unlatch_asks s w r (asked_by r) q e refl
     go (writing slot page victim) = stays refl
     go (reading slot page) = stays refl
     go (leaving given) = stays refl

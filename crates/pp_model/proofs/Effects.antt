@@ -116,6 +116,40 @@ gives_one f slot given h (y ∷ ys) once e =
         let there = missed (y.slot == slot) refl e isnt in
         omega (arith, sum_by-cons f y (without (slot ∷ given) ys), sum_by-cons f y (without given ys), all there)
 
+-- A slot more is given back, and it holds nothing; each other slot holds what it held.
+gives_slot : (slot : ℕ) (given : List ℕ) (hs : Holdings) (k : ℕ)
+    → holding_at (without (slot ∷ given) hs) k ≡ cond (eqb k slot) None (holding_at (without given hs) k)
+gives_slot slot given [] k = go (eqb k slot)
+  where
+    go : (b : Bool) → ◌≡◌ {A = Option Holding} None (cond b None None)
+    go true = refl
+    go false = refl
+gives_slot slot given (y ∷ ys) k =
+    go (eqb slot y.slot) (is_among given y) (eqb k slot) refl refl (gives_slot slot given ys k)
+  where
+    go : (a b c : Bool) → eqb slot y.slot ≡ a → eqb k slot ≡ c
+        → holding_at (without (slot ∷ given) ys) k ≡ cond c None (holding_at (without given ys) k)
+        → holding_at (cond (not (a || b)) (y ∷ without (slot ∷ given) ys) (without (slot ∷ given) ys)) k
+        ≡ cond c None (holding_at (cond (not b) (y ∷ without given ys) (without given ys)) k)
+    go true true c e f all = all
+    go false true c e f all = all
+    go true false true e f all = all
+    go true false false e f all =
+        let apart : eqb y.slot k ≡ false = grind (arith, nat_tests) in
+        all ∙ sym (ap (λ b. cond b (Some y) (holding_at (without given ys) k)) apart)
+    go false false true e f all =
+        let apart : eqb y.slot k ≡ false = grind (arith, nat_tests) in
+        ap (λ b. cond b (Some y) (holding_at (without (slot ∷ given) ys) k)) apart ∙ all
+    go false false false e f all = ap (cond (eqb y.slot k) (Some y)) all
+
+pub unwound_sets : (g : Geometry) (r : Running) (slot : ℕ) (given : List ℕ) → IsSeat g r → r.stage ≡ leaving given
+    → (k : ℕ) → holding_at (holdings (at_stage r (leaving (slot ∷ given)))) k
+    ≡ cond (eqb k slot) None (holding_at (holdings r) k)
+unwound_sets g r slot given seat at k =
+    let all : Holdings = unwrap_or (held r.done) [] in
+    let now : holdings r ≡ without given all = ap (λ j. without (given_back j) all) at in
+    gives_slot slot given all k ∙ ap (λ hs. cond (eqb k slot) None (holding_at hs k)) (sym now)
+
 pub unwound_swaps : (g : Geometry) (r : Running) (slot : ℕ) (given : List ℕ) (h : Holding) → IsSeat g r
     → r.stage ≡ leaving given → holding_at (holdings r) slot ≡ Some h
     → (f : Holding → ℕ) → sum_by f (holdings (at_stage r (leaving (slot ∷ given)))) + f h ≡ sum_by f (holdings r)

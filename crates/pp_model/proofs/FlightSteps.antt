@@ -17,12 +17,12 @@ use Rattle.pp_model.specs.Holders.{times, holdings, held_in, page_in, errands_of
 use Rattle.pp_model.specs.Outcome.{with_stage, at_stage, having_done, did, with_lists, with_frame, with_dirty}
 use Rattle.pp_model.specs.Outcome.{with_mark, released}
 use Rattle.pp_model.specs.Taking.{began}
-use Rattle.pp_model.specs.Fixing.{with_frame_moved, free_frame}
+use Rattle.pp_model.specs.Fixing.{with_frame_moved, free_frame, fixes}
 use Rattle.pp_model.specs.Answers.{brought_back}
 use Rattle.pp_model.specs.Using.{unlatched}
 use Rattle.pp_model.specs.Leaving.{ended}
 use Rattle.pp_model.specs.Flushing.{flush_begun, flush_over}
-use Rattle.pp_model.specs.Moves.{seat_of}
+use Rattle.pp_model.specs.Moves.{seat_of, asked_by}
 use Rattle.pp_model.specs.Submitting.{submitted}
 use Rattle.pp_model.specs.Reached.{IsReached}
 use Rattle.pp_model.proofs.Sums.{times-cons}
@@ -94,10 +94,10 @@ pub take_flight : (s : State) (w : ℕ) (a : Acceptance) → seat_of s w ≡ Som
 take_flight s w a idle q = stays s (began s w a) [] [] (totals.taken_totals s (began s w a) w a idle refl) q
 
 module _ (s : State) (h : IsReached s) (w : ℕ) (r : Running) where
-  pub hit_flight : (slot page : ℕ) (l : FourLists) → IsAsked s w r (action.Fix slot page) → (q : ℕ)
-      → is_in_flight (did (with_lists s l) w r (action.Fix slot page)) q ≡ is_in_flight s q
+  pub hit_flight : (slot page : ℕ) (l : FourLists) → IsAsked s w r (fixes (asked_by r) slot page) → (q : ℕ)
+      → is_in_flight (did (with_lists s l) w r (fixes (asked_by r) slot page)) q ≡ is_in_flight s q
   hit_flight slot page l asked q =
-      let t = did (with_lists s l) w r (action.Fix slot page) in
+      let t = did (with_lists s l) w r (fixes (asked_by r) slot page) in
       stays s t _ _ (totals.hit_totals s t w r (good s h) slot page asked refl) q
 
   pub unfix_flight : (slot : ℕ) → IsAsked s w r (action.Unfix slot) → (q : ℕ)
@@ -160,14 +160,14 @@ module _ (s : State) (h : IsReached s) (w : ℕ) (r : Running) where
       ∙ one_more page q n
       ∙ ap (cond (eqb q page) true) (sym (flies_where n s q refl))
 
-  pub fill_flight : (slot page : ℕ) (l : FourLists) → IsAsked s w r (action.Fix slot page) → (q : ℕ)
+  pub fill_flight : (slot page : ℕ) (l : FourLists) → IsAsked s w r (fixes (asked_by r) slot page) → (q : ℕ)
       → is_in_flight (with_stage (with_frame (with_lists s l) page (Some (free_frame s))) w r (reading slot page)) q
       ≡ (if q == page then true else is_in_flight s q)
   fill_flight slot page l asked q =
       let t = with_stage (with_frame (with_lists s l) page (Some (free_frame s))) w r (reading slot page) in
       read_flight t slot page asked.at refl q
 
-  pub evict_flight : (slot page v : ℕ) (l : FourLists) → IsAsked s w r (action.Fix slot page) → (q : ℕ)
+  pub evict_flight : (slot page v : ℕ) (l : FourLists) → IsAsked s w r (fixes (asked_by r) slot page) → (q : ℕ)
       → is_in_flight (with_stage (with_frame_moved (with_lists s l) page v) w r (reading slot page)) q
       ≡ (if q == page then true else is_in_flight s q)
   evict_flight slot page v l asked q =
@@ -175,7 +175,7 @@ module _ (s : State) (h : IsReached s) (w : ℕ) (r : Running) where
       read_flight t slot page asked.at refl q
 
   -- The victim is written, and the page waits for its frame.
-  pub send_flight : (slot page v : ℕ) (l : FourLists) → IsAsked s w r (action.Fix slot page) → (q : ℕ)
+  pub send_flight : (slot page v : ℕ) (l : FourLists) → IsAsked s w r (fixes (asked_by r) slot page) → (q : ℕ)
       → is_in_flight (with_stage (with_frame_moved (with_lists s l) page v) w r (writing slot page v)) q
       ≡ (if q == page then true else if q == v then true else is_in_flight s q)
   send_flight slot page v l asked q =
@@ -204,10 +204,10 @@ module _ (s : State) (h : IsReached s) (w : ℕ) (r : Running) where
 
   -- The page was read.
   pub load_flight : (slot page stamp : ℕ) → IsAt s w r (reading slot page) → (q : ℕ)
-      → is_in_flight (did (with_mark s page stamp) w r (action.Fix slot page)) q
+      → is_in_flight (did (with_mark s page stamp) w r (fixes (asked_by r) slot page)) q
       ≡ (if q == page then false else is_in_flight s q)
   load_flight slot page stamp at q =
-      let t = did (with_mark s page stamp) w r (action.Fix slot page) in
+      let t = did (with_mark s page stamp) w r (fixes (asked_by r) slot page) in
       let d = totals.loaded_totals s t w r (good s h) slot page at refl in
       let m = loads_of t q + victims_of t q in
       let n = loads_of s q + victims_of s q in

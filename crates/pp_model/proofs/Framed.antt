@@ -23,9 +23,9 @@ use Rattle.pp_model.specs.Pool.{Stage, acting, writing, reading, leaving, Runnin
 use Rattle.pp_model.specs.Pool.{note_of, opening, untouched, frame_of, frame_at, is_dirty, mark_at}
 use Rattle.pp_model.specs.Holders.{times, holdings, loading, page_in, held_in, is_busy}
 use Rattle.pp_model.specs.Outcome.{with_note, with_frame, with_lists, with_dirty, released, at_stage, having_done}
-use Rattle.pp_model.specs.Fixing.{with_frame_moved, free_frame}
+use Rattle.pp_model.specs.Fixing.{with_frame_moved, free_frame, fixes}
 use Rattle.pp_model.specs.Answers.{brought_back}
-use Rattle.pp_model.specs.Moves.{seat_of}
+use Rattle.pp_model.specs.Moves.{seat_of, asked_by}
 use Rattle.pp_model.specs.Reached.{IsReached}
 use Rattle.pp_model.specs.Marks.{marks}
 use Rattle.pp_model.proofs.Sums.{sum_by-term}
@@ -295,7 +295,7 @@ pub evict_same : (v q : ℕ) → answer.Evict v ≡ answer.Evict q → q ≡ v
 evict_same v q e = let is : v ≡ q = cc in sym is
 
 module _ (s : State) (ready : Ready s) (h : Placed s) where
-  fills_placed : (w : ℕ) (r : Running) (slot page : ℕ) (l : FourLists) → IsAsked s w r (action.Fix slot page)
+  fills_placed : (w : ℕ) (r : Running) (slot page : ℕ) (l : FourLists) → IsAsked s w r (fixes (asked_by r) slot page)
       → IsAnswered s page l answer.Free → Placed (with_frame (with_lists s l) page (Some (free_frame s)))
   fills_placed w r slot page l asked is =
       let u = with_lists s l in
@@ -311,7 +311,7 @@ module _ (s : State) (ready : Ready s) (h : Placed s) where
       (frame_here u page (Some (free_frame s)) low) (λ q ne. frame_there u page q (Some (free_frame s)) ne)
 
   -- The victim's frame becomes the page's.
-  moved_placed : (w : ℕ) (r : Running) (slot page v : ℕ) (l : FourLists) → IsAsked s w r (action.Fix slot page)
+  moved_placed : (w : ℕ) (r : Running) (slot page v : ℕ) (l : FourLists) → IsAsked s w r (fixes (asked_by r) slot page)
       → IsAnswered s page l (answer.Evict v) → Placed (with_frame_moved (with_lists s l) page v)
   moved_placed w r slot page v l asked is =
       let u = with_lists s l in

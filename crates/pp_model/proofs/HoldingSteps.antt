@@ -4,12 +4,14 @@ use Rattle.std.proofs.Common.{◌≡◌, ◌∙◌, ℕ, ◌+◌, ◌≤◌, ◌
 use Rattle.std.proofs.Common.{List, [], ◌∷◌, length, refl, sym, ap, subst, inl, inr, arith}
 use Rattle.std.specs.Prelude.{◌⊎◌, sum_by, filter, not, unwrap_or, option_map, ◌==◌, if◌then◌else◌}
 use Rattle.std.proofs.lemmas.List.Sums.{sum_by-cons}
+use Rattle.std.proofs.lemmas.Bool.Decides.{nat_tests}
 use Rattle.pp_settings.specs.Layout.{Geometry, page_count}
 use Rattle.pp_plan.specs.declared.mode.Mode.{Mode}
 use Rattle.pp_plan.specs.declared.action.Action.{Action}
 use Rattle.pp_plan.specs.declared.action.Action.TheVariants as action
 use Rattle.pp_plan.specs.declared.action.Ask.TheVariants as ask
 use Rattle.pp_plan.specs.Asked.{asked}
+use Rattle.pp_plan.specs.Limits.{most_slots}
 use Rattle.pp_plan.proofs.Asking.{asks_end}
 use Rattle.pp_cert.specs.declared.note.Held.{Held}
 use Rattle.pp_cert.specs.declared.note.Held.TheVariants.{Free, S, X}
@@ -17,17 +19,18 @@ use Rattle.pp_cert.specs.Accepted.{Acceptance}
 use Rattle.pp_cert.specs.Held.{Holding, Holdings, holding_at, held, held_in as held_for}
 use Rattle.pp_cert.specs.Held.{is_latched}
 use Rattle.pp_model.specs.Pool.{Stage, acting, writing, reading, leaving, Running, State}
-use Rattle.pp_model.specs.Holders.{given_back, is_among, holdings, page_in, held_in}
+use Rattle.pp_model.specs.Holders.{given_back, is_among, holdings, held_slots, page_in, held_in}
 use Rattle.pp_model.specs.Outcome.{at_stage, having_done}
 use Rattle.pp_model.specs.Moves.{asked_by, seat_of}
 use Rattle.pp_model.specs.Taking.{beginning}
 use Rattle.pp_model.specs.Turns.{Asks}
 use Rattle.pp_model.specs.Reached.{IsReached}
+use Rattle.pp_model.specs.Fixing.{fixes}
 use Rattle.pp_model.proofs.Changes.{IsAt, IsAsked}
 use Rattle.pp_model.proofs.Seats.{IsSeat, Sends, asks_now, good, begins_more}
 use Rattle.pp_model.proofs.Swaps.{Swaps, as_held, AreApart, apart, in_slot, unmapped}
-use Rattle.pp_model.proofs.Effects.{all_held, has_held, asked_handles, unwound_swaps}
-use Rattle.pp_model.proofs.Falls.{few_slots, size_is}
+use Rattle.pp_model.proofs.Effects.{all_held, has_held, asked_handles, unwound_sets}
+use Rattle.pp_model.proofs.HeldSlots.{count_of, held_set, counts_one}
 use Rattle.pp_model.proofs.Inside.{outside, inside, alone, fix_within, held_inside}
 use Rattle.pp_model.proofs.SlotSums.{slot_swapped, slot_found}
 
@@ -103,7 +106,7 @@ pub record IsWithin (g : Geometry) (slot : ℕ) (h : Holding) : Type 0 where
   pub own : h.slot ≡ slot
   pub page : h.page < page_count g
 
-within_seat : (g : Geometry) (r : Running) (k : ℕ) (h : Holding) → IsSeat g r → holding_at (holdings r) k ≡ Some h
+pub within_seat : (g : Geometry) (r : Running) (k : ℕ) (h : Holding) → IsSeat g r → holding_at (holdings r) k ≡ Some h
     → IsWithin g k h
 within_seat g r k h seat e =
     let p = r.accepted.plan in
@@ -122,25 +125,22 @@ pub slots_are_within : (s : State) → IsReached s → (w : ℕ) (r : Running) �
     → (k : ℕ) (h : Holding) → holding_at (holdings r) k ≡ Some h → IsWithin s.settings.layout k h
 slots_are_within s h w r e k x found = within_seat s.settings.layout r k x (seat_is s h w r e) found
 
--- A worker holds at most 32 slots.
-pub slots_are_few : (s : State) → IsReached s → (w : ℕ) (r : Running) → seat_of s w ≡ Some (Some r)
-    → length (holdings r) ≤ 32
-slots_are_few s h w r e =
-    let g = s.settings.layout in
-    let seat = seat_is s h w r e in
-    let all : IsSeat g (at_stage r acting) =
-    record { accepted = seat.accepted; layout = seat.layout; begun = seat.begun; errand = tt } in
-    let few = few_slots g (at_stage r acting) all refl in
-    let before = has_held g r seat in
-    let same : holdings (at_stage r acting) ≡ before.0 = all_held (at_stage r acting) before.0 refl before.1 in
-    omega (
-      arith,
-      few,
-      ap length same,
-      size_is (holdings r),
-      size_is before.0,
-      held_part g r seat (λ x. 1),
-    )
+-- Where no slot holds something, nothing is held.
+found_first : (y : Holding) (ys : Holdings) → holding_at (y ∷ ys) y.slot ≡ Some y
+found_first y ys =
+    let here : eqb y.slot y.slot ≡ true = grind (arith, nat_tests) in
+    ap (λ b. cond b (Some y) (holding_at ys y.slot)) here
+
+pub none_holds : (s : State) → IsReached s → (w : ℕ) (r : Running) → seat_of s w ≡ Some (Some r)
+    → held_slots most_slots (holdings r) ≡ 0 → holdings r ≡ []
+none_holds s h w r e none = go (holdings r) refl
+  where
+    go : (hs : Holdings) → holdings r ≡ hs → hs ≡ []
+    go [] same = refl
+    go (y ∷ ys) same =
+        let found = ap (λ k. holding_at k y.slot) same ∙ found_first y ys in
+        let few = (slots_are_within s h w r e y.slot y found).few in
+        absurd (omega (arith, none, counts_one most_slots y.slot (holdings r) y few found))
 
 -- ---- one slot changes
 
@@ -177,32 +177,30 @@ module _ (g : Geometry) (r : Running) (seat : IsSeat g r) (none : given_back r.s
   after_apart : (a : Action) → Asks r a → AreApart (holdings (having_done r a))
   after_apart a asks = holdings_apart g (having_done r a) (after_seat a asks)
 
-  fix_does : (slot page : ℕ) → Asks r (action.Fix slot page) → (k : ℕ)
-      → holding_at (holdings (having_done r (action.Fix slot page))) k
+  fix_does : (slot page : ℕ) → Asks r (fixes (asked_by r) slot page) → (k : ℕ)
+      → holding_at (holdings (having_done r (fixes (asked_by r) slot page))) k
       ≡ (if k == slot then Some (record { slot = slot; page = page; held = Free }) else holding_at (holdings r) k)
   fix_does slot page asks k =
-      let a = action.Fix slot page in
+      let a = fixes (asked_by r) slot page in
       let x : Holding = record { slot = slot; page = page; held = Free } in
       let does = asked_handles g r a seat none asks in
       slot_swapped (holdings r) (holdings (having_done r a)) slot None (Some x) (holdings_apart g r seat)
       (after_apart a asks) (unmapped (holding_at (holdings r) slot) does.0) tt refl does.1 k
 
-  fix_counts : (slot page : ℕ) → Asks r (action.Fix slot page)
-      → length (holdings (having_done r (action.Fix slot page))) ≡ length (holdings r) + 1
-  fix_counts slot page asks =
-      let a = action.Fix slot page in
-      let x : Holding = record { slot = slot; page = page; held = Free } in
-      omega (
-        arith,
-        (asked_handles g r a seat none asks).1 (λ h. 1),
-        size_is (holdings r),
-        size_is (holdings (having_done r a)),
-        alone (λ h. 1) x,
-      )
-
-  fix_empty : (slot page : ℕ) → Asks r (action.Fix slot page) → holding_at (holdings r) slot ≡ None
+  fix_empty : (slot page : ℕ) → Asks r (fixes (asked_by r) slot page) → holding_at (holdings r) slot ≡ None
   fix_empty slot page asks =
-      unmapped (holding_at (holdings r) slot) (asked_handles g r (action.Fix slot page) seat none asks).0
+      unmapped (holding_at (holdings r) slot) (asked_handles g r (fixes (asked_by r) slot page) seat none asks).0
+
+  fix_counts : (slot page : ℕ) → Asks r (fixes (asked_by r) slot page)
+      → held_slots most_slots (holdings (having_done r (fixes (asked_by r) slot page)))
+      ≡ held_slots most_slots (holdings r) + 1
+  fix_counts slot page asks =
+      let a = fixes (asked_by r) slot page in
+      let x : Holding = record { slot = slot; page = page; held = Free } in
+      let few = (fix_within r.accepted.plan r.done slot page seat.accepted.plan asks).0 in
+      let set =
+      held_set most_slots slot (Some x) (holdings r) (holdings (having_done r a)) few (fix_does slot page asks) in
+      omega (arith, set, ap count_of (fix_empty slot page asks))
 
   unfix_does : (slot : ℕ) → Asks r (action.Unfix slot) → (k : ℕ)
       → holding_at (holdings (having_done r (action.Unfix slot))) k
@@ -214,17 +212,14 @@ module _ (g : Geometry) (r : Running) (seat : IsSeat g r) (none : given_back r.s
       (after_apart a asks) does.1 (slot_found (holdings r) slot does.0 does.1) tt does.3 k
 
   unfix_counts : (slot : ℕ) → Asks r (action.Unfix slot)
-      → length (holdings (having_done r (action.Unfix slot))) + 1 ≡ length (holdings r)
+      → held_slots most_slots (holdings (having_done r (action.Unfix slot))) + 1
+      ≡ held_slots most_slots (holdings r)
   unfix_counts slot asks =
       let a = action.Unfix slot in
       let does = asked_handles g r a seat none asks in
-      omega (
-        arith,
-        does.3 (λ h. 1),
-        size_is (holdings r),
-        size_is (holdings (having_done r a)),
-        alone (λ h. 1) does.0,
-      )
+      let few = (within_seat g r slot does.0 seat does.1).few in
+      let set = held_set most_slots slot None (holdings r) (holdings (having_done r a)) few (unfix_does slot asks) in
+      omega (arith, set, ap count_of does.1)
 
   -- The slot's page is held in another way.
   as_does : (a : Action) (slot : ℕ) (x : Holding) (u : Held) → Asks r a → holding_at (holdings r) slot ≡ Some x
@@ -242,18 +237,16 @@ module _ (g : Geometry) (r : Running) (seat : IsSeat g r) (none : given_back r.s
       (holdings_apart g r seat) (after_apart a asks) found own own swaps k
       ∙ ap (λ o. cond (eqb k slot) o (holding_at (holdings r) k)) now
 
-  as_counts : (a : Action) (x : Holding) (u : Held)
+  as_counts : (a : Action) (slot : ℕ) (x : Holding) (u : Held) → Asks r a → holding_at (holdings r) slot ≡ Some x
       → Swaps (holdings r) (x ∷ []) (as_held u x ∷ []) (holdings (having_done r a))
-      → length (holdings (having_done r a)) ≡ length (holdings r)
-  as_counts a x u swaps =
-      omega (
-        arith,
-        swaps (λ h. 1),
-        size_is (holdings r),
-        size_is (holdings (having_done r a)),
-        alone (λ h. 1) x,
-        alone (λ h. 1) (as_held u x),
-      )
+      → held_slots most_slots (holdings (having_done r a)) ≡ held_slots most_slots (holdings r)
+  as_counts a slot x u asks found swaps =
+      let now : Option Holding = Some (record { slot = slot; page = x.page; held = u }) in
+      let few = (within_seat g r slot x seat found).few in
+      let set =
+      held_set most_slots slot now (holdings r) (holdings (having_done r a)) few
+      (as_does a slot x u asks found swaps x found) in
+      omega (arith, set, ap count_of found)
 
 -- ---- what each move finds and leaves
 
@@ -264,7 +257,7 @@ pub record CanHold (s : State) (r : Running) (slot page : ℕ) : Type 0 where
   pub low : page < page_count s.settings.layout
 
 can_hold : (s : State) (r : Running) (slot page : ℕ) → IsSeat s.settings.layout r → given_back r.stage ≡ []
-    → Asks r (action.Fix slot page) → CanHold s r slot page
+    → Asks r (fixes (asked_by r) slot page) → CanHold s r slot page
 can_hold s r slot page seat none asks =
     let within = fix_within r.accepted.plan r.done slot page seat.accepted.plan asks in
     record {
@@ -279,17 +272,17 @@ module _ (s : State) (h : IsReached s) (w : ℕ) (r : Running) where
   asks_it a asked = asks_now s.settings.layout r a (seat_is s h w r asked.at.seat) asked.names
 
   -- The errand of a worker is for a fix that its plan asks.
-  pub writing_asks : (slot page v : ℕ) → IsAt s w r (writing slot page v) → Asks r (action.Fix slot page)
+  pub writing_asks : (slot page v : ℕ) → IsAt s w r (writing slot page v) → Asks r (fixes (asked_by r) slot page)
   writing_asks slot page v at = subst (Sends r) at.stage (seat_is s h w r at.seat).errand
 
-  pub reading_asks : (slot page : ℕ) → IsAt s w r (reading slot page) → Asks r (action.Fix slot page)
+  pub reading_asks : (slot page : ℕ) → IsAt s w r (reading slot page) → Asks r (fixes (asked_by r) slot page)
   reading_asks slot page at = subst (Sends r) at.stage (seat_is s h w r at.seat).errand
 
   -- A fix: asked, while its victim is written, and while its page is read.
-  pub fix_finds : (slot page : ℕ) → IsAsked s w r (action.Fix slot page) → CanHold s r slot page
+  pub fix_finds : (slot page : ℕ) → IsAsked s w r (fixes (asked_by r) slot page) → CanHold s r slot page
   fix_finds slot page asked =
       can_hold s r slot page (seat_is s h w r asked.at.seat) (ap given_back asked.at.stage)
-      (asks_it (action.Fix slot page) asked)
+      (asks_it (fixes (asked_by r) slot page) asked)
 
   pub writing_finds : (slot page v : ℕ) → IsAt s w r (writing slot page v) → CanHold s r slot page
   writing_finds slot page v at =
@@ -300,29 +293,31 @@ module _ (s : State) (h : IsReached s) (w : ℕ) (r : Running) where
       can_hold s r slot page (seat_is s h w r at.seat) (ap given_back at.stage) (reading_asks slot page at)
 
   -- After a fix the slot holds the page, not latched, and each other slot what it held.
-  pub fix_holds : (slot page : ℕ) → IsAsked s w r (action.Fix slot page) → (k : ℕ)
-      → holding_at (holdings (having_done r (action.Fix slot page))) k
+  pub fix_holds : (slot page : ℕ) → IsAsked s w r (fixes (asked_by r) slot page) → (k : ℕ)
+      → holding_at (holdings (having_done r (fixes (asked_by r) slot page))) k
       ≡ (if k == slot then Some (record { slot = slot; page = page; held = Free }) else holding_at (holdings r) k)
   fix_holds slot page asked k =
       fix_does s.settings.layout r (seat_is s h w r asked.at.seat) (ap given_back asked.at.stage) slot page
-      (asks_it (action.Fix slot page) asked) k
+      (asks_it (fixes (asked_by r) slot page) asked) k
 
-  pub fix_length : (slot page : ℕ) → IsAsked s w r (action.Fix slot page)
-      → length (holdings (having_done r (action.Fix slot page))) ≡ length (holdings r) + 1
-  fix_length slot page asked =
+  pub fix_slots : (slot page : ℕ) → IsAsked s w r (fixes (asked_by r) slot page)
+      → held_slots most_slots (holdings (having_done r (fixes (asked_by r) slot page)))
+      ≡ held_slots most_slots (holdings r) + 1
+  fix_slots slot page asked =
       fix_counts s.settings.layout r (seat_is s h w r asked.at.seat) (ap given_back asked.at.stage) slot page
-      (asks_it (action.Fix slot page) asked)
+      (asks_it (fixes (asked_by r) slot page) asked)
 
   pub loaded_holds : (slot page : ℕ) → IsAt s w r (reading slot page) → (k : ℕ)
-      → holding_at (holdings (having_done r (action.Fix slot page))) k
+      → holding_at (holdings (having_done r (fixes (asked_by r) slot page))) k
       ≡ (if k == slot then Some (record { slot = slot; page = page; held = Free }) else holding_at (holdings r) k)
   loaded_holds slot page at k =
       fix_does s.settings.layout r (seat_is s h w r at.seat) (ap given_back at.stage) slot page
       (reading_asks slot page at) k
 
-  pub loaded_length : (slot page : ℕ) → IsAt s w r (reading slot page)
-      → length (holdings (having_done r (action.Fix slot page))) ≡ length (holdings r) + 1
-  loaded_length slot page at =
+  pub loaded_slots : (slot page : ℕ) → IsAt s w r (reading slot page)
+      → held_slots most_slots (holdings (having_done r (fixes (asked_by r) slot page)))
+      ≡ held_slots most_slots (holdings r) + 1
+  loaded_slots slot page at =
       fix_counts s.settings.layout r (seat_is s h w r at.seat) (ap given_back at.stage) slot page
       (reading_asks slot page at)
 
@@ -342,9 +337,10 @@ module _ (s : State) (h : IsReached s) (w : ℕ) (r : Running) where
       unfix_does s.settings.layout r (seat_is s h w r asked.at.seat) (ap given_back asked.at.stage) slot
       (asks_it (action.Unfix slot) asked) k
 
-  pub unfix_length : (slot : ℕ) → IsAsked s w r (action.Unfix slot)
-      → length (holdings (having_done r (action.Unfix slot))) + 1 ≡ length (holdings r)
-  unfix_length slot asked =
+  pub unfix_slots : (slot : ℕ) → IsAsked s w r (action.Unfix slot)
+      → held_slots most_slots (holdings (having_done r (action.Unfix slot))) + 1
+      ≡ held_slots most_slots (holdings r)
+  unfix_slots slot asked =
       unfix_counts s.settings.layout r (seat_is s h w r asked.at.seat) (ap given_back asked.at.stage) slot
       (asks_it (action.Unfix slot) asked)
 
@@ -373,15 +369,16 @@ module _ (s : State) (h : IsReached s) (w : ℕ) (r : Running) where
       let does = asked_handles g r a seat none (asks_it a asked) in
       as_does g r seat none a slot does.0 (held_for m) (asks_it a asked) does.1 does.3 x found k
 
-  pub latch_length : (slot : ℕ) (m : Mode) → IsAsked s w r (action.Latch slot m)
-      → length (holdings (having_done r (action.Latch slot m))) ≡ length (holdings r)
-  latch_length slot m asked =
+  pub latch_slots : (slot : ℕ) (m : Mode) → IsAsked s w r (action.Latch slot m)
+      → held_slots most_slots (holdings (having_done r (action.Latch slot m)))
+      ≡ held_slots most_slots (holdings r)
+  latch_slots slot m asked =
       let a = action.Latch slot m in
       let g = s.settings.layout in
       let seat = seat_is s h w r asked.at.seat in
       let none = ap given_back asked.at.stage in
       let does = asked_handles g r a seat none (asks_it a asked) in
-      as_counts g r seat none a does.0 (held_for m) does.3
+      as_counts g r seat none a slot does.0 (held_for m) (asks_it a asked) does.1 does.3
 
   -- An unlatch finds a page that is latched, and then it isn't.
   pub unlatch_finds : (slot : ℕ) → IsAsked s w r (action.Unlatch slot)
@@ -404,15 +401,16 @@ module _ (s : State) (h : IsReached s) (w : ℕ) (r : Running) where
       let does = asked_handles g r a seat none (asks_it a asked) in
       as_does g r seat none a slot does.0 Free (asks_it a asked) does.1 does.3 x found k
 
-  pub unlatch_length : (slot : ℕ) → IsAsked s w r (action.Unlatch slot)
-      → length (holdings (having_done r (action.Unlatch slot))) ≡ length (holdings r)
-  unlatch_length slot asked =
+  pub unlatch_slots : (slot : ℕ) → IsAsked s w r (action.Unlatch slot)
+      → held_slots most_slots (holdings (having_done r (action.Unlatch slot)))
+      ≡ held_slots most_slots (holdings r)
+  unlatch_slots slot asked =
       let a = action.Unlatch slot in
       let g = s.settings.layout in
       let seat = seat_is s h w r asked.at.seat in
       let none = ap given_back asked.at.stage in
       let does = asked_handles g r a seat none (asks_it a asked) in
-      as_counts g r seat none a does.0 Free does.3
+      as_counts g r seat none a slot does.0 Free (asks_it a asked) does.1 does.3
 
   -- A choice changes nothing that is held.
   pub choose_holds : (i : ℕ) → IsAsked s w r (action.Choose i)
@@ -433,27 +431,18 @@ module _ (s : State) (h : IsReached s) (w : ℕ) (r : Running) where
       → holding_at (holdings r) slot ≡ Some x → (k : ℕ)
       → holding_at (holdings (at_stage r (leaving (slot ∷ given)))) k
       ≡ (if k == slot then None else holding_at (holdings r) k)
-  unwind_holds slot given x at found k =
-      let g = s.settings.layout in
-      let seat = seat_is s h w r at.seat in
-      let y = at_stage r (leaving (slot ∷ given)) in
-      let after : IsSeat g y =
-      record { accepted = seat.accepted; layout = seat.layout; begun = seat.begun; errand = tt } in
-      let swaps = unwound_swaps g r slot given x seat at.stage found in
-      slot_swapped (holdings r) (holdings y) slot (Some x) None (holdings_apart g r seat) (holdings_apart g y after)
-      found (slot_found (holdings r) slot x found) tt (λ f. omega (arith, swaps f, alone f x)) k
+  unwind_holds slot given x at found k = unwound_sets s.settings.layout r slot given (seat_is s h w r at.seat) at.stage k
 
-  pub unwind_length : (slot : ℕ) (given : List ℕ) (x : Holding) → IsAt s w r (leaving given)
+  pub unwind_slots : (slot : ℕ) (given : List ℕ) (x : Holding) → IsAt s w r (leaving given)
       → holding_at (holdings r) slot ≡ Some x
-      → length (holdings (at_stage r (leaving (slot ∷ given)))) + 1 ≡ length (holdings r)
-  unwind_length slot given x at found =
-      let y = at_stage r (leaving (slot ∷ given)) in
-      omega (
-        arith,
-        unwound_swaps s.settings.layout r slot given x (seat_is s h w r at.seat) at.stage found (λ z. 1),
-        size_is (holdings y),
-        size_is (holdings r),
-      )
+      → held_slots most_slots (holdings (at_stage r (leaving (slot ∷ given)))) + 1
+      ≡ held_slots most_slots (holdings r)
+  unwind_slots slot given x at found =
+      let few = (slots_are_within s h w r at.seat slot x found).few in
+      let set =
+      held_set most_slots slot None (holdings r) (holdings (at_stage r (leaving (slot ∷ given)))) few
+      (unwind_holds slot given x at found) in
+      omega (arith, set, ap count_of found)
 
   -- A worker whose plan is at its end holds nothing.
   pub ends_empty : IsAt s w r acting → asked_by r ≡ ask.End → holdings r ≡ []

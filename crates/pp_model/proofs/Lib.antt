@@ -19,6 +19,7 @@ pub mod Stuck
 pub mod LatchLaws
 pub mod Journeys
 pub mod Inside
+pub mod HeldSlots
 pub mod Falls
 pub mod BoundLaws
 pub mod MarkParts

@@ -30,12 +30,12 @@ use Rattle.pp_model.specs.Holders.{pins_of, readers_of, writers_of, latches_of, 
 use Rattle.pp_model.specs.Outcome.{did, with_stage, with_lists, with_dirty, with_mark, released, having_done, at_stage}
 use Rattle.pp_model.specs.Outcome.{with_frame}
 use Rattle.pp_model.specs.Taking.{began}
-use Rattle.pp_model.specs.Fixing.{free_frame, with_frame_moved}
+use Rattle.pp_model.specs.Fixing.{free_frame, with_frame_moved, fixes}
 use Rattle.pp_model.specs.Answers.{brought_back}
 use Rattle.pp_model.specs.Using.{goes_with, unlatched}
 use Rattle.pp_model.specs.Leaving.{ended}
 use Rattle.pp_model.specs.Flushing.{flush_begun, flush_over}
-use Rattle.pp_model.specs.Moves.{seat_of}
+use Rattle.pp_model.specs.Moves.{seat_of, asked_by}
 use Rattle.pp_model.specs.Reached.{IsReached}
 use Rattle.pp_model.specs.Marks.{marks}
 use Rattle.pp_model.proofs.Sums.{sum_by-term, times-cons}
@@ -62,16 +62,16 @@ use Rattle.pp_model.proofs.Framed.{flushed_low}
 -- ---- fixes
 
 module _ (s : State) (h : IsReached s) (w : ℕ) (r : Running) where
-  pub fixed_low : (slot page : ℕ) → IsAsked s w r (action.Fix slot page) → page < length s.notes
+  pub fixed_low : (slot page : ℕ) → IsAsked s w r (fixes (asked_by r) slot page) → page < length s.notes
   fixed_low slot page asked =
       omega (arith, asked_low s w r slot page s.lists (good s h) (sound s h) asked, pages_are s h)
 
   -- A hit pins the page once more.
-  pub hit_marks : (slot page : ℕ) (l : FourLists) → IsAsked s w r (action.Fix slot page)
-      → marks (did (with_lists s l) w r (action.Fix slot page))
+  pub hit_marks : (slot page : ℕ) (l : FourLists) → IsAsked s w r (fixes (asked_by r) slot page)
+      → marks (did (with_lists s l) w r (fixes (asked_by r) slot page))
       ≡ map.with_pins (marks s) page (map.pins_of (marks s) page + 1)
   hit_marks slot page l asked =
-      let t = did (with_lists s l) w r (action.Fix slot page) in
+      let t = did (with_lists s l) w r (fixes (asked_by r) slot page) in
       let x : Holding = record { slot = slot; page = page; held = Free } in
       let low = fixed_low slot page asked in
       let d = totals.hit_totals s t w r (good s h) slot page asked refl in
@@ -474,10 +474,10 @@ module _ (s : State) (h : IsReached s) (w : ℕ) (r : Running) (slot page : ℕ)
   load_low at = omega (arith, loading_low s h w r (reading slot page) at page refl, count_told s)
 
   pub load_marks : (stamp : ℕ) → IsAt s w r (reading slot page)
-      → marks (did (with_mark s page stamp) w r (action.Fix slot page)) ≡ map.with_stamp (marks s) page (Some stamp)
+      → marks (did (with_mark s page stamp) w r (fixes (asked_by r) slot page)) ≡ map.with_stamp (marks s) page (Some stamp)
   load_marks stamp at =
       let u = with_mark s page stamp in
-      let t = did u w r (action.Fix slot page) in
+      let t = did u w r (fixes (asked_by r) slot page) in
       let x : Holding = record { slot = slot; page = page; held = Free } in
       let d = totals.loaded_totals s t w r (good s h) slot page at refl in
       seats_same u t (record { settings = refl; notes = refl })
@@ -665,7 +665,7 @@ module _ (s : State) (h : IsReached s) (w : ℕ) (r : Running) (slot : ℕ) (giv
 -- ---- a cached page is fixed
 
 module _ (s : State) (h : IsReached s) (w : ℕ) (r : Running) (slot page : ℕ) (l : FourLists)
-    (asked : IsAsked s w r (action.Fix slot page)) where
+    (asked : IsAsked s w r (fixes (asked_by r) slot page)) where
   -- A page that is hit stands in a frame.
   pub hit_placed : IsAnswered s page l answer.Hit → IsSome (map.frame_of (marks s) page)
   hit_placed is =
@@ -737,7 +737,7 @@ module _ (s : State) (h : IsReached s) (w : ℕ) (r : Running) (slot page : ℕ)
 -- ---- a victim's frame becomes another page's
 
 module _ (s : State) (h : IsReached s) (w : ℕ) (r : Running) (slot page v : ℕ) (l : FourLists)
-    (asked : IsAsked s w r (action.Fix slot page)) (is : IsAnswered s page l (answer.Evict v)) where
+    (asked : IsAsked s w r (fixes (asked_by r) slot page)) (is : IsAnswered s page l (answer.Evict v)) where
   the_victim : IsVictim s.lists page (is_busy s) v
   the_victim = is_victim s.lists page (is_busy s) v (sound s h).bounds is.is
 

@@ -6,7 +6,6 @@ use Rattle.std.specs.Prelude.{slice_get, sum_by}
 use Rattle.std.specs.List.{range_with_len}
 use Rattle.std.proofs.lemmas.List.Sums.{sum_by-cons}
 use Rattle.std.proofs.lemmas.List.Concat.{length-flat_map}
-use Rattle.pp_plan.specs.declared.action.Action.TheVariants as action
 use Rattle.pp_frames.specs.Marks as map
 use Rattle.pp_frames.specs.Marks.{PageMarks}
 use Rattle.pp_model.specs.Pool.{Running, State}
@@ -15,6 +14,8 @@ use Rattle.pp_model.specs.Budget.{peak_of}
 use Rattle.pp_model.specs.Reached.{IsReached}
 use Rattle.pp_model.specs.Laws.{PinIsLeft}
 use Rattle.pp_model.specs.Marks.{marks_at, marks}
+use Rattle.pp_model.specs.Fixing.{fixes}
+use Rattle.pp_model.specs.Moves.{asked_by}
 use Rattle.pp_model.proofs.Sums.{sum_by-lt, spread}
 use Rattle.pp_model.proofs.Changes.{IsAsked}
 use Rattle.pp_model.proofs.Seats.{IsSeat, asks_now, good}
@@ -69,8 +70,8 @@ pin_is_left s h w slot page r act asks =
     )
 
 pub pins_room : (s : State) → IsReached s → (w : ℕ) (r : Running) (slot page : ℕ)
-    → IsAsked s w r (action.Fix slot page) → map.all_pins (marks s) < s.settings.layout.frames
+    → IsAsked s w r (fixes (asked_by r) slot page) → map.all_pins (marks s) < s.settings.layout.frames
 pins_room s h w r slot page asked =
     let seat : IsSeat s.settings.layout r = (good s h).seats w (Some r) asked.at.seat in
     pin_is_left s h w slot page r (record { seat = asked.at.seat; stage = asked.at.stage })
-    (asks_now s.settings.layout r (action.Fix slot page) seat asked.names)
+    (asks_now s.settings.layout r (fixes (asked_by r) slot page) seat asked.names)

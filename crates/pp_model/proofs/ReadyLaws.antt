@@ -5,7 +5,6 @@ use Rattle.std.proofs.Common.{arith}
 use Rattle.std.specs.Prelude.{nat_lt, ◌||◌, IsSome, IsTrue, unwrap_or}
 use Rattle.std.proofs.lemmas.Bool.{false≢true}
 use Rattle.std.proofs.lemmas.Bool.Decides.{nat_tests}
-use Rattle.pp_plan.specs.declared.action.Action.TheVariants as action
 use Rattle.pp_cert.specs.declared.note.Held.{Held}
 use Rattle.pp_cert.specs.declared.note.Held.TheVariants.{Free, S, X}
 use Rattle.pp_arc.specs.declared.answer.Answer.{Answer}
@@ -20,6 +19,7 @@ use Rattle.pp_model.specs.Pool.{frame_at, mark_at}
 use Rattle.pp_model.specs.Holders.{is_exclusive, writers_of, is_busy, is_in_flight}
 use Rattle.pp_model.specs.Outcome.{Outcome, with_stage, with_lists, with_frame}
 use Rattle.pp_model.specs.Fixing.{fix_slot, with_frame_moved, free_frame, evict_where, fix_by, fix_where, fix_asked}
+use Rattle.pp_model.specs.Fixing.{fixes}
 use Rattle.pp_model.specs.Leaving.{unwound}
 use Rattle.pp_model.specs.Submitting.{submit_error, submitted_unless}
 use Rattle.pp_model.specs.Moves.{asked_by, act_in, act_by, seat_of, outcome_of, reply_of, next_of}
@@ -253,7 +253,7 @@ silent s o isnt nor = record {
 }
 
 module _ (s : State) (h : IsReached s) (w : ℕ) (r : Running) (page : ℕ) where
-  evict_tells : (slot v : ℕ) (l : FourLists) (b : Bool) → IsAsked s w r (action.Fix slot page)
+  evict_tells : (slot v : ℕ) (l : FourLists) (b : Bool) → IsAsked s w r (fixes (asked_by r) slot page)
       → IsAnswered s page l (answer.Evict v) → FixTells s (evict_where (with_lists s l) w r slot page v b)
   evict_tells slot v l true asked is =
       let t = with_stage (with_frame_moved (with_lists s l) page v) w r (writing slot page v) in
@@ -276,7 +276,7 @@ module _ (s : State) (h : IsReached s) (w : ℕ) (r : Running) (page : ℕ) wher
         writes = λ frame victim told. absurd (not_written (MustRead (frame_at s v)) _ frame victim refl told refl);
       }
 
-  fill_tells : (slot : ℕ) (l : FourLists) → IsAsked s w r (action.Fix slot page) → IsAnswered s page l answer.Free
+  fill_tells : (slot : ℕ) (l : FourLists) → IsAsked s w r (fixes (asked_by r) slot page) → IsAnswered s page l answer.Free
       → FixTells s (fix_by s l w r slot page answer.Free)
   fill_tells slot l asked is =
       let t = with_stage (with_frame (with_lists s l) page (Some (free_frame s))) w r (reading slot page) in
@@ -291,14 +291,14 @@ module _ (s : State) (h : IsReached s) (w : ℕ) (r : Running) (page : ℕ) wher
         writes = λ frame victim told. absurd (not_written (MustRead (free_frame s)) _ frame victim refl told refl);
       }
 
-  answer_tells : (slot : ℕ) (l : FourLists) (x : Answer) → IsAsked s w r (action.Fix slot page)
+  answer_tells : (slot : ℕ) (l : FourLists) (x : Answer) → IsAsked s w r (fixes (asked_by r) slot page)
       → IsAnswered s page l x → FixTells s (fix_by s l w r slot page x)
   answer_tells slot l answer.Hit asked is = silent s _ refl refl
   answer_tells slot l answer.Free asked is = fill_tells slot l asked is
   answer_tells slot l (answer.Evict v) asked is = evict_tells slot v l (is_dirty s v) asked is
   answer_tells slot l answer.AllBusy asked is = silent s _ refl refl
 
-  flight_tells : (slot : ℕ) (b : Bool) → is_in_flight s page ≡ b → IsAsked s w r (action.Fix slot page)
+  flight_tells : (slot : ℕ) (b : Bool) → is_in_flight s page ≡ b → IsAsked s w r (fixes (asked_by r) slot page)
       → FixTells s (fix_where s w r slot page b)
   flight_tells slot true e asked = silent s _ refl refl
   flight_tells slot false e asked =

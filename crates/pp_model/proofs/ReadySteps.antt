@@ -23,12 +23,12 @@ use Rattle.pp_model.specs.Holders.{readers_of, is_busy}
 use Rattle.pp_model.specs.Outcome.{did, with_stage, with_note, with_lists, with_frame, with_dirty, with_mark, raised}
 use Rattle.pp_model.specs.Outcome.{released}
 use Rattle.pp_model.specs.Taking.{began}
-use Rattle.pp_model.specs.Fixing.{free_frame, with_frame_moved}
+use Rattle.pp_model.specs.Fixing.{free_frame, with_frame_moved, fixes}
 use Rattle.pp_model.specs.Answers.{brought_back}
 use Rattle.pp_model.specs.Using.{goes_with, unlatched}
 use Rattle.pp_model.specs.Leaving.{ended}
 use Rattle.pp_model.specs.Flushing.{flush_begun, flush_over}
-use Rattle.pp_model.specs.Moves.{seat_of}
+use Rattle.pp_model.specs.Moves.{seat_of, asked_by}
 use Rattle.pp_model.specs.Reached.{IsReached}
 use Rattle.pp_model.specs.Ready.{is_away, standing_of, ready_at, away_from, NoneReadyIn, ReadyStay, ImageGoes}
 use Rattle.pp_model.specs.Ready.{ImageComes, Leaves, Enters}
@@ -98,10 +98,10 @@ module _ (s : State) (h : IsReached s) where
       same_stays s (with_dirty (flush_over s) f.page false) q refl refl d.0 d.1
 
 module _ (s : State) (h : IsReached s) (w : ℕ) (r : Running) where
-  pub hit_stays : (slot page : ℕ) (l : FourLists) → IsAsked s w r (action.Fix slot page)
-      → AllStay s (did (with_lists s l) w r (action.Fix slot page))
+  pub hit_stays : (slot page : ℕ) (l : FourLists) → IsAsked s w r (fixes (asked_by r) slot page)
+      → AllStay s (did (with_lists s l) w r (fixes (asked_by r) slot page))
   hit_stays slot page l asked q =
-      let t = did (with_lists s l) w r (action.Fix slot page) in
+      let t = did (with_lists s l) w r (fixes (asked_by r) slot page) in
       let x : Holding = record { slot = slot; page = page; held = Free } in
       stays_by s t [] (x ∷ []) [] [] [] [] q (totals.hit_totals s t w r (good s h) slot page asked refl) refl
       (sym (no_writes q x refl)) refl refl
@@ -121,7 +121,7 @@ module _ (s : State) (h : IsReached s) (w : ℕ) (r : Running) where
 -- ---- a page is fixed that isn't cached
 
 module _ (s : State) (h : IsReached s) (w : ℕ) (r : Running) (slot page : ℕ) (l : FourLists)
-    (asked : IsAsked s w r (action.Fix slot page)) where
+    (asked : IsAsked s w r (fixes (asked_by r) slot page)) where
   -- It isn't ready before, nor while it is loaded, and then its image is away.
   missed : (a : Answer) → a ≢ answer.Hit → IsAnswered s page l a → is_cached s.lists page ≡ false
   missed a not_hit is = miss_uncached s.lists page (is_busy s) (λ f. not_hit (sym is.is ∙ f))
@@ -315,7 +315,7 @@ module _ (s : State) (h : IsReached s) (w : ℕ) (r : Running) (slot page : ℕ)
   -- The page was read.
   module _ (stamp : ℕ) where
     abbrev loaded : State
-    loaded = did (with_mark s page stamp) w r (action.Fix slot page)
+    loaded = did (with_mark s page stamp) w r (fixes (asked_by r) slot page)
 
     abbrev its_holding : Holding
     its_holding = record { slot = slot; page = page; held = Free }

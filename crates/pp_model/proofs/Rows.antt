@@ -18,6 +18,7 @@ use Rattle.pp_model.specs.declared.reply.Reply.TheVariants.{Unlatched, Finished,
 use Rattle.pp_model.specs.declared.event.Event.{Event}
 use Rattle.pp_model.specs.declared.event.Event.TheVariants.{Submit, Step}
 use Rattle.pp_model.specs.Pool.{State, opening, is_dirty}
+use Rattle.pp_model.specs.Holders.{held_slots}
 use Rattle.pp_model.specs.Budget.{bound}
 use Rattle.pp_model.specs.Moves.{reply_of}
 use Rattle.pp_model.specs.Submitting.{submit_error}
@@ -46,6 +47,7 @@ room_turn : next_turn (state_after room_start room_moves) ≡ Some (Act 1)
 room_turn = refl
 
 room_budget : bound (state_after room_start room_moves) ≡ 53
+unfolding held_slots
 room_budget = refl
 
 -- One frame: a flush of its page holds it.
@@ -66,6 +68,7 @@ held_by_a_flush_turn : next_turn (state_after held_by_a_flush_start held_by_a_fl
 held_by_a_flush_turn = refl
 
 held_by_a_flush_budget : bound (state_after held_by_a_flush_start held_by_a_flush_moves) ≡ 42
+unfolding held_slots
 held_by_a_flush_budget = refl
 
 -- One frame: the victim can't be written back, and stays in it, newer than the device's.
@@ -86,6 +89,7 @@ lost_turn : next_turn (state_after lost_start lost_moves) ≡ Some (Act 0)
 lost_turn = refl
 
 lost_budget : bound (state_after lost_start lost_moves) ≡ 47
+unfolding held_slots
 lost_budget = refl
 
 lost_page : (state_after lost_start lost_moves).lists.t2 ≡ 16 ∷ []
@@ -110,6 +114,7 @@ misread_turn : next_turn (state_after misread_start misread_moves) ≡ Some (Act
 misread_turn = refl
 
 misread_budget : bound (state_after misread_start misread_moves) ≡ 44
+unfolding held_slots
 misread_budget = refl
 
 -- A page that is changed while it is flushed stays newer than the device's.
@@ -131,6 +136,7 @@ changed_meanwhile_turn : next_turn (state_after changed_meanwhile_start changed_
 changed_meanwhile_turn = refl
 
 changed_meanwhile_budget : bound (state_after changed_meanwhile_start changed_meanwhile_moves) ≡ 45
+unfolding held_slots
 changed_meanwhile_budget = refl
 
 -- Two workers want one page X, and the second isn't next while the first has it.
@@ -149,6 +155,7 @@ one_writer_turn : next_turn (state_after one_writer_start one_writer_moves) ≡ 
 one_writer_turn = refl
 
 one_writer_budget : bound (state_after one_writer_start one_writer_moves) ≡ 89
+unfolding held_slots
 one_writer_budget = refl
 
 -- One frame: a changed page is written back, evicted, and read again with its mark.
@@ -170,6 +177,7 @@ read_again_turn : next_turn (state_after read_again_start read_again_moves) ≡ 
 read_again_turn = refl
 
 read_again_budget : bound (state_after read_again_start read_again_moves) ≡ 47
+unfolding held_slots
 read_again_budget = refl
 
 -- Two plans to their ends, each turn the one that is next: 14 moves, and of the bound only the flushes are left.
@@ -190,6 +198,7 @@ two_in_turn_turn : next_turn (state_after two_in_turn_start two_in_turn_moves) �
 two_in_turn_turn = refl
 
 two_in_turn_budget : bound (state_after two_in_turn_start two_in_turn_moves) ≡ 8
+unfolding held_slots
 two_in_turn_budget = refl
 
 -- A plan whose reading fails ends gone, after four moves.
@@ -208,10 +217,12 @@ all_faults_turn : next_turn (state_after all_faults_start all_faults_moves) ≡ 
 all_faults_turn = refl
 
 all_faults_budget : bound (state_after all_faults_start all_faults_moves) ≡ 8
+unfolding held_slots
 all_faults_budget = refl
 
 -- Before the first move the bound is both costs and twice the flushes.
 two_budget : bound two_in_turn_start ≡ 100
+unfolding held_slots
 two_budget = refl
 
 -- A worker that the settings don't have.

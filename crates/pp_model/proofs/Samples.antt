@@ -29,7 +29,7 @@ straight (s ∷ ss) = andthen (step s) (straight ss)
 abbrev plan_of : (frames peak count : ℕ) → List (List ℕ) → List Step → Acceptance
 plan_of frames peak count slots ss =
     record {
-      plan = record { layout = layout_of frames; slots = slots; body = straight ss };
+      plan = record { version = 1; layout = layout_of frames; slots = slots; body = straight ss };
       peak = peak;
       steps = count;
     }

@@ -16,6 +16,8 @@ use Rattle.pp_model.specs.Outcome.{at_stage, having_done}
 use Rattle.pp_model.specs.Submitting.{error_where}
 use Rattle.pp_model.specs.Turns.{Asks}
 use Rattle.pp_model.specs.Reached.{IsReached}
+use Rattle.pp_model.specs.Fixing.{fixes}
+use Rattle.pp_model.specs.Moves.{asked_by}
 use Rattle.pp_plan.proofs.Asking.{asks_named}
 use Rattle.pp_model.proofs.Layouts.{layouts_same}
 use Rattle.pp_model.proofs.Crews.{AsksNow, IsErrand, Goes, acts, sends, reads, loads, loses, gives, ends, Crew, crew_of}
@@ -27,8 +29,8 @@ use Rattle.pp_model.proofs.Reaching.{IsKept, holds}
 
 abbrev pub Sends : Running → Stage → Type 0
 Sends r acting = Unit {0}
-Sends r (writing slot page v) = Asks r (action.Fix slot page)
-Sends r (reading slot page) = Asks r (action.Fix slot page)
+Sends r (writing slot page v) = Asks r (fixes (asked_by r) slot page)
+Sends r (reading slot page) = Asks r (fixes (asked_by r) slot page)
 Sends r (leaving given) = Unit {0}
 
 pub record IsSeat (g : Geometry) (r : Running) : Type 0 where
@@ -57,7 +59,7 @@ begins_more r a asks = (
 did_seat : (g : Geometry) (r : Running) (a : Action) → IsSeat g r → Asks r a → IsSeat g (having_done r a)
 did_seat g r a h asks = record { accepted = h.accepted; layout = h.layout; begun = begins_more r a asks; errand = tt }
 
-sent : (r : Running) (slot page : ℕ) (g : Stage) → IsErrand slot page g → Asks r (action.Fix slot page)
+sent : (r : Running) (slot page : ℕ) (g : Stage) → IsErrand slot page g → Asks r (fixes (asked_by r) slot page)
     → Sends (at_stage r g) g
 sent r slot page acting i asks = tt
 sent r slot page (writing t x v) i asks =
@@ -73,13 +75,13 @@ staged g r stage h s = record { accepted = h.accepted; layout = h.layout; begun 
 goes_seat : (g : Geometry) (r : Running) (x : Option Running) → IsSeat g r → Goes r x → OkSeat g x
 goes_seat g r x h (acts a f n e) = subst (OkSeat g) (sym e) (did_seat g r a h (asks_now g r a h n))
 goes_seat g r x h (sends slot page stage f n i e) =
-    subst (OkSeat g) (sym e) (staged g r stage h (sent r slot page stage i (asks_now g r (action.Fix slot page) h n)))
+    subst (OkSeat g) (sym e) (staged g r stage h (sent r slot page stage i (asks_now g r (fixes (asked_by r) slot page) h n)))
 goes_seat g r x h (reads slot page v f e) =
-    let asks : Asks r (action.Fix slot page) = subst (Sends r) f h.errand in
+    let asks : Asks r (fixes (asked_by r) slot page) = subst (Sends r) f h.errand in
     subst (OkSeat g) (sym e) (staged g r (reading slot page) h asks)
 goes_seat g r x h (loads slot page f e) =
-    let asks : Asks r (action.Fix slot page) = subst (Sends r) f h.errand in
-    subst (OkSeat g) (sym e) (did_seat g r (action.Fix slot page) h asks)
+    let asks : Asks r (fixes (asked_by r) slot page) = subst (Sends r) f h.errand in
+    subst (OkSeat g) (sym e) (did_seat g r (fixes (asked_by r) slot page) h asks)
 goes_seat g r x h (loses slot page i e) = subst (OkSeat g) (sym e) (staged g r (leaving []) h tt)
 goes_seat g r x h (gives given slot k f i e) = subst (OkSeat g) (sym e) (staged g r (leaving (slot ∷ given)) h tt)
 goes_seat g r x h (ends e) = subst (OkSeat g) (sym e) tt

@@ -29,7 +29,7 @@ use Rattle.pp_model.specs.Pool.{Stage, acting, writing, reading, leaving, Runnin
 use Rattle.pp_model.specs.Holders.{holdings, is_in_flight, is_busy, page_in, held_in}
 use Rattle.pp_model.specs.Outcome.{Outcome, not_now, off_plan, at_stage, having_done, with_lists, released}
 use Rattle.pp_model.specs.Taking.{has_room, beginning, take_where, take_by}
-use Rattle.pp_model.specs.Fixing.{fix_slot, evict_where, fix_by, fix_where, fix_asked}
+use Rattle.pp_model.specs.Fixing.{fix_slot, evict_where, fix_by, fix_where, fix_asked, fixes}
 use Rattle.pp_model.specs.Answers.{write_where, write_in, write_by, is_misread, read_where, read_came, read_in, read_by}
 use Rattle.pp_model.specs.Using.{unfix_asked, goes_with, latch_where, latch_asked, unlatch_asked}
 use Rattle.pp_model.specs.Using.{choose_where, choose_asked}
@@ -97,7 +97,7 @@ evicted s l w r slot page v false = sits s _ w _ (Some (at_stage r (reading slot
 fix_answered : (s : State) (l : FourLists) (w : ℕ) (r : Running) (slot page : ℕ) (x : Answer)
     → OneSeat s (move.Fix w page) w (fix_by s l w r slot page x)
 fix_answered s l w r slot page answer.Hit =
-    sits s _ w _ (Some (having_done r (action.Fix slot page))) refl refl refl refl
+    sits s _ w _ (Some (having_done r (fixes (asked_by r) slot page))) refl refl refl refl
 fix_answered s l w r slot page answer.Free = sits s _ w _ (Some (at_stage r (reading slot page))) refl refl refl refl
 fix_answered s l w r slot page (answer.Evict v) = evicted s l w r slot page v (is_dirty s v)
 fix_answered s l w r slot page answer.AllBusy = later s _ w FlushHolds
@@ -201,7 +201,7 @@ stamp_tested : (s : State) (w : ℕ) (r : Running) (slot page named stamp : ℕ)
     → OneSeat s (move.ReadDone w (Image named stamp)) w (read_where s w r slot page stamp b)
 stamp_tested s w r slot page named stamp true = sits s _ w _ (Some (at_stage r (leaving []))) refl refl refl refl
 stamp_tested s w r slot page named stamp false =
-    sits s _ w _ (Some (having_done r (action.Fix slot page))) (same_number stamp) refl refl refl
+    sits s _ w _ (Some (having_done r (fixes (asked_by r) slot page))) (same_number stamp) refl refl refl
 
 came_in : (s : State) (w : ℕ) (r : Running) (slot page : ℕ) (came : Came)
     → OneSeat s (move.ReadDone w came) w (read_came s w r slot page came)

@@ -17,6 +17,8 @@ use Rattle.pp_model.specs.Pool.{acting, writing, reading, leaving, Running, Stat
 use Rattle.pp_model.specs.Holders.{held_in, page_in}
 use Rattle.pp_model.specs.Outcome.{at_stage, having_done, released}
 use Rattle.pp_model.specs.Reached.{IsSettings, IsReached}
+use Rattle.pp_model.specs.Fixing.{fixes}
+use Rattle.pp_model.specs.Moves.{asked_by}
 use Rattle.pp_model.proofs.Sums.{times-cons}
 use Rattle.pp_model.proofs.Changes as change
 use Rattle.pp_model.proofs.Changes.{Change, IsAsked, IsAnswered}
@@ -80,13 +82,13 @@ released_lists s X page = refl
 
 -- A fix that isn't a hit.
 module _ (s : State) (w : ℕ) (r : Running) (slot page : ℕ) (l : FourLists) (good : GoodSeats s) (h : IsSound s) where
-  pub asked_low : IsAsked s w r (action.Fix slot page) → page < s.lists.pages
+  pub asked_low : IsAsked s w r (fixes (asked_by r) slot page) → page < s.lists.pages
   asked_low asked =
       let seat = totals.seat_at s w r good asked.at.seat in
       let low = fixable r.accepted.plan.layout slot page _ asked.names in
       subst (λ n. page < n) (sym h.pages) (subst (λ g. page < page_count g) (sym seat.layout) low)
 
-  miss : (a : Answer) → IsAsked s w r (action.Fix slot page) → IsAnswered s page l a → a ≢ answer.Hit
+  miss : (a : Answer) → IsAsked s w r (fixes (asked_by r) slot page) → IsAnswered s page l a → a ≢ answer.Hit
       → a ≢ answer.AllBusy
       → IsMiss s page a
   miss a asked is not_hit not_all_busy =

@@ -8,7 +8,6 @@ use Rattle.std.proofs.lemmas.List.{length-map, length-append}
 use Rattle.std.proofs.lemmas.List.Sums.{sum_by-cons, length-filter, count_by-le-length}
 use Rattle.std.proofs.lemmas.List.Concat.{length-flat_map}
 use Rattle.pp_settings.specs.Layout.{Geometry}
-use Rattle.pp_plan.specs.declared.action.Action.TheVariants as action
 use Rattle.pp_cert.specs.declared.note.Held.TheVariants.{Free}
 use Rattle.pp_cert.specs.Held.{Holding, Holdings, held, size_of}
 use Rattle.pp_arc.specs.declared.answer.Answer.{Answer}
@@ -26,7 +25,7 @@ use Rattle.pp_model.specs.Holders.{given_back, is_among, holdings, held_pages, l
 use Rattle.pp_model.specs.Holders.{is_busy, is_in_flight}
 use Rattle.pp_model.specs.Budget.{peak_of}
 use Rattle.pp_model.specs.Outcome.{Outcome, having_done, with_lists}
-use Rattle.pp_model.specs.Fixing.{fix_slot, evict_where, fix_by, fix_where, fix_asked}
+use Rattle.pp_model.specs.Fixing.{fix_slot, evict_where, fix_by, fix_where, fix_asked, fixes}
 use Rattle.pp_model.specs.Moves.{asked_by, act_in, act_by, seat_of}
 use Rattle.pp_model.specs.Turns.{Asks}
 use Rattle.pp_model.specs.Reached.{IsReached}
@@ -36,10 +35,13 @@ use Rattle.pp_model.proofs.Changes.{slot_asked}
 use Rattle.pp_model.proofs.Room.{room}
 use Rattle.pp_model.proofs.Seats.{IsSeat, OkSeat, Sends, asks_now, begins_more, good}
 use Rattle.pp_model.proofs.Effects.{all_held, has_held, asked_handles}
-use Rattle.pp_model.proofs.Falls.{size_is}
 use Rattle.pp_model.proofs.Soundness.{sound}
 
 -- ---- what one worker takes
+
+size_is : (hs : Holdings) → sum_by (λ h. 1) hs ≡ length hs
+size_is [] = refl
+size_is (h ∷ hs) = omega (arith, sum_by-cons (λ (k : Holding). 1) h hs, size_is hs)
 
 -- What is held after a beginning of a trace is at most the peak.
 begun_held : (g : Geometry) (r : Running) → IsSeat g r → given_back r.stage ≡ [] → length (holdings r) ≤ r.accepted.peak
@@ -49,10 +51,10 @@ begun_held g r h none =
 
 -- At a fix that is asked one slot more fits the peak.
 pub fix_fits : (g : Geometry) (r : Running) (slot page : ℕ) → IsSeat g r → given_back r.stage ≡ []
-    → Asks r (action.Fix slot page)
+    → Asks r (fixes (asked_by r) slot page)
     → suc (length (holdings r)) ≤ r.accepted.peak
 fix_fits g r slot page h none asks =
-    let a = action.Fix slot page in
+    let a = fixes (asked_by r) slot page in
     let x : Holding = record { slot = slot; page = page; held = Free } in
     let swaps = (asked_handles g r a h none asks).1 (λ k. 1) in
     let next : IsSeat g (having_done r a) = record
@@ -79,10 +81,10 @@ peak_at : (g : Geometry) (r : Running) (k : Stage) → r.stage ≡ k → IsSeat 
     → length (holdings r) + length (loading k) ≤ r.accepted.peak
 peak_at g r acting e h = omega (arith, begun_held g r h (ap given_back e))
 peak_at g r (writing slot page v) e h =
-    let asks : Asks r (action.Fix slot page) = subst (Sends r) e h.errand in omega
+    let asks : Asks r (fixes (asked_by r) slot page) = subst (Sends r) e h.errand in omega
     (arith, fix_fits g r slot page h (ap given_back e) asks)
 peak_at g r (reading slot page) e h =
-    let asks : Asks r (action.Fix slot page) = subst (Sends r) e h.errand in omega
+    let asks : Asks r (fixes (asked_by r) slot page) = subst (Sends r) e h.errand in omega
     (arith, fix_fits g r slot page h (ap given_back e) asks)
 peak_at g r (leaving given) e h = omega (arith, kept_few r, h.accepted.pins r.done h.begun)
 
@@ -240,7 +242,7 @@ flush_holds_alone s h w page e =
     let r = up.0 in
     let slot = up.1 in
     let seat = (good s h).seats w (Some r) up.2.act.seat in
-    let asks = asks_now s.settings.layout r (action.Fix slot page) seat
+    let asks = asks_now s.settings.layout r (fixes (asked_by r) slot page) seat
     (slot_asked r page slot (asked_by r) up.2.names) in
     let all = (RequestAnswers-request s.lists page (is_busy s) (sound s h).bounds).all_busy.0 up.2.busy in
     go s.flush refl (none_stuck s h w slot page r up.2.act asks) all.0 (all.1 ∙ (sound s h).c) all.2

@@ -23,7 +23,7 @@ use Rattle.pp_arc.proofs.LawLemmas.{RequestAnswers-request}
 use Rattle.pp_model.specs.Pool.{acting, Running, State, is_dirty}
 use Rattle.pp_model.specs.Holders.{page_in, is_taken, is_flushed, is_busy}
 use Rattle.pp_model.specs.Outcome.{Outcome, with_lists}
-use Rattle.pp_model.specs.Fixing.{fix_slot, evict_where, fix_by, fix_where, fix_asked}
+use Rattle.pp_model.specs.Fixing.{fix_slot, evict_where, fix_by, fix_where, fix_asked, fixes}
 use Rattle.pp_model.specs.Using.{unfix_asked, goes_with, latch_where, latch_asked, unlatch_asked, choose_where}
 use Rattle.pp_model.specs.Using.{choose_asked}
 use Rattle.pp_model.specs.Moves.{asked_by, act_in, act_by, seat_of, IsPossible}
@@ -73,7 +73,7 @@ or_left false b e f = cc
 
 -- Where no flush is in flight, a fix that a plan asks isn't answered that all frames are busy.
 pub a_fix_has_a_frame_when_nothing_is_out : (s : State) → IsReached s → s.flush ≡ None → (w slot page : ℕ)
-    → (r : Running) → IsActing s w r → Asks r (action.Fix slot page)
+    → (r : Running) → IsActing s w r → Asks r (fixes (asked_by r) slot page)
     → (request s.lists page (is_busy s)).0 ≢ answer.AllBusy
 a_fix_has_a_frame_when_nothing_is_out s h f w slot page r act asks busy =
     let all = (RequestAnswers-request s.lists page (is_busy s) (sound s h).bounds).all_busy.0 busy in
@@ -180,7 +180,7 @@ module _ (s : State) (h : IsReached s) (none : NoErrand s) (free : s.flush ≡ N
   what_is_asked_is_possible (action.Fix slot page) asks =
       act_passes s w _ r at
       (subst (λ o. Passes (fix_asked s w r page o)) (sym (slot_named r slot page (asked_by r)
-      (named (action.Fix slot page) asks)))
+      (named (fixes (asked_by r) slot page) asks)))
       (subst (λ b. Passes (fix_where s w r slot page b)) (sym (no_page_flies_without_errands s none page))
       (answer_passes s (request s.lists page (is_busy s)).1 w r slot page (request s.lists page (is_busy s)).0
       (a_fix_has_a_frame_when_nothing_is_out s h free w slot page r at asks))))

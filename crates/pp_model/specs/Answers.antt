@@ -1,6 +1,5 @@
 -- WriteDone and ReadDone: what the device gave for a worker's errand.
 use Rattle.std.specs.Prelude.{ℕ, ◌^◌, Bool, true, false, not, ◌||◌, ◌==◌, nat_le, Option, None, Some, []}
-use Rattle.pp_plan.specs.declared.action.Action.TheVariants as action
 use Rattle.pp_arc.specs.Figure.{forget, bring_back}
 use Rattle.pp_model.specs.declared.moves.Came.{Came}
 use Rattle.pp_model.specs.declared.moves.Came.TheVariants.{Fault, Image}
@@ -10,7 +9,9 @@ use Rattle.pp_model.specs.declared.reply.Failure.TheVariants.{WriteFault, ReadFa
 use Rattle.pp_model.specs.declared.reply.Reply.TheVariants.{MustRead, Failed, Loaded}
 use Rattle.pp_model.specs.Pool.{Stage, acting, writing, reading, leaving, Running, State, frame_of, known_mark}
 use Rattle.pp_model.specs.Pool.{frame_at}
-use Rattle.pp_model.specs.Outcome.{Outcome, off_plan, with_stage, did, with_lists, with_frame, with_dirty, with_mark}
+use Rattle.pp_model.specs.Fixing.{fixes}
+use Rattle.pp_model.specs.Outcome.{Outcome, off_plan, asked_by, with_stage, did, with_lists, with_frame, with_dirty}
+use Rattle.pp_model.specs.Outcome.{with_mark}
 
 -- ---- a fix that fails
 
@@ -61,7 +62,7 @@ is_misread s page named stamp = not (named == page) || is_other (known_mark s pa
 abbrev pub read_where : State → ℕ → Running → (slot page stamp : ℕ) → Bool → Outcome
 read_where s w r slot page stamp true = unread s w r page Misread
 read_where s w r slot page stamp false =
-    record { reply = Loaded stamp; state = did (with_mark s page stamp) w r (action.Fix slot page) }
+    record { reply = Loaded stamp; state = did (with_mark s page stamp) w r (fixes (asked_by r) slot page) }
 
 abbrev pub read_came : State → ℕ → Running → (slot page : ℕ) → Came → Outcome
 read_came s w r slot page Fault = unread s w r page ReadFault

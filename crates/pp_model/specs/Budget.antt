@@ -1,8 +1,9 @@
 -- Sums over the plans: the peaks of those that run, and the bound on the moves that are left.
 use Rattle.std.specs.Prelude.{ℕ, ◌+◌, ◌*◌, ◌-◌, Option, None, Some, List, length, sum_by}
+use Rattle.pp_plan.specs.Limits.{most_slots}
 use Rattle.pp_cert.specs.Accepted.{Acceptance}
 use Rattle.pp_model.specs.Pool.{Stage, acting, writing, reading, leaving, Running, Flush, State, Settings, waiting}
-use Rattle.pp_model.specs.Holders.{holdings}
+use Rattle.pp_model.specs.Holders.{holdings, held_slots}
 
 -- ---- room
 
@@ -30,7 +31,7 @@ left_in (leaving given) actions slots = slots + 1
 
 abbrev pub left_to : Option Running → ℕ
 left_to None = 0
-left_to (Some r) = left_in r.stage (r.accepted.steps - length r.done) (length (holdings r))
+left_to (Some r) = left_in r.stage (r.accepted.steps - length r.done) (held_slots most_slots (holdings r))
 
 -- The end of a flush in flight.
 abbrev pub left_to_flush : Option Flush → ℕ

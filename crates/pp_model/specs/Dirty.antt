@@ -1,21 +1,26 @@
 -- When a page becomes newer than the device's, and when it is so no longer.
 use Rattle.std.specs.Prelude.{◌≡◌, ◌≢◌, ℕ, true, false, Some}
+use Rattle.pp_plan.specs.declared.action.Ask.TheVariants as ask
 use Rattle.pp_cert.specs.declared.note.Held.TheVariants.{X}
 use Rattle.pp_model.specs.declared.moves.Move.{Move}
 use Rattle.pp_model.specs.declared.moves.Move.TheVariants.{Fix, WriteDone, Unlatch, Unwind, FlushDone}
 use Rattle.pp_model.specs.declared.reply.Reply.TheVariants.{MustRead}
 use Rattle.pp_model.specs.Pool.{writing, Running, Flush, State, is_dirty, frame_of, mark_at}
 use Rattle.pp_model.specs.Holders.{page_in, held_in}
-use Rattle.pp_model.specs.Moves.{seat_of, reply_of, next_of}
+use Rattle.pp_model.specs.Moves.{seat_of, asked_by, reply_of, next_of}
 
 -- Worker w holds the page latched X, in this slot.
 abbrev pub HoldsExclusive : State → (w slot page : ℕ) → Type 0
 HoldsExclusive s w slot page =
     (r : Running) × (seat_of s w ≡ Some (Some r)) × (held_in r slot ≡ X) × (page_in r slot ≡ page)
 
+-- What worker w's plan asks for next is that this slot's latch goes.
+abbrev pub AsksUnlatch : State → (w slot : ℕ) → Type 0
+AsksUnlatch s w slot = (r : Running) × (seat_of s w ≡ Some (Some r)) × (asked_by r ≡ ask.Unlatch slot)
+
 -- The move ends a latch X on the page: its worker's plan lets it go, or its worker gives the slot back on the way out.
 abbrev pub EndsExclusive : State → Move → (page : ℕ) → Type 0
-EndsExclusive s (Unlatch w) page = (slot : ℕ) × HoldsExclusive s w slot page
+EndsExclusive s (Unlatch w) page = (slot : ℕ) × AsksUnlatch s w slot × HoldsExclusive s w slot page
 EndsExclusive s (Unwind w slot) page = HoldsExclusive s w slot page
 EndsExclusive s m page = ⊥
 

@@ -1,6 +1,7 @@
 -- Fix: a page of the region that the plan asks goes into a slot, at once where it is cached, else by an errand of the
 -- device.
 use Rattle.std.specs.Prelude.{ℕ, Bool, true, false, if◌then◌else◌, Option, None, Some, unwrap_or}
+use Rattle.pp_plan.specs.declared.action.Action.{Action}
 use Rattle.pp_plan.specs.declared.action.Action.TheVariants as action
 use Rattle.pp_plan.specs.declared.action.Ask.{Ask}
 use Rattle.pp_plan.specs.declared.action.Ask.TheVariants as ask
@@ -16,12 +17,16 @@ use Rattle.pp_plan.specs.Asked.{region_has}
 use Rattle.pp_model.specs.Pool.{writing, reading, Running, State, is_dirty, frame_at, mark_at}
 use Rattle.pp_model.specs.Holders.{is_in_flight, is_busy}
 use Rattle.pp_model.specs.Marks.{marks}
-use Rattle.pp_model.specs.Outcome.{Outcome, not_now, off_plan, with_stage, did, with_lists, with_frame}
+use Rattle.pp_model.specs.Outcome.{Outcome, not_now, off_plan, asked_by, with_stage, did, with_lists, with_frame}
 
 -- The slot into which the plan asks a fix of this page, if it asks one.
 abbrev pub fix_slot : Running → ℕ → Ask → Option ℕ
 fix_slot r page (ask.Fix slot region) = if region_has r.accepted.plan.layout region page then Some slot else None
 fix_slot r page _ = None
+
+-- The action that is done where a fix of the page into the slot is asked so.
+abbrev pub fixes : Ask → (slot page : ℕ) → Action
+fixes _ slot page = action.Fix slot page
 
 -- The victim's frame is the page's from now on.
 abbrev pub with_frame_moved : State → (page victim : ℕ) → State
@@ -46,7 +51,7 @@ abbrev pub fix_by : State → FourLists → ℕ → Running → (slot page : ℕ
 fix_by s lists w r slot page answer.Hit =
     record {
       reply = Hit (frame_at s page) (mark_at s page);
-      state = did (with_lists s lists) w r (action.Fix slot page);
+      state = did (with_lists s lists) w r (fixes (asked_by r) slot page);
     }
 fix_by s lists w r slot page answer.Free =
     record {

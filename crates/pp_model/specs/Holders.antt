@@ -1,6 +1,6 @@
 -- Who holds what: computed from the actions that each worker has done.
-use Rattle.std.specs.Prelude.{ℕ, Bool, true, false, not, ◌||◌, ◌==◌, nat_lt, if◌then◌else◌, Option, None, Some}
-use Rattle.std.specs.Prelude.{option_map}
+use Rattle.std.specs.Prelude.{ℕ, zero, suc, ◌+◌, Bool, true, false, not, ◌||◌, ◌==◌, nat_lt, if◌then◌else◌, Option, None}
+use Rattle.std.specs.Prelude.{Some, is_some, option_map}
 use Rattle.std.specs.Prelude.{unwrap_or, List, [], ◌∷◌, ◌++◌, map, filter, sum_by, count_by}
 use Rattle.std.specs.List.{list_any}
 use Rattle.pp_cert.specs.declared.note.Held.{Held}
@@ -36,6 +36,11 @@ is_among slots h = list_any (λ slot. slot == h.slot) slots
 -- (fix, use, unfix: Gray and Reuter, chapter 13).
 abbrev pub holdings : Running → Holdings
 holdings r = filter (λ h. not (is_among (given_back r.stage) h)) (unwrap_or (held r.done) [])
+
+-- How many of the first n slots hold something.
+unfoldable pub held_slots : ℕ → Holdings → ℕ
+held_slots zero hs = 0
+held_slots (suc n) hs = (if is_some (holding_at hs n) then 1 else 0) + held_slots n hs
 
 -- The page in a slot, and how the slot holds it. (0 and Free where it holds none; no move looks there.)
 abbrev pub page_in : Running → ℕ → ℕ

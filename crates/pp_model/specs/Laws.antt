@@ -21,7 +21,8 @@ use Rattle.pp_model.specs.Pool.{known_mark, note_of, untouched}
 use Rattle.pp_model.specs.Holders.{holdings, loading, is_taken, is_in_flight, readers_of, writers_of, errands_of}
 use Rattle.pp_model.specs.Holders.{flushes_of}
 use Rattle.pp_model.specs.Budget.{cost_of, bound}
-use Rattle.pp_model.specs.Moves.{seat_of, reply_of, next_of, is_possible, IsPossible}
+use Rattle.pp_model.specs.Fixing.{fixes}
+use Rattle.pp_model.specs.Moves.{asked_by, seat_of, reply_of, next_of, is_possible, IsPossible}
 use Rattle.pp_model.specs.Submitting.{most_events, submit_error, after_submit}
 use Rattle.pp_model.specs.Runs.{Input, plan, move, run, state_after, count_done}
 use Rattle.pp_model.specs.Journals.{IsJournalOf}
@@ -77,7 +78,7 @@ pub record IsActing (s : State) (w : ℕ) (r : Running) : Type 0 where
 -- No worker can find all frames fixed at a fix that its plan asks.
 abbrev pub NoneStuck : State → Type 0
 NoneStuck s =
-    (w slot page : ℕ) (r : Running) → IsActing s w r → Asks r (action.Fix slot page) → ¬ IsAllFixed s page
+    (w slot page : ℕ) (r : Running) → IsActing s w r → Asks r (fixes (asked_by r) slot page) → ¬ IsAllFixed s page
 
 -- A fix is answered that a flush holds the frames only where a flush is in flight of a page that isn't taken.
 abbrev pub FlushHoldsAlone : State → Type 0
@@ -195,7 +196,7 @@ FrameIsLeft s = cached_count s.lists < s.settings.layout.frames → IsSome (leas
 -- Where a worker's plan asks a fix, there are fewer pins in all than frames.
 abbrev pub PinIsLeft : State → Type 0
 PinIsLeft s =
-    (w slot page : ℕ) (r : Running) → IsActing s w r → Asks r (action.Fix slot page)
+    (w slot page : ℕ) (r : Running) → IsActing s w r → Asks r (fixes (asked_by r) slot page)
     → all_pins (marks s) < s.settings.layout.frames
 
 -- For some worker the page is written back as a victim.

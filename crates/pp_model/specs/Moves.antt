@@ -1,6 +1,5 @@
 -- All moves: what each is answered, and which state comes next. A refused move leaves the state.
 use Rattle.std.specs.Prelude.{ℕ, Bool, true, false, not, Option, None, Some, slice_get, IsTrue}
-use Rattle.pp_plan.specs.declared.action.Ask.{Ask}
 use Rattle.pp_model.specs.declared.moves.Move.{Move}
 use Rattle.pp_model.specs.declared.moves.Move.TheVariants.{Take, Fix, WriteDone, ReadDone, Unfix, Latch, Unlatch}
 use Rattle.pp_model.specs.declared.moves.Move.TheVariants.{Choose}
@@ -8,19 +7,15 @@ use Rattle.pp_model.specs.declared.moves.Move.TheVariants.{Unwind, Finish, Flush
 use Rattle.pp_model.specs.declared.refusals.Cause.TheVariants.{NoWorker, NotActing}
 use Rattle.pp_model.specs.declared.reply.Reply.{Reply}
 use Rattle.pp_model.specs.declared.reply.Reply.TheVariants.{NotNow, OffPlan}
-use Rattle.pp_plan.specs.Asked.{asked}
 use Rattle.pp_model.specs.Pool.{Stage, acting, writing, reading, leaving, Running, State}
 use Rattle.pp_model.specs.Outcome.{Outcome, off_plan}
+pub use Rattle.pp_model.specs.Outcome.{asked_by}
 use Rattle.pp_model.specs.Taking.{take_by}
 use Rattle.pp_model.specs.Fixing.{fix_slot, fix_asked}
 use Rattle.pp_model.specs.Answers.{write_by, read_by}
 use Rattle.pp_model.specs.Using.{unfix_asked, latch_asked, unlatch_asked, choose_asked}
 use Rattle.pp_model.specs.Leaving.{unwind_by, finish_by}
 use Rattle.pp_model.specs.Flushing.{flush_by, flushed_by}
-
--- What the worker's plan asks after the actions that it has done.
-abbrev pub asked_by : Running → Ask
-asked_by r = asked r.accepted.plan r.done
 
 -- A move that only an acting worker makes, by the worker's stage and by its seat.
 abbrev pub act_in : State → (Running → Outcome) → Running → Stage → Outcome

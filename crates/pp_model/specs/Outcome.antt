@@ -1,6 +1,8 @@
 -- An answer and the state after it, and the small changes of a state that moves are made of.
 use Rattle.std.specs.Prelude.{ℕ, ◌+◌, Bool, true, Option, Some, [], ◌∷◌, ◌++◌, slice_set}
 use Rattle.pp_plan.specs.declared.action.Action.{Action}
+use Rattle.pp_plan.specs.declared.action.Ask.{Ask}
+use Rattle.pp_plan.specs.Asked.{asked}
 use Rattle.pp_cert.specs.declared.note.Held.{Held}
 use Rattle.pp_cert.specs.declared.note.Held.TheVariants.{Free, S, X}
 use Rattle.pp_arc.specs.FourLists.{FourLists}
@@ -23,6 +25,10 @@ abbrev pub off_plan : State → Cause → Outcome
 off_plan s cause = record { reply = OffPlan cause; state = s }
 
 -- ---- a worker's seat
+
+-- What the worker's plan asks after the actions that it has done.
+abbrev pub asked_by : Running → Ask
+asked_by r = asked r.accepted.plan r.done
 
 abbrev pub with_seat : State → ℕ → Option Running → State
 with_seat s w seat = record s { seats = slice_set s.seats w seat }

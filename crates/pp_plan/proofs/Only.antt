@@ -13,6 +13,7 @@ use Rattle.pp_plan.specs.Names.{is_slot_name}
 use Rattle.pp_plan.specs.Rules.{IsSequence}
 use Rattle.pp_plan.specs.Progress.{Progress}
 use Rattle.pp_plan.specs.Terms.{Terms, IsPlan}
+use Rattle.pp_text.specs.Objects.{Holds}
 use Rattle.pp_text.specs.Steps.{Gives}
 use Rattle.pp_plan.specs.Numbering.{in_byte_order, place_in, numbered}
 use Rattle.pp_plan.specs.Reading.{start, sequence_from, statement_at, statements_at, plan_of, reading}
@@ -69,14 +70,15 @@ name_read t names read_body regions is within parts same used n h =
     subst (λ (x : List ℕ). Has names x) (sym named) (at_has names j m there)
 
 -- two plans are the same by their parts
-same_plan : (settings : Configuration) (r : Progress × Sequence) (t : Terms) → t.layout ≡ geometry_of settings
-    → in_byte_order r.0.names ≡ t.slots → numbered (λ k. place_in t.slots r.0.names k) r.1 ≡ t.body
+same_plan : (settings : Configuration) (r : Progress × Sequence) (t : Terms) → t.version ≡ 1
+    → t.layout ≡ geometry_of settings → in_byte_order r.0.names ≡ t.slots → numbered (λ k. place_in t.slots r.0.names k) r.1 ≡ t.body
     → plan_of settings r ≡ t
-same_plan settings r t layout slots body =
+same_plan settings r t version layout slots body =
     let whole : numbered (λ k. place_in (in_byte_order r.0.names) r.0.names k) r.1 ≡ t.body =
     ap (λ (xs : List (List ℕ)). numbered (λ k. place_in xs r.0.names k) r.1) slots ∙ body in
     let back : geometry_of settings ≡ t.layout = sym layout in
-    λ i. record { layout = back i; slots = slots i; body = whole i }
+    let one : 1 ≡ t.version = sym version in
+    λ i. record { version = one i; layout = back i; slots = slots i; body = whole i }
 
 pub body_again : (settings : Configuration) (d : Data) (t : Terms) → Spells settings d t → IsPlan t
     → (items : Items) × IsTop d items
@@ -98,7 +100,10 @@ body_again settings d t s is =
     let slots : in_byte_order r.0.names ≡ t.slots =
     rises_same (in_byte_order r.0.names) t.slots (order_rises r.0.names a.names.apart) up
     (λ n h. a.within n (order_from r.0.names n h)) (λ n h. order_has r.0.names n (back n h)) in
-    (ds, record { keys = s.keys; version = s.version; body = held }, (r, e, same_plan settings r t s.layout slots same))
+    let one : Holds d (codes "version") (number (unsigned 1)) =
+    subst (λ (n : ℕ). Holds d (codes "version") (number (unsigned n))) is.version s.version in
+    let whole = same_plan settings r t is.version s.layout slots same in
+    (ds, record { keys = s.keys; version = one; body = held }, (r, e, whole))
 
 -- What is spelled so, and keeps the rules, is read.
 pub reading_only : (settings : Configuration) (text : List ℕ) (t : Terms) → IsText settings text t

@@ -1,5 +1,6 @@
 -- What is read is a plan.
-use Rattle.std.proofs.Common.{◌≡◌, inl, inr, ℕ, ◌<◌, IsTrue, List, [], length, map, Ok, sym, ap, subst, ◌∙◌, arith}
+use Rattle.std.proofs.Common.{◌≡◌, inl, inr, ℕ, ◌<◌, IsTrue, List, [], length, map, Ok, refl, sym, ap, subst, ◌∙◌}
+use Rattle.std.proofs.Common.{arith}
 use Rattle.std.specs.Option.{ok_or}
 use Rattle.std.specs.List.{slice_get}
 use Rattle.std.proofs.lemmas.List.{get_or-map, length-map}
@@ -82,6 +83,7 @@ read_is_plan settings items r within s =
     let below : (k : ℕ) → k < length names → new k < length slots = λ k h. let (n, is) = filled names k h in
     slice_get_within slots (new k) n (in_order names s.names k n is) in
     record {
+      version = refl;
       layout = layout_is settings within;
       count = omega (arith, long, s.names.few);
       names = all_of (λ (n : List ℕ). IsTrue (is_slot_name n)) slots (λ n h. s.names.form n (order_from names n h));

@@ -98,12 +98,17 @@ branches_made new (s ∷ ss) (t ∷ ts) long each =
 pub plan_made : (settings : Configuration) (p : Progress) (draft made : Sequence) (g : Geometry)
     (slots names : List (List ℕ)) → g ≡ geometry_of settings → names ≡ p.names → slots ≡ in_byte_order names
     → made ≡ numbered (place_in slots names) draft → IsPlan (plan_of settings (p, draft))
-    → IsPlan (record { layout = g; slots = slots; body = made })
+    → IsPlan (record { version = 1; layout = g; slots = slots; body = made })
 plan_made settings p draft made g slots names eg en es em is =
     let s : slots ≡ in_byte_order p.names = es ∙ ap in_byte_order en in
     let b : made ≡ numbered (place_in (in_byte_order p.names) p.names) draft =
     em ∙ ap (λ (xs : List (List ℕ)). numbered (place_in xs names) draft) s
     ∙ ap (λ (ns : List (List ℕ)). numbered (place_in (in_byte_order p.names) ns) draft) en in
-    let whole : Terms = record { layout = g; slots = slots; body = made } in
-    let same : whole ≡ plan_of settings (p, draft) = λ i. record { layout = eg i; slots = s i; body = b i } in
+    let whole : Terms = record { version = 1; layout = g; slots = slots; body = made } in
+    let same : whole ≡ plan_of settings (p, draft) = λ i. record {
+      version = 1;
+      layout = eg i;
+      slots = s i;
+      body = b i;
+    } in
     subst (λ (t : Terms). IsPlan t) (sym same) is

@@ -1,7 +1,7 @@
 -- What the value that is written has: no floats, few levels, and the bytes of the plan's text.
 use Rattle.std.proofs.Common.{◌≡◌, ℕ, ◌+◌, ◌*◌, max, ◌<◌, ◌≤◌, false, List}
 use Rattle.std.proofs.Common.{[], ◌∷◌, ◌++◌, length, map, get_or, codes, refl, ap, ◌∙◌, append_assoc, arith}
-use Rattle.std.specs.Fmt.{decimal, digits}
+use Rattle.std.specs.Fmt.{decimal}
 use Rattle.std.proofs.lemmas.Option.{slice_get-get_or, unwrap_or-slice_get}
 use Rattle.json.specs.Print.{escape_byte, quoted}
 use Rattle.serde_json.specs.Data.{Data, object, depth, items_depth}
@@ -177,23 +177,21 @@ mutual
       (sequence_bytes c t settings plan b keeps.0) in
       λ i. here i ∷ branches_bytes c t settings plan bs keeps.1 i
 
-one_digit : decimal 1 ≡ codes "1"
-unfolding digits
-one_digit = refl
-
-plan_shape : (x q n : List ℕ) → x ≡ q → n ≡ codes "1"
+plan_shape : (x q n : List ℕ) → x ≡ q
     → codes "{\"body\":" ++ (x ++ (codes ",\"version\":" ++ (n ++ codes "}"))) ≡ codes "{\"body\":" ++ q
-    ++ codes ",\"version\":1}"
-plan_shape x q n e one = rw (e, one) (simp append_assoc)
+    ++ codes ",\"version\":"
+    ++ n
+    ++ codes "}"
+plan_shape x q n e = rw e (simp append_assoc)
 
 plan_bytes : (c : Configuration) (t : Terms) → IsConfiguration c → IsPlan t
     → IsSequence (length t.slots) (length c.regions) t.body → compact_text (object (plan_members c t)) ≡ plan_text c t
 unfolding escape_byte
 plan_bytes c t settings plan keeps =
     plan_shape (91 ∷ items_text false (items_of (statement_values c t.slots t.body)))
-    (in_brackets (statement_texts c t.slots t.body)) (decimal 1)
+    (in_brackets (statement_texts c t.slots t.body)) (decimal t.version)
     (list_bytes (statement_values c t.slots t.body) (statement_texts c t.slots t.body)
-    (sequence_bytes c t settings plan t.body keeps)) one_digit
+    (sequence_bytes c t settings plan t.body keeps))
 
 -- What the writer gives of the value is the plan's text.
 pub text_is : (c : Configuration) (t : Terms) → IsConfiguration c → IsPlan t

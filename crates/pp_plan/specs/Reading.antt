@@ -139,7 +139,12 @@ statements_at d = do
 abbrev pub plan_of : Configuration → Progress × Sequence → Terms
 plan_of settings r =
     let slots = in_byte_order r.0.names in
-    record { layout = geometry_of settings; slots = slots; body = numbered (λ k. place_in slots r.0.names k) r.1 }
+    record {
+      version = 1;
+      layout = geometry_of settings;
+      slots = slots;
+      body = numbered (λ k. place_in slots r.0.names k) r.1;
+    }
 
 -- Reading the text under the settings; statements stand at most 16 deep.
 unfoldable pub reading : Configuration → List ℕ → Result Terms PlanError

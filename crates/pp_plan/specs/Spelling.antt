@@ -65,11 +65,11 @@ abbrev mutual
 
 -- ---- the whole
 
--- The value is an object of a `body` and a `version`, which is 1, and spells the plan: its body, its slot names and the
--- layout of the settings.
+-- The value is an object of a `body` and a `version`, and spells the plan: its version, its body, its slot names and
+-- the layout of the settings.
 pub record Spells (settings : Configuration) (d : Data) (t : Terms) : Type 0 where
   pub keys : HasOnly top_keys d
-  pub version : Holds d (codes "version") (number (unsigned 1))
+  pub version : Holds d (codes "version") (number (unsigned t.version))
   pub body : (ds : Items) × Holds d (codes "body") (array ds) × SpellsSequence settings t.slots ds t.body
   pub layout : t.layout ≡ geometry_of settings
 

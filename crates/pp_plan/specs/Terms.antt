@@ -1,5 +1,5 @@
--- What a plan is: the layout it was read for, its slot names and its body.
-use Rattle.std.specs.Prelude.{◌<◌, ◌≤◌, ℕ, List, length, AllPairs, All, IsTrue, refl}
+-- What a plan is: the version of its form, the layout it was read for, its slot names and its body.
+use Rattle.std.specs.Prelude.{◌≡◌, ◌<◌, ◌≤◌, ℕ, List, length, AllPairs, All, IsTrue, refl}
 use Rattle.std.specs.Coded.{Coded, code_by, coded×, coded_ℕ, coded_list}
 use Rattle.pp_settings.specs.declared.extent.Extent.{Extent}
 use Rattle.pp_settings.specs.Layout.{Geometry, IsLayout}
@@ -11,13 +11,15 @@ use Rattle.pp_plan.specs.Rules.{IsUsed, IsBody}
 
 -- A slot's number is the place of its name in the list of slot names.
 pub record Terms : Type 0 where
+  pub version : ℕ
   pub layout : Geometry
   pub slots : List (List ℕ)
   pub body : Sequence
 
--- What holds of every plan: at most 32 slot names, in byte order, each of which is used, and a body that keeps the
--- rules.
+-- What holds of every plan: it is of version 1, and has at most 32 slot names, in byte order, each of which is used, and
+-- a body that keeps the rules.
 pub record IsPlan (p : Terms) : Type 0 where
+  pub version : p.version ≡ 1
   pub layout : IsLayout p.layout
   pub count : length p.slots ≤ most_slots
   pub names : All (λ n. IsTrue (is_slot_name n)) p.slots
@@ -38,6 +40,7 @@ coded_geometry =
 -- Stored as the parts of its fields.
 abbrev pub coded_terms : Coded Terms
 coded_terms =
-    code_by (Geometry × (List (List ℕ) × Sequence))
-    (coded× coded_geometry (coded× (coded_list (coded_list coded_ℕ)) coded_sequence))
-    (λ p. (p.layout, (p.slots, p.body))) (λ p. record { layout = p.0; slots = p.1.0; body = p.1.1 }) (λ _. refl)
+    code_by (ℕ × (Geometry × (List (List ℕ) × Sequence)))
+    (coded× coded_ℕ (coded× coded_geometry (coded× (coded_list (coded_list coded_ℕ)) coded_sequence)))
+    (λ p. (p.version, (p.layout, (p.slots, p.body))))
+    (λ p. record { version = p.0; layout = p.1.0; slots = p.1.1.0; body = p.1.1.1 }) (λ _. refl)

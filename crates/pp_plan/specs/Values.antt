@@ -43,4 +43,4 @@ abbrev mutual
 abbrev pub plan_members : Configuration → Terms → Members
 plan_members settings t =
     member (codes "body") (array (items_of (statement_values settings t.slots t.body)))
-    (member (codes "version") (number (unsigned 1)) no_members)
+    (member (codes "version") (number (unsigned t.version)) no_members)

@@ -50,4 +50,8 @@ abbrev mutual
 -- A plan, as in `{"body":[{"unfix":"a"}],"version":1}`.
 abbrev pub plan_text : Configuration → Terms → List ℕ
 plan_text settings t =
-    codes "{\"body\":" ++ in_brackets (statement_texts settings t.slots t.body) ++ codes ",\"version\":1}"
+    codes "{\"body\":"
+    ++ in_brackets (statement_texts settings t.slots t.body)
+    ++ codes ",\"version\":"
+    ++ decimal t.version
+    ++ codes "}"

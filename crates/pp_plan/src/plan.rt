@@ -37,6 +37,7 @@ use std::marker::Model;
 /// A plan has at most 4,096 statements, at most 16 inside each other, and at most 32 slots.
 #[derive(Debug, Drop)]
 pub struct Plan {
+    pub(crate) version: u8,
     pub(crate) layout: Layout,
     pub(crate) slots: Vec<String>,
     pub(crate) body: Body,
@@ -83,6 +84,7 @@ fn read_plan(alloc: Global, settings: &Settings, text: &str) -> Result<Plan, Pla
     let slots = in_byte_order(&names)?;
     renumber(&mut body, &new_numbers(&slots, &names));
     Ok(Plan {
+        version: 1,
         layout: settings.layout(),
         slots,
         body,

@@ -106,5 +106,5 @@ pub(crate) fn plan_value(
     ensures facts { IsPlan plan.now }
 {
     let body = body_value(alloc, settings, plan, &plan.body)?;
-    json!(in alloc; {"body": body, "version": 1})
+    json!(in alloc; {"body": body, "version": plan.version})
 }

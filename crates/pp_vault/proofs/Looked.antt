@@ -40,7 +40,7 @@ module _ (s : State) (h : IsReached s) (w slot page : ℕ) where
   of_seat (Some None) seat e = absurd (false≢true (ap is_some e))
   of_seat (Some (Some r)) seat e = of_holding r seat (holding_at (holdings r) slot) refl e
 
-  shared_ready : held_of s w slot ≡ Some (page, S) → ready_at s page ≡ Some (standing_of s page)
+  pub shared_ready : held_of s w slot ≡ Some (page, S) → ready_at s page ≡ Some (standing_of s page)
   shared_ready e = of_seat (seat_of s w) refl e
 
 -- ---- its image is there

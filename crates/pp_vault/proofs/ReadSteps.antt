@@ -38,11 +38,11 @@ use Rattle.pp_vault.proofs.BackSteps as back
 
 -- ---- the errand that fits
 
-errand_out : (slot page : ℕ) (holds : Bool) (o : Option (ℕ × ℕ × Option ℕ)) → is_of_read slot page holds o ≡ true
+pub read_out : (slot page : ℕ) (holds : Bool) (o : Option (ℕ × ℕ × Option ℕ)) → is_of_read slot page holds o ≡ true
     → (o ≡ Some (slot, page, None)) × (holds ≡ true)
-errand_out slot page holds None e = absurd (false≢true e)
-errand_out slot page holds (Some (k, p, Some v)) e = absurd (false≢true e)
-errand_out slot page holds (Some (k, p, None)) e =
+read_out slot page holds None e = absurd (false≢true e)
+read_out slot page holds (Some (k, p, Some v)) e = absurd (false≢true e)
+read_out slot page holds (Some (k, p, None)) e =
     let a = both ((k == slot) && (p == page)) holds e in
     let b = both (k == slot) (p == page) a.0 in
     let one : k ≡ slot = same_nat k slot b.0 in
@@ -63,7 +63,7 @@ module _ (old : Parts) (w slot page : ℕ) (image : List ℕ)
     (k : IsKept old) where
   fits : (s : State) → StandsFor old s
       → (errand_of s w ≡ Some (slot, page, None)) × ((length image == old.page_bytes) ≡ true)
-  fits s st = errand_out slot page (length image == old.page_bytes) (errand_of s w) (out s st)
+  fits s st = read_out slot page (length image == old.page_bytes) (errand_of s w) (out s st)
 
   long : length image ≡ old.page_bytes
   long = same_nat (length image) old.page_bytes (fits k.state k.stands).1

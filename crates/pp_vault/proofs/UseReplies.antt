@@ -19,7 +19,7 @@ use Rattle.pp_vault.specs.Steps.{Stepped, told_mark}
 no_refusal : true ≡ false → ⊥
 no_refusal e = false≢true (sym e)
 
-did_by : (w : ℕ) (r : Reply) → is_refusal r ≡ false → IsTrue (fits_reply (move.Unfix w) r) → r ≡ reply.Did
+pub did_by : (w : ℕ) (r : Reply) → is_refusal r ≡ false → IsTrue (fits_reply (move.Unfix w) r) → r ≡ reply.Did
 did_by w (reply.Taken plan) e h = absurd (false≢true h)
 did_by w (reply.Hit frame mark) e h = absurd (false≢true h)
 did_by w (reply.MustRead frame) e h = absurd (false≢true h)
@@ -35,7 +35,7 @@ did_by w (reply.Flushed clean) e h = absurd (false≢true h)
 did_by w (reply.NotNow delay) e h = absurd (no_refusal e)
 did_by w (reply.OffPlan cause) e h = absurd (no_refusal e)
 
-latched_by : (w : ℕ) (r : Reply) → is_refusal r ≡ false → IsTrue (fits_reply (move.Latch w) r)
+pub latched_by : (w : ℕ) (r : Reply) → is_refusal r ≡ false → IsTrue (fits_reply (move.Latch w) r)
     → r ≡ reply.Latched (told_mark r)
 latched_by w (reply.Taken plan) e h = absurd (false≢true h)
 latched_by w (reply.Hit frame mark) e h = absurd (false≢true h)
@@ -52,7 +52,7 @@ latched_by w (reply.Flushed clean) e h = absurd (false≢true h)
 latched_by w (reply.NotNow delay) e h = absurd (no_refusal e)
 latched_by w (reply.OffPlan cause) e h = absurd (no_refusal e)
 
-unlatched_by : (w : ℕ) (r : Reply) → is_refusal r ≡ false → IsTrue (fits_reply (move.Unlatch w) r)
+pub unlatched_by : (w : ℕ) (r : Reply) → is_refusal r ≡ false → IsTrue (fits_reply (move.Unlatch w) r)
     → r ≡ reply.Unlatched (told_mark r)
 unlatched_by w (reply.Taken plan) e h = absurd (false≢true h)
 unlatched_by w (reply.Hit frame mark) e h = absurd (false≢true h)

@@ -42,11 +42,11 @@ both false b e = absurd (false≢true e)
 pub same_nat : (a b : ℕ) → (a == b) ≡ true → a ≡ b
 same_nat a b e = grind (arith, nat_tests)
 
-errand_out : (slot page victim : ℕ) (holds : Bool) (o : Option (ℕ × ℕ × Option ℕ))
+pub write_out : (slot page victim : ℕ) (holds : Bool) (o : Option (ℕ × ℕ × Option ℕ))
     → is_of_write slot page victim holds o ≡ true → (o ≡ Some (slot, page, Some victim)) × (holds ≡ true)
-errand_out slot page victim holds None e = absurd (false≢true e)
-errand_out slot page victim holds (Some (k, p, None)) e = absurd (false≢true e)
-errand_out slot page victim holds (Some (k, p, Some v)) e =
+write_out slot page victim holds None e = absurd (false≢true e)
+write_out slot page victim holds (Some (k, p, None)) e = absurd (false≢true e)
+write_out slot page victim holds (Some (k, p, Some v)) e =
     let a = both ((k == slot) && (p == page) && (v == victim)) holds e in
     let b = both ((k == slot) && (p == page)) (v == victim) a.0 in
     let d = both (k == slot) (p == page) b.0 in
@@ -72,7 +72,7 @@ record WriteFits (n w slot page victim : ℕ) (image : List ℕ) (s : State) : T
 write_fits : (n w slot page victim : ℕ) (image : List ℕ) (s : State)
     → is_write_out n w slot page victim image s ≡ true → WriteFits n w slot page victim image s
 write_fits n w slot page victim image s e =
-    let a = errand_out slot page victim ((length image == n) && is_head_of victim (head_of image) (known_mark s victim))
+    let a = write_out slot page victim ((length image == n) && is_head_of victim (head_of image) (known_mark s victim))
     (errand_of s w) e in
     let b = both (length image == n) (is_head_of victim (head_of image) (known_mark s victim)) a.1 in
     record {
