@@ -1,1 +1,2 @@
 mod CacheLemmas
+pub mod Bytes

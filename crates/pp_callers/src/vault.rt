@@ -10,7 +10,7 @@ use pp_settings::Settings;
 use pp_vault::{Answered, Chair, Errand, Fixed, Guard, PinGuard, Session, Stage, Stopped, Vault};
 use std::alloc::Global;
 
-const SETTINGS: &str = "frames = 1
+pub(crate) const SETTINGS: &str = "frames = 1
 page_bytes = 64
 workers = 1
 flushes = 0
@@ -50,7 +50,7 @@ pub fn changed_pages(alloc: Global) -> anyhow::Result<Option<u32>> {
 }
 
 /// The plan, with a certificate that the checker takes.
-fn accepted(alloc: Global, settings: &Settings) -> anyhow::Result<Accepted> {
+pub(crate) fn accepted(alloc: Global, settings: &Settings) -> anyhow::Result<Accepted> {
     let plan = Plan::from_text(alloc, settings, PLAN)?;
     let certificate = annotate(alloc, settings, &plan)?;
     match check(settings, plan, &certificate) {

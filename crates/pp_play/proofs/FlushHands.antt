@@ -206,7 +206,7 @@ flushed_by_duty still old new kept (duty.Write w slot page victim) image ok clea
 flushed_by_duty still old new kept (duty.Flush page) image ok clean hands ends fits =
     over_fits still old new kept page image ok clean ends hands fits
 
-flush_allowed : (n : ℕ) (s : State) (d : Duty) (image : List ℕ) → IsFlushAway n s d image
+pub flush_allowed : (n : ℕ) (s : State) (d : Duty) (image : List ℕ) → IsFlushAway n s d image
     → unless_out (is_some (flushed_page s)) ≡ None
 flush_allowed n s (duty.Read w slot page) image away = absurd away
 flush_allowed n s (duty.Write w slot page victim) image away = absurd away

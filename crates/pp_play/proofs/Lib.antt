@@ -31,3 +31,9 @@ pub mod Latching
 pub mod Leaves
 pub mod Called
 pub mod Answered
+pub mod Moved
+pub mod Answers
+pub mod Contents
+pub mod Overs
+pub mod OverScripts
+pub mod Honestly

@@ -7,3 +7,6 @@ pub mod ByStates
 pub mod FirstBytes
 pub mod Guarding
 pub mod Calling
+pub mod Following
+pub mod Honest
+pub mod Moving

@@ -12,9 +12,12 @@ ghost use Rattle.pp_play.specs.Exact.{Plays};
 ghost use Rattle.pp_play.specs.AnyHands.{IsStrangers, IsHandLine, IsHandsLine};
 ghost use Rattle.pp_play.specs.Calling.{tells_answer, is_back, NoneBack, IsCalled};
 ghost use Rattle.pp_play.specs.Doing.{ErrandHasPlace, HandPlays};
+ghost use Rattle.pp_play.specs.Following.{errand_at};
+ghost use Rattle.pp_play.specs.Moving.{MovesHand, TellsAnswer, DoesWith, EndsFlush, KeepsAll, PlaysFromAll};
 
 use crate::guards::put;
 use crate::line::{Line, did, off_plan};
+use pp_contents::laws::contents_are_kept;
 use pp_script::Cue;
 use pp_vault::{
     Answered, Cause, Delay, Device, Flushing, Guard, Guards, Hand, Hands, Refusal, Returned, Stage,
@@ -47,6 +50,9 @@ pub(crate) fn work<D: Device>(
         → HandPlays vault.old worker hand (cue.Device worker) result.1 vault.new result.0 }
     ensures called { FitsIn vault.old worker hand → is_back hand.stage ≡ false
         → IsCalled D.calls (tells_answer result.1) device.old device.new }
+    ensures does { FitsIn vault.old worker hand → is_back hand.stage ≡ false
+        → DoesWith D.read_gives D.write_leaves (errand_at hand.stage) vault.old hand device.old result.1 vault.new
+        result.0 device.new }
     ensures forth { FitsIn vault.old worker hand → is_back hand.stage ≡ false → is_back result.0.stage ≡ false }
 {
     vault.known();
@@ -93,6 +99,9 @@ fn answer(vault: &mut Vault, returned: Returned, guards: &mut Guards, worker: u3
     ensures plays { FitsIn vault.old worker (record { stage = Stage.Back returned; guards = guards.old })
         → HandPlays vault.old worker (record { stage = Stage.Back returned; guards = guards.old })
         (cue.Device worker) result.1 vault.new (record { stage = result.0; guards = guards.new }) }
+    ensures moves { MovesHand vault.old (record { stage = Stage.Back returned; guards = guards.old }) result.1
+        vault.new (record { stage = result.0; guards = guards.new }) }
+    ensures tells { TellsAnswer returned result.1 }
     ensures answered { FitsIn vault.old worker (record { stage = Stage.Back returned; guards = guards.old })
         → (tells_answer result.1 ≡ true) × (is_back result.0 ≡ false) }
 {
@@ -130,10 +139,12 @@ pub(crate) fn flush(vault: &mut Vault, hands: &mut Hands, page: u32) -> Line
     ensures comes { ComesTo vault.old (cue.Flush page) result vault.new }
     ensures plays { HandsFit vault.old hands.old
         → Plays vault.old hands.old (cue.Flush page) result vault.new hands.new }
+    ensures contents { KeepsAll vault.old hands.old (cue.Flush page) result vault.new hands.new }
     ensures none_back { NoneBack hands.old → NoneBack hands.new }
 {
     vault.known();
     laws::hands_still_fit();
+    contents_are_kept();
     let cue = Cue::Flush { page };
     if hands.flushing.is_some() {
         return Line::Refused(cue, Refusal::NotNow(Delay::FlushBusy));
@@ -158,8 +169,11 @@ pub(crate) fn flush_work<D: Device>(vault: &mut Vault, hands: &mut Hands, device
     ensures called { HandsFit vault.old hands.old → NoneBack hands.old
         → IsCalled D.calls (tells_answer result) device.old device.new }
     ensures none_back { HandsFit vault.old hands.old → NoneBack hands.old → NoneBack hands.new }
+    ensures over { PlaysFromAll D.read_gives D.write_leaves vault.old hands.old device.old cue.FlushDevice result
+        vault.new hands.new device.new }
 {
     vault.known();
+    contents_are_kept();
     match hands.flushing.take() {
         None => off_plan(Cue::FlushDevice, Cause::NoErrand),
         Some(Flushing::Out(errand)) => {
@@ -189,6 +203,7 @@ fn flushed(vault: &mut Vault, hands: &mut Hands, returned: Returned) -> Line
     ensures plays { HandsFit vault.old (record hands.old { flushing = Some (Flushing.Back returned) })
         → Plays vault.old (record hands.old { flushing = Some (Flushing.Back returned) }) cue.FlushDevice result
         vault.new hands.new }
+    ensures ends { EndsFlush vault.old returned hands.old result vault.new hands.new }
     ensures answered { HandsFit vault.old (record hands.old { flushing = Some (Flushing.Back returned) })
         → (tells_answer result ≡ true) × (hands.new ≡ hands.old) }
 {

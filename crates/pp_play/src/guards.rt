@@ -14,6 +14,7 @@ ghost use Rattle.pp_play.specs.Plays.{ComesTo};
 ghost use Rattle.pp_play.specs.Calling.{is_back};
 ghost use Rattle.pp_play.specs.Doing.{FixHasPlace, IsDone, Stays, HandPlays};
 ghost use Rattle.pp_play.specs.Guarding.{hand_of, PlaysHand, FixLacksPlace, unlatch_with, ChangesGuard, KeepsGuard};
+ghost use Rattle.pp_play.specs.Moving.{MovesHand, LatchesWith, UnlatchesWith};
 
 use crate::line::{Line, did, off_plan};
 use pp_plan::Mode;
@@ -50,6 +51,7 @@ pub(crate) fn fix(vault: &mut Vault, hand: Hand, worker: u32, page: u32) -> (Han
     ensures comes { ComesTo vault.old (cue.Fix worker page) result.1 vault.new }
     ensures plays { FitsIn vault.old worker hand
         → HandPlays vault.old worker hand (cue.Fix worker page) result.1 vault.new result.0 }
+    ensures moves { MovesHand vault.old hand result.1 vault.new result.0 }
     ensures forth { is_back hand.stage ≡ false → is_back result.0.stage ≡ false }
 {
     vault.known();
@@ -86,6 +88,8 @@ fn fix_in(
     ensures comes { ComesTo vault.old (cue.Fix worker page) result.1 vault.new }
     ensures plays { PlaysHand vault.old worker (hand_of (In session) guards.old) (cue.Fix worker page) result.1
         vault.new (hand_of result.0 guards.new) }
+    ensures moves { MovesHand vault.old (hand_of (In session) guards.old) result.1 vault.new
+        (hand_of result.0 guards.new) }
     ensures forth { is_back result.0 ≡ false }
 {
     hands_still_fit();
@@ -111,6 +115,7 @@ pub(crate) fn unfix(vault: &mut Vault, hand: Hand, worker: u32) -> (Hand, Line)
     ensures comes { ComesTo vault.old (cue.Unfix worker) result.1 vault.new }
     ensures plays { FitsIn vault.old worker hand
         → HandPlays vault.old worker hand (cue.Unfix worker) result.1 vault.new result.0 }
+    ensures moves { MovesHand vault.old hand result.1 vault.new result.0 }
     ensures forth { is_back hand.stage ≡ false → is_back result.0.stage ≡ false }
 {
     vault.known();
@@ -149,6 +154,8 @@ fn unfix_slot(
     ensures comes { ComesTo vault.old (cue.Unfix worker) result.1 vault.new }
     ensures plays { PlaysHand vault.old worker (hand_of (In session) guards.old) (cue.Unfix worker) result.1
         vault.new (hand_of result.0 guards.new) }
+    ensures moves { MovesHand vault.old (hand_of (In session) guards.old) result.1 vault.new
+        (hand_of result.0 guards.new) }
     ensures forth { is_back result.0 ≡ false }
 {
     hands_still_fit();
@@ -178,6 +185,7 @@ pub(crate) fn latch(vault: &mut Vault, hand: Hand, worker: u32) -> (Hand, Line)
     ensures comes { ComesTo vault.old (cue.Latch worker) result.1 vault.new }
     ensures plays { FitsIn vault.old worker hand
         → HandPlays vault.old worker hand (cue.Latch worker) result.1 vault.new result.0 }
+    ensures moves { MovesHand vault.old hand result.1 vault.new result.0 }
     ensures forth { is_back hand.stage ≡ false → is_back result.0.stage ≡ false }
 {
     vault.known();
@@ -217,6 +225,8 @@ fn latch_slot(
     ensures comes { ComesTo vault.old (cue.Latch worker) result.1 vault.new }
     ensures plays { PlaysHand vault.old worker (hand_of (In session) guards.old) (cue.Latch worker) result.1
         vault.new (hand_of result.0 guards.new) }
+    ensures moves { MovesHand vault.old (hand_of (In session) guards.old) result.1 vault.new
+        (hand_of result.0 guards.new) }
     ensures forth { is_back result.0 ≡ false }
 {
     hands_still_fit();
@@ -254,6 +264,7 @@ fn latched(
     ensures changes { IfNone result.2 (ChangesGuard vault.old
         (latch_call mode session.worker guard.worker guard.slot guard.page) session.worker guard.slot vault.new
         result.0 result.1) }
+    ensures uses { IfNone result.2 (LatchesWith vault.old session guard vault.new result.0 result.1) }
     ensures refused { IfSome result.2 (λ _. Stays vault.old vault.new) }
     ensures keeps { IfSome result.2 (λ why. KeepsGuard vault.old
         (latch_call mode session.worker guard.worker guard.slot guard.page) session (Pin guard) why vault.new
@@ -278,6 +289,7 @@ pub(crate) fn unlatch(vault: &mut Vault, hand: Hand, worker: u32) -> (Hand, Line
     ensures comes { ComesTo vault.old (cue.Unlatch worker) result.1 vault.new }
     ensures plays { FitsIn vault.old worker hand
         → HandPlays vault.old worker hand (cue.Unlatch worker) result.1 vault.new result.0 }
+    ensures moves { MovesHand vault.old hand result.1 vault.new result.0 }
     ensures forth { is_back hand.stage ≡ false → is_back result.0.stage ≡ false }
 {
     vault.known();
@@ -316,6 +328,8 @@ fn unlatch_slot(
     ensures comes { ComesTo vault.old (cue.Unlatch worker) result.1 vault.new }
     ensures plays { PlaysHand vault.old worker (hand_of (In session) guards.old) (cue.Unlatch worker) result.1
         vault.new (hand_of result.0 guards.new) }
+    ensures moves { MovesHand vault.old (hand_of (In session) guards.old) result.1 vault.new
+        (hand_of result.0 guards.new) }
     ensures forth { is_back result.0 ≡ false }
 {
     hands_still_fit();
@@ -341,6 +355,7 @@ fn unlatched(vault: &mut Vault, session: Session, guard: Guard) -> (Session, Gua
     ensures done { IfNone result.2 (IsDone vault.old (cue.Unlatch session.worker) vault.new) }
     ensures changes { IfNone result.2 (ChangesGuard vault.old (unlatch_with vault.old session guard) session.worker
         (slot_by guard) vault.new result.0 result.1) }
+    ensures uses { IfNone result.2 (UnlatchesWith vault.old session guard vault.new result.0 result.1) }
     ensures refused { IfSome result.2 (λ _. Stays vault.old vault.new) }
     ensures keeps { IfSome result.2 (λ why. KeepsGuard vault.old (unlatch_with vault.old session guard) session guard
         why vault.new result.0 result.1) }
@@ -365,6 +380,7 @@ pub(crate) fn unwind(vault: &mut Vault, hand: Hand, worker: u32, slot: u32) -> (
     ensures comes { ComesTo vault.old (cue.Unwind worker slot) result.1 vault.new }
     ensures plays { FitsIn vault.old worker hand
         → HandPlays vault.old worker hand (cue.Unwind worker slot) result.1 vault.new result.0 }
+    ensures moves { MovesHand vault.old hand result.1 vault.new result.0 }
     ensures forth { is_back hand.stage ≡ false → is_back result.0.stage ≡ false }
 {
     vault.known();

@@ -10,6 +10,10 @@ ghost use Rattle.pp_play.specs.Exact.{Plays, PlaysFrom};
 ghost use Rattle.pp_play.specs.AnyHands.{AnswersFrom, IsLineWith, IsHandLine, IsHandsLine};
 ghost use Rattle.pp_vault.specs.StandsFor.{StandsFor};
 ghost use Rattle.pp_play.specs.Calling.{tells_answer, is_back, answers, NoneBack, IsCalled};
+ghost use Rattle.pp_play.specs.Moving.{tells_move};
+ghost use Rattle.pp_play.specs.Following.{PlaysOverDevice};
+ghost use Rattle.pp_play.specs.Honest.{IsHonestPlay};
+ghost use Rattle.pp_play.specs.Moving.{hand_errand, DoesWith, PlaysFromAll};
 ghost use Rattle.pp_play.specs.Doing.{cue_worker, HandPlays, IsLineWithout};
 ghost use Rattle.pp_vault.specs.Hands.{HandsFit};
 ghost use Rattle.pp_vault.specs.HandLaws.{FitsIn};
@@ -18,6 +22,7 @@ ghost use Rattle.pp_vault.specs.Headline.{HeadlineHolds};
 use crate::line::{Line, off_plan};
 use crate::refusing::told;
 use crate::{bytes, devices, guards, workers};
+use pp_contents::laws;
 use pp_script::Cue;
 use pp_vault::{Cause, Device, Hand, Hands, Vault};
 use std::alloc::AllocError;
@@ -68,6 +73,10 @@ pub fn play<D: Device>(
     ensures calls { OnOk result (HandsFit vault.old hands.old → NoneBack hands.old → D.calls device.new
         ≡ D.calls device.old + answers (drop (length lines.old.items) lines.new.items)) }
     ensures none_back { HandsFit vault.old hands.old → NoneBack hands.old → NoneBack hands.new }
+    ensures follows { OnOk result (PlaysOverDevice D.read_gives D.write_leaves vault.old hands.old device.old cues.now
+        lines.old.items lines.new.items vault.new hands.new device.new) }
+    ensures honest { OnOk result (IsHonestPlay D.read_gives D.write_leaves vault.old hands.old device.old cues.now
+        lines.old.items lines.new.items vault.new hands.new device.new) }
     ensures length { OnOk result (length lines.new.items ≡ length lines.old.items + length cues.now) }
     ensures behind { take (length lines.old.items) lines.new.items ≡ lines.old.items }
     ensures err { OnErr result ((vault.new ≡ vault.old) × (hands.new ≡ hands.old) × (device.new ≡ device.old)
@@ -76,6 +85,8 @@ pub fn play<D: Device>(
     ensures headline { HeadlineHolds vault.new }
 {
     vault.known();
+    laws::contents_are_kept();
+    laws::honest_devices_tell_what_they_keep::<D>();
     lines.reserve(cues.len())?;
     for cue in cues {
         let line = play_one(vault, hands, device, *cue);
@@ -93,6 +104,8 @@ fn play_one<D: Device>(vault: &mut Vault, hands: &mut Hands, device: &mut D, cue
     ensures called { HandsFit vault.old hands.old → NoneBack hands.old
         → IsCalled D.calls (tells_answer result) device.old device.new }
     ensures none_back { HandsFit vault.old hands.old → NoneBack hands.old → NoneBack hands.new }
+    ensures over { PlaysFromAll D.read_gives D.write_leaves vault.old hands.old device.old cue result vault.new hands.new
+        device.new }
 {
     vault.known();
     let line = by_tokens(vault, hands, device, cue);
@@ -107,8 +120,11 @@ fn by_tokens<D: Device>(vault: &mut Vault, hands: &mut Hands, device: &mut D, cu
     ensures called { HandsFit vault.old hands.old → NoneBack hands.old
         → IsCalled D.calls (tells_answer result) device.old device.new }
     ensures none_back { HandsFit vault.old hands.old → NoneBack hands.old → NoneBack hands.new }
+    ensures over { PlaysFromAll D.read_gives D.write_leaves vault.old hands.old device.old cue result vault.new hands.new
+        device.new }
 {
     vault.known();
+    laws::contents_are_kept();
     match cue {
         Cue::Flush { page } => devices::flush(vault, hands, page),
         Cue::FlushDevice => devices::flush_work(vault, hands, device),
@@ -141,8 +157,11 @@ fn by_worker<D: Device>(
     ensures called { HandsFit vault.old hands.old → NoneBack hands.old
         → IsCalled D.calls (tells_answer result) device.old device.new }
     ensures none_back { HandsFit vault.old hands.old → NoneBack hands.old → NoneBack hands.new }
+    ensures over { PlaysFromAll D.read_gives D.write_leaves vault.old hands.old device.old cue result vault.new hands.new
+        device.new }
 {
     vault.known();
+    laws::contents_are_kept();
     let Some(hand) = hands.part(worker) else {
         return without_hand(cue);
     };
@@ -159,6 +178,7 @@ fn without_hand(cue: Cue) -> Line
     ensures exact { IsLineWithout cue result }
     ensures own { (v : Parts) → IsHandLine v None None cue result }
     ensures quiet { tells_answer result ≡ false }
+    ensures undone { tells_move result ≡ false }
 {
     match cue {
         Cue::Device { .. } => off_plan(cue, Cause::NoErrand),
@@ -186,6 +206,9 @@ fn with_hand<D: Device>(
     ensures called { FitsIn vault.old worker hand → is_back hand.stage ≡ false
         → IsCalled D.calls (tells_answer result.1) device.old device.new }
     ensures forth { FitsIn vault.old worker hand → is_back hand.stage ≡ false → is_back result.0.stage ≡ false }
+    ensures does { FitsIn vault.old worker hand → is_back hand.stage ≡ false
+        → DoesWith D.read_gives D.write_leaves (hand_errand hand cue) vault.old hand device.old result.1 vault.new
+        result.0 device.new }
 {
     match cue {
         Cue::Take { .. } => workers::take(vault, hand, worker),

@@ -7,6 +7,7 @@ ghost use Rattle.pp_vault.specs.HandLaws.{FitsIn};
 ghost use Rattle.pp_play.specs.Plays.{ComesTo};
 ghost use Rattle.pp_play.specs.Calling.{is_back};
 ghost use Rattle.pp_play.specs.Doing.{HandPlays};
+ghost use Rattle.pp_play.specs.Moving.{MovesHand};
 
 use crate::line::{Line, did, off_plan};
 use pp_script::Cue;
@@ -19,6 +20,7 @@ pub(crate) fn take(vault: &mut Vault, hand: Hand, worker: u32) -> (Hand, Line)
     ensures comes { ComesTo vault.old (cue.Take worker) result.1 vault.new }
     ensures plays { FitsIn vault.old worker hand
         → HandPlays vault.old worker hand (cue.Take worker) result.1 vault.new result.0 }
+    ensures moves { MovesHand vault.old hand result.1 vault.new result.0 }
     ensures forth { is_back hand.stage ≡ false → is_back result.0.stage ≡ false }
 {
     vault.known();
@@ -55,6 +57,7 @@ pub(crate) fn choose(vault: &mut Vault, hand: Hand, worker: u32, branch: u32) ->
     ensures comes { ComesTo vault.old (cue.Choose worker branch) result.1 vault.new }
     ensures plays { FitsIn vault.old worker hand
         → HandPlays vault.old worker hand (cue.Choose worker branch) result.1 vault.new result.0 }
+    ensures moves { MovesHand vault.old hand result.1 vault.new result.0 }
     ensures forth { is_back hand.stage ≡ false → is_back result.0.stage ≡ false }
 {
     vault.known();
@@ -91,6 +94,7 @@ pub(crate) fn finish(vault: &mut Vault, hand: Hand, worker: u32) -> (Hand, Line)
     ensures comes { ComesTo vault.old (cue.Finish worker) result.1 vault.new }
     ensures plays { FitsIn vault.old worker hand
         → HandPlays vault.old worker hand (cue.Finish worker) result.1 vault.new result.0 }
+    ensures moves { MovesHand vault.old hand result.1 vault.new result.0 }
     ensures forth { is_back hand.stage ≡ false → is_back result.0.stage ≡ false }
 {
     vault.known();

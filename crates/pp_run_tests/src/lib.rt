@@ -14,6 +14,8 @@ mod devices;
 #[cfg(test)]
 mod failing;
 #[cfg(test)]
+mod faults;
+#[cfg(test)]
 mod hands;
 #[cfg(test)]
 mod latches;

@@ -1,8 +1,10 @@
 -- From cues that a vault played to what the states alone tell of them.
-use Rattle.std.proofs.Common.{List, [], ◌∷◌, Option, refl, subst, sym}
+use Rattle.std.proofs.Common.{ℕ, List, [], ◌∷◌, Option}
+use Rattle.pp_device.specs.Answers.{Answer}
 use Rattle.pp_model.specs.Pool.{State}
 use Rattle.pp_play.specs.ByStates.{IsLineIn, ComeInTurn}
-use Rattle.pp_play.specs.Exact.{IsLineOf, PlaysAll}
+use Rattle.pp_play.specs.Exact.{IsLineOf}
+use Rattle.pp_play.specs.Following.{AllOver}
 use Rattle.pp_play.specs.declared.line.Line.{Line}
 use Rattle.pp_play.specs.declared.line.Line.TheVariants.{Did, Refused, Wrote, Looked, NoLatch}
 use Rattle.pp_script.specs.declared.cue.Cue.{Cue}
@@ -26,17 +28,17 @@ line_in v s old new cue Wrote h = absurd h
 line_in v s old new cue (Looked byte) h = absurd h
 line_in v s old new cue NoLatch h = absurd h
 
-pub in_turn : (s : State) (v : Parts) (hands : Hands) (cues : List Cue) (lines : List Line) (after : Parts) (left : Hands)
-    → StandsFor v s → PlaysAll v hands cues lines after left
-    → (t : State) × ComeInTurn s cues lines t × StandsFor after t
-in_turn s v hands [] [] after left st plays = (s, refl, subst (λ p. StandsFor p s) (sym plays.0) st)
-in_turn s v hands [] (line ∷ lines) after left st plays = absurd plays
-in_turn s v hands (cue ∷ cues) [] after left st plays = absurd plays
-in_turn s v hands (cue ∷ cues) (line ∷ lines) after left st plays =
-    let one = plays.2 in
-    let came = one.comes s st in
-    let rest = in_turn came.0 plays.0 plays.1 cues lines after left came.2 plays.3 in (
-      rest.0,
-      (came.0, line_in v s _ _ cue line (one.exact s st), came.1, rest.1),
-      rest.2,
+pub in_turn : {D : Type 0} (reads : D → ℕ → List ℕ → Answer → List ℕ → D → Type 0)
+    (writes : D → ℕ → List ℕ → Answer → D → Type 0) (v : Parts) (s : State) (hands : Hands) (d : D) (told : ℕ → List ℕ)
+    (cues : List Cue) (lines : List Line) (after : Parts) (t : State) (left : Hands) (e : D) (now : ℕ → List ℕ)
+    → StandsFor v s → AllOver reads writes v s hands d told cues lines after t left e now → ComeInTurn s cues lines t
+in_turn reads writes v s hands d told [] [] after t left e now st all = all.1
+in_turn reads writes v s hands d told [] (line ∷ lines) after t left e now st all = absurd all
+in_turn reads writes v s hands d told (cue ∷ cues) [] after t left e now st all = absurd all
+in_turn reads writes v s hands d told (cue ∷ cues) (line ∷ lines) after t left e now st
+    (mid, there, held, device, tells, one, rest) = (
+      there,
+      line_in v s _ _ cue line (one.plays.exact s st),
+      one.tells,
+      in_turn reads writes mid there held device tells cues lines after t left e now one.stands rest,
     )

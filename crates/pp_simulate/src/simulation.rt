@@ -12,6 +12,7 @@ ghost use Rattle.pp_simulate.specs.Simulating.{Simulates, TellsSubmit, TakesAll}
 use crate::error::SimulateError;
 use crate::printing::transcript;
 use pp_cert::Accepted;
+use pp_contents::laws::contents_are_kept;
 use pp_device::{Failing, SoloDevice};
 use pp_play::play;
 use pp_script::Script;
@@ -33,7 +34,8 @@ pub fn simulate(
     plans: Vec<Accepted>,
     script: Script,
 ) -> Result<String, SimulateError>
-    // The plans are all taken in, each cue comes to its own line, and the last line is of the state then.
+    // The plans are all taken in, each cue comes to its own line over a formatted device behind the script's troubles, and
+    // the last line is of the state then.
     ensures ok { IfOk result (λ text. Simulates settings.now plans.items script (string_bytes text)) }
     // A refusal is that of the first plan that isn't taken in.
     ensures err { IfErr result (TellsSubmit (after_submits (opening (kept_of settings.now)) plans.items)) }
@@ -58,6 +60,7 @@ fn play_in(
     ensures ok { IfOk result (λ text. Simulates settings.now plans.items script (string_bytes text)) }
     ensures err { IfErr result (TellsSubmit (after_submits (opening (kept_of settings.now)) plans.items)) }
 {
+    contents_are_kept();
     let count = plans.len();
     submit_all(vault, plans)?;
     let (cues, troubles) = script.into_parts();

@@ -8,6 +8,14 @@ use Rattle.pp_play.proofs.Carried.{back_hand, not_refused}
 use Rattle.std.proofs.Common.{refl}
 use Rattle.pp_play.proofs.Called.{device_told}
 use Rattle.pp_play.proofs.Answered.{taken_answer}
+use Rattle.pp_contents.specs.HandMoves.{answers}
+use Rattle.std.specs.Prelude.{slice_set, Some}
+use Rattle.pp_vault.specs.declared.guards.Guard.TheVariants.{Pin}
+use Rattle.pp_vault.specs.declared.stage.Stage.TheVariants as stage
+use Rattle.pp_vault.specs.declared.answering.Answered.TheVariants as answered
+use Rattle.pp_play.specs.Guarding.{hand_of}
+use Rattle.pp_play.proofs.Answers.{tells_it}
+use Rattle.pp_play.proofs.Moved.{did_moves}
 use Rattle.pp_play.proofs.devices.answer.Goals as goal
 
 pub put-requires : goal.put-requires
@@ -127,3 +135,72 @@ returns-in-Lost-clause-strangers c =
     (device_told old new c.requires.kept c.did-in-Lost.result c.did-in-Lost.ensures c.args.worker
     (lost_done old new c.requires.kept c.args.worker c.args.returned.image (is_ok c.args.returned.answer)
     c.args.returned.duty c.in-Lost.leaver c.requires.of c.in-Lost.ensures.answers))
+
+pub returns-in-Got-clause-moves : goal.returns-in-Got-clause-moves
+returns-in-Got-clause-moves c =
+    let old = c.args.vault.now in
+    let new = c.answer.new.self in
+    let places = c.args.guards.now in
+    let x = c.in-Got.session in
+    let g = c.in-Got.guard in
+    let done =
+    got_done old new c.requires.kept c.args.worker c.args.returned.image (is_ok c.args.returned.answer)
+    c.args.returned.duty x g c.requires.of c.in-Got.ensures.answers in
+    rw c.put.ensures
+    (did_moves old new (back_hand c.args.returned places) (hand_of (stage.In x) (slice_set places g.slot (Some (Pin g))))
+    c.did.result done.some c.did.ensures
+    (answers c.args.returned (answered.Got x g) refl c.in-Got.ensures.answers refl))
+
+pub returns-in-Away-clause-moves : goal.returns-in-Away-clause-moves
+returns-in-Away-clause-moves c =
+    let old = c.args.vault.now in
+    let new = c.answer.new.self in
+    let places = c.args.guards.now in
+    let done =
+    away_done old new c.requires.kept c.args.worker c.args.returned.image (is_ok c.args.returned.answer)
+    c.args.returned.duty c.in-Away.errand c.requires.of c.in-Away.ensures.answers in
+    did_moves old new (back_hand c.args.returned places) (hand_of (stage.Out c.in-Away.errand) places)
+    c.did-in-Away.result done.some c.did-in-Away.ensures
+    (answers c.args.returned (answered.Away c.in-Away.errand) refl c.in-Away.ensures.answers refl)
+
+pub returns-in-Lost-clause-moves : goal.returns-in-Lost-clause-moves
+returns-in-Lost-clause-moves c =
+    let old = c.args.vault.now in
+    let new = c.answer.new.self in
+    let places = c.args.guards.now in
+    let done =
+    lost_done old new c.requires.kept c.args.worker c.args.returned.image (is_ok c.args.returned.answer)
+    c.args.returned.duty c.in-Lost.leaver c.requires.of c.in-Lost.ensures.answers in
+    did_moves old new (back_hand c.args.returned places) (hand_of (stage.Leaving c.in-Lost.leaver) places)
+    c.did-in-Lost.result done.some c.did-in-Lost.ensures
+    (answers c.args.returned (answered.Lost c.in-Lost.leaver) refl c.in-Lost.ensures.answers refl)
+
+pub returns-in-Got-clause-tells : goal.returns-in-Got-clause-tells
+returns-in-Got-clause-tells c =
+    let old = c.args.vault.now in
+    let new = c.answer.new.self in
+    let done =
+    got_done old new c.requires.kept c.args.worker c.args.returned.image (is_ok c.args.returned.answer)
+    c.args.returned.duty c.in-Got.session c.in-Got.guard c.requires.of c.in-Got.ensures.answers in
+    tells_it old new c.requires.kept c.args.returned (answered.Got c.in-Got.session c.in-Got.guard)
+    c.in-Got.ensures.answers c.did.result done.some c.did.ensures
+
+pub returns-in-Away-clause-tells : goal.returns-in-Away-clause-tells
+returns-in-Away-clause-tells c =
+    let old = c.args.vault.now in
+    let new = c.answer.new.self in
+    let done =
+    away_done old new c.requires.kept c.args.worker c.args.returned.image (is_ok c.args.returned.answer)
+    c.args.returned.duty c.in-Away.errand c.requires.of c.in-Away.ensures.answers in
+    tells_it old new c.requires.kept c.args.returned (answered.Away c.in-Away.errand) c.in-Away.ensures.answers
+    c.did-in-Away.result done.some c.did-in-Away.ensures
+
+pub returns-in-Lost-clause-tells : goal.returns-in-Lost-clause-tells
+returns-in-Lost-clause-tells c =
+    let old = c.args.vault.now in
+    let new = c.answer.new.self in
+    let done =
+    lost_done old new c.requires.kept c.args.worker c.args.returned.image (is_ok c.args.returned.answer)
+    c.args.returned.duty c.in-Lost.leaver c.requires.of c.in-Lost.ensures.answers in
+    tells_it old new c.requires.kept c.args.returned (answered.Lost c.in-Lost.leaver) c.in-Lost.ensures.answers
+    c.did-in-Lost.result done.some c.did-in-Lost.ensures

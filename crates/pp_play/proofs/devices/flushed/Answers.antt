@@ -7,6 +7,8 @@ use Rattle.pp_play.proofs.FlushHands.{flushed_plays, flush_not_refused}
 use Rattle.std.proofs.Common.{refl}
 use Rattle.pp_play.proofs.Called.{flush_told}
 use Rattle.pp_play.proofs.Answered.{taken_answer}
+use Rattle.pp_vault.specs.declared.answering.Answered.TheVariants as answered
+use Rattle.pp_play.proofs.Answers.{ends_flush}
 use Rattle.pp_play.proofs.devices.flushed.Goals as goal
 
 pub returns-in-Flushed-clause-comes : goal.returns-in-Flushed-clause-comes
@@ -55,3 +57,14 @@ returns-in-Flushed-clause-strangers c =
     (flush_told old new c.requires.kept c.did.result c.did.ensures
     (flush_over old new c.requires.kept 0 c.args.returned.image (is_ok c.args.returned.answer) c.args.returned.duty
     c.in-Flushed.field-0 c.in-Flushed.ensures.answers))
+
+pub returns-in-Flushed-clause-ends : goal.returns-in-Flushed-clause-ends
+returns-in-Flushed-clause-ends c =
+    let old = c.args.vault.now in
+    let new = c.answer.new.self in
+    let done =
+    flush_over old new c.requires.kept 0 c.args.returned.image (is_ok c.args.returned.answer) c.args.returned.duty
+    c.in-Flushed.field-0 c.in-Flushed.ensures.answers in
+    ends_flush old new c.requires.kept c.args.returned (answered.Flushed c.in-Flushed.field-0)
+    c.in-Flushed.ensures.answers c.did.result done.some c.did.ensures c.in-Flushed.field-0 refl c.args.hands.now
+    c.args.hands.now refl

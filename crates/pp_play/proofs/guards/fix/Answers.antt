@@ -3,6 +3,7 @@ use Rattle.pp_script.specs.declared.cue.Cue.TheVariants as cue
 use Rattle.pp_play.specs.Guarding.{hand_of, PlaysHand}
 use Rattle.pp_play.proofs.Held.{fix_finds}
 use Rattle.pp_play.proofs.OffPlan.{fix_inactive}
+use Rattle.pp_play.proofs.Moved.{moves_of, refused_moves}
 use Rattle.pp_play.proofs.guards.fix.Goals as goal
 
 pub returns-then-not-fix_has_place-clause-plays : goal.returns-then-not-fix_has_place-clause-plays
@@ -23,3 +24,12 @@ returns-in_default-clause-plays c =
     λ fits.
     fix_inactive c.args.vault.now c.args.worker c.args.hand c.off_plan.result c.in_default.not-In fits c.args.page
     c.off_plan.ensures
+
+pub returns-else-not-fix_has_place-clause-moves : goal.returns-else-not-fix_has_place-clause-moves
+returns-else-not-fix_has_place-clause-moves c =
+    moves_of c.args.vault.now c.fix_in-stage.new.vault c.args.hand c.fix_in-stage.result.1
+    (hand_of c.fix_in-stage.result.0 c.fix_in-stage.new.guards) _ c.in-In.is c.fix_in-stage.ensures.moves
+
+pub returns-in_default-clause-moves : goal.returns-in_default-clause-moves
+returns-in_default-clause-moves c =
+    refused_moves c.args.vault.now c.args.vault.now c.args.hand c.args.hand _ _ c.off_plan.result c.off_plan.ensures

@@ -16,6 +16,9 @@ use Rattle.pp_play.proofs.Places.{free_here}
 use Rattle.pp_play.proofs.Slots.{low}
 use Rattle.pp_play.proofs.StillFitting.{StillFit}
 use Rattle.pp_play.proofs.FixPlays.{fix_got, fix_away, fix_refused}
+use Rattle.pp_contents.specs.HandMoves.{fixes}
+use Rattle.pp_vault.specs.declared.fixing.Fixed.TheVariants as fixed
+use Rattle.pp_play.proofs.Moved.{did_moves}
 use Rattle.pp_play.proofs.guards.fix_in.Goals as goal
 
 pub put-requires : goal.put-requires
@@ -98,3 +101,26 @@ returns-in-No-clause-plays c =
     (λ fits.
     fix_refused old new c.requires.kept x c.args.page c.args.guards.now fits c.in-No.refusal
     c.in-No.ensures.answers.1 (ap untold c.in-No.ensures.answers.2)))
+
+pub returns-in-Got-clause-moves : goal.returns-in-Got-clause-moves
+returns-in-Got-clause-moves c =
+    let old = c.args.vault.now in
+    let new = c.fix.new.self in
+    let x = c.args.session in
+    let places = c.args.guards.now in
+    let y = c.in-Got.session in
+    let g = c.in-Got.guard in
+    let done = fix_done old new c.requires.kept x.worker x.worker refl (fix_slot x.ask) c.args.page c.in-Got.ensures.answers.0 in
+    rw c.put.ensures
+    (did_moves old new (hand_of (In x) places) (hand_of (In y) (slice_set places g.slot (Some (Pin g)))) c.did.result
+    done.some c.did.ensures (fixes x c.args.page (fixed.Got y g) refl c.in-Got.ensures.answers refl))
+
+pub returns-in-Away-clause-moves : goal.returns-in-Away-clause-moves
+returns-in-Away-clause-moves c =
+    let old = c.args.vault.now in
+    let new = c.fix.new.self in
+    let x = c.args.session in
+    let places = c.args.guards.now in
+    let done = fix_done old new c.requires.kept x.worker x.worker refl (fix_slot x.ask) c.args.page c.in-Away.ensures.answers.0 in
+    did_moves old new (hand_of (In x) places) (hand_of (Out c.in-Away.errand) places) c.did-in-Away.result done.some
+    c.did-in-Away.ensures (fixes x c.args.page (fixed.Away c.in-Away.errand) refl c.in-Away.ensures.answers refl)

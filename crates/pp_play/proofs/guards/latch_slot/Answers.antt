@@ -14,6 +14,8 @@ use Rattle.pp_play.proofs.Held.{latch_there, latch_pin}
 use Rattle.pp_play.proofs.Putting.{put_again, put_changed, no_pin, at_none, at_some}
 use Rattle.pp_play.proofs.StillFitting.{StillFit}
 use Rattle.pp_play.proofs.UsePlays.{latch_plays, latch_refused}
+use Rattle.pp_play.specs.Moving.{LatchesWith}
+use Rattle.pp_play.proofs.Moved.{did_moves, latch_moves, put_there}
 use Rattle.pp_play.proofs.guards.latch_slot.Goals as goal
 
 pub returns-in-None-refusal-clause-comes : goal.returns-in-None-refusal-clause-comes
@@ -107,3 +109,25 @@ returns-in-None-clause-plays c =
     λ fits.
     let asked = (fits k.state k.stands).stage.1 ∙ ap (λ a. Some a) c.requires.asks in
     absurd (latch_there old k c.args.worker hand fits c.args.slot c.args.mode asked (search rules))
+
+pub returns-in-None-refusal-clause-moves : goal.returns-in-None-refusal-clause-moves
+returns-in-None-refusal-clause-moves c =
+    let old = c.args.vault.now in
+    let new = c.latched-guard.new.vault in
+    let x = c.args.session in
+    let places = c.args.guards.now in
+    let slot = c.args.slot in
+    let g = c.in-Pin.guard in
+    let r = c.latched-guard.result in
+    let here : placed places slot ≡ Some c.in-Some.guard = search rules in
+    let at : placed places slot ≡ Some (Pin g) = here ∙ ap (λ o. Some o) c.in-Pin.is in
+    let gone : c.take.new.self ≡ slice_set places slot None = search rules in
+    let there : slot_by c.in-Some.guard ≡ slot = search rules in
+    let of : g.slot ≡ slot = sym (ap slot_by c.in-Pin.is) ∙ there in
+    let now : c.put.new.guards ≡ slice_set (slice_set places slot None) slot (Some r.1) =
+    put_there places c.take.new.self c.put.new.guards slot r.1 gone (c.latched-guard.ensures.slot ∙ of) c.put.ensures in
+    let uses : LatchesWith old x g new r.0 r.1 = at_none r.2 c.latched-guard.ensures.uses c.in-None-refusal.is in
+    let done : IsDone old (cue.Latch x.worker) new = at_none r.2 c.latched-guard.ensures.done c.in-None-refusal.is in
+    rw now
+    (did_moves old new (hand_of (In x) places) (hand_of (In r.0) (slice_set (slice_set places slot None) slot (Some r.1)))
+    c.did.result done.some c.did.ensures (latch_moves old new x r.0 places slot g r.1 at uses))

@@ -14,6 +14,8 @@ use Rattle.pp_play.proofs.Held.{unfix_there, unfix_pin}
 use Rattle.pp_play.proofs.Putting.{put_again, no_pin}
 use Rattle.pp_play.proofs.StillFitting.{StillFit}
 use Rattle.pp_play.proofs.UsePlays.{unfix_plays, unfix_refused}
+use Rattle.pp_contents.specs.HandMoves.{unfixes}
+use Rattle.pp_play.proofs.Moved.{did_moves}
 use Rattle.pp_play.proofs.guards.unfix_slot.Goals as goal
 
 pub returns-in-Ok-clause-comes : goal.returns-in-Ok-clause-comes
@@ -91,3 +93,19 @@ returns-in-None-clause-plays c =
     λ fits.
     let asked = (fits k.state k.stands).stage.1 ∙ ap (λ a. Some a) c.requires.asks in
     absurd (unfix_there old k c.args.worker hand fits c.args.slot asked (search rules))
+
+pub returns-in-Ok-clause-moves : goal.returns-in-Ok-clause-moves
+returns-in-Ok-clause-moves c =
+    let old = c.args.vault.now in
+    let new = c.unfix.new.self in
+    let x = c.args.session in
+    let places = c.args.guards.now in
+    let g = c.in-Pin.guard in
+    let slot = c.args.slot in
+    let here : placed places slot ≡ Some c.in-Some.guard = search rules in
+    let at : placed places slot ≡ Some (Pin g) = here ∙ ap (λ o. Some o) c.in-Pin.is in
+    let gone : c.take.new.self ≡ slice_set places slot None = search rules in
+    let done = unfix_done old new c.requires.kept x.worker x.worker refl _ _ _ c.in-Ok.ensures.ok.does in
+    rw gone
+    (did_moves old new (hand_of (In x) places) (hand_of (In c.in-Ok.session) (slice_set places slot None)) c.did.result
+    done.some c.did.ensures (unfixes x c.in-Ok.session slot g refl at c.in-Ok.ensures.ok refl))

@@ -3,6 +3,7 @@ use Rattle.pp_script.specs.declared.cue.Cue.TheVariants as cue
 use Rattle.pp_play.specs.Doing.{HandPlays}
 use Rattle.pp_play.specs.Guarding.{hand_of, PlaysHand}
 use Rattle.pp_play.proofs.OffPlan.{unlatch_other, unlatch_inactive}
+use Rattle.pp_play.proofs.Moved.{moves_of, refused_moves}
 use Rattle.pp_play.proofs.guards.unlatch.Goals as goal
 
 pub returns-in-Unlatch-clause-plays : goal.returns-in-Unlatch-clause-plays
@@ -26,4 +27,19 @@ pub returns-in_default-clause-plays : goal.returns-in_default-clause-plays
 returns-in_default-clause-plays c =
     λ fits.
     unlatch_inactive c.args.vault.now c.args.worker c.args.hand c.off_plan-in_default.result c.in_default.not-In fits
+    c.off_plan-in_default.ensures
+
+pub returns-in-Unlatch-clause-moves : goal.returns-in-Unlatch-clause-moves
+returns-in-Unlatch-clause-moves c =
+    let s = c.unlatch_slot-stage in
+    moves_of c.args.vault.now s.new.vault c.args.hand s.result.1 (hand_of s.result.0 s.new.guards) _ c.in-In.is
+    s.ensures.moves
+
+pub returns-in_default-ask-clause-moves : goal.returns-in_default-ask-clause-moves
+returns-in_default-ask-clause-moves c =
+    refused_moves c.args.vault.now c.args.vault.now c.args.hand _ _ _ c.off_plan.result c.off_plan.ensures
+
+pub returns-in_default-clause-moves : goal.returns-in_default-clause-moves
+returns-in_default-clause-moves c =
+    refused_moves c.args.vault.now c.args.vault.now c.args.hand c.args.hand _ _ c.off_plan-in_default.result
     c.off_plan-in_default.ensures

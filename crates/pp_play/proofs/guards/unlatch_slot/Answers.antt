@@ -11,6 +11,8 @@ use Rattle.pp_play.proofs.Held.{unlatch_there, unlatch_latched}
 use Rattle.pp_play.proofs.Putting.{put_again, put_changed, at_none, at_some}
 use Rattle.pp_play.proofs.StillFitting.{StillFit}
 use Rattle.pp_play.proofs.UsePlays.{unlatch_plays, unlatch_refused}
+use Rattle.pp_play.specs.Moving.{UnlatchesWith}
+use Rattle.pp_play.proofs.Moved.{did_moves, unlatch_moves, put_there}
 use Rattle.pp_play.proofs.guards.unlatch_slot.Goals as goal
 
 pub returns-in-None-refusal-clause-comes : goal.returns-in-None-refusal-clause-comes
@@ -91,3 +93,23 @@ returns-in-None-clause-plays c =
     λ fits.
     let asked = (fits k.state k.stands).stage.1 ∙ ap (λ a. Some a) c.requires.asks in
     absurd (unlatch_there old k c.args.worker hand fits c.args.slot asked (search rules))
+
+pub returns-in-None-refusal-clause-moves : goal.returns-in-None-refusal-clause-moves
+returns-in-None-refusal-clause-moves c =
+    let old = c.args.vault.now in
+    let new = c.unlatched-guard.new.vault in
+    let x = c.args.session in
+    let places = c.args.guards.now in
+    let slot = c.args.slot in
+    let g = c.in-Some.guard in
+    let r = c.unlatched-guard.result in
+    let at : placed places slot ≡ Some g = search rules in
+    let gone : c.take.new.self ≡ slice_set places slot None = search rules in
+    let of : slot_by g ≡ slot = search rules in
+    let now : c.put.new.guards ≡ slice_set (slice_set places slot None) slot (Some r.1) =
+    put_there places c.take.new.self c.put.new.guards slot r.1 gone (c.unlatched-guard.ensures.slot ∙ of) c.put.ensures in
+    let uses : UnlatchesWith old x g new r.0 r.1 = at_none r.2 c.unlatched-guard.ensures.uses c.in-None-refusal.is in
+    let done : IsDone old (cue.Unlatch x.worker) new = at_none r.2 c.unlatched-guard.ensures.done c.in-None-refusal.is in
+    rw now
+    (did_moves old new (hand_of (In x) places) (hand_of (In r.0) (slice_set (slice_set places slot None) slot (Some r.1)))
+    c.did.result done.some c.did.ensures (unlatch_moves old new x r.0 places slot g r.1 at uses))

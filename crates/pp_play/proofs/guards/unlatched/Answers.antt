@@ -6,6 +6,7 @@ use Rattle.pp_vault.specs.Holding.{slot_by}
 use Rattle.pp_play.specs.Guarding.{unlatch_with, ChangesGuard, KeepsGuard}
 use Rattle.pp_play.proofs.Asked.{unlatch_done, put_back_done}
 use Rattle.pp_play.proofs.Latching.{shared_off, exclusive_off, keeps}
+use Rattle.pp_play.specs.Moving.{UnlatchesWith}
 use Rattle.pp_play.proofs.guards.unlatched.Goals as goal
 
 pub returns-in-Ok-clause-done : goal.returns-in-Ok-clause-done
@@ -67,3 +68,17 @@ returns-in-Err-unlatch_exclusive-clause-keeps c =
     (λ a. KeepsGuard old (unlatch_with old x a) x a e.refusal new e.session (Write e.guard)) (sym c.in-Write.is)
     (keeps old new x e.session (unlatch_with old x (Write c.in-Write.guard)) (Write c.in-Write.guard) (Write e.guard)
     e.refusal e.ensures.err e.ensures.back.0 (ap (λ h. Write h) e.ensures.back.1) e.ensures.unchanged)
+
+pub returns-in-Ok-clause-uses : goal.returns-in-Ok-clause-uses
+returns-in-Ok-clause-uses c =
+    let old = c.args.vault.now in
+    let new = c.unlatch_shared.new.self in
+    subst (λ a. UnlatchesWith old c.args.session a new c.in-Ok.session (Pin c.in-Ok.guard)) (sym c.in-Read.is)
+    c.in-Ok.ensures.ok
+
+pub returns-in-Ok-unlatch_exclusive-clause-uses : goal.returns-in-Ok-unlatch_exclusive-clause-uses
+returns-in-Ok-unlatch_exclusive-clause-uses c =
+    let old = c.args.vault.now in
+    let new = c.unlatch_exclusive.new.self in
+    let y = c.in-Ok-unlatch_exclusive in
+    subst (λ a. UnlatchesWith old c.args.session a new y.session (Pin y.guard)) (sym c.in-Write.is) y.ensures.ok

@@ -15,6 +15,8 @@ use Rattle.pp_play.proofs.Places.{taken_free}
 use Rattle.pp_play.proofs.Putting.{put_again}
 use Rattle.pp_play.proofs.StillFitting.{StillFit}
 use Rattle.pp_play.proofs.UnwindPlays.{still_leaves, unwind_plays, unwind_refused}
+use Rattle.pp_contents.specs.HandMoves.{gives_back}
+use Rattle.pp_play.proofs.Moved.{did_moves, refused_moves}
 use Rattle.pp_play.proofs.guards.unwind.Goals as goal
 
 pub did-requires : goal.did-requires
@@ -103,3 +105,29 @@ returns-in-None-clause-plays c =
     rw c.in-None.ensures.unchanged
     (subst (λ t. HandPlays v w hand (cue.Unwind w c.args.slot) line v (hand_of t hand.guards)) c.in-Leaving.is
     (unwind_empty v w hand line c.in-Leaving.leaver c.args.slot c.in-Leaving.is none fits c.off_plan.ensures))
+
+pub returns-in-Ok-clause-moves : goal.returns-in-Ok-clause-moves
+returns-in-Ok-clause-moves c =
+    let old = c.args.vault.now in
+    let new = c.give_back.new.self in
+    let x = c.in-Leaving.leaver in
+    let y = c.in-Ok.leaver in
+    let g = c.in-Some.guard in
+    let slot = c.args.slot in
+    let places = c.args.hand.guards in
+    let at : placed places slot ≡ Some g = search rules in
+    let done =
+    given_back old new c.known.ensures.kept c.args.worker slot x y (same _ _ (search rules)) g c.in-Some.ensures.slot
+    c.in-Ok.ensures.ok in
+    rw c.in-Some.ensures.taken
+    (did_moves old new c.args.hand (hand_of (Leaving y) (slice_set places slot None)) c.did.result done.some
+    c.did.ensures (gives_back x y slot g c.in-Leaving.is at c.in-Ok.ensures.ok refl))
+
+pub returns-in-None-clause-moves : goal.returns-in-None-clause-moves
+returns-in-None-clause-moves c =
+    refused_moves c.args.vault.now c.args.vault.now c.args.hand _ _ _ c.off_plan.result c.off_plan.ensures
+
+pub returns-in_default-clause-moves : goal.returns-in_default-clause-moves
+returns-in_default-clause-moves c =
+    refused_moves c.args.vault.now c.args.vault.now c.args.hand c.args.hand _ _ c.off_plan-in_default.result
+    c.off_plan-in_default.ensures

@@ -2,6 +2,9 @@ use Rattle.std.proofs.Common.{sym, subst}
 use Rattle.pp_play.specs.Exact.{Plays}
 use Rattle.pp_play.specs.Calling.{tells_answer, IsCalled}
 use Rattle.pp_play.proofs.Answered.{told_comes, told_exact, told_same}
+use Rattle.std.specs.Prelude.{ℕ, List}
+use Rattle.pp_model.specs.Pool.{State}
+use Rattle.pp_play.specs.Following.{PlaysOver}
 use Rattle.pp_play.proofs.playing.play_one.Goals as goal
 
 pub returns-clause-comes : goal.returns-clause-comes
@@ -36,3 +39,17 @@ returns-clause-called g c fits none =
     c.told.ensures in
     subst (λ l. IsCalled g.D.Device.calls (tells_answer l) c.args.device.now c.by_tokens-line.new.device) (sym same)
     (c.by_tokens-line.ensures.called fits none)
+
+pub returns-clause-over : goal.returns-clause-over
+returns-clause-over g c fits s st now agrees =
+    let old = c.args.vault.now in
+    let mid = c.by_tokens-line.new.vault in
+    let hands = c.args.hands.now in
+    let left = c.by_tokens-line.new.hands in
+    let plays = c.by_tokens-line.ensures.plays fits in
+    let same = told_same old mid hands left c.args.cue c.by_tokens-line.result c.told.result c.known.ensures.kept plays
+    c.told.ensures in
+    subst
+    (λ l. (t : State) × (next : ℕ → List ℕ)
+    × PlaysOver g.D.Device.read_gives g.D.Device.write_leaves old s hands c.args.device.now now c.args.cue l mid t left
+    c.by_tokens-line.new.device next) (sym same) (c.by_tokens-line.ensures.over fits s st now agrees)

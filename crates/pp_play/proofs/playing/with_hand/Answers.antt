@@ -6,6 +6,8 @@ use Rattle.pp_play.specs.AnyHands.{IsHandLine}
 use Rattle.pp_play.specs.Doing.{cue_worker, HandPlays}
 use Rattle.pp_play.proofs.Asked.{same}
 use Rattle.pp_play.proofs.Called.{quiet}
+use Rattle.pp_play.specs.Moving.{hand_errand, DoesWith}
+use Rattle.pp_play.proofs.Moved.{byte_moves}
 use Rattle.pp_play.proofs.playing.with_hand.Goals as goal
 
 pub returns-in-Fix-clause-comes : goal.returns-in-Fix-clause-comes
@@ -19,6 +21,36 @@ returns-in-Latch-clause-comes g c =
     let of = same _ _ (sym (ap cue_worker c.in-Latch.is) ∙ c.requires.cue) in
     subst (λ q. ComesTo c.args.vault.now q c.latch.result.1 c.latch.new.vault)
     (ap (λ w. cue.Latch w) (sym of) ∙ sym c.in-Latch.is) c.latch.ensures.comes
+
+pub returns-in-Unfix-clause-comes : goal.returns-in-Unfix-clause-comes
+returns-in-Unfix-clause-comes g c =
+    let of = same _ _ (sym (ap cue_worker c.in-Unfix.is) ∙ c.requires.cue) in
+    subst (λ q. ComesTo c.args.vault.now q c.unfix.result.1 c.unfix.new.vault)
+    (ap (λ w. cue.Unfix w) (sym of) ∙ sym c.in-Unfix.is) c.unfix.ensures.comes
+
+pub returns-in-Unlatch-clause-comes : goal.returns-in-Unlatch-clause-comes
+returns-in-Unlatch-clause-comes g c =
+    let of = same _ _ (sym (ap cue_worker c.in-Unlatch.is) ∙ c.requires.cue) in
+    subst (λ q. ComesTo c.args.vault.now q c.unlatch.result.1 c.unlatch.new.vault)
+    (ap (λ w. cue.Unlatch w) (sym of) ∙ sym c.in-Unlatch.is) c.unlatch.ensures.comes
+
+pub returns-in-Choose-clause-comes : goal.returns-in-Choose-clause-comes
+returns-in-Choose-clause-comes g c =
+    let of = same _ _ (sym (ap cue_worker c.in-Choose.is) ∙ c.requires.cue) in
+    subst (λ q. ComesTo c.args.vault.now q c.choose.result.1 c.choose.new.vault)
+    (ap (λ w. cue.Choose w c.in-Choose.branch) (sym of) ∙ sym c.in-Choose.is) c.choose.ensures.comes
+
+pub returns-in-Unwind-clause-comes : goal.returns-in-Unwind-clause-comes
+returns-in-Unwind-clause-comes g c =
+    let of = same _ _ (sym (ap cue_worker c.in-Unwind.is) ∙ c.requires.cue) in
+    subst (λ q. ComesTo c.args.vault.now q c.unwind.result.1 c.unwind.new.vault)
+    (ap (λ w. cue.Unwind w c.in-Unwind.slot) (sym of) ∙ sym c.in-Unwind.is) c.unwind.ensures.comes
+
+pub returns-in-Finish-clause-comes : goal.returns-in-Finish-clause-comes
+returns-in-Finish-clause-comes g c =
+    let of = same _ _ (sym (ap cue_worker c.in-Finish.is) ∙ c.requires.cue) in
+    subst (λ q. ComesTo c.args.vault.now q c.finish.result.1 c.finish.new.vault)
+    (ap (λ w. cue.Finish w) (sym of) ∙ sym c.in-Finish.is) c.finish.ensures.comes
 
 pub returns-in-Take-clause-plays : goal.returns-in-Take-clause-plays
 returns-in-Take-clause-plays g c fits =
@@ -200,3 +232,88 @@ returns-in-Look-clause-own g c =
     let of = same _ _ (sym (ap cue_worker c.in-Look.is) ∙ c.requires.cue) in
     subst (λ q. IsHandLine c.args.vault.now (Some c.args.hand) (Some c.look.result.0) q c.look.result.1)
     (ap (λ w. cue.Look w c.in-Look.slot) (sym of) ∙ sym c.in-Look.is) (c.look.ensures.own c.args.worker)
+
+pub returns-in-Take-clause-does : goal.returns-in-Take-clause-does
+returns-in-Take-clause-does g c fits none =
+    subst
+    (λ q. DoesWith g.D.Device.read_gives g.D.Device.write_leaves (hand_errand c.args.hand q) c.args.vault.now
+    c.args.hand c.args.device.now c.take.result.1 c.take.new.vault c.take.result.0 c.args.device.now)
+    (sym c.in-Take.is) (refl, c.take.ensures.moves)
+
+pub returns-in-Fix-clause-does : goal.returns-in-Fix-clause-does
+returns-in-Fix-clause-does g c fits none =
+    subst
+    (λ q. DoesWith g.D.Device.read_gives g.D.Device.write_leaves (hand_errand c.args.hand q) c.args.vault.now
+    c.args.hand c.args.device.now c.fix.result.1 c.fix.new.vault c.fix.result.0 c.args.device.now)
+    (sym c.in-Fix.is) (refl, c.fix.ensures.moves)
+
+pub returns-in-Unfix-clause-does : goal.returns-in-Unfix-clause-does
+returns-in-Unfix-clause-does g c fits none =
+    subst
+    (λ q. DoesWith g.D.Device.read_gives g.D.Device.write_leaves (hand_errand c.args.hand q) c.args.vault.now
+    c.args.hand c.args.device.now c.unfix.result.1 c.unfix.new.vault c.unfix.result.0 c.args.device.now)
+    (sym c.in-Unfix.is) (refl, c.unfix.ensures.moves)
+
+pub returns-in-Latch-clause-does : goal.returns-in-Latch-clause-does
+returns-in-Latch-clause-does g c fits none =
+    subst
+    (λ q. DoesWith g.D.Device.read_gives g.D.Device.write_leaves (hand_errand c.args.hand q) c.args.vault.now
+    c.args.hand c.args.device.now c.latch.result.1 c.latch.new.vault c.latch.result.0 c.args.device.now)
+    (sym c.in-Latch.is) (refl, c.latch.ensures.moves)
+
+pub returns-in-Unlatch-clause-does : goal.returns-in-Unlatch-clause-does
+returns-in-Unlatch-clause-does g c fits none =
+    subst
+    (λ q. DoesWith g.D.Device.read_gives g.D.Device.write_leaves (hand_errand c.args.hand q) c.args.vault.now
+    c.args.hand c.args.device.now c.unlatch.result.1 c.unlatch.new.vault c.unlatch.result.0 c.args.device.now)
+    (sym c.in-Unlatch.is) (refl, c.unlatch.ensures.moves)
+
+pub returns-in-Choose-clause-does : goal.returns-in-Choose-clause-does
+returns-in-Choose-clause-does g c fits none =
+    subst
+    (λ q. DoesWith g.D.Device.read_gives g.D.Device.write_leaves (hand_errand c.args.hand q) c.args.vault.now
+    c.args.hand c.args.device.now c.choose.result.1 c.choose.new.vault c.choose.result.0 c.args.device.now)
+    (sym c.in-Choose.is) (refl, c.choose.ensures.moves)
+
+pub returns-in-Unwind-clause-does : goal.returns-in-Unwind-clause-does
+returns-in-Unwind-clause-does g c fits none =
+    subst
+    (λ q. DoesWith g.D.Device.read_gives g.D.Device.write_leaves (hand_errand c.args.hand q) c.args.vault.now
+    c.args.hand c.args.device.now c.unwind.result.1 c.unwind.new.vault c.unwind.result.0 c.args.device.now)
+    (sym c.in-Unwind.is) (refl, c.unwind.ensures.moves)
+
+pub returns-in-Finish-clause-does : goal.returns-in-Finish-clause-does
+returns-in-Finish-clause-does g c fits none =
+    subst
+    (λ q. DoesWith g.D.Device.read_gives g.D.Device.write_leaves (hand_errand c.args.hand q) c.args.vault.now
+    c.args.hand c.args.device.now c.finish.result.1 c.finish.new.vault c.finish.result.0 c.args.device.now)
+    (sym c.in-Finish.is) (refl, c.finish.ensures.moves)
+
+pub returns-in-Device-clause-does : goal.returns-in-Device-clause-does
+returns-in-Device-clause-does g c fits none =
+    subst
+    (λ q. DoesWith g.D.Device.read_gives g.D.Device.write_leaves (hand_errand c.args.hand q) c.args.vault.now
+    c.args.hand c.args.device.now c.work.result.1 c.work.new.vault c.work.result.0 c.work.new.device)
+    (sym c.in-Device.is) (c.work.ensures.does fits none)
+
+pub returns-in-Write-clause-does : goal.returns-in-Write-clause-does
+returns-in-Write-clause-does g c fits none =
+    let asked = cue.Write c.args.worker c.in-Write.slot c.in-Write.byte in
+    let s = c.requires.kept.state in
+    let old = c.args.vault.now in
+    subst
+    (λ q. DoesWith g.D.Device.read_gives g.D.Device.write_leaves (hand_errand c.args.hand q) old c.args.hand
+    c.args.device.now c.write.result.1 old c.write.result.0 c.args.device.now)
+    (sym c.in-Write.is)
+    (refl, byte_moves old old c.args.hand c.write.result.0 asked c.write.result.1 s s refl (c.write.ensures.tells asked refl s))
+
+pub returns-in-Look-clause-does : goal.returns-in-Look-clause-does
+returns-in-Look-clause-does g c fits none =
+    let asked = cue.Look c.args.worker c.in-Look.slot in
+    let s = c.requires.kept.state in
+    let old = c.args.vault.now in
+    subst
+    (λ q. DoesWith g.D.Device.read_gives g.D.Device.write_leaves (hand_errand c.args.hand q) old c.args.hand
+    c.args.device.now c.look.result.1 old c.look.result.0 c.args.device.now)
+    (sym c.in-Look.is)
+    (refl, byte_moves old old c.args.hand c.look.result.0 asked c.look.result.1 s s refl (c.look.ensures.tells asked refl s))

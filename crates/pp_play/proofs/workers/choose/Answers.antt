@@ -13,6 +13,8 @@ use Rattle.pp_play.proofs.Seating.{choose_fits, choose_others, choose_refused}
 use Rattle.pp_play.proofs.Unfit.{choose_unfit}
 use Rattle.pp_play.proofs.Done.{done_comes}
 use Rattle.pp_play.proofs.Asked.{same, choose_done}
+use Rattle.pp_contents.specs.HandMoves.{chooses}
+use Rattle.pp_play.proofs.Moved.{did_moves, refused_moves}
 use Rattle.pp_play.proofs.workers.choose.Goals as goal
 
 pub returns-in-Ok-clause-comes : goal.returns-in-Ok-clause-comes
@@ -68,3 +70,18 @@ returns-in_default-clause-plays c fits =
     let w = c.args.worker in
     refused_plays old old (unmoved old) w c.args.hand c.args.hand (cue.Choose w c.args.branch) c.off_plan.result (OffPlan NotActing) refl
     c.off_plan.ensures (λ s st. choose_unfit old.page_bytes s w c.args.hand.stage c.in_default.not-In (fits s st).stage c.args.branch) fits
+
+pub returns-in-Ok-clause-moves : goal.returns-in-Ok-clause-moves
+returns-in-Ok-clause-moves c =
+    let old = c.args.vault.now in
+    let new = c.choose.new.self in
+    let w = c.args.worker in
+    let done = choose_done old new c.known.ensures.kept c.in-In.session.worker w (same _ _ (search rules)) c.args.branch
+    c.in-Ok.ensures.ok in
+    did_moves old new c.args.hand (record { stage = stage.In c.in-Ok.session; guards = c.args.hand.guards })
+    c.did.result done.some c.did.ensures
+    (chooses c.in-In.session c.in-Ok.session c.args.branch c.in-In.is c.in-Ok.ensures.ok c.in-Ok.ensures.images refl)
+
+pub returns-in_default-clause-moves : goal.returns-in_default-clause-moves
+returns-in_default-clause-moves c =
+    refused_moves c.args.vault.now c.args.vault.now c.args.hand c.args.hand _ _ c.off_plan.result c.off_plan.ensures

@@ -13,6 +13,8 @@ use Rattle.pp_play.proofs.Unfit.{finish_unfit}
 use Rattle.pp_script.specs.declared.cue.Cue.TheVariants as cue
 use Rattle.pp_play.proofs.Done.{done_comes}
 use Rattle.pp_play.proofs.Asked.{same, finish_done, end_done}
+use Rattle.pp_contents.specs.HandMoves.{finishes, ends}
+use Rattle.pp_play.proofs.Moved.{did_moves, refused_moves}
 use Rattle.pp_play.proofs.workers.finish.Goals as goal
 
 pub returns-in-Ok-clause-comes : goal.returns-in-Ok-clause-comes
@@ -111,3 +113,29 @@ returns-in_default-clause-plays c fits =
     let w = c.args.worker in
     refused_plays old old (unmoved old) w c.args.hand c.args.hand (cue.Finish w) c.off_plan.result (OffPlan NotActing) refl
     c.off_plan.ensures (λ s st. finish_unfit old.page_bytes s w c.args.hand.stage c.in_default.not-In c.in_default.not-Leaving (fits s st).stage) fits
+
+pub returns-in-Ok-clause-moves : goal.returns-in-Ok-clause-moves
+returns-in-Ok-clause-moves c =
+    let old = c.args.vault.now in
+    let new = c.finish.new.self in
+    let w = c.args.worker in
+    let done =
+    finish_done old new c.known.ensures.kept c.in-In.session.worker w (same _ _ (search rules)) c.in-Ok.ensures.ok in
+    did_moves old new c.args.hand (record { stage = stage.Idle c.in-Ok.chair; guards = c.args.hand.guards })
+    c.did.result done.some c.did.ensures
+    (finishes c.in-In.session c.in-Ok.chair c.in-In.is c.in-Ok.ensures.ok c.in-Ok.ensures.images refl)
+
+pub returns-in-Ok-end-clause-moves : goal.returns-in-Ok-end-clause-moves
+returns-in-Ok-end-clause-moves c =
+    let old = c.args.vault.now in
+    let new = c.end.new.self in
+    let w = c.args.worker in
+    let done =
+    end_done old new c.known.ensures.kept c.in-Leaving.leaver.worker w (same _ _ (search rules)) c.in-Ok-end.ensures.ok in
+    did_moves old new c.args.hand (record { stage = stage.Idle c.in-Ok-end.chair; guards = c.args.hand.guards })
+    c.did-in-Ok-end.result done.some c.did-in-Ok-end.ensures
+    (ends c.in-Leaving.leaver c.in-Ok-end.chair c.in-Leaving.is c.in-Ok-end.ensures.ok c.in-Ok-end.ensures.images refl)
+
+pub returns-in_default-clause-moves : goal.returns-in_default-clause-moves
+returns-in_default-clause-moves c =
+    refused_moves c.args.vault.now c.args.vault.now c.args.hand c.args.hand _ _ c.off_plan.result c.off_plan.ensures

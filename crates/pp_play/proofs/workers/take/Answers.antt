@@ -13,6 +13,8 @@ use Rattle.pp_play.proofs.Seating.{take_fits, take_others, take_refused}
 use Rattle.pp_play.proofs.Unfit.{take_unfit}
 use Rattle.pp_play.proofs.Done.{done_comes}
 use Rattle.pp_play.proofs.Asked.{same, take_done}
+use Rattle.pp_contents.specs.HandMoves.{takes}
+use Rattle.pp_play.proofs.Moved.{did_moves, refused_moves}
 use Rattle.pp_play.proofs.workers.take.Goals as goal
 
 pub returns-in-Ok-clause-comes : goal.returns-in-Ok-clause-comes
@@ -67,3 +69,17 @@ returns-in_default-clause-plays c fits =
     let w = c.args.worker in
     refused_plays old old (unmoved old) w c.args.hand c.args.hand (cue.Take w) c.off_plan.result (OffPlan NotIdle) refl
     c.off_plan.ensures (λ s st. take_unfit old.page_bytes s w c.args.hand.stage c.in_default.not-Idle (fits s st).stage) fits
+
+pub returns-in-Ok-clause-moves : goal.returns-in-Ok-clause-moves
+returns-in-Ok-clause-moves c =
+    let old = c.args.vault.now in
+    let new = c.take.new.self in
+    let w = c.args.worker in
+    let done = take_done old new c.known.ensures.kept c.in-Idle.chair.worker w (same _ _ (search rules)) c.in-Ok.ensures.ok in
+    did_moves old new c.args.hand (record { stage = stage.In c.in-Ok.session; guards = c.args.hand.guards })
+    c.did.result done.some c.did.ensures
+    (takes c.in-Idle.chair c.in-Ok.session c.in-Idle.is c.in-Ok.ensures.ok c.in-Ok.ensures.images refl)
+
+pub returns-in_default-clause-moves : goal.returns-in_default-clause-moves
+returns-in_default-clause-moves c =
+    refused_moves c.args.vault.now c.args.vault.now c.args.hand c.args.hand _ _ c.off_plan.result c.off_plan.ensures
