@@ -242,6 +242,8 @@ module _ {D : Type 0} (are : D → Bool) (reads : D → ℕ → List ℕ → Ans
             asked = step.asked;
             contents = step.contents;
             shown = shows_by Was Kept was s q line p.shown;
+            flusher = p.flusher;
+            length = p.length;
             agrees = agrees_by next t left now (kept e) step.same_e p.agrees;
             honest = step.still;
           };

@@ -34,6 +34,7 @@ pub mod Answered
 pub mod Moved
 pub mod Answers
 pub mod Contents
+pub mod Steady
 pub mod Overs
 pub mod OverScripts
 pub mod Honestly

@@ -49,7 +49,7 @@ use Rattle.pp_play.specs.Exact.{unless_out, refusal_to, IsLineOf, looker, guards
 use Rattle.pp_play.specs.Calling.{is_back, tells_answer}
 use Rattle.pp_play.specs.Doing.{cue_worker}
 use Rattle.pp_play.specs.Following.{errand_at, errand_in, flush_errand, errand_for, answer_move}
-use Rattle.pp_play.specs.Following.{CueFollows, ShowsFirst, Follows, PlaysOver}
+use Rattle.pp_play.specs.Following.{CueFollows, ShowsFirst, FlusherFollows, Follows, PlaysOver}
 use Rattle.pp_play.specs.Moving.{tells_move, MovesHand, hand_errand, DoesWith, EndsFlush, KeepsAll, PlaysFromAll}
 use Rattle.pp_play.proofs.AllHands.{part_fits}
 use Rattle.pp_play.proofs.Answers.{out_at, same_returned}
@@ -57,6 +57,7 @@ use Rattle.pp_play.proofs.Asked.{same}
 use Rattle.pp_play.proofs.Contents.{untold_keeps, unchanged, still_agrees, did_follows, refused_follows}
 use Rattle.pp_play.proofs.Contents.{did_shows, refused_shows, shown, written}
 use Rattle.pp_play.proofs.FlushHands.{flush_allowed}
+use Rattle.pp_play.proofs.Steady.{duty_steady, hand_steady, quiet_flusher, worker_flusher}
 use Rattle.pp_play.proofs.Unfit as unfit
 
 -- What the vault's calls leave of contents.
@@ -124,9 +125,9 @@ module _ {D : Type 0} (reads : D → ℕ → List ℕ → Answer → List ℕ �
 
   -- Of a cue that asks no device and changes no byte.
   kept_over : (q : Cue) (line : Line) → e ≡ d → Plays old hands q line new left → Tells s q line s → StandsFor new s
-      → untold new ≡ untold old → left ≡ hands → errand_for hands q ≡ None
+      → untold new ≡ untold old → left ≡ hands → errand_for hands q ≡ None → tells_move line ≡ false
       → ((c n : ℕ → List ℕ) → ContentsStay c n → CueFollows s q line c n) → ShowsFirst s q line Before → Over q line
-  kept_over q line device plays tells stands same hands_same none follows shows =
+  kept_over q line device plays tells stands same hands_same none not follows shows =
       let keeps = untold_keeps s hands told old new same agrees in
       let stay : ContentsStay Before (content new s left told) =
       subst (λ h. ContentsStay Before (content new s h told)) (sym hands_same) keeps.stay in (
@@ -140,6 +141,8 @@ module _ {D : Type 0} (reads : D → ℕ → List ℕ → Answer → List ℕ �
               subst (λ o. Follows reads writes o s q line d e told told Before (content new s left told)) (sym none)
               (device, refl, follows Before (content new s left told) stay);
           shown = shows;
+          flusher = quiet_flusher old s hands left (ap (λ (h : Hands). h.flushing) hands_same) q line not;
+          length = ap (λ (v : Parts). v.page_bytes) same;
           agrees = subst (λ h. Agrees new s h told) (sym hands_same) keeps.agrees;
         },
       )
@@ -164,6 +167,8 @@ module _ {D : Type 0} (reads : D → ℕ → List ℕ → Answer → List ℕ �
           stands = stands;
           follows = (device, refl, (did.page, did.held, λ page. next page ∙ did.sets page));
           shown = tt;
+          flusher = ap (λ (h : Hands). h.flushing) plays.leaves.1;
+          length = size;
           agrees = still_agrees s left told old new same did.agrees;
         },
       )
@@ -174,21 +179,21 @@ module _ {D : Type 0} (reads : D → ℕ → List ℕ → Answer → List ℕ �
   by_line q (Did m r) not device plays t tells stands = absurd (false≢true (sym not))
   by_line q (Refused asked why) not device plays t tells stands =
       kept_over q (Refused asked why) device plays (tells.0, refl) (subst (StandsFor new) tells.1 stands)
-      plays.leaves.0 plays.leaves.1 (refused_none old hands fits s st q why (plays.exact s st))
+      plays.leaves.0 plays.leaves.1 (refused_none old hands fits s st q why (plays.exact s st)) refl
       (refused_follows s q asked why) (refused_shows s q asked why Before)
   by_line (cue.Write w slot byte) Wrote not device plays t tells stands =
       wrote_over w slot byte device plays (tells.0, refl) (subst (StandsFor new) tells.1 stands)
   by_line (cue.Write w slot byte) NoLatch not device plays t tells stands =
       kept_over (cue.Write w slot byte) NoLatch device plays (tells.0, refl) (subst (StandsFor new) tells.1 stands)
-      plays.leaves.0 plays.leaves.1 refl (λ c n h. h) tt
+      plays.leaves.0 plays.leaves.1 refl refl (λ c n h. h) tt
   by_line (cue.Look w slot) (Looked byte) not device plays t tells stands =
       let seen = (plays.exact s st).2 in
       kept_over (cue.Look w slot) (Looked byte) device plays (tells.0, refl) (subst (StandsFor new) tells.1 stands)
-      plays.leaves.0 plays.leaves.1 refl (λ c n h. h)
+      plays.leaves.0 plays.leaves.1 refl refl (λ c n h. h)
       (shown old s st hands w slot fits told laws.seen seen.0 byte seen.1 seen.2)
   by_line (cue.Look w slot) NoLatch not device plays t tells stands =
       kept_over (cue.Look w slot) NoLatch device plays (tells.0, refl) (subst (StandsFor new) tells.1 stands)
-      plays.leaves.0 plays.leaves.1 refl (λ c n h. h) tt
+      plays.leaves.0 plays.leaves.1 refl refl (λ c n h. h) tt
   by_line q line not device plays t tells stands = absurd (plays.exact s st)
 
   pub quiet_over : (q : Cue) (line : Line) → tells_move line ≡ false → e ≡ d → Plays old hands q line new left
@@ -215,8 +220,9 @@ module _ {D : Type 0} (reads : D → ℕ → List ℕ → Answer → List ℕ �
 
   -- One that asks no device.
   pub moved_over : (q : Cue) (m : Move) (r : Reply) → e ≡ d → Plays old hands q (Did m r) new left
-      → errand_for hands q ≡ None → KeepsContents old s hands told new (next_of s m) left told → Over q (Did m r)
-  moved_over q m r device plays none keeps =
+      → errand_for hands q ≡ None → FlusherFollows old s hands q (Did m r) left → new.page_bytes ≡ old.page_bytes
+      → KeepsContents old s hands told new (next_of s m) left told → Over q (Did m r)
+  moved_over q m r device plays none flusher size keeps =
       let known = done q m r plays in
       let After = content new (next_of s m) left told in (
         next_of s m,
@@ -229,6 +235,8 @@ module _ {D : Type 0} (reads : D → ℕ → List ℕ → Answer → List ℕ �
               subst (λ o. Follows reads writes o s q (Did m r) d e told told Before After) (sym none)
               (device, refl, did_follows s q m r Before After keeps.stay);
           shown = did_shows s q m r Before;
+          flusher = flusher;
+          length = size;
           agrees = keeps.agrees;
         },
       )
@@ -237,11 +245,12 @@ module _ {D : Type 0} (reads : D → ℕ → List ℕ → Answer → List ℕ �
   pub asked_over : (q : Cue) (errand : Errand) (given : List ℕ) (answer : Answer) (r : Reply)
       → Plays old hands q (Did (answer_move errand.duty given answer) r) new left → errand_for hands q ≡ Some errand
       → CarriesOut reads writes errand.duty d errand.image answer given e
+      → FlusherFollows old s hands q (Did (answer_move errand.duty given answer) r) left → new.page_bytes ≡ old.page_bytes
       → AnswerFollows errand.duty answer given Before
       (content new (next_of s (answer_move errand.duty given answer)) left (told_after told errand.duty answer given))
       → Agrees new (next_of s (answer_move errand.duty given answer)) left (told_after told errand.duty answer given)
       → Over q (Did (answer_move errand.duty given answer) r)
-  asked_over q errand given answer r plays out made follows agree =
+  asked_over q errand given answer r plays out made flusher size follows agree =
       let m = answer_move errand.duty given answer in
       let now = told_after told errand.duty answer given in
       let known = done q m r plays in
@@ -256,6 +265,8 @@ module _ {D : Type 0} (reads : D → ℕ → List ℕ → Answer → List ℕ �
               subst (λ o. Follows reads writes o s q (Did m r) d e told now Before After) (sym out)
               (given, answer, r, made, refl, refl, follows);
           shown = did_shows s q m r Before;
+          flusher = flusher;
+          length = size;
           agrees = agree;
         },
       )
@@ -293,6 +304,7 @@ module _ {D : Type 0} (reads : D → ℕ → List ℕ → Answer → List ℕ �
       hand_over q (Did m r) of plays None none does =
           let known = done q m r plays in
           moved_over q m r does.0 plays (errand_of_hand q of ∙ none)
+          (worker_flusher old s hands left back.flushing q (Did m r) w of) (hand_steady old new hand now does.1.0)
           (laws.calls old new s hands left told w hand now m r at_start there does.1.0 back does.1.1 known.held agrees)
       hand_over q (Refused asked why) of plays None none does = quiet_over q (Refused asked why) refl does.0 plays
       hand_over q Wrote of plays None none does = quiet_over q Wrote refl does.0 plays
@@ -307,7 +319,8 @@ module _ {D : Type 0} (reads : D → ℕ → List ℕ → Answer → List ℕ �
           (stage_out q errand out) (gives_back errand.duty errand.image given answer made) moves back last known.held
           agrees in
           subst (λ l. Over q l) (sym is)
-          (asked_over q errand given answer r so (errand_of_hand q of ∙ out) made after.0 after.1)
+          (asked_over q errand given answer r so (errand_of_hand q of ∙ out) made
+          (worker_flusher old s hands left back.flushing q (Did m r) w of) (hand_steady old new _ now moves) after.0 after.1)
 
       pub worker_over : (q : Cue) (line : Line) → cue_worker q ≡ Some w → Plays old hands q line new left
           → (FitsIn old w hand → is_back hand.stage ≡ false
@@ -351,6 +364,7 @@ module _ {D : Type 0} (reads : D → ℕ → List ℕ → Answer → List ℕ �
       subst (λ f. FlushingFits old.page_bytes s f) out (fits s st).flushing in
       subst (λ l. Over cue.FlushDevice l) (sym line_so)
       (asked_over cue.FlushDevice errand given answer r so (ap flush_errand out) made
+      (ap (λ (h : Hands). h.flushing) ends.3) (duty_steady old new errand.duty given (is_ok answer) (Flushed ends.0.0) came)
       (flush_follows old.page_bytes errand.duty errand.image given answer Before _ away keeps.stay) keeps.agrees)
 
 -- ---- a flush that begins
@@ -360,6 +374,7 @@ module _ (laws : Laws) (old new : Parts) (hands left : Hands) (page : ℕ) where
   pub flush_kept : (asked : Cue) (why : Refusal) → Plays old hands (cue.Flush page) (Refused asked why) new left
       → (s : State) → StandsFor old s → (told : ℕ → List ℕ) → Agrees old s hands told
       → (t : State) × Tells s (cue.Flush page) (Refused asked why) t × StandsFor new t
+      × FlusherFollows old s hands (cue.Flush page) (Refused asked why) left × (new.page_bytes ≡ old.page_bytes)
       × KeepsContents old s hands told new t left told
   flush_kept asked why plays s st told agrees =
       let c = plays.comes s st in
@@ -367,6 +382,8 @@ module _ (laws : Laws) (old new : Parts) (hands left : Hands) (page : ℕ) where
         s,
         (c.1.0, refl),
         subst (StandsFor new) c.1.1 c.2,
+        ap (λ (h : Hands). h.flushing) plays.leaves.1,
+        ap (λ (v : Parts). v.page_bytes) plays.leaves.0,
         subst (λ h. KeepsContents old s hands told new s h told) (sym plays.leaves.1) keeps,
       )
 
@@ -376,6 +393,7 @@ module _ (laws : Laws) (old new : Parts) (hands left : Hands) (page : ℕ) where
       → new.last ≡ Some (m, r) → (fits : HandsFit old hands) → Plays old hands (cue.Flush page) (Did m r) new left
       → (s : State) → StandsFor old s → (told : ℕ → List ℕ) → Agrees old s hands told
       → (t : State) × Tells s (cue.Flush page) (Did m r) t × StandsFor new t
+      × FlusherFollows old s hands (cue.Flush page) (Did m r) left × (new.page_bytes ≡ old.page_bytes)
       × KeepsContents old s hands told new t left told
   flush_done errand m r none does copies is last fits plays s st told agrees =
       let c = plays.comes s st in
@@ -386,6 +404,8 @@ module _ (laws : Laws) (old new : Parts) (hands left : Hands) (page : ℕ) where
         next_of s m,
         (c.1.0, c.1.1, c.1.2, refl),
         stands,
+        (errand, ap (λ (h : Hands). h.flushing) is, copies.duty, copies.copy s st),
+        does.page_bytes,
         laws.flushes old new s hands left told page errand m r at_start none does copies is last held agrees,
       )
 
@@ -403,9 +423,11 @@ module _ (laws : Laws) (old new : Parts) (hands left : Hands) (page : ℕ) where
           plays = plays fits;
           tells = k.1;
           stands = k.2;
-          follows = (refl, refl, k.3.stay);
+          follows = (refl, refl, k.5.stay);
           shown = tt;
-          agrees = k.3.agrees;
+          flusher = k.3;
+          length = k.4;
+          agrees = k.5.agrees;
         },
       )
 
@@ -415,7 +437,7 @@ module _ (laws : Laws) (old new : Parts) (hands left : Hands) (page : ℕ) where
   pub flush_stays : (v : Parts) (h : Hands) (asked : Cue) (why : Refusal) → asked ≡ cue.Flush page
       → KeepsAll v h (cue.Flush page) (Refused asked why) v h
   flush_stays v h asked why same fits s st told agrees =
-      (s, (same, refl), st, untold_keeps s h told v v refl agrees)
+      (s, (same, refl), st, refl, refl, untold_keeps s h told v v refl agrees)
 
 -- Where no flush is in flight, its device isn't asked.
 pub flush_off : (v : Parts) (hands left : Hands) (line : Line) → HandsFit v hands → hands.flushing ≡ None

@@ -1,6 +1,6 @@
 -- A script over any device: what it is asked at each cue, and what the pages hold.
-use Rattle.std.specs.Prelude.{◌≡◌, ◌++◌, ℕ, ◌==◌, Option, None, Some, List, [], ◌∷◌, is_ok}
-use Rattle.std.specs.Prelude.{slice_get, slice_set, if◌then◌else◌}
+use Rattle.std.specs.Prelude.{◌≡◌, ◌++◌, ℕ, Option, None, Some, List, [], ◌∷◌, is_ok}
+use Rattle.std.specs.Prelude.{slice_get, slice_set}
 use Rattle.pp_cert.specs.declared.note.Held.{Held}
 use Rattle.pp_cert.specs.declared.note.Held.TheVariants.{X}
 use Rattle.pp_model.specs.declared.moves.Move.{Move}
@@ -21,6 +21,7 @@ use Rattle.pp_vault.specs.declared.hands.Flushing.TheVariants as flushing
 use Rattle.pp_vault.specs.declared.hands.Hands.{Hands}
 use Rattle.pp_vault.specs.Answers.{came_of}
 use Rattle.pp_vault.specs.Carrying.{CarriesOut}
+use Rattle.pp_vault.specs.Flushes.{IsImageOf}
 use Rattle.pp_contents.specs.Told.{told_after}
 use Rattle.pp_contents.specs.Content.{content, ContentsStay, ContentIsSet}
 use Rattle.pp_contents.specs.ContentLaws.{AnswerFollows}
@@ -30,7 +31,7 @@ use Rattle.pp_vault.specs.Holding.{placed}
 use Rattle.pp_vault.specs.Parts.{Parts}
 use Rattle.pp_vault.specs.StandsFor.{StandsFor}
 use Rattle.pp_script.specs.declared.cue.Cue.{Cue}
-use Rattle.pp_script.specs.declared.cue.Cue.TheVariants.{Device, FlushDevice, Write, Look}
+use Rattle.pp_script.specs.declared.cue.Cue.TheVariants.{Device, Flush, FlushDevice, Write, Look}
 use Rattle.pp_play.specs.declared.line.Line.{Line}
 use Rattle.pp_play.specs.declared.line.Line.TheVariants.{Did, Wrote, Looked}
 use Rattle.pp_play.specs.Plays.{Tells}
@@ -80,6 +81,17 @@ ShowsFirst s (Look w slot) (Looked byte) content =
     (page : ℕ) × (held : Held) × (held_of s w slot ≡ Some (page, held)) × (slice_get (content page) 0 ≡ Some byte)
 ShowsFirst s cue line content = Unit {0}
 
+-- ---- the flusher
+
+-- What a cue does with the flusher's errand. A flush that begins gives it the image in the frame of its page, to be written;
+-- one that is over takes the errand away. Every other cue leaves it, and so does a cue that isn't done.
+abbrev pub FlusherFollows : Parts → State → Hands → Cue → Line → (left : Hands) → Type 0
+FlusherFollows v s hands (Flush page) (Did m reply) left =
+    (errand : Errand) × (left.flushing ≡ Some (flushing.Out errand)) × (errand.duty ≡ duty.Flush page)
+    × IsImageOf v s page errand.image
+FlusherFollows v s hands FlushDevice (Did m reply) left = left.flushing ≡ None
+FlusherFollows v s hands cue line left = left.flushing ≡ hands.flushing
+
 -- ---- scripts
 
 -- What a cue does with a device, with what that told of each page, and with the contents. The errand, if there is one, is
@@ -108,6 +120,8 @@ module _ {D : Type 0} (reads : D → ℕ → List ℕ → Answer → List ℕ �
     pub follows : Follows reads writes (errand_for hands cue) s cue line d e told now (content v s hands told)
         (content next t left now)
     pub shown : ShowsFirst s cue line (content v s hands told)
+    pub flusher : FlusherFollows v s hands cue line left
+    pub length : next.page_bytes ≡ v.page_bytes
     pub agrees : Agrees next t left now
 
   -- Each cue in its turn, a line for each.

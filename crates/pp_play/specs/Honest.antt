@@ -17,7 +17,7 @@ use Rattle.pp_play.specs.declared.line.Line.{Line}
 use Rattle.pp_play.specs.declared.line.Line.TheVariants.{Did}
 use Rattle.pp_play.specs.Plays.{Tells}
 use Rattle.pp_play.specs.Exact.{Plays}
-use Rattle.pp_play.specs.Following.{errand_for, answer_move, CueFollows, ShowsFirst}
+use Rattle.pp_play.specs.Following.{errand_for, answer_move, CueFollows, ShowsFirst, FlusherFollows}
 
 -- The errand, if there is one, is carried out by one call of the device, and exactly what it answered is the move that is
 -- done. Without one the device is as it was.
@@ -41,6 +41,8 @@ module _ {D : Type 0} (are : D → Bool) (reads : D → ℕ → List ℕ → Ans
     pub asked : IsAsked reads writes (errand_for hands cue) d line e
     pub contents : CueFollows s cue line (content v s hands (kept d)) (content next t left (kept e))
     pub shown : ShowsFirst s cue line (content v s hands (kept d))
+    pub flusher : FlusherFollows v s hands cue line left
+    pub length : next.page_bytes ≡ v.page_bytes
     pub agrees : Agrees next t left (kept e)
     pub honest : are e ≡ true
 

@@ -28,7 +28,7 @@ use Rattle.pp_script.specs.declared.cue.Cue.TheVariants.{Device}
 use Rattle.pp_play.specs.declared.line.Line.{Line}
 use Rattle.pp_play.specs.declared.line.Line.TheVariants.{Did}
 use Rattle.pp_play.specs.Plays.{Tells}
-use Rattle.pp_play.specs.Following.{errand_at, answer_move, PlaysOver}
+use Rattle.pp_play.specs.Following.{errand_at, answer_move, FlusherFollows, PlaysOver}
 
 -- ---- one hand
 
@@ -88,12 +88,13 @@ EndsFlush old returned hands line new left = Unit {0}
 
 -- ---- all hands
 
--- A cue that asks no device keeps all contents, from each state where the vault and the hands agree with what a device
--- told.
+-- A cue that asks no device keeps all contents and the length of a page, from each state where the vault and the hands
+-- agree with what a device told.
 abbrev pub KeepsAll : (old : Parts) → Hands → Cue → Line → (new : Parts) → (left : Hands) → Type 0
 KeepsAll old hands cue line new left =
     HandsFit old hands → (s : State) → StandsFor old s → (told : ℕ → List ℕ) → Agrees old s hands told
-    → (t : State) × Tells s cue line t × StandsFor new t × KeepsContents old s hands told new t left told
+    → (t : State) × Tells s cue line t × StandsFor new t × FlusherFollows old s hands cue line left
+    × (new.page_bytes ≡ old.page_bytes) × KeepsContents old s hands told new t left told
 
 -- A cue is played over a device, from each such state.
 abbrev pub PlaysFromAll : {D : Type 0} → (D → ℕ → List ℕ → Answer → List ℕ → D → Type 0)

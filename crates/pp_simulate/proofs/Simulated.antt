@@ -35,12 +35,13 @@ all_new before lines told begun is = sym (is ∙ ap (λ xs. xs ++ told) begun)
 pub simulated : (c : Configuration) (plans : List Acceptance) (script : Scenario) (told : List ℕ)
     (between after : Parts) (hands left : Hands) (device : Troubled Disk) (cues : List Cue) (before lines : List Line)
     → EmptyAgree → TakesAll (after_submits (opening (kept_of c)) plans) between (Ok tt) → HandsFit between hands
+    → between.page_bytes ≡ c.page_bytes
     → before ≡ [] → cues ≡ script.cues
     → PlaysOverDevice (TroubledReads DiskReads) (TroubledWrites DiskWrites) between hands (device_for c script) cues
     before lines after left device
     → ((s : State) → StandsFor after s → told ≡ transcript (length plans) cues lines s)
     → Simulates c plans script told
-simulated c plans script told between after hands left device cues before lines empty takes fits begun same follows text =
+simulated c plans script told between after hands left device cues before lines empty takes fits size begun same follows text =
     let taken = all_taken (after_submits (opening (kept_of c)) plans) between takes in
     let agrees = begun_agrees (kept_of c) plans taken.0 between hands (formatted c) empty taken.1 taken.2 fits in
     let w = follows fits taken.0 taken.2 (formatted c) agrees in
@@ -70,6 +71,7 @@ simulated c plans script told between after hands left device cues before lines 
             told = w.2;
             stands = taken.2;
             fits = fits;
+            length = size;
             agrees = agrees;
             plays = played;
             ends = w.5;

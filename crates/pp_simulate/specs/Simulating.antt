@@ -34,8 +34,7 @@ abbrev pub TellsSubmit : Result State SubmitError → SimulateError → Type 0
 TellsSubmit submits (Submit error) = submits ≡ Err error
 TellsSubmit submits OutOfMemory = ⊤
 
--- A device in memory that was just formatted, behind the script's troubles. It keeps of each page its number, the stamp
--- 0, and a body of zeros.
+-- A device in memory that was just formatted, behind the script's troubles.
 abbrev pub device_for : Configuration → Scenario → Troubled Disk
 device_for c script =
     record {
@@ -45,10 +44,11 @@ device_for c script =
       failures = 0;
     }
 
+-- What that device keeps of each page: its number, the stamp 0, and a body of zeros.
 abbrev pub formatted : Configuration → ℕ → List ℕ
 formatted c page = image_of (new_disk (page_count (geometry_of c)) c.page_bytes) page
 
--- A vault that stands for the one state, with hands that fit it, plays the cues over that device to these lines, and then
+-- A vault that stands for the one state, with hands that fit it and pages of the settings' length, plays the cues over that device to these lines, and then
 -- stands for the other state. So each call of the device is that of a cue, what it answered is told, and the bytes that
 -- are looked at are those of the contents, which go by what was written and read.
 pub record IsPlayed (c : Configuration) (script : Scenario) (s : State) (lines : List Line) (t : State) : Type 0 where
@@ -60,6 +60,7 @@ pub record IsPlayed (c : Configuration) (script : Scenario) (s : State) (lines :
   pub told : ℕ → List ℕ
   pub stands : StandsFor vault s
   pub fits : HandsFit vault hands
+  pub length : vault.page_bytes ≡ c.page_bytes
   pub agrees : Agrees vault s hands (formatted c)
   pub plays :
       AllOver (TroubledReads DiskReads) (TroubledWrites DiskWrites) vault s hands (device_for c script) (formatted c)

@@ -57,6 +57,7 @@ fn play_in(
 ) -> Result<String, SimulateError>
     requires opens { StandsFor vault.old (opening (kept_of settings.now)) }
     requires fit { HandsFit vault.old hands.old }
+    requires length { vault.old.page_bytes ≡ settings.now.page_bytes }
     ensures ok { IfOk result (λ text. Simulates settings.now plans.items script (string_bytes text)) }
     ensures err { IfErr result (TellsSubmit (after_submits (opening (kept_of settings.now)) plans.items)) }
 {
@@ -75,6 +76,7 @@ fn play_in(
 fn submit_all(vault: &mut Vault, plans: Vec<Accepted>) -> Result<(), SubmitError>
     ensures takes { (s : State) → StandsFor vault.old s → TakesAll (after_submits s plans.items) vault.new result }
     ensures fit { (h : hands.Hands) → HandsFit vault.old h → HandsFit vault.new h }
+    ensures length { vault.new.page_bytes ≡ vault.old.page_bytes }
 {
     vault.known();
     hands_still_fit();

@@ -11,6 +11,7 @@ use Rattle.pp_vault.specs.StandsFor.{StandsFor}
 use Rattle.pp_contents.specs.ContentLaws.{KeepsContents}
 use Rattle.pp_play.specs.Exact.{Plays}
 use Rattle.pp_play.specs.Plays.{Tells}
+use Rattle.pp_play.specs.Following.{FlusherFollows}
 use Rattle.pp_play.proofs.Moved.{did_so}
 use Rattle.pp_play.proofs.Overs.{Laws, flush_kept, flush_done, flush_stays}
 use Rattle.pp_play.proofs.devices.flush.Goals as goal
@@ -71,7 +72,8 @@ returns-in-Ok-clause-contents c fits s st told agrees =
       seen = c.contents_are_kept.ensures.seen;
     } in
     subst
-    (λ l. (t : State) × Tells s (cue.Flush page) l t × StandsFor new t × KeepsContents old s hands told new t left told)
+    (λ l. (t : State) × Tells s (cue.Flush page) l t × StandsFor new t × FlusherFollows old s hands (cue.Flush page) l left
+    × (new.page_bytes ≡ old.page_bytes) × KeepsContents old s hands told new t left told)
     (sym d.line_is)
     (flush_done contents old new hands left page c.in-Ok.errand d.m d.reply none c.in-Ok.ensures.ok
     c.in-Ok.ensures.copied c.put_flushing.ensures d.last_is fits

@@ -17,7 +17,7 @@ returns-clause-ok c =
     simulated settings c.args.plans.items script (string_bytes c.in_ok-transcript.field-0) c.submit_all.new.vault
     c.play.new.vault c.args.hands.now c.play.new.hands c.play.new.device c.deref.result.now c.new-lines.result.items c.play.new.lines.items
     c.contents_are_kept.ensures.empty (c.in_ok-submit_all.ensures.takes (opening (kept_of settings)) c.requires.opens)
-    (c.submit_all.ensures.fit c.args.hands.now c.requires.fit) c.new-lines.ensures.items
+    (c.submit_all.ensures.fit c.args.hands.now c.requires.fit) (c.submit_all.ensures.length ∙ c.requires.length) c.new-lines.ensures.items
     (c.deref.ensures.value ∙ c.into_parts-cues.ensures.cues)
     (subst
     (λ d. PlaysOverDevice (TroubledReads DiskReads) (TroubledWrites DiskWrites) c.submit_all.new.vault c.args.hands.now d

@@ -1,6 +1,7 @@
 use Rattle.std.proofs.Common.{sym, ap, subst, ◌∙◌}
 use Rattle.pp_model.specs.Submitting.{after_submit, after_submits}
 use Rattle.pp_vault.specs.Hands.{HandsFit}
+use Rattle.pp_vault.specs.Parts.{Parts}
 use Rattle.pp_simulate.proofs.Submits.{last_first, taken_next}
 use Rattle.pp_simulate.proofs.simulation.submit_all.Goals as goal
 
@@ -21,6 +22,7 @@ loop-plan-preserved c =
       fit = λ h fits.
           c.hands_still_fit.ensures.submits _ _ _ _ c.loop-plan.invariant.kept taken h
           (c.loop-plan.invariant.fit h fits);
+      length = ap (λ (v : Parts). v.page_bytes) taken.rest ∙ c.loop-plan.invariant.length;
     }
 
 pub returns-in-Err-clause-fit : goal.returns-in-Err-clause-fit

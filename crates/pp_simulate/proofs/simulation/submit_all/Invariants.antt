@@ -13,6 +13,7 @@ invariant-loop-plan l = record {
       × (after_submits s l.fn.plans.items ≡ after_submits t (reverse l.waiting.items));
   kept : IsKept l.vault;
   fit : (h : Hands) → HandsFit l.fn.vault h → HandsFit l.vault h;
+  length : l.vault.page_bytes ≡ l.fn.vault.page_bytes;
 }
 
 abbrev pub decreases-loop-plan : goal.decreases-loop-plan
