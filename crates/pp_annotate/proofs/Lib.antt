@@ -7,4 +7,5 @@ pub mod Faults
 pub mod Reached
 pub mod Tight
 pub mod Writable
+pub mod Small
 pub mod Same

@@ -1,30 +1,45 @@
 -- A note with one entry put in, taken out or changed, as a vector has it.
-use Rattle.std.proofs.Common.{◌≡◌, ℕ, ◌<◌, Some, length, get_or, set, refl, sym, ◌∙◌, add-one}
+use Rattle.std.proofs.Common.{◌≡◌, ℕ, ◌<◌, Some, None, true, false, cond, [], ◌∷◌, ◌++◌, length, get_or, take, drop}
+use Rattle.std.proofs.Common.{set, refl, sym, ap, ◌∙◌, add-one}
 use Rattle.std.proofs.lemmas.List.{set_split}
-use Rattle.std.specs.Prelude.{position, ◌==◌}
-use Rattle.std.specs.List.{remove}
+use Rattle.std.specs.Prelude.{position, nat_lt, not, if◌then◌else◌}
+use Rattle.std.specs.List.{filter}
 use Rattle.pp_cert.specs.declared.note.Entry.{Entry}
 use Rattle.pp_cert.specs.declared.note.Held.{Held}
-use Rattle.pp_cert.specs.Slots.{slot_remove}
-use Rattle.pp_cert.specs.Notes.{Entries, entry_slot, noted_as}
-use Rattle.pp_cert.proofs.Splices.{insert_at, insert_last, insert_within, slot_within, remove_at, remove_absent}
-use Rattle.pp_cert.proofs.Splices.{update_at, update_absent}
+use Rattle.pp_cert.specs.Slots.{slot_insert}
+use Rattle.pp_cert.specs.Notes.{Entries, entry_slot, is_slot, entry_as, noted_as, without_page}
+use Rattle.pp_cert.proofs.Splices.{insert_at, insert_last, insert_within, slot_within, update_at, update_absent}
 
-pub ruleset inserts = (insert_at, insert_last, insert_within)
+pub inserted_at : (e : Entry) (ys : Entries) (i : ℕ)
+    → position (λ y. nat_lt (entry_slot e) (entry_slot y)) ys ≡ Some i
+    → slot_insert entry_slot e ys ≡ take i ys ++ (e ∷ drop i ys)
+inserted_at e ys i h = insert_at e (entry_slot e) ys i refl h
 
-pub removed_at : (s : ℕ) (ys : Entries) (i : ℕ) → position (λ y. entry_slot y == s) ys ≡ Some i
-    → slot_remove entry_slot s ys ≡ remove ys i
-removed_at s ys i h = remove_at s ys i h ∙ rw add-one refl
+pub inserted_last : (e : Entry) (ys : Entries) → position (λ y. nat_lt (entry_slot e) (entry_slot y)) ys ≡ None
+    → slot_insert entry_slot e ys ≡ ys ++ (e ∷ [])
+inserted_last e ys h = insert_last e (entry_slot e) ys refl h
 
-pub ruleset removes = (removed_at, remove_absent, slot_within)
+pub inserted_within : (e : Entry) (ys : Entries) (i : ℕ)
+    → position (λ y. nat_lt (entry_slot e) (entry_slot y)) ys ≡ Some i → i < length ys
+inserted_within e ys i h = insert_within (entry_slot e) ys i h
 
-pub updated_at : (held : Held) (s : ℕ) (ys : Entries) (i : ℕ) (d : Entry)
-    → position (λ y. entry_slot y == s) ys ≡ Some i
-    → noted_as held s ys
-    ≡ set ys i (record { slot = (get_or ys i d).slot; region = (get_or ys i d).region; held = held })
+pub ruleset inserts = (inserted_at, inserted_last, inserted_within)
+
+-- what is kept is all but the slot's page
+pub filter_is : (s : ℕ) (n : Entries) → filter (λ e. not (is_slot s e)) n ≡ without_page s n
+filter_is s [] = refl
+filter_is s (y ∷ n) =
+    elim (is_slot s y)
+    as (λ b. cond (not b) (y ∷ filter (λ e. not (is_slot s e)) n) (filter (λ e. not (is_slot s e)) n)
+    ≡ (if b then without_page s n else y ∷ without_page s n)) [
+      | true ↦ filter_is s n
+      | false ↦ ap (λ xs. y ∷ xs) (filter_is s n)
+    ]
+
+pub updated_at : (held : Held) (s : ℕ) (ys : Entries) (i : ℕ) (d : Entry) → position (is_slot s) ys ≡ Some i
+    → noted_as held s ys ≡ set ys i (entry_as held (get_or ys i d))
 updated_at held s ys i d h =
-    let e : Entry = record { slot = (get_or ys i d).slot; region = (get_or ys i d).region; held = held } in
     let within : i < length ys = slot_within s ys i h in
-    update_at held s ys i d h ∙ rw add-one (sym (set_split ys i e within))
+    update_at held s ys i d h ∙ rw add-one (sym (set_split ys i (entry_as held (get_or ys i d)) within))
 
 pub ruleset updates = (updated_at, update_absent, slot_within)

@@ -11,6 +11,7 @@ use Rattle.pp_cert.specs.Walk.{Certifies}
 use Rattle.pp_cert.specs.Longest.{sequence_longest, IsLongest}
 use Rattle.pp_annotate.specs.Made.{sequence_notes, made}
 use Rattle.pp_annotate.specs.Annotation.{IsTight}
+use Rattle.pp_cert.proofs.Fits.{fits_nothing}
 use Rattle.pp_cert.proofs.Passing.{all_pass}
 use Rattle.pp_annotate.proofs.Least.{counted_whole}
 use Rattle.pp_annotate.proofs.Reached.{AllReached, body_reached, greatest_reached}
@@ -26,7 +27,7 @@ tight_here p plan h longest =
     let g : Geometry = p.layout in
     let all : AllReached g plan.layout (made p) (length p.slots) p.body ([] ∷ sequence_notes p.body []) =
     body_reached g plan.layout (made p) (length p.slots) p.body 0 p.body [] refl is.first.2 is.walk plan.body.parts
-    [] ([], refl, tt) (whole g p.body) in
+    [] ([], refl, fits_nothing g) (whole g p.body) in
     record {
       peak = greatest_reached g plan.layout (made p) (length p.slots) p.body [] (sequence_notes p.body []) all;
       steps =

@@ -1,7 +1,7 @@
 -- What is made of a plan can be written as a text, where it is accepted.
 use Rattle.std.proofs.Common.{◌≡◌, ℕ, ◌+◌, ◌<◌, ◌≤◌, true, false, cond, Some, None, List, [], ◌∷◌, ◌++◌, length, refl}
 use Rattle.std.proofs.Common.{sym, ap, subst, ◌∙◌, arith}
-use Rattle.std.specs.Prelude.{◌==◌, nat_lt, is_some, if◌then◌else◌, option_map, find, All}
+use Rattle.std.specs.Prelude.{◌==◌, nat_lt, is_some, if◌then◌else◌, option_map, All}
 use Rattle.std.proofs.lemmas.Bool.{not-true, ltb-true}
 use Rattle.std.proofs.lemmas.Bool.Decides.{nat_tests}
 use Rattle.std.proofs.lemmas.List.{length-map}
@@ -16,10 +16,12 @@ use Rattle.pp_plan.specs.Terms.{Terms, IsPlan}
 use Rattle.pp_cert.specs.declared.note.Held.{Held}
 use Rattle.pp_cert.specs.declared.note.Held.TheVariants.{Free}
 use Rattle.pp_cert.specs.declared.note.Entry.{Entry}
+use Rattle.pp_cert.specs.declared.note.Entry.TheVariants.{Slot, Bundle}
 use Rattle.pp_cert.specs.Claims.{IsEntry, IsNote, AreClaims}
-use Rattle.pp_cert.specs.Slots.{slot_insert, slot_remove}
+use Rattle.pp_cert.specs.Slots.{slot_insert}
 use Rattle.pp_cert.specs.Held.{held_in}
-use Rattle.pp_cert.specs.Notes.{Entries, entry_slot, noted_at, noted_as, noted_after}
+use Rattle.pp_cert.specs.Notes.{Entries, entry_slot, entry_held, is_slot, entry_at, noted_at, noted_as, without_page}
+use Rattle.pp_cert.specs.Notes.{noted_after}
 use Rattle.pp_cert.specs.Walk.{Claims, note_at, same, outcome, slot_unused, loop_keeps, branch_agrees, first_fault}
 use Rattle.pp_cert.specs.Walk.{note_tests, step_tests, statement_tests, sequence_tests, later_tests, statement_end}
 use Rattle.pp_cert.specs.Walk.{sequence_end, Certifies}
@@ -34,14 +36,19 @@ use Rattle.pp_annotate.proofs.Written.{statement_written}
 -- ---- notes whose slots rise
 
 module _ (slots regions : ℕ) where
+  -- an entry of a page whose region is one of the settings'; no note has a bundle
+  abbrev IsKnown : Entry → Type 0
+  IsKnown (Slot s r h) = r < regions
+  IsKnown (Bundle s k) = ⊥
+
   -- the slots rise from `low` on and are below `slots`, and the regions are below `regions`
   abbrev pub Rises : ℕ → Entries → Type 0
   Rises low [] = low ≤ slots
-  Rises low (e ∷ es) = (low ≤ e.slot) × (e.region < regions) × Rises (e.slot + 1) es
+  Rises low (e ∷ es) = (low ≤ entry_slot e) × IsKnown e × Rises (entry_slot e + 1) es
 
   pub rises_size : (low : ℕ) (n : Entries) → Rises low n → low + length n ≤ slots
   rises_size low [] r = omega (arith, r)
-  rises_size low (e ∷ es) r = omega (arith, r.0, rises_size (e.slot + 1) es r.2)
+  rises_size low (e ∷ es) r = omega (arith, r.0, rises_size (entry_slot e + 1) es r.2)
 
   rises_lower : (low lower : ℕ) (n : Entries) → lower ≤ low → Rises low n → Rises lower n
   rises_lower low lower [] h r = omega (arith, h, r)
@@ -51,46 +58,47 @@ module _ (slots regions : ℕ) where
   another m s a b = grind (arith, nat_tests)
 
   -- a slot that isn't noted is neither the first one nor noted further on
-  not_first : (y : Entry) (ys : Entries) (s : ℕ) → is_some (noted_at (y ∷ ys) s) ≡ false → ((y.slot == s) ≡ false)
-      × (is_some (noted_at ys s) ≡ false)
-  not_first y ys s =
-      elim (y.slot == s) as (λ b. is_some
-      (option_map (λ e. e.held) (cond b (Some y) (find (λ e. entry_slot e == s) ys))) ≡ false → (b ≡ false)
-      × (is_some (noted_at ys s) ≡ false)) [
-        | true ↦ λ h. absurd (cc)
-        | false ↦ λ h. (refl, h)
+  not_first : (y : Entry) (ys : Entries) (s : ℕ) → IsKnown y → is_some (noted_at (y ∷ ys) s) ≡ false
+      → ((entry_slot y == s) ≡ false) × (is_some (noted_at ys s) ≡ false)
+  not_first (Bundle t k) ys s known = absurd known
+  not_first (Slot t r h) ys s known =
+      elim (t == s) as (λ b. is_some (option_map entry_held (cond b (Some (Slot t r h)) (entry_at ys s))) ≡ false
+      → (b ≡ false) × (is_some (noted_at ys s) ≡ false)) [
+        | true ↦ λ i. absurd (cc)
+        | false ↦ λ i. (refl, i)
       ]
 
-  rises_insert : (low : ℕ) (n : Entries) (e : Entry) → low ≤ e.slot → e.slot < slots → e.region < regions
-      → is_some (noted_at n e.slot) ≡ false → Rises low n → Rises low (slot_insert entry_slot e n)
-  rises_insert low [] e at within region unused r = (at, region, omega (arith, within))
-  rises_insert low (y ∷ ys) e at within region unused r =
-      let apart = not_first y ys e.slot unused in
-      elim (nat_lt e.slot y.slot) as (λ b. nat_lt e.slot y.slot ≡ b
-      → Rises low (if b then e ∷ y ∷ ys else y ∷ slot_insert entry_slot e ys)) [
-        | true ↦ λ t. (at, region, (omega (arith, ltb-true e.slot y.slot t), r.1, r.2))
+  rises_insert : (low : ℕ) (n : Entries) (s r : ℕ) (h : Held) → low ≤ s → s < slots → r < regions
+      → is_some (noted_at n s) ≡ false → Rises low n → Rises low (slot_insert entry_slot (Slot s r h) n)
+  rises_insert low [] s r h at within region unused rises = (at, region, omega (arith, within))
+  rises_insert low (y ∷ ys) s r h at within region unused rises =
+      let apart = not_first y ys s rises.1 unused in
+      elim (nat_lt s (entry_slot y)) as (λ b. nat_lt s (entry_slot y) ≡ b
+      → Rises low (if b then Slot s r h ∷ y ∷ ys else y ∷ slot_insert entry_slot (Slot s r h) ys)) [
+        | true ↦ λ t. (at, region, (omega (arith, ltb-true s (entry_slot y) t), rises.1, rises.2))
         | false ↦ λ t. (
-          r.0,
-          r.1,
-          rises_insert (y.slot + 1) ys e (another y.slot e.slot apart.0 t) within region apart.1 r.2,
+          rises.0,
+          rises.1,
+          rises_insert (entry_slot y + 1) ys s r h (another (entry_slot y) s apart.0 t) within region apart.1 rises.2,
         )
       ] refl
 
-  rises_remove : (low s : ℕ) (n : Entries) → Rises low n → Rises low (slot_remove entry_slot s n)
+  rises_remove : (low s : ℕ) (n : Entries) → Rises low n → Rises low (without_page s n)
   rises_remove low s [] r = r
   rises_remove low s (y ∷ ys) r =
-      elim (y.slot == s) as (λ b. Rises low (if b then ys else y ∷ slot_remove entry_slot s ys)) [
-        | true ↦ rises_lower (y.slot + 1) low ys (omega (arith, r.0)) r.2
-        | false ↦ (r.0, r.1, rises_remove (y.slot + 1) s ys r.2)
+      let rest = rises_remove (entry_slot y + 1) s ys r.2 in
+      elim (is_slot s y) as (λ b. Rises low (if b then without_page s ys else y ∷ without_page s ys)) [
+        | true ↦ rises_lower (entry_slot y + 1) low (without_page s ys) (omega (arith, r.0)) rest
+        | false ↦ (r.0, r.1, rest)
       ]
 
   rises_held_as : (low : ℕ) (held : Held) (s : ℕ) (n : Entries) → Rises low n → Rises low (noted_as held s n)
   rises_held_as low held s [] r = r
-  rises_held_as low held s (y ∷ ys) r =
-      elim (y.slot == s) as (λ b. Rises low
-      (if b then record { slot = y.slot; region = y.region; held = held } ∷ ys else y ∷ noted_as held s ys)) [
+  rises_held_as low held s (Bundle t k ∷ ys) r = absurd r.1
+  rises_held_as low held s (Slot t q h ∷ ys) r =
+      elim (t == s) as (λ b. Rises low (if b then Slot t q held ∷ ys else Slot t q h ∷ noted_as held s ys)) [
         | true ↦ (r.0, r.1, r.2)
-        | false ↦ (r.0, r.1, rises_held_as (y.slot + 1) held s ys r.2)
+        | false ↦ (r.0, r.1, rises_held_as (t + 1) held s ys r.2)
       ]
 
   module _ (g : Geometry) (c : Claims) where
@@ -98,7 +106,7 @@ module _ (slots regions : ℕ) where
         → Rises 0 (note_at c k) → Rises 0 (noted_after s (note_at c k))
     step_rises k (fix s r) h is n =
         let p = first_passes g c (slot_unused k s) [] h in
-        rises_insert 0 (note_at c k) (record { slot = s; region = r; held = Free }) (omega arith) is.0 is.1
+        rises_insert 0 (note_at c k) s r Free (omega arith) is.0 is.1
         (not-true (is_some (noted_at (note_at c k) s)) p.0) n
     step_rises k (unfix s) h is n = rises_remove 0 s (note_at c k) n
     step_rises k (latch s m) h is n = rises_held_as 0 (held_in m) s (note_at c k) n
@@ -174,30 +182,31 @@ module _ (slots regions : ℕ) where
 
 -- ---- such a note is in form
 
-rises_above : (slots regions low : ℕ) (n : Entries) → Rises slots regions low n → All (λ e. low ≤ e.slot) n
-rises_above slots regions low [] r = All-nil (λ e. low ≤ e.slot)
+rises_above : (slots regions low : ℕ) (n : Entries) → Rises slots regions low n → All (λ e. low ≤ entry_slot e) n
+rises_above slots regions low [] r = All-nil (λ e. low ≤ entry_slot e)
 rises_above slots regions low (e ∷ es) r =
-    All-cons (λ d. low ≤ d.slot) e es r.0
-    (All-weaker (λ d. e.slot + 1 ≤ d.slot) (λ d. low ≤ d.slot) (λ d h. omega (arith, h, r.0)) es
-    (rises_above slots regions (e.slot + 1) es r.2))
+    All-cons (λ d. low ≤ entry_slot d) e es r.0
+    (All-weaker (λ d. entry_slot e + 1 ≤ entry_slot d) (λ d. low ≤ entry_slot d) (λ d h. omega (arith, h, r.0)) es
+    (rises_above slots regions (entry_slot e + 1) es r.2))
+
+is_entry : (c : Configuration) (p : Terms) (e : Entry) → entry_slot e < length p.slots
+    → IsKnown (length p.slots) (length c.regions) e → IsEntry c p e
+is_entry c p (Slot s r h) within known = record { slot = within; region = known; plain = refl }
+is_entry c p (Bundle s k) within known = absurd known
 
 is_note : (c : Configuration) (p : Terms) (low : ℕ) (n : Entries) → Rises (length p.slots) (length c.regions) low n
     → IsNote c p n
 is_note c p low [] r = record { entries = All-nil (IsEntry c p); rising = λ i j d h l. absurd (omega (arith, l)) }
 is_note c p low (e ∷ es) r =
-    let rest = is_note c p (e.slot + 1) es r.2 in
-    let here : IsEntry c p e =
+    let rest = is_note c p (entry_slot e + 1) es r.2 in
+    let within : entry_slot e < length p.slots =
+    omega (arith, rises_size (length p.slots) (length c.regions) (entry_slot e + 1) es r.2) in
+    let above : All (λ d. entry_slot e < entry_slot d) es =
+    All-weaker (λ d. entry_slot e + 1 ≤ entry_slot d) (λ d. entry_slot e < entry_slot d) (λ d h. omega (arith, h)) es
+    (rises_above (length p.slots) (length c.regions) (entry_slot e + 1) es r.2) in
     record {
-      slot = omega (arith, rises_size (length p.slots) (length c.regions) (e.slot + 1) es r.2);
-      region =
-          r.1;
-    } in
-    let above : All (λ d. e.slot < d.slot) es =
-    All-weaker (λ d. e.slot + 1 ≤ d.slot) (λ d. e.slot < d.slot) (λ d h. omega (arith, h)) es
-    (rises_above (length p.slots) (length c.regions) (e.slot + 1) es r.2) in
-    record {
-      entries = All-cons (IsEntry c p) e es here rest.entries;
-      rising = AllPairs-cons (λ d f. d.slot < f.slot) e es above rest.rising;
+      entries = All-cons (IsEntry c p) e es (is_entry c p e within r.1) rest.entries;
+      rising = AllPairs-cons (λ d f. entry_slot d < entry_slot f) e es above rest.rising;
     }
 
 pub writable : (c : Configuration) (p : Terms) → IsPlan p → Certifies (geometry_of c) p (made p)

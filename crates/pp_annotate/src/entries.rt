@@ -1,24 +1,24 @@
 //! The note after a step.
 
-ghost use Rattle.std.specs.Prelude.{◌≡◌, ◌==◌, IfOk, nat_lt, position};
-ghost use Rattle.pp_cert.specs.Notes.{entry_slot, noted_as};
-ghost use Rattle.pp_cert.specs.Slots.{slot_insert, slot_remove};
+ghost use Rattle.std.specs.Prelude.{◌≡◌, IfOk, nat_lt, position};
+ghost use Rattle.pp_cert.specs.Notes.{entry_slot, is_slot, noted_as, without_page};
+ghost use Rattle.pp_cert.specs.Slots.{slot_insert};
 
 use pp_cert::{Entry, Held};
 use std::alloc::{AllocError, Global};
 
 /// The place of the slot's entry, if it has one.
 fn position_of(note: &[Entry], slot: u8) -> Option<usize>
-    ensures { result ≡ position (λ entry. entry_slot entry == slot) note.now }
+    ensures { result ≡ position (is_slot slot) note.now }
 {
-    note.iter().position(|entry| entry.slot == slot)
+    note.iter().position(|entry| entry.is_slot(slot))
 }
 
 /// The place of the first entry of a greater slot, if there is one.
-fn position_after(note: &[Entry], slot: u8) -> Option<usize>
-    ensures { result ≡ position (λ entry. nat_lt slot (entry_slot entry)) note.now }
+fn position_after(note: &[Entry], entry: Entry) -> Option<usize>
+    ensures { result ≡ position (λ other. nat_lt (entry_slot entry) (entry_slot other)) note.now }
 {
-    note.iter().position(|entry| slot < entry.slot)
+    note.iter().position(|other| entry.slot() < other.slot())
 }
 
 /// The note with one more entry, at its place by rising slot.
@@ -31,7 +31,7 @@ pub(crate) fn inserted(
     ensures { IfOk result (λ after. after.items ≡ slot_insert entry_slot entry before.now) }
 {
     let mut after = Vec::from_slice(alloc, before)?;
-    match position_after(before, entry.slot) {
+    match position_after(before, entry) {
         Some(place) => after.insert(place, entry)?,
         None => after.push(entry)?,
     }
@@ -39,14 +39,11 @@ pub(crate) fn inserted(
 }
 
 /// The note without the slot's entry.
-#[tactic(auto, using(crate::proofs::Splices::removes))]
 pub(crate) fn removed(alloc: Global, before: &[Entry], slot: u8) -> Result<Vec<Entry>, AllocError>
-    ensures { IfOk result (λ after. after.items ≡ slot_remove entry_slot slot before.now) }
+    ensures { IfOk result (λ after. after.items ≡ without_page slot before.now) }
 {
     let mut after = Vec::from_slice(alloc, before)?;
-    if let Some(place) = position_of(before, slot) {
-        after.remove(place);
-    }
+    after.retain(|entry| !entry.is_slot(slot));
     Ok(after)
 }
 
@@ -62,10 +59,7 @@ pub(crate) fn held_as(
 {
     let mut after = Vec::from_slice(alloc, before)?;
     if let Some(place) = position_of(before, slot) {
-        after[place] = Entry {
-            held,
-            ..before[place]
-        };
+        after[place] = before[place].held_as(held);
     }
     Ok(after)
 }

@@ -69,7 +69,7 @@ fn made(alloc: Global, plan: &Plan) -> Result<Certificate, AllocError>
 {
     let steps = longest_trace(plan);
     let notes = notes_of(alloc, plan.body())?;
-    let peak = greatest(&notes);
+    let peak = greatest(&notes) as u64;
     Ok(Certificate { peak, steps, notes })
 }
 
@@ -85,7 +85,7 @@ fn notes_of(alloc: Global, stmts: &[Stmt]) -> Result<Vec<Note>, AllocError>
 
 /// The most pages that a note pins.
 #[tactic(auto, using(crate::proofs::Walk::walks))]
-fn greatest(notes: &[Note]) -> u64
+fn greatest(notes: &[Note]) -> u128
     ensures { result ≡ greatest notes.now }
 {
     let mut most = 0;

@@ -79,7 +79,7 @@ impl Draft {
     {
         match stmt {
             Stmt::Fix { slot, region } => {
-                let entry = Entry {
+                let entry = Entry::Slot {
                     slot: *slot,
                     region: *region,
                     held: Held::Free,

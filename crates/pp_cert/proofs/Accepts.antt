@@ -12,7 +12,7 @@ use Rattle.pp_cert.specs.Notes.{Entries}
 use Rattle.pp_cert.specs.Walk.{Claims, note_at, first_fault, sequence_end, tests}
 use Rattle.pp_cert.specs.Accepted.{IsAccepted}
 use Rattle.pp_cert.proofs.Passing.{AllPass, all_pass}
-use Rattle.pp_cert.proofs.Fits.{Fits, fits_empty}
+use Rattle.pp_cert.proofs.Fits.{Fits, fits_nothing, fits_empty}
 use Rattle.pp_cert.proofs.Goes.{Goes, goes_end_small, goes_split, goes_held}
 use Rattle.pp_cert.proofs.Sound.{sequence_goes}
 use Rattle.pp_cert.proofs.Lengths.{sequence_bound}
@@ -30,7 +30,8 @@ module _ (c : Claims) (p : Terms) (is : IsPlan p) (h : first_fault p.layout c (t
   -- a whole trace goes from nothing to nothing
   trace_goes : (t : List Action) → IsTrace p.layout p.body t → Goes p.layout c.peak [] t []
   trace_goes t r =
-      let start : Fits p.layout (note_at c 0) [] = subst (λ n. Fits p.layout n []) (sym all.first.1) tt in
+      let start : Fits p.layout (note_at c 0) [] =
+      subst (λ n. Fits p.layout n []) (sym all.first.1) (fits_nothing p.layout) in
       let to = sequence_goes p.layout is.layout c 0 p.body all.first.2 all.walk [] start t r in
       let last : note_at c (sequence_end 0 p.body) ≡ [] = length_zero (note_at c (sequence_end 0 p.body)) all.last in
       let none = fits_empty p.layout to.0 (subst (λ n. Fits p.layout n to.0) last to.2) in

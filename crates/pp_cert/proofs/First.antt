@@ -20,6 +20,7 @@ use Rattle.pp_plan.specs.Terms.{Terms}
 use Rattle.pp_plan.specs.Slots.{slot_named}
 use Rattle.pp_cert.specs.declared.certificate.Certificate.{Certificate}
 use Rattle.pp_cert.specs.declared.note.Entry.{Entry}
+use Rattle.pp_cert.specs.declared.note.Entry.TheVariants.{Slot, Bundle}
 use Rattle.pp_cert.specs.declared.note.Held.{Held}
 use Rattle.pp_cert.specs.declared.error.CertError.{CertError}
 use Rattle.pp_cert.specs.declared.error.CertError.TheVariants.{NotJson, WrongField, UnknownName, TooMany, OutOfMemory}
@@ -29,6 +30,7 @@ use Rattle.pp_cert.specs.Claims.{Claims, claims_of}
 use Rattle.pp_cert.specs.Words.{held_text, held_of, certificate_keys}
 use Rattle.pp_cert.specs.Reading.{as_two, read_entry, entries_from, read_note, notes_from, list_at, number_at}
 use Rattle.pp_cert.specs.Reading.{claims_at, reading}
+use Rattle.pp_cert.specs.Spelling.{SpellsEntry}
 use Rattle.pp_text.specs.First.{IsFirstBy}
 use Rattle.pp_text.specs.Objects.{elements}
 use Rattle.pp_cert.specs.Faults.{notes_in, Written, entries_in, EntryFault, other_form, no_slot, no_region}
@@ -156,14 +158,16 @@ module _ (c : Configuration) (p : Terms) where
   -- an entry that was read has no fault
   entry_clear : (key : List ℕ) (d : Data) (x : Entry) → read_entry c p key d ≡ Ok x
       → (f : EntryFault) → ¬ HasEntryFault c p (record { name = key; value = d }) f
-  entry_clear key d x h other_form has = let s = entry_found c p key d x h in has (s.name, x.held, s.value)
-  entry_clear key d x h no_slot has =
-      let s = entry_found c p key d x h in
-      none_some (slot_named p key) x.slot has s.slot
-  entry_clear key d x h no_region has =
-      let s = entry_found c p key d x h in
-      let same : has.0 ≡ s.name = text_is has.0 s.name (first_is _ _ _ _ d s.value has.2) in
-      none_some (region_named c s.name) x.region (ap (region_named c) (sym same) ∙ has.3) s.region
+  entry_clear key d x h f has = spelled_clear key d x (entry_found c p key d x h) f has
+    where
+      spelled_clear : (key : List ℕ) (d : Data) (x : Entry) → SpellsEntry c p key d x
+          → (f : EntryFault) → ¬ HasEntryFault c p (record { name = key; value = d }) f
+      spelled_clear key d (Bundle t k) s f has = s
+      spelled_clear key d (Slot t r h) s other_form has = has (s.name, h, s.value)
+      spelled_clear key d (Slot t r h) s no_slot has = none_some (slot_named p key) t has s.slot
+      spelled_clear key d (Slot t r h) s no_region has =
+          let same : has.0 ≡ s.name = text_is has.0 s.name (first_is _ _ _ _ d s.value has.2) in
+          none_some (region_named c s.name) r (ap (region_named c) (sym same) ∙ has.3) s.region
 
   -- ---- the entries of a note
 

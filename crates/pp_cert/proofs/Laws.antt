@@ -20,6 +20,7 @@ use Rattle.pp_plan.specs.Terms.{Terms}
 use Rattle.pp_plan.specs.Slots.{slot_named}
 use Rattle.pp_cert.specs.declared.certificate.Certificate.{Certificate}
 use Rattle.pp_cert.specs.declared.note.Entry.{Entry}
+use Rattle.pp_cert.specs.declared.note.Entry.TheVariants.{Slot, Bundle}
 use Rattle.pp_cert.specs.declared.error.CertError.{CertError}
 use Rattle.pp_cert.specs.declared.error.CertError.TheVariants.{NotJson, WrongField, UnknownName, TooMany}
 use Rattle.pp_cert.specs.CertErrors.{is_certificate_memory}
@@ -47,7 +48,7 @@ entry_found c p key d e h =
     let (held, g, h4) = bind_ok (ok_or (option_and_then held_of (as_str two.1)) WrongField) _ e h3 in
     let (slot, s, h5) = bind_ok (ok_or (slot_named p key) UnknownName) _ e h4 in
     let (region, r, h6) = bind_ok (ok_or (region_named c name) UnknownName) _ e h5 in
-    let made : Entry = record { slot = slot; region = region; held = held } in
+    let made : Entry = Slot slot region held in
     let is =
     pair_is d items two.0 two.1 (string name) (string (held_text held)) (array_is d items (ok_or_ok _ _ items a))
     (two_is items two (ok_or_ok _ _ two b)) (string_is two.0 name (ok_or_ok _ _ name n))
@@ -58,7 +59,8 @@ entry_found c p key d e h =
 pub entry_again : (c : Configuration) (p : Terms) (key : List ℕ) (d : Data) (e : Entry) → SpellsEntry c p key d e
     → read_entry c p key d ≡ Ok e
 unfolding read_entry
-entry_again c p key d e s = rw (s.value, held_again e.held, s.slot, s.region) refl
+entry_again c p key d (Slot t r h) s = rw (s.value, held_again h, s.slot, s.region) refl
+entry_again c p key d (Bundle t k) s = absurd s
 
 pub entries_found : (c : Configuration) (p : Terms) (earlier : List Entry) (ms : Members) (all : List Entry)
     → entries_from c p earlier ms ≡ Ok all → (es : List Entry) × (all ≡ earlier ++ es) × SpellsEntries c p ms es

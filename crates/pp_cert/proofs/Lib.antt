@@ -5,6 +5,9 @@ pub mod Steps
 pub mod Places
 pub mod Rules
 pub mod Pins
+pub mod Slots
+pub mod Pages
+pub mod Sums
 pub mod Fits
 pub mod Goes
 pub mod Sound

@@ -1,6 +1,6 @@
 -- The notes that a text spells have entries of the plan and the settings, by rising slot.
 use Rattle.std.proofs.Common.{◌≡◌, ℕ, ◌<◌, Bool, false, cond, nat_lt, List, [], ◌∷◌, length, get_or, Option, Some, None}
-use Rattle.std.proofs.Common.{Ordering, Less, Equal, Greater, codes, nat_cmp, sym, ap, subst, ◌∙◌, arith}
+use Rattle.std.proofs.Common.{Ordering, Less, Equal, Greater, codes, nat_cmp, refl, sym, ap, subst, ◌∙◌, arith}
 use Rattle.std.specs.Prelude.{All, AllPairs, IsTrue, IfOk, Result, Ok, Err}
 use Rattle.std.specs.List.{position, position_or_len}
 use Rattle.std.specs.Str.{bytes_eq}
@@ -24,10 +24,12 @@ use Rattle.pp_plan.specs.Slots.{slot_named}
 use Rattle.pp_cert.specs.declared.certificate.Certificate.{Certificate}
 use Rattle.pp_cert.specs.declared.error.CertError.{CertError}
 use Rattle.pp_cert.specs.declared.note.Entry.{Entry}
+use Rattle.pp_cert.specs.declared.note.Entry.TheVariants.{Slot, Bundle}
+use Rattle.pp_cert.specs.Notes.{entry_slot}
 use Rattle.pp_cert.specs.Claims.{Claims, claims_of, IsEntry, IsNote, AreClaims}
 use Rattle.pp_cert.specs.CertErrors.{is_certificate_memory}
 use Rattle.pp_cert.specs.Reading.{reading}
-use Rattle.pp_cert.specs.Spelling.{SpellsEntries, SpellsNotes, IsText}
+use Rattle.pp_cert.specs.Spelling.{SpellsEntry, SpellsEntries, SpellsNotes, IsText}
 use Rattle.pp_cert.proofs.Laws.{is_found}
 use Rattle.pp_cert.proofs.Order.{IsBefore, IsBeforeAll, IsInOrder, AreInOrder, MembersInOrder, read_in_order}
 
@@ -76,22 +78,38 @@ slots_rise p plan j k a b at_a at_b before =
 AllPairs-nil : {X : Type 0} (R : X → X → Type 0) → AllPairs {X = X} R []
 AllPairs-nil R i j d l within = absurd (omega arith)
 
+spelled_slot : (c : Configuration) (p : Terms) (key : List ℕ) (d : Data) (e : Entry) → SpellsEntry c p key d e
+    → slot_named p key ≡ Some (entry_slot e)
+spelled_slot c p key d (Slot t r h) s = s.slot
+spelled_slot c p key d (Bundle t k) s = absurd s
+
+spelled_entry : (c : Configuration) (p : Terms) (key : List ℕ) (d : Data) (e : Entry) → SpellsEntry c p key d e
+    → IsEntry c p e
+spelled_entry c p key d (Slot t r h) s = record {
+  slot = position_below (λ n. bytes_eq n key) p.slots t s.slot;
+  region = position_below (λ r. bytes_eq r.name s.name) c.regions r s.region;
+  plain = refl;
+}
+spelled_entry c p key d (Bundle t k) s = absurd s
+
 entries_above : (c : Configuration) (p : Terms) → IsPlan p → (j : List ℕ) (a : ℕ) (ms : Members) (es : List Entry)
-    → slot_named p j ≡ Some a → IsBeforeAll j ms → SpellsEntries c p ms es → All (λ e. a < e.slot) es
-entries_above c p plan j a no_members [] at_a before s = All-nil (λ (e : Entry). a < e.slot)
+    → slot_named p j ≡ Some a → IsBeforeAll j ms → SpellsEntries c p ms es → All (λ e. a < entry_slot e) es
+entries_above c p plan j a no_members [] at_a before s = All-nil (λ (e : Entry). a < entry_slot e)
 entries_above c p plan j a no_members (e ∷ es) at_a before s = absurd s
 entries_above c p plan j a (member k d ms) [] at_a before s = absurd s
 entries_above c p plan j a (member k d ms) (e ∷ es) at_a before s =
-    All-cons (λ (x : Entry). a < x.slot) e es (slots_rise p plan j k a e.slot at_a s.0.slot before.0)
+    All-cons (λ (x : Entry). a < entry_slot x) e es
+    (slots_rise p plan j k a (entry_slot e) at_a (spelled_slot c p k d e s.0) before.0)
     (entries_above c p plan j a ms es at_a before.1 s.1)
 
 pub entries_rise : (c : Configuration) (p : Terms) → IsPlan p → (ms : Members) (es : List Entry) → MembersInOrder ms
-    → SpellsEntries c p ms es → AllPairs (λ d e. d.slot < e.slot) es
-entries_rise c p plan no_members [] o s = AllPairs-nil (λ (d e : Entry). d.slot < e.slot)
+    → SpellsEntries c p ms es → AllPairs (λ d e. entry_slot d < entry_slot e) es
+entries_rise c p plan no_members [] o s = AllPairs-nil (λ (d e : Entry). entry_slot d < entry_slot e)
 entries_rise c p plan no_members (e ∷ es) o s = absurd s
 entries_rise c p plan (member k d ms) [] o s = absurd s
 entries_rise c p plan (member k d ms) (e ∷ es) o s =
-    AllPairs-cons (λ (x y : Entry). x.slot < y.slot) e es (entries_above c p plan k e.slot ms es s.0.slot o.0 s.1)
+    AllPairs-cons (λ (x y : Entry). entry_slot x < entry_slot y) e es
+    (entries_above c p plan k (entry_slot e) ms es (spelled_slot c p k d e s.0) o.0 s.1)
     (entries_rise c p plan ms es o.2 s.1)
 
 pub are_entries : (c : Configuration) (p : Terms) (ms : Members) (es : List Entry) → SpellsEntries c p ms es
@@ -100,9 +118,7 @@ are_entries c p no_members [] s = All-nil (IsEntry c p)
 are_entries c p no_members (e ∷ es) s = absurd s
 are_entries c p (member k d ms) [] s = absurd s
 are_entries c p (member k d ms) (e ∷ es) s =
-    let slot = position_below (λ n. bytes_eq n k) p.slots e.slot s.0.slot in
-    let region = position_below (λ r. bytes_eq r.name s.0.name) c.regions e.region s.0.region in
-    All-cons (IsEntry c p) e es (record { slot = slot; region = region }) (are_entries c p ms es s.1)
+    All-cons (IsEntry c p) e es (spelled_entry c p k d e s.0) (are_entries c p ms es s.1)
 
 pub are_notes : (c : Configuration) (p : Terms) → IsPlan p → (ds : Items) (notes : List (List Entry)) → AreInOrder ds
     → SpellsNotes c p ds notes → All (IsNote c p) notes

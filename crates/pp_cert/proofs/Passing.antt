@@ -1,16 +1,16 @@
 -- Tests that pass, and notes and layouts that are the same.
 use Rattle.std.proofs.Common.{◌≡◌, ℕ, ◌+◌, ◌≤◌, Bool, true, false, Option, Some, None, List, [], ◌∷◌, ◌++◌, length}
-use Rattle.std.proofs.Common.{refl, ap, ◌∙◌, arith}
+use Rattle.std.proofs.Common.{refl, ap, ◌∙◌}
 use Rattle.std.specs.Prelude.{◌&&◌, ◌==◌, is_some, if◌then◌else◌, slice_get, unwrap_or}
 use Rattle.std.specs.Cmp.Lexicographic.{pointwise}
 use Rattle.std.proofs.lemmas.Bool.{and_parts, leb-true, eqb-true}
-use Rattle.std.proofs.lemmas.Bool.Decides.{nat_tests}
 use Rattle.pp_settings.specs.declared.extent.Extent.{Extent}
 use Rattle.pp_settings.specs.Layout.{Geometry}
 use Rattle.pp_plan.specs.Terms.{Terms}
 use Rattle.pp_cert.specs.declared.note.Held.{Held}
 use Rattle.pp_cert.specs.declared.note.Held.TheVariants.{Free, S, X}
 use Rattle.pp_cert.specs.declared.note.Entry.{Entry}
+use Rattle.pp_cert.specs.declared.note.Entry.TheVariants.{Slot, Bundle}
 use Rattle.pp_cert.specs.declared.check_error.CheckError.{CheckError}
 use Rattle.pp_cert.specs.Notes.{Entries, note_pins, same_held, same_entry, same_note}
 use Rattle.pp_cert.specs.Longest.{sequence_longest}
@@ -18,6 +18,7 @@ use Rattle.pp_cert.specs.Walk.{Claims, note_at, Expectation, empty, expected_not
 use Rattle.pp_cert.specs.Walk.{as_expected, within_peak, holds_nothing, no_more_notes, steps_allowed, steps_enough}
 use Rattle.pp_cert.specs.Walk.{peak_allowed, passes, fault_of, first_fault, note_tests, sequence_tests, sequence_end}
 use Rattle.pp_cert.specs.Walk.{tests, same_extent, same_layout, most_steps}
+use Rattle.pp_cert.proofs.Slots.{same_number}
 
 -- ---- tests that pass
 
@@ -52,13 +53,20 @@ held_same X S h = absurd (cc)
 held_same X X h = refl
 
 entry_same : (a b : Entry) → same_entry a b ≡ true → a ≡ b
-entry_same a b h =
-    let p = and_parts ((a.slot == b.slot) && (a.region == b.region)) (same_held a.held b.held) h in
-    let q = and_parts (a.slot == b.slot) (a.region == b.region) p.0 in
-    let slots : a.slot ≡ b.slot = eqb-true a.slot b.slot q.0 in
-    let regions : a.region ≡ b.region = eqb-true a.region b.region q.1 in
-    let helds : a.held ≡ b.held = held_same a.held b.held p.1 in
-    λ i. record { slot = slots i; region = regions i; held = helds i }
+entry_same (Slot s r h) (Slot t q k) e =
+    let p = and_parts ((s == t) && (r == q)) (same_held h k) e in
+    let u = and_parts (s == t) (r == q) p.0 in
+    let slots : s ≡ t = eqb-true s t u.0 in
+    let regions : r ≡ q = eqb-true r q u.1 in
+    let helds : h ≡ k = held_same h k p.1 in
+    λ i. Slot (slots i) (regions i) (helds i)
+entry_same (Bundle s b) (Bundle t d) e =
+    let p = and_parts (s == t) (b == d) e in
+    let slots : s ≡ t = eqb-true s t p.0 in
+    let bounds : b ≡ d = eqb-true b d p.1 in
+    λ i. Bundle (slots i) (bounds i)
+entry_same (Slot s r h) (Bundle t d) e = absurd (cc)
+entry_same (Bundle s b) (Slot t q k) e = absurd (cc)
 
 -- Lists whose elements are the same by pairs are the same.
 lists_same : {A : Type 0} (same : A → A → Bool) → ((a b : A) → same a b ≡ true → a ≡ b) → (xs ys : List A)
@@ -75,19 +83,17 @@ lists_same same one (x ∷ xs) (y ∷ ys) h =
 pub note_same : (a b : Entries) → same_note a b ≡ true → a ≡ b
 note_same = lists_same same_entry entry_same
 
-same_number : (n : ℕ) → (n == n) ≡ true
-same_number n = grind (arith, nat_tests)
-
 held_itself : (a : Held) → same_held a a ≡ true
 held_itself Free = refl
 held_itself S = refl
 held_itself X = refl
 
 entry_itself : (a : Entry) → same_entry a a ≡ true
-entry_itself a =
-    (λ i. (same_number a.slot i && a.region == a.region) && same_held a.held a.held)
-    ∙ (λ i. same_number a.region i && same_held a.held a.held)
-    ∙ held_itself a.held
+entry_itself (Slot s r h) =
+    (λ i. (same_number s i && r == r) && same_held h h)
+    ∙ (λ i. same_number r i && same_held h h)
+    ∙ held_itself h
+entry_itself (Bundle s k) = (λ i. same_number s i && k == k) ∙ same_number k
 
 -- A note is the same as itself.
 pub note_itself : (a : Entries) → same_note a a ≡ true

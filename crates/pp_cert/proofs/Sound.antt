@@ -1,7 +1,7 @@
 -- Where the tests of a body pass, each of its traces goes well.
 use Rattle.std.proofs.Common.{◌≡◌, ℕ, zero, suc, ◌+◌, ◌≤◌, Bool, true, false, Option, Some, None, List, [], ◌∷◌, ◌++◌}
 use Rattle.std.proofs.Common.{length, refl, sym, ap, subst, ◌∙◌, arith}
-use Rattle.std.specs.Prelude.{not, is_some, if◌then◌else◌}
+use Rattle.std.specs.Prelude.{not, is_some, option_map, if◌then◌else◌}
 use Rattle.std.proofs.lemmas.Bool.{not-true}
 use Rattle.pp_settings.specs.Layout.{Geometry, IsLayout, HasPage}
 use Rattle.pp_plan.specs.declared.mode.Mode.{Mode}
@@ -10,12 +10,13 @@ use Rattle.pp_plan.specs.declared.action.Action.TheVariants.{Fix, Unfix, Latch, 
 use Rattle.pp_plan.specs.Tree.{Step, fix, unfix, latch, unlatch, Statement, step, loop, choice, Sequence, skip, andthen}
 use Rattle.pp_plan.specs.Tree.{Alternatives, none, either}
 use Rattle.pp_plan.specs.Traces.{Does, Repeats, IsStatementTrace, IsTrace, IsBranchTrace}
+use Rattle.pp_cert.specs.declared.note.Entry.{Entry}
 use Rattle.pp_cert.specs.declared.note.Held.{Held}
 use Rattle.pp_cert.specs.declared.note.Held.TheVariants.{Free, S, X}
 use Rattle.pp_cert.specs.Held.{Holding, Holdings, held_in, held_at, held_next, holding_as, holding_slot, is_free_page}
 use Rattle.pp_cert.specs.Held.{is_latched_page}
 use Rattle.pp_cert.specs.Slots.{slot_insert, slot_remove}
-use Rattle.pp_cert.specs.Notes.{Entries, note_pins, noted_at, noted_after}
+use Rattle.pp_cert.specs.Notes.{Entries, note_pins, entry_held, entry_at, noted_at, noted_after}
 use Rattle.pp_cert.specs.Walk.{Claims, note_at, same, after, outcome, Test, slot_unused, slot_fixed, slot_unlatched}
 use Rattle.pp_cert.specs.Walk.{slot_latched, slot_in_order, loop_keeps, branch_agrees, first_fault, note_tests}
 use Rattle.pp_cert.specs.Walk.{step_tests, statement_tests, sequence_tests, later_tests, statement_end, sequence_end}
@@ -38,23 +39,27 @@ abbrev pub StepGoes : Geometry → Entries → Step → Holdings → Action → 
 StepGoes g n s hs a = MayDo g hs a × ((m : Holdings) × (held_next hs a ≡ Some m) × Fits g (noted_after s n) m)
 
 -- what is tested of a slot in a note holds of what is held
-holds_too : (g : Geometry) (n : Entries) (hs : Holdings) (s : ℕ) (test : Option Held → Bool) (b : Bool) → Fits g n hs
-    → test (noted_at n s) ≡ b → test (held_at hs s) ≡ b
+holds_too : (g : Geometry) (n : Entries) (hs : Holdings) (s : ℕ) (test : Option Held → Bool) (b : Bool)
+    → Fits g n hs → test (noted_at n s) ≡ b → test (held_at hs s) ≡ b
 holds_too g n hs s test b f h = ap test (sym (fits_held g n hs s f)) ∙ h
+
+none_noted : (o : Option Entry) → is_some (option_map entry_held o) ≡ false → o ≡ None
+none_noted None h = refl
+none_noted (Some e) h = absurd (cc)
 
 module _ (g : Geometry) (l : IsLayout g) (c : Claims) where
   fix_goes : (k s r page : ℕ) (hs : Holdings) → HasPage g r page → Fits g (note_at c k) hs
       → first_fault g c (step_tests k (fix s r)) ≡ None → StepGoes g (note_at c k) (fix s r) hs (Fix s page)
   fix_goes k s r page hs has f h =
       let p = first_passes g c (slot_unused k s) [] h in
-      let unused : is_some (held_at hs s) ≡ false =
-      holds_too g (note_at c k) hs s is_some false f (not-true (is_some (noted_at (note_at c k) s)) p.0) in
+      let free : is_some (noted_at (note_at c k) s) ≡ false = not-true (is_some (noted_at (note_at c k) s)) p.0 in
+      let unused : is_some (held_at hs s) ≡ false = holds_too g (note_at c k) hs s is_some false f free in
       let new : Holding = record { slot = s; page = page; held = Free } in (
         tt,
         (
           slot_insert holding_slot new hs,
           ap (λ b. if b then None else Some (slot_insert holding_slot new hs)) unused,
-          fits_insert g (note_at c k) hs (record { slot = s; region = r; held = Free }) new f (refl, refl, has),
+          fits_insert g (note_at c k) hs r new f (none_noted (entry_at (note_at c k) s) free) has,
         ),
       )
 
@@ -141,9 +146,13 @@ module _ (g : Geometry) (l : IsLayout g) (c : Claims) where
   abbrev pub GoesTo : Entries → Holdings → List Action → Type 0
   GoesTo n hs t = (last : Holdings) × Goes g c.peak hs t last × Fits g n last
 
+  -- what fits a small note is small
+  small_too : (n : Entries) (hs : Holdings) → Fits g n hs → note_pins n ≤ c.peak → length hs ≤ c.peak
+  small_too n hs f small = omega (arith, fits_pins g n hs f, small)
+
   -- a list of no action stays
   stays : (n : Entries) (hs : Holdings) → Fits g n hs → note_pins n ≤ c.peak → GoesTo n hs []
-  stays n hs f small = (hs, (refl, let e : note_pins n ≡ length hs = fits_pins g n hs f in omega arith), f)
+  stays n hs f small = (hs, (refl, small_too n hs f small), f)
 
   goes_to : (n m : Entries) (hs : Holdings) (t u : List Action) → GoesTo n hs t
       → ((ms : Holdings) → Fits g n ms → GoesTo m ms u) → GoesTo m hs (t ++ u)
@@ -155,9 +164,6 @@ module _ (g : Geometry) (l : IsLayout g) (c : Claims) where
   goes_first : (n : Entries) (hs ms : Holdings) (a : Action) (t : List Action) → length hs ≤ c.peak → MayDo g hs a
       → held_next hs a ≡ Some ms → GoesTo n ms t → GoesTo n hs (a ∷ t)
   goes_first n hs ms a t small may next to = (to.0, (small, may, (ms, next, to.1)), to.2)
-
-  small_too : (n : Entries) (hs : Holdings) → Fits g n hs → note_pins n ≤ c.peak → length hs ≤ c.peak
-  small_too n hs f small = let e : note_pins n ≡ length hs = fits_pins g n hs f in omega arith
 
   -- turns of a body that ends as it begins
   repeats_go : (n : Entries) (P : List Action → Type 0) → note_pins n ≤ c.peak

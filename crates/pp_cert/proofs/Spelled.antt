@@ -13,13 +13,15 @@ use Rattle.pp_settings.specs.Settings.{Configuration, IsConfiguration}
 use Rattle.pp_plan.specs.Terms.{Terms, IsPlan}
 use Rattle.pp_plan.specs.Slots.{slot_named}
 use Rattle.pp_cert.specs.declared.note.Entry.{Entry}
+use Rattle.pp_cert.specs.declared.note.Entry.TheVariants.{Slot, Bundle}
+use Rattle.pp_cert.specs.Notes.{entry_slot}
 use Rattle.pp_cert.specs.Claims.{Claims, IsEntry, IsNote, AreClaims}
 use Rattle.pp_text.proofs.Positions.{position_only, same_text}
 use Rattle.pp_plan.specs.Writing.{slot_name, region_name}
 use Rattle.pp_plan.proofs.Spelled.{region_named_again}
-use Rattle.pp_cert.specs.Tree.{entry_members, note_tree, certificate_members}
+use Rattle.pp_cert.specs.Tree.{entry_tree, entry_members, note_tree, certificate_members}
 use Rattle.pp_cert.specs.Reading.{reading}
-use Rattle.pp_cert.specs.Spelling.{SpellsEntries, SpellsNotes, Spells}
+use Rattle.pp_cert.specs.Spelling.{SpellsEntry, SpellsEntries, SpellsNotes, Spells}
 use Rattle.pp_cert.proofs.Laws.{text_again}
 use Rattle.pp_cert.proofs.Notes.{not_itself}
 use Rattle.pp_cert.proofs.Order.{IsBefore}
@@ -40,20 +42,23 @@ slot_again p plan slot within =
 
 -- ---- the tree
 
+entry_spelled : (c : Configuration) (p : Terms) → IsConfiguration c → IsPlan p → (e : Entry) → IsEntry c p e
+    → SpellsEntry c p (slot_name p.slots (entry_slot e)) (entry_tree c e) e
+entry_spelled c p settings plan (Slot s r h) is = record {
+  slot = slot_again p plan s is.slot;
+  name = region_name c r;
+  region = region_named_again c settings r is.region;
+  value = refl;
+}
+entry_spelled c p settings plan (Bundle s k) is = let no = is.plain in absurd (cc)
+
 entries_spelled : (c : Configuration) (p : Terms) → IsConfiguration c → IsPlan p → (es : List Entry)
     → All (IsEntry c p) es → SpellsEntries c p (entry_members c p es) es
 entries_spelled c p settings plan [] are = tt
-entries_spelled c p settings plan (e ∷ es) are =
-    let is = All-head (IsEntry c p) e es are in (
-      record {
-        slot = slot_again p plan e.slot is.slot;
-        name = region_name c e.region;
-        region =
-            region_named_again c settings e.region is.region;
-        value = refl;
-      },
-      entries_spelled c p settings plan es (All-tail (IsEntry c p) e es are),
-    )
+entries_spelled c p settings plan (e ∷ es) are = (
+  entry_spelled c p settings plan e (All-head (IsEntry c p) e es are),
+  entries_spelled c p settings plan es (All-tail (IsEntry c p) e es are),
+)
 
 notes_spelled : (c : Configuration) (p : Terms) → IsConfiguration c → IsPlan p → (notes : List (List Entry))
     → All (IsNote c p) notes → SpellsNotes c p (items_of (map (note_tree c p) notes)) notes

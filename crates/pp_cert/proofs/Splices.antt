@@ -3,13 +3,13 @@ use Rattle.std.proofs.Common.{◌≡◌, ℕ, zero, suc, ◌+◌, ◌<◌, ◌�
 use Rattle.std.proofs.Common.{◌∷◌, ◌++◌, length, get_or, take, drop, refl, sym, ap, ◌∙◌, arith, add-one, one-add}
 use Rattle.std.proofs.lemmas.List.{take_all, drop_all}
 use Rattle.std.proofs.lemmas.Bool.Decides.{nat_tests}
-use Rattle.std.specs.Prelude.{position, nat_lt, if◌then◌else◌, not, ◌==◌}
+use Rattle.std.specs.Prelude.{position, nat_lt, if◌then◌else◌, not}
 use Rattle.std.specs.List.{position_or_len, prefix_len}
 use Rattle.std.specs.Cmp.Lexicographic.{pointwise}
 use Rattle.pp_cert.specs.declared.note.Entry.{Entry}
 use Rattle.pp_cert.specs.declared.note.Held.{Held}
-use Rattle.pp_cert.specs.Slots.{slot_insert, slot_remove, slot_update}
-use Rattle.pp_cert.specs.Notes.{Entries, entry_slot, noted_as, same_entry, same_note}
+use Rattle.pp_cert.specs.Slots.{slot_insert}
+use Rattle.pp_cert.specs.Notes.{Entries, entry_slot, is_slot, entry_as, noted_as, same_entry, same_note}
 
 and_assoc : (a b c : Bool) → ((a && b) && c) ≡ (a && (b && c))
 and_assoc true b c = refl
@@ -92,57 +92,33 @@ slot_insert_splits {A = A} slot_of x (y ∷ ys) =
       | false ↦ rw (take-next n y ys, drop-next n y ys) (ap (λ zs. y ∷ zs) (slot_insert_splits slot_of x ys))
     ]
 
--- the first element of the slot is left out
-pub slot_remove_splits : {A : Type 0} (slot_of : A → ℕ) (s : ℕ) (ys : List A)
-    → slot_remove slot_of s ys ≡ take (position_or_len (λ y. slot_of y == s) ys) ys
-    ++ drop 1 (drop (position_or_len (λ y. slot_of y == s) ys) ys)
-slot_remove_splits slot_of s [] = refl
-slot_remove_splits {A = A} slot_of s (y ∷ ys) =
-    let n : ℕ = position_or_len (λ z. slot_of z == s) ys in
-    elim (slot_of y == s) as (λ b. (if b then ys else y ∷ slot_remove slot_of s ys)
-    ≡ take (cond (not b) (1 + n) 0) (y ∷ ys) ++ drop 1 (drop (cond (not b) (1 + n) 0) (y ∷ ys))) [
-      | true ↦ refl
-      | false ↦ rw (take-next n y ys, drop-next n y ys) (ap (λ zs. y ∷ zs) (slot_remove_splits slot_of s ys))
-    ]
-
-pub slot_remove_absent : {A : Type 0} (slot_of : A → ℕ) (s : ℕ) (ys : List A)
-    → length ys ≤ position_or_len (λ y. slot_of y == s) ys → slot_remove slot_of s ys ≡ ys
-slot_remove_absent slot_of s [] = λ h. refl
-slot_remove_absent {A = A} slot_of s (y ∷ ys) =
-    let n : ℕ = position_or_len (λ z. slot_of z == s) ys in
-    elim (slot_of y == s) as (λ b. suc (length ys) ≤ cond (not b) (1 + n) 0
-    → (if b then ys else y ∷ slot_remove slot_of s ys) ≡ y ∷ ys) [
-      | true ↦ λ h. absurd (omega (arith, h))
-      | false ↦ λ h. ap (λ zs. y ∷ zs) (slot_remove_absent slot_of s ys (omega (arith, h)))
-    ]
-
--- the first element of the slot is changed
-pub slot_update_splits : {A : Type 0} (slot_of : A → ℕ) (f : A → A) (s : ℕ) (ys : List A) (d : A)
-    → position_or_len (λ y. slot_of y == s) ys < length ys
-    → slot_update slot_of f s ys ≡ take (position_or_len (λ y. slot_of y == s) ys) ys
-    ++ (f (get_or ys (position_or_len (λ y. slot_of y == s) ys) d) ∷ drop 1
-    (drop (position_or_len (λ y. slot_of y == s) ys) ys))
-slot_update_splits slot_of f s [] d = λ h. absurd (omega (arith, h))
-slot_update_splits {A = A} slot_of f s (y ∷ ys) d =
-    let n : ℕ = position_or_len (λ z. slot_of z == s) ys in
-    elim (slot_of y == s) as (λ b. cond (not b) (1 + n) 0 < suc (length ys)
-    → (if b then f y ∷ ys else y ∷ slot_update slot_of f s ys) ≡ take (cond (not b) (1 + n) 0) (y ∷ ys)
-    ++ (f (get_or (y ∷ ys) (cond (not b) (1 + n) 0) d) ∷ drop 1 (drop (cond (not b) (1 + n) 0) (y ∷ ys)))) [
+-- the first page of the slot is held so
+noted_as_splits : (held : Held) (s : ℕ) (ys : Entries) (d : Entry) → position_or_len (is_slot s) ys < length ys
+    → noted_as held s ys ≡ take (position_or_len (is_slot s) ys) ys
+    ++ (entry_as held (get_or ys (position_or_len (is_slot s) ys) d) ∷ drop 1
+    (drop (position_or_len (is_slot s) ys) ys))
+noted_as_splits held s [] d = λ h. absurd (omega (arith, h))
+noted_as_splits held s (y ∷ ys) d =
+    let n : ℕ = position_or_len (is_slot s) ys in
+    elim (is_slot s y) as (λ b. cond (not b) (1 + n) 0 < suc (length ys)
+    → (if b then entry_as held y ∷ ys else y ∷ noted_as held s ys) ≡ take (cond (not b) (1 + n) 0) (y ∷ ys)
+    ++ (entry_as held (get_or (y ∷ ys) (cond (not b) (1 + n) 0) d) ∷ drop 1
+    (drop (cond (not b) (1 + n) 0) (y ∷ ys)))) [
       | true ↦ λ h. refl
       | false ↦ λ h. rw (take-next n y ys, drop-next n y ys, get_or-next n y ys d)
-          (ap (λ zs. y ∷ zs) (slot_update_splits slot_of f s ys d (omega (arith, h))))
+          (ap (λ zs. y ∷ zs) (noted_as_splits held s ys d (omega (arith, h))))
     ]
 
--- an element that isn't there isn't changed
-pub slot_update_absent : {A : Type 0} (slot_of : A → ℕ) (f : A → A) (s : ℕ) (ys : List A)
-    → length ys ≤ position_or_len (λ y. slot_of y == s) ys → slot_update slot_of f s ys ≡ ys
-slot_update_absent slot_of f s [] = λ h. refl
-slot_update_absent {A = A} slot_of f s (y ∷ ys) =
-    let n : ℕ = position_or_len (λ z. slot_of z == s) ys in
-    elim (slot_of y == s) as (λ b. suc (length ys) ≤ cond (not b) (1 + n) 0
-    → (if b then f y ∷ ys else y ∷ slot_update slot_of f s ys) ≡ y ∷ ys) [
+-- a page that isn't there isn't changed
+noted_as_absent : (held : Held) (s : ℕ) (ys : Entries) → length ys ≤ position_or_len (is_slot s) ys
+    → noted_as held s ys ≡ ys
+noted_as_absent held s [] = λ h. refl
+noted_as_absent held s (y ∷ ys) =
+    let n : ℕ = position_or_len (is_slot s) ys in
+    elim (is_slot s y) as (λ b. suc (length ys) ≤ cond (not b) (1 + n) 0
+    → (if b then entry_as held y ∷ ys else y ∷ noted_as held s ys) ≡ y ∷ ys) [
       | true ↦ λ h. absurd (omega (arith, h))
-      | false ↦ λ h. ap (λ zs. y ∷ zs) (slot_update_absent slot_of f s ys (omega (arith, h)))
+      | false ↦ λ h. ap (λ zs. y ∷ zs) (noted_as_absent held s ys (omega (arith, h)))
     ]
 
 prefix_len-le : {A : Type 0} (p : A → Bool) (ys : List A) → prefix_len p ys ≤ length ys
@@ -168,60 +144,39 @@ at_none n m = elim (nat_lt n m) as (λ b. nat_lt n m ≡ b → cond b (Some n) N
   | false ↦ λ t e. grind (arith, nat_tests)
 ] refl
 
-pub insert_within : (e : Entry) (ys : Entries) (i : ℕ) → position (λ y. nat_lt e.slot (entry_slot y)) ys ≡ Some i
-    → i < length ys
-insert_within e ys i h = (at_some (position_or_len (λ y. nat_lt e.slot (entry_slot y)) ys) (length ys) i h).1
+pub insert_within : (s : ℕ) (ys : Entries) (i : ℕ) → position (λ y. nat_lt s (entry_slot y)) ys ≡ Some i → i < length ys
+insert_within s ys i h = (at_some (position_or_len (λ y. nat_lt s (entry_slot y)) ys) (length ys) i h).1
 
-pub slot_within : (s : ℕ) (ys : Entries) (i : ℕ) → position (λ y. entry_slot y == s) ys ≡ Some i → i < length ys
-slot_within s ys i h = (at_some (position_or_len (λ y. entry_slot y == s) ys) (length ys) i h).1
+pub slot_within : (s : ℕ) (ys : Entries) (i : ℕ) → position (is_slot s) ys ≡ Some i → i < length ys
+slot_within s ys i h = (at_some (position_or_len (is_slot s) ys) (length ys) i h).1
 
-pub insert_at : (e : Entry) (ys : Entries) (i : ℕ) → position (λ y. nat_lt e.slot (entry_slot y)) ys ≡ Some i
-    → slot_insert entry_slot e ys ≡ take i ys ++ (e ∷ drop i ys)
-insert_at e ys i h =
-    let at = at_some (position_or_len (λ y. nat_lt e.slot (entry_slot y)) ys) (length ys) i h in
-    rw (slot_insert_splits entry_slot e ys, at.0) refl
+pub insert_at : (e : Entry) (s : ℕ) (ys : Entries) (i : ℕ) → s ≡ entry_slot e
+    → position (λ y. nat_lt s (entry_slot y)) ys ≡ Some i → slot_insert entry_slot e ys ≡ take i ys ++ (e ∷ drop i ys)
+insert_at e s ys i is h =
+    let at = at_some (position_or_len (λ y. nat_lt s (entry_slot y)) ys) (length ys) i h in
+    rw (slot_insert_splits entry_slot e ys, ← is, at.0) refl
 
-pub insert_last : (e : Entry) (ys : Entries) → position (λ y. nat_lt e.slot (entry_slot y)) ys ≡ None
-    → slot_insert entry_slot e ys ≡ ys ++ (e ∷ [])
-insert_last e ys h =
-    let past = at_none (position_or_len (λ y. nat_lt e.slot (entry_slot y)) ys) (length ys) h in
+pub insert_last : (e : Entry) (s : ℕ) (ys : Entries) → s ≡ entry_slot e
+    → position (λ y. nat_lt s (entry_slot y)) ys ≡ None → slot_insert entry_slot e ys ≡ ys ++ (e ∷ [])
+insert_last e s ys is h =
+    let past = at_none (position_or_len (λ y. nat_lt s (entry_slot y)) ys) (length ys) h in
     rw (
       slot_insert_splits entry_slot e ys,
-      take_all (position_or_len (λ y. nat_lt e.slot (entry_slot y)) ys) ys past,
-      drop_all (position_or_len (λ y. nat_lt e.slot (entry_slot y)) ys) ys past,
+      ← is,
+      take_all (position_or_len (λ y. nat_lt s (entry_slot y)) ys) ys past,
+      drop_all (position_or_len (λ y. nat_lt s (entry_slot y)) ys) ys past,
     ) refl
 
-pub ruleset inserts = (insert_at, insert_last)
-
-pub remove_at : (s : ℕ) (ys : Entries) (i : ℕ) → position (λ y. entry_slot y == s) ys ≡ Some i
-    → slot_remove entry_slot s ys ≡ take i ys ++ ([] ++ drop (i + 1) ys)
-remove_at s ys i h =
-    let at = at_some (position_or_len (λ y. entry_slot y == s) ys) (length ys) i h in
-    rw (slot_remove_splits entry_slot s ys, at.0) (ap (λ zs. take i ys ++ zs) (drop_one i ys))
-
-pub remove_absent : (s : ℕ) (ys : Entries) → position (λ y. entry_slot y == s) ys ≡ None
-    → slot_remove entry_slot s ys ≡ ys
-remove_absent s ys h =
-    slot_remove_absent entry_slot s ys (at_none (position_or_len (λ y. entry_slot y == s) ys) (length ys) h)
-
-pub ruleset removes = (remove_at, remove_absent)
-
-pub update_at : (held : Held) (s : ℕ) (ys : Entries) (i : ℕ) (d : Entry) → position (λ y. entry_slot y == s) ys ≡ Some i
-    → noted_as held s ys ≡ take i ys
-    ++ (record { slot = (get_or ys i d).slot; region = (get_or ys i d).region; held = held } ∷ drop (i + 1) ys)
+pub update_at : (held : Held) (s : ℕ) (ys : Entries) (i : ℕ) (d : Entry) → position (is_slot s) ys ≡ Some i
+    → noted_as held s ys ≡ take i ys ++ (entry_as held (get_or ys i d) ∷ drop (i + 1) ys)
 update_at held s ys i d h =
-    let n : ℕ = position_or_len (λ y. entry_slot y == s) ys in
+    let n : ℕ = position_or_len (is_slot s) ys in
     let at : (n ≡ i) × (i < length ys) = at_some n (length ys) i h in
-    let splits =
-    slot_update_splits entry_slot (λ e. record { slot = e.slot; region = e.region; held = held }) s ys d
-    (omega (arith, at.0, at.1)) in
-    rw (splits, at.0) (ap (λ zs. take i ys
-    ++ (record { slot = (get_or ys i d).slot; region = (get_or ys i d).region; held = held } ∷ zs)) (drop_one i ys))
+    let splits = noted_as_splits held s ys d (omega (arith, at.0, at.1)) in
+    rw (splits, at.0) (ap (λ zs. take i ys ++ (entry_as held (get_or ys i d) ∷ zs)) (drop_one i ys))
 
-pub update_absent : (held : Held) (s : ℕ) (ys : Entries) → position (λ y. entry_slot y == s) ys ≡ None
-    → noted_as held s ys ≡ ys
+pub update_absent : (held : Held) (s : ℕ) (ys : Entries) → position (is_slot s) ys ≡ None → noted_as held s ys ≡ ys
 update_absent held s ys h =
-    slot_update_absent entry_slot (λ e. record { slot = e.slot; region = e.region; held = held }) s ys
-    (at_none (position_or_len (λ y. entry_slot y == s) ys) (length ys) h)
+    noted_as_absent held s ys (at_none (position_or_len (is_slot s) ys) (length ys) h)
 
 pub ruleset updates = (update_at, update_absent)

@@ -14,6 +14,7 @@ use Rattle.pp_settings.specs.Settings.{Configuration}
 use Rattle.pp_plan.specs.Terms.{Terms, IsPlan}
 use Rattle.pp_cert.specs.declared.note.Entry.{Entry}
 use Rattle.pp_cert.specs.Claims.{IsEntry, IsNote}
+use Rattle.pp_cert.specs.Notes.{entry_slot}
 use Rattle.pp_plan.specs.Writing.{slot_name}
 use Rattle.pp_cert.specs.Tree.{entry_tree, entry_members, note_tree}
 use Rattle.pp_cert.proofs.Order.{IsBefore}
@@ -38,24 +39,25 @@ AllPairs-tail R x xs h i j d l within = h (suc i) (suc j) d (omega arith) (omega
 
 -- An entry above all before it goes to the end.
 pub put_entry : (c : Configuration) (p : Terms) → IsPlan p → (es : List Entry) (i : ℕ) (e : Entry)
-    → All (IsEntry c p) es → AllPairs (λ x y. x.slot < y.slot) es → i < length es → get_or es i e ≡ e
-    → put (slot_name p.slots e.slot) (entry_tree c e) (entry_members c p (take i es))
+    → All (IsEntry c p) es → AllPairs (λ x y. entry_slot x < entry_slot y) es → i < length es → get_or es i e ≡ e
+    → put (slot_name p.slots (entry_slot e)) (entry_tree c e) (entry_members c p (take i es))
     ≡ entry_members c p (take (suc i) es)
 put_entry c p plan [] i e are rising within is = absurd (omega arith)
 put_entry c p plan (x ∷ es) zero e are rising within is = rw is refl
 put_entry c p plan (x ∷ es) (suc i) e are rising within is =
     let l : i < length es = omega arith in
-    let above : x.slot < e.slot = subst (λ (y : Entry). x.slot < y.slot) is (rising 0 (suc i) e (omega arith) within) in
-    let known : e.slot < length p.slots =
-    subst (λ (y : Entry). y.slot < length p.slots) is (are (suc i) e within).slot in
-    let before = names_rise p plan x.slot e.slot above known in
-    let after : slice_cmp nat_cmp (slot_name p.slots e.slot) (slot_name p.slots x.slot) ≡ Greater =
-    nat_list_cmp_total.antisymm (slot_name p.slots e.slot) (slot_name p.slots x.slot) ∙ ap ordering_reverse before in
-    put_after _ (slot_name p.slots e.slot) (slot_name p.slots x.slot) (entry_tree c e) (entry_tree c x)
+    let above : entry_slot x < entry_slot e =
+    subst (λ (y : Entry). entry_slot x < entry_slot y) is (rising 0 (suc i) e (omega arith) within) in
+    let known : entry_slot e < length p.slots =
+    subst (λ (y : Entry). entry_slot y < length p.slots) is (are (suc i) e within).slot in
+    let before = names_rise p plan (entry_slot x) (entry_slot e) above known in
+    let after : slice_cmp nat_cmp (slot_name p.slots (entry_slot e)) (slot_name p.slots (entry_slot x)) ≡ Greater =
+    nat_list_cmp_total.antisymm (slot_name p.slots (entry_slot e)) (slot_name p.slots (entry_slot x)) ∙ ap ordering_reverse before in
+    put_after _ (slot_name p.slots (entry_slot e)) (slot_name p.slots (entry_slot x)) (entry_tree c e) (entry_tree c x)
     (entry_members c p (take i es)) refl after
-    ∙ ap (member (slot_name p.slots x.slot) (entry_tree c x))
+    ∙ ap (member (slot_name p.slots (entry_slot x)) (entry_tree c x))
     (put_entry c p plan es i e (All-tail (IsEntry c p) x es are)
-    (AllPairs-tail (λ (a b : Entry). a.slot < b.slot) x es rising) l is)
+    (AllPairs-tail (λ (a b : Entry). entry_slot a < entry_slot b) x es rising) l is)
 
 pub note_done : (c : Configuration) (p : Terms) (ms : Members) (es : List Entry) (i : ℕ)
     → ms ≡ entry_members c p (take i es) → length es ≤ i → object ms ≡ note_tree c p es
@@ -76,10 +78,10 @@ get_or_same (x ∷ xs) (suc i) a b within = get_or_same xs i a b (omega arith)
 pub entry_step : (c : Configuration) (p : Terms) → IsPlan p
     → (es : List Entry) (i : ℕ) (d : Entry) (k : List ℕ) (v : Data) (old new : Members) → IsNote c p es → i < length es
     → new ≡ put k v old → v ≡ entry_tree c (get_or es i d)
-    → slice_get p.slots (get_or es i d).slot ≡ Some k → old ≡ entry_members c p (take i es)
+    → slice_get p.slots (entry_slot (get_or es i d)) ≡ Some k → old ≡ entry_members c p (take i es)
     → new ≡ entry_members c p (take (i + 1) es)
 entry_step c p plan es i d k v old new note within fresh value at before =
     let e : Entry = get_or es i d in
-    let named : k ≡ slot_name p.slots e.slot = sym (ap (λ (o : Option (List ℕ)). unwrap_or o []) at) in
+    let named : k ≡ slot_name p.slots (entry_slot e) = sym (ap (λ (o : Option (List ℕ)). unwrap_or o []) at) in
     let added = put_entry c p plan es i e note.entries note.rising within (get_or_same es i e d within) in
     rw (fresh, value, named, before, add-one) added

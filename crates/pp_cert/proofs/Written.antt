@@ -14,8 +14,10 @@ use Rattle.pp_text.proofs.Escapes.{joined, list_bytes}
 use Rattle.pp_settings.specs.Settings.{Configuration, IsConfiguration}
 use Rattle.pp_plan.specs.Terms.{Terms, IsPlan}
 use Rattle.pp_cert.specs.declared.note.Entry.{Entry}
+use Rattle.pp_cert.specs.declared.note.Entry.TheVariants.{Slot, Bundle}
 use Rattle.pp_cert.specs.declared.note.Held.{Held}
 use Rattle.pp_cert.specs.declared.note.Held.TheVariants.{Free, S, X}
+use Rattle.pp_cert.specs.Notes.{entry_slot}
 use Rattle.pp_cert.specs.Claims.{Claims, IsEntry, IsNote, AreClaims}
 use Rattle.pp_cert.specs.Words.{held_text}
 use Rattle.pp_plan.specs.Writing.{slot_name, region_name}
@@ -27,7 +29,8 @@ use Rattle.pp_cert.specs.Tree.{entry_tree, entry_members, note_tree, certificate
 
 entries_plain : (c : Configuration) (p : Terms) (es : List Entry) → members_have_float (entry_members c p es) ≡ false
 entries_plain c p [] = refl
-entries_plain c p (e ∷ es) = entries_plain c p es
+entries_plain c p (Slot s r h ∷ es) = entries_plain c p es
+entries_plain c p (Bundle s k ∷ es) = entries_plain c p es
 
 notes_plain : (c : Configuration) (p : Terms) (notes : List (List Entry))
     → items_have_float (items_of (map (note_tree c p) notes)) ≡ false
@@ -42,9 +45,14 @@ no_float c p t = rw (notes_plain c p t.notes) refl
 max_within : (a b n : ℕ) → a ≤ n → b ≤ n → max a b ≤ n
 max_within a b n h k = omega arith
 
+entry_depth : (c : Configuration) (e : Entry) → depth (entry_tree c e) ≤ 1
+entry_depth c (Slot s r h) = omega arith
+entry_depth c (Bundle s k) = omega arith
+
 entries_depth : (c : Configuration) (p : Terms) (es : List Entry) → members_depth (entry_members c p es) ≤ 1
 entries_depth c p [] = omega arith
-entries_depth c p (e ∷ es) = max_within 1 (members_depth (entry_members c p es)) 1 (omega arith) (entries_depth c p es)
+entries_depth c p (e ∷ es) =
+    max_within (depth (entry_tree c e)) (members_depth (entry_members c p es)) 1 (entry_depth c e) (entries_depth c p es)
 
 notes_depth : (c : Configuration) (p : Terms) (notes : List (List Entry))
     → items_depth (items_of (map (note_tree c p) notes)) ≤ 2
@@ -67,17 +75,18 @@ quoted_held X = refl
 -- ---- bytes
 
 entry_bytes : (c : Configuration) (p : Terms) → IsConfiguration c → IsPlan p → (e : Entry) → IsEntry c p e
-    → quoted (slot_name p.slots e.slot) ++ 58 ∷ compact_text (entry_tree c e) ≡ entry_text c p e
-entry_bytes c p settings plan e is =
-    let words : List Data = string (region_name c e.region) ∷ string (held_text e.held) ∷ [] in
-    let name = region_quoted c settings e.region is.region in
-    let held = quoted_held e.held in
-    let value = list_bytes words (in_quotes (region_name c e.region) ∷ in_quotes (held_text e.held) ∷ [])
+    → quoted (slot_name p.slots (entry_slot e)) ++ 58 ∷ compact_text (entry_tree c e) ≡ entry_text c p e
+entry_bytes c p settings plan (Bundle s k) is = let no = is.plain in absurd (cc)
+entry_bytes c p settings plan (Slot s r h) is =
+    let words : List Data = string (region_name c r) ∷ string (held_text h) ∷ [] in
+    let name = region_quoted c settings r is.region in
+    let held = quoted_held h in
+    let value = list_bytes words (in_quotes (region_name c r) ∷ in_quotes (held_text h) ∷ [])
     (λ i. name i ∷ held i ∷ []) in
-    ap (λ z. z ++ 58 ∷ compact_text (entry_tree c e)) (slot_quoted p plan e.slot is.slot)
-    ∙ ap (λ z. in_quotes (slot_name p.slots e.slot) ++ 58 ∷ z) value
-    ∙ sym (append_assoc (in_quotes (slot_name p.slots e.slot)) (58 ∷ [])
-    (in_brackets (in_quotes (region_name c e.region) ∷ in_quotes (held_text e.held) ∷ [])))
+    ap (λ z. z ++ 58 ∷ compact_text (entry_tree c (Slot s r h))) (slot_quoted p plan s is.slot)
+    ∙ ap (λ z. in_quotes (slot_name p.slots s) ++ 58 ∷ z) value
+    ∙ sym (append_assoc (in_quotes (slot_name p.slots s)) (58 ∷ [])
+    (in_brackets (in_quotes (region_name c r) ∷ in_quotes (held_text h) ∷ [])))
 
 first_bytes : (q d m t r : List ℕ) → q ++ 58 ∷ d ≡ t → m ≡ r → q ++ 58 ∷ (d ++ m) ≡ t ++ r
 first_bytes q d m t r is more = sym (append_assoc q (58 ∷ d) m) ∙ ap (λ z. z ++ m) is ∙ ap (λ z. t ++ z) more
@@ -89,7 +98,7 @@ entries_bytes c p settings plan [] are = refl
 entries_bytes c p settings plan (e ∷ es) are =
     let more = entries_bytes c p settings plan es (All-tail (IsEntry c p) e es are) in
     let here = entry_bytes c p settings plan e (All-head (IsEntry c p) e es are) in
-    ap (λ z. 44 ∷ z) (first_bytes (quoted (slot_name p.slots e.slot)) (compact_text (entry_tree c e))
+    ap (λ z. 44 ∷ z) (first_bytes (quoted (slot_name p.slots (entry_slot e))) (compact_text (entry_tree c e))
     (members_text true (entry_members c p es)) (entry_text c p e) _ here more)
     ∙ ap (λ z. 44 ∷ z) (sym (append_assoc (entry_text c p e) (flat_map (λ u. 44 ∷ u) (map (entry_text c p) es))
     (125 ∷ [])))
@@ -103,7 +112,7 @@ note_bytes c p settings plan (e ∷ es) are =
     let here = entry_bytes c p settings plan e (All-head (IsEntry c p) e es are) in
     let others = flat_map (λ u. 44 ∷ u) (map (entry_text c p) es) in
     ap (λ z. 123 ∷ z)
-    (first_bytes (quoted (slot_name p.slots e.slot)) (compact_text (entry_tree c e))
+    (first_bytes (quoted (slot_name p.slots (entry_slot e))) (compact_text (entry_tree c e))
     (members_text true (entry_members c p es)) (entry_text c p e) _ here more
     ∙ sym (append_assoc (entry_text c p e) others (125 ∷ []))
     ∙ ap (λ z. z ++ 125 ∷ []) (sym (joined (entry_text c p e) (map (entry_text c p) es))))

@@ -1,10 +1,12 @@
 -- What a certificate claims, apart from where it lies in memory.
-use Rattle.std.specs.Prelude.{ℕ, List, ◌<◌, ◌≤◌, length, All, AllPairs}
+use Rattle.std.specs.Prelude.{◌≡◌, ℕ, false, List, ◌<◌, ◌≤◌, length, All, AllPairs}
 use Rattle.pp_settings.specs.Settings.{Configuration}
 use Rattle.pp_plan.specs.Terms.{Terms}
 use Rattle.pp_cert.specs.Limits.{most_notes, most_entries}
 use Rattle.pp_cert.specs.declared.note.Entry.{Entry}
+use Rattle.pp_cert.specs.declared.note.Entry.TheVariants.{Slot, Bundle}
 use Rattle.pp_cert.specs.declared.certificate.Certificate.{Certificate}
+use Rattle.pp_cert.specs.Notes.{entry_slot, is_bundle}
 
 -- The note at each place, a bound on the slots held at once, and a bound on the actions of a trace.
 pub record Claims : Type 0 where
@@ -21,15 +23,21 @@ pub record AreFew (notes : List (List Entry)) : Type 0 where
   pub notes_few : length notes ≤ most_notes
   pub entries_few : All (λ note. length note ≤ most_entries) notes
 
--- The entry's slot is one of the plan's, and its region one of the settings'.
+-- The region of the entry's page is one of the settings'; a bundle names none.
+abbrev pub HasRegion : Configuration → Entry → Type 0
+HasRegion c (Slot s r h) = r < length c.regions
+HasRegion c (Bundle s k) = Unit {0}
+
+-- The entry's slot is one of the plan's, and its region one of the settings'. It is no bundle, since no plan has one.
 pub record IsEntry (c : Configuration) (p : Terms) (e : Entry) : Type 0 where
-  pub slot : e.slot < length p.slots
-  pub region : e.region < length c.regions
+  pub slot : entry_slot e < length p.slots
+  pub region : HasRegion c e
+  pub plain : is_bundle e ≡ false
 
 -- The entries are the plan's and the settings', and stand by rising slot.
 pub record IsNote (c : Configuration) (p : Terms) (note : List Entry) : Type 0 where
   pub entries : All (IsEntry c p) note
-  pub rising : AllPairs (λ d e. d.slot < e.slot) note
+  pub rising : AllPairs (λ d e. entry_slot d < entry_slot e) note
 
 -- Claims that a text can spell: each note is in form, and notes and entries are few enough.
 pub record AreClaims (c : Configuration) (p : Terms) (t : Claims) : Type 0 where

@@ -11,6 +11,7 @@ use Rattle.pp_settings.specs.Settings.{Configuration, region_named}
 use Rattle.pp_plan.specs.Terms.{Terms}
 use Rattle.pp_plan.specs.Slots.{slot_named}
 use Rattle.pp_cert.specs.declared.note.Entry.{Entry}
+use Rattle.pp_cert.specs.declared.note.Entry.TheVariants.{Slot}
 use Rattle.pp_cert.specs.declared.error.CertError.{CertError}
 use Rattle.pp_cert.specs.declared.error.CertError.TheVariants.{NotJson, WrongField, UnknownName, TooMany}
 use Rattle.pp_cert.specs.Limits.{most_notes, most_entries}
@@ -33,7 +34,7 @@ read_entry c p key d = do
   held ← ok_or (option_and_then held_of (as_str two.1)) WrongField
   slot ← ok_or (slot_named p key) UnknownName
   region ← ok_or (region_named c region_name) UnknownName
-  Ok (record { slot = slot; region = region; held = held })
+  Ok (Slot slot region held)
 
 -- ---- notes
 

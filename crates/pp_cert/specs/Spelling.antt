@@ -8,15 +8,22 @@ use Rattle.pp_settings.specs.Settings.{Configuration, region_named}
 use Rattle.pp_plan.specs.Terms.{Terms}
 use Rattle.pp_plan.specs.Slots.{slot_named}
 use Rattle.pp_cert.specs.declared.note.Entry.{Entry}
+use Rattle.pp_cert.specs.declared.note.Entry.TheVariants.{Slot, Bundle}
+use Rattle.pp_cert.specs.declared.note.Held.{Held}
 use Rattle.pp_cert.specs.Claims.{Claims, AreFew}
 use Rattle.pp_cert.specs.Words.{held_text, certificate_keys}
 
--- The key names the entry's slot, and its value is the list of the region's name and of how the page is held.
-pub record SpellsEntry (c : Configuration) (p : Terms) (key : List ℕ) (d : Data) (e : Entry) : Type 0 where
-  pub slot : slot_named p key ≡ Some e.slot
+-- The key names the slot, and the value is the list of the region's name and of how the page is held.
+pub record SpellsPage (c : Configuration) (p : Terms) (key : List ℕ) (d : Data) (s r : ℕ) (h : Held) : Type 0 where
+  pub slot : slot_named p key ≡ Some s
   pub name : List ℕ
-  pub region : region_named c name ≡ Some e.region
-  pub value : d ≡ array (item (string name) (item (string (held_text e.held)) no_items))
+  pub region : region_named c name ≡ Some r
+  pub value : d ≡ array (item (string name) (item (string (held_text h)) no_items))
+
+-- The key and its value spell the entry; nothing spells a bundle, since no plan has one.
+abbrev pub SpellsEntry : Configuration → Terms → List ℕ → Data → Entry → Type 0
+SpellsEntry c p key d (Slot s r h) = SpellsPage c p key d s r h
+SpellsEntry c p key d (Bundle s k) = ⊥
 
 -- There is one member for each entry, in the same order.
 abbrev pub SpellsEntries : Configuration → Terms → Members → List Entry → Type 0

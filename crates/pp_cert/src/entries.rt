@@ -1,9 +1,9 @@
 //! Reading the entries of one note, and comparing those of two.
 
-ghost use Rattle.std.specs.Prelude.{◌≡◌, ◌++◌, ◌==◌, nat_lt, position};
-ghost use Rattle.pp_cert.specs.Notes.{same_note, region_class, noted_at, slot_class, is_above_latched, entry_slot};
-ghost use Rattle.pp_cert.specs.Notes.{noted_as};
-ghost use Rattle.pp_cert.specs.Slots.{slot_insert, slot_remove};
+ghost use Rattle.std.specs.Prelude.{◌≡◌, ◌++◌, nat_lt, position};
+ghost use Rattle.pp_cert.specs.Notes.{same_note, region_class, entry_class, noted_at, slot_class, is_above_latched};
+ghost use Rattle.pp_cert.specs.Notes.{entry_slot, is_slot, noted_as, without_page};
+ghost use Rattle.pp_cert.specs.Slots.{slot_insert};
 
 use crate::note::{Entry, Held};
 use pp_plan::Mode;
@@ -20,8 +20,8 @@ pub(crate) fn is_same(left: &[Entry], right: &[Entry]) -> bool
 pub(crate) fn noted_at(note: &[Entry], slot: u8) -> Option<Held>
     ensures { result ≡ noted_at note.now slot }
 {
-    let entry = note.iter().find(|entry| entry.slot == slot)?;
-    Some(entry.held)
+    let entry = note.iter().find(|entry| entry.is_slot(slot))?;
+    Some(entry.held())
 }
 
 /// The class of a region's pages.
@@ -31,12 +31,22 @@ fn region_class(layout: &Layout, region: u8) -> u8
     layout.extent(region).map_or(0, |extent| extent.class)
 }
 
+/// The class of an entry's page.
+fn entry_class(layout: &Layout, entry: &Entry) -> u8
+    ensures { result ≡ entry_class layout.now entry.now }
+{
+    match *entry {
+        Entry::Slot { region, .. } => region_class(layout, region),
+        Entry::Bundle { .. } => 0,
+    }
+}
+
 /// The class of the slot's page.
 fn slot_class(layout: &Layout, note: &[Entry], slot: u8) -> u8
     ensures { result ≡ slot_class layout.now note.now slot }
 {
-    match note.iter().find(|entry| entry.slot == slot) {
-        Some(entry) => region_class(layout, entry.region),
+    match note.iter().find(|entry| entry.is_slot(slot)) {
+        Some(entry) => entry_class(layout, entry),
         None => 0,
     }
 }
@@ -46,7 +56,7 @@ pub(crate) fn is_above_latched(layout: &Layout, note: &[Entry], slot: u8) -> boo
     ensures { result ≡ is_above_latched layout.now note.now slot }
 {
     let class = slot_class(layout, note, slot);
-    note.iter().all(|entry| entry.held == Held::Free || region_class(layout, entry.region) < class)
+    note.iter().all(|entry| entry.held() == Held::Free || entry_class(layout, entry) < class)
 }
 
 /// Whether `whole` is `front`, then `middle`, then `back`.
@@ -65,24 +75,23 @@ fn is_joined(whole: &[Entry], front: &[Entry], middle: &[Entry], back: &[Entry])
 
 /// The place of the slot's entry, if it has one.
 fn position_of(note: &[Entry], slot: u8) -> Option<usize>
-    ensures { result ≡ position (λ entry. entry_slot entry == slot) note.now }
+    ensures { result ≡ position (is_slot slot) note.now }
 {
-    note.iter().position(|entry| entry.slot == slot)
+    note.iter().position(|entry| entry.is_slot(slot))
 }
 
 /// The place of the first entry of a greater slot, if there is one.
 fn position_after(note: &[Entry], slot: u8) -> Option<usize>
     ensures { result ≡ position (λ entry. nat_lt slot (entry_slot entry)) note.now }
 {
-    note.iter().position(|entry| slot < entry.slot)
+    note.iter().position(|entry| slot < entry.slot())
 }
 
 /// Whether `after` is `before` with one more entry, at its place by rising slot.
-#[tactic(auto, using(crate::proofs::Splices::inserts))]
 pub(crate) fn is_inserted(before: &[Entry], entry: Entry, after: &[Entry]) -> bool
     ensures { result ≡ same_note after.now (slot_insert entry_slot entry before.now) }
 {
-    match position_after(before, entry.slot) {
+    match position_after(before, entry.slot()) {
         Some(place) => {
             let (front, back) = before.split_at(place);
             is_joined(after, front, &[entry], back)
@@ -92,18 +101,20 @@ pub(crate) fn is_inserted(before: &[Entry], entry: Entry, after: &[Entry]) -> bo
 }
 
 /// Whether `after` is `before` without the slot's entry.
-#[tactic(auto, using(crate::proofs::Splices::removes))]
+#[tactic(auto, using(crate::proofs::Pins::removes))]
 pub(crate) fn is_removed(before: &[Entry], slot: u8, after: &[Entry]) -> bool
-    ensures { result ≡ same_note after.now (slot_remove entry_slot slot before.now) }
+    ensures { result ≡ same_note after.now (without_page slot before.now) }
 {
-    match position_of(before, slot) {
-        Some(place) => {
-            let (front, _) = before.split_at(place);
-            let (_, back) = before.split_at(place + 1);
-            is_joined(after, front, &[], back)
+    let mut left = after;
+    for entry in before {
+        if !entry.is_slot(slot) {
+            match left.split_first() {
+                Some((first, rest)) if first == entry => left = rest,
+                _ => return false,
+            }
         }
-        None => is_same(after, before),
     }
+    left.is_empty()
 }
 
 /// Whether `after` is `before` with the slot's page held so.

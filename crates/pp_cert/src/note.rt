@@ -30,23 +30,77 @@ impl From<Mode> for Held {
     }
 }
 
-/// One slot that is held: a page of the region is fixed in it.
+/// One slot that is held.
 #[derive(Clone, Copy, Debug, PartialEq, Eq)]
-pub struct Entry {
-    /// The slot's number in the plan.
-    pub slot: u8,
-    /// The region's number in the settings.
-    pub region: u8,
-    /// How the page is held.
-    pub held: Held,
+pub enum Entry {
+    /// A page of the region is fixed in the slot.
+    Slot {
+        /// The slot's number in the plan.
+        slot: u8,
+        /// The region's number in the settings.
+        region: u8,
+        /// How the page is held.
+        held: Held,
+    },
+    /// The slot is a bundle of pages. No plan has one, so no certificate with such an entry is accepted.
+    Bundle {
+        /// The slot's number in the plan.
+        slot: u8,
+        /// The most pages that it pins.
+        bound: u16,
+    },
 }
 
 impl Entry {
-    /// The entry with its page held so.
-    pub(crate) fn held_as(self, held: Held) -> Entry
-        ensures { result ≡ record self { held = held } }
+    ghost use Rattle.pp_cert.specs.Notes.{entry_slot, entry_pins, entry_held, entry_as, is_slot};
+
+    /// The slot's number in the plan.
+    pub fn slot(&self) -> u8
+        ensures { result ≡ entry_slot self.now }
     {
-        Entry { held, ..self }
+        match *self {
+            Entry::Slot { slot, .. } | Entry::Bundle { slot, .. } => slot,
+        }
+    }
+
+    /// How many pages it pins: one, or at most as many as a bundle's bound says.
+    pub fn pins(&self) -> u16
+        ensures { result ≡ entry_pins self.now }
+    {
+        match *self {
+            Entry::Slot { .. } => 1,
+            Entry::Bundle { bound, .. } => bound,
+        }
+    }
+
+    /// How its page is held; no page of a bundle is latched.
+    pub fn held(&self) -> Held
+        ensures { result ≡ entry_held self.now }
+    {
+        match *self {
+            Entry::Slot { held, .. } => held,
+            Entry::Bundle { .. } => Held::Free,
+        }
+    }
+
+    /// Whether a page of its own is fixed in this slot.
+    pub fn is_slot(&self, number: u8) -> bool
+        ensures { result ≡ is_slot number self.now }
+    {
+        match *self {
+            Entry::Slot { slot, .. } => slot == number,
+            Entry::Bundle { .. } => false,
+        }
+    }
+
+    /// The entry with its page held so; a bundle's stays as it is.
+    pub fn held_as(self, held: Held) -> Entry
+        ensures { result ≡ entry_as held self }
+    {
+        match self {
+            Entry::Slot { slot, region, .. } => Entry::Slot { slot, region, held },
+            Entry::Bundle { .. } => self,
+        }
     }
 }
 
@@ -82,12 +136,16 @@ impl Note {
         &self.entries
     }
 
-    /// How many pages are pinned where this is held: one for each entry.
-    #[tactic(auto, using(crate::proofs::Pins::pins_are_entries))]
-    pub fn pins(&self) -> u64
+    /// How many pages are pinned where this is held: those of all entries together.
+    #[tactic(auto, using(crate::proofs::Pins::pins_left))]
+    pub fn pins(&self) -> u128
         ensures { result ≡ note_pins self.now }
     {
-        self.entries.len() as u64
+        let mut pins = 0;
+        for entry in &self.entries {
+            pins += u128::from(entry.pins());
+        }
+        pins
     }
 
     /// Gives the entries back.

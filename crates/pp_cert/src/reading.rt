@@ -67,7 +67,7 @@ fn read_entry(
         .ok_or(CertError::WrongField)?;
     let slot = plan.slot(key).ok_or(CertError::UnknownName)?;
     let region = settings.region(region).ok_or(CertError::UnknownName)?;
-    Ok(Entry { slot, region, held })
+    Ok(Entry::Slot { slot, region, held })
 }
 
 /// The entries of a note, in the byte order of slot names.

@@ -49,7 +49,7 @@ impl Walk<'_> {
         if !is_expected {
             return Err(CheckError::NoteDiffers { place });
         }
-        if note.pins() > self.certificate.peak {
+        if note.pins() > u128::from(self.certificate.peak) {
             return Err(CheckError::OverPeak { place });
         }
         Ok(place)
@@ -94,7 +94,7 @@ impl Walk<'_> {
         if noted_at(before, slot).is_some() {
             return Err(CheckError::SlotInUse { place: at });
         }
-        let entry = Entry {
+        let entry = Entry::Slot {
             slot,
             region,
             held: Held::Free,

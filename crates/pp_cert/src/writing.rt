@@ -1,12 +1,12 @@
 //! Writes a certificate as JSON.
 
-ghost use Rattle.std.specs.Prelude.{◌≡◌, ◌<◌, All, IfOk, length, map, string_bytes};
+ghost use Rattle.std.specs.Prelude.{◌≡◌, All, IfOk, map, string_bytes};
 ghost use Rattle.serde_json.specs.Data.{array, object};
 ghost use Rattle.serde_json.specs.View.{view, items_of};
 ghost use Rattle.serde_json.specs.Read.{read};
 ghost use Rattle.serde_json.specs.Written.{compact_text};
 ghost use Rattle.pp_plan.specs.Terms.{IsPlan};
-ghost use Rattle.pp_cert.specs.Claims.{claims_of, IsEntry, IsNote, AreClaims};
+ghost use Rattle.pp_cert.specs.Claims.{claims_of, HasRegion, IsNote, AreClaims};
 ghost use Rattle.pp_cert.specs.Words.{held_text};
 ghost use Rattle.pp_cert.specs.Tree.{entry_tree, note_tree, certificate_members};
 
@@ -30,10 +30,14 @@ fn held_text(held: Held) -> &'static str
 
 /// The value at a slot's name.
 fn entry_value(alloc: Global, settings: &Settings, entry: Entry) -> Result<Value, AllocError>
-    requires { entry.region < length settings.now.regions }
+    requires { HasRegion settings.now entry }
     ensures { IfOk result (λ v. view v ≡ entry_tree settings.now entry) }
 {
-    json!(in alloc; [settings.name(entry.region), held_text(entry.held)])
+    match entry {
+        Entry::Slot { region, held, .. } =>
+            json!(in alloc; [settings.name(region), held_text(held)]),
+        Entry::Bundle { bound, .. } => json!(in alloc; bound),
+    }
 }
 
 /// The object of a note.
@@ -50,7 +54,7 @@ fn note_value(
     let mut members = Map::new(alloc);
     for entry in entries {
         let value = entry_value(alloc, settings, *entry)?;
-        serde_json::put(&mut members, alloc, plan.slot_name(entry.slot), value)?;
+        serde_json::put(&mut members, alloc, plan.slot_name(entry.slot()), value)?;
     }
     Ok(Value::from(members))
 }

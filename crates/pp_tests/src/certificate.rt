@@ -114,12 +114,12 @@ fn refusals_have_their_parts(rt: HostRuntime) {
 #[test]
 fn a_note_gives_its_entries_back(rt: HostRuntime) -> Result<(), Fail> {
     let entries = [
-        Entry {
+        Entry::Slot {
             slot: 0,
             region: 1,
             held: Held::S,
         },
-        Entry {
+        Entry::Slot {
             slot: 31,
             region: 63,
             held: Held::Free,
@@ -129,6 +129,45 @@ fn a_note_gives_its_entries_back(rt: HostRuntime) -> Result<(), Fail> {
     assert_eq!(rt; note.entries(), entries.as_slice());
     let back = note.into_entries();
     assert_eq!(rt; back.as_slice(), entries.as_slice());
+    Ok(())
+}
+
+/// A certificate of three notes, the first of which is empty.
+fn three_notes(alloc: Global, second: Entry, third: &[Entry]) -> Result<Certificate, Fail> {
+    let mut notes = Vec::new(alloc);
+    notes.push(Note::new(Vec::new(alloc)))?;
+    notes.push(Note::new([second].to_vec(alloc)?))?;
+    notes.push(Note::new(third.to_vec(alloc)?))?;
+    Ok(Certificate {
+        peak: 9,
+        steps: 9,
+        notes,
+    })
+}
+
+#[test]
+fn a_bundle_is_no_expected_note(rt: HostRuntime) -> Result<(), Fail> {
+    let alloc = rt.alloc();
+    let settings = two_regions(alloc, 9)?;
+    let text = "{\"body\":[{\"fix\":\"a\",\"region\":\"leaf\"},{\"unfix\":\"a\"}],\"version\":1}";
+    let plan = Plan::from_text(alloc, &settings, text)?;
+    let page = Entry::Slot {
+        slot: 0,
+        region: 1,
+        held: Held::Free,
+    };
+    let bundle = Entry::Bundle { slot: 0, bound: 1 };
+    for (second, third, number, place) in [
+        (bundle, [bundle].as_slice(), 33, 1),
+        (page, [bundle].as_slice(), 33, 2),
+        (page, [].as_slice(), 0, 9),
+    ] {
+        let certificate = three_notes(alloc, second, third)?;
+        let fault = fault_under(&settings.layout(), &plan, &certificate);
+        same_number(&rt, fault.map_or(0, |f| u64::from(f.number())), number);
+        let at = fault.and_then(|f| f.place()).unwrap_or(9);
+        same_number(&rt, u64::from(at), place);
+    }
     Ok(())
 }
 

@@ -1,0 +1,100 @@
+-- No note of a plan pins more pages than the plan has statements.
+use Rattle.std.proofs.Common.{◌≡◌, ℕ, ◌+◌, ◌≤◌, ◌<◌, ◌^◌, true, false, [], ◌∷◌, ◌++◌, List, refl, arith}
+use Rattle.std.specs.Prelude.{nat_lt, if◌then◌else◌}
+use Rattle.pp_plan.specs.Tree.{Step, fix, unfix, latch, unlatch, Statement, step, loop, choice, Sequence, skip, andthen}
+use Rattle.pp_plan.specs.Tree.{Alternatives, none, either, statement_count, sequence_count, alternatives_count}
+use Rattle.pp_plan.specs.Terms.{Terms, IsPlan}
+use Rattle.pp_cert.specs.declared.note.Entry.{Entry}
+use Rattle.pp_cert.specs.declared.note.Entry.TheVariants.{Slot, Bundle}
+use Rattle.pp_cert.specs.declared.note.Held.{Held}
+use Rattle.pp_cert.specs.declared.note.Held.TheVariants.{Free}
+use Rattle.pp_cert.specs.Slots.{slot_insert}
+use Rattle.pp_cert.specs.Held.{held_in}
+use Rattle.pp_cert.specs.Notes.{Entries, entry_slot, entry_pins, note_pins, is_slot, entry_as, noted_as, without_page}
+use Rattle.pp_cert.specs.Notes.{noted_after}
+use Rattle.pp_annotate.specs.Made.{after_statement, after_sequence, after_first, statement_notes, sequence_notes}
+use Rattle.pp_annotate.specs.Made.{branches_notes, made_notes, greatest}
+
+-- ---- one step
+
+one_more : (e : Entry) (n : Entries) → note_pins (slot_insert entry_slot e n) ≡ entry_pins e + note_pins n
+one_more e [] = refl
+one_more e (y ∷ n) =
+    elim (nat_lt (entry_slot e) (entry_slot y))
+    as (λ b. note_pins (if b then e ∷ y ∷ n else y ∷ slot_insert entry_slot e n) ≡ entry_pins e + note_pins (y ∷ n)) [
+      | true ↦ refl
+      | false ↦ omega (arith, one_more e n)
+    ]
+
+no_more : (s : ℕ) (n : Entries) → note_pins (without_page s n) ≤ note_pins n
+no_more s [] = omega arith
+no_more s (y ∷ n) =
+    elim (is_slot s y) as (λ b. note_pins (if b then without_page s n else y ∷ without_page s n) ≤ note_pins (y ∷ n)) [
+      | true ↦ omega (arith, no_more s n)
+      | false ↦ omega (arith, no_more s n)
+    ]
+
+same_pins : (held : Held) (e : Entry) → entry_pins (entry_as held e) ≡ entry_pins e
+same_pins held (Slot s r h) = refl
+same_pins held (Bundle s k) = refl
+
+as_many : (held : Held) (s : ℕ) (n : Entries) → note_pins (noted_as held s n) ≡ note_pins n
+as_many held s [] = refl
+as_many held s (y ∷ n) =
+    elim (is_slot s y)
+    as (λ b. note_pins (if b then entry_as held y ∷ n else y ∷ noted_as held s n) ≡ note_pins (y ∷ n)) [
+      | true ↦ omega (arith, same_pins held y)
+      | false ↦ omega (arith, as_many held s n)
+    ]
+
+step_small : (s : Step) (n : Entries) → note_pins (noted_after s n) ≤ note_pins n + 1
+step_small (fix s r) n = omega (arith, one_more (Slot s r Free) n)
+step_small (unfix s) n = omega (arith, no_more s n)
+step_small (latch s m) n = omega (arith, as_many (held_in m) s n)
+step_small (unlatch s) n = omega (arith, as_many Free s n)
+
+-- ---- notes
+
+greatest_both : (ms ns : List Entries) (m : ℕ) → greatest ms ≤ m → greatest ns ≤ m → greatest (ms ++ ns) ≤ m
+greatest_both [] ns m a b = b
+greatest_both (x ∷ ms) ns m a b =
+    let rest = greatest_both ms ns m (omega (arith, a)) b in
+    omega (arith, a, rest)
+
+mutual
+  statement_small : (s : Statement) (n : Entries) (m : ℕ) → note_pins n + statement_count s ≤ m
+      → (greatest (statement_notes s n) ≤ m)
+      × (note_pins (after_statement s n) ≤ note_pins n + statement_count s)
+  statement_small (step s) n m h = (omega arith, omega (arith, step_small s n))
+  statement_small (loop c b) n m h =
+      let body = sequence_small b n m (omega (arith, h)) in
+      (omega (arith, h, body.0), omega (arith, body.1))
+  statement_small (choice bs) n m h =
+      let all = branches_small bs n m (omega (arith, h)) in
+      (all.0, omega (arith, all.1))
+
+  sequence_small : (b : Sequence) (n : Entries) (m : ℕ) → note_pins n + sequence_count b ≤ m
+      → (greatest (sequence_notes b n) ≤ m)
+      × (note_pins (after_sequence b n) ≤ note_pins n + sequence_count b)
+  sequence_small skip n m h = (omega arith, omega arith)
+  sequence_small (andthen s b) n m h =
+      let next : Entries = after_statement s n in
+      let first = statement_small s n m (omega (arith, h)) in
+      let rest = sequence_small b next m (omega (arith, h, first.1)) in
+      let later : greatest (next ∷ sequence_notes b next) ≤ m = omega (arith, h, first.1, rest.0) in
+      (greatest_both (statement_notes s n) (next ∷ sequence_notes b next) m first.0 later, omega (arith, first.1, rest.1))
+
+  branches_small : (bs : Alternatives) (n : Entries) (m : ℕ) → note_pins n + alternatives_count bs ≤ m
+      → (greatest (branches_notes bs n) ≤ m)
+      × (note_pins (after_first bs n) ≤ note_pins n + alternatives_count bs)
+  branches_small none n m h = (omega arith, omega arith)
+  branches_small (either b bs) n m h =
+      let first = sequence_small b n m (omega (arith, h)) in
+      let later = branches_small bs n m (omega (arith, h)) in
+      let here : greatest (n ∷ sequence_notes b n) ≤ m = omega (arith, h, first.0) in
+      (greatest_both (n ∷ sequence_notes b n) (branches_notes bs n) m here later.0, omega (arith, first.1))
+
+pub made_small : (p : Terms) → IsPlan p → greatest (made_notes p) < 2 ^ 64
+made_small p plan =
+    let all = sequence_small p.body [] (sequence_count p.body) (omega arith) in
+    omega (arith, all.0, plan.body.count)
