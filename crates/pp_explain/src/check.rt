@@ -1,0 +1,186 @@
+//! Refusals of a certificate by the check.
+
+use crate::entries::note_text;
+use crate::fault::place_text;
+use crate::places::{place_of, size_of};
+use crate::reading::{certificate_in, plan_in};
+use pp_cert::{Certificate, CheckError, MOST_STEPS, longest_trace};
+use pp_locate::{Said, Step, said_at, text_of};
+use pp_plan::Plan;
+use pp_settings::Settings;
+use std::alloc::{AllocError, Global};
+
+/// Whether the refusal is of the plan itself, so that no certificate would be accepted.
+pub(crate) fn is_of_plan(error: CheckError) -> bool {
+    match error {
+        CheckError::SlotInUse { .. }
+        | CheckError::NotFixed { .. }
+        | CheckError::StillLatched { .. }
+        | CheckError::NotLatched { .. }
+        | CheckError::AgainstOrder { .. }
+        | CheckError::LoopChanges { .. }
+        | CheckError::BranchDiffers { .. }
+        | CheckError::EndsHolding { .. }
+        | CheckError::OtherSettings => true,
+        CheckError::NotesShort { .. }
+        | CheckError::NotesLong { .. }
+        | CheckError::NoteDiffers { .. }
+        | CheckError::OverPeak { .. }
+        | CheckError::StepsTooFew
+        | CheckError::StepsTooMany
+        | CheckError::PeakTooBig => false,
+    }
+}
+
+/// A certificate, with what it is for.
+#[derive(Clone, Copy)]
+struct Matter<'a> {
+    settings: &'a Settings,
+    plan: &'a Plan,
+    /// The bytes of the plan.
+    bytes: &'a [u8],
+    /// The text of the certificate.
+    text: &'a str,
+    certificate: &'a Certificate,
+}
+
+/// What is said of the bytes of a certificate that is refused so for the plan of these bytes under these settings.
+pub(crate) fn check_said(
+    alloc: Global,
+    settings: &Settings,
+    bytes: &[u8],
+    certificate: &[u8],
+    error: CheckError,
+) -> Result<Said, AllocError> {
+    if let Some(plan) = plan_in(alloc, settings, bytes)? {
+        if let Ok(text) = text_of(certificate) {
+            if let Some(certificate) = certificate_in(alloc, settings, &plan, text)? {
+                let matter = Matter {
+                    settings,
+                    plan: &plan,
+                    bytes,
+                    text,
+                    certificate: &certificate,
+                };
+                return matter.said(alloc, error);
+            }
+        }
+    }
+    Ok(Said::of(format!(in alloc; "{error}")?))
+}
+
+impl Matter<'_> {
+    /// What is said of the certificate.
+    fn said(&self, alloc: Global, error: CheckError) -> Result<Said, AllocError> {
+        match error {
+            CheckError::NotesShort { place } => self.short(alloc, place),
+            CheckError::NotesLong { place } => self.long(alloc, place),
+            CheckError::NoteDiffers { place } => self.differs(alloc, place),
+            CheckError::OverPeak { place } => self.over_peak(alloc, place),
+            CheckError::StepsTooFew => self.too_few(alloc),
+            CheckError::StepsTooMany => self.too_many(alloc),
+            CheckError::PeakTooBig => self.too_big(alloc),
+            _ => Ok(Said::of(format!(in alloc; "{error}")?)),
+        }
+    }
+
+    /// What is held at the place, as a note, and where the place lies.
+    fn place(&self, alloc: Global, place: u32) -> Result<(String, String), AllocError> {
+        match place_of(alloc, self.plan, place)? {
+            Some(found) => {
+                let held = note_text(alloc, self.settings, self.plan, &found.held)?;
+                let lies = place_text(alloc, self.bytes, &found)?;
+                Ok((held, lies))
+            }
+            None => Ok((String::new(alloc), String::new(alloc))),
+        }
+    }
+
+    /// The note at the place, as the certificate has it.
+    fn note(&self, alloc: Global, place: u32) -> Result<String, AllocError> {
+        match self.certificate.notes.get(place as usize) {
+            Some(note) => note_text(alloc, self.settings, self.plan, note.entries()),
+            None => Ok(String::new(alloc)),
+        }
+    }
+
+    /// This, said of the note at the place.
+    fn said_of_note(&self, alloc: Global, place: u32, what: String) -> Result<Said, AllocError> {
+        let steps = [Step::Key("notes"), Step::Item(place as usize)];
+        said_at(alloc, self.text, &steps, what)
+    }
+
+    /// A note is missing.
+    fn short(&self, alloc: Global, place: u32) -> Result<Said, AllocError> {
+        let (held, lies) = self.place(alloc, place)?;
+        let places = size_of(alloc, self.plan)?.places;
+        let notes = self.certificate.notes.len();
+        let what = format!(in alloc;
+            "note {place} is missing, {lies}: the certificate has notes for {notes} of the plan's {places} places; \
+            held there is {held}"
+        )?;
+        said_at(alloc, self.text, &[Step::Key("notes")], what)
+    }
+
+    /// A note is left over.
+    fn long(&self, alloc: Global, place: u32) -> Result<Said, AllocError> {
+        let note = self.note(alloc, place)?;
+        let places = size_of(alloc, self.plan)?.places;
+        let what = format!(in alloc;
+            "note {place}, {note}: it is left over, since the plan has {places} places, numbered from 0"
+        )?;
+        self.said_of_note(alloc, place, what)
+    }
+
+    /// A note isn't the expected one.
+    fn differs(&self, alloc: Global, place: u32) -> Result<Said, AllocError> {
+        let (held, lies) = self.place(alloc, place)?;
+        let note = self.note(alloc, place)?;
+        let what = format!(in alloc;
+            "note {place}, {lies}: it is {note}, and held there is {held}"
+        )?;
+        self.said_of_note(alloc, place, what)
+    }
+
+    /// A note holds more pages than the peak.
+    fn over_peak(&self, alloc: Global, place: u32) -> Result<Said, AllocError> {
+        let (_, lies) = self.place(alloc, place)?;
+        let note = self.note(alloc, place)?;
+        let pins = match self.certificate.notes.get(place as usize) {
+            Some(note) => note.pins(),
+            None => 0,
+        };
+        let peak = self.certificate.peak;
+        let what = format!(in alloc;
+            "note {place}, {lies}: {note} holds {pins} at once, and the peak is {peak}: no note holds more pages than the peak"
+        )?;
+        self.said_of_note(alloc, place, what)
+    }
+
+    /// The longest trace has more actions than the steps.
+    fn too_few(&self, alloc: Global) -> Result<Said, AllocError> {
+        let steps = self.certificate.steps;
+        let longest = longest_trace(self.plan);
+        let what = format!(in alloc;
+            "steps is {steps}: the longest trace of the plan has {longest} actions, and the steps are as many or more"
+        )?;
+        said_at(alloc, self.text, &[Step::Key("steps")], what)
+    }
+
+    /// More steps than there may be.
+    fn too_many(&self, alloc: Global) -> Result<Said, AllocError> {
+        let steps = self.certificate.steps;
+        let what = format!(in alloc; "steps is {steps}: a plan has at most {MOST_STEPS}")?;
+        said_at(alloc, self.text, &[Step::Key("steps")], what)
+    }
+
+    /// A greater peak than there are frames.
+    fn too_big(&self, alloc: Global) -> Result<Said, AllocError> {
+        let peak = self.certificate.peak;
+        let frames = self.settings.frames();
+        let what = format!(in alloc;
+            "peak is {peak}, and frames is {frames}: a peak is at most the frames of the settings"
+        )?;
+        said_at(alloc, self.text, &[Step::Key("peak")], what)
+    }
+}

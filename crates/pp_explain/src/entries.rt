@@ -1,0 +1,112 @@
+//! What is held at a place of a plan.
+
+use pp_cert::{Entry, Held};
+use pp_explain_text::{region_name, slot_name};
+use pp_plan::{Plan, Stmt};
+use pp_settings::Settings;
+use std::alloc::{AllocError, Global};
+
+/// The entry of the slot, if it holds a page.
+pub(crate) fn entry_of(entries: &[Entry], slot: u8) -> Option<Entry> {
+    entries.iter().find(|entry| entry.slot() == slot).copied()
+}
+
+/// What is held after a fix, an unfix, a latch or an unlatch, where this is held before it.
+pub(crate) fn after(
+    alloc: Global,
+    before: &[Entry],
+    stmt: &Stmt,
+) -> Result<Vec<Entry>, AllocError> {
+    match stmt {
+        Stmt::Fix { slot, region } => {
+            let entry = Entry::Slot {
+                slot: *slot,
+                region: *region,
+                held: Held::Free,
+            };
+            with_entry(alloc, before, entry)
+        }
+        Stmt::Unfix { slot } => without(alloc, before, *slot),
+        Stmt::Latch { slot, mode } => held_as(alloc, before, *slot, Held::from(*mode)),
+        Stmt::Unlatch { slot } => held_as(alloc, before, *slot, Held::Free),
+        Stmt::Loop { .. } | Stmt::Choice { .. } => Vec::from_slice(alloc, before),
+    }
+}
+
+/// The entries with one more, by rising slot.
+fn with_entry(alloc: Global, before: &[Entry], entry: Entry) -> Result<Vec<Entry>, AllocError> {
+    let mut entries = Vec::new(alloc);
+    for other in before {
+        if other.slot() < entry.slot() {
+            entries.push(*other)?;
+        }
+    }
+    entries.push(entry)?;
+    for other in before {
+        if other.slot() > entry.slot() {
+            entries.push(*other)?;
+        }
+    }
+    Ok(entries)
+}
+
+/// The entries without that of the slot.
+fn without(alloc: Global, before: &[Entry], slot: u8) -> Result<Vec<Entry>, AllocError> {
+    let mut entries = Vec::new(alloc);
+    for other in before {
+        if other.slot() != slot {
+            entries.push(*other)?;
+        }
+    }
+    Ok(entries)
+}
+
+/// The entries with the slot's page held so.
+fn held_as(
+    alloc: Global,
+    before: &[Entry],
+    slot: u8,
+    held: Held,
+) -> Result<Vec<Entry>, AllocError> {
+    let mut entries = Vec::new(alloc);
+    for other in before {
+        let is_it = other.is_slot(slot);
+        entries.push(if is_it { other.held_as(held) } else { *other })?;
+    }
+    Ok(entries)
+}
+
+/// How a page is held, as a certificate writes it.
+fn held_text(held: Held) -> &'static str {
+    match held {
+        Held::Free => "-",
+        Held::S => "S",
+        Held::X => "X",
+    }
+}
+
+/// The entries as a certificate writes them, as in `{"a":["root","-"]}`.
+pub(crate) fn note_text(
+    alloc: Global,
+    settings: &Settings,
+    plan: &Plan,
+    entries: &[Entry],
+) -> Result<String, AllocError> {
+    let mut text = String::from_str(alloc, "{")?;
+    for (place, entry) in entries.iter().enumerate() {
+        if place > 0 {
+            text.push_str(",")?;
+        }
+        let slot = slot_name(plan, entry.slot());
+        match *entry {
+            Entry::Slot { region, held, .. } => {
+                let region = region_name(settings, region);
+                let held = held_text(held);
+                write!(text, "{slot:?}:[{region:?},{held:?}]")?;
+            }
+            Entry::Bundle { bound, .. } => write!(text, "{slot:?}:{bound}")?,
+        }
+    }
+    text.push_str("}")?;
+    Ok(text)
+}

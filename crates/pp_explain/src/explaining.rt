@@ -1,0 +1,226 @@
+//! Explaining a refusal of a command's files.
+
+ghost use Rattle.std.specs.Prelude.{IfOk, IfSome};
+ghost use Rattle.pp_explain.specs.Paragraphs.{IsAbout, paths_of};
+
+use crate::check::{check_said, is_of_plan};
+use crate::fault::fault_said;
+use crate::journal::journal_said;
+use crate::paragraph::paragraph;
+use crate::plans::refused_plan;
+use crate::reading::{plan_in, settings_in};
+use crate::source::Source;
+use crate::stop::{Stop, stop_said};
+use crate::submit::submit_said;
+use pp_annotate::AnnotateError;
+use pp_cert::{CertError, CheckError};
+use pp_explain_text::{certificate_said, plan_said, script_said, settings_said};
+use pp_locate::Said;
+use pp_model::SubmitError;
+use pp_plan::PlanError;
+use pp_report::AuditError;
+use pp_script::ScriptError;
+use pp_settings::{Settings, SettingsError};
+use std::alloc::{AllocError, Global};
+
+/// The files of a command.
+#[derive(Clone, Copy)]
+pub struct Sources<'a> {
+    /// The settings.
+    pub settings: Source<'a>,
+    /// The certificate, the script or the journal, where the command reads one.
+    pub other: Option<Source<'a>>,
+    /// The plans, in their order.
+    pub plans: &'a [Source<'a>],
+}
+
+/// Why the files of a command are refused.
+#[derive(Clone, Copy)]
+pub enum Refused {
+    /// The settings' file gives no settings.
+    Settings(SettingsError),
+    /// The script's file gives no script.
+    Script(ScriptError),
+    /// A plan's file gives no plan.
+    Plan(PlanError),
+    /// The certificate's file gives no certificate.
+    Certificate(CertError),
+    /// The certificate is not one of the plan.
+    Check(CheckError),
+    /// A plan has no certificate.
+    Annotate(AnnotateError),
+    /// A new pool doesn't take a plan in.
+    Submit(SubmitError),
+    /// The journal is not a true one of the plans.
+    Audit(AuditError),
+    /// The run gives no record.
+    Stop(Stop),
+}
+
+/// What the refusal means: where in which file, what stands there, and the rule. Nothing where the files don't show it.
+///
+/// # Errors
+///
+/// Only where memory runs out.
+pub fn explain(
+    alloc: Global,
+    files: Sources<'_>,
+    refused: Refused,
+) -> Result<Option<Vec<u8>>, AllocError>
+    // A paragraph about one of the files.
+    ensures { IfOk result (λ told. IfSome told (λ text. IsAbout (paths_of files.entry) text.items)) }
+{
+    match finding_of(alloc, files, refused)? {
+        Some(Finding { which, said }) => told(alloc, files, which, &said),
+        None => Ok(None),
+    }
+}
+
+/// One of the files.
+#[derive(Clone, Copy)]
+enum Which {
+    Settings,
+    Other,
+    /// The plan of this number.
+    Plan(usize),
+}
+
+/// What is said, and of which file.
+#[derive(Drop)]
+struct Finding {
+    which: Which,
+    said: Said,
+}
+
+impl Finding {
+    fn of(which: Which, said: Said) -> Option<Finding> {
+        Some(Finding { which, said })
+    }
+}
+
+/// The paragraph of what is said of one of the files, where there is such a file.
+#[tactic(auto, using(crate::proofs::About::abouts))]
+fn told(
+    alloc: Global,
+    files: Sources<'_>,
+    which: Which,
+    said: &Said,
+) -> Result<Option<Vec<u8>>, AllocError>
+    ensures { IfOk result (λ told. IfSome told (λ text. IsAbout (paths_of files.entry) text.items)) }
+{
+    match which {
+        Which::Settings => Ok(Some(paragraph(alloc, files.settings.path, said)?)),
+        Which::Other => match files.other {
+            Some(other) => Ok(Some(paragraph(alloc, other.path, said)?)),
+            None => Ok(None),
+        },
+        Which::Plan(number) if number < files.plans.len() => {
+            let plan = files.plans[number];
+            Ok(Some(paragraph(alloc, plan.path, said)?))
+        }
+        Which::Plan(_) => Ok(None),
+    }
+}
+
+/// What is said of the refusal, and of which file.
+fn finding_of(
+    alloc: Global,
+    files: Sources<'_>,
+    refused: Refused,
+) -> Result<Option<Finding>, AllocError> {
+    let other = match files.other {
+        Some(other) => other.bytes,
+        None => &[],
+    };
+    Ok(match refused {
+        Refused::Settings(error) => Finding::of(
+            Which::Settings,
+            settings_said(alloc, files.settings.bytes, error)?,
+        ),
+        Refused::Script(error) => Finding::of(Which::Other, script_said(alloc, other, error)?),
+        Refused::Audit(error) => Finding::of(Which::Other, journal_said(alloc, other, error)?),
+        refused => match settings_in(alloc, files.settings.bytes)? {
+            Some(settings) => finding_under(alloc, &settings, files.plans, other, refused)?,
+            None => None,
+        },
+    })
+}
+
+/// The same of a refusal that comes where the settings are read.
+fn finding_under(
+    alloc: Global,
+    settings: &Settings,
+    plans: &[Source<'_>],
+    other: &[u8],
+    refused: Refused,
+) -> Result<Option<Finding>, AllocError> {
+    match refused {
+        Refused::Stop(stop) => {
+            let said = stop_said(alloc, settings, stop)?;
+            Ok(Finding::of(Which::Settings, said))
+        }
+        Refused::Submit(error) => Ok(match submit_said(alloc, settings, plans, error)? {
+            Some((number, said)) => Finding::of(Which::Plan(number), said),
+            None => None,
+        }),
+        Refused::Plan(_) | Refused::Annotate(_) => {
+            finding_among(alloc, settings, plans, refused)
+        }
+        Refused::Certificate(_) | Refused::Check(_) => match plans.first() {
+            Some(plan) => finding_beside(alloc, settings, plan.bytes, other, refused),
+            None => Ok(None),
+        },
+        Refused::Settings(_) | Refused::Script(_) | Refused::Audit(_) => Ok(None),
+    }
+}
+
+/// The same of a plan among several.
+fn finding_among(
+    alloc: Global,
+    settings: &Settings,
+    plans: &[Source<'_>],
+    refused: Refused,
+) -> Result<Option<Finding>, AllocError> {
+    let Some(number) = refused_plan(alloc, settings, plans)? else {
+        return Ok(None);
+    };
+    let Some(plan) = plans.get(number) else {
+        return Ok(None);
+    };
+    let said = match refused {
+        Refused::Plan(error) => plan_said(alloc, settings, plan.bytes, error)?,
+        Refused::Annotate(AnnotateError::Fault(error)) => {
+            fault_said(alloc, settings, plan.bytes, error)?
+        }
+        _ => return Ok(None),
+    };
+    Ok(Finding::of(Which::Plan(number), said))
+}
+
+/// The same of a certificate beside its plan.
+fn finding_beside(
+    alloc: Global,
+    settings: &Settings,
+    plan: &[u8],
+    certificate: &[u8],
+    refused: Refused,
+) -> Result<Option<Finding>, AllocError> {
+    match refused {
+        Refused::Check(error) if is_of_plan(error) => {
+            let said = fault_said(alloc, settings, plan, error)?;
+            Ok(Finding::of(Which::Plan(0), said))
+        }
+        Refused::Check(error) => {
+            let said = check_said(alloc, settings, plan, certificate, error)?;
+            Ok(Finding::of(Which::Other, said))
+        }
+        Refused::Certificate(error) => match plan_in(alloc, settings, plan)? {
+            Some(plan) => {
+                let said = certificate_said(alloc, settings, &plan, certificate, error)?;
+                Ok(Finding::of(Which::Other, said))
+            }
+            None => Ok(None),
+        },
+        _ => Ok(None),
+    }
+}

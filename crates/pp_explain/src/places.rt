@@ -1,0 +1,232 @@
+//! The places of a plan, and what is held at them.
+
+use crate::entries::after;
+use pp_cert::Entry;
+use pp_locate::Step;
+use pp_plan::{Body, Branches, Plan, Stmt};
+use std::alloc::{AllocError, Global};
+
+/// How deep statements stand at most.
+const DEEPEST: u8 = 16;
+
+/// Where a place lies.
+#[derive(Clone, Copy)]
+pub(crate) enum Role {
+    /// Before the statement.
+    Before,
+    /// At the end of the body of the statement, a loop.
+    LoopEnd,
+    /// At the end of the branch of this number of the statement, a choice.
+    BranchEnd(usize),
+    /// At the end of the plan, behind all statements.
+    End,
+}
+
+/// A place of a plan.
+#[derive(Drop)]
+pub(crate) struct Place {
+    /// Where it lies.
+    pub(crate) role: Role,
+    /// The number of its statement; at the plan's end, how many statements there are.
+    pub(crate) number: u32,
+    /// The way to its statement.
+    pub(crate) steps: Vec<Step<'static>>,
+    /// What is held there.
+    pub(crate) held: Vec<Entry>,
+    /// At the end of a body, what is to be held there: what its loop begins with, or what the first branch ends with.
+    pub(crate) due: Vec<Entry>,
+}
+
+/// The place of this number, if the plan has it. Places are numbered from 0: one before each statement, then those of
+/// its bodies, and one at each body's end.
+pub(crate) fn place_of(
+    alloc: Global,
+    plan: &Plan,
+    number: u32,
+) -> Result<Option<Place>, AllocError> {
+    let mut walk = Walk::to(alloc, number);
+    let held = walk.statements(alloc, DEEPEST, Step::Key("body"), &[], plan.body())?;
+    if let Some(held) = held {
+        let number = walk.number;
+        walk.arrive(alloc, Role::End, number, &held, &[])?;
+    }
+    Ok(walk.found)
+}
+
+/// How large a plan is.
+#[derive(Clone, Copy)]
+pub(crate) struct Size {
+    /// How many places it has.
+    pub(crate) places: u32,
+    /// The most slots that are held at one of them.
+    pub(crate) most: usize,
+    /// The first place where so many are held.
+    pub(crate) most_at: u32,
+}
+
+/// How large the plan is.
+pub(crate) fn size_of(alloc: Global, plan: &Plan) -> Result<Size, AllocError> {
+    let mut walk = Walk::to(alloc, u32::MAX);
+    walk.statements(alloc, DEEPEST, Step::Key("body"), &[], plan.body())?;
+    Ok(Size {
+        places: walk.place.saturating_add(1),
+        most: walk.most,
+        most_at: walk.most_at,
+    })
+}
+
+/// A walk over a plan that looks for a place.
+#[derive(Drop)]
+struct Walk {
+    wanted: u32,
+    /// The number of the next place.
+    place: u32,
+    /// The number of the next statement.
+    number: u32,
+    /// The way to where the walk stands.
+    steps: Vec<Step<'static>>,
+    /// The most slots that were held at a place, and the first place where they were.
+    most: usize,
+    most_at: u32,
+    found: Option<Place>,
+}
+
+impl Walk {
+    /// A walk to the place of this number, at its beginning.
+    fn to(alloc: Global, wanted: u32) -> Walk {
+        Walk {
+            wanted,
+            place: 0,
+            number: 0,
+            steps: Vec::new(alloc),
+            most: 0,
+            most_at: 0,
+            found: None,
+        }
+    }
+
+    /// Comes to the next place, of the statement with this number. Whether it is the one.
+    fn arrive(
+        &mut self,
+        alloc: Global,
+        role: Role,
+        number: u32,
+        held: &[Entry],
+        due: &[Entry],
+    ) -> Result<bool, AllocError> {
+        if held.len() > self.most {
+            self.most = held.len();
+            self.most_at = self.place;
+        }
+        if self.place != self.wanted {
+            self.place = self.place.saturating_add(1);
+            return Ok(false);
+        }
+        self.found = Some(Place {
+            role,
+            number,
+            steps: Vec::from_slice(alloc, &self.steps)?,
+            held: Vec::from_slice(alloc, held)?,
+            due: Vec::from_slice(alloc, due)?,
+        });
+        Ok(true)
+    }
+
+    /// Walks over the statements of a list that this step leads to, where this is held before them. Answers what is held
+    /// after them, unless the place is among them.
+    #[cycle(walk)]
+    fn statements(
+        &mut self,
+        alloc: Global,
+        levels: u8,
+        step: Step<'static>,
+        before: &[Entry],
+        stmts: &[Stmt],
+    ) -> Result<Option<Vec<Entry>>, AllocError> {
+        self.steps.push(step)?;
+        let mut held = Vec::from_slice(alloc, before)?;
+        for (item, stmt) in stmts.iter().enumerate() {
+            self.steps.push(Step::Item(item))?;
+            match self.statement(alloc, levels, &held, stmt)? {
+                Some(after) => held = after,
+                None => return Ok(None),
+            }
+            self.steps.pop();
+        }
+        self.steps.pop();
+        Ok(Some(held))
+    }
+
+    /// Walks over one statement.
+    #[cycle(walk)]
+    fn statement(
+        &mut self,
+        alloc: Global,
+        levels: u8,
+        before: &[Entry],
+        stmt: &Stmt,
+    ) -> Result<Option<Vec<Entry>>, AllocError> {
+        let number = self.number;
+        if self.arrive(alloc, Role::Before, number, before, &[])? || levels == 0 {
+            return Ok(None);
+        }
+        self.number = number.saturating_add(1);
+        match stmt {
+            Stmt::Loop { body, .. } => self.turns(alloc, levels - 1, number, before, body),
+            Stmt::Choice { branches } => self.choice(alloc, levels - 1, number, before, branches),
+            _ => Ok(Some(after(alloc, before, stmt)?)),
+        }
+    }
+
+    /// Walks over the body of a loop.
+    #[cycle(walk)]
+    fn turns(
+        &mut self,
+        alloc: Global,
+        levels: u8,
+        number: u32,
+        before: &[Entry],
+        body: &Body,
+    ) -> Result<Option<Vec<Entry>>, AllocError> {
+        let held = self.statements(alloc, levels, Step::Key("body"), before, body.stmts())?;
+        let Some(held) = held else {
+            return Ok(None);
+        };
+        if self.arrive(alloc, Role::LoopEnd, number, &held, before)? {
+            return Ok(None);
+        }
+        Ok(Some(held))
+    }
+
+    /// Walks over the branches of a choice.
+    #[cycle(walk)]
+    fn choice(
+        &mut self,
+        alloc: Global,
+        levels: u8,
+        number: u32,
+        before: &[Entry],
+        branches: &Branches,
+    ) -> Result<Option<Vec<Entry>>, AllocError> {
+        let mut first = None;
+        for (branch, body) in branches.bodies().iter().enumerate() {
+            self.steps.push(Step::Key("choice"))?;
+            let step = Step::Item(branch);
+            let Some(held) = self.statements(alloc, levels, step, before, body.stmts())? else {
+                return Ok(None);
+            };
+            self.steps.pop();
+            let due = first.as_ref().unwrap_or(&held);
+            if self.arrive(alloc, Role::BranchEnd(branch), number, &held, due)? {
+                return Ok(None);
+            }
+            if first.is_none() {
+                first = Some(held);
+            }
+        }
+        match first {
+            Some(held) => Ok(Some(held)),
+            None => Ok(Some(Vec::from_slice(alloc, before)?)),
+        }
+    }
+}

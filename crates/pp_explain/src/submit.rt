@@ -1,0 +1,71 @@
+//! Plans that a pool doesn't take in.
+
+use crate::plans::certificate_of;
+use crate::source::Source;
+use pp_locate::Said;
+use pp_model::SubmitError;
+use pp_settings::Settings;
+use std::alloc::{AllocError, Global};
+
+/// How many plans a pool takes in at most.
+const MOST_PLANS: usize = 256;
+
+/// How many events the journal of a pool has at most.
+const MOST_EVENTS: u64 = 4_000_000;
+
+/// How many events a journal has at most for a step of a plan, and for a plan besides.
+const STEP_EVENTS: u64 = 3;
+
+const PLAN_EVENTS: u64 = 34;
+
+/// The number of the plan that a new pool with these settings doesn't take in, where it takes them in by their order, and
+/// what is said of it. Nothing where it is none of these that it refuses.
+pub(crate) fn submit_said(
+    alloc: Global,
+    settings: &Settings,
+    plans: &[Source<'_>],
+    error: SubmitError,
+) -> Result<Option<(usize, Said)>, AllocError> {
+    match error {
+        SubmitError::OtherSettings => Ok(None),
+        SubmitError::TooManyPlans => {
+            let text = format!(in alloc;
+                "it is plan {MOST_PLANS}, counted from 0: a pool takes in at most {MOST_PLANS} plans"
+            )?;
+            Ok(Some((MOST_PLANS, Said::of(text))))
+        }
+        SubmitError::JournalLimit => too_long(alloc, settings, plans),
+    }
+}
+
+/// The plan whose cost leads past the end of the journal.
+fn too_long(
+    alloc: Global,
+    settings: &Settings,
+    plans: &[Source<'_>],
+) -> Result<Option<(usize, Said)>, AllocError> {
+    let flushes = u64::from(settings.flushes()) * 2;
+    let mut before = 0u64;
+    for (number, plan) in plans.iter().enumerate() {
+        let Some(certificate) = certificate_of(alloc, settings, plan.bytes)? else {
+            return Ok(None);
+        };
+        let cost = cost_of(certificate.steps);
+        if before.saturating_add(cost).saturating_add(flushes) > MOST_EVENTS {
+            let text = format!(in alloc;
+                "plan {number}, counted from 0, costs {cost}, those before it {before}, and the flushes {flushes}: \
+                a pool takes in at most {MOST_EVENTS} in all"
+            )?;
+            return Ok(Some((number, Said::of(text))));
+        }
+        before = before.saturating_add(cost);
+    }
+    Ok(None)
+}
+
+/// The cost of a plan of so many steps.
+fn cost_of(steps: u64) -> u64 {
+    steps
+        .saturating_mul(STEP_EVENTS)
+        .saturating_add(PLAN_EVENTS)
+}

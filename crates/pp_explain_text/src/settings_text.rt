@@ -1,0 +1,276 @@
+//! Refusals of settings.
+
+use pp_locate::{Said, front, hint, listed, no_text, spot_at, text_of};
+use pp_settings::limits::{
+    FEWEST_PAGE_BYTES, GREATEST_CLASS, LONGEST_NAME, MOST_FLUSHES, MOST_FRAMES, MOST_PAGE_BYTES,
+    MOST_REGIONS, MOST_WORKERS, PAGE_NUMBERS,
+};
+use pp_settings::{RegionKey, Settings, SettingsError, Spot, TopKey};
+use std::alloc::{AllocError, Global};
+use toml::{Table, Value};
+
+/// The keys of the document.
+const TOP_KEYS: [&str; 5] = ["frames", "page_bytes", "workers", "flushes", "region"];
+
+/// The keys of a region.
+const REGION_KEYS: [&str; 4] = ["name", "first", "count", "class"];
+
+/// What is said of the bytes of settings that are refused so.
+pub fn settings_said(
+    alloc: Global,
+    bytes: &[u8],
+    error: SettingsError,
+) -> Result<Said, AllocError> {
+    let text = match text_of(bytes) {
+        Ok(text) => text,
+        Err(spot) => return no_text(alloc, spot, "TOML"),
+    };
+    match toml::table_from_str(alloc, text) {
+        Ok(table) => Ok(Said::of(table_text(alloc, &table, error)?)),
+        Err(refused) => no_toml(alloc, text, &refused),
+    }
+}
+
+/// What is said of a text that is no TOML: the reader's own words.
+fn no_toml(alloc: Global, text: &str, refused: &toml::de::Error) -> Result<Said, AllocError> {
+    let Some(range) = refused.span() else {
+        return Err(AllocError);
+    };
+    Ok(Said {
+        spot: Some(spot_at(text.as_bytes(), range.start)),
+        text: format!(in alloc; "the text is no TOML: {}", refused.message())?,
+    })
+}
+
+/// What is said of the document.
+fn table_text(alloc: Global, table: &Table, error: SettingsError) -> Result<String, AllocError> {
+    match error {
+        SettingsError::NotToml => String::from_str(alloc, "the text is no TOML"),
+        SettingsError::Missing(spot) => missing_text(alloc, table, spot),
+        SettingsError::Unknown(region) => unknown_text(alloc, table, region),
+        SettingsError::Range(spot) => range_text(alloc, table, spot),
+        SettingsError::Overlap(region) => overlap_text(alloc, table, region),
+        SettingsError::SameName(region) => same_name_text(alloc, table, region),
+        SettingsError::OutOfMemory => Err(AllocError),
+    }
+}
+
+/// The table of the region with this number, if the document has it.
+fn region_at(table: &Table, region: usize) -> Option<&Table> {
+    table.get("region")?.as_array()?.get(region)?.as_table()
+}
+
+/// The region with this number, and its name, if it has one.
+fn region_text(alloc: Global, table: &Table, region: u8) -> Result<String, AllocError> {
+    let name = match region_at(table, usize::from(region)) {
+        Some(found) => found.get("name").and_then(Value::as_str),
+        None => None,
+    };
+    match name {
+        Some(name) => format!(in alloc; "region {region}, {}", quoted(alloc, name)?),
+        None => format!(in alloc; "region {region}"),
+    }
+}
+
+/// A text in quotes, or the front of that.
+fn quoted(alloc: Global, text: &str) -> Result<String, AllocError> {
+    front(alloc, format!(in alloc; "{text:?}")?.as_str())
+}
+
+/// Where the key stands: nothing for a key of the document itself.
+fn prefix_of(alloc: Global, table: &Table, spot: Spot) -> Result<String, AllocError> {
+    match spot {
+        Spot::Top(_) => Ok(String::new(alloc)),
+        Spot::InRegion(region, _) => {
+            format!(in alloc; "{}: ", region_text(alloc, table, region)?)
+        }
+    }
+}
+
+/// What the value at the key is to be.
+fn rule_of(alloc: Global, table: &Table, spot: Spot) -> Result<String, AllocError> {
+    match spot {
+        Spot::Top(TopKey::Frames) => number_rule(alloc, 1, MOST_FRAMES),
+        Spot::Top(TopKey::PageBytes) => number_rule(alloc, FEWEST_PAGE_BYTES, MOST_PAGE_BYTES),
+        Spot::Top(TopKey::Workers) => number_rule(alloc, 1, MOST_WORKERS),
+        Spot::Top(TopKey::Flushes) => number_rule(alloc, 0, MOST_FLUSHES),
+        Spot::Top(TopKey::Region) => {
+            format!(in alloc; "a list of 1 to {MOST_REGIONS} tables, each `[[region]]`")
+        }
+        Spot::InRegion(_, RegionKey::Name) => {
+            format!(in alloc; "a text of 1 to {LONGEST_NAME} of a-z, 0-9 and _, the first a letter")
+        }
+        Spot::InRegion(_, RegionKey::First) => number_rule(alloc, 0, PAGE_NUMBERS - 1),
+        Spot::InRegion(region, RegionKey::Count) => count_rule(alloc, table, region),
+        Spot::InRegion(_, RegionKey::Class) => number_rule(alloc, 0, GREATEST_CLASS),
+    }
+}
+
+/// A number within limits.
+fn number_rule(alloc: Global, low: u32, high: u32) -> Result<String, AllocError> {
+    format!(in alloc; "a whole number from {low} to {high}")
+}
+
+/// How many pages a region has that begins where this one does.
+fn count_rule(alloc: Global, table: &Table, region: u8) -> Result<String, AllocError> {
+    match number_in(table, region, "first") {
+        Some(first) if 0 <= first && first < i64::from(PAGE_NUMBERS) => {
+            let most = i64::from(PAGE_NUMBERS) - first;
+            format!(in alloc;
+                "a whole number from 1 to {most}, since first is {first} and pages are below {PAGE_NUMBERS}"
+            )
+        }
+        _ => format!(in alloc;
+            "a whole number of 1 or more; first plus count is at most {PAGE_NUMBERS}"
+        ),
+    }
+}
+
+/// The whole number at the key of a region, if there is one.
+fn number_in(table: &Table, region: u8, key: &str) -> Option<i64> {
+    region_at(table, usize::from(region))?
+        .get(key)?
+        .as_integer()
+}
+
+/// A key isn't there.
+fn missing_text(alloc: Global, table: &Table, spot: Spot) -> Result<String, AllocError> {
+    let prefix = prefix_of(alloc, table, spot)?;
+    let rule = rule_of(alloc, table, spot)?;
+    let key = spot.key();
+    format!(in alloc; "{prefix}the key {key} is missing: it is {rule}")
+}
+
+/// A value is of another kind, or out of its limits.
+fn range_text(alloc: Global, table: &Table, spot: Spot) -> Result<String, AllocError> {
+    let prefix = prefix_of(alloc, table, spot)?;
+    let rule = rule_of(alloc, table, spot)?;
+    let key = spot.key();
+    let value = match spot {
+        Spot::Top(_) => table.get(key),
+        Spot::InRegion(region, _) => match region_at(table, usize::from(region)) {
+            Some(found) => found.get(key),
+            None => None,
+        },
+    };
+    match value {
+        Some(value) => {
+            let value = value_text(alloc, value)?;
+            format!(in alloc; "{prefix}{key} is {value}: it is to be {rule}")
+        }
+        None => format!(in alloc; "{prefix}{key} is to be {rule}"),
+    }
+}
+
+/// A value as its text has it, or what kind of value it is.
+fn value_text(alloc: Global, value: &Value) -> Result<String, AllocError> {
+    match value {
+        Value::Integer(number) => format!(in alloc; "{number}"),
+        Value::String(text) => quoted(alloc, text.as_str()),
+        Value::Boolean(truth) => format!(in alloc; "{truth}"),
+        Value::Float(_) => String::from_str(alloc, "a number with a fraction or an exponent"),
+        Value::Datetime(_) => String::from_str(alloc, "a date or a time"),
+        Value::Array(items) => format!(in alloc; "a list of {}", items.len()),
+        Value::Table(_) => String::from_str(alloc, "a table"),
+    }
+}
+
+/// The document, or a region, has a key that isn't known.
+fn unknown_text(alloc: Global, table: &Table, region: Option<u8>) -> Result<String, AllocError> {
+    match region {
+        None => stranger_text(alloc, table, "settings have", &TOP_KEYS),
+        Some(region) => {
+            let prefix = region_text(alloc, table, region)?;
+            match region_at(table, usize::from(region)) {
+                Some(found) => {
+                    let rest = stranger_text(alloc, found, "a region has", &REGION_KEYS)?;
+                    format!(in alloc; "{prefix}: {rest}")
+                }
+                None => format!(in alloc; "{prefix}: a key isn't known"),
+            }
+        }
+    }
+}
+
+/// The first key of the table that isn't known, and those that are.
+fn stranger_text(
+    alloc: Global,
+    table: &Table,
+    whose: &str,
+    known: &[&str],
+) -> Result<String, AllocError> {
+    let keys = listed(alloc, known)?;
+    match stranger(table, known) {
+        Some(key) => {
+            let hint = hint(alloc, key, known)?;
+            let key = quoted(alloc, key)?;
+            format!(in alloc; "the key {key} isn't known: {whose} the keys {keys}{hint}")
+        }
+        None => format!(in alloc; "a key isn't known: {whose} the keys {keys}"),
+    }
+}
+
+/// The first key of the table that isn't one of these, in the order of bytes.
+fn stranger<'t>(table: &'t Table, known: &[&str]) -> Option<&'t str> {
+    for key in table.keys() {
+        if !known.iter().any(|other| key.as_str() == *other) {
+            return Some(key.as_str());
+        }
+    }
+    None
+}
+
+/// The first and the last page of a region, if it has both.
+fn pages_in(table: &Table, region: u8) -> Option<(i64, i64)> {
+    let first = number_in(table, region, "first")?;
+    let count = number_in(table, region, "count")?;
+    Some((first, first.saturating_add(count).saturating_sub(1)))
+}
+
+/// A region has a page of an earlier one.
+fn overlap_text(alloc: Global, table: &Table, region: u8) -> Result<String, AllocError> {
+    let own = region_text(alloc, table, region)?;
+    if let Some((first, last)) = pages_in(table, region) {
+        for other in 0..region {
+            if let Some((start, end)) = pages_in(table, other) {
+                if start <= last && first <= end {
+                    let other = region_text(alloc, table, other)?;
+                    return format!(in alloc;
+                        "{own}, has the pages {first} to {last}, and {other}, has {start} to {end}: \
+                        no two regions share a page"
+                    );
+                }
+            }
+        }
+    }
+    format!(in alloc; "{own}, has a page of an earlier region: no two regions share a page")
+}
+
+/// A region has the name of an earlier one.
+fn same_name_text(alloc: Global, table: &Table, region: u8) -> Result<String, AllocError> {
+    let own = region_text(alloc, table, region)?;
+    match same_named(table, region) {
+        Some(other) => format!(in alloc;
+            "{own}: region {other} has this name too, and no two have the same"
+        ),
+        None => format!(in alloc;
+            "{own}: an earlier region has this name, and no two have the same"
+        ),
+    }
+}
+
+/// The first region that has the name of this one.
+fn same_named(table: &Table, region: u8) -> Option<u8> {
+    let name = name_in(table, region)?;
+    for other in 0..region {
+        if name_in(table, other) == Some(name) {
+            return Some(other);
+        }
+    }
+    None
+}
+
+/// The name of a region, if it has one.
+fn name_in(table: &Table, region: u8) -> Option<&str> {
+    region_at(table, usize::from(region))?.get("name")?.as_str()
+}

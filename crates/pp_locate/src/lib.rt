@@ -1,0 +1,23 @@
+//! Where something stands in a text: lines and columns, lines by number, ways into a JSON value and the bytes where they
+//! lead, statements by number, and words that are nearly known ones.
+#![tactic(auto)]
+
+mod lines;
+mod place;
+mod said;
+mod statement;
+mod statements;
+mod steps;
+mod text;
+mod values;
+mod words;
+
+pub use lines::{line_at, line_text};
+pub use place::{Spot, spot_at};
+pub use said::{Said, no_text, said_at, value_of};
+pub use statement::{Statement, slot_in};
+pub use statements::steps_to;
+pub use steps::{Step, offset_of, steps_text, value_at};
+pub use text::text_of;
+pub use values::{front, shown};
+pub use words::{hint, listed, nearest};
