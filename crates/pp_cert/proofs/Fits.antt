@@ -11,12 +11,12 @@ use Rattle.pp_settings.specs.Layout.{Geometry, HasPage, IsLayout, IsApart, has_p
 use Rattle.pp_cert.specs.declared.note.Entry.{Entry}
 use Rattle.pp_cert.specs.declared.note.Entry.TheVariants.{Slot, Bundle}
 use Rattle.pp_cert.specs.declared.note.Held.{Held}
-use Rattle.pp_cert.specs.Slots.{slot_insert, slot_remove}
-use Rattle.pp_cert.specs.Held.{Holding, Holdings, holding_slot, holding_at, held_at, holding_as, is_latched}
+use Rattle.pp_cert.specs.Slots.{slot_insert, slot_push, slot_remove}
+use Rattle.pp_cert.specs.Held.{Holding, Holdings, holding_slot, holding_at, plain_held, held_at, holding_as, is_latched}
 use Rattle.pp_cert.specs.Held.{IsClassBelow, IsAboveLatched}
 use Rattle.pp_cert.specs.Notes.{Entries, note_pins, entry_slot, entry_held, is_slot, entry_as, entry_at, noted_at}
 use Rattle.pp_cert.specs.Notes.{noted_as, without_page, region_class, entry_class, slot_class, is_above_latched}
-use Rattle.pp_cert.proofs.Slots.{first_of, without_first, with_first, slot_all, get_first, insert_splits, insert_other}
+use Rattle.pp_cert.proofs.Slots.{first_of, without_first, with_first, slot_all, get_first, push_here, push_other}
 use Rattle.pp_cert.proofs.Slots.{remove_here, remove_other, update_here, update_other, member_splits, same_number}
 use Rattle.pp_cert.proofs.Pages.{weight, weight_page_here, weight_page_other, page_here, page_other}
 use Rattle.pp_cert.proofs.Pages.{weight_without_here, weight_without_none, weight_without_other, without_here}
@@ -25,9 +25,9 @@ use Rattle.pp_cert.proofs.Sums.{all_pins}
 
 -- ---- notes and holdings
 
--- The entry tells of the page that is held.
+-- The entry tells of the page that is held, which is no bundle's.
 abbrev pub Tells : Geometry → Entry → Holding → Type 0
-Tells g (Slot s r held) h = (held ≡ h.held) × HasPage g r h.page
+Tells g (Slot s r held) h = (held ≡ h.held) × (h.bundled ≡ false) × HasPage g r h.page
 Tells g (Bundle s k) h = ⊥
 
 -- Of one slot: the entry of its page, the pins of all its entries, and what it holds. A page is the slot's only entry.
@@ -66,17 +66,28 @@ tells_held : (g : Geometry) (e : Entry) (h : Holding) → Tells g e h → entry_
 tells_held g (Slot s r held) h t = t.0
 tells_held g (Bundle s k) h t = absurd t
 
+tells_own : (g : Geometry) (e : Entry) (h : Holding) → Tells g e h → Some (entry_held e) ≡ plain_held (Some h)
+tells_own g (Slot s r held) h t = ap Some t.0 ∙ sym (ap (λ b. if b then None else Some h.held) t.1)
+tells_own g (Bundle s k) h t = absurd t
+
 held_here : (g : Geometry) (o : Option Entry) (weight : ℕ) (hs : Holdings) → FitsAt g o weight hs
-    → option_map entry_held o ≡ option_map (λ h. h.held) (first_of hs)
-held_here g None weight hs f = sym (ap (λ x. option_map (λ h. h.held) (first_of x)) f.0)
+    → option_map entry_held o ≡ plain_held (first_of hs)
+held_here g None weight hs f = sym (ap (λ x. plain_held (first_of x)) f.0)
 held_here g (Some e) weight hs f =
-    ap Some (tells_held g e f.0 f.2) ∙ sym (ap (λ x. option_map (λ h. h.held) (first_of x)) f.1)
+    tells_own g e f.0 f.2 ∙ sym (ap (λ x. plain_held (first_of x)) f.1)
 
 pub fits_held : (g : Geometry) (n : Entries) (hs : Holdings) (s : ℕ) → Fits g n hs
     → noted_at n s ≡ held_at hs s
 fits_held g n hs s f =
     held_here g (entry_at n s) (weight n s) (slot_all holding_slot s hs) (f s)
-    ∙ sym (ap (option_map (λ h. h.held)) (get_first holding_slot s hs))
+    ∙ sym (ap plain_held (get_first holding_slot s hs))
+
+-- a slot without an entry holds nothing
+pub fits_unused : (g : Geometry) (n : Entries) (hs : Holdings) (s : ℕ) → Fits g n hs → entry_at n s ≡ None
+    → holding_at hs s ≡ None
+fits_unused g n hs s f none =
+    get_first holding_slot s hs
+    ∙ ap first_of (subst (λ o. FitsAt g o (weight n s) (slot_all holding_slot s hs)) none (f s)).0
 
 -- ---- one slot changes
 
@@ -100,28 +111,22 @@ empty_at : (g : Geometry) (o : Option Entry) (b : ℕ) (hs : Holdings) → o ≡
 empty_at g None b hs e f = f
 empty_at g (Some x) b hs e f = absurd (cc)
 
-alone : (us vs : Holdings) (h : Holding) → us ++ vs ≡ [] → us ++ h ∷ vs ≡ h ∷ []
-alone [] vs h e = ap (λ x. h ∷ x) e
-alone (u ∷ us) vs h e = absurd (cc)
-
 pub fits_insert : (g : Geometry) (n : Entries) (hs : Holdings) (r : ℕ) (h : Holding) → Fits g n hs
-    → entry_at n h.slot ≡ None → HasPage g r h.page
-    → Fits g (slot_insert entry_slot (Slot h.slot r h.held) n) (slot_insert holding_slot h hs)
-fits_insert g n hs r h f none has = λ t.
+    → entry_at n h.slot ≡ None → h.bundled ≡ false → HasPage g r h.page
+    → Fits g (slot_insert entry_slot (Slot h.slot r h.held) n) (slot_push holding_slot h hs)
+fits_insert g n hs r h f none own has = λ t.
     let s : ℕ = h.slot in
     let after : Entries = slot_insert entry_slot (Slot s r h.held) n in
-    let now : Holdings = slot_insert holding_slot h hs in
+    let now : Holdings = slot_push holding_slot h hs in
     let at = empty_at g (entry_at n s) (weight n s) (slot_all holding_slot s hs) none (f s) in
-    let split = insert_splits holding_slot h hs in
-    let both : split.0 ++ split.1 ≡ [] = sym split.2 ∙ at.0 in
-    let one : slot_all holding_slot s now ≡ h ∷ [] = split.3 ∙ alone split.0 split.1 h both in
+    let one : slot_all holding_slot s now ≡ h ∷ [] = push_here holding_slot h hs ∙ ap (λ x. h ∷ x) at.0 in
     by_slot s t (λ x. FitsAt g (entry_at after x) (weight after x) (slot_all holding_slot x now))
     (subst (λ o. FitsAt g o (weight after s) (slot_all holding_slot s now))
     (sym (page_here s r h.held n none))
-    (h, one, (refl, has), omega (arith, weight_page_here s r h.held n, at.1)))
+    (h, one, (refl, own, has), omega (arith, weight_page_here s r h.held n, at.1)))
     (λ d. same_parts g (entry_at n t) (entry_at after t) (weight n t) (weight after t)
     (slot_all holding_slot t hs) (slot_all holding_slot t now) (page_other s r h.held t n d)
-    (weight_page_other s r h.held t n d) (insert_other holding_slot h t hs d) (f t))
+    (weight_page_other s r h.held t n d) (push_other holding_slot h t hs d) (f t))
 
 -- what a slot holds goes with its entry
 goes_at : (g : Geometry) (n : Entries) (s : ℕ) (o : Option Entry) (hs : Holdings) → entry_at n s ≡ o
@@ -145,11 +150,11 @@ fits_remove g n hs s f = λ t.
 
 -- the page of a slot is held in another way, as its entry says
 abbrev with_held : Held → Holding → Holding
-with_held held h = record { slot = h.slot; page = h.page; held = held }
+with_held held h = record { slot = h.slot; page = h.page; held = held; bundled = h.bundled }
 
 tells_as : (g : Geometry) (held : Held) (e : Entry) (h : Holding) → Tells g e h
     → Tells g (entry_as held e) (with_held held h)
-tells_as g held (Slot s r k) h t = (refl, t.1)
+tells_as g held (Slot s r k) h t = (refl, t.1, t.2)
 tells_as g held (Bundle s k) h t = absurd t
 
 changes_at : (g : Geometry) (held : Held) (o : Option Entry) (b : ℕ) (hs : Holdings) → FitsAt g o b hs
@@ -219,7 +224,7 @@ page_class g r page l p =
 -- the class of a page that an entry tells of is the entry's
 tells_class : (g : Geometry) (e : Entry) (h : Holding) → IsLayout g → Tells g e h
     → class_of g h.page ≡ Some (entry_class g e)
-tells_class g (Slot s r k) h l t = page_class g r h.page l t.1
+tells_class g (Slot s r k) h l t = page_class g r h.page l t.2
 tells_class g (Bundle s k) h l t = absurd t
 
 -- ---- the pages that are held, each told of by its slot's entry

@@ -2,7 +2,7 @@
 use Rattle.std.proofs.Common.{◌≡◌, ℕ, ◌≤◌, Some, List, [], ◌∷◌, ◌++◌, length, refl, sym, ap, subst, ◌∙◌}
 use Rattle.pp_settings.specs.Layout.{Geometry}
 use Rattle.pp_plan.specs.declared.action.Action.{Action}
-use Rattle.pp_plan.specs.declared.action.Action.TheVariants.{Fix, Unfix, Latch, Unlatch, Choose}
+use Rattle.pp_plan.specs.declared.action.Action.TheVariants.{Fix, Unfix, Latch, Unlatch, Gather, Scatter, Choose}
 use Rattle.pp_cert.specs.Held.{Holdings, held_next, held_after, IsAboveLatched}
 
 -- A latch is of a class above those that are latched.
@@ -11,6 +11,8 @@ MayDo g hs (Fix s p) = Unit {0}
 MayDo g hs (Unfix s) = Unit {0}
 MayDo g hs (Latch s m) = IsAboveLatched g hs s
 MayDo g hs (Unlatch s) = Unit {0}
+MayDo g hs (Gather s p) = Unit {0}
+MayDo g hs (Scatter s) = Unit {0}
 MayDo g hs (Choose i) = Unit {0}
 
 -- The list is legal from these slots on, ends with those, takes latches in order, and holds at most the peak.

@@ -1,9 +1,9 @@
 -- Lists by slot: what stands in one slot after a change of this slot, or of another.
 use Rattle.std.proofs.Common.{◌≡◌, ℕ, true, false, Option, Some, None, List, [], ◌∷◌, ◌++◌, refl, sym, ap, ◌∙◌, arith}
-use Rattle.std.specs.Prelude.{◌==◌, nat_lt, if◌then◌else◌, find}
+use Rattle.std.specs.Prelude.{◌==◌, nat_le, if◌then◌else◌, find}
 use Rattle.std.proofs.lemmas.Bool.{eqb-true}
 use Rattle.std.proofs.lemmas.Bool.Decides.{nat_tests}
-use Rattle.pp_cert.specs.Slots.{slot_get, slot_insert, slot_remove, slot_update}
+use Rattle.pp_cert.specs.Slots.{slot_get, slot_push, slot_remove, slot_clear, slot_update}
 
 pub same_number : (n : ℕ) → (n == n) ≡ true
 same_number n = grind (arith, nat_tests)
@@ -59,41 +59,33 @@ module _ {A : Type 0} (slot_of : A → ℕ) where
 
   -- ---- a new element
 
-  -- it stands somewhere among those of its slot
-  pub insert_splits : (x : A) (xs : List A) → (ys : List A) × (zs : List A)
-      × (slot_all slot_of (slot_of x) xs ≡ ys ++ zs)
-      × (slot_all slot_of (slot_of x) (slot_insert slot_of x xs) ≡ ys ++ x ∷ zs)
-  insert_splits x [] = ([], [], refl, ap (λ b. if b then x ∷ [] else []) (same_number (slot_of x)))
-  insert_splits x (y ∷ ys) =
+  -- it stands before those of its slot
+  pub push_here : (x : A) (xs : List A)
+      → slot_all slot_of (slot_of x) (slot_push slot_of x xs) ≡ x ∷ slot_all slot_of (slot_of x) xs
+  push_here x [] = ap (λ b. if b then x ∷ [] else []) (same_number (slot_of x))
+  push_here x (y ∷ ys) =
       let s : ℕ = slot_of x in
-      let p = insert_splits x ys in
-      elim (nat_lt s (slot_of y)) as (λ b. (us : List A) × (vs : List A)
-      × (slot_all slot_of s (y ∷ ys) ≡ us ++ vs)
-      × (slot_all slot_of s (if b then x ∷ y ∷ ys else y ∷ slot_insert slot_of x ys) ≡ us ++ x ∷ vs)) [
-        | true ↦ (
-          [],
-          slot_all slot_of s (y ∷ ys),
-          refl,
-          ap (λ b. if b then x ∷ slot_all slot_of s (y ∷ ys) else slot_all slot_of s (y ∷ ys)) (same_number s),
-        )
-        | false ↦ elim (slot_of y == s) as (λ b. (us : List A) × (vs : List A)
-            × ((if b then y ∷ slot_all slot_of s ys else slot_all slot_of s ys) ≡ us ++ vs)
-            × ((if b then y ∷ slot_all slot_of s (slot_insert slot_of x ys) else slot_all slot_of s
-            (slot_insert slot_of x ys)) ≡ us ++ x ∷ vs)) [
-              | true ↦ (y ∷ p.0, p.1, ap (λ l. y ∷ l) p.2, ap (λ l. y ∷ l) p.3)
-              | false ↦ p
-            ]
-      ]
+      elim (nat_le s (slot_of y)) as (λ b. nat_le s (slot_of y) ≡ b
+      → slot_all slot_of s (if b then x ∷ y ∷ ys else y ∷ slot_push slot_of x ys) ≡ x ∷ slot_all slot_of s (y ∷ ys)) [
+        | true ↦ λ e.
+            ap (λ b. if b then x ∷ slot_all slot_of s (y ∷ ys) else slot_all slot_of s (y ∷ ys)) (same_number s)
+        | false ↦ λ e.
+            let above : (slot_of y == s) ≡ false = grind (arith, nat_tests, e) in
+            ap (λ b. if b then y ∷ slot_all slot_of s (slot_push slot_of x ys) else slot_all slot_of s
+            (slot_push slot_of x ys)) above
+            ∙ push_here x ys
+            ∙ sym (ap (λ b. x ∷ (if b then y ∷ slot_all slot_of s ys else slot_all slot_of s ys)) above)
+      ] refl
 
-  pub insert_other : (x : A) (s : ℕ) (xs : List A) → (slot_of x == s) ≡ false
-      → slot_all slot_of s (slot_insert slot_of x xs) ≡ slot_all slot_of s xs
-  insert_other x s [] d = ap (λ b. if b then x ∷ [] else []) d
-  insert_other x s (y ∷ ys) d =
-      elim (nat_lt (slot_of x) (slot_of y))
-      as (λ b. slot_all slot_of s (if b then x ∷ y ∷ ys else y ∷ slot_insert slot_of x ys)
+  pub push_other : (x : A) (s : ℕ) (xs : List A) → (slot_of x == s) ≡ false
+      → slot_all slot_of s (slot_push slot_of x xs) ≡ slot_all slot_of s xs
+  push_other x s [] d = ap (λ b. if b then x ∷ [] else []) d
+  push_other x s (y ∷ ys) d =
+      elim (nat_le (slot_of x) (slot_of y))
+      as (λ b. slot_all slot_of s (if b then x ∷ y ∷ ys else y ∷ slot_push slot_of x ys)
       ≡ slot_all slot_of s (y ∷ ys)) [
         | true ↦ ap (λ b. if b then x ∷ slot_all slot_of s (y ∷ ys) else slot_all slot_of s (y ∷ ys)) d
-        | false ↦ ap (λ l. if slot_of y == s then y ∷ l else l) (insert_other x s ys d)
+        | false ↦ ap (λ l. if slot_of y == s then y ∷ l else l) (push_other x s ys d)
       ]
 
   -- ---- the first element of the slot goes
@@ -121,6 +113,34 @@ module _ {A : Type 0} (slot_of : A → ℕ) where
         | true ↦ λ e. sym (ap (λ b. if b then y ∷ slot_all slot_of t ys else slot_all slot_of t ys)
             (not_other (slot_of y) s t d e))
         | false ↦ λ e. ap (λ l. if slot_of y == t then y ∷ l else l) (remove_other s t ys d)
+      ] refl
+
+  -- ---- all elements of the slot go
+
+  pub clear_here : (s : ℕ) (xs : List A) → slot_all slot_of s (slot_clear slot_of s xs) ≡ []
+  clear_here s [] = refl
+  clear_here s (y ∷ ys) =
+      elim (slot_of y == s) as (λ b. (slot_of y == s) ≡ b
+      → slot_all slot_of s (if b then slot_clear slot_of s ys else y ∷ slot_clear slot_of s ys) ≡ []) [
+        | true ↦ λ e. clear_here s ys
+        | false ↦ λ e.
+            ap (λ b. if b then y ∷ slot_all slot_of s (slot_clear slot_of s ys) else slot_all slot_of s
+            (slot_clear slot_of s ys)) e
+            ∙ clear_here s ys
+      ] refl
+
+  pub clear_other : (s t : ℕ) (xs : List A) → (s == t) ≡ false
+      → slot_all slot_of t (slot_clear slot_of s xs) ≡ slot_all slot_of t xs
+  clear_other s t [] d = refl
+  clear_other s t (y ∷ ys) d =
+      elim (slot_of y == s) as (λ b. (slot_of y == s) ≡ b
+      → slot_all slot_of t (if b then slot_clear slot_of s ys else y ∷ slot_clear slot_of s ys)
+      ≡ slot_all slot_of t (y ∷ ys)) [
+        | true ↦ λ e.
+            clear_other s t ys d
+            ∙ sym (ap (λ b. if b then y ∷ slot_all slot_of t ys else slot_all slot_of t ys)
+            (not_other (slot_of y) s t d e))
+        | false ↦ λ e. ap (λ l. if slot_of y == t then y ∷ l else l) (clear_other s t ys d)
       ] refl
 
   -- ---- the first element of the slot changes, and stays in it

@@ -6,22 +6,22 @@ use Rattle.std.proofs.lemmas.Bool.{not-true}
 use Rattle.pp_settings.specs.Layout.{Geometry, IsLayout, HasPage}
 use Rattle.pp_plan.specs.declared.mode.Mode.{Mode}
 use Rattle.pp_plan.specs.declared.action.Action.{Action}
-use Rattle.pp_plan.specs.declared.action.Action.TheVariants.{Fix, Unfix, Latch, Unlatch, Choose}
+use Rattle.pp_plan.specs.declared.action.Action.TheVariants.{Fix, Unfix, Latch, Unlatch, Gather, Scatter, Choose}
 use Rattle.pp_plan.specs.Tree.{Step, fix, unfix, latch, unlatch, Statement, step, loop, choice, Sequence, skip, andthen}
 use Rattle.pp_plan.specs.Tree.{Alternatives, none, either}
 use Rattle.pp_plan.specs.Traces.{Does, Repeats, IsStatementTrace, IsTrace, IsBranchTrace}
 use Rattle.pp_cert.specs.declared.note.Entry.{Entry}
 use Rattle.pp_cert.specs.declared.note.Held.{Held}
 use Rattle.pp_cert.specs.declared.note.Held.TheVariants.{Free, S, X}
-use Rattle.pp_cert.specs.Held.{Holding, Holdings, held_in, held_at, held_next, holding_as, holding_slot, is_free_page}
-use Rattle.pp_cert.specs.Held.{is_latched_page}
-use Rattle.pp_cert.specs.Slots.{slot_insert, slot_remove}
+use Rattle.pp_cert.specs.Held.{Holdings, held_in, holding_at, held_at, held_next, plain_page, holding_as, holding_slot}
+use Rattle.pp_cert.specs.Held.{is_free_page, is_latched_page}
+use Rattle.pp_cert.specs.Slots.{slot_push, slot_remove}
 use Rattle.pp_cert.specs.Notes.{Entries, note_pins, entry_held, entry_at, noted_at, noted_after}
 use Rattle.pp_cert.specs.Walk.{Claims, note_at, same, after, outcome, Test, slot_unused, slot_fixed, slot_unlatched}
 use Rattle.pp_cert.specs.Walk.{slot_latched, slot_in_order, loop_keeps, branch_agrees, first_fault, note_tests}
 use Rattle.pp_cert.specs.Walk.{step_tests, statement_tests, sequence_tests, later_tests, statement_end, sequence_end}
 use Rattle.pp_cert.specs.Walk.{alternatives_end}
-use Rattle.pp_cert.proofs.Fits.{Fits, fits_pins, fits_held, fits_insert, fits_remove, fits_held_as, above_latched}
+use Rattle.pp_cert.proofs.Fits.{Fits, fits_pins, fits_held, fits_unused, fits_insert, fits_remove, fits_held_as, above_latched}
 use Rattle.pp_cert.proofs.Passing.{first_passes, both_pass, note_same, note_passes}
 use Rattle.pp_cert.proofs.Goes.{Goes, MayDo, goes_on}
 
@@ -53,13 +53,13 @@ module _ (g : Geometry) (l : IsLayout g) (c : Claims) where
   fix_goes k s r page hs has f h =
       let p = first_passes g c (slot_unused k s) [] h in
       let free : is_some (noted_at (note_at c k) s) ≡ false = not-true (is_some (noted_at (note_at c k) s)) p.0 in
-      let unused : is_some (held_at hs s) ≡ false = holds_too g (note_at c k) hs s is_some false f free in
-      let new : Holding = record { slot = s; page = page; held = Free } in (
+      let none = none_noted (entry_at (note_at c k) s) free in
+      let unused : is_some (holding_at hs s) ≡ false = ap is_some (fits_unused g (note_at c k) hs s f none) in (
         tt,
         (
-          slot_insert holding_slot new hs,
-          ap (λ b. if b then None else Some (slot_insert holding_slot new hs)) unused,
-          fits_insert g (note_at c k) hs r new f (none_noted (entry_at (note_at c k) s) free) has,
+          slot_push holding_slot (plain_page s page) hs,
+          ap (λ b. if b then None else Some (slot_push holding_slot (plain_page s page) hs)) unused,
+          fits_insert g (note_at c k) hs r (plain_page s page) f none refl has,
         ),
       )
 
@@ -119,12 +119,16 @@ module _ (g : Geometry) (l : IsLayout g) (c : Claims) where
   step_goes k (fix s r) (Unfix t) hs d f h = absurd d
   step_goes k (fix s r) (Latch t m) hs d f h = absurd d
   step_goes k (fix s r) (Unlatch t) hs d f h = absurd d
+  step_goes k (fix s r) (Gather t page) hs d f h = absurd d
+  step_goes k (fix s r) (Scatter t) hs d f h = absurd d
   step_goes k (fix s r) (Choose i) hs d f h = absurd d
   step_goes k (unfix s) (Fix t page) hs d f h = absurd d
   step_goes k (unfix s) (Unfix t) hs d f h =
       subst (λ u. StepGoes g (note_at c k) (unfix s) hs (Unfix u)) d (unfix_goes k s hs f h)
   step_goes k (unfix s) (Latch t m) hs d f h = absurd d
   step_goes k (unfix s) (Unlatch t) hs d f h = absurd d
+  step_goes k (unfix s) (Gather t page) hs d f h = absurd d
+  step_goes k (unfix s) (Scatter t) hs d f h = absurd d
   step_goes k (unfix s) (Choose i) hs d f h = absurd d
   step_goes k (latch s m) (Fix t page) hs d f h = absurd d
   step_goes k (latch s m) (Unfix t) hs d f h = absurd d
@@ -132,12 +136,16 @@ module _ (g : Geometry) (l : IsLayout g) (c : Claims) where
       subst (λ u. StepGoes g (note_at c k) (latch s m) hs (Latch u o)) d.0
       (subst (λ u. StepGoes g (note_at c k) (latch s m) hs (Latch s u)) d.1 (latch_goes k s m hs f h))
   step_goes k (latch s m) (Unlatch t) hs d f h = absurd d
+  step_goes k (latch s m) (Gather t page) hs d f h = absurd d
+  step_goes k (latch s m) (Scatter t) hs d f h = absurd d
   step_goes k (latch s m) (Choose i) hs d f h = absurd d
   step_goes k (unlatch s) (Fix t page) hs d f h = absurd d
   step_goes k (unlatch s) (Unfix t) hs d f h = absurd d
   step_goes k (unlatch s) (Latch t m) hs d f h = absurd d
   step_goes k (unlatch s) (Unlatch t) hs d f h =
       subst (λ u. StepGoes g (note_at c k) (unlatch s) hs (Unlatch u)) d (unlatch_goes k s hs f h)
+  step_goes k (unlatch s) (Gather t page) hs d f h = absurd d
+  step_goes k (unlatch s) (Scatter t) hs d f h = absurd d
   step_goes k (unlatch s) (Choose i) hs d f h = absurd d
 
   -- ---- bodies

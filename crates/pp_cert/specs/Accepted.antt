@@ -7,13 +7,13 @@ use Rattle.pp_plan.specs.declared.action.Action.{Action}
 use Rattle.pp_cert.specs.Held.{held, pins, IsLegal, IsOrderly}
 use Rattle.pp_cert.specs.Walk.{most_steps}
 
--- A plan, a bound on the slots that it holds at once, and a bound on the actions that it makes.
+-- A plan, a bound on the pins that it has at once, and a bound on the actions that it makes.
 pub record Acceptance : Type 0 where
   pub plan : Terms
   pub peak : ℕ
   pub steps : ℕ
 
--- Every beginning of every trace is legal and orderly, holds at most `peak` slots and has at most `steps` actions;
+-- Every beginning of every trace is legal and orderly, has at most `peak` pins and has at most `steps` actions;
 -- every whole trace holds nothing at its end; the peak is at most the frames, and the steps are at most 1,000,000.
 pub record IsAccepted (a : Acceptance) : Type 0 where
   pub plan : IsPlan a.plan

@@ -8,7 +8,7 @@ use Rattle.pp_cert.specs.declared.note.Entry.TheVariants.{Slot, Bundle}
 use Rattle.pp_cert.specs.declared.certificate.Certificate.{Certificate}
 use Rattle.pp_cert.specs.Notes.{entry_slot, is_bundle}
 
--- The note at each place, a bound on the slots held at once, and a bound on the actions of a trace.
+-- The note at each place, a bound on the pins at once, and a bound on the actions of a trace.
 pub record Claims : Type 0 where
   pub notes : List (List Entry)
   pub peak : ℕ

@@ -11,7 +11,7 @@ use std::marker::Model;
 /// A plan whose certificate was accepted. Only `check` makes one.
 ///
 /// Every beginning of every trace of the plan fixes, unfixes, latches and unlatches in a legal way, takes latches in
-/// rising classes, holds at most `peak` slots and has at most `steps` actions; every whole trace ends holding nothing.
+/// rising classes, has at most `peak` pins and has at most `steps` actions; every whole trace ends holding nothing.
 /// The peak is at most the number of frames, and the steps are at most 1,000,000.
 #[derive(Debug, Drop)]
 pub struct Accepted {
@@ -54,7 +54,7 @@ impl Accepted {
         &self.plan
     }
 
-    /// A bound on the slots that the plan holds at once.
+    /// A bound on the pins that the plan has at once.
     pub fn peak(&self) -> u64
         ensures { result ≡ self.now.peak }
     {

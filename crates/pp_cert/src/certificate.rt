@@ -12,11 +12,11 @@ use pp_plan::Plan;
 use pp_settings::Settings;
 use std::alloc::Global;
 
-/// What a certificate claims of a plan: what is held at each place, and bounds on the slots held at once and on the
+/// What a certificate claims of a plan: what is held at each place, and bounds on the pins at once and on the
 /// actions of a trace. Nothing of it is believed before `check` accepted it.
 #[derive(Debug, Drop)]
 pub struct Certificate {
-    /// A bound on the slots held at once.
+    /// A bound on the pins at once.
     pub peak: u64,
     /// A bound on the actions of a trace.
     pub steps: u64,

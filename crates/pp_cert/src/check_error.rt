@@ -43,7 +43,7 @@ pub enum CheckError {
     /// A latch is asked whose class isn't greater than every class that is latched.
     #[error("at place {place} a latch is asked against the order of classes")]
     AgainstOrder { place: u32 },
-    /// The note has more entries than the declared peak.
+    /// The note pins more pages than the declared peak.
     #[error("the note at place {place} holds more slots than the peak")]
     OverPeak { place: u32 },
     /// The end of a loop's body doesn't hold what was held before the loop.

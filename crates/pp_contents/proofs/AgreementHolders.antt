@@ -1,16 +1,16 @@
 -- A page that is cached and isn't being loaded has its image in the vault or its hands: in its frame, or with the guard
 -- of a worker that has it latched X.
 use Rattle.std.proofs.Common.{◌≡◌, ◌∙◌, ◌⊎◌, ℕ, zero, suc, ◌<◌, ◌≤◌, Bool, true, false, eqb, cond, Option, Some}
-use Rattle.std.proofs.Common.{None, List, [], ◌∷◌, length, refl, sym, ap, subst, inl, inr, arith}
+use Rattle.std.proofs.Common.{None, List, [], ◌∷◌, ◌++◌, length, refl, sym, ap, subst, inl, inr, arith}
 use Rattle.std.specs.Prelude.{nat_lt, slice_get, option_map, is_some, IsSome, if◌then◌else◌}
 use Rattle.std.proofs.lemmas.Bool.{false≢true, cases_lt}
 use Rattle.std.proofs.lemmas.Bool.Decides.{nat_tests}
-use Rattle.std.proofs.lemmas.List.Sums.{sum_by-cons}
 use Rattle.std.proofs.lemmas.Option.{slice_get_within}
 use Rattle.pp_plan.specs.declared.mode.Mode.TheVariants as mode
 use Rattle.pp_cert.specs.declared.note.Held as note
 use Rattle.pp_cert.specs.declared.note.Held.TheVariants.{Free, S, X}
-use Rattle.pp_cert.specs.Held.{Holding, Holdings, is_latched, holding_at}
+use Rattle.pp_cert.specs.Held.{Holding, Holdings, holding_slot, is_latched, holding_at}
+use Rattle.pp_cert.proofs.Slots.{slot_all}
 use Rattle.pp_arc.specs.FourLists.{is_cached}
 use Rattle.pp_frames.specs.declared.mode.Mode.TheVariants as latch_mode
 use Rattle.pp_frames.specs.Marks.{Shared, Exclusive, is_compatible}
@@ -20,11 +20,10 @@ use Rattle.pp_model.specs.Using.{goes_with}
 use Rattle.pp_model.specs.Moves.{seat_of}
 use Rattle.pp_model.specs.Reached.{IsReached}
 use Rattle.pp_model.specs.Ready.{standing_of, ready_at}
-use Rattle.pp_model.proofs.Sums.{sum_by-term}
-use Rattle.pp_model.proofs.Swaps.{in_slot, AreApart}
+use Rattle.pp_model.proofs.KeptSlots.{AreBundled, IsKeptAt, own, packed, found_in}
+use Rattle.pp_model.proofs.Effects.{holdings_kept}
 use Rattle.pp_model.proofs.Seats.{good}
 use Rattle.pp_model.proofs.ChangeTotals.{seat_at}
-use Rattle.pp_model.proofs.HoldingSteps.{holdings_apart}
 use Rattle.pp_model.proofs.Totals.{loads_of}
 use Rattle.pp_model.proofs.ReadyPages.{cached_ready}
 use Rattle.pp_model.proofs.ReadySteps.{shared_unwritten}
@@ -45,33 +44,52 @@ use Rattle.pp_contents.proofs.AgreementAnswers.{same_page}
 
 -- ---- who has a page latched X
 
--- Where no slot stands twice, what is listed is found.
-place_found : (hs : Holdings) → AreApart hs → (i : ℕ) (h : Holding) → slice_get hs i ≡ Some h
-    → holding_at hs h.slot ≡ Some h
-place_found [] apart i h e = absurd (none_some e)
-place_found (y ∷ ys) apart zero h e =
-    let same : y ≡ h = some_some y y h e in
-    subst (λ (x : Holding). cond (eqb y.slot x.slot) (Some y) (holding_at ys x.slot) ≡ Some x) same
-    (ap (λ b. cond b (Some y) (holding_at ys y.slot)) (same_page y.slot y.slot refl))
-place_found (y ∷ ys) apart (suc i) h e =
-    let rest : AreApart ys = λ k. omega (arith, sum_by-cons (in_slot k) y ys, apart k) in
-    go (place_found ys rest i h e) (eqb y.slot h.slot) refl
+-- What is listed stands among what its slot holds.
+listed_in : (hs : Holdings) (i : ℕ) (h : Holding) → slice_get hs i ≡ Some h
+    → (ys : Holdings) × (zs : Holdings) × (slot_all holding_slot h.slot hs ≡ ys ++ h ∷ zs)
+listed_in [] i h e = absurd (none_some e)
+listed_in (y ∷ ys) zero h e =
+    let same : y ≡ h = some_some y y h e in (
+      [],
+      slot_all holding_slot h.slot ys,
+      ap (λ b. cond b (y ∷ slot_all holding_slot h.slot ys) (slot_all holding_slot h.slot ys))
+          (ap (λ (x : Holding). eqb x.slot h.slot) same ∙ same_page h.slot h.slot refl)
+          ∙ ap (λ x. x ∷ slot_all holding_slot h.slot ys) same,
+    )
+listed_in (y ∷ ys) (suc i) h e =
+    let rest = listed_in ys i h e in
+    go (eqb y.slot h.slot) rest.0 rest.1 rest.2
   where
-    go : holding_at ys h.slot ≡ Some h → (b : Bool) → eqb y.slot h.slot ≡ b
-        → cond b (Some y) (holding_at ys h.slot) ≡ Some h
-    go found false f = found
-    go found true f =
-        let mine : in_slot h.slot h ≡ 1 = ap {B = ℕ} (λ b. cond b 1 0) (same_page h.slot h.slot refl) in
-        let first : in_slot h.slot y ≡ 1 = ap {B = ℕ} (λ b. cond b 1 0) f in
-        absurd
-        (omega (
-          arith,
-          sum_by-cons (in_slot h.slot) y ys,
-          apart h.slot,
-          sum_by-term (in_slot h.slot) ys i h e,
-          mine,
-          first,
-        ))
+    go : (b : Bool) (us vs : Holdings) → slot_all holding_slot h.slot ys ≡ us ++ h ∷ vs
+        → (ws : Holdings) × (zs : Holdings)
+        × (cond b (y ∷ slot_all holding_slot h.slot ys) (slot_all holding_slot h.slot ys) ≡ ws ++ h ∷ zs)
+    go true us vs f = (y ∷ us, vs, ap (λ l. y ∷ l) f)
+    go false us vs f = (us, vs, f)
+
+only_one : (us vs : Holdings) (h x : Holding) → x ∷ [] ≡ us ++ h ∷ vs → x ≡ h
+only_one [] vs h x e = cc
+only_one (u ∷ []) vs h x e = absurd (cc)
+only_one (u ∷ v ∷ us) vs h x e = absurd (cc)
+
+free_among : (hs us vs : Holdings) (h : Holding) → hs ≡ us ++ h ∷ vs → AreBundled hs → h.held ≡ Free
+free_among [] [] vs h e all = absurd (cc)
+free_among [] (u ∷ us) vs h e all = absurd (cc)
+free_among (y ∷ ys) [] vs h e all =
+    let same : y ≡ h = cc in ap (λ (x : Holding). x.held) (sym same) ∙ all.0.free
+free_among (y ∷ ys) (u ∷ us) vs h e all =
+    let same : ys ≡ us ++ h ∷ vs = cc in free_among ys us vs h same all.1
+
+-- A latched page that is listed is found in its slot, since it is the slot's own.
+latched_found : (hs : Holdings) (i : ℕ) (h : Holding) → IsKeptAt (slot_all holding_slot h.slot hs)
+    → slice_get hs i ≡ Some h → is_latched h.held ≡ true → holding_at hs h.slot ≡ Some h
+latched_found hs i h (own x e plain) at latched =
+    let among = listed_in hs i h at in
+    let same : x ≡ h = only_one among.0 among.1 h x (sym e ∙ among.2) in
+    found_in hs h.slot (x ∷ []) e ∙ ap Some same
+latched_found hs i h (packed all) at latched =
+    let among = listed_in hs i h at in
+    let free = free_among (slot_all holding_slot h.slot hs) among.0 among.1 h among.2 all in
+    absurd (false≢true (sym (ap is_latched free) ∙ latched))
 
 -- A slot has the page latched X.
 record HasExclusive (s : State) (page : ℕ) : Type 0 where
@@ -102,8 +120,8 @@ module _ (s : State) (reached : IsReached s) (page : ℕ) (some : 0 < writers_of
       let has = a_latch_that_is_refused_has_a_holder s mode.S page refused in
       let h = has.holding in
       let sits = seat_at s has.worker has.running (good s reached) has.seat in
-      let apart = holdings_apart s.settings.layout has.running sits in
-      let found = place_found (holdings has.running) apart has.place h has.found in
+      let kept = holdings_kept s.settings.layout has.running sits h.slot in
+      let found = latched_found (holdings has.running) has.place h kept has.found has.latched in
       let latch : h.held ≡ X =
       latch_is has.worker has.running h has.seat found has.same h.held refl has.latched in
       record {

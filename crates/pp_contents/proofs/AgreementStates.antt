@@ -172,7 +172,7 @@ sent_before s t (change.forgets w r slot page at e) =
     no_more s t w _ (reseats s t w (Some r) _ at.seat (ap (λ x. x.seats) e)) refl
 sent_before s t (change.loads w r slot page stamp at known e) =
     no_more s t w _ (reseats s t w (Some r) _ at.seat (ap (λ x. x.seats) e)) refl
-sent_before s t (change.unfixes w r slot asked e) =
+sent_before s t (change.unfixes w r slot a back asked e) =
     no_more s t w _ (reseats s t w (Some r) _ asked.at.seat (ap (λ x. x.seats) e)) refl
 sent_before s t (change.latches w r slot m asked fits e) =
     no_more s t w _ (reseats s t w (Some r) _ asked.at.seat (ap (λ x. x.seats) e)) refl

@@ -208,7 +208,8 @@ page_turn s t h (change.loads w r slot page stamp at known e) =
     (enter_turn s _ page _ (steps.load_enters s h w r slot page at stamp)
     (λ q ne. ap (λ (x : Note). x.mark) (note_there s page q (record (note_of s page) { mark = Some stamp }) ne))
     (comes w slot (errand_at s w r (reading slot page) at)))
-page_turn s t h (change.unfixes w r slot asked e) = stay_turn s t _ e (steps.unfix_stays s h w r slot asked)
+page_turn s t h (change.unfixes w r slot a back asked e) =
+    stay_turn s t _ e (steps.unfix_stays s h w r slot a back asked)
 page_turn s t h (change.latches w r slot m asked fits e) = next_turn s t _ e (latch_turn s h w r slot m asked fits)
 page_turn s t h (change.unlatches w r slot asked e) =
     next_turn s t _ e (unlatch_turn s h w r slot asked (held_in r slot) refl)

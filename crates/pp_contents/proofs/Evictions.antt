@@ -61,7 +61,7 @@ module _ (s : State) (h : IsReached s) (victim : ℕ) (x : Standing) (was : read
       absurd (not_read y _ frame told is refl)
   by_change t y frame (change.loads w r slot page stamp at known e) real told is gone =
       absurd (not_read y _ frame told is refl)
-  by_change t y frame (change.unfixes w r slot asked e) real told is gone = absurd (not_read y _ frame told is refl)
+  by_change t y frame (change.unfixes w r slot a back asked e) real told is gone = absurd (not_read y _ frame told is refl)
   by_change t y frame (change.latches w r slot m asked goes e) real told is gone =
       absurd (not_read y _ frame told is refl)
   by_change t y frame (change.unlatches w r slot asked e) real told is gone = absurd (not_read y _ frame told is refl)

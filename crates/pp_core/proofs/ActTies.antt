@@ -1,5 +1,5 @@
 -- An action of a worker that its plan asks: the core can do it, and its seats then fit those of the state.
-use Rattle.std.proofs.Common.{◌≡◌, ◌∙◌, ℕ, ◌+◌, ◌<◌, ◌≤◌, ◌^◌, Option, Some, None, List, [], ◌∷◌, ◌++◌, length, refl}
+use Rattle.std.proofs.Common.{◌≡◌, ◌∙◌, ℕ, ◌+◌, ◌<◌, ◌^◌, Option, Some, None, List, [], ◌∷◌, ◌++◌, length, refl}
 use Rattle.std.proofs.Common.{sym, ap}
 use Rattle.std.proofs.Common.{subst, arith}
 use Rattle.std.specs.Prelude.{slice_get, slice_set}
@@ -14,13 +14,15 @@ use Rattle.pp_plan.specs.Left.{Place}
 use Rattle.pp_plan.specs.Cursor.{StandsFor as CursorStandsFor}
 use Rattle.pp_cert.specs.Accepted.{Acceptance}
 use Rattle.pp_cert.specs.Held.{Holding, holding_at}
+use Rattle.pp_model.specs.Fixing.{fixes}
 use Rattle.pp_model.specs.Pool.{Stage, acting, writing, reading, leaving, Running, State}
 use Rattle.pp_model.specs.Holders.{holdings, held_slots}
 use Rattle.pp_model.specs.Outcome.{having_done}
-use Rattle.pp_model.specs.Moves.{seat_of}
+use Rattle.pp_model.specs.Moves.{seat_of, asked_by}
 use Rattle.pp_model.proofs.Changes.{IsAt, IsAsked}
 use Rattle.pp_model.proofs.HeldSlots.{few_held}
 use Rattle.pp_model.proofs.HoldingSteps as steps
+use Rattle.pp_core.proofs.PlainSlots as plain
 use Rattle.pp_model.proofs.BoundSteps as numbers
 use Rattle.pp_core.specs.declared.seat.Hold.{Hold}
 use Rattle.pp_core.specs.declared.seat.Seat.{Seat}
@@ -168,14 +170,14 @@ module _ (f : Parts) (s : State) (w : ℕ) (r : Running) (st : StandsFor f s) wh
   pub fix_due : (slot page : ℕ) → IsAsked s w r (action.Fix slot page) → IsDue r (action.Fix slot page)
   fix_due slot page asked =
       asked_due (action.Fix slot page) asked
-      ((steps.fix_finds s st.reached w r slot page asked).few, few_held most_slots (holdings r))
+      ((plain.fix_finds s st.reached w r slot page asked).few, few_held most_slots (holdings r))
 
   pub load_due : (slot page : ℕ) → IsAt s w r (reading slot page) → IsDue r (action.Fix slot page)
   load_due slot page at = record {
     on = reading_on slot page at;
-    asks = steps.reading_asks s st.reached w r slot page at;
+    asks = plain.reading_asks s st.reached w r slot page at;
     few = limited at.seat (numbers.reading_few s st.reached w r slot page at);
-    slots = ((steps.reading_finds s st.reached w r slot page at).few, few_held most_slots (holdings r));
+    slots = ((plain.reading_finds s st.reached w r slot page at).few, few_held most_slots (holdings r));
   }
 
   found_few : (slot : ℕ) (h : Holding) → seat_of s w ≡ Some (Some r) → holding_at (holdings r) slot ≡ Some h → slot < 32
@@ -201,23 +203,27 @@ module _ (f : Parts) (s : State) (w : ℕ) (r : Running) (st : StandsFor f s) wh
   choose_due i asked = asked_due (action.Choose i) asked tt
 
   -- The slots after it.
-  pub fix_follow : (slot page : ℕ) → IsAsked s w r (action.Fix slot page) → SlotsFollow r (action.Fix slot page)
-  fix_follow slot page asked xs n wide tell e =
-      let few = (steps.fix_finds s st.reached w r slot page asked).few in (
-        omega (arith, e, steps.fix_slots s st.reached w r slot page asked),
+  goes_in : (slot page : ℕ) → slot < 32 → plain.ComesIn s st.reached w r slot page (fixes (asked_by r) slot page)
+      → plain.CountsIn s st.reached w r (fixes (asked_by r) slot page) → SlotsFollow r (fixes (asked_by r) slot page)
+  goes_in slot page few comes counts =
+      subst (SlotsFollow r) (sym is) (λ xs n wide tell e. (
+        omega (arith, e, subst (plain.CountsIn s st.reached w r) is counts),
         tell_set xs (holdings r) (holdings (having_done r (action.Fix slot page))) slot _ _ (omega
-            (arith, few, wide)) refl tell
-            (steps.fix_holds s st.reached w r slot page asked),
-      )
+            (arith, few, wide)) refl tell (subst (plain.ComesIn s st.reached w r slot page) is comes),
+      ))
+    where
+      is : fixes (asked_by r) slot page ≡ action.Fix slot page
+      is = plain.is_fix s st.reached w r slot page
 
-  pub load_follow : (slot page : ℕ) → IsAt s w r (reading slot page) → SlotsFollow r (action.Fix slot page)
-  load_follow slot page at xs n wide tell e =
-      let few = (steps.reading_finds s st.reached w r slot page at).few in (
-        omega (arith, e, steps.loaded_slots s st.reached w r slot page at),
-        tell_set xs (holdings r) (holdings (having_done r (action.Fix slot page))) slot _ _ (omega
-            (arith, few, wide)) refl tell
-            (steps.loaded_holds s st.reached w r slot page at),
-      )
+  pub fix_follow : (slot page : ℕ) → IsAsked s w r (action.Fix slot page) → SlotsFollow r (fixes (asked_by r) slot page)
+  fix_follow slot page asked =
+      goes_in slot page (plain.fix_finds s st.reached w r slot page asked).few
+      (plain.fix_holds s st.reached w r slot page asked) (plain.fix_slots s st.reached w r slot page asked)
+
+  pub load_follow : (slot page : ℕ) → IsAt s w r (reading slot page) → SlotsFollow r (fixes (asked_by r) slot page)
+  load_follow slot page at =
+      goes_in slot page (plain.reading_finds s st.reached w r slot page at).few
+      (plain.loaded_holds s st.reached w r slot page at) (plain.loaded_slots s st.reached w r slot page at)
 
   pub unfix_follow : (slot : ℕ) → IsAsked s w r (action.Unfix slot) → SlotsFollow r (action.Unfix slot)
   unfix_follow slot asked xs n wide tell e =
@@ -226,7 +232,7 @@ module _ (f : Parts) (s : State) (w : ℕ) (r : Running) (st : StandsFor f s) wh
         omega (arith, e, steps.unfix_slots s st.reached w r slot asked),
         tell_set xs (holdings r) (holdings (having_done r (action.Unfix slot))) slot None None (omega
             (arith, few, wide)) refl tell
-            (steps.unfix_holds s st.reached w r slot asked),
+            (plain.unfix_holds s st.reached w r slot asked),
       )
 
   pub latch_follow : (slot : ℕ) (m : Mode) → IsAsked s w r (action.Latch slot m) → SlotsFollow r (action.Latch slot m)

@@ -23,7 +23,7 @@ use Rattle.pp_model.specs.Reached.{IsReached}
 use Rattle.pp_model.proofs.Changes.{IsAt}
 use Rattle.pp_model.proofs.Framed.{some_of, held_one, taken_low}
 use Rattle.pp_model.proofs.HoldingSteps as slots
-use Rattle.pp_model.proofs.HoldingSteps.{Holds}
+use Rattle.pp_core.proofs.PlainSlots as plain
 use Rattle.pp_model.proofs.KnownMarks.{held_is_known}
 use Rattle.pp_core.specs.Queries.{ask_of, held_of, held_by, idle_by}
 use Rattle.pp_core.specs.AfterMoves.{HasUnfixed, UnfixEmpties, NowHeld, HasLatched, LatchHolds, UnlatchFrees}
@@ -87,7 +87,7 @@ module _ (s : State) (h : IsReached s) where
       let before = asking.at.seat in
       let after : seat_of t w ≡ Some (Some y) = set_at s.seats w (Some r) (Some y) before in
       let asked = named s w r (ask.Unfix k) (action.Unfix k) asking refl in
-      let one = one_slot s t w r y before after k None (slots.unfix_holds s h w r k asked) in
+      let one = one_slot s t w r y before after k None (plain.unfix_holds s h w r k asked) in
       let acts = acts_at t w y (record { seat = after; stage = refl }) in
       let same = same_unfix k slot (sym (asked_at s w r (ask.Unfix k) asking) ∙ told) in
       let so : HasUnfixed s t w k = record { empty = one.here; acts = acts; others = one.others } in
@@ -212,7 +212,7 @@ module _ (s : State) (h : IsReached s) where
         let u = unwind_where s w r slot given (Some x) in
         let t = u.state in
         let after : seat_of t w ≡ Some (Some y) = released_seat s x.held x.page w (Some r) (Some y) at.seat in
-        let one = one_slot s t w r y at.seat after slot None (slots.unwind_holds s h w r slot given x at found) in
+        let one = one_slot s t w r y at.seat after slot None (plain.unwind_holds s h w r slot given at) in
         let same = some_same (x.page, x.held) (page, how) (sym (held_found s w r slot x at.seat found) ∙ holds) in
         let so : HasUnwound s t w slot x.page x.held u.reply = record {
           leaving = leaving_at t w y (slot ∷ given) (record { seat = after; stage = refl });

@@ -6,10 +6,10 @@ use Rattle.std.proofs.lemmas.Bool.Decides.{nat_tests}
 use Rattle.pp_plan.specs.declared.action.Action.TheVariants as action
 use Rattle.pp_plan.specs.declared.action.Ask.{Ask}
 use Rattle.pp_plan.specs.declared.action.Ask.TheVariants as ask
-use Rattle.pp_cert.specs.declared.note.Held.TheVariants.{Free}
-use Rattle.pp_cert.specs.Held.{holding_at}
+use Rattle.pp_cert.specs.Held.{holding_at, plain_page}
 use Rattle.pp_arc.specs.declared.answer.Answer.TheVariants as answer
 use Rattle.pp_arc.specs.FourLists.{FourLists}
+use Rattle.pp_model.specs.Fixing.{fixes}
 use Rattle.pp_model.specs.declared.moves.Came.{Came}
 use Rattle.pp_model.specs.declared.moves.Came.TheVariants.{Image}
 use Rattle.pp_model.specs.declared.reply.Failure.{Failure}
@@ -21,11 +21,12 @@ use Rattle.pp_model.specs.Holders.{given_back, is_busy, errands_of, holdings}
 use Rattle.pp_model.specs.Outcome.{Outcome, at_stage, having_done, did, with_lists, with_stage, with_dirty, with_mark}
 use Rattle.pp_model.specs.Taking.{beginning, began}
 use Rattle.pp_model.specs.Answers.{write_where, read_where}
-use Rattle.pp_model.specs.Moves.{seat_of}
+use Rattle.pp_model.specs.Moves.{seat_of, asked_by}
 use Rattle.pp_model.specs.Reached.{IsReached}
 use Rattle.pp_model.proofs.Changes.{IsAt, IsAnswered}
 use Rattle.pp_model.proofs.Framed.{some_of, loads_one, taken_low}
 use Rattle.pp_model.proofs.HoldingSteps as slots
+use Rattle.pp_core.proofs.PlainSlots as plain
 use Rattle.pp_model.proofs.KnownMarks.{loaded_is_known}
 use Rattle.pp_model.proofs.MarkChanges.{note_here}
 use Rattle.pp_model.proofs.Requests.{hit_cached}
@@ -81,14 +82,14 @@ module _ (s t : State) (w : ℕ) (r : Running) where
 
   -- A page is in the slot, which was empty.
   has_fixed : (slot page mark : ℕ) → seat_of s w ≡ Some (Some r)
-      → seat_of t w ≡ Some (Some (having_done r (action.Fix slot page)))
+      → seat_of t w ≡ Some (Some (having_done r (fixes (asked_by r) slot page)))
       → holding_at (holdings r) slot ≡ None
-      → ((k : ℕ) → holding_at (holdings (having_done r (action.Fix slot page))) k
-      ≡ cond (eqb k slot) (Some (record { slot = slot; page = page; held = Free })) (holding_at (holdings r) k))
+      → ((k : ℕ) → holding_at (holdings (having_done r (fixes (asked_by r) slot page))) k
+      ≡ cond (eqb k slot) (Some (plain_page slot page)) (holding_at (holdings r) k))
       → known_mark t page ≡ Some mark → HasFixed s t w slot page mark
   has_fixed slot page mark before after empty all known =
-      let y = having_done r (action.Fix slot page) in
-      let one = one_slot s t w r y before after slot (Some (record { slot = slot; page = page; held = Free })) all in
+      let y = having_done r (fixes (asked_by r) slot page) in
+      let one = one_slot s t w r y before after slot (Some (plain_page slot page)) all in
       record {
         empty = held_at s w r slot before ∙ ap (option_map held_as) empty;
         held = one.here;
@@ -149,7 +150,7 @@ module _ (s : State) (h : IsReached s) where
         same_slot k j slot region (sym (asked_at s w r (ask.Fix k j) asking) ∙ told)
 
     finds_empty : (r : Running) (k j : ℕ) → AsksFix s w r k j page → holding_at (holdings r) k ≡ None
-    finds_empty r k j asks = (slots.fix_finds s h w r k page asks.asked).empty
+    finds_empty r k j asks = (plain.fix_finds s h w r k page asks.asked).empty
 
     fix_sent : (t : State) (r : Running) (g : Stage) (k j slot region : ℕ) (victim : Option ℕ)
         → AsksFix s w r k j page → ask_of s w ≡ Some (ask.Fix slot region)
@@ -175,16 +176,16 @@ module _ (s : State) (h : IsReached s) where
       hits : (r : Running) (k j : ℕ) (l : FourLists) → AsksFix s w r k j page → IsAnswered s page l answer.Hit
           → reply.Hit (frame_at s page) (mark_at s page) ≡ reply.Hit frame mark
           → ask_of s w ≡ Some (ask.Fix slot region)
-          → HasFixed s (did (with_lists s l) w r (action.Fix k page)) w slot page mark
+          → HasFixed s (did (with_lists s l) w r (fixes (asked_by r) k page)) w slot page mark
       hits r k j l asks is e told =
-          let t = did (with_lists s l) w r (action.Fix k page) in
+          let t = did (with_lists s l) w r (fixes (asked_by r) k page) in
           let seat = asks.asked.at.seat in
           let known = hit_known s page l h is
           ∙ ap Some (same_mark (frame_at s page) (mark_at s page) frame mark e) in
           subst (λ n. HasFixed s t w n page mark) (its_slot w page r k j slot region asks.asking told)
           (has_fixed s t w r k page mark seat
-          (set_at s.seats w (Some r) (Some (having_done r (action.Fix k page))) seat) (finds_empty w page r k j asks)
-          (slots.fix_holds s h w r k page asks.asked) known)
+          (set_at s.seats w (Some r) (Some (having_done r (fixes (asked_by r) k page))) seat) (finds_empty w page r k j asks)
+          (plain.fix_holds s h w r k page asks.asked) known)
 
   pub fix_sends : FixSends s
   fix_sends w page slot region frame =
@@ -231,7 +232,7 @@ module _ (s : State) (h : IsReached s) where
         let after = set_at s.seats w (Some r) (Some (at_stage r (reading k p))) at.seat in
         let same = same_reading k p slot page (Some v) victim (sym (errand_at s w r (writing k p v) at) ∙ told) in
         let place : k ≡ slot = ap (λ x. x.0) (some_same (k, p, None) (slot, page, None) same) in
-        let empty = subst (λ n. holding_at (holdings r) n ≡ None) place (slots.writing_finds s h w r k p v at).empty in
+        let empty = subst (λ n. holding_at (holdings r) n ≡ None) place (plain.writing_finds s h w r k p v at).empty in
         is_sent s t w r (reading k p) slot page None at.seat after (sym (ap given_back at.stage)) same empty
     read_next false r k p v slot page victim frame at e told = absurd (cc)
 
@@ -263,14 +264,14 @@ module _ (s : State) (h : IsReached s) where
         (λ t. errand_of s w ≡ Some (slot, page, None) → HasLoaded s t w slot page mark came)
         (read_where s w r k p stamp false)
     loads_it r k p stamp slot page mark at image e told =
-        let t = did (with_mark s p stamp) w r (action.Fix k p) in
+        let t = did (with_mark s p stamp) w r (fixes (asked_by r) k p) in
         let one = some_same (k, p, None) (slot, page, None) (sym (errand_at s w r (reading k p) at) ∙ told) in
         let low = taken_low s h p (omega (arith, loads_one s w r (reading k p) p at refl)) in
         let n : Note = record (note_of s p) { mark = Some stamp } in
         let known : known_mark t p ≡ Some stamp = ap (λ (x : Note). x.mark) (note_here s p n low) in
         let fixed : HasFixed s t w k p stamp = has_fixed s t w r k p stamp at.seat
-        (set_at s.seats w (Some r) (Some (having_done r (action.Fix k p))) at.seat)
-        (slots.reading_finds s h w r k p at).empty (slots.loaded_holds s h w r k p at) known in
+        (set_at s.seats w (Some r) (Some (having_done r (fixes (asked_by r) k p))) at.seat)
+        (plain.reading_finds s h w r k p at).empty (plain.loaded_holds s h w r k p at) known in
         let so : HasLoaded s t w k p stamp came = record { fixed = fixed; image = image } in
         subst (λ x. HasLoaded s t w x.0 x.1 mark came) one
         (subst (λ m. HasLoaded s t w k p m came) (same_loaded stamp mark e) so)

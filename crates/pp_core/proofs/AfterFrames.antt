@@ -12,6 +12,7 @@ use Rattle.pp_model.specs.Reached.{IsReached}
 use Rattle.pp_model.proofs.Changes.{IsAt}
 use Rattle.pp_model.proofs.Framed.{some_of, framed, loads_one, sent_one, notes_length, victim_low}
 use Rattle.pp_model.proofs.HoldingSteps as slots
+use Rattle.pp_core.proofs.PlainSlots as plain
 use Rattle.pp_model.proofs.MarkChanges.{note_here, note_there, notes_stay}
 use Rattle.pp_model.proofs.Requests.{Which, same, other, which, hit_cached}
 use Rattle.pp_model.proofs.Soundness.{sound}
@@ -58,7 +59,7 @@ module _ (s : State) (h : IsReached s) where
 
   low_page : (w page : ℕ) (r : Running) (k j : ℕ) → AsksFix s w r k j page → page < length s.notes
   low_page w page r k j asks =
-      omega (arith, (slots.fix_finds s h w r k page asks.asked).low, notes_length s h)
+      omega (arith, (plain.fix_finds s h w r k page asks.asked).low, notes_length s h)
 
   pub hit_frame : HitFrame s
   hit_frame w page frame mark =

@@ -10,6 +10,7 @@ use Rattle.pp_arc.specs.FourLists.{FourLists, is_cached}
 use Rattle.pp_arc.specs.Figure.{forget, bring_back as bring_back_in}
 use Rattle.pp_frames.specs.Marks as map
 use Rattle.pp_frames.specs.Marks.{PageMap, PageMarks}
+use Rattle.pp_model.specs.Fixing.{fixes}
 use Rattle.pp_model.specs.declared.moves.Move.TheVariants as move
 use Rattle.pp_model.specs.declared.moves.Came.{Came}
 use Rattle.pp_model.specs.declared.moves.Came.TheVariants.{Fault, Image}
@@ -26,12 +27,13 @@ use Rattle.pp_model.specs.Outcome.{off_plan, did, with_lists, with_stage, with_f
 use Rattle.pp_model.specs.Answers.{brought_back, unread, write_where, write_in, write_by, is_other}
 use Rattle.pp_model.specs.Answers.{is_misread as is_misread_by}
 use Rattle.pp_model.specs.Answers.{read_where, read_came, read_in, read_by}
-use Rattle.pp_model.specs.Moves.{seat_of, outcome_of}
+use Rattle.pp_model.specs.Moves.{seat_of, outcome_of, asked_by}
 use Rattle.pp_model.proofs.Changes.{IsAt}
 use Rattle.pp_model.proofs.Sums.{sum_by-term}
 use Rattle.pp_model.proofs.Falls.{left_at}
 use Rattle.pp_model.proofs.HeldSlots.{few_held}
 use Rattle.pp_model.proofs.HoldingSteps as steps
+use Rattle.pp_core.proofs.PlainSlots as plain
 use Rattle.pp_model.proofs.BoundSteps as numbers
 use Rattle.pp_model.proofs.FlightSteps as flights
 use Rattle.pp_model.proofs.MarkSteps as marked
@@ -46,7 +48,7 @@ use Rattle.pp_core.specs.declared.seat.Phase.TheVariants.{Acting, Writing, Readi
 use Rattle.pp_core.specs.declared.seat.Seat.{Seat}
 use Rattle.pp_core.specs.Parts.{Parts}
 use Rattle.pp_core.specs.StandsFor.{FitsStage, FitsRunning, FitsSeat, StandsFor, IsKept, Moves}
-use Rattle.pp_core.specs.Effects.{phase_of, IsIn, Runs, displaced, frame_at as frame_in}
+use Rattle.pp_core.specs.Effects.{phase_of, IsIn, Runs, displaced, frame_at as frame_in, Acted}
 use Rattle.pp_core.specs.Answering.{writing_of, reading_of, is_misread, left_of, CanLose, CanWrite, written, CanBring}
 use Rattle.pp_core.specs.Answering.{brought}
 use Rattle.pp_core.specs.Answering.{CanForget, forgotten, CanLoad, Loaded}
@@ -280,7 +282,7 @@ module _ (f : Parts) (w : ℕ) (e : Write) (writes : ◌≡◌ {A = Result Write
       let x = there s st in
       omega (
         arith,
-        (steps.writing_finds s st.reached w x.running e.slot e.page e.victim x.at).low,
+        (plain.writing_finds s st.reached w x.running e.slot e.page e.victim x.at).low,
         notes_length s st.reached,
       )
 
@@ -480,7 +482,7 @@ module _ (f : Parts) (w : ℕ) (e : Read) (reads : ◌≡◌ {A = Result Read Ca
       let x = here s st in
       omega (
         arith,
-        (steps.reading_finds s st.reached w x.running e.slot e.page x.at).low,
+        (plain.reading_finds s st.reached w x.running e.slot e.page x.at).low,
         notes_length s st.reached,
       )
 
@@ -612,9 +614,10 @@ module _ (f : Parts) (w : ℕ) (e : Read) (reads : ◌≡◌ {A = Result Read Ca
       leads s st =
           let x = here s st in
           let r = x.running in
-          let d = action.Fix e.slot e.page in
+          let d = fixes (asked_by r) e.slot e.page in
           let t = did (with_mark s e.page stamp) w r d in
-          let crew = acted_crew f g s w r d st load.acted x.at.seat (reading_on f s w r st e.slot e.page x.at)
+          let acts = subst (Acted f g w) (sym (plain.is_fix s st.reached w r e.slot e.page)) load.acted in
+          let crew = acted_crew f g s w r d st acts x.at.seat (reading_on f s w r st e.slot e.page x.at)
           (load_follow f s w r st e.slot e.page x.at) in
           let same : SameFrame s t = record {
             settings = refl;

@@ -1,7 +1,7 @@
 -- What is decided in an open turn is possible.
 use Rattle.std.proofs.Common.{◌≡◌, ◌∙◌, ℕ, zero, suc, ◌<◌, ◌≤◌, ◌+◌, Bool, true, false, Option, Some, None, List, [], ◌∷◌}
 use Rattle.std.proofs.Common.{length, refl, sym, ap, subst, inl, inr, arith}
-use Rattle.std.specs.Prelude.{slice_get, option_map, nat_lt, IsSome}
+use Rattle.std.specs.Prelude.{◌⊎◌, slice_get, option_map, nat_lt, IsSome}
 use Rattle.std.specs.Option.{is_some}
 use Rattle.std.proofs.lemmas.Bool.Decides.{nat_tests}
 use Rattle.std.proofs.lemmas.List.Quantifiers.{position-Some}
@@ -14,6 +14,7 @@ use Rattle.pp_plan.specs.declared.action.Ask.{Ask}
 use Rattle.pp_plan.specs.declared.action.Ask.TheVariants as ask
 use Rattle.pp_plan.specs.Cursor.{NamesAction, IsAskOf}
 use Rattle.pp_plan.proofs.Asking.{asks_named, asked_within}
+use Rattle.pp_plan.proofs.NoBundle.{no_gather, no_scatter}
 use Rattle.pp_cert.specs.Held.{Holding, Holdings, holding_at}
 use Rattle.pp_model.specs.declared.moves.Move.{Move}
 use Rattle.pp_model.specs.declared.moves.Move.TheVariants as move
@@ -176,6 +177,8 @@ not_ended s w r g (ask.Fix t region) a n p = cc
 not_ended s w r g (ask.Unfix t) a n p = cc
 not_ended s w r g (ask.Latch t m) a n p = cc
 not_ended s w r g (ask.Unlatch t) a n p = cc
+not_ended s w r g (ask.Gather t region) a n p = cc
+not_ended s w r g (ask.Scatter t) a n p = cc
 not_ended s w r g (ask.Choose k) a n p = cc
 not_ended s w r g ask.End a n p = n
 
@@ -278,6 +281,16 @@ pub page_asked : (g : Geometry) (slot region page : ℕ) (e : Extent) → slice_
     → e.first ≤ page → page < e.first + e.count → NamesAction g (ask.Fix slot region) (action.Fix slot page)
 page_asked g slot region page e at from below =
     let has : has_page page e ≡ true = grind (arith, nat_tests) in (refl, (e, at, has))
+
+-- No plan asks a bundle.
+pub none_bundled : (f : Parts) (w : ℕ) (x : Ask) → IsKept f → Asks f w x
+    → ((slot : ℕ) × (region : ℕ) × (x ≡ ask.Gather slot region)) ⊎ ((slot : ℕ) × (x ≡ ask.Scatter slot)) → ⊥
+none_bundled f w x kept asks is = go (asks kept.state kept.stands) is
+  where
+    go : ((r : Running) × IsActing kept.state w r × (asked_by r ≡ x))
+        → ((slot : ℕ) × (region : ℕ) × (x ≡ ask.Gather slot region)) ⊎ ((slot : ℕ) × (x ≡ ask.Scatter slot)) → ⊥
+    go at (inl g) = no_gather at.0.accepted.plan at.0.done g.0 g.1 (at.2 ∙ g.2)
+    go at (inr g) = no_scatter at.0.accepted.plan at.0.done g.0 (at.2 ∙ g.1)
 
 -- There is some branch.
 pub some_branch : (f : Parts) (w n : ℕ) → IsKept f → Asks f w (ask.Choose n) → 1 ≤ n

@@ -5,7 +5,9 @@ use Rattle.std.specs.Prelude.{slice_set, slice_index_or, option_map, unwrap_or, 
 use Rattle.std.proofs.lemmas.Option.{slice_get-get_or}
 use Rattle.pp_plan.specs.declared.action.Action.TheVariants as action
 use Rattle.pp_plan.specs.declared.action.Ask.TheVariants as ask
+use Rattle.pp_plan.specs.declared.action.Ask.{Ask}
 use Rattle.pp_plan.specs.Asked.{region_has}
+use Rattle.pp_plan.proofs.NoBundle.{no_gather}
 use Rattle.pp_arc.specs.declared.answer.Answer.{Answer}
 use Rattle.pp_arc.specs.declared.answer.Answer.TheVariants as answer
 use Rattle.pp_arc.specs.FourLists.{FourLists}
@@ -18,16 +20,17 @@ use Rattle.pp_model.specs.declared.reply.Reply.{Reply}
 use Rattle.pp_model.specs.declared.reply.Reply.TheVariants.{Hit, MustRead, MustWrite, NotNow, OffPlan}
 use Rattle.pp_model.specs.declared.refusals.Delay.TheVariants.{InFlight, FlushHolds}
 use Rattle.pp_model.specs.declared.refusals.Cause.TheVariants.{NotAsked}
-use Rattle.pp_model.specs.Pool.{writing, reading, State, note_of, is_dirty, frame_at, mark_at}
+use Rattle.pp_model.specs.Pool.{writing, reading, State, note_of, is_dirty, frame_at, mark_at, Running}
 use Rattle.pp_model.specs.Holders.{is_in_flight, is_flushed, is_busy, given_back}
 use Rattle.pp_model.specs.Budget.{bound}
 use Rattle.pp_model.specs.Marks.{marks}
 use Rattle.pp_model.specs.Outcome.{did, with_lists, with_stage, with_frame}
-use Rattle.pp_model.specs.Fixing.{fix_slot, with_frame_moved, evict_where, free_frame as free_frame_of, fix_by}
+use Rattle.pp_model.specs.Fixing.{fix_slot, with_frame_moved, evict_where, free_frame as free_frame_of, fix_by, fixes}
 use Rattle.pp_model.specs.Fixing.{fix_where, fix_asked}
 use Rattle.pp_model.specs.Moves.{asked_by, outcome_of}
-use Rattle.pp_model.proofs.Changes.{IsAnswered, slot_asked}
+use Rattle.pp_model.proofs.Changes.{IsAnswered, slot_asked, IsAsked}
 use Rattle.pp_model.proofs.HoldingSteps as steps
+use Rattle.pp_core.proofs.PlainSlots as plain
 use Rattle.pp_model.proofs.BoundSteps as numbers
 use Rattle.pp_model.proofs.FlightSteps as flights
 use Rattle.pp_model.proofs.MarkSteps as marked
@@ -41,7 +44,7 @@ use Rattle.pp_core.specs.declared.table.Flush.{Flush}
 use Rattle.pp_core.specs.Busy.{is_that}
 use Rattle.pp_core.specs.Parts.{Parts}
 use Rattle.pp_core.specs.StandsFor.{StandsFor, IsKept, Moves, Asks, in_flight_as}
-use Rattle.pp_core.specs.Effects.{IsIn, Spent, pinned, is_flying, placed, is_busy as is_busy_in}
+use Rattle.pp_core.specs.Effects.{IsIn, Spent, pinned, is_flying, placed, is_busy as is_busy_in, Acted}
 use Rattle.pp_core.specs.Effects.{frame_at as frame_in, mark_at as mark_in}
 use Rattle.pp_core.specs.Fixing.{CanHit, CanFill, CanTakeOver, CanEvict, CanSend, free_frame, filled, taken_over}
 use Rattle.pp_core.specs.Fixing.{evicted, sent}
@@ -50,7 +53,7 @@ use Rattle.pp_core.proofs.Ties.{Leads, moves_by, refuses, acted_outcome, SameFra
 use Rattle.pp_core.proofs.Ties.{flies_set, flies_both}
 use Rattle.pp_core.proofs.ActTies.{kept, can_act, acted_crew, acting_on, fix_due, fix_follow}
 use Rattle.pp_core.proofs.SentTies.{staged_crew, can_act_listed, acted_listed}
-use Rattle.pp_core.proofs.UsingMoves.{Asked, asked_bound, mark_told}
+use Rattle.pp_core.proofs.UsingMoves.{asked_bound, mark_told}
 
 -- ---- pages in flight and pages that are busy
 
@@ -89,6 +92,31 @@ placed_in m page = placed m page (free_frame m)
 
 -- ---- what is asked
 
+-- A worker's plan asks that the page go into the slot.
+record AskedFix (s : State) (w slot page : ℕ) : Type 0 where
+  running : Running
+  asked : IsAsked s w running (fixes (asked_by running) slot page)
+
+-- A fix isn't asked where the plan asks no fix. (No plan asks a gather.)
+no_slot : (r : Running) (page : ℕ) (x : Ask) → asked_by r ≡ x
+    → ((slot region : ℕ) → x ≡ ask.Fix slot region → ⊥) → fix_slot r page x ≡ None
+no_slot r page (ask.Fix slot region) e isnt = absurd (isnt slot region refl)
+no_slot r page (ask.Unfix slot) e isnt = refl
+no_slot r page (ask.Latch slot m) e isnt = refl
+no_slot r page (ask.Unlatch slot) e isnt = refl
+no_slot r page (ask.Gather slot region) e isnt = absurd (no_gather r.accepted.plan r.done slot region e)
+no_slot r page (ask.Scatter slot) e isnt = refl
+no_slot r page (ask.Choose n) e isnt = refl
+no_slot r page ask.End e isnt = refl
+
+pub fix_unasked : (f : Parts) (w page : ℕ) (x : Ask) → Asks f w x
+    → ((slot region : ℕ) → x ≡ ask.Fix slot region → ⊥) → Moves f (move.Fix w page) (OffPlan NotAsked) f
+fix_unasked f w page x asks isnt = refuses f (move.Fix w page) (OffPlan NotAsked) (λ s st.
+    let at = asks s st in
+    acted_outcome s w at.0 (λ q. fix_asked s w q page (fix_slot q page (asked_by q))) at.1
+    ∙ ap (λ y. fix_asked s w at.0 page (fix_slot at.0 page y)) at.2
+    ∙ ap (fix_asked s w at.0 page) (no_slot at.0 page x at.2 isnt))
+
 module _ (f : Parts) (w page slot region : ℕ) (asks : Asks f w (ask.Fix slot region)) where
   in_layout : (s : State) (st : StandsFor f s) (b : Bool) → region_has f.layout region page ≡ b
       → region_has (asks s st).0.accepted.plan.layout region page ≡ b
@@ -113,13 +141,11 @@ module _ (f : Parts) (w page slot region : ℕ) (asks : Asks f w (ask.Fix slot r
   fix_elsewhere e = refuses f (move.Fix w page) (OffPlan NotAsked) (λ s st. outcome_is s st false e)
 
   module _ (has : region_has f.layout region page ≡ true) where
-    abbrev fix_of : (s : State) → StandsFor f s → Asked f w (action.Fix slot page)
+    abbrev fix_of : (s : State) → StandsFor f s → AskedFix s w slot page
     fix_of s st =
         let a = asks s st in
         let r = a.0 in
         record {
-          state = s;
-          stands = st;
           running = r;
           asked = record {
             at = record { seat = a.1.seat; stage = a.1.stage };
@@ -127,12 +153,18 @@ module _ (f : Parts) (w page slot region : ℕ) (asks : Asks f w (ask.Fix slot r
           };
         }
 
+    is_fix : (s : State) (st : StandsFor f s) → fixes (asked_by (fix_of s st).running) slot page ≡ action.Fix slot page
+    is_fix s st = plain.is_fix s st.reached w (fix_of s st).running slot page
+
+    plainly : (s : State) (st : StandsFor f s) → IsAsked s w (fix_of s st).running (action.Fix slot page)
+    plainly s st = subst (IsAsked s w (fix_of s st).running) (is_fix s st) (fix_of s st).asked
+
     low_in : (s : State) → StandsFor f s → page < length s.notes
     low_in s st =
         let h = fix_of s st in
         omega (
           arith,
-          (steps.fix_finds s st.reached w h.running slot page h.asked).low,
+          (plain.fix_finds s st.reached w h.running slot page (plainly s st)).low,
           notes_length s st.reached,
         )
 
@@ -195,7 +227,7 @@ module _ (f : Parts) (w page slot region : ℕ) (asks : Asks f w (ask.Fix slot r
       enough : (s : State) → StandsFor f s → 3 ≤ f.budget
       enough s st =
           let h = fix_of s st in
-          omega (arith, st.budget, asked_bound s w h.running (action.Fix slot page) st.reached h.asked)
+          omega (arith, st.budget, asked_bound s w h.running (fixes (asked_by h.running) slot page) st.reached h.asked)
 
       page_flies : (s : State) → StandsFor f s → page < length f.in_flight
       page_flies s st = omega (arith, low_in s st, st.pages)
@@ -211,7 +243,7 @@ module _ (f : Parts) (w page slot region : ℕ) (asks : Asks f w (ask.Fix slot r
           record {
             can = can_act_listed f after w (action.Fix slot page)
                 (can_act f s w h.running (action.Fix slot page) st h.asked.at.seat
-                (fix_due f s w h.running st slot page h.asked));
+                (fix_due f s w h.running st slot page (plainly s st)));
             placed = subst (λ (m : PageMap). IsSome (map.frame_of m page)) (sym st.marks)
                 (marked.hit_placed s st.reached w h.running slot page after h.asked is_hit);
             room = pins_fit s st;
@@ -227,11 +259,12 @@ module _ (f : Parts) (w page slot region : ℕ) (asks : Asks f w (ask.Fix slot r
           leads s st =
               let h = fix_of s st in
               let r = h.running in
-              let d = action.Fix slot page in
+              let d = fixes (asked_by r) slot page in
               let t = did (with_lists s after) w r d in
               let low = low_in s st in
-              let crew = acted_crew f g s w r d st (acted_listed f g after w d spent.acted) h.asked.at.seat
-              (acting_on f s w r st d h.asked) (fix_follow f s w r st slot page h.asked) in
+              let acts = subst (Acted (record f { lists = after }) g w) (sym (is_fix s st)) spent.acted in
+              let crew = acted_crew f g s w r d st (acted_listed f g after w d acts) h.asked.at.seat
+              (acting_on f s w r st d h.asked) (fix_follow f s w r st slot page (plainly s st)) in
               let same : SameFrame s t = record {
                 settings = refl;
                 plans = refl;

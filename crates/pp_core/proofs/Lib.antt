@@ -2,6 +2,7 @@ mod SeatSteps
 mod Crew
 mod Asking
 mod SlotTies
+pub mod PlainSlots
 mod Ties
 mod ActTies
 mod UsingMoves

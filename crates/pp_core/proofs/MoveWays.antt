@@ -18,6 +18,7 @@ use Rattle.pp_arc.specs.declared.answer.Answer.TheVariants as answer
 use Rattle.pp_arc.specs.FourLists.{FourLists, is_cached}
 use Rattle.pp_arc.specs.Figure.{request}
 use Rattle.pp_frames.specs.Marks.{is_exclusive}
+use Rattle.pp_plan.proofs.NoBundle.{no_gather, no_scatter}
 use Rattle.pp_model.specs.declared.moves.Move.TheVariants as move
 use Rattle.pp_model.specs.declared.moves.Came.{Came}
 use Rattle.pp_model.specs.declared.moves.Came.TheVariants.{Fault, Image}
@@ -167,6 +168,8 @@ module _ (s : State) (P : Outcome → Type 0) (refused : OfRefusals s P) where
   fix_cases w page r (ask.Unfix slot) e at p = refused.fault _
   fix_cases w page r (ask.Latch slot m) e at p = refused.fault _
   fix_cases w page r (ask.Unlatch slot) e at p = refused.fault _
+  fix_cases w page r (ask.Gather slot region) e at p = absurd (no_gather r.accepted.plan r.done slot region e)
+  fix_cases w page r (ask.Scatter slot) e at p = refused.fault _
   fix_cases w page r (ask.Choose n) e at p = refused.fault _
   fix_cases w page r ask.End e at p = refused.fault _
 
@@ -243,6 +246,7 @@ module _ (s : State) (P : Outcome → Type 0) (refused : OfRefusals s P) where
         → ((slot : ℕ) → IsAsking s w r (ask.Unfix slot) → P (unfix_asked s w r (ask.Unfix slot)))
         → P (unfix_asked s w r x)
     unfix_cases r (ask.Unfix slot) e at p = p slot (record { at = at; asks = e })
+    unfix_cases r (ask.Scatter slot) e at p = absurd (no_scatter r.accepted.plan r.done slot e)
     unfix_cases r _ e at p = refused.fault _
 
     pub of_unfix : ((r : Running) (slot : ℕ) → IsAsking s w r (ask.Unfix slot)

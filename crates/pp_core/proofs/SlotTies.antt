@@ -5,7 +5,7 @@ use Rattle.std.specs.Prelude.{slice_set, option_map}
 use Rattle.std.proofs.lemmas.Bool.{eqb-true, eqb-false}
 use Rattle.std.proofs.lemmas.List.{get_or-set_same, get_or-set_other}
 use Rattle.pp_plan.specs.declared.action.Action.{Action}
-use Rattle.pp_plan.specs.declared.action.Action.TheVariants.{Fix, Unfix, Latch, Unlatch, Choose}
+use Rattle.pp_plan.specs.declared.action.Action.TheVariants.{Fix, Unfix, Latch, Unlatch, Gather, Scatter, Choose}
 use Rattle.pp_plan.specs.Limits.{most_slots}
 use Rattle.pp_plan.specs.Cursor.{StandsFor as CursorStandsFor}
 use Rattle.pp_cert.specs.declared.note.Held.{Held}
@@ -14,6 +14,7 @@ use Rattle.pp_cert.specs.Held.{Holding, Holdings, holding_at}
 use Rattle.pp_model.specs.Pool.{acting, Running}
 use Rattle.pp_model.specs.Holders.{holdings, held_slots}
 use Rattle.pp_model.specs.Outcome.{having_done}
+use Rattle.pp_model.proofs.Swaps.{as_held}
 use Rattle.pp_core.specs.declared.seat.Hold.{Hold}
 use Rattle.pp_core.specs.declared.seat.Phase.{Phase}
 use Rattle.pp_core.specs.declared.seat.Seat.{Seat}
@@ -51,12 +52,11 @@ tell_set xs hs ks slot y z lt e tell is k =
 -- A slot that holds a page holds it in another way.
 pub tell_as : (xs : List (Option Hold)) (hs ks : Holdings) (slot : ℕ) (h : Holding) (u : Held) → slot < length xs
     → holding_at hs slot ≡ Some h → Tell xs hs
-    → ((k : ℕ) → holding_at ks k ≡ cond (eqb k slot) (Some (record { slot = slot; page = h.page; held = u }))
-    (holding_at hs k))
+    → ((k : ℕ) → holding_at ks k ≡ cond (eqb k slot) (Some (as_held u h)) (holding_at hs k))
     → Tell (held_as u slot xs) ks
 tell_as xs hs ks slot h u lt found tell is =
     tell_set xs hs ks slot (option_map (λ x. record { page = x.page; held = u }) (hold_at xs slot))
-    (Some (record { slot = slot; page = h.page; held = u })) lt
+    (Some (as_held u h)) lt
     (ap (option_map (λ (x : Hold). record { page = x.page; held = u })) (tell slot ∙ ap
     (option_map hold_of) found)) tell is
 
@@ -67,6 +67,8 @@ slots_width (Fix slot page) xs = set_length xs slot _
 slots_width (Unfix slot) xs = set_length xs slot _
 slots_width (Latch slot m) xs = set_length xs slot _
 slots_width (Unlatch slot) xs = set_length xs slot _
+slots_width (Gather slot page) xs = refl
+slots_width (Scatter slot) xs = refl
 slots_width (Choose i) xs = refl
 
 pub acted_fits : (plans : List Acceptance) (x y : Seat) (r : Running) (a : Action) → FitsRunning plans x r

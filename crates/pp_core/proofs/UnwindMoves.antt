@@ -23,6 +23,7 @@ use Rattle.pp_model.specs.Leaving.{unwound, unwind_by, unwind_in, unwind_where}
 use Rattle.pp_model.specs.Reached.{IsReached}
 use Rattle.pp_model.proofs.Changes.{IsAt}
 use Rattle.pp_model.proofs.HoldingSteps as steps
+use Rattle.pp_core.proofs.PlainSlots as plain
 use Rattle.pp_model.proofs.MarkSteps as marked
 use Rattle.pp_model.proofs.BoundSteps as numbers
 use Rattle.pp_model.proofs.FlightSteps as flights
@@ -98,11 +99,11 @@ held_by (Some k) x e = (k, refl, cc)
 latched_so : (s : State) (w slot : ℕ) (r : Running) (given : List ℕ) (k : Holding) (u : Held) → IsReached s
     → IsAt s w r (leaving given) → holding_at (holdings r) slot ≡ Some k → k.held ≡ u → IsLatched u (marks s) k.page
 latched_so s w slot r given k Free h at found e = tt
-latched_so s w slot r given k S h at found e = marked.unwind_shared s h w r slot given k at found e
+latched_so s w slot r given k S h at found e = marked.unwind_shared s h w r slot given k at (plain.lone s h w r slot k at.seat found) e
 latched_so s w slot r given k X h at found e =
     let told = mark_told s k.page (page_low s w slot r k h at.seat found) in (
-      marked.unwind_exclusive s h w r slot given k at found e,
-      marked.unwind_low s h w r slot given k at found,
+      marked.unwind_exclusive s h w r slot given k at (plain.lone s h w r slot k at.seat found) e,
+      marked.unwind_low s h w r slot given k at (plain.lone s h w r slot k at.seat found),
       omega (arith, told, mark_room s h k.page),
     )
 
@@ -123,19 +124,19 @@ without : (s : State) (w slot : ℕ) (r : Running) (given : List ℕ) (k : Holdi
     → Without s (with_stage (released_state s k.held k.page) w r (leaving (slot ∷ given))) k.page
     (released u (marks s) k.page)
 without s w slot r given k Free h at found e = record {
-  spare = marked.unwind_free_spares s h w r slot given k at found e;
-  marks_are = marked.unwind_free_marks s h w r slot given k at found e;
+  spare = marked.unwind_free_spares s h w r slot given k at (plain.lone s h w r slot k at.seat found) e;
+  marks_are = marked.unwind_free_marks s h w r slot given k at (plain.lone s h w r slot k at.seat found) e;
 }
 without s w slot r given k S h at found e = record {
-  spare = marked.unwind_shared_spares s h w r slot given k at found e;
-  marks_are = marked.unwind_shared_marks s h w r slot given k at found e;
+  spare = marked.unwind_shared_spares s h w r slot given k at (plain.lone s h w r slot k at.seat found) e;
+  marks_are = marked.unwind_shared_marks s h w r slot given k at (plain.lone s h w r slot k at.seat found) e;
 }
 without s w slot r given k X h at found e =
     let t = with_stage (released_state s k.held k.page) w r (leaving (slot ∷ given)) in
     let low = page_low s w slot r k h at.seat found in
     subst (Without s t k.page) (changed_told s k.page low _) (record {
-      spare = marked.unwind_exclusive_spares s h w r slot given k at found e;
-      marks_are = marked.unwind_exclusive_marks s h w r slot given k at found e;
+      spare = marked.unwind_exclusive_spares s h w r slot given k at (plain.lone s h w r slot k at.seat found) e;
+      marks_are = marked.unwind_exclusive_marks s h w r slot given k at (plain.lone s h w r slot k at.seat found) e;
     })
 
 -- ---- the worker without the slot
@@ -156,7 +157,7 @@ emptied_fits s w slot x r given k h fits phase at found =
       holds = omega (arith, fits.holds, steps.unwind_slots s h w r slot given k at found);
       width = set_length x.slots slot None ∙ fits.width;
       slots = tell_set x.slots (holdings r) (holdings y) slot None None (omega (arith, few, fits.width)) refl fits.slots
-          (steps.unwind_holds s h w r slot given k at found);
+          (plain.unwind_holds s h w r slot given at);
       phase = subst (λ (p : Phase). FitsStage p (leaving (slot ∷ given))) (sym phase) tt;
     }
 

@@ -10,6 +10,7 @@ use Rattle.pp_plan.specs.declared.action.Action.{Action}
 use Rattle.pp_plan.specs.declared.action.Action.TheVariants as action
 use Rattle.pp_plan.specs.declared.action.Ask.{Ask}
 use Rattle.pp_plan.specs.declared.action.Ask.TheVariants as ask
+use Rattle.pp_plan.proofs.NoBundle.{no_scatter}
 use Rattle.pp_cert.specs.declared.note.Held.{Held}
 use Rattle.pp_cert.specs.declared.note.Held.TheVariants.{Free}
 use Rattle.pp_cert.specs.Held.{Holding, holding_at}
@@ -17,15 +18,16 @@ use Rattle.pp_frames.specs.Marks as map
 use Rattle.pp_frames.specs.declared.mode.Mode.TheVariants as latch_mode
 use Rattle.pp_frames.specs.Marks.{PageMap, PageMarks}
 use Rattle.pp_model.specs.declared.moves.Move.TheVariants as move
-use Rattle.pp_model.specs.declared.reply.Reply.TheVariants.{Did, Latched, NotNow}
+use Rattle.pp_model.specs.declared.reply.Reply.TheVariants.{Did, Latched, NotNow, OffPlan}
 use Rattle.pp_model.specs.declared.refusals.Delay.TheVariants.{LatchHeld}
+use Rattle.pp_model.specs.declared.refusals.Cause.TheVariants.{NotAsked}
 use Rattle.pp_model.specs.Pool.{acting, Running, State, known_mark, mark_at}
 use Rattle.pp_model.specs.Holders.{holdings, page_in, held_in}
 use Rattle.pp_model.specs.Budget.{running_peaks, bound, left_to}
 use Rattle.pp_model.proofs.Sums.{sum_by-term}
 use Rattle.pp_model.proofs.Falls.{left_at}
 use Rattle.pp_model.specs.Marks.{marks}
-use Rattle.pp_model.specs.Outcome.{having_done, did}
+use Rattle.pp_model.specs.Outcome.{having_done, did, off_plan}
 use Rattle.pp_model.specs.Moves.{asked_by, seat_of, outcome_of}
 use Rattle.pp_model.specs.Reached.{IsReached}
 use Rattle.pp_model.specs.Using.{unfix_asked, goes_with, latch_asked, latch_where}
@@ -86,6 +88,26 @@ has_seat f w x k asks =
     let a = asks k.state k.stands in
     let there = kept f k.state w a.0 k.stands a.1.seat in
     (there.seat, there.is_in)
+
+-- An unfix isn't asked where the plan asks none. (No plan asks a scatter.)
+no_unfix : (s : State) (w : ℕ) (r : Running) (x : Ask) → asked_by r ≡ x → ((slot : ℕ) → x ≡ ask.Unfix slot → ⊥)
+    → unfix_asked s w r x ≡ off_plan s NotAsked
+no_unfix s w r (ask.Unfix slot) e isnt = absurd (isnt slot refl)
+no_unfix s w r (ask.Scatter slot) e isnt = absurd (no_scatter r.accepted.plan r.done slot e)
+no_unfix s w r (ask.Fix slot region) e isnt = refl
+no_unfix s w r (ask.Latch slot m) e isnt = refl
+no_unfix s w r (ask.Unlatch slot) e isnt = refl
+no_unfix s w r (ask.Gather slot region) e isnt = refl
+no_unfix s w r (ask.Choose n) e isnt = refl
+no_unfix s w r ask.End e isnt = refl
+
+pub unfix_unasked : (f : Parts) (w : ℕ) (x : Ask) → Asks f w x → ((slot : ℕ) → x ≡ ask.Unfix slot → ⊥)
+    → Moves f (move.Unfix w) (OffPlan NotAsked) f
+unfix_unasked f w x asks isnt = refuses f (move.Unfix w) (OffPlan NotAsked) (λ s st.
+    let at = asks s st in
+    acted_outcome s w at.0 (λ q. unfix_asked s w q (asked_by q)) at.1
+    ∙ ap (unfix_asked s w at.0) at.2
+    ∙ no_unfix s w at.0 x at.2 isnt)
 
 -- ---- what an action needs
 

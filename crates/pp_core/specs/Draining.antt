@@ -64,8 +64,8 @@ abbrev pub AnswersFlush : {H : Type 0} → Host H → Option Flush → H → Mov
 AnswersFlush host None h m i = ⊥
 AnswersFlush host (Some f) h m i = (ok : Bool) × host.flushes h f.page ok i × (m ≡ move.FlushDone ok)
 
--- Worker w does what its plan asks: it fixes the page that the host picks of the asked region, whose number, first page
--- and count the host is told, or goes on with the branch that the host chooses, of as many as there are. All else is
+-- Worker w does what its plan asks: where a fix or a gather is asked, it fixes the page that the host picks of the region, whose
+-- number, first page and count the host is told; or it goes on with the branch that the host chooses, of as many as there are. All else is
 -- determined.
 abbrev pub DoesAsked : {H : Type 0} → Host H → Geometry → (w : ℕ) → Ask → H → Move → H → Type 0
 DoesAsked host g w (ask.Fix slot region) h m i =
@@ -74,6 +74,10 @@ DoesAsked host g w (ask.Fix slot region) h m i =
 DoesAsked host g w (ask.Unfix slot) h m i = IsUnasked h (move.Unfix w) m i
 DoesAsked host g w (ask.Latch slot mode) h m i = IsUnasked h (move.Latch w) m i
 DoesAsked host g w (ask.Unlatch slot) h m i = IsUnasked h (move.Unlatch w) m i
+DoesAsked host g w (ask.Gather slot region) h m i =
+    (e : Extent) × (page : ℕ) × (slice_get g.extents region ≡ Some e) × host.picks h region e.first e.count page i
+    × (m ≡ move.Fix w page)
+DoesAsked host g w (ask.Scatter slot) h m i = IsUnasked h (move.Unfix w) m i
 DoesAsked host g w (ask.Choose count) h m i =
     (branch : ℕ) × host.chooses h count branch i × (m ≡ move.Choose w branch)
 DoesAsked host g w ask.End h m i = IsUnasked h (move.Finish w) m i

@@ -1,15 +1,15 @@
 -- What the calls of a fix need of what the core keeps, and what they do to it.
 use Rattle.std.specs.Prelude.{◌≡◌, ℕ, ◌-◌, ◌<◌, ◌≤◌, true, None, Some, IsSome, unwrap_or, length, slice_set}
+use Rattle.pp_plan.specs.declared.action.Action.TheVariants as action
 use Rattle.pp_frames.specs.Marks.{PageMap, pins_of, frame_of, all_pins, least_free, with_frame}
-use Rattle.pp_model.specs.Fixing.{fixes}
 use Rattle.pp_core.specs.declared.seat.Phase.TheVariants.{Writing, Reading}
 use Rattle.pp_core.specs.declared.seat.Seat.{Seat}
 use Rattle.pp_core.specs.Parts.{Parts}
-use Rattle.pp_core.specs.Effects.{ask_in, IsIn, CanAct, frame_at, placed}
+use Rattle.pp_core.specs.Effects.{IsIn, CanAct, frame_at, placed}
 
 -- The action can be done, and the page pinned.
 pub record CanHit (f : Parts) (w slot page : ℕ) : Type 0 where
-  pub can : CanAct f w (fixes (ask_in f w) slot page)
+  pub can : CanAct f w (action.Fix slot page)
   pub placed : IsSome (frame_of f.marks page)
   pub room : all_pins f.marks < f.marks.frames
   pub budget : 3 ≤ f.budget

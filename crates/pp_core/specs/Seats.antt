@@ -1,7 +1,7 @@
 -- A worker in its plan, as the core keeps it, and what its calls need and do.
 use Rattle.std.specs.Prelude.{◌≡◌, ℕ, ◌+◌, ◌<◌, ◌≤◌, ◌^◌, None, List, [], ◌∷◌, ◌++◌, length, replicate}
 use Rattle.pp_plan.specs.declared.action.Action.{Action}
-use Rattle.pp_plan.specs.declared.action.Action.TheVariants.{Fix, Unfix, Latch, Unlatch, Choose}
+use Rattle.pp_plan.specs.declared.action.Action.TheVariants.{Fix, Unfix, Latch, Unlatch, Gather, Scatter, Choose}
 use Rattle.pp_plan.specs.Terms.{Terms}
 use Rattle.pp_plan.specs.PlanTraces.{PlanAsks}
 use Rattle.pp_plan.specs.Asked.{asked}
@@ -20,12 +20,14 @@ pub record IsBegun (plan : Terms) (k : ℕ) (x : Seat) : Type 0 where
   pub slots : x.slots ≡ replicate 32 None
   pub phase : x.phase ≡ Acting
 
--- The slot that an action needs, and how many slots hold a page before it.
+-- The slot that an action needs, and how many slots hold a page before it. (No plan asks a gather or a scatter.)
 abbrev pub FitsSlots : Action → (count slots : ℕ) → Type 0
 FitsSlots (Fix slot page) count slots = (slot < slots) × (count ≤ 32)
 FitsSlots (Unfix slot) count slots = (slot < slots) × (0 < count)
 FitsSlots (Latch slot m) count slots = slot < slots
 FitsSlots (Unlatch slot) count slots = slot < slots
+FitsSlots (Gather slot page) count slots = ⊥
+FitsSlots (Scatter slot) count slots = ⊥
 FitsSlots (Choose i) count slots = Unit {0}
 
 -- The plan asks the action of the worker, and its counters have room for it.

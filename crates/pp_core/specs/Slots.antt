@@ -3,7 +3,7 @@ use Rattle.std.specs.Prelude.{ℕ, ◌+◌, ◌-◌, Option, None, Some, option_
 use Rattle.std.specs.Prelude.{position}
 use Rattle.std.specs.Option.{is_some}
 use Rattle.pp_plan.specs.declared.action.Action.{Action}
-use Rattle.pp_plan.specs.declared.action.Action.TheVariants.{Fix, Unfix, Latch, Unlatch, Choose}
+use Rattle.pp_plan.specs.declared.action.Action.TheVariants.{Fix, Unfix, Latch, Unlatch, Gather, Scatter, Choose}
 use Rattle.pp_cert.specs.declared.note.Held.{Held}
 use Rattle.pp_cert.specs.declared.note.Held.TheVariants.{Free}
 use Rattle.pp_cert.specs.Held.{Holding, held_in}
@@ -26,12 +26,14 @@ abbrev pub held_as : Held → ℕ → List (Option Hold) → List (Option Hold)
 held_as held slot slots =
     slice_set slots slot (option_map (λ h. record { page = h.page; held = held }) (hold_at slots slot))
 
--- The slots after an action, and how many of them hold a page.
+-- The slots after an action, and how many of them hold a page. (No plan asks a gather or a scatter.)
 abbrev pub slots_after : Action → List (Option Hold) → List (Option Hold)
 slots_after (Fix slot page) slots = slice_set slots slot (Some (record { page = page; held = Free }))
 slots_after (Unfix slot) slots = slice_set slots slot None
 slots_after (Latch slot m) slots = held_as (held_in m) slot slots
 slots_after (Unlatch slot) slots = held_as Free slot slots
+slots_after (Gather slot page) slots = slots
+slots_after (Scatter slot) slots = slots
 slots_after (Choose i) slots = slots
 
 abbrev pub count_after : Action → ℕ → ℕ
@@ -39,4 +41,6 @@ count_after (Fix slot page) count = count + 1
 count_after (Unfix slot) count = count - 1
 count_after (Latch slot m) count = count
 count_after (Unlatch slot) count = count
+count_after (Gather slot page) count = count
+count_after (Scatter slot) count = count
 count_after (Choose i) count = count

@@ -154,6 +154,7 @@ impl Table {
                 worker,
                 branch: u32::from(decide.branch(branches)),
             },
+            Ask::Gather { .. } | Ask::Scatter { .. } => unreachable!(),
             Ask::End => Move::Finish { worker },
         }
     }

@@ -4,7 +4,7 @@
 ghost use Rattle.std.specs.Prelude.{◌≡◌, ◌<◌, ◌≤◌, ◌-◌, ℕ, IsTrue, Some};
 ghost use Rattle.pp_plan.specs.Asked.{region_has};
 ghost use Rattle.pp_arc.specs.Figure.{request};
-ghost use Rattle.pp_model.specs.Fixing.{fixes};
+ghost use Rattle.pp_plan.specs.declared.action.Action.{Action};
 ghost use Rattle.pp_model.specs.Moves.{is_refusal};
 ghost use Rattle.pp_core.specs.declared.seat.Seat.{Seat};
 ghost use Rattle.pp_core.specs.declared.seat.Phase.TheVariants.{Writing, Reading};
@@ -103,7 +103,7 @@ impl Table {
     fn hit(&mut self, worker: u32, slot: u8, page: u32) -> Reply
         requires { CanHit (parts_of self.old) worker slot page }
         ensures spent { Spent (parts_of self.old) (parts_of self.new) worker
-            (fixes (ask_in (parts_of self.old) worker) slot page) (pinned self.old.marks page) }
+            (Action.Fix slot page) (pinned self.old.marks page) }
         ensures reply { result ≡ Reply.Hit (frame_at self.old.marks page) (mark_at self.old.marks page) }
     {
         let reply = Reply::Hit {

@@ -107,6 +107,7 @@ impl Seat {
             Action::Unfix { slot } => self.empty(slot),
             Action::Latch { slot, mode } => self.hold_as(slot, Held::from(mode)),
             Action::Unlatch { slot } => self.hold_as(slot, Held::Free),
+            Action::Gather { .. } | Action::Scatter { .. } => unreachable!(),
             Action::Choose { .. } => {}
         }
     }

@@ -99,11 +99,11 @@ fn act(core: &Core, worker: u32, chance: &mut Chance) -> Move {
             worker,
             page: chance.below(3).saturating_add(1),
         },
-        Some(Ask::Fix { .. }) => Move::Fix {
+        Some(Ask::Fix { .. } | Ask::Gather { .. }) => Move::Fix {
             worker,
             page: chance.below(5).saturating_add(5),
         },
-        Some(Ask::Unfix { .. }) => Move::Unfix { worker },
+        Some(Ask::Unfix { .. } | Ask::Scatter { .. }) => Move::Unfix { worker },
         Some(Ask::Latch { .. }) => Move::Latch { worker },
         Some(Ask::Unlatch { .. }) => Move::Unlatch { worker },
         Some(Ask::Choose { branches }) => Move::Choose {

@@ -83,7 +83,7 @@ all_step s t h (change.brings w r slot page v at e) = to_next s t _ e (steps.bri
 all_step s t h (change.forgets w r slot page at e) = to_next s t _ e (steps.forget_steps s h w r slot page at)
 all_step s t h (change.loads w r slot page stamp at known e) =
     to_next s t _ e (steps.load_steps s h w r slot page at stamp)
-all_step s t h (change.unfixes w r slot asked e) = stay_next s t _ e (steps.unfix_stays s h w r slot asked)
+all_step s t h (change.unfixes w r slot a back asked e) = stay_next s t _ e (steps.unfix_stays s h w r slot a back asked)
 all_step s t h (change.latches w r slot m asked fits e) =
     to_next s t _ e (latch_steps s h w r slot m asked fits)
 all_step s t h (change.unlatches w r slot asked e) =
@@ -181,7 +181,7 @@ module _ (s : State) (h : IsReached s) (q : ℕ) (sent : 0 < victims_of s q) whe
       by_note t _ e
       (ap (λ (x : Note). x.mark)
       (note_there s page q (record (note_of s page) { mark = Some stamp }) (unread w r slot page at)))
-  victim_mark t (change.unfixes w r slot asked e) = by_stay t _ e (steps.unfix_stays s h w r slot asked)
+  victim_mark t (change.unfixes w r slot a back asked e) = by_stay t _ e (steps.unfix_stays s h w r slot a back asked)
   victim_mark t (change.latches w r slot m asked fits e) = by_note t _ e refl
   victim_mark t (change.unlatches w r slot asked e) =
       let does = totals.asked_does s s w r (good s h) (action.Unlatch slot) asked in

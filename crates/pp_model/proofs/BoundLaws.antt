@@ -103,7 +103,7 @@ module _ (s t : State) (good : GoodSeats s) where
       let seat = seat_at s w r good at.seat in
       seat_falls s t w r (Some (having_done r (fixes (asked_by r) slot page))) at.seat (ap bound e)
       (loads_left s.settings.layout r slot page seat at.stage (subst (Sends r) at.stage seat.errand))
-  falls (change.unfixes w r slot asked e) real = action_falls w r (action.Unfix slot) asked (ap bound e)
+  falls (change.unfixes w r slot a back asked e) real = action_falls w r a asked (ap bound e)
   falls (change.latches w r slot m asked goes e) real = action_falls w r (action.Latch slot m) asked (ap bound e)
   falls (change.unlatches w r slot asked e) real =
       action_falls w r (action.Unlatch slot) asked
@@ -187,7 +187,7 @@ taken_moves s t (change.brings w r slot page v at e) h = same_taken s t (ap (λ 
 taken_moves s t (change.forgets w r slot page at e) h = same_taken s t (ap (λ x. x.taken) e) (ap (λ x. x.plans) e) h
 taken_moves s t (change.loads w r slot page stamp at known e) h = same_taken s t (ap (λ x. x.taken) e)
     (ap (λ x. x.plans) e) h
-taken_moves s t (change.unfixes w r slot asked e) h = same_taken s t (ap (λ x. x.taken) e) (ap (λ x. x.plans) e) h
+taken_moves s t (change.unfixes w r slot a back asked e) h = same_taken s t (ap (λ x. x.taken) e) (ap (λ x. x.plans) e) h
 taken_moves s t (change.latches w r slot m asked goes e) h = same_taken s t (ap (λ x. x.taken) e)
     (ap (λ x. x.plans) e) h
 taken_moves s t (change.chooses w r i asked e) h = same_taken s t (ap (λ x. x.taken) e) (ap (λ x. x.plans) e) h

@@ -265,6 +265,14 @@ module _ (s : State) (h : IsReached s) (w : ℕ) (r : Running) where
       → running_peaks (did s w r (action.Unfix slot)) ≡ running_peaks s
   unfix_peaks slot asked = action_peaks (did s w r (action.Unfix slot)) (action.Unfix slot) asked refl
 
+  pub scatter_bound : (slot : ℕ) → IsAsked s w r (action.Scatter slot)
+      → bound (did s w r (action.Scatter slot)) + 3 ≡ bound s
+  scatter_bound slot asked = action_bound (did s w r (action.Scatter slot)) (action.Scatter slot) asked refl
+
+  pub scatter_peaks : (slot : ℕ) → IsAsked s w r (action.Scatter slot)
+      → running_peaks (did s w r (action.Scatter slot)) ≡ running_peaks s
+  scatter_peaks slot asked = action_peaks (did s w r (action.Scatter slot)) (action.Scatter slot) asked refl
+
   pub latch_bound : (slot : ℕ) (m : Mode) → IsAsked s w r (action.Latch slot m)
       → bound (did s w r (action.Latch slot m)) + 3 ≡ bound s
   latch_bound slot m asked = action_bound (did s w r (action.Latch slot m)) (action.Latch slot m) asked refl

@@ -63,6 +63,10 @@ pub record IsAsked (s : State) (w : ℕ) (r : Running) (a : Action) : Type 0 whe
   pub at : IsAt s w r acting
   pub names : NamesAction r.accepted.plan.layout (asked_by r) a
 
+-- The action gives back what the slot holds: its own page, or the bundle.
+abbrev pub GivesBack : ℕ → Action → Type 0
+GivesBack slot a = (a ≡ action.Unfix slot) ⊎ (a ≡ action.Scatter slot)
+
 -- The page isn't in flight, and ARC answers so.
 pub record IsAnswered (s : State) (page : ℕ) (lists : FourLists) (answer : Answer) : Type 0 where
   pub grounded : is_in_flight s page ≡ false
@@ -100,8 +104,8 @@ pub data Change (s t : State) : Type 0 where
   loads : (w : ℕ) (r : Running) (slot page stamp : ℕ) → IsAt s w r (reading slot page)
       → is_other (known_mark s page) stamp ≡ false → t ≡ did (with_mark s page stamp) w r (fixes (asked_by r) slot page)
       → Change s t
-  unfixes : (w : ℕ) (r : Running) (slot : ℕ) → IsAsked s w r (action.Unfix slot)
-      → t ≡ did s w r (action.Unfix slot) → Change s t
+  unfixes : (w : ℕ) (r : Running) (slot : ℕ) (a : Action) → GivesBack slot a → IsAsked s w r a → t ≡ did s w r a
+      → Change s t
   latches : (w : ℕ) (r : Running) (slot : ℕ) (m : Mode) → IsAsked s w r (action.Latch slot m)
       → goes_with s m (page_in r slot) ≡ true → t ≡ did s w r (action.Latch slot m) → Change s t
   unlatches : (w : ℕ) (r : Running) (slot : ℕ) → IsAsked s w r (action.Unlatch slot)
@@ -137,7 +141,7 @@ Tells {s} {t} (writes w r slot page v at e) x = x ≡ MustRead (frame_at s page)
 Tells {s} {t} (brings w r slot page v at e) x = x ≡ Failed WriteFault
 Tells {s} {t} (forgets w r slot page at e) x = (x ≡ Failed ReadFault) ⊎ (x ≡ Failed Misread)
 Tells {s} {t} (loads w r slot page stamp at known e) x = x ≡ Loaded stamp
-Tells {s} {t} (unfixes w r slot asked e) x = x ≡ Did
+Tells {s} {t} (unfixes w r slot a back asked e) x = x ≡ Did
 Tells {s} {t} (latches w r slot m asked goes e) x = x ≡ Latched (mark_at s (page_in r slot))
 Tells {s} {t} (unlatches w r slot asked e) x =
     x ≡ Unlatched (mark_at (unlatched s r slot) (page_in r slot))
@@ -159,19 +163,26 @@ asked_is : (r : Running) (x : Ask) (a : Action) → asked_by r ≡ x → NamesAc
     → NamesAction r.accepted.plan.layout (asked_by r) a
 asked_is r x a e n = subst (λ y. NamesAction r.accepted.plan.layout y a) (sym e) n
 
--- The slot of a fix is one that the plan asks for the page.
-pub slot_asked : (r : Running) (page slot : ℕ) (x : Ask) → fix_slot r page x ≡ Some slot
-    → NamesAction r.accepted.plan.layout x (fixes (asked_by r) slot page)
-slot_asked r page slot (ask.Fix t region) e = go (region_has r.accepted.plan.layout region page) refl e
+region_tested : (r : Running) (page slot t region : ℕ)
+    → ◌≡◌ {A = Option ℕ} (cond (region_has r.accepted.plan.layout region page) (Some t) None) (Some slot)
+    → (t ≡ slot) × HasPage r.accepted.plan.layout region page
+region_tested r page slot t region e = go (region_has r.accepted.plan.layout region page) refl e
   where
     go : (b : Bool) → region_has r.accepted.plan.layout region page ≡ b
         → ◌≡◌ {A = Option ℕ} (cond b (Some t) None) (Some slot) → (t ≡ slot)
         × HasPage r.accepted.plan.layout region page
     go true is f = (cc, region_found r.accepted.plan.layout region page is)
     go false is f = cc
+
+-- The slot of a fix is one that the plan asks for the page.
+pub slot_asked : (r : Running) (page slot : ℕ) (x : Ask) → fix_slot r page x ≡ Some slot
+    → NamesAction r.accepted.plan.layout x (fixes x slot page)
+slot_asked r page slot (ask.Fix t region) e = region_tested r page slot t region e
 slot_asked r page slot (ask.Unfix t) e = cc
 slot_asked r page slot (ask.Latch t m) e = cc
 slot_asked r page slot (ask.Unlatch t) e = cc
+slot_asked r page slot (ask.Gather t region) e = region_tested r page slot t region e
+slot_asked r page slot (ask.Scatter t) e = cc
 slot_asked r page slot (ask.Choose n) e = cc
 slot_asked r page slot ask.End e = cc
 
@@ -205,8 +216,17 @@ fixed s w r page (Some slot) e at =
 unfixed : (s : State) (w : ℕ) (r : Running) (x : Ask) → asked_by r ≡ x → IsAt s w r acting
     → Result s (unfix_asked s w r x)
 unfixed s w r (ask.Unfix slot) e at =
-    done refl (unfixes w r slot (record { at = at; names = asked_is r (ask.Unfix slot) (action.Unfix slot) e refl })
-    refl) tt refl
+    done refl (unfixes w r slot (action.Unfix slot) (inl refl) (record {
+      at = at;
+      names = asked_is r (ask.Unfix slot)
+          (action.Unfix slot) e refl;
+    }) refl) tt refl
+unfixed s w r (ask.Scatter slot) e at =
+    done refl (unfixes w r slot (action.Scatter slot) (inr refl) (record {
+      at = at;
+      names = asked_is r (ask.Scatter slot)
+          (action.Scatter slot) e refl;
+    }) refl) tt refl
 unfixed s w r _ e at = refused refl refl
 
 latch_tested : (s : State) (w : ℕ) (r : Running) (slot : ℕ) (m : Mode) (b : Bool)

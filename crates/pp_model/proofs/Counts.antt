@@ -92,8 +92,8 @@ advance s t (change.forgets w r slot page at e) =
     went s t _ w r (Some (at_stage r (leaving []))) e at.seat (refl, refl) (refl, refl, refl, refl) refl
 advance s t (change.loads w r slot page stamp at known e) =
     went s t _ w r (Some (having_done r (fixes (asked_by r) slot page))) e at.seat (refl, refl) (refl, refl, refl, refl) refl
-advance s t (change.unfixes w r slot asked e) =
-    went s t s w r (Some (having_done r (action.Unfix slot))) e asked.at.seat (refl, refl) (refl, refl, refl, refl) refl
+advance s t (change.unfixes w r slot a back asked e) =
+    went s t s w r (Some (having_done r a)) e asked.at.seat (refl, refl) (refl, refl, refl, refl) refl
 advance s t (change.latches w r slot m asked go e) =
     went s t s w r (Some (having_done r (action.Latch slot m))) e asked.at.seat (refl, refl)
     (refl, refl, refl, refl) refl

@@ -96,8 +96,8 @@ turn s t (change.forgets w r slot page at e) =
     turns w r _ at.seat (loses slot page (subst (IsErrand slot page) (sym at.stage) (refl, refl)) refl) (ap crew_of e)
 turn s t (change.loads w r slot page stamp at good e) = turns w r _ at.seat (loads slot page at.stage refl)
     (ap crew_of e)
-turn s t (change.unfixes w r slot asked e) =
-    turns w r _ asked.at.seat (acts (action.Unfix slot) asked.at.stage asked.names refl) (ap crew_of e)
+turn s t (change.unfixes w r slot a back asked e) =
+    turns w r _ asked.at.seat (acts a asked.at.stage asked.names refl) (ap crew_of e)
 turn s t (change.latches w r slot m asked goes e) =
     turns w r _ asked.at.seat (acts (action.Latch slot m) asked.at.stage asked.names refl) (ap crew_of e)
 turn s t (change.unlatches w r slot asked e) =

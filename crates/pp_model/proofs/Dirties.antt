@@ -145,6 +145,7 @@ read s w c (Some (Some r)) q = go r.stage
 
 unfixed : (s : State) (w : ℕ) (r : Running) (x : Ask) → Steady s (unfix_asked s w r x).state
 unfixed s w r (ask.Unfix slot) q = refl
+unfixed s w r (ask.Scatter slot) q = refl
 unfixed s w r _ q = refl
 
 latched : (s : State) (w : ℕ) (r : Running) (x : Ask) → Steady s (latch_asked s w r x).state

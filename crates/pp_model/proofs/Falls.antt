@@ -15,7 +15,8 @@ use Rattle.pp_model.specs.Turns.{Asks}
 use Rattle.pp_model.specs.Fixing.{fixes}
 use Rattle.pp_model.specs.Moves.{asked_by}
 use Rattle.pp_model.proofs.Seats.{IsSeat, begins_more}
-use Rattle.pp_model.proofs.Effects.{unwound_sets}
+use Rattle.pp_model.proofs.Effects.{unwound_fills}
+use Rattle.pp_model.proofs.KeptSlots.{filled_at}
 use Rattle.pp_model.proofs.HeldSlots.{count_of, few_held, held_set}
 use Rattle.pp_model.proofs.HoldingSteps.{within_seat}
 
@@ -62,7 +63,7 @@ gives_left g r slot given h seat e found =
     let few = (within_seat g r slot h seat found).few in
     let set =
     held_set most_slots slot None (holdings r) (holdings (at_stage r (leaving (slot ∷ given)))) few
-    (unwound_sets g r slot given seat e) in
+    (filled_at slot [] (holdings r) (holdings (at_stage r (leaving (slot ∷ given)))) (unwound_fills r slot given e)) in
     omega (arith, set, ap count_of found, left_at r (leaving given) e)
 
 pub some_left : (r : Running) → 1 ≤ left_to (Some r)

@@ -104,7 +104,13 @@ module _ (s : State) (h : IsReached s) (w : ℕ) (r : Running) where
       → is_in_flight (did s w r (action.Unfix slot)) q ≡ is_in_flight s q
   unfix_flight slot asked q =
       let t = did s w r (action.Unfix slot) in
-      stays s t _ _ (totals.unfix_totals s t w r (good s h) slot asked refl) q
+      stays s t _ _ (totals.own_totals s t w r (good s h) slot asked refl) q
+
+  pub scatter_flight : (slot : ℕ) → IsAsked s w r (action.Scatter slot) → (q : ℕ)
+      → is_in_flight (did s w r (action.Scatter slot)) q ≡ is_in_flight s q
+  scatter_flight slot asked q =
+      let t = did s w r (action.Scatter slot) in
+      stays s t _ _ (totals.scatter_totals s t w r (good s h) slot asked refl).1 q
 
   pub latch_flight : (slot : ℕ) (m : Mode) → IsAsked s w r (action.Latch slot m) → (q : ℕ)
       → is_in_flight (did s w r (action.Latch slot m)) q ≡ is_in_flight s q
@@ -134,7 +140,7 @@ module _ (s : State) (h : IsReached s) (w : ℕ) (r : Running) where
       let g = leaving (slot ∷ given) in
       let t = with_stage (released s x.held x.page) w r g in
       let seats = ap (λ z. slice_set z w (Some (at_stage r g))) (released_seats s x.held x.page) in
-      stays s t (x ∷ []) [] (totals.unwound_totals s t w r (good s h) slot given x at found seats) q
+      stays s t _ [] (totals.unwound_totals s t w r (good s h) slot given at seats) q
 
   pub end_flight : IsAt s w r acting → (q : ℕ) → is_in_flight (ended s w r Done).state q ≡ is_in_flight s q
   end_flight at q =

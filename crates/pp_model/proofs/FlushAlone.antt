@@ -115,9 +115,9 @@ stays_put s t (change.forgets w r slot page at e) all q busy h =
 stays_put s t (change.loads w r slot page stamp at known e) all q busy h =
     quiet s t q [] _ (page ∷ []) [] [] h (ap (λ x. x.lists) e)
     (totals.loaded_totals s t w r all.0.0.0 slot page at (ap (λ x. x.seats) e))
-stays_put s t (change.unfixes w r slot asked e) all q busy h =
-    quiet s t q _ [] [] [] [] h (ap (λ x. x.lists) e)
-    (totals.unfix_totals s t w r all.0.0.0 slot asked (ap (λ x. x.seats) e))
+stays_put s t (change.unfixes w r slot a back asked e) all q busy h =
+    let d = totals.unfix_totals s t w r all.0.0.0 slot a back asked (ap (λ x. x.seats) e) in
+    quiet s t q d.0 [] [] [] [] h (ap (λ x. x.lists) e) d.2
 stays_put s t (change.latches w r slot m asked goes e) all q busy h =
     quiet s t q _ _ [] [] [] h (ap (λ x. x.lists) e)
     (totals.latch_totals s t w r all.0.0.0 slot m asked (ap (λ x. x.seats) e))
@@ -132,8 +132,8 @@ stays_put s t (change.chooses w r i asked e) all q busy h =
     quiet s t q [] [] [] [] [] h (ap (λ x. x.lists) e)
     (totals.choose_totals s t w r all.0.0.0 i asked (ap (λ x. x.seats) e))
 stays_put s t (change.unwinds w r slot given k at found e) all q busy h =
-    quiet s t q (k ∷ []) [] [] [] [] h (ap (λ x. x.lists) e ∙ released_lists s k.held k.page)
-    (totals.unwound_totals s t w r all.0.0.0 slot given k at found
+    quiet s t q _ [] [] [] [] h (ap (λ x. x.lists) e ∙ released_lists s k.held k.page)
+    (totals.unwound_totals s t w r all.0.0.0 slot given at
     (ap (λ x. x.seats) e
     ∙ ap (λ x. slice_set x w (Some (at_stage r (leaving (slot ∷ given))))) (totals.released_seats s k.held k.page)))
 stays_put s t (change.ends w r at asked e) all q busy h =

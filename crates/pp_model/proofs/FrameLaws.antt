@@ -1,27 +1,30 @@
 -- Frames and marks of reached states, in the words of the laws; and the map of the marks is sound.
 use Rattle.std.proofs.Common.{◌≡◌, ◌∙◌, ◌⊎◌, ℕ, suc, ◌<◌, ◌≤◌, Option, Some, None, List, [], ◌∷◌, length, refl, sym, ap}
 use Rattle.std.proofs.Common.{subst, inl, inr, arith}
-use Rattle.std.specs.Prelude.{slice_get, sum_by, IsSome}
+use Rattle.std.specs.Prelude.{slice_get, sum_by, IsSome, All}
 use Rattle.std.proofs.lemmas.Bool.{cases_lt}
 use Rattle.std.proofs.lemmas.List.{get_or_past}
+use Rattle.std.proofs.lemmas.List.Elements.{All-nil, All-cons}
 use Rattle.std.proofs.lemmas.List.Sums.{sum_by-cons}
+use Rattle.pp_cert.specs.Held.{Holding, Holdings, holding_at}
 use Rattle.pp_frames.specs.Marks as map
 use Rattle.pp_frames.specs.Marks.{PageMarks}
 use Rattle.pp_model.specs.Pool.{Stage, acting, writing, reading, leaving, Running, State, known_mark}
-use Rattle.pp_model.specs.Holders.{times, takes, loading}
+use Rattle.pp_model.specs.Holders.{times, takes, loading, holdings}
 use Rattle.pp_model.specs.Budget.{peak_of}
+use Rattle.pp_model.specs.Moves.{seat_of}
 use Rattle.pp_model.specs.Reached.{IsReached}
 use Rattle.pp_model.specs.Marks.{marks}
 use Rattle.pp_model.specs.Laws.{IsWrittenBack, CachedAreFramed, FrameIsLeft, DirtyAreKept, HeldAreKnown, IsLoading}
 use Rattle.pp_model.specs.Laws.{LoadedAreKnown}
-use Rattle.pp_model.proofs.Sums.{sum_by-le}
+use Rattle.pp_model.proofs.Sums.{sum_by-le, sum_by-term}
 use Rattle.pp_model.proofs.Seats.{good}
 use Rattle.pp_model.proofs.Room.{room}
 use Rattle.pp_model.proofs.Requests.{Which, same, other, which}
-use Rattle.pp_model.proofs.Totals.{loads_of, seat_loads, victims_of, seat_victims, sent_in, pins_are}
+use Rattle.pp_model.proofs.Totals.{seat_weight, on_page, loads_of, seat_loads, victims_of, seat_victims, sent_in, pins_are}
 use Rattle.pp_model.proofs.Soundness.{sound}
 use Rattle.pp_model.proofs.Stuck.{seat_takes}
-use Rattle.pp_model.proofs.MarkChanges.{count_told, pins_told, latches_fit, listed_other}
+use Rattle.pp_model.proofs.MarkChanges.{count_told, pins_told, latches_fit, listed_other, on_page_once}
 use Rattle.pp_model.proofs.FreeFrames.{frame_is}
 use Rattle.pp_model.proofs.Framed.{framed, held_one, some_free}
 use Rattle.pp_model.proofs.PinRoom.{pins_few}
@@ -96,7 +99,22 @@ dirty_are_kept s h q e =
     elim ((framed s h).changed q e) [ inl here ↦ inl here | inr some ↦ inr (written_back s q some) ]
 
 pub held_are_known : (s : State) → IsReached s → HeldAreKnown s
-held_are_known s h w r slot x seat found = held_is_known s h x.page (held_one s w r slot x seat found)
+held_are_known s h w r seat =
+    all_known (holdings r) (λ q some. held_is_known s h q
+    (omega (arith, some, sum_by-term (seat_weight (on_page q)) s.seats w (Some r) seat)))
+  where
+    all_known : (hs : Holdings) → ((q : ℕ) → 0 < sum_by (on_page q) hs → IsSome (known_mark s q))
+        → All (λ x. IsSome (known_mark s x.page)) hs
+    all_known [] known = All-nil (λ x. IsSome (known_mark s x.page))
+    all_known (x ∷ hs) known =
+        All-cons (λ y. IsSome (known_mark s y.page)) x hs
+        (known x.page (omega (arith, sum_by-cons (on_page x.page) x hs, on_page_once x.page x refl)))
+        (all_known hs (λ q some. known q (omega (arith, sum_by-cons (on_page q) x hs, some))))
+
+-- So has the page that a slot holds.
+pub found_is_known : (s : State) → IsReached s → (w : ℕ) (r : Running) (slot : ℕ) (x : Holding)
+    → seat_of s w ≡ Some (Some r) → holding_at (holdings r) slot ≡ Some x → IsSome (known_mark s x.page)
+found_is_known s h w r slot x seat found = held_is_known s h x.page (held_one s w r slot x seat found)
 
 pub loaded_are_known : (s : State) → IsReached s → LoadedAreKnown s
 loaded_are_known s h q here away = go (cases_lt 0 (loads_of s q))

@@ -71,7 +71,7 @@ same_shape s t (change.brings w r slot page v at e) =
     shaped s t _ e refl (length-set (slice_set s.notes page _) v _ ∙ notes_stay s page _)
 same_shape s t (change.forgets w r slot page at e) = shaped s t _ e refl (notes_stay s page _)
 same_shape s t (change.loads w r slot page stamp at known e) = shaped s t _ e refl (notes_stay s page _)
-same_shape s t (change.unfixes w r slot asked e) = shaped s t _ e refl refl
+same_shape s t (change.unfixes w r slot a back asked e) = shaped s t _ e refl refl
 same_shape s t (change.latches w r slot m asked goes e) = shaped s t _ e refl refl
 same_shape s t (change.unlatches w r slot asked e) =
     let d = released_shape s (held_in r slot) (page_in r slot) in shaped s t _ e d.settings d.notes
@@ -143,7 +143,7 @@ flush_turn s t (change.writes w r slot page v at e) = lasts (ap (λ x. x.flush) 
 flush_turn s t (change.brings w r slot page v at e) = lasts (ap (λ x. x.flush) e)
 flush_turn s t (change.forgets w r slot page at e) = lasts (ap (λ x. x.flush) e)
 flush_turn s t (change.loads w r slot page stamp at known e) = lasts (ap (λ x. x.flush) e)
-flush_turn s t (change.unfixes w r slot asked e) = lasts (ap (λ x. x.flush) e)
+flush_turn s t (change.unfixes w r slot a back asked e) = lasts (ap (λ x. x.flush) e)
 flush_turn s t (change.latches w r slot m asked goes e) = lasts (ap (λ x. x.flush) e)
 flush_turn s t (change.unlatches w r slot asked e) =
     lasts (ap (λ x. x.flush) e ∙ released_flush s (held_in r slot) (page_in r slot))
@@ -427,7 +427,7 @@ placed_moves s t (change.loads w r slot page stamp at known e) ready h =
     let low = ready_low s ready page (ready.0.1.cached page (omega (arith, some))) in
     subst Placed (sym e) (noted_placed s (with_note s page (record (note_of s page) { mark = Some stamp })) h refl refl
     (frames_stay s page (record (note_of s page) { mark = Some stamp }) low refl))
-placed_moves s t (change.unfixes w r slot asked e) ready h = subst Placed (sym e) h
+placed_moves s t (change.unfixes w r slot a back asked e) ready h = subst Placed (sym e) h
 placed_moves s t (change.latches w r slot m asked goes e) ready h = subst Placed (sym e) h
 placed_moves s t (change.unlatches w r slot asked e) ready h =
     let does = totals.asked_does s t w r ready.0.0 (action.Unlatch slot) asked in
@@ -721,9 +721,9 @@ dirty_moves s t (change.loads w r slot page stamp at known e) ready h =
     refl q) ∙ k))
     (λ q c. subst (λ x. is_cached x q ≡ true) (sym (ap (λ x. x.lists) e)) c)
     (λ q. omega (arith, d.loads q)) (λ q. omega (arith, d.victims q))
-dirty_moves s t (change.unfixes w r slot asked e) ready h =
-    still s t _ [] [] h (ap (λ x. x.notes) e) (ap (λ x. x.lists) e)
-    (totals.unfix_totals s t w r ready.0.0 slot asked (ap (λ x. x.seats) e))
+dirty_moves s t (change.unfixes w r slot a back asked e) ready h =
+    let d = totals.unfix_totals s t w r ready.0.0 slot a back asked (ap (λ x. x.seats) e) in
+    still s t d.0 [] [] h (ap (λ x. x.notes) e) (ap (λ x. x.lists) e) d.2
 dirty_moves s t (change.latches w r slot m asked goes e) ready h =
     still s t _ _ [] h (ap (λ x. x.notes) e) (ap (λ x. x.lists) e)
     (totals.latch_totals s t w r ready.0.0 slot m asked (ap (λ x. x.seats) e))
@@ -744,7 +744,7 @@ dirty_moves s t (change.chooses w r i asked e) ready h =
     still s t [] [] [] h (ap (λ x. x.notes) e) (ap (λ x. x.lists) e)
     (totals.choose_totals s t w r ready.0.0 i asked (ap (λ x. x.seats) e))
 dirty_moves s t (change.unwinds w r slot given k at found e) ready h =
-    let d = totals.unwound_totals s t w r ready.0.0 slot given k at found
+    let d = totals.unwound_totals s t w r ready.0.0 slot given at
     (ap (λ x. x.seats) e
     ∙ ap (λ x. slice_set x w (Some (at_stage r (leaving (slot ∷ given))))) (totals.released_seats s k.held k.page)) in
     let some = held_one s w r slot k at.seat found in

@@ -1,8 +1,9 @@
 -- What a worker holds in every reached state, slot by slot, and what each way in which a move is done makes of it: one
 -- slot changes, or none.
 use Rattle.std.proofs.Common.{◌≡◌, ◌∙◌, ℕ, ◌+◌, ◌≤◌, ◌<◌, Bool, true, false, eqb, cond, Option, Some, None}
-use Rattle.std.proofs.Common.{List, [], ◌∷◌, length, refl, sym, ap, subst, inl, inr, arith}
+use Rattle.std.proofs.Common.{List, [], ◌∷◌, refl, sym, ap, subst, inl, inr, arith}
 use Rattle.std.specs.Prelude.{◌⊎◌, sum_by, filter, not, unwrap_or, option_map, ◌==◌, if◌then◌else◌}
+use Rattle.std.proofs.lemmas.List.Elements.{All-nil, All-cons}
 use Rattle.std.proofs.lemmas.List.Sums.{sum_by-cons}
 use Rattle.std.proofs.lemmas.Bool.Decides.{nat_tests}
 use Rattle.pp_settings.specs.Layout.{Geometry, page_count}
@@ -16,8 +17,9 @@ use Rattle.pp_plan.proofs.Asking.{asks_end}
 use Rattle.pp_cert.specs.declared.note.Held.{Held}
 use Rattle.pp_cert.specs.declared.note.Held.TheVariants.{Free, S, X}
 use Rattle.pp_cert.specs.Accepted.{Acceptance}
-use Rattle.pp_cert.specs.Held.{Holding, Holdings, holding_at, held, held_in as held_for}
-use Rattle.pp_cert.specs.Held.{is_latched}
+use Rattle.pp_cert.specs.Held.{Holding, Holdings, holding_slot, holding_at, held, held_in as held_for}
+use Rattle.pp_cert.specs.Held.{is_latched, holds_bundle}
+use Rattle.pp_cert.proofs.Slots.{slot_all}
 use Rattle.pp_model.specs.Pool.{Stage, acting, writing, reading, leaving, Running, State}
 use Rattle.pp_model.specs.Holders.{given_back, is_among, holdings, held_slots, page_in, held_in}
 use Rattle.pp_model.specs.Outcome.{at_stage, having_done}
@@ -26,13 +28,14 @@ use Rattle.pp_model.specs.Taking.{beginning}
 use Rattle.pp_model.specs.Turns.{Asks}
 use Rattle.pp_model.specs.Reached.{IsReached}
 use Rattle.pp_model.specs.Fixing.{fixes}
+use Rattle.pp_model.specs.Laws.{IsOwn, AreOfABundle, SlotsAreOfAKind}
 use Rattle.pp_model.proofs.Changes.{IsAt, IsAsked}
 use Rattle.pp_model.proofs.Seats.{IsSeat, Sends, asks_now, good, begins_more}
-use Rattle.pp_model.proofs.Swaps.{Swaps, as_held, AreApart, apart, in_slot, unmapped}
-use Rattle.pp_model.proofs.Effects.{all_held, has_held, asked_handles, unwound_sets}
+use Rattle.pp_model.proofs.Swaps.{Handles, as_held, gathers, new_page}
+use Rattle.pp_model.proofs.KeptSlots.{AreBundled, IsKeptAt, own, packed, HasOwn, Fills, Places, fix_places, found_in, filled_at, slot_found}
+use Rattle.pp_model.proofs.Effects.{all_held, has_held, asked_handles, asked_places, unwound_fills, holdings_kept}
 use Rattle.pp_model.proofs.HeldSlots.{count_of, held_set, counts_one}
-use Rattle.pp_model.proofs.Inside.{outside, inside, alone, fix_within, held_inside}
-use Rattle.pp_model.proofs.SlotSums.{slot_swapped, slot_found}
+use Rattle.pp_model.proofs.Inside.{outside, inside, fix_within, held_inside}
 
 -- ---- one seat
 
@@ -59,12 +62,6 @@ held_part g r h f =
     let all : unwrap_or (held r.done) [] ≡ before.0 = ap (λ (o : Option Holdings). unwrap_or o []) before.1 in
     let part = filter_le f (λ x. not (is_among (given_back r.stage) x)) (unwrap_or (held r.done) []) in
     omega (arith, ap (sum_by f) all, part)
-
--- No slot of a worker holds two pages.
-pub holdings_apart : (g : Geometry) (r : Running) → IsSeat g r → AreApart (holdings r)
-holdings_apart g r h k =
-    let before = has_held g r h in
-    omega (arith, held_part g r h (in_slot k), apart r.done before.0 before.1 k)
 
 -- ---- what a worker holds
 
@@ -163,6 +160,10 @@ same_found : (hs : Holdings) (slot : ℕ) (h x : Holding) → holding_at hs slot
     → x ≡ h
 same_found hs slot h x e f = cc
 
+bundle_some : (o : Option Holding) → holds_bundle o ≡ true → (h : Holding) × (o ≡ Some h)
+bundle_some None e = cc
+bundle_some (Some h) e = (h, refl)
+
 is_shared_or_exclusive : (u : Held) → is_latched u ≡ true → (u ≡ S) ⊎ (u ≡ X)
 is_shared_or_exclusive Free e = cc
 is_shared_or_exclusive S e = inl refl
@@ -174,95 +175,78 @@ module _ (g : Geometry) (r : Running) (seat : IsSeat g r) (none : given_back r.s
   after_seat a asks =
       record { accepted = seat.accepted; layout = seat.layout; begun = begins_more r a asks; errand = tt }
 
-  after_apart : (a : Action) → Asks r a → AreApart (holdings (having_done r a))
-  after_apart a asks = holdings_apart g (having_done r a) (after_seat a asks)
-
-  fix_does : (slot page : ℕ) → Asks r (fixes (asked_by r) slot page) → (k : ℕ)
-      → holding_at (holdings (having_done r (fixes (asked_by r) slot page))) k
-      ≡ (if k == slot then Some (record { slot = slot; page = page; held = Free }) else holding_at (holdings r) k)
-  fix_does slot page asks k =
+  -- A page goes into the slot: a bundle's before its other pages, any other into a slot that is empty.
+  fix_fills : (slot page : ℕ) → Asks r (fixes (asked_by r) slot page)
+      → AreBundled (slot_all holding_slot slot (holdings r))
+      × (gathers (asked_by r) ≡ false → slot_all holding_slot slot (holdings r) ≡ [])
+      × Fills slot (new_page (asked_by r) slot page ∷ slot_all holding_slot slot (holdings r)) (holdings r)
+      (holdings (having_done r (fixes (asked_by r) slot page)))
+  fix_fills slot page asks =
       let a = fixes (asked_by r) slot page in
-      let x : Holding = record { slot = slot; page = page; held = Free } in
-      let does = asked_handles g r a seat none asks in
-      slot_swapped (holdings r) (holdings (having_done r a)) slot None (Some x) (holdings_apart g r seat)
-      (after_apart a asks) (unmapped (holding_at (holdings r) slot) does.0) tt refl does.1 k
-
-  fix_empty : (slot page : ℕ) → Asks r (fixes (asked_by r) slot page) → holding_at (holdings r) slot ≡ None
-  fix_empty slot page asks =
-      unmapped (holding_at (holdings r) slot) (asked_handles g r (fixes (asked_by r) slot page) seat none asks).0
+      fix_places (holdings r) (holdings (having_done r a)) (asked_by r) slot page (asked_places g r a seat none asks)
 
   fix_counts : (slot page : ℕ) → Asks r (fixes (asked_by r) slot page)
       → held_slots most_slots (holdings (having_done r (fixes (asked_by r) slot page)))
-      ≡ held_slots most_slots (holdings r) + 1
+      + count_of (holding_at (holdings r) slot) ≡ held_slots most_slots (holdings r) + 1
   fix_counts slot page asks =
       let a = fixes (asked_by r) slot page in
-      let x : Holding = record { slot = slot; page = page; held = Free } in
-      let few = (fix_within r.accepted.plan r.done slot page seat.accepted.plan asks).0 in
+      let x = new_page (asked_by r) slot page in
+      let few = (fix_within r.accepted.plan r.done (asked_by r) slot page seat.accepted.plan asks).0 in
+      let fills = (fix_fills slot page asks).2 in
+      held_set most_slots slot (Some x) (holdings r) (holdings (having_done r a)) few
+      (filled_at slot (x ∷ slot_all holding_slot slot (holdings r)) (holdings r) (holdings (having_done r a)) fills)
+
+  -- A slot is emptied.
+  emptied_counts : (a : Action) (slot : ℕ) (h : Holding) → holding_at (holdings r) slot ≡ Some h
+      → Fills slot [] (holdings r) (holdings (having_done r a))
+      → held_slots most_slots (holdings (having_done r a)) + 1 ≡ held_slots most_slots (holdings r)
+  emptied_counts a slot h found fills =
+      let few = (within_seat g r slot h seat found).few in
       let set =
-      held_set most_slots slot (Some x) (holdings r) (holdings (having_done r a)) few (fix_does slot page asks) in
-      omega (arith, set, ap count_of (fix_empty slot page asks))
-
-  unfix_does : (slot : ℕ) → Asks r (action.Unfix slot) → (k : ℕ)
-      → holding_at (holdings (having_done r (action.Unfix slot))) k
-      ≡ (if k == slot then None else holding_at (holdings r) k)
-  unfix_does slot asks k =
-      let a = action.Unfix slot in
-      let does = asked_handles g r a seat none asks in
-      slot_swapped (holdings r) (holdings (having_done r a)) slot (Some does.0) None (holdings_apart g r seat)
-      (after_apart a asks) does.1 (slot_found (holdings r) slot does.0 does.1) tt does.3 k
-
-  unfix_counts : (slot : ℕ) → Asks r (action.Unfix slot)
-      → held_slots most_slots (holdings (having_done r (action.Unfix slot))) + 1
-      ≡ held_slots most_slots (holdings r)
-  unfix_counts slot asks =
-      let a = action.Unfix slot in
-      let does = asked_handles g r a seat none asks in
-      let few = (within_seat g r slot does.0 seat does.1).few in
-      let set = held_set most_slots slot None (holdings r) (holdings (having_done r a)) few (unfix_does slot asks) in
-      omega (arith, set, ap count_of does.1)
+      held_set most_slots slot None (holdings r) (holdings (having_done r a)) few
+      (filled_at slot [] (holdings r) (holdings (having_done r a)) fills) in
+      omega (arith, set, ap count_of found)
 
   -- The slot's page is held in another way.
-  as_does : (a : Action) (slot : ℕ) (x : Holding) (u : Held) → Asks r a → holding_at (holdings r) slot ≡ Some x
-      → Swaps (holdings r) (x ∷ []) (as_held u x ∷ []) (holdings (having_done r a))
+  as_does : (a : Action) (slot : ℕ) (x : Holding) (u : Held) → HasOwn slot (holdings r) x
+      → Fills slot (as_held u x ∷ []) (holdings r) (holdings (having_done r a))
       → (h : Holding) → holding_at (holdings r) slot ≡ Some h → (k : ℕ)
       → holding_at (holdings (having_done r a)) k
-      ≡ (if k == slot then Some (record { slot = slot; page = h.page; held = u }) else holding_at (holdings r) k)
-  as_does a slot x u asks found swaps h e k =
-      let own = slot_found (holdings r) slot x found in
-      let now : Some (as_held u x) ≡ Some (record { slot = slot; page = h.page; held = u }) =
-      ap {B = Option Holding} (λ n. Some (record { slot = n; page = x.page; held = u })) own
-      ∙ ap {B = Option Holding} (λ (y : Holding). Some (record { slot = slot; page = y.page; held = u }))
-      (same_found (holdings r) slot h x e found) in
-      slot_swapped (holdings r) (holdings (having_done r a)) slot (Some x) (Some (as_held u x))
-      (holdings_apart g r seat) (after_apart a asks) found own own swaps k
-      ∙ ap (λ o. cond (eqb k slot) o (holding_at (holdings r) k)) now
+      ≡ (if k == slot then Some (as_held u h) else holding_at (holdings r) k)
+  as_does a slot x u its fills h e k =
+      let same = same_found (holdings r) slot h x e (found_in (holdings r) slot (x ∷ []) its.0) in
+      filled_at slot (as_held u x ∷ []) (holdings r) (holdings (having_done r a)) fills k
+      ∙ ap {B = Option Holding} (λ y. cond (eqb k slot) (Some (as_held u y)) (holding_at (holdings r) k)) same
 
-  as_counts : (a : Action) (slot : ℕ) (x : Holding) (u : Held) → Asks r a → holding_at (holdings r) slot ≡ Some x
-      → Swaps (holdings r) (x ∷ []) (as_held u x ∷ []) (holdings (having_done r a))
+  as_counts : (a : Action) (slot : ℕ) (x : Holding) (u : Held) → HasOwn slot (holdings r) x
+      → Fills slot (as_held u x ∷ []) (holdings r) (holdings (having_done r a))
       → held_slots most_slots (holdings (having_done r a)) ≡ held_slots most_slots (holdings r)
-  as_counts a slot x u asks found swaps =
-      let now : Option Holding = Some (record { slot = slot; page = x.page; held = u }) in
+  as_counts a slot x u its fills =
+      let found = found_in (holdings r) slot (x ∷ []) its.0 in
       let few = (within_seat g r slot x seat found).few in
       let set =
-      held_set most_slots slot now (holdings r) (holdings (having_done r a)) few
-      (as_does a slot x u asks found swaps x found) in
+      held_set most_slots slot (Some (as_held u x)) (holdings r) (holdings (having_done r a)) few
+      (filled_at slot (as_held u x ∷ []) (holdings r) (holdings (having_done r a)) fills) in
       omega (arith, set, ap count_of found)
 
 -- ---- what each move finds and leaves
 
--- The slot into which a page goes is one of 32 and holds nothing, and the page is one of the layout.
+-- The slot into which a page goes is one of 32 and is a bundle, or holds nothing; and the page is one of the layout.
 pub record CanHold (s : State) (r : Running) (slot page : ℕ) : Type 0 where
   pub few : slot < 32
-  pub empty : holding_at (holdings r) slot ≡ None
+  pub bundled : AreBundled (slot_all holding_slot slot (holdings r))
+  pub empty : gathers (asked_by r) ≡ false → slot_all holding_slot slot (holdings r) ≡ []
   pub low : page < page_count s.settings.layout
 
 can_hold : (s : State) (r : Running) (slot page : ℕ) → IsSeat s.settings.layout r → given_back r.stage ≡ []
     → Asks r (fixes (asked_by r) slot page) → CanHold s r slot page
 can_hold s r slot page seat none asks =
-    let within = fix_within r.accepted.plan r.done slot page seat.accepted.plan asks in
+    let within = fix_within r.accepted.plan r.done (asked_by r) slot page seat.accepted.plan asks in
+    let fills = fix_fills s.settings.layout r seat none slot page asks in
     record {
       few = within.0;
-      empty = fix_empty s.settings.layout r seat none slot page asks;
+      bundled = fills.0;
+      empty = fills.1;
       low = subst (λ l. page < page_count l) (sym seat.layout) within.1;
     }
 
@@ -292,125 +276,141 @@ module _ (s : State) (h : IsReached s) (w : ℕ) (r : Running) where
   reading_finds slot page at =
       can_hold s r slot page (seat_is s h w r at.seat) (ap given_back at.stage) (reading_asks slot page at)
 
-  -- After a fix the slot holds the page, not latched, and each other slot what it held.
-  pub fix_holds : (slot page : ℕ) → IsAsked s w r (fixes (asked_by r) slot page) → (k : ℕ)
-      → holding_at (holdings (having_done r (fixes (asked_by r) slot page))) k
-      ≡ (if k == slot then Some (record { slot = slot; page = page; held = Free }) else holding_at (holdings r) k)
-  fix_holds slot page asked k =
-      fix_does s.settings.layout r (seat_is s h w r asked.at.seat) (ap given_back asked.at.stage) slot page
-      (asks_it (fixes (asked_by r) slot page) asked) k
+  -- After a fix the slot holds the page, not latched, beside what it held, and each other slot what it held.
+  pub fix_holds : (slot page : ℕ) → IsAsked s w r (fixes (asked_by r) slot page)
+      → Fills slot (new_page (asked_by r) slot page ∷ slot_all holding_slot slot (holdings r)) (holdings r)
+      (holdings (having_done r (fixes (asked_by r) slot page)))
+  fix_holds slot page asked =
+      (fix_fills s.settings.layout r (seat_is s h w r asked.at.seat) (ap given_back asked.at.stage) slot page
+      (asks_it (fixes (asked_by r) slot page) asked)).2
 
   pub fix_slots : (slot page : ℕ) → IsAsked s w r (fixes (asked_by r) slot page)
       → held_slots most_slots (holdings (having_done r (fixes (asked_by r) slot page)))
-      ≡ held_slots most_slots (holdings r) + 1
+      + count_of (holding_at (holdings r) slot) ≡ held_slots most_slots (holdings r) + 1
   fix_slots slot page asked =
       fix_counts s.settings.layout r (seat_is s h w r asked.at.seat) (ap given_back asked.at.stage) slot page
       (asks_it (fixes (asked_by r) slot page) asked)
 
-  pub loaded_holds : (slot page : ℕ) → IsAt s w r (reading slot page) → (k : ℕ)
-      → holding_at (holdings (having_done r (fixes (asked_by r) slot page))) k
-      ≡ (if k == slot then Some (record { slot = slot; page = page; held = Free }) else holding_at (holdings r) k)
-  loaded_holds slot page at k =
-      fix_does s.settings.layout r (seat_is s h w r at.seat) (ap given_back at.stage) slot page
-      (reading_asks slot page at) k
+  pub loaded_holds : (slot page : ℕ) → IsAt s w r (reading slot page)
+      → Fills slot (new_page (asked_by r) slot page ∷ slot_all holding_slot slot (holdings r)) (holdings r)
+      (holdings (having_done r (fixes (asked_by r) slot page)))
+  loaded_holds slot page at =
+      (fix_fills s.settings.layout r (seat_is s h w r at.seat) (ap given_back at.stage) slot page
+      (reading_asks slot page at)).2
 
   pub loaded_slots : (slot page : ℕ) → IsAt s w r (reading slot page)
       → held_slots most_slots (holdings (having_done r (fixes (asked_by r) slot page)))
-      ≡ held_slots most_slots (holdings r) + 1
+      + count_of (holding_at (holdings r) slot) ≡ held_slots most_slots (holdings r) + 1
   loaded_slots slot page at =
       fix_counts s.settings.layout r (seat_is s h w r at.seat) (ap given_back at.stage) slot page
       (reading_asks slot page at)
 
-  -- An unfix finds a page that isn't latched, and then the slot holds nothing.
+  -- What an action that is asked does to what is held, and to the slots.
+  asked_does : (a : Action) → IsAsked s w r a → Handles (holdings r) (holdings (having_done r a)) a
+  asked_does a asked =
+      asked_handles s.settings.layout r a (seat_is s h w r asked.at.seat) (ap given_back asked.at.stage)
+      (asks_it a asked)
+
+  asked_fills : (a : Action) → IsAsked s w r a → Places (holdings r) (holdings (having_done r a)) a
+  asked_fills a asked =
+      asked_places s.settings.layout r a (seat_is s h w r asked.at.seat) (ap given_back asked.at.stage)
+      (asks_it a asked)
+
+  -- An unfix finds a page that isn't latched, the slot's own, and then the slot holds nothing.
   pub unfix_finds : (slot : ℕ) → IsAsked s w r (action.Unfix slot)
       → (x : Holding) × Holds r slot x × (x.held ≡ Free)
   unfix_finds slot asked =
-      let a = action.Unfix slot in
-      let does = asked_handles s.settings.layout r a (seat_is s h w r asked.at.seat) (ap given_back asked.at.stage)
-      (asks_it a asked) in
-      (does.0, holds_at r slot does.0 does.1, does.2)
+      let does = asked_does (action.Unfix slot) asked in (does.0, holds_at r slot does.0 does.1, does.2)
 
-  pub unfix_holds : (slot : ℕ) → IsAsked s w r (action.Unfix slot) → (k : ℕ)
-      → holding_at (holdings (having_done r (action.Unfix slot))) k
-      ≡ (if k == slot then None else holding_at (holdings r) k)
-  unfix_holds slot asked k =
-      unfix_does s.settings.layout r (seat_is s h w r asked.at.seat) (ap given_back asked.at.stage) slot
-      (asks_it (action.Unfix slot) asked) k
+  pub unfix_own : (slot : ℕ) → IsAsked s w r (action.Unfix slot) → (x : Holding) × HasOwn slot (holdings r) x
+  unfix_own slot asked = let does = asked_fills (action.Unfix slot) asked in (does.0, does.1)
+
+  pub unfix_holds : (slot : ℕ) → IsAsked s w r (action.Unfix slot)
+      → Fills slot [] (holdings r) (holdings (having_done r (action.Unfix slot)))
+  unfix_holds slot asked = (asked_fills (action.Unfix slot) asked).2
 
   pub unfix_slots : (slot : ℕ) → IsAsked s w r (action.Unfix slot)
       → held_slots most_slots (holdings (having_done r (action.Unfix slot))) + 1
       ≡ held_slots most_slots (holdings r)
   unfix_slots slot asked =
-      unfix_counts s.settings.layout r (seat_is s h w r asked.at.seat) (ap given_back asked.at.stage) slot
-      (asks_it (action.Unfix slot) asked)
+      let found = (unfix_finds slot asked).1.found in
+      emptied_counts s.settings.layout r (seat_is s h w r asked.at.seat) (ap given_back asked.at.stage)
+      (action.Unfix slot) slot (unfix_finds slot asked).0 found (unfix_holds slot asked)
 
-  -- A latch finds a page that isn't latched, and then it is latched in the mode.
+  -- A scatter finds a bundle, and then the slot holds nothing.
+  pub scatter_finds : (slot : ℕ) → IsAsked s w r (action.Scatter slot)
+      → (holds_bundle (holding_at (holdings r) slot) ≡ true) × AreBundled (slot_all holding_slot slot (holdings r))
+  scatter_finds slot asked =
+      ((asked_does (action.Scatter slot) asked).0, (asked_fills (action.Scatter slot) asked).0)
+
+  pub scatter_holds : (slot : ℕ) → IsAsked s w r (action.Scatter slot)
+      → Fills slot [] (holdings r) (holdings (having_done r (action.Scatter slot)))
+  scatter_holds slot asked = (asked_fills (action.Scatter slot) asked).1
+
+  pub scatter_slots : (slot : ℕ) → IsAsked s w r (action.Scatter slot)
+      → held_slots most_slots (holdings (having_done r (action.Scatter slot))) + 1
+      ≡ held_slots most_slots (holdings r)
+  scatter_slots slot asked =
+      let some = bundle_some (holding_at (holdings r) slot) (scatter_finds slot asked).0 in
+      emptied_counts s.settings.layout r (seat_is s h w r asked.at.seat) (ap given_back asked.at.stage)
+      (action.Scatter slot) slot some.0 some.1 (scatter_holds slot asked)
+
+  -- A latch finds a page that isn't latched, the slot's own, and then it is latched in the mode.
   pub latch_finds : (slot : ℕ) (m : Mode) → IsAsked s w r (action.Latch slot m)
       → (x : Holding) × Holds r slot x × (x.held ≡ Free)
   latch_finds slot m asked =
-      let a = action.Latch slot m in
-      let does = asked_handles s.settings.layout r a (seat_is s h w r asked.at.seat) (ap given_back asked.at.stage)
-      (asks_it a asked) in
-      (does.0, holds_at r slot does.0 does.1, does.2)
+      let does = asked_does (action.Latch slot m) asked in (does.0, holds_at r slot does.0 does.1, does.2)
+
+  pub latch_own : (slot : ℕ) (m : Mode) → IsAsked s w r (action.Latch slot m)
+      → (x : Holding) × HasOwn slot (holdings r) x
+      × Fills slot (as_held (held_for m) x ∷ []) (holdings r) (holdings (having_done r (action.Latch slot m)))
+  latch_own slot m asked = asked_fills (action.Latch slot m) asked
 
   pub latch_holds : (slot : ℕ) (m : Mode) → IsAsked s w r (action.Latch slot m)
       → (x : Holding) → holding_at (holdings r) slot ≡ Some x → (k : ℕ)
       → holding_at (holdings (having_done r (action.Latch slot m))) k
-      ≡ (if k == slot then Some (record {
-        slot = slot;
-        page = x.page;
-        held = held_for m;
-      }) else holding_at (holdings r) k)
+      ≡ (if k == slot then Some (as_held (held_for m) x) else holding_at (holdings r) k)
   latch_holds slot m asked x found k =
-      let a = action.Latch slot m in
-      let g = s.settings.layout in
-      let seat = seat_is s h w r asked.at.seat in
-      let none = ap given_back asked.at.stage in
-      let does = asked_handles g r a seat none (asks_it a asked) in
-      as_does g r seat none a slot does.0 (held_for m) (asks_it a asked) does.1 does.3 x found k
+      let own = latch_own slot m asked in
+      as_does s.settings.layout r (seat_is s h w r asked.at.seat) (ap given_back asked.at.stage) (action.Latch slot m)
+      slot own.0 (held_for m) own.1 own.2 x found k
 
   pub latch_slots : (slot : ℕ) (m : Mode) → IsAsked s w r (action.Latch slot m)
       → held_slots most_slots (holdings (having_done r (action.Latch slot m)))
       ≡ held_slots most_slots (holdings r)
   latch_slots slot m asked =
-      let a = action.Latch slot m in
-      let g = s.settings.layout in
-      let seat = seat_is s h w r asked.at.seat in
-      let none = ap given_back asked.at.stage in
-      let does = asked_handles g r a seat none (asks_it a asked) in
-      as_counts g r seat none a slot does.0 (held_for m) (asks_it a asked) does.1 does.3
+      let own = latch_own slot m asked in
+      as_counts s.settings.layout r (seat_is s h w r asked.at.seat) (ap given_back asked.at.stage)
+      (action.Latch slot m) slot own.0 (held_for m) own.1 own.2
 
-  -- An unlatch finds a page that is latched, and then it isn't.
+  -- An unlatch finds a page that is latched, the slot's own, and then it isn't.
   pub unlatch_finds : (slot : ℕ) → IsAsked s w r (action.Unlatch slot)
       → (x : Holding) × Holds r slot x × ((x.held ≡ S) ⊎ (x.held ≡ X))
   unlatch_finds slot asked =
-      let a = action.Unlatch slot in
-      let does = asked_handles s.settings.layout r a (seat_is s h w r asked.at.seat) (ap given_back asked.at.stage)
-      (asks_it a asked) in
+      let does = asked_does (action.Unlatch slot) asked in
       (does.0, holds_at r slot does.0 does.1, is_shared_or_exclusive does.0.held does.2)
+
+  pub unlatch_own : (slot : ℕ) → IsAsked s w r (action.Unlatch slot)
+      → (x : Holding) × HasOwn slot (holdings r) x
+      × Fills slot (as_held Free x ∷ []) (holdings r) (holdings (having_done r (action.Unlatch slot)))
+  unlatch_own slot asked = asked_fills (action.Unlatch slot) asked
 
   pub unlatch_holds : (slot : ℕ) → IsAsked s w r (action.Unlatch slot)
       → (x : Holding) → holding_at (holdings r) slot ≡ Some x → (k : ℕ)
       → holding_at (holdings (having_done r (action.Unlatch slot))) k
-      ≡ (if k == slot then Some (record { slot = slot; page = x.page; held = Free }) else holding_at (holdings r) k)
+      ≡ (if k == slot then Some (as_held Free x) else holding_at (holdings r) k)
   unlatch_holds slot asked x found k =
-      let a = action.Unlatch slot in
-      let g = s.settings.layout in
-      let seat = seat_is s h w r asked.at.seat in
-      let none = ap given_back asked.at.stage in
-      let does = asked_handles g r a seat none (asks_it a asked) in
-      as_does g r seat none a slot does.0 Free (asks_it a asked) does.1 does.3 x found k
+      let own = unlatch_own slot asked in
+      as_does s.settings.layout r (seat_is s h w r asked.at.seat) (ap given_back asked.at.stage) (action.Unlatch slot)
+      slot own.0 Free own.1 own.2 x found k
 
   pub unlatch_slots : (slot : ℕ) → IsAsked s w r (action.Unlatch slot)
       → held_slots most_slots (holdings (having_done r (action.Unlatch slot)))
       ≡ held_slots most_slots (holdings r)
   unlatch_slots slot asked =
-      let a = action.Unlatch slot in
-      let g = s.settings.layout in
-      let seat = seat_is s h w r asked.at.seat in
-      let none = ap given_back asked.at.stage in
-      let does = asked_handles g r a seat none (asks_it a asked) in
-      as_counts g r seat none a slot does.0 Free (asks_it a asked) does.1 does.3
+      let own = unlatch_own slot asked in
+      as_counts s.settings.layout r (seat_is s h w r asked.at.seat) (ap given_back asked.at.stage)
+      (action.Unlatch slot) slot own.0 Free own.1 own.2
 
   -- A choice changes nothing that is held.
   pub choose_holds : (i : ℕ) → IsAsked s w r (action.Choose i)
@@ -427,11 +427,9 @@ module _ (s : State) (h : IsReached s) (w : ℕ) (r : Running) where
       → holding_at (holdings r) slot ≡ Some x → Holds r slot x
   unwind_finds slot given x at found = holds_at r slot x found
 
-  pub unwind_holds : (slot : ℕ) (given : List ℕ) (x : Holding) → IsAt s w r (leaving given)
-      → holding_at (holdings r) slot ≡ Some x → (k : ℕ)
-      → holding_at (holdings (at_stage r (leaving (slot ∷ given)))) k
-      ≡ (if k == slot then None else holding_at (holdings r) k)
-  unwind_holds slot given x at found k = unwound_sets s.settings.layout r slot given (seat_is s h w r at.seat) at.stage k
+  pub unwind_holds : (slot : ℕ) (given : List ℕ) → IsAt s w r (leaving given)
+      → Fills slot [] (holdings r) (holdings (at_stage r (leaving (slot ∷ given))))
+  unwind_holds slot given at = unwound_fills r slot given at.stage
 
   pub unwind_slots : (slot : ℕ) (given : List ℕ) (x : Holding) → IsAt s w r (leaving given)
       → holding_at (holdings r) slot ≡ Some x
@@ -441,7 +439,7 @@ module _ (s : State) (h : IsReached s) (w : ℕ) (r : Running) where
       let few = (slots_are_within s h w r at.seat slot x found).few in
       let set =
       held_set most_slots slot None (holdings r) (holdings (at_stage r (leaving (slot ∷ given)))) few
-      (unwind_holds slot given x at found) in
+      (filled_at slot [] (holdings r) (holdings (at_stage r (leaving (slot ∷ given)))) (unwind_holds slot given at)) in
       omega (arith, set, ap count_of found)
 
   -- A worker whose plan is at its end holds nothing.
@@ -454,6 +452,27 @@ module _ (s : State) (h : IsReached s) (w : ℕ) (r : Running) where
 -- Where a worker goes on to another stage and has given the same slots back, it holds what it held.
 pub stage_holds : (r : Running) (g : Stage) → given_back g ≡ given_back r.stage → holdings (at_stage r g) ≡ holdings r
 stage_holds r g e = ap (λ given. filter (λ x. not (is_among given x)) (unwrap_or (held r.done) [])) e
+
+-- ---- the kinds of slots
+
+filter_is : (slot : ℕ) (hs : Holdings) → filter (λ x. x.slot == slot) hs ≡ slot_all holding_slot slot hs
+filter_is slot [] = refl
+filter_is slot (y ∷ ys) = ap (λ zs. cond (y.slot == slot) (y ∷ zs) zs) (filter_is slot ys)
+
+bundled_all : (hs : Holdings) → AreBundled hs → AreOfABundle hs
+bundled_all [] all = All-nil (λ x. (x.bundled ≡ true) × (x.held ≡ Free))
+bundled_all (y ∷ ys) all =
+    All-cons (λ x. (x.bundled ≡ true) × (x.held ≡ Free)) y ys (all.0.bundled, all.0.free) (bundled_all ys all.1)
+
+of_a_kind : (hs ks : Holdings) → ks ≡ hs → IsKeptAt hs → IsOwn ks ⊎ AreOfABundle ks
+of_a_kind hs ks e (own x f plain) = inl (x, e ∙ f, plain)
+of_a_kind hs ks e (packed all) = inr (subst AreOfABundle (sym e) (bundled_all hs all))
+
+-- Each slot of a worker holds nothing, one page of its own, or the pages of a bundle.
+pub slots_are_of_a_kind : (s : State) → IsReached s → SlotsAreOfAKind s
+slots_are_of_a_kind s h w slot r seat =
+    of_a_kind (slot_all holding_slot slot (holdings r)) (filter (λ x. x.slot == slot) (holdings r))
+    (filter_is slot (holdings r)) (holdings_kept s.settings.layout r (seat_is s h w r seat) slot)
 
 -- A worker that begins a plan holds nothing.
 pub beginning_holds : (s : State) (a : Acceptance) → holdings (beginning s a) ≡ []

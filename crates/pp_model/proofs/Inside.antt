@@ -16,10 +16,11 @@ use Rattle.pp_plan.specs.Cursor.{NamesAction, IsAskOf}
 use Rattle.pp_plan.specs.Asked.{asked}
 use Rattle.pp_plan.proofs.Asking.{asks_named, asked_within}
 use Rattle.pp_cert.specs.declared.note.Held.TheVariants.{Free}
-use Rattle.pp_cert.specs.Held.{Holding, Holdings, held_next, held_after, held_in as held_for}
+use Rattle.pp_cert.specs.Held.{Holding, Holdings, plain_page, bundle_page, held_next, held_after, held_in as held_for}
 use Rattle.pp_model.specs.Pool.{Running}
 use Rattle.pp_model.proofs.Seats.{IsSeat}
-use Rattle.pp_model.proofs.Swaps.{Handles, handles, as_held}
+use Rattle.pp_model.specs.Fixing.{fixes}
+use Rattle.pp_model.proofs.Swaps.{Handles, handles, as_held, by_fix}
 use Rattle.pp_model.proofs.Effects.{has_held}
 use Rattle.pp_model.proofs.Sound.{fixable}
 
@@ -36,31 +37,47 @@ inside pages h e = (grind (arith, nat_tests), grind (arith, nat_tests))
 pub alone : (f : Holding → ℕ) (x : Holding) → sum_by f (x ∷ []) ≡ f x
 alone f x = omega (arith, sum_by-cons f x [])
 
--- A fix that is asked names a slot of the plan.
-named_slot : (slots regions slot page : ℕ) (g : Geometry) (x : Ask) → IsAskOf slots regions x
-    → NamesAction g x (action.Fix slot page) → slot < slots
-named_slot slots regions slot page g (ask.Fix s r) h n = omega (arith, h.0, n.0)
-named_slot slots regions slot page g (ask.Unfix s) h n = absurd n
-named_slot slots regions slot page g (ask.Latch s m) h n = absurd n
-named_slot slots regions slot page g (ask.Unlatch s) h n = absurd n
-named_slot slots regions slot page g (ask.Choose k) h n = absurd n
-named_slot slots regions slot page g ask.End h n = absurd n
+-- A fix or a gather that is asked names a slot of the plan.
+named_slot : (slots regions slot page : ℕ) (g : Geometry) (k x : Ask) → IsAskOf slots regions x
+    → NamesAction g x (fixes k slot page) → slot < slots
+named_slot slots regions slot page g k x is =
+    by_fix (λ a b. NamesAction g x a → slot < slots) k slot page (fix x is) (gather x is)
+  where
+    fix : (x : Ask) → IsAskOf slots regions x → NamesAction g x (action.Fix slot page) → slot < slots
+    fix (ask.Fix s r) h n = omega (arith, h.0, n.0)
+    fix (ask.Unfix s) h n = absurd n
+    fix (ask.Latch s m) h n = absurd n
+    fix (ask.Unlatch s) h n = absurd n
+    fix (ask.Gather s r) h n = absurd n
+    fix (ask.Scatter s) h n = absurd n
+    fix (ask.Choose k) h n = absurd n
+    fix ask.End h n = absurd n
 
--- A fix that a plan asks is into one of 32 slots, and of a page of the layout.
-pub fix_within : (p : Terms) (u : List Action) (slot page : ℕ) → IsPlan p → PlanAsks p u (action.Fix slot page)
+    gather : (x : Ask) → IsAskOf slots regions x → NamesAction g x (action.Gather slot page) → slot < slots
+    gather (ask.Fix s r) h n = absurd n
+    gather (ask.Unfix s) h n = absurd n
+    gather (ask.Latch s m) h n = absurd n
+    gather (ask.Unlatch s) h n = absurd n
+    gather (ask.Gather s r) h n = omega (arith, h.0, n.0)
+    gather (ask.Scatter s) h n = absurd n
+    gather (ask.Choose k) h n = absurd n
+    gather ask.End h n = absurd n
+
+-- A fix or a gather that a plan asks is into one of 32 slots, and of a page of the layout.
+pub fix_within : (p : Terms) (u : List Action) (k : Ask) (slot page : ℕ) → IsPlan p → PlanAsks p u (fixes k slot page)
     → (slot < 32) × (page < page_count p.layout)
-fix_within p u slot page ok asks =
-    let names = (asks_named p u (action.Fix slot page) ok).0 asks in
-    let low = named_slot (length p.slots) (length p.layout.extents) slot page p.layout (asked p u)
+fix_within p u k slot page ok asks =
+    let names = (asks_named p u (fixes k slot page) ok).0 asks in
+    let low = named_slot (length p.slots) (length p.layout.extents) slot page p.layout k (asked p u)
     (asked_within p u ok) names in
-    (omega (arith, low, ok.count), fixable p.layout slot page (asked p u) names)
+    (omega (arith, low, ok.count), fixable p.layout slot page k (asked p u) names)
 
 next_inside : (p : Terms) (u : List Action) (a : Action) (hs ks : Holdings) → IsPlan p → PlanAsks p u a
     → Handles hs ks a → sum_by (outside (page_count p.layout)) hs ≡ 0 → sum_by (outside (page_count p.layout)) ks ≡ 0
 next_inside p u (action.Fix slot page) hs ks ok asks h none =
     let f = outside (page_count p.layout) in
-    let x : Holding = record { slot = slot; page = page; held = Free } in
-    let within = fix_within p u slot page ok asks in
+    let x = plain_page slot page in
+    let within = fix_within p u ask.End slot page ok asks in
     omega (arith, h.1 f, alone f x, is_inside (page_count p.layout) x within.0 within.1, none)
 next_inside p u (action.Unfix slot) hs ks ok asks h none = omega (arith, h.3 (outside (page_count p.layout)), none)
 next_inside p u (action.Latch slot m) hs ks ok asks h none =
@@ -68,6 +85,12 @@ next_inside p u (action.Latch slot m) hs ks ok asks h none =
     omega (arith, h.3 f, alone f h.0, alone f (as_held (held_for m) h.0), none)
 next_inside p u (action.Unlatch slot) hs ks ok asks h none =
     let f = outside (page_count p.layout) in omega (arith, h.3 f, alone f h.0, alone f (as_held Free h.0), none)
+next_inside p u (action.Gather slot page) hs ks ok asks h none =
+    let f = outside (page_count p.layout) in
+    let x = bundle_page slot page in
+    let within = fix_within p u (ask.Gather slot 0) slot page ok asks in
+    omega (arith, h.1 f, alone f x, is_inside (page_count p.layout) x within.0 within.1, none)
+next_inside p u (action.Scatter slot) hs ks ok asks h none = omega (arith, h.1 (outside (page_count p.layout)), none)
 next_inside p u (action.Choose i) hs ks ok asks h none =
     subst (λ k. sum_by (outside (page_count p.layout)) k ≡ 0) (sym h) none
 

@@ -19,7 +19,9 @@ use Rattle.pp_model.specs.Holders.{times, page_in, held_in, is_busy}
 use Rattle.pp_model.specs.Outcome.{with_note, with_frame, with_lists, at_stage, having_done, released}
 use Rattle.pp_model.specs.Fixing.{free_frame}
 use Rattle.pp_model.specs.Reached.{IsReached}
+use Rattle.pp_model.specs.Moves.{asked_by}
 use Rattle.pp_model.proofs.Changes as change
+use Rattle.pp_model.proofs.Swaps.{new_page}
 use Rattle.pp_model.proofs.Changes.{Change, IsAnswered}
 use Rattle.pp_model.proofs.Reaching.{IsKeptUnder, both, holds}
 use Rattle.pp_model.proofs.Requests.{Which, same, other, which, hit_cached, is_victim}
@@ -89,7 +91,7 @@ still_known s t (change.forgets w r slot page at e) q some =
     (kept_known (with_lists s (forget s.lists page)) page (record (note_of s page) { frame = None }) q refl some)
 still_known s t (change.loads w r slot page stamp at known e) q some =
     from_next t _ q e (noted_known s page (record (note_of s page) { mark = Some stamp }) q (λ d was. refl) some)
-still_known s t (change.unfixes w r slot asked e) q some = from_next t _ q e some
+still_known s t (change.unfixes w r slot a back asked e) q some = from_next t _ q e some
 still_known s t (change.latches w r slot m asked goes e) q some = from_next t _ q e some
 still_known s t (change.unlatches w r slot asked e) q some =
     from_next t _ q e (released_known s (held_in r slot) (page_in r slot) q some)
@@ -213,7 +215,7 @@ before s t (change.loads w r slot page stamp at known e) ready q x =
     (ap (λ x. x.lists) e)
   where
     go : Which q page → Loaded t q
-        → Totals s t [] (record { slot = slot; page = page; held = Free } ∷ []) (page ∷ []) [] [] []
+        → Totals s t [] (new_page (asked_by r) slot page ∷ []) (page ∷ []) [] [] []
         → IsSome (known_mark t page) → t.lists ≡ s.lists → Loaded s q ⊎ IsSome (known_mark t q)
     go (same f g) x d some l = inr (subst (λ y. IsSome (known_mark t y)) (sym f) some)
     go (other f g) (inl b) d some l =
@@ -222,9 +224,9 @@ before s t (change.loads w r slot page stamp at known e) ready q x =
           omega (arith, d.loads q, listed_other page q (λ k. f (sym k)), b.1),
         ))
     go (other f g) (inr b) d some l = inl (inr (omega (arith, d.victims q, b)))
-before s t (change.unfixes w r slot asked e) ready q x =
-    inl (as_before s t _ [] [] (ap (λ x. x.lists) e)
-    (totals.unfix_totals s t w r ready.0.0 slot asked (ap (λ x. x.seats) e)) q x)
+before s t (change.unfixes w r slot a back asked e) ready q x =
+    let d = totals.unfix_totals s t w r ready.0.0 slot a back asked (ap (λ x. x.seats) e) in
+    inl (as_before s t d.0 [] [] (ap (λ x. x.lists) e) d.2 q x)
 before s t (change.latches w r slot m asked goes e) ready q x =
     inl (as_before s t _ _ [] (ap (λ x. x.lists) e)
     (totals.latch_totals s t w r ready.0.0 slot m asked (ap (λ x. x.seats) e)) q x)
@@ -238,7 +240,7 @@ before s t (change.chooses w r i asked e) ready q x =
     inl (as_before s t [] [] [] (ap (λ x. x.lists) e)
     (totals.choose_totals s t w r ready.0.0 i asked (ap (λ x. x.seats) e)) q x)
 before s t (change.unwinds w r slot given k at found e) ready q x =
-    let d = totals.unwound_totals s t w r ready.0.0 slot given k at found
+    let d = totals.unwound_totals s t w r ready.0.0 slot given at
     (ap (λ x. x.seats) e
     ∙ ap (λ x. slice_set x w (Some (at_stage r (leaving (slot ∷ given))))) (totals.released_seats s k.held k.page)) in
     inl (as_before s t _ _ [] (ap (λ x. x.lists) e ∙ released_lists s k.held k.page) d q x)

@@ -19,11 +19,12 @@ use Rattle.pp_model.specs.Outcome.{at_stage, having_done}
 use Rattle.pp_model.specs.Using.{goes_with}
 use Rattle.pp_model.specs.Reached.{IsReached}
 use Rattle.pp_model.specs.Laws.{InOrder, LatchesAgree}
+use Rattle.pp_model.specs.Moves.{asked_by}
 use Rattle.pp_model.proofs.Changes as change
 use Rattle.pp_model.proofs.Changes.{Change}
 use Rattle.pp_model.proofs.Reaching.{IsKeptUnder, both, holds}
 use Rattle.pp_model.proofs.Seats.{IsSeat, begins_more, good, GoodSeats, good_kept}
-use Rattle.pp_model.proofs.Swaps.{as_held}
+use Rattle.pp_model.proofs.Swaps.{as_held, new_page}
 use Rattle.pp_model.proofs.Requests.{Which, same, other, which}
 use Rattle.pp_model.proofs.Effects.{all_held, has_held}
 use Rattle.pp_model.proofs.Totals.{weight, latched_on, readers_are, writers_are, Totals, no_totals}
@@ -171,7 +172,7 @@ moves s t (change.stays e) good h = subst Agrees (sym e) h
 moves s t (change.takes w a idle next fits e) good h =
     out_alone s t [] [] [] [] [] (totals.taken_totals s t w a idle (ap (λ x. x.seats) e)) h
 moves s t (change.hits w r slot page l asked is e) good h =
-    into_free s t [] (record { slot = slot; page = page; held = Free }) [] [] [] []
+    into_free s t [] (new_page (asked_by r) slot page) [] [] [] []
     (totals.hit_totals s t w r good slot page asked (ap (λ x. x.seats) e)) h
 moves s t (change.fills w r slot page l asked is e) good h =
     out_alone s t [] [] (page ∷ []) [] [] (totals.sent_totals s t w r good (reading slot page) refl asked.at
@@ -191,11 +192,11 @@ moves s t (change.forgets w r slot page at e) good h =
     out_alone s t [] (page ∷ []) [] [] [] (totals.lost_totals s t w r good (reading slot page) refl at
     (ap (λ x. x.seats) e)) h
 moves s t (change.loads w r slot page stamp at known e) good h =
-    into_free s t [] (record { slot = slot; page = page; held = Free }) (page ∷ []) [] [] []
+    into_free s t [] (new_page (asked_by r) slot page) (page ∷ []) [] [] []
     (totals.loaded_totals s t w r good slot page at (ap (λ x. x.seats) e)) h
-moves s t (change.unfixes w r slot asked e) good h =
-    let does = totals.asked_does s t w r good (action.Unfix slot) asked in
-    out_alone s t (does.0 ∷ []) [] [] [] [] (totals.unfix_totals s t w r good slot asked (ap (λ x. x.seats) e)) h
+moves s t (change.unfixes w r slot a back asked e) good h =
+    let d = totals.unfix_totals s t w r good slot a back asked (ap (λ x. x.seats) e) in
+    out_alone s t d.0 [] [] [] [] d.2 h
 moves s t (change.latches w r slot m asked goes e) good h =
     let does = totals.asked_does s t w r good (action.Latch slot m) asked in
     let page : page_in r slot ≡ does.0.page = ap (λ o. unwrap_or (option_map (λ k. k.page) o) 0) does.1 in
@@ -211,7 +212,7 @@ moves s t (change.chooses w r i asked e) good h =
 moves s t (change.unwinds w r slot given k at found e) good h =
     let seats = ap (λ x. x.seats) e ∙ ap (λ x. slice_set x w (Some (at_stage r (leaving (slot ∷ given)))))
     (totals.released_seats s k.held k.page) in
-    out_alone s t (k ∷ []) [] [] [] [] (totals.unwound_totals s t w r good slot given k at found seats) h
+    out_alone s t _ [] [] [] [] (totals.unwound_totals s t w r good slot given at seats) h
 moves s t (change.ends w r at asked e) good h =
     out_alone s t (holdings r) [] [] [] [] (totals.idle_totals s t w r good acting refl refl at (ap (λ x. x.seats) e)) h
 moves s t (change.leaves w r given at none e) good h =

@@ -8,6 +8,7 @@ pub mod Room
 pub mod Layouts
 pub mod Seats
 pub mod Swaps
+pub mod KeptSlots
 pub mod ArcBounds
 pub mod Effects
 pub mod Totals
@@ -23,8 +24,8 @@ pub mod HeldSlots
 pub mod Falls
 pub mod BoundLaws
 pub mod MarkParts
-pub mod SlotSums
 pub mod HoldingSteps
+pub mod NoBundles
 pub mod Counts
 pub mod BoundSteps
 pub mod FlightSteps

@@ -168,7 +168,7 @@ mark_turn s t (change.loads w r slot page stamp at known e) q m f =
         let is : stamp ≡ m = let both = b.1 in cc in
         subst (λ x. Rises (2 ^ 62) s q x) is
         (subst (λ x. Rises (2 ^ 62) s x stamp) (sym b.0) (known_stamp s page stamp known))
-mark_turn s t (change.unfixes w r slot asked e) q m f = lasts (at_next s t _ q m e f)
+mark_turn s t (change.unfixes w r slot a back asked e) q m f = lasts (at_next s t _ q m e f)
 mark_turn s t (change.latches w r slot k asked goes e) q m f = lasts (at_next s t _ q m e f)
 mark_turn s t (change.unlatches w r slot asked e) q m f =
     released_rises (2 ^ 62) s (held_in r slot) (page_in r slot) q m (at_next s t _ q m e f)

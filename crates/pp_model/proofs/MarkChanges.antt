@@ -357,7 +357,7 @@ pub latches_told : (s : State) (q : ℕ) → q < length s.notes
 latches_told s q low = ap (λ (x : PageMarks). x.latches) (marks_is s q low)
 
 -- A page has at most as many latches as readers and writers.
-few_latches : (readers writers : ℕ) → map.latch_count (latches_at readers writers) ≤ readers + writers
+pub few_latches : (readers writers : ℕ) → map.latch_count (latches_at readers writers) ≤ readers + writers
 few_latches readers writers = go (nat_lt 0 writers) refl
   where
     go : (b : Bool) → nat_lt 0 writers ≡ b

@@ -10,7 +10,8 @@ use Rattle.pp_plan.specs.declared.mode.Mode.TheVariants as mode
 use Rattle.pp_plan.specs.declared.action.Action.TheVariants as action
 use Rattle.pp_cert.specs.declared.note.Held.{Held}
 use Rattle.pp_cert.specs.declared.note.Held.TheVariants.{Free, S, X}
-use Rattle.pp_cert.specs.Held.{Holding, holding_at, is_latched, held_in as held_for}
+use Rattle.pp_cert.specs.Held.{Holding, Holdings, holding_slot, holding_at, is_latched, held_in as held_for}
+use Rattle.pp_cert.proofs.Slots.{slot_all}
 use Rattle.pp_cert.specs.Accepted.{Acceptance}
 use Rattle.pp_arc.specs.FourLists.{FourLists, is_cached}
 use Rattle.pp_arc.specs.declared.answer.Answer.{Answer}
@@ -41,7 +42,8 @@ use Rattle.pp_model.specs.Marks.{marks}
 use Rattle.pp_model.proofs.Sums.{sum_by-term, times-cons}
 use Rattle.pp_model.proofs.Changes.{IsAt, IsAsked, IsAnswered}
 use Rattle.pp_model.proofs.Seats.{good}
-use Rattle.pp_model.proofs.Swaps.{as_held, Handles}
+use Rattle.pp_model.proofs.Swaps.{as_held, Handles, new_page}
+use Rattle.pp_model.proofs.KeptSlots.{found_in}
 use Rattle.pp_model.proofs.Requests.{Which, same, other, which, hit_cached, miss_uncached, IsVictim, is_victim}
 use Rattle.pp_model.proofs.Totals.{weight, on_page, latched_on, readers_are, writers_are, Totals, loads_of, victims_of}
 use Rattle.pp_model.proofs.Totals.{sent_in, seat_loads, seat_victims, pins_are}
@@ -72,7 +74,7 @@ module _ (s : State) (h : IsReached s) (w : ℕ) (r : Running) where
       ≡ map.with_pins (marks s) page (map.pins_of (marks s) page + 1)
   hit_marks slot page l asked =
       let t = did (with_lists s l) w r (fixes (asked_by r) slot page) in
-      let x : Holding = record { slot = slot; page = page; held = Free } in
+      let x : Holding = new_page (asked_by r) slot page in
       let low = fixed_low slot page asked in
       let d = totals.hit_totals s t w r (good s h) slot page asked refl in
       let c = counted s t [] (x ∷ []) [] [] [] [] page d in
@@ -189,7 +191,7 @@ module _ (s : State) (h : IsReached s) (w : ℕ) (r : Running) (slot : ℕ) wher
       let x = does.0 in
       let p = x.page in
       let low = held_low s h w r slot x asked.at.seat does.1 in
-      let d = totals.unfix_totals s t w r (good s h) slot asked refl in
+      let d = totals.own_totals s t w r (good s h) slot asked refl in
       let c = counted s t (x ∷ []) [] [] [] [] [] p d in
       let readers : readers_of t p ≡ readers_of s p =
       omega (arith, c.readers, as_latch is_shared p x false (ap is_shared does.2)) in
@@ -478,7 +480,7 @@ module _ (s : State) (h : IsReached s) (w : ℕ) (r : Running) (slot page : ℕ)
   load_marks stamp at =
       let u = with_mark s page stamp in
       let t = did u w r (fixes (asked_by r) slot page) in
-      let x : Holding = record { slot = slot; page = page; held = Free } in
+      let x : Holding = new_page (asked_by r) slot page in
       let d = totals.loaded_totals s t w r (good s h) slot page at refl in
       seats_same u t (record { settings = refl; notes = refl })
       (λ q.
@@ -505,10 +507,13 @@ module _ (s : State) (h : IsReached s) (w : ℕ) (r : Running) (slot page : ℕ)
       (λ q. from_seats s u t q refl (same_counts s t [] [] [] [] (v ∷ []) [] q d refl refl refl))
       ∙ dirty_noted s v false (sent_low s h w r (writing slot page v) at v refl)
 
--- ---- a worker that leaves gives a slot back
+-- ---- a worker that leaves gives a page back, the only one of its slot
 
 module _ (s : State) (h : IsReached s) (w : ℕ) (r : Running) (slot : ℕ) (given : List ℕ) (k : Holding)
-    (at : IsAt s w r (leaving given)) (found : holding_at (holdings r) slot ≡ Some k) where
+    (at : IsAt s w r (leaving given)) (lone : slot_all holding_slot slot (holdings r) ≡ k ∷ []) where
+  found : holding_at (holdings r) slot ≡ Some k
+  found = found_in (holdings r) slot (k ∷ []) lone
+
   pub unwind_low : k.page < map.page_count (marks s)
   unwind_low = omega (arith, held_low s h w r slot k at.seat found, count_told s)
 
@@ -522,7 +527,9 @@ module _ (s : State) (h : IsReached s) (w : ℕ) (r : Running) (slot : ℕ) (giv
   given_more = with_stage s w r (leaving (slot ∷ given))
 
   given_totals : Totals s given_more (k ∷ []) [] [] [] [] []
-  given_totals = totals.unwound_totals s given_more w r (good s h) slot given k at found refl
+  given_totals =
+      subst (λ (hs : Holdings). Totals s given_more hs [] [] [] [] []) lone
+      (totals.unwound_totals s given_more w r (good s h) slot given at refl)
 
   given_others : (q : ℕ) → q ≢ k.page → SameCounts s given_more q
   given_others q ne =

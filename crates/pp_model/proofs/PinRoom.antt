@@ -20,7 +20,7 @@ use Rattle.pp_model.proofs.Sums.{sum_by-lt, spread}
 use Rattle.pp_model.proofs.Changes.{IsAsked}
 use Rattle.pp_model.proofs.Seats.{IsSeat, asks_now, good}
 use Rattle.pp_model.proofs.Room.{room}
-use Rattle.pp_model.proofs.Stuck.{fix_fits, takes_length, seat_takes, taken_pages, times_taken}
+use Rattle.pp_model.proofs.Stuck.{brings_fits, brings_it, takes_length, seat_takes, taken_pages, times_taken}
 use Rattle.pp_model.proofs.FreeFrames.{range_once}
 
 -- The pins of these pages are the times that they stand among the pages that the workers take.
@@ -49,7 +49,7 @@ pins_few s =
 
 -- So is it where a plan asks the fix by its traces, or by the computed ask.
 pub pin_is_left : (s : State) → IsReached s → PinIsLeft s
-pin_is_left s h w slot page r act asks =
+pin_is_left s h w page r a act asks brings =
     let g = good s h in
     let layout = s.settings.layout in
     let seat : IsSeat layout r = g.seats w (Some r) act.seat in
@@ -60,7 +60,7 @@ pin_is_left s h w slot page r act asks =
       arith,
       takes_length r,
       ap (λ k. length (loading k)) act.stage,
-      fix_fits layout r slot page seat (ap given_back act.stage) asks,
+      brings_fits layout r a page seat (ap given_back act.stage) asks brings,
     ) in
     omega (
       arith,
@@ -73,5 +73,5 @@ pub pins_room : (s : State) → IsReached s → (w : ℕ) (r : Running) (slot pa
     → IsAsked s w r (fixes (asked_by r) slot page) → map.all_pins (marks s) < s.settings.layout.frames
 pins_room s h w r slot page asked =
     let seat : IsSeat s.settings.layout r = (good s h).seats w (Some r) asked.at.seat in
-    pin_is_left s h w slot page r (record { seat = asked.at.seat; stage = asked.at.stage })
-    (asks_now s.settings.layout r (fixes (asked_by r) slot page) seat asked.names)
+    pin_is_left s h w page r (fixes (asked_by r) slot page) (record { seat = asked.at.seat; stage = asked.at.stage })
+    (asks_now s.settings.layout r (fixes (asked_by r) slot page) seat asked.names) (brings_it (asked_by r) slot page)

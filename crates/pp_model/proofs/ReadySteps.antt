@@ -1,13 +1,15 @@
 -- What each way in which a move is done does to the pages that are ready, and to the images that are away.
 use Rattle.std.proofs.Common.{◌≡◌, ◌≢◌, ◌∙◌, ℕ, ◌+◌, ◌<◌, Bool, true, false, Option, Some, None, List, []}
 use Rattle.std.proofs.Common.{◌∷◌, length, get_or, cond, refl, sym, ap, subst, inl, inr, arith}
-use Rattle.std.specs.Prelude.{sum_by, nat_lt, unwrap_or}
+use Rattle.std.specs.Prelude.{sum_by, nat_lt, unwrap_or, slice_set}
 use Rattle.std.proofs.lemmas.Bool.{false≢true}
 use Rattle.pp_plan.specs.declared.mode.Mode.TheVariants as mode
+use Rattle.pp_plan.specs.declared.action.Action.{Action}
 use Rattle.pp_plan.specs.declared.action.Action.TheVariants as action
 use Rattle.pp_cert.specs.declared.note.Held.{Held}
 use Rattle.pp_cert.specs.declared.note.Held.TheVariants.{Free, S, X}
-use Rattle.pp_cert.specs.Held.{Holding, Holdings, holding_at}
+use Rattle.pp_cert.specs.Held.{Holding, Holdings, holding_slot, holding_at}
+use Rattle.pp_cert.proofs.Slots.{slot_all}
 use Rattle.pp_cert.specs.Accepted.{Acceptance}
 use Rattle.pp_arc.specs.declared.answer.Answer.{Answer}
 use Rattle.pp_arc.specs.declared.answer.Answer.TheVariants as answer
@@ -21,7 +23,7 @@ use Rattle.pp_model.specs.Pool.{untouched, frame_of, known_mark, frame_at, mark_
 use Rattle.pp_model.specs.Holders.{holdings, loading, page_in, held_in, is_shared, is_exclusive, writers_of}
 use Rattle.pp_model.specs.Holders.{readers_of, is_busy}
 use Rattle.pp_model.specs.Outcome.{did, with_stage, with_note, with_lists, with_frame, with_dirty, with_mark, raised}
-use Rattle.pp_model.specs.Outcome.{released}
+use Rattle.pp_model.specs.Outcome.{released, at_stage}
 use Rattle.pp_model.specs.Taking.{began}
 use Rattle.pp_model.specs.Fixing.{free_frame, with_frame_moved, fixes}
 use Rattle.pp_model.specs.Answers.{brought_back}
@@ -32,15 +34,16 @@ use Rattle.pp_model.specs.Moves.{seat_of, asked_by}
 use Rattle.pp_model.specs.Reached.{IsReached}
 use Rattle.pp_model.specs.Ready.{is_away, standing_of, ready_at, away_from, NoneReadyIn, ReadyStay, ImageGoes}
 use Rattle.pp_model.specs.Ready.{ImageComes, Leaves, Enters}
-use Rattle.pp_model.proofs.Changes.{IsAt, IsAsked, IsAnswered}
+use Rattle.pp_model.proofs.Changes.{IsAt, IsAsked, GivesBack, IsAnswered}
 use Rattle.pp_model.proofs.Seats.{good}
-use Rattle.pp_model.proofs.Swaps.{as_held}
+use Rattle.pp_model.proofs.Swaps.{as_held, new_page}
 use Rattle.pp_model.proofs.Requests.{same, other, which, miss_uncached, is_victim}
 use Rattle.pp_model.proofs.Totals.{weight, on_page, latched_on, loads_of, sent_in}
 use Rattle.pp_model.proofs.Totals.{readers_are, writers_are, Totals}
 use Rattle.pp_model.proofs.Sound.{uncached_free, not_busy}
 use Rattle.pp_model.proofs.Soundness.{sound}
 use Rattle.pp_model.proofs.ChangeTotals as totals
+use Rattle.pp_model.proofs.ChangeTotals.{IsOut, alone, several, free_weigh_nothing}
 use Rattle.pp_model.proofs.LatchLaws.{no_writer, nobody, latches_agree}
 use Rattle.pp_model.proofs.HoldingSteps.{holds_at}
 use Rattle.pp_model.proofs.MarkChanges.{note_here, note_there, notes_stay, listed_once, listed_other}
@@ -102,21 +105,25 @@ module _ (s : State) (h : IsReached s) (w : ℕ) (r : Running) where
       → AllStay s (did (with_lists s l) w r (fixes (asked_by r) slot page))
   hit_stays slot page l asked q =
       let t = did (with_lists s l) w r (fixes (asked_by r) slot page) in
-      let x : Holding = record { slot = slot; page = page; held = Free } in
+      let x : Holding = new_page (asked_by r) slot page in
       stays_by s t [] (x ∷ []) [] [] [] [] q (totals.hit_totals s t w r (good s h) slot page asked refl) refl
       (sym (no_writes q x refl)) refl refl
 
-  pub unfix_stays : (slot : ℕ) → IsAsked s w r (action.Unfix slot) → AllStay s (did s w r (action.Unfix slot))
-  unfix_stays slot asked q =
-      let t = did s w r (action.Unfix slot) in
-      let does = totals.asked_does s t w r (good s h) (action.Unfix slot) asked in
-      stays_by s t (does.0 ∷ []) [] [] [] [] [] q (totals.unfix_totals s t w r (good s h) slot asked refl) refl
-      (no_writes q does.0 (ap is_exclusive does.2)) refl refl
+  pub unfix_stays : (slot : ℕ) (a : Action) → GivesBack slot a → IsAsked s w r a → AllStay s (did s w r a)
+  unfix_stays slot a back asked q =
+      let t = did s w r a in
+      let d = totals.unfix_totals s t w r (good s h) slot a back asked refl in
+      stays_by s t d.0 [] [] [] [] [] q d.2 refl (free_weigh_nothing is_exclusive q d.0 refl d.1) refl refl
 
   pub choose_stays : (i : ℕ) → IsAsked s w r (action.Choose i) → AllStay s (did s w r (action.Choose i))
   choose_stays i asked q =
       let t = did s w r (action.Choose i) in
       stays_by s t [] [] [] [] [] [] q (totals.choose_totals s t w r (good s h) i asked refl) refl refl refl refl
+
+free_not_exclusive : (k : Held) → k ≡ Free → k ≡ X → ⊥
+free_not_exclusive Free e f = cc
+free_not_exclusive S e f = cc
+free_not_exclusive X e f = cc
 
 -- ---- a page is fixed that isn't cached
 
@@ -318,7 +325,7 @@ module _ (s : State) (h : IsReached s) (w : ℕ) (r : Running) (slot page : ℕ)
     loaded = did (with_mark s page stamp) w r (fixes (asked_by r) slot page)
 
     abbrev its_holding : Holding
-    its_holding = record { slot = slot; page = page; held = Free }
+    its_holding = new_page (asked_by r) slot page
 
     load_totals : Totals s loaded [] (its_holding ∷ []) (page ∷ []) [] [] []
     load_totals = totals.loaded_totals s loaded w r (good s h) slot page at refl
@@ -774,15 +781,38 @@ module _ (s : State) (h : IsReached s) (w : ℕ) (r : Running) (slot : ℕ) wher
 
   module _ (given : List ℕ) (x : Holding) (at : IsAt s w r (leaving given))
       (found : holding_at (holdings r) slot ≡ Some x) where
+    abbrev out : Holdings
+    out = slot_all holding_slot slot (holdings r)
+
+    outs : IsOut out x
+    outs = totals.unwound_out s s w r (good s h) slot given x at found
+
+    -- What goes has no writer, where the slot isn't latched X; where it is, it is the slot's page alone.
+    unwritten_out : (q : ℕ) → is_exclusive x.held ≡ false → IsOut out x → sum_by (latched_on is_exclusive q) out ≡ 0
+    unwritten_out q unwritten (alone e) =
+        ap (sum_by (latched_on is_exclusive q)) e ∙ no_writes q x unwritten
+    unwritten_out q unwritten (several free all) = free_weigh_nothing is_exclusive q out refl all
+
+    only_out : x.held ≡ X → IsOut out x → out ≡ x ∷ []
+    only_out e (alone f) = f
+    only_out e (several free all) = absurd (free_not_exclusive x.held free e)
+
+    exclusive_totals : (t : State) → x.held ≡ X
+        → t.seats ≡ slice_set s.seats w (Some (at_stage r (leaving (slot ∷ given))))
+        → Totals s t (x ∷ []) [] [] [] [] []
+    exclusive_totals t e f =
+        subst (λ (hs : Holdings). Totals s t hs [] [] [] [] []) (only_out e outs)
+        (totals.unwound_totals s t w r (good s h) slot given at f)
+
     -- A worker that leaves gives a slot back.
     pub unwind_stays : is_exclusive x.held ≡ false
         → AllStay s (with_stage (released s x.held x.page) w r (leaving (slot ∷ given)))
     unwind_stays unwritten =
         let g = leaving (slot ∷ given) in
         let t = with_stage s w r g in
-        let d = totals.unwound_totals s t w r (good s h) slot given x at found refl in
+        let d = totals.unwound_totals s t w r (good s h) slot given at refl in
         subst (λ k. AllStay s (with_stage k w r g)) (sym (unraised s x.held x.page unwritten))
-        (λ q. stays_by s t (x ∷ []) [] [] [] [] [] q d refl (no_writes q x unwritten) refl refl)
+        (λ q. stays_by s t out [] [] [] [] [] q d refl (unwritten_out q unwritten outs) refl refl)
 
     pub unwind_enters : x.held ≡ X
         → Enters s (with_stage (released s x.held x.page) w r (leaving (slot ∷ given))) x.page
@@ -790,7 +820,7 @@ module _ (s : State) (h : IsReached s) (w : ℕ) (r : Running) (slot : ℕ) wher
     unwind_enters e =
         let g = leaving (slot ∷ given) in
         let t = with_stage (raised s x.page) w r g in
-        let d = totals.unwound_totals s t w r (good s h) slot given x at found refl in
+        let d = exclusive_totals t e refl in
         subst (λ y. Enters s (with_stage (released s y x.page) w r g) x.page
         (record { frame = frame_at s x.page; mark = mark_at s x.page + 1 })) (sym e)
         (raised_enters s h w r slot x at.seat found t [] e d refl (λ q ne. refl) refl)
@@ -799,6 +829,6 @@ module _ (s : State) (h : IsReached s) (w : ℕ) (r : Running) (slot : ℕ) wher
     unwind_steps e =
         let g = leaving (slot ∷ given) in
         let t = with_stage (raised s x.page) w r g in
-        let d = totals.unwound_totals s t w r (good s h) slot given x at found refl in
+        let d = exclusive_totals t e refl in
         subst (λ y. AllStep s (with_stage (released s y x.page) w r g)) (sym e)
         (raised_steps s h w r slot x at.seat found t [] e d refl (λ q ne. refl) refl)

@@ -63,9 +63,11 @@ sent : (r : Running) (slot page : ℕ) (g : Stage) → IsErrand slot page g → 
     → Sends (at_stage r g) g
 sent r slot page acting i asks = tt
 sent r slot page (writing t x v) i asks =
-    subst (λ n. Asks r (action.Fix n x)) (sym i.0) (subst (λ n. Asks r (action.Fix slot n)) (sym i.1) asks)
+    subst (λ n. Asks r (fixes (asked_by r) n x)) (sym i.0)
+    (subst (λ n. Asks r (fixes (asked_by r) slot n)) (sym i.1) asks)
 sent r slot page (reading t x) i asks =
-    subst (λ n. Asks r (action.Fix n x)) (sym i.0) (subst (λ n. Asks r (action.Fix slot n)) (sym i.1) asks)
+    subst (λ n. Asks r (fixes (asked_by r) n x)) (sym i.0)
+    (subst (λ n. Asks r (fixes (asked_by r) slot n)) (sym i.1) asks)
 sent r slot page (leaving given) i asks = tt
 
 staged : (g : Geometry) (r : Running) (stage : Stage) → IsSeat g r → Sends (at_stage r stage) stage

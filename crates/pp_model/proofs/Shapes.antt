@@ -133,6 +133,7 @@ released_settings s X page = refl
 
 unfixed : (s : State) (w : ℕ) (r : Running) (x : Ask) → OneSeat s (move.Unfix w) w (unfix_asked s w r x)
 unfixed s w r (ask.Unfix slot) = sits s _ w _ (Some (having_done r (action.Unfix slot))) refl refl refl refl
+unfixed s w r (ask.Scatter slot) = sits s _ w _ (Some (having_done r (action.Scatter slot))) refl refl refl refl
 unfixed s w r _ = off s _ w NotAsked
 
 latch_tested : (s : State) (w : ℕ) (r : Running) (slot : ℕ) (m : Mode) (b : Bool)

@@ -22,6 +22,8 @@ use Rattle.pp_arc.proofs.StepLemmas.{times_in-cached}
 use Rattle.pp_arc.proofs.CacheLemmas.{CachesWithout-forget, CachesAgain-bring_back, SameSizes-request}
 use Rattle.pp_model.specs.Holders.{times}
 use Rattle.pp_model.specs.Pool.{State}
+use Rattle.pp_model.specs.Fixing.{fixes}
+use Rattle.pp_model.proofs.Swaps.{by_fix}
 use Rattle.pp_model.specs.Holders.{is_in_flight, is_taken, is_busy, is_flushed, pins_of, errands_of}
 use Rattle.pp_model.proofs.Sums.{times-cons}
 use Rattle.pp_model.proofs.ArcBounds.{bounds-request, bounds-bring_back}
@@ -51,13 +53,28 @@ page_below (x ∷ xs) zero page e f h =
     omega arith
 page_below (x ∷ xs) (suc r) page e f h = omega (arith, page_below xs r page e f h)
 
-pub fixable : (g : Geometry) (slot page : ℕ) (x : Ask) → NamesAction g x (action.Fix slot page) → page < page_count g
-fixable g slot page (ask.Fix s r) n = page_below g.extents r page n.1.0 n.1.1 n.1.2
-fixable g slot page (ask.Unfix s) n = absurd n
-fixable g slot page (ask.Latch s m) n = absurd n
-fixable g slot page (ask.Unlatch s) n = absurd n
-fixable g slot page (ask.Choose k) n = absurd n
-fixable g slot page ask.End n = absurd n
+pub fixable : (g : Geometry) (slot page : ℕ) (k x : Ask) → NamesAction g x (fixes k slot page) → page < page_count g
+fixable g slot page k x = by_fix (λ a b. NamesAction g x a → page < page_count g) k slot page (fix x) (gather x)
+  where
+    fix : (x : Ask) → NamesAction g x (action.Fix slot page) → page < page_count g
+    fix (ask.Fix s r) n = page_below g.extents r page n.1.0 n.1.1 n.1.2
+    fix (ask.Unfix s) n = absurd n
+    fix (ask.Latch s m) n = absurd n
+    fix (ask.Unlatch s) n = absurd n
+    fix (ask.Gather s r) n = absurd n
+    fix (ask.Scatter s) n = absurd n
+    fix (ask.Choose k) n = absurd n
+    fix ask.End n = absurd n
+
+    gather : (x : Ask) → NamesAction g x (action.Gather slot page) → page < page_count g
+    gather (ask.Fix s r) n = absurd n
+    gather (ask.Unfix s) n = absurd n
+    gather (ask.Latch s m) n = absurd n
+    gather (ask.Unlatch s) n = absurd n
+    gather (ask.Gather s r) n = page_below g.extents r page n.1.0 n.1.1 n.1.2
+    gather (ask.Scatter s) n = absurd n
+    gather (ask.Choose k) n = absurd n
+    gather ask.End n = absurd n
 
 -- ---- tests of a page
 

@@ -24,7 +24,7 @@ use Rattle.pp_model.proofs.Changes as change
 use Rattle.pp_model.proofs.Changes.{Change, IsAsked, IsAnswered}
 use Rattle.pp_model.proofs.Reaching.{IsKept, IsKeptUnder, both, holds}
 use Rattle.pp_model.proofs.Seats.{GoodSeats, good_kept}
-use Rattle.pp_model.proofs.Swaps.{as_held}
+use Rattle.pp_model.proofs.Swaps.{as_held, new_page}
 use Rattle.pp_model.proofs.Totals.{on_page, seat_weight, seat_loads, seat_victims}
 use Rattle.pp_model.proofs.Totals.{no_totals}
 use Rattle.pp_model.proofs.Sound.{IsSound, fixable, quiet, loaded, hit, IsMiss, missed, written, forgotten, brought}
@@ -85,7 +85,7 @@ module _ (s : State) (w : ℕ) (r : Running) (slot page : ℕ) (l : FourLists) (
   pub asked_low : IsAsked s w r (fixes (asked_by r) slot page) → page < s.lists.pages
   asked_low asked =
       let seat = totals.seat_at s w r good asked.at.seat in
-      let low = fixable r.accepted.plan.layout slot page _ asked.names in
+      let low = fixable r.accepted.plan.layout slot page (asked_by r) (asked_by r) asked.names in
       subst (λ n. page < n) (sym h.pages) (subst (λ g. page < page_count g) (sym seat.layout) low)
 
   miss : (a : Answer) → IsAsked s w r (fixes (asked_by r) slot page) → IsAnswered s page l a → a ≢ answer.Hit
@@ -119,7 +119,7 @@ moves s t (change.takes w a idle next fits e) good h =
 moves s t (change.hits w r slot page l asked is e) good h =
     let d = totals.hit_totals s t w r good slot page asked (ap (λ x. x.seats) e) in
     let low = asked_low s w r slot page l good h asked in
-    hit s t (record { slot = slot; page = page; held = Free }) h (ap (λ x. x.settings) e) low is.grounded
+    hit s t (new_page (asked_by r) slot page) h (ap (λ x. x.settings) e) low is.grounded
     (ap (λ x. x.lists) e ∙ is.after) is.is d
 moves s t (change.fills w r slot page l asked is e) good h =
     let d = totals.sent_totals s t w r good (reading slot page) refl asked.at (ap (λ x. x.seats) e) in
@@ -146,11 +146,11 @@ moves s t (change.forgets w r slot page at e) good h =
     forgotten s t page h (ap (λ x. x.settings) e) (ap (λ x. x.lists) e)
     (totals.lost_totals s t w r good (reading slot page) refl at (ap (λ x. x.seats) e))
 moves s t (change.loads w r slot page stamp at known e) good h =
-    loaded s t (record { slot = slot; page = page; held = Free }) h (ap (λ x. x.settings) e) (ap (λ x. x.lists) e)
+    loaded s t (new_page (asked_by r) slot page) h (ap (λ x. x.settings) e) (ap (λ x. x.lists) e)
     (totals.loaded_totals s t w r good slot page at (ap (λ x. x.seats) e))
-moves s t (change.unfixes w r slot asked e) good h =
-    let d = totals.unfix_totals s t w r good slot asked (ap (λ x. x.seats) e) in
-    quiet s t _ [] h (ap (λ x. x.settings) e) (ap (λ x. x.lists) e) d (λ q. omega arith)
+moves s t (change.unfixes w r slot a back asked e) good h =
+    let d = totals.unfix_totals s t w r good slot a back asked (ap (λ x. x.seats) e) in
+    quiet s t d.0 [] h (ap (λ x. x.settings) e) (ap (λ x. x.lists) e) d.2 (λ q. omega arith)
 moves s t (change.latches w r slot m asked goes e) good h =
     let does = totals.asked_does s t w r good (action.Latch slot m) asked in
     let d = totals.latch_totals s t w r good slot m asked (ap (λ x. x.seats) e) in
@@ -168,10 +168,10 @@ moves s t (change.chooses w r i asked e) good h =
     quiet s t [] [] h (ap (λ x. x.settings) e) (ap (λ x. x.lists) e)
     (totals.choose_totals s t w r good i asked (ap (λ x. x.seats) e)) (λ q. omega arith)
 moves s t (change.unwinds w r slot given k at found e) good h =
-    let d = totals.unwound_totals s t w r good slot given k at found
+    let d = totals.unwound_totals s t w r good slot given at
     (ap (λ x. x.seats) e ∙ ap (λ x. slice_set x w (Some (at_stage r (leaving (slot ∷ given)))))
     (totals.released_seats s k.held k.page)) in
-    quiet s t (k ∷ []) [] h (ap (λ x. x.settings) e ∙ released_settings s k.held k.page)
+    quiet s t _ [] h (ap (λ x. x.settings) e ∙ released_settings s k.held k.page)
     (ap (λ x. x.lists) e ∙ released_lists s k.held k.page) d (λ q. omega arith)
 moves s t (change.ends w r at asked e) good h =
     quiet s t _ [] h (ap (λ x. x.settings) e) (ap (λ x. x.lists) e)

@@ -8,8 +8,10 @@ use Rattle.std.proofs.lemmas.List.{length-map, length-append}
 use Rattle.std.proofs.lemmas.List.Sums.{sum_by-cons, length-filter, count_by-le-length}
 use Rattle.std.proofs.lemmas.List.Concat.{length-flat_map}
 use Rattle.pp_settings.specs.Layout.{Geometry}
-use Rattle.pp_cert.specs.declared.note.Held.TheVariants.{Free}
-use Rattle.pp_cert.specs.Held.{Holding, Holdings, held, size_of}
+use Rattle.pp_plan.specs.declared.action.Action.{Action}
+use Rattle.pp_plan.specs.declared.action.Action.TheVariants as action
+use Rattle.pp_plan.specs.declared.action.Ask.{Ask}
+use Rattle.pp_cert.specs.Held.{Holding, Holdings, plain_page, bundle_page, held, size_of}
 use Rattle.pp_arc.specs.declared.answer.Answer.{Answer}
 use Rattle.pp_arc.specs.declared.answer.Answer.TheVariants as answer
 use Rattle.pp_arc.specs.Pages.{contains, times_in}
@@ -29,11 +31,12 @@ use Rattle.pp_model.specs.Fixing.{fix_slot, evict_where, fix_by, fix_where, fix_
 use Rattle.pp_model.specs.Moves.{asked_by, act_in, act_by, seat_of}
 use Rattle.pp_model.specs.Turns.{Asks}
 use Rattle.pp_model.specs.Reached.{IsReached}
-use Rattle.pp_model.specs.Laws.{IsAllFixed, IsActing, NoneStuck, FlushHoldsAlone, WithinPeaks}
+use Rattle.pp_model.specs.Laws.{IsAllFixed, IsActing, Brings, NoneStuck, FlushHoldsAlone, WithinPeaks}
 use Rattle.pp_model.proofs.Sums.{sum_by-lt, times-cons, times-append, spread, covers}
 use Rattle.pp_model.proofs.Changes.{slot_asked}
 use Rattle.pp_model.proofs.Room.{room}
 use Rattle.pp_model.proofs.Seats.{IsSeat, OkSeat, Sends, asks_now, begins_more, good}
+use Rattle.pp_model.proofs.Swaps.{Handles, by_fix}
 use Rattle.pp_model.proofs.Effects.{all_held, has_held, asked_handles}
 use Rattle.pp_model.proofs.Soundness.{sound}
 
@@ -49,25 +52,44 @@ begun_held g r h none =
     let before = has_held g r h in
     omega (arith, ap length (all_held r before.0 none before.1), ap size_of before.1, h.accepted.pins r.done h.begun)
 
--- At a fix that is asked one slot more fits the peak.
-pub fix_fits : (g : Geometry) (r : Running) (slot page : ℕ) → IsSeat g r → given_back r.stage ≡ []
-    → Asks r (fixes (asked_by r) slot page)
-    → suc (length (holdings r)) ≤ r.accepted.peak
-fix_fits g r slot page h none asks =
-    let a = fixes (asked_by r) slot page in
-    let x : Holding = record { slot = slot; page = page; held = Free } in
-    let swaps = (asked_handles g r a h none asks).1 (λ k. 1) in
+-- What an action that brings a page does to a number of holdings.
+brought : (hs ks : Holdings) (a : Action) (page : ℕ) → Brings a page → Handles hs ks a
+    → sum_by (λ (k : Holding). 1) ks ≡ suc (sum_by (λ (k : Holding). 1) hs)
+brought hs ks (action.Fix slot p) page b h =
+    omega (arith, h.1 (λ k. 1), sum_by-cons (λ (k : Holding). 1) (plain_page slot p) [])
+brought hs ks (action.Gather slot p) page b h =
+    omega (arith, h.1 (λ k. 1), sum_by-cons (λ (k : Holding). 1) (bundle_page slot p) [])
+brought hs ks (action.Unfix slot) page b h = absurd b
+brought hs ks (action.Latch slot m) page b h = absurd b
+brought hs ks (action.Unlatch slot) page b h = absurd b
+brought hs ks (action.Scatter slot) page b h = absurd b
+brought hs ks (action.Choose i) page b h = absurd b
+
+-- At an action that is asked and brings a page one pin more fits the peak.
+pub brings_fits : (g : Geometry) (r : Running) (a : Action) (page : ℕ) → IsSeat g r → given_back r.stage ≡ []
+    → Asks r a → Brings a page → suc (length (holdings r)) ≤ r.accepted.peak
+brings_fits g r a page h none asks brings =
+    let more = brought (holdings r) (holdings (having_done r a)) a page brings (asked_handles g r a h none asks) in
     let next : IsSeat g (having_done r a) = record
     { accepted = h.accepted; layout = h.layout; begun = begins_more r a asks; errand = tt } in
     omega (
       arith,
-      swaps,
-      sum_by-cons (λ (k : Holding). 1) x [],
+      more,
       size_is (holdings r),
       size_is
           (holdings (having_done r a)),
       begun_held g (having_done r a) next refl,
     )
+
+-- What goes into a slot is such an action.
+pub brings_it : (k : Ask) (slot page : ℕ) → Brings (fixes k slot page) page
+brings_it k slot page = by_fix (λ a b. Brings a page) k slot page refl refl
+
+pub fix_fits : (g : Geometry) (r : Running) (slot page : ℕ) → IsSeat g r → given_back r.stage ≡ []
+    → Asks r (fixes (asked_by r) slot page)
+    → suc (length (holdings r)) ≤ r.accepted.peak
+fix_fits g r slot page h none asks =
+    brings_fits g r (fixes (asked_by r) slot page) page h none asks (brings_it (asked_by r) slot page)
 
 -- What is given back is held no more.
 filtered : (o : Option Holdings) (p : Holding → Bool) → length (filter p (unwrap_or o [])) ≤ size_of o
@@ -149,7 +171,7 @@ cached_taken s q all lt = go (contains s.lists.t1 q) (contains s.lists.t2 q) ref
 
 -- The worker that asks holds fewer slots than its peak, so fewer pages are taken than there are frames.
 pub none_stuck : (s : State) → IsReached s → NoneStuck s
-none_stuck s h w slot page r act asks stuck =
+none_stuck s h w page r a act asks brings stuck =
     let g = good s h in
     let layout = s.settings.layout in
     let seat : IsSeat layout r = g.seats w (Some r) act.seat in
@@ -160,8 +182,8 @@ none_stuck s h w slot page r act asks stuck =
       arith,
       takes_length r,
       ap (λ k. length (loading k)) act.stage,
-      fix_fits layout r slot page seat
-          (ap given_back act.stage) asks,
+      brings_fits layout r a page seat
+          (ap given_back act.stage) asks brings,
     ) in
     let fewer = sum_by-lt (λ x. length (takes x)) peak_of s.seats w (Some r) each act.seat less in
     let cached = s.lists.t1 ++ s.lists.t2 in
@@ -245,7 +267,7 @@ flush_holds_alone s h w page e =
     let asks = asks_now s.settings.layout r (fixes (asked_by r) slot page) seat
     (slot_asked r page slot (asked_by r) up.2.names) in
     let all = (RequestAnswers-request s.lists page (is_busy s) (sound s h).bounds).all_busy.0 up.2.busy in
-    go s.flush refl (none_stuck s h w slot page r up.2.act asks) all.0 (all.1 ∙ (sound s h).c) all.2
+    go s.flush refl (none_stuck s h w page r (fixes (asked_by r) slot page) up.2.act asks (brings_it (asked_by r) slot page)) all.0 (all.1 ∙ (sound s h).c) all.2
   where
     -- Were the flushed page taken, or none flushed, all frames would be fixed.
     go : (o : Option Flush) → s.flush ≡ o → ¬ IsAllFixed s page → is_cached s.lists page ≡ false

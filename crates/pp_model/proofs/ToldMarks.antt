@@ -169,6 +169,7 @@ write_stays s w ok (Some (Some r)) q = go r.stage
 
 unfix_stays : (s : State) (w : ℕ) (r : Running) (x : Ask) → SameMarks s (unfix_asked s w r x).state
 unfix_stays s w r (ask.Unfix slot) q = refl
+unfix_stays s w r (ask.Scatter slot) q = refl
 unfix_stays s w r _ q = refl
 
 latch_stays : (s : State) (w : ℕ) (r : Running) (x : Ask) → SameMarks s (latch_asked s w r x).state

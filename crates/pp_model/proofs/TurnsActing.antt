@@ -1,6 +1,6 @@
 -- Workers that run their plans: where no errand and no flush is out, a worker that isn't stopped by a latch can do each
 -- action that its plan asks, and one is asked, or it can finish.
-use Rattle.std.proofs.Common.{◌≡◌, ◌≢◌, ◌∙◌, ◌⊎◌, ℕ, zero, suc, ◌<◌, Bool, true, false, cond, Some, None}
+use Rattle.std.proofs.Common.{◌≡◌, ◌≢◌, ◌∙◌, ◌⊎◌, ℕ, zero, suc, ◌<◌, Bool, true, false, cond, Option, Some, None}
 use Rattle.std.proofs.Common.{List, [], ◌∷◌, length, not, refl, sym, ap, subst, inl, inr, arith}
 use Rattle.std.specs.Prelude.{slice_get, nat_lt, ◌||◌}
 use Rattle.std.proofs.lemmas.Bool.Decides.{nat_tests}
@@ -27,12 +27,14 @@ use Rattle.pp_model.specs.Fixing.{fix_slot, evict_where, fix_by, fix_where, fix_
 use Rattle.pp_model.specs.Using.{unfix_asked, goes_with, latch_where, latch_asked, unlatch_asked, choose_where}
 use Rattle.pp_model.specs.Using.{choose_asked}
 use Rattle.pp_model.specs.Moves.{asked_by, act_in, act_by, seat_of, IsPossible}
+use Rattle.pp_model.specs.declared.moves.Move.TheVariants as move
 use Rattle.pp_model.specs.Turns.{Asks, move_for, CanAct, is_stopped_at}
 use Rattle.pp_model.specs.Reached.{IsReached}
 use Rattle.pp_model.specs.Laws.{IsActing}
 use Rattle.pp_model.proofs.Seats.{IsSeat, good}
 use Rattle.pp_model.proofs.Soundness.{sound}
-use Rattle.pp_model.proofs.Stuck.{none_stuck}
+use Rattle.pp_model.proofs.Stuck.{none_stuck, brings_it}
+use Rattle.pp_model.proofs.Swaps.{by_fix}
 use Rattle.pp_model.proofs.TurnsErrands.{Passes, NoErrand, no_page_flies_without_errands}
 use Rattle.pp_model.proofs.TurnsLeaving.{a_worker_at_its_end_can_finish}
 
@@ -61,6 +63,9 @@ some_action g slots (ask.Fix slot region) l h =
 some_action g slots (ask.Unfix slot) l h = inl (action.Unfix slot, refl)
 some_action g slots (ask.Latch slot m) l h = inl (action.Latch slot m, (refl, refl))
 some_action g slots (ask.Unlatch slot) l h = inl (action.Unlatch slot, refl)
+some_action g slots (ask.Gather slot region) l h =
+    let p = a_region_has_a_page g region l h.1 in inl (action.Gather slot p.0, (refl, p.1))
+some_action g slots (ask.Scatter slot) l h = inl (action.Scatter slot, refl)
 some_action g slots (ask.Choose n) l h = inl (action.Choose 0, omega (arith, h.0))
 some_action g slots ask.End l h = inr refl
 
@@ -77,7 +82,7 @@ pub a_fix_has_a_frame_when_nothing_is_out : (s : State) → IsReached s → s.fl
     → (request s.lists page (is_busy s)).0 ≢ answer.AllBusy
 a_fix_has_a_frame_when_nothing_is_out s h f w slot page r act asks busy =
     let all = (RequestAnswers-request s.lists page (is_busy s) (sound s h).bounds).all_busy.0 busy in
-    none_stuck s h w slot page r act asks (record {
+    none_stuck s h w page r (fixes (asked_by r) slot page) act asks (brings_it (asked_by r) slot page) (record {
       away = all.0;
       full = all.1 ∙ (sound s h).c;
       fixed = λ q here.
@@ -97,18 +102,64 @@ answer_passes s l w r slot page answer.Free ne = refl
 answer_passes s l w r slot page (answer.Evict v) ne = evict_passes (with_lists s l) w r slot page v (is_dirty s v)
 answer_passes s l w r slot page answer.AllBusy ne = absurd (ne refl)
 
--- The slot of a fix that is named.
-slot_named : (r : Running) (slot page : ℕ) (x : Ask) → NamesAction r.accepted.plan.layout x (action.Fix slot page)
-    → fix_slot r page x ≡ Some slot
-slot_named r slot page (ask.Fix t region) n =
-    let has : region_has r.accepted.plan.layout region page ≡ true =
-    subst (λ o. extent_has o page ≡ true) (sym n.1.1) n.1.2 in
-    ap (λ b. cond b (Some t) None) has ∙ ap Some n.0
-slot_named r slot page (ask.Unfix t) n = absurd n
-slot_named r slot page (ask.Latch t m) n = absurd n
-slot_named r slot page (ask.Unlatch t) n = absurd n
-slot_named r slot page (ask.Choose k) n = absurd n
-slot_named r slot page ask.End n = absurd n
+-- A fix that is named is asked as one, and a gather so.
+fixes_named : (g : Geometry) (k x : Ask) (slot page : ℕ) → NamesAction g x (fixes k slot page)
+    → fixes k slot page ≡ fixes x slot page
+fixes_named g k x slot page =
+    by_fix (λ a b. NamesAction g x a → a ≡ fixes x slot page) k slot page (fix x) (gather x)
+  where
+    fix : (x : Ask) → NamesAction g x (action.Fix slot page) → action.Fix slot page ≡ fixes x slot page
+    fix (ask.Fix t region) n = refl
+    fix (ask.Unfix t) n = refl
+    fix (ask.Latch t m) n = refl
+    fix (ask.Unlatch t) n = refl
+    fix (ask.Gather t region) n = absurd n
+    fix (ask.Scatter t) n = refl
+    fix (ask.Choose k) n = refl
+    fix ask.End n = refl
+
+    gather : (x : Ask) → NamesAction g x (action.Gather slot page) → action.Gather slot page ≡ fixes x slot page
+    gather (ask.Fix t region) n = absurd n
+    gather (ask.Unfix t) n = absurd n
+    gather (ask.Latch t m) n = absurd n
+    gather (ask.Unlatch t) n = absurd n
+    gather (ask.Gather t region) n = refl
+    gather (ask.Scatter t) n = absurd n
+    gather (ask.Choose k) n = absurd n
+    gather ask.End n = absurd n
+
+-- The slot of a fix or a gather that is named.
+slot_named : (r : Running) (slot page : ℕ) (k x : Ask)
+    → NamesAction r.accepted.plan.layout x (fixes k slot page) → fix_slot r page x ≡ Some slot
+slot_named r slot page k x =
+    by_fix (λ a b. NamesAction r.accepted.plan.layout x a → fix_slot r page x ≡ Some slot) k slot page (fix x) (gather x)
+  where
+    has : (t region : ℕ) → t ≡ slot → HasPage r.accepted.plan.layout region page
+        → ◌≡◌ {A = Option ℕ} (cond (region_has r.accepted.plan.layout region page) (Some t) None) (Some slot)
+    has t region e p =
+        let is : region_has r.accepted.plan.layout region page ≡ true =
+        subst (λ o. extent_has o page ≡ true) (sym p.1) p.2 in
+        ap (λ b. cond b (Some t) None) is ∙ ap Some e
+
+    fix : (x : Ask) → NamesAction r.accepted.plan.layout x (action.Fix slot page) → fix_slot r page x ≡ Some slot
+    fix (ask.Fix t region) n = has t region n.0 n.1
+    fix (ask.Unfix t) n = absurd n
+    fix (ask.Latch t m) n = absurd n
+    fix (ask.Unlatch t) n = absurd n
+    fix (ask.Gather t region) n = absurd n
+    fix (ask.Scatter t) n = absurd n
+    fix (ask.Choose k) n = absurd n
+    fix ask.End n = absurd n
+
+    gather : (x : Ask) → NamesAction r.accepted.plan.layout x (action.Gather slot page) → fix_slot r page x ≡ Some slot
+    gather (ask.Fix t region) n = absurd n
+    gather (ask.Unfix t) n = absurd n
+    gather (ask.Latch t m) n = absurd n
+    gather (ask.Unlatch t) n = absurd n
+    gather (ask.Gather t region) n = has t region n.0 n.1
+    gather (ask.Scatter t) n = absurd n
+    gather (ask.Choose k) n = absurd n
+    gather ask.End n = absurd n
 
 -- ---- the other actions
 
@@ -119,8 +170,21 @@ unfix_passes s w r g slot (ask.Fix t region) n = absurd n
 unfix_passes s w r g slot (ask.Unfix t) n = refl
 unfix_passes s w r g slot (ask.Latch t m) n = absurd n
 unfix_passes s w r g slot (ask.Unlatch t) n = absurd n
+unfix_passes s w r g slot (ask.Gather t region) n = absurd n
+unfix_passes s w r g slot (ask.Scatter t) n = absurd n
 unfix_passes s w r g slot (ask.Choose k) n = absurd n
 unfix_passes s w r g slot ask.End n = absurd n
+
+scatter_passes : (s : State) (w : ℕ) (r : Running) (g : Geometry) (slot : ℕ) (x : Ask)
+    → NamesAction g x (action.Scatter slot) → Passes (unfix_asked s w r x)
+scatter_passes s w r g slot (ask.Fix t region) n = absurd n
+scatter_passes s w r g slot (ask.Unfix t) n = absurd n
+scatter_passes s w r g slot (ask.Latch t m) n = absurd n
+scatter_passes s w r g slot (ask.Unlatch t) n = absurd n
+scatter_passes s w r g slot (ask.Gather t region) n = absurd n
+scatter_passes s w r g slot (ask.Scatter t) n = refl
+scatter_passes s w r g slot (ask.Choose k) n = absurd n
+scatter_passes s w r g slot ask.End n = absurd n
 
 goes_passes : (s : State) (w : ℕ) (r : Running) (slot : ℕ) (m : Mode) (b : Bool) → not b ≡ false
     → Passes (latch_where s w r slot m b)
@@ -133,6 +197,8 @@ latch_passes s w r g slot m (ask.Fix t region) go n = absurd n
 latch_passes s w r g slot m (ask.Unfix t) go n = absurd n
 latch_passes s w r g slot m (ask.Latch t k) go n = goes_passes s w r t k (goes_with s k (page_in r t)) go
 latch_passes s w r g slot m (ask.Unlatch t) go n = absurd n
+latch_passes s w r g slot m (ask.Gather t region) go n = absurd n
+latch_passes s w r g slot m (ask.Scatter t) go n = absurd n
 latch_passes s w r g slot m (ask.Choose k) go n = absurd n
 latch_passes s w r g slot m ask.End go n = absurd n
 
@@ -142,6 +208,8 @@ unlatch_passes s w r g slot (ask.Fix t region) n = absurd n
 unlatch_passes s w r g slot (ask.Unfix t) n = absurd n
 unlatch_passes s w r g slot (ask.Latch t m) n = absurd n
 unlatch_passes s w r g slot (ask.Unlatch t) n = refl
+unlatch_passes s w r g slot (ask.Gather t region) n = absurd n
+unlatch_passes s w r g slot (ask.Scatter t) n = absurd n
 unlatch_passes s w r g slot (ask.Choose k) n = absurd n
 unlatch_passes s w r g slot ask.End n = absurd n
 
@@ -156,6 +224,8 @@ choose_passes s w r g i (ask.Fix t region) n = absurd n
 choose_passes s w r g i (ask.Unfix t) n = absurd n
 choose_passes s w r g i (ask.Latch t m) n = absurd n
 choose_passes s w r g i (ask.Unlatch t) n = absurd n
+choose_passes s w r g i (ask.Gather t region) n = absurd n
+choose_passes s w r g i (ask.Scatter t) n = absurd n
 choose_passes s w r g i (ask.Choose k) n = branch_passes s w r i k (nat_lt i k) refl n
 choose_passes s w r g i ask.End n = absurd n
 
@@ -175,15 +245,21 @@ module _ (s : State) (h : IsReached s) (none : NoErrand s) (free : s.flush ≡ N
   named : (a : Action) → Asks r a → NamesAction r.accepted.plan.layout (asked_by r) a
   named a asks = (asks_named r.accepted.plan r.done a seat.accepted.plan).0 asks
 
-  -- Each action that is asked is possible.
-  pub what_is_asked_is_possible : (a : Action) → Asks r a → IsPossible s (move_for w a)
-  what_is_asked_is_possible (action.Fix slot page) asks =
+  -- A page that goes into a slot.
+  going_in : (k : Ask) (slot page : ℕ) → Asks r (fixes k slot page) → IsPossible s (move.Fix w page)
+  going_in k slot page asks =
+      let names = named (fixes k slot page) asks in
+      let asks_so : Asks r (fixes (asked_by r) slot page) = subst (Asks r) (fixes_named r.accepted.plan.layout k (asked_by r)
+      slot page names) asks in
       act_passes s w _ r at
-      (subst (λ o. Passes (fix_asked s w r page o)) (sym (slot_named r slot page (asked_by r)
-      (named (fixes (asked_by r) slot page) asks)))
+      (subst (λ o. Passes (fix_asked s w r page o)) (sym (slot_named r slot page k (asked_by r) names))
       (subst (λ b. Passes (fix_where s w r slot page b)) (sym (no_page_flies_without_errands s none page))
       (answer_passes s (request s.lists page (is_busy s)).1 w r slot page (request s.lists page (is_busy s)).0
-      (a_fix_has_a_frame_when_nothing_is_out s h free w slot page r at asks))))
+      (a_fix_has_a_frame_when_nothing_is_out s h free w slot page r at asks_so))))
+
+  -- Each action that is asked is possible.
+  pub what_is_asked_is_possible : (a : Action) → Asks r a → IsPossible s (move_for w a)
+  what_is_asked_is_possible (action.Fix slot page) asks = going_in ask.End slot page asks
   what_is_asked_is_possible (action.Unfix slot) asks =
       act_passes s w _ r at
       (unfix_passes s w r r.accepted.plan.layout slot (asked_by r) (named (action.Unfix slot) asks))
@@ -193,6 +269,10 @@ module _ (s : State) (h : IsReached s) (none : NoErrand s) (free : s.flush ≡ N
   what_is_asked_is_possible (action.Unlatch slot) asks =
       act_passes s w _ r at
       (unlatch_passes s w r r.accepted.plan.layout slot (asked_by r) (named (action.Unlatch slot) asks))
+  what_is_asked_is_possible (action.Gather slot page) asks = going_in (ask.Gather slot 0) slot page asks
+  what_is_asked_is_possible (action.Scatter slot) asks =
+      act_passes s w _ r at
+      (scatter_passes s w r r.accepted.plan.layout slot (asked_by r) (named (action.Scatter slot) asks))
   what_is_asked_is_possible (action.Choose i) asks =
       act_passes s w _ r at
       (choose_passes s w r r.accepted.plan.layout i (asked_by r) (named (action.Choose i) asks))

@@ -19,13 +19,15 @@ use Rattle.pp_model.specs.Holders.{is_in_flight, is_busy}
 use Rattle.pp_model.specs.Marks.{marks}
 use Rattle.pp_model.specs.Outcome.{Outcome, not_now, off_plan, asked_by, with_stage, did, with_lists, with_frame}
 
--- The slot into which the plan asks a fix of this page, if it asks one.
+-- The slot into which the plan asks a fix or a gather of this page, if it asks one.
 abbrev pub fix_slot : Running → ℕ → Ask → Option ℕ
 fix_slot r page (ask.Fix slot region) = if region_has r.accepted.plan.layout region page then Some slot else None
+fix_slot r page (ask.Gather slot region) = if region_has r.accepted.plan.layout region page then Some slot else None
 fix_slot r page _ = None
 
--- The action that is done where a fix of the page into the slot is asked so.
+-- The action that is done where a page goes into the slot: a gather where the plan asks one, else a fix.
 abbrev pub fixes : Ask → (slot page : ℕ) → Action
+fixes (ask.Gather s region) slot page = action.Gather slot page
 fixes _ slot page = action.Fix slot page
 
 -- The victim's frame is the page's from now on.

@@ -37,12 +37,13 @@ is_among slots h = list_any (λ slot. slot == h.slot) slots
 abbrev pub holdings : Running → Holdings
 holdings r = filter (λ h. not (is_among (given_back r.stage) h)) (unwrap_or (held r.done) [])
 
--- How many of the first n slots hold something.
+-- How many of the first n slots hold something; a bundle is one of them.
 unfoldable pub held_slots : ℕ → Holdings → ℕ
 held_slots zero hs = 0
 held_slots (suc n) hs = (if is_some (holding_at hs n) then 1 else 0) + held_slots n hs
 
--- The page in a slot, and how the slot holds it. (0 and Free where it holds none; no move looks there.)
+-- The page in a slot, and how the slot holds it. (Where it holds none, 0 and Free; of a bundle, its last page and Free. No move
+-- looks at either.)
 abbrev pub page_in : Running → ℕ → ℕ
 page_in r slot = unwrap_or (option_map (λ h. h.page) (holding_at (holdings r) slot)) 0
 
@@ -63,7 +64,7 @@ in_flight (writing slot page victim) = page ∷ victim ∷ []
 in_flight (reading slot page) = page ∷ []
 in_flight (leaving given) = []
 
--- The pages of these slots, one entry for each slot.
+-- The pages that are held, an entry for each pin.
 abbrev pub held_pages : Holdings → List ℕ
 held_pages hs = map (λ h. h.page) hs
 
@@ -78,7 +79,7 @@ is_exclusive Free = false
 is_exclusive S = false
 is_exclusive X = true
 
--- The pages that a seat takes: an entry for each slot that holds one, and one for the page that is loaded.
+-- The pages that a seat takes: an entry for each pin, and one for the page that is loaded.
 abbrev pub takes : Option Running → List ℕ
 takes None = []
 takes (Some r) = held_pages (holdings r) ++ loading r.stage
@@ -95,7 +96,7 @@ flies (Some r) = in_flight r.stage
 
 -- ---- all workers
 
--- How many slots hold the page or load it.
+-- How many pins a page has: one for each entry of it that is held, and one for each slot that loads it.
 abbrev pub pins_of : State → ℕ → ℕ
 pins_of s page = sum_by (λ seat. times page (takes seat)) s.seats
 

@@ -1,13 +1,15 @@
 -- Laws of reached states, in the words of those who use a pool.
 use Rattle.std.specs.Prelude.{◌≡◌, ◌≢◌, ◌⊎◌, ◌↔◌, ℕ, ◌+◌, ◌^◌, ◌<◌, ◌≤◌, true, false, None, Some, List, [], ◌∷◌}
-use Rattle.std.specs.Prelude.{◌++◌, ◌==◌, Bool, Option, length, count_by, slice_get, All, IsTrue, IsSome}
+use Rattle.std.specs.Prelude.{◌++◌, ◌==◌, Bool, Option, length, count_by, filter, slice_get, All, IsTrue, IsSome}
 use Rattle.pp_settings.specs.Layout.{page_count}
 use Rattle.pp_plan.specs.declared.mode.Mode.{Mode}
+use Rattle.pp_plan.specs.declared.action.Action.{Action}
 use Rattle.pp_plan.specs.declared.action.Action.TheVariants as action
 use Rattle.pp_plan.specs.Traces.{Begins}
-use Rattle.pp_cert.specs.Held.{Holding, holding_at, IsAboveLatched}
+use Rattle.pp_cert.specs.Held.{Holding, Holdings, IsAboveLatched}
 use Rattle.pp_cert.specs.Accepted.{Acceptance, IsAccepted}
 use Rattle.pp_arc.specs.FourLists.{is_cached, cached_count, times_named}
+use Rattle.pp_cert.specs.declared.note.Held.TheVariants.{Free}
 use Rattle.pp_frames.specs.Marks.{marks_of, with_marks, all_pins, least_free}
 use Rattle.pp_model.specs.declared.event.Event.{Event}
 use Rattle.pp_model.specs.declared.event.Event.TheVariants.{Submit, Step}
@@ -21,8 +23,7 @@ use Rattle.pp_model.specs.Pool.{known_mark, note_of, untouched}
 use Rattle.pp_model.specs.Holders.{holdings, loading, is_taken, is_in_flight, readers_of, writers_of, errands_of}
 use Rattle.pp_model.specs.Holders.{flushes_of}
 use Rattle.pp_model.specs.Budget.{cost_of, bound}
-use Rattle.pp_model.specs.Fixing.{fixes}
-use Rattle.pp_model.specs.Moves.{asked_by, seat_of, reply_of, next_of, is_possible, IsPossible}
+use Rattle.pp_model.specs.Moves.{seat_of, reply_of, next_of, is_possible, IsPossible}
 use Rattle.pp_model.specs.Submitting.{most_events, submit_error, after_submit}
 use Rattle.pp_model.specs.Runs.{Input, plan, move, run, state_after, count_done}
 use Rattle.pp_model.specs.Journals.{IsJournalOf}
@@ -75,10 +76,16 @@ pub record IsActing (s : State) (w : ℕ) (r : Running) : Type 0 where
   pub seat : seat_of s w ≡ Some (Some r)
   pub stage : r.stage ≡ acting
 
--- No worker can find all frames fixed at a fix that its plan asks.
+-- The action brings the page into a slot.
+abbrev pub Brings : Action → (page : ℕ) → Type 0
+Brings (action.Fix slot brought) page = brought ≡ page
+Brings (action.Gather slot brought) page = brought ≡ page
+Brings _ page = ⊥
+
+-- No worker can find all frames fixed at a fix or a gather that its plan asks.
 abbrev pub NoneStuck : State → Type 0
 NoneStuck s =
-    (w slot page : ℕ) (r : Running) → IsActing s w r → Asks r (fixes (asked_by r) slot page) → ¬ IsAllFixed s page
+    (w page : ℕ) (r : Running) (a : Action) → IsActing s w r → Asks r a → Brings a page → ¬ IsAllFixed s page
 
 -- A fix is answered that a flush holds the frames only where a flush is in flight of a page that isn't taken.
 abbrev pub FlushHoldsAlone : State → Type 0
@@ -86,13 +93,26 @@ FlushHoldsAlone s =
     (w page : ℕ) → reply_of s (moves.Fix w page) ≡ NotNow FlushHolds
     → (f : Flush) × (s.flush ≡ Some f) × (is_taken s f.page ≡ false)
 
--- ---- a worker's slots
+-- ---- what a worker holds
 
--- What a worker holds, together with the page that is loaded for it, is at most its plan's peak, counted by slots.
+-- What a worker holds, together with the page that is loaded for it, is at most its plan's peak, counted by pins.
 abbrev pub WithinPeaks : State → Type 0
 WithinPeaks s =
     (w : ℕ) (r : Running) → seat_of s w ≡ Some (Some r)
     → length (holdings r) + length (loading r.stage) ≤ r.accepted.peak
+
+-- What may stand in a slot: nothing, one page of its own, or the pages of a bundle, of which none is latched.
+abbrev pub IsOwn : Holdings → Type 0
+IsOwn hs = (h : Holding) × (hs ≡ h ∷ []) × (h.bundled ≡ false)
+
+abbrev pub AreOfABundle : Holdings → Type 0
+AreOfABundle hs = All (λ h. (h.bundled ≡ true) × (h.held ≡ Free)) hs
+
+-- Each slot of a worker holds nothing, one page of its own, or the pages of a bundle.
+abbrev pub SlotsAreOfAKind : State → Type 0
+SlotsAreOfAKind s =
+    (w slot : ℕ) (r : Running) → seat_of s w ≡ Some (Some r)
+    → IsOwn (filter (λ h. h.slot == slot) (holdings r)) ⊎ AreOfABundle (filter (λ h. h.slot == slot) (holdings r))
 
 -- ---- latches
 
@@ -193,10 +213,10 @@ CachedAreFramed s = (page : ℕ) → IsTrue (is_cached s.lists page) ↔ IsSome 
 abbrev pub FrameIsLeft : State → Type 0
 FrameIsLeft s = cached_count s.lists < s.settings.layout.frames → IsSome (least_free (marks s))
 
--- Where a worker's plan asks a fix, there are fewer pins in all than frames.
+-- Where a worker's plan asks a fix or a gather, there are fewer pins in all than frames.
 abbrev pub PinIsLeft : State → Type 0
 PinIsLeft s =
-    (w slot page : ℕ) (r : Running) → IsActing s w r → Asks r (fixes (asked_by r) slot page)
+    (w page : ℕ) (r : Running) (a : Action) → IsActing s w r → Asks r a → Brings a page
     → all_pins (marks s) < s.settings.layout.frames
 
 -- For some worker the page is written back as a victim.
@@ -209,11 +229,10 @@ IsWrittenBack s victim =
 abbrev pub DirtyAreKept : State → Type 0
 DirtyAreKept s = (page : ℕ) → is_dirty s page ≡ true → IsTrue (is_cached s.lists page) ⊎ IsWrittenBack s page
 
--- A page that a slot holds has a known mark.
+-- Each page that a slot holds has a known mark.
 abbrev pub HeldAreKnown : State → Type 0
 HeldAreKnown s =
-    (w : ℕ) (r : Running) (slot : ℕ) (h : Holding) → seat_of s w ≡ Some (Some r)
-    → holding_at (holdings r) slot ≡ Some h → IsSome (known_mark s h.page)
+    (w : ℕ) (r : Running) → seat_of s w ≡ Some (Some r) → All (λ h. IsSome (known_mark s h.page)) (holdings r)
 
 -- For some worker the page is being loaded: its victim is written back, or it is read.
 abbrev pub IsLoading : State → (page : ℕ) → Type 0

@@ -31,6 +31,8 @@ move_for w (action.Fix slot page) = move.Fix w page
 move_for w (action.Unfix slot) = move.Unfix w
 move_for w (action.Latch slot m) = move.Latch w
 move_for w (action.Unlatch slot) = move.Unlatch w
+move_for w (action.Gather slot page) = move.Fix w page
+move_for w (action.Scatter slot) = move.Unfix w
 move_for w (action.Choose i) = move.Choose w i
 
 -- A device works for the worker, and whatever it gives is possible.

@@ -1,4 +1,5 @@
--- Unfix, Latch, Unlatch and Choose: what an acting worker does without the device.
+-- Unfix, Latch, Unlatch and Choose: what an acting worker does without the device. Where the plan asks a scatter, an unfix
+-- gives the whole bundle back.
 use Rattle.std.specs.Prelude.{ℕ, Bool, true, false, nat_lt}
 use Rattle.pp_plan.specs.declared.mode.Mode.{Mode}
 use Rattle.pp_plan.specs.declared.mode.Mode.TheVariants as mode
@@ -18,6 +19,7 @@ use Rattle.pp_model.specs.Outcome.{Outcome, not_now, off_plan, did, released}
 
 abbrev pub unfix_asked : State → ℕ → Running → Ask → Outcome
 unfix_asked s w r (ask.Unfix slot) = record { reply = Did; state = did s w r (action.Unfix slot) }
+unfix_asked s w r (ask.Scatter slot) = record { reply = Did; state = did s w r (action.Scatter slot) }
 unfix_asked s w r _ = off_plan s NotAsked
 
 -- ---- Latch

@@ -10,7 +10,7 @@ ghost use Rattle.pp_model.specs.Marks.{marks};
 ghost use Rattle.pp_model.specs.Laws.{WithinPeaks, NoneStuck, FlushHoldsAlone, InOrder, LatchesAgree, OneErrand};
 ghost use Rattle.pp_model.specs.Laws.{BoundFalls, RefusedLeaves, BoundRises, DoneWithinBound, StaysReached};
 ghost use Rattle.pp_model.specs.Laws.{JournalGrows, JournalTakesIn, MarksTell, OnePageChanges, CachedAreFramed};
-ghost use Rattle.pp_model.specs.Laws.{FrameIsLeft, PinIsLeft, DirtyAreKept, HeldAreKnown, LoadedAreKnown};
+ghost use Rattle.pp_model.specs.Laws.{FrameIsLeft, PinIsLeft, SlotsAreOfAKind, DirtyAreKept, HeldAreKnown, LoadedAreKnown};
 ghost use Rattle.pp_model.specs.Laws.{MarksAreTheJournals, MarksAreSmall, PlansAreAccounted};
 ghost use Rattle.pp_model.specs.Laws.{NextWhileUnderWay, NextIsOpen};
 ghost use Rattle.pp_model.specs.Laws.{SeatsAreWorkers, PlansAreOfTheLayout, PagesAreOfTheLayout, DoneBeginsATrace};
@@ -33,12 +33,14 @@ pub fn states_are_of_their_settings()
     ensures pages { (s : State) → IsReached s → PagesAreOfTheLayout s }
 {}
 
-/// What a worker has done begins a trace of its plan, whether it acts, waits for an errand or leaves.
+/// What a worker has done begins a trace of its plan, whether it acts, waits for an errand or leaves. Each of its slots holds
+/// nothing, one page of its own, or the pages of a bundle, of which none is latched.
 pub fn workers_follow_their_plans()
     ensures begun { (s : State) → IsReached s → DoneBeginsATrace s }
+    ensures slots { (s : State) → IsReached s → SlotsAreOfAKind s }
 {}
 
-/// Room: the peaks of all plans that run sum to at most the frames, and each worker holds and loads at most its peak.
+/// Room: the peaks of all plans that run sum to at most the frames, and each worker holds and loads at most its peak, by pins.
 pub fn peaks_fit()
     ensures together { (s : State) → IsReached s → running_peaks s ≤ s.settings.layout.frames }
     ensures each { (s : State) → IsReached s → WithinPeaks s }
@@ -94,7 +96,7 @@ pub fn plans_are_accounted()
 
 /// A page has a frame exactly where it is cached. No frame has two pages, each is one of the pool's, there are no more
 /// pins in all than frames, and no page has more latches than pins: the map of the marks is sound. Where the cache
-/// isn't full a frame is free, and where a plan asks a fix there is room for its pin.
+/// isn't full a frame is free, and where a plan asks a fix or a gather there is room for its pin.
 pub fn frames_are_apart()
     ensures framed { (s : State) → IsReached s → CachedAreFramed s }
     ensures sound { (s : State) → IsReached s → IsSound (marks s) }

@@ -39,7 +39,7 @@ pub enum Move {
     WriteDone { worker: u32, ok: bool },
     /// The device has read a worker's page, or has failed to.
     ReadDone { worker: u32, came: Came },
-    /// A worker gives the page of the slot back that its plan names.
+    /// A worker gives the page of the slot back that its plan names, or all pages of the bundle.
     Unfix { worker: u32 },
     /// A worker latches the page of the slot that its plan names, in the mode that it names.
     Latch { worker: u32 },
@@ -47,7 +47,7 @@ pub enum Move {
     Unlatch { worker: u32 },
     /// A worker goes on with this branch of a choice.
     Choose { worker: u32, branch: u32 },
-    /// A worker that leaves its plan after a failed fix gives a slot back, latch and pin together.
+    /// A worker that leaves its plan after a failed fix gives a slot back, with its latch and all its pins.
     Unwind { worker: u32, slot: u32 },
     /// A worker is done with its plan, or has left it.
     Finish { worker: u32 },

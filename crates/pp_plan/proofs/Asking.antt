@@ -13,7 +13,7 @@ use Rattle.pp_plan.specs.Rules.{IsSome, IsStep, IsSequence, AreAlternatives}
 use Rattle.pp_plan.specs.declared.mode.Mode.{Mode}
 use Rattle.pp_plan.specs.declared.mode.Mode.TheVariants as mode
 use Rattle.pp_plan.specs.declared.action.Action.{Action}
-use Rattle.pp_plan.specs.declared.action.Action.TheVariants.{Fix, Unfix, Latch, Unlatch, Choose}
+use Rattle.pp_plan.specs.declared.action.Action.TheVariants.{Fix, Unfix, Latch, Unlatch, Gather, Scatter, Choose}
 use Rattle.pp_plan.specs.declared.action.Ask.TheVariants as ask
 use Rattle.pp_plan.specs.Terms.{Terms, IsPlan}
 use Rattle.pp_plan.specs.Traces.{Does, Repeats, IsTrace, Begins}
@@ -235,6 +235,9 @@ leads g slots regions (andthen (choice bs) k) (Fix s page) h =
 leads g slots regions (andthen (choice bs) k) (Unfix s) h = λ rest t. not_chosen g bs k (Unfix s) rest (λ i e. cc) t
 leads g slots regions (andthen (choice bs) k) (Latch s m) h = λ rest t. not_chosen g bs k (Latch s m) rest (λ i e. cc) t
 leads g slots regions (andthen (choice bs) k) (Unlatch s) h = λ rest t. not_chosen g bs k (Unlatch s) rest (λ i e. cc) t
+leads g slots regions (andthen (choice bs) k) (Gather s page) h =
+    λ rest t. not_chosen g bs k (Gather s page) rest (λ i e. cc) t
+leads g slots regions (andthen (choice bs) k) (Scatter s) h = λ rest t. not_chosen g bs k (Scatter s) rest (λ i e. cc) t
 
 -- ---- what is asked first
 
@@ -254,6 +257,8 @@ goes g slots regions (andthen (choice bs) k) (Fix s page) h n = absurd n
 goes g slots regions (andthen (choice bs) k) (Unfix s) h n = absurd n
 goes g slots regions (andthen (choice bs) k) (Latch s m) h n = absurd n
 goes g slots regions (andthen (choice bs) k) (Unlatch s) h n = absurd n
+goes g slots regions (andthen (choice bs) k) (Gather s page) h n = absurd n
+goes g slots regions (andthen (choice bs) k) (Scatter s) h n = absurd n
 
 some_of : (f : Sequence → Sequence) (o : Option Sequence) (c : Sequence) → option_map f o ≡ Some c
     → (d : Sequence) × (o ≡ Some d)
@@ -285,6 +290,8 @@ is_asked g slots regions (andthen (choice bs) k) c (Fix s page) h e = cc
 is_asked g slots regions (andthen (choice bs) k) c (Unfix s) h e = cc
 is_asked g slots regions (andthen (choice bs) k) c (Latch s m) h e = cc
 is_asked g slots regions (andthen (choice bs) k) c (Unlatch s) h e = cc
+is_asked g slots regions (andthen (choice bs) k) c (Gather s page) h e = cc
+is_asked g slots regions (andthen (choice bs) k) c (Scatter s) h e = cc
 
 -- The end is asked exactly where nothing is left.
 ends : (g : Geometry) (slots regions : ℕ) (b : Sequence) → CanRun slots regions b → first_asked b ≡ ask.End

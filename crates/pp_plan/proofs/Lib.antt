@@ -25,6 +25,7 @@ pub mod Passing
 pub mod Standing
 pub mod Asking
 pub mod OneAsk
+pub mod NoBundle
 pub mod PrefixFree
 pub mod Values
 pub mod Written

@@ -10,7 +10,7 @@ use Rattle.pp_plan.specs.declared.mode.Mode.{Mode}
 use Rattle.pp_plan.specs.declared.action.Action.{Action}
 use Rattle.pp_plan.specs.declared.action.Action.TheVariants as action
 use Rattle.pp_plan.specs.declared.action.Ask.{Ask}
-use Rattle.pp_plan.specs.declared.action.Ask.TheVariants.{Fix, Unfix, Latch, Unlatch, Choose, End}
+use Rattle.pp_plan.specs.declared.action.Ask.TheVariants.{Fix, Unfix, Latch, Unlatch, Gather, Scatter, Choose, End}
 use Rattle.pp_plan.specs.Terms.{Terms, IsPlan}
 use Rattle.pp_plan.specs.PlanTraces.{PlanAsks}
 use Rattle.pp_plan.specs.Cursor.{NamesAction, IsAskOf}
@@ -56,6 +56,8 @@ fix_is g s r page (Fix t q) l h n = let same : t ≡ s = n.0 in let other = one_
 fix_is g s r page (Unfix t) l h n = absurd n
 fix_is g s r page (Latch t m) l h n = absurd n
 fix_is g s r page (Unlatch t) l h n = absurd n
+fix_is g s r page (Gather t q) l h n = absurd n
+fix_is g s r page (Scatter t) l h n = absurd n
 fix_is g s r page (Choose m) l h n = absurd n
 fix_is g s r page End l h n = absurd n
 
@@ -64,6 +66,8 @@ unfix_is g s (Unfix t) n = ap Unfix (sym n)
 unfix_is g s (Fix t q) n = absurd n
 unfix_is g s (Latch t m) n = absurd n
 unfix_is g s (Unlatch t) n = absurd n
+unfix_is g s (Gather t q) n = absurd n
+unfix_is g s (Scatter t) n = absurd n
 unfix_is g s (Choose m) n = absurd n
 unfix_is g s End n = absurd n
 
@@ -72,6 +76,8 @@ latch_is g s m (Latch t k) n = let same : t ≡ s = n.0 in let mode : k ≡ m = 
 latch_is g s m (Fix t q) n = absurd n
 latch_is g s m (Unfix t) n = absurd n
 latch_is g s m (Unlatch t) n = absurd n
+latch_is g s m (Gather t q) n = absurd n
+latch_is g s m (Scatter t) n = absurd n
 latch_is g s m (Choose k) n = absurd n
 latch_is g s m End n = absurd n
 
@@ -80,8 +86,32 @@ unlatch_is g s (Unlatch t) n = ap Unlatch (sym n)
 unlatch_is g s (Fix t q) n = absurd n
 unlatch_is g s (Unfix t) n = absurd n
 unlatch_is g s (Latch t m) n = absurd n
+unlatch_is g s (Gather t q) n = absurd n
+unlatch_is g s (Scatter t) n = absurd n
 unlatch_is g s (Choose m) n = absurd n
 unlatch_is g s End n = absurd n
+
+gather_is : (g : Geometry) (s r page : ℕ) (y : Ask) → IsLayout g → HasPage g r page
+    → NamesAction g y (action.Gather s page) → Gather s r ≡ y
+gather_is g s r page (Gather t q) l h n =
+    let same : t ≡ s = n.0 in let other = one_region g r q page l h n.1 in cc
+gather_is g s r page (Fix t q) l h n = absurd n
+gather_is g s r page (Unfix t) l h n = absurd n
+gather_is g s r page (Latch t m) l h n = absurd n
+gather_is g s r page (Unlatch t) l h n = absurd n
+gather_is g s r page (Scatter t) l h n = absurd n
+gather_is g s r page (Choose m) l h n = absurd n
+gather_is g s r page End l h n = absurd n
+
+scatter_is : (g : Geometry) (s : ℕ) (y : Ask) → NamesAction g y (action.Scatter s) → Scatter s ≡ y
+scatter_is g s (Scatter t) n = ap Scatter (sym n)
+scatter_is g s (Fix t q) n = absurd n
+scatter_is g s (Unfix t) n = absurd n
+scatter_is g s (Latch t m) n = absurd n
+scatter_is g s (Unlatch t) n = absurd n
+scatter_is g s (Gather t q) n = absurd n
+scatter_is g s (Choose m) n = absurd n
+scatter_is g s End n = absurd n
 
 choose_is : (g : Geometry) (k : ℕ) (y : Ask) → ((i : ℕ) → i < k → NamesAction g y (action.Choose i))
     → ((i : ℕ) → NamesAction g y (action.Choose i) → i < k) → 1 ≤ k → Choose k ≡ y
@@ -96,6 +126,8 @@ choose_is g k (Fix t q) to from some = absurd (to 0 (omega (arith, some)))
 choose_is g k (Unfix t) to from some = absurd (to 0 (omega (arith, some)))
 choose_is g k (Latch t m) to from some = absurd (to 0 (omega (arith, some)))
 choose_is g k (Unlatch t) to from some = absurd (to 0 (omega (arith, some)))
+choose_is g k (Gather t q) to from some = absurd (to 0 (omega (arith, some)))
+choose_is g k (Scatter t) to from some = absurd (to 0 (omega (arith, some)))
 choose_is g k End to from some = absurd (to 0 (omega (arith, some)))
 
 end_is : (g : Geometry) (slots : ℕ) (y : Ask) → IsLayout g → IsAskOf slots (length g.extents) y
@@ -104,6 +136,8 @@ end_is g slots (Fix s r) l k none = let p = region_page g r l k.1 in absurd (non
 end_is g slots (Unfix s) l k none = absurd (none (action.Unfix s) refl)
 end_is g slots (Latch s m) l k none = absurd (none (action.Latch s m) (refl, refl))
 end_is g slots (Unlatch s) l k none = absurd (none (action.Unlatch s) refl)
+end_is g slots (Gather s r) l k none = let p = region_page g r l k.1 in absurd (none (action.Gather s p.0) (refl, p.1))
+end_is g slots (Scatter s) l k none = absurd (none (action.Scatter s) refl)
 end_is g slots (Choose m) l k none = absurd (none (action.Choose 0) (omega (arith, k.0)))
 end_is g slots End l k none = refl
 
@@ -115,6 +149,9 @@ one_ask g slots (Fix s r) y l h k to from = let p = region_page g r l h.1 in
 one_ask g slots (Unfix s) y l h k to from = unfix_is g s y (to (action.Unfix s) refl)
 one_ask g slots (Latch s m) y l h k to from = latch_is g s m y (to (action.Latch s m) (refl, refl))
 one_ask g slots (Unlatch s) y l h k to from = unlatch_is g s y (to (action.Unlatch s) refl)
+one_ask g slots (Gather s r) y l h k to from = let p = region_page g r l h.1 in
+    gather_is g s r p.0 y l p.1 (to (action.Gather s p.0) (refl, p.1))
+one_ask g slots (Scatter s) y l h k to from = scatter_is g s y (to (action.Scatter s) refl)
 one_ask g slots (Choose n) y l h k to from =
     choose_is g n y (λ i lt. to (action.Choose i) lt) (λ i m. from (action.Choose i) m) h.0
 one_ask g slots End y l h k to from = end_is g slots y l k from

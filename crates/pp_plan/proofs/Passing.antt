@@ -5,7 +5,7 @@ use Rattle.pp_plan.specs.Tree.{Step, fix, unfix, latch, unlatch, step, loop, cho
 use Rattle.pp_plan.specs.Tree.{Alternatives, branch_count}
 use Rattle.pp_plan.specs.Rules.{IsBody}
 use Rattle.pp_plan.specs.declared.action.Action.{Action}
-use Rattle.pp_plan.specs.declared.action.Action.TheVariants.{Fix, Unfix, Latch, Unlatch, Choose}
+use Rattle.pp_plan.specs.declared.action.Action.TheVariants.{Fix, Unfix, Latch, Unlatch, Gather, Scatter, Choose}
 use Rattle.pp_plan.specs.Traces.{Does, IsTrace}
 use Rattle.pp_plan.specs.Left.{◌then◌, sequence_drop, branch_at, first_body_of, first_rest_of, Place, body_at, outside}
 use Rattle.pp_plan.specs.Left.{left}
@@ -55,6 +55,8 @@ skips g s (Fix t page) p h = refl
 skips g s (Unfix t) p h = refl
 skips g s (Latch t m) p h = refl
 skips g s (Unlatch t) p h = refl
+skips g s (Gather t page) p h = refl
+skips g s (Scatter t) p h = refl
 skips g (fix s r) (Choose i) p h = absurd h
 skips g (unfix s) (Choose i) p h = absurd h
 skips g (latch s m) (Choose i) p h = absurd h
@@ -65,6 +67,8 @@ can_skip g s (Fix t page) p h lt = lt
 can_skip g s (Unfix t) p h lt = lt
 can_skip g s (Latch t m) p h lt = lt
 can_skip g s (Unlatch t) p h lt = lt
+can_skip g s (Gather t page) p h lt = lt
+can_skip g s (Scatter t) p h lt = lt
 can_skip g (fix s r) (Choose i) p h lt = absurd h
 can_skip g (unfix s) (Choose i) p h lt = absurd h
 can_skip g (latch s m) (Choose i) p h lt = absurd h
@@ -118,6 +122,8 @@ passes_by g slots regions b p (Fix s page) (andthen (choice bs) k) rules path h 
 passes_by g slots regions b p (Unfix s) (andthen (choice bs) k) rules path h n = absurd n
 passes_by g slots regions b p (Latch s m) (andthen (choice bs) k) rules path h n = absurd n
 passes_by g slots regions b p (Unlatch s) (andthen (choice bs) k) rules path h n = absurd n
+passes_by g slots regions b p (Gather s page) (andthen (choice bs) k) rules path h n = absurd n
+passes_by g slots regions b p (Scatter s) (andthen (choice bs) k) rules path h n = absurd n
 
 -- An action that is named goes on from the place.
 pub passes : (g : Geometry) (slots regions : ℕ) (b : Sequence) (p : Place) (a : Action) → IsBody slots regions b

@@ -1,6 +1,6 @@
 -- What a cursor stands for, and what it may ask.
 use Rattle.std.specs.Prelude.{◌≡◌, ◌<◌, ◌≤◌, ℕ, List, [], ◌∷◌, ◌++◌}
-use Rattle.pp_settings.specs.Layout.{Geometry}
+use Rattle.pp_settings.specs.Layout.{Geometry, HasPage}
 use Rattle.pp_plan.specs.Limits.{most_branches}
 use Rattle.pp_plan.specs.Tree.{fix, unfix, latch, unlatch, Statement, step, loop, choice, Sequence, skip, andthen}
 use Rattle.pp_plan.specs.Tree.{branch_count}
@@ -10,7 +10,7 @@ use Rattle.pp_plan.specs.PlanTraces.{PlanAsks}
 use Rattle.pp_plan.specs.Left.{sequence_drop, Place, body_at, left}
 use Rattle.pp_plan.specs.declared.cursor.Entry.{Entry}
 use Rattle.pp_plan.specs.declared.action.Action.{Action}
-use Rattle.pp_plan.specs.declared.action.Action.TheVariants.{Choose}
+use Rattle.pp_plan.specs.declared.action.Action.TheVariants.{Gather, Scatter, Choose}
 use Rattle.pp_plan.specs.declared.action.Ask.{Ask}
 use Rattle.pp_plan.specs.declared.action.Ask.TheVariants as ask
 
@@ -72,12 +72,17 @@ IsAsked plan cursor a = (before : List Action) × (StandsFor plan cursor before 
 -- ---- what is asked
 
 -- The action is one that the ask names: for a step each action that makes this step, so for a fix each fix of the
--- slot with a page of the region; for a choice each branch below their number; for the end none.
+-- slot with a page of the region, and for a gather so; for a scatter the slot's; for a choice each branch below their number;
+-- for the end none.
 abbrev pub NamesAction : Geometry → Ask → Action → Type 0
 NamesAction g (ask.Fix s r) a = Does g (fix s r) a
 NamesAction g (ask.Unfix s) a = Does g (unfix s) a
 NamesAction g (ask.Latch s m) a = Does g (latch s m) a
 NamesAction g (ask.Unlatch s) a = Does g (unlatch s) a
+NamesAction g (ask.Gather s r) (Gather t page) = (s ≡ t) × HasPage g r page
+NamesAction g (ask.Gather s r) _ = ⊥
+NamesAction g (ask.Scatter s) (Scatter t) = s ≡ t
+NamesAction g (ask.Scatter s) _ = ⊥
 NamesAction g (ask.Choose n) (Choose i) = i < n
 NamesAction g (ask.Choose n) _ = ⊥
 NamesAction g ask.End a = ⊥
@@ -88,5 +93,7 @@ IsAskOf slots regions (ask.Fix s r) = (s < slots) × (r < regions)
 IsAskOf slots regions (ask.Unfix s) = s < slots
 IsAskOf slots regions (ask.Latch s m) = s < slots
 IsAskOf slots regions (ask.Unlatch s) = s < slots
+IsAskOf slots regions (ask.Gather s r) = (s < slots) × (r < regions)
+IsAskOf slots regions (ask.Scatter s) = s < slots
 IsAskOf slots regions (ask.Choose n) = (1 ≤ n) × (n ≤ most_branches)
 IsAskOf slots regions ask.End = Unit {0}

@@ -13,6 +13,10 @@ pub enum Action {
     Latch { slot: u8, mode: Mode },
     /// Takes the latch off the slot's page.
     Unlatch { slot: u8 },
+    /// Fixes one more page into the bundle, a slot that pins several pages; it may have the page already.
+    Gather { slot: u8, page: u32 },
+    /// Gives all pages of the bundle back.
+    Scatter { slot: u8 },
     /// Goes on with the branch of this number, from 0.
     Choose { branch: u16 },
 }
@@ -28,6 +32,10 @@ pub enum Ask {
     Latch { slot: u8, mode: Mode },
     /// An unlatch of the slot's page.
     Unlatch { slot: u8 },
+    /// A fix of any page of the region into the bundle.
+    Gather { slot: u8, region: u8 },
+    /// An unfix of the whole bundle.
+    Scatter { slot: u8 },
     /// A choice among so many branches.
     Choose { branches: u16 },
     /// Nothing: the plan is at its end.

@@ -229,7 +229,9 @@ impl Cursor {
             Action::Fix { .. }
             | Action::Unfix { .. }
             | Action::Latch { .. }
-            | Action::Unlatch { .. } => self.skip(),
+            | Action::Unlatch { .. }
+            | Action::Gather { .. }
+            | Action::Scatter { .. } => self.skip(),
         }
     }
 
@@ -342,6 +344,14 @@ fn is_named(plan: &Plan, ask: Ask, action: Action) -> bool
         },
         Ask::Unlatch { slot } => match action {
             Action::Unlatch { slot: of } => slot == of,
+            _ => false,
+        },
+        Ask::Gather { slot, region } => match action {
+            Action::Gather { slot: into, page } => slot == into && has_page(plan, region, page),
+            _ => false,
+        },
+        Ask::Scatter { slot } => match action {
+            Action::Scatter { slot: of } => slot == of,
             _ => false,
         },
         Ask::Choose { branches } => match action {

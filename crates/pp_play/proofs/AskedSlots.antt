@@ -21,8 +21,8 @@ use Rattle.pp_model.specs.Holders.{holdings}
 use Rattle.pp_model.specs.Moves.{asked_by, seat_of}
 use Rattle.pp_model.specs.Reached.{IsReached}
 use Rattle.pp_model.proofs.Changes.{IsAt, IsAsked}
-use Rattle.pp_model.proofs.HoldingSteps.{Holds, seat_is, fix_finds, writing_finds, reading_finds, unfix_finds, latch_finds}
-use Rattle.pp_model.proofs.HoldingSteps.{unlatch_finds}
+use Rattle.pp_model.proofs.HoldingSteps.{Holds, seat_is, unfix_finds, latch_finds, unlatch_finds}
+use Rattle.pp_core.proofs.PlainSlots.{fix_finds, writing_finds, reading_finds}
 use Rattle.pp_core.specs.Queries.{ask_in, ask_by, ask_of, held_by, held_of, errand_in, errand_by, errand_of}
 use Rattle.pp_vault.specs.Parts.{Parts}
 use Rattle.pp_vault.specs.StandsFor.{StandsFor}
@@ -40,6 +40,8 @@ module _ (p : Terms) (is : IsPlan p) (done : List Action) (slot region : ℕ)
   of_action (action.Unfix t) n = absurd n
   of_action (action.Latch t m) n = absurd n
   of_action (action.Unlatch t) n = absurd n
+  of_action (action.Gather t page) n = absurd n
+  of_action (action.Scatter t) n = absurd n
   of_action (action.Choose i) n = absurd n
 
   of_rest : (rest : List Action) → IsTrace p.layout p.body (done ++ rest)

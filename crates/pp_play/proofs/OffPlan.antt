@@ -53,6 +53,8 @@ no_unfix (ask.Fix slot region) isnt = refl
 no_unfix (ask.Unfix slot) isnt = absurd (isnt slot refl)
 no_unfix (ask.Latch slot m) isnt = refl
 no_unfix (ask.Unlatch slot) isnt = refl
+no_unfix (ask.Gather of region) isnt = refl
+no_unfix (ask.Scatter of) isnt = refl
 no_unfix (ask.Choose count) isnt = refl
 no_unfix ask.End isnt = refl
 
@@ -61,6 +63,8 @@ no_latch (ask.Fix slot region) isnt = refl
 no_latch (ask.Unfix slot) isnt = refl
 no_latch (ask.Latch slot m) isnt = absurd (isnt slot m refl)
 no_latch (ask.Unlatch slot) isnt = refl
+no_latch (ask.Gather of region) isnt = refl
+no_latch (ask.Scatter of) isnt = refl
 no_latch (ask.Choose count) isnt = refl
 no_latch ask.End isnt = refl
 
@@ -69,6 +73,8 @@ no_unlatch (ask.Fix slot region) isnt = refl
 no_unlatch (ask.Unfix slot) isnt = refl
 no_unlatch (ask.Latch slot m) isnt = refl
 no_unlatch (ask.Unlatch slot) isnt = absurd (isnt slot refl)
+no_unlatch (ask.Gather of region) isnt = refl
+no_unlatch (ask.Scatter of) isnt = refl
 no_unlatch (ask.Choose count) isnt = refl
 no_unlatch ask.End isnt = refl
 

@@ -6,6 +6,7 @@ use Rattle.std.proofs.lemmas.Bool.{false≢true}
 use Rattle.pp_plan.specs.declared.mode.Mode.{Mode}
 use Rattle.pp_plan.specs.declared.action.Ask.{Ask}
 use Rattle.pp_plan.specs.declared.action.Ask.TheVariants as ask
+use Rattle.pp_plan.proofs.NoBundle.{no_scatter}
 use Rattle.pp_cert.specs.declared.note.Held.{Held}
 use Rattle.pp_cert.specs.Held.{Holding, holding_at}
 use Rattle.pp_model.specs.declared.moves.Move.TheVariants as move
@@ -131,19 +132,23 @@ is_unlatch (ask.Unlatch slot) = true
 is_unlatch _ = false
 
 module _ (s : State) (w : ℕ) where
-  no_unfix : (r : Running) (a : Ask) → is_unfix a ≡ false → unfix_asked s w r a ≡ off_plan s NotAsked
-  no_unfix r (ask.Fix slot region) e = refl
-  no_unfix r (ask.Unfix slot) e = absurd (false≢true (sym e))
-  no_unfix r (ask.Latch slot m) e = refl
-  no_unfix r (ask.Unlatch slot) e = refl
-  no_unfix r (ask.Choose count) e = refl
-  no_unfix r ask.End e = refl
+  no_unfix : (r : Running) (a : Ask) → asked_by r ≡ a → is_unfix a ≡ false → unfix_asked s w r a ≡ off_plan s NotAsked
+  no_unfix r (ask.Fix slot region) asks e = refl
+  no_unfix r (ask.Unfix slot) asks e = absurd (false≢true (sym e))
+  no_unfix r (ask.Latch slot m) asks e = refl
+  no_unfix r (ask.Unlatch slot) asks e = refl
+  no_unfix r (ask.Gather of region) asks e = refl
+  no_unfix r (ask.Scatter of) asks e = absurd (no_scatter r.accepted.plan r.done of asks)
+  no_unfix r (ask.Choose count) asks e = refl
+  no_unfix r ask.End asks e = refl
 
   no_latch : (r : Running) (a : Ask) → is_latch a ≡ false → latch_asked s w r a ≡ off_plan s NotAsked
   no_latch r (ask.Fix slot region) e = refl
   no_latch r (ask.Unfix slot) e = refl
   no_latch r (ask.Latch slot m) e = absurd (false≢true (sym e))
   no_latch r (ask.Unlatch slot) e = refl
+  no_latch r (ask.Gather of region) e = refl
+  no_latch r (ask.Scatter of) e = refl
   no_latch r (ask.Choose count) e = refl
   no_latch r ask.End e = refl
 
@@ -152,6 +157,8 @@ module _ (s : State) (w : ℕ) where
   no_unlatch r (ask.Unfix slot) e = refl
   no_unlatch r (ask.Latch slot m) e = refl
   no_unlatch r (ask.Unlatch slot) e = absurd (false≢true (sym e))
+  no_unlatch r (ask.Gather of region) e = refl
+  no_unlatch r (ask.Scatter of) e = refl
   no_unlatch r (ask.Choose count) e = refl
   no_unlatch r ask.End e = refl
 
@@ -162,7 +169,8 @@ module _ (s : State) (w : ℕ) where
     pub unfix_unasked : is_unfix a ≡ false → reply_of s (move.Unfix w) ≡ reply.OffPlan NotAsked
     unfix_unasked e =
         ap (λ o. o.reply)
-        (at.does (λ r. unfix_asked s w r (asked_by r)) ∙ ap (unfix_asked s w at.run) at.asks ∙ no_unfix at.run a e)
+        (at.does (λ r. unfix_asked s w r (asked_by r)) ∙ ap (unfix_asked s w at.run) at.asks
+        ∙ no_unfix at.run a at.asks e)
 
     pub latch_unasked : is_latch a ≡ false → reply_of s (move.Latch w) ≡ reply.OffPlan NotAsked
     latch_unasked e =

@@ -170,12 +170,14 @@ is_suited a None = false
 is_suited a (Some g) = suits a g
 
 -- Whether a worker with these guards can ask what its plan asks: a fix finds its region, and the place of its slot free;
--- a choice has a branch; and any other slot has the guard that is wanted.
+-- a choice has a branch; and any other slot has the guard that is wanted. (No plan asks a bundle.)
 abbrev pub can_step : Geometry → List (Option Guard) → Ask → Bool
 can_step layout places (ask.Fix slot region) = is_some (slice_get layout.extents region) && is_free places slot
 can_step layout places (ask.Unfix slot) = is_suited (ask.Unfix slot) (placed places slot)
 can_step layout places (ask.Latch slot m) = is_suited (ask.Latch slot m) (placed places slot)
 can_step layout places (ask.Unlatch slot) = is_suited (ask.Unlatch slot) (placed places slot)
+can_step layout places (ask.Gather slot region) = false
+can_step layout places (ask.Scatter slot) = false
 can_step layout places (ask.Choose count) = nat_lt 0 count
 can_step layout places ask.End = true
 

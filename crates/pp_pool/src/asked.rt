@@ -92,6 +92,7 @@ fn in_plan<W: Work>(
         Ask::Unfix { slot } => with_slot(session, guards, slot),
         Ask::Latch { slot, .. } => with_slot(session, guards, slot),
         Ask::Unlatch { slot } => with_slot(session, guards, slot),
+        Ask::Gather { .. } | Ask::Scatter { .. } => Err(session),
     }
 }
 

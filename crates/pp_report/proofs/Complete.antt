@@ -125,7 +125,7 @@ leaves s t (change.brings w r slot page v at e) x told = sits s t x w _ (ap (λ 
 leaves s t (change.forgets w r slot page at e) x told = sits s t x w _ (ap (λ z. z.taken) e) (ap (λ z. z.seats) e)
 leaves s t (change.loads w r slot page stamp at known e) x told =
     sits s t x w _ (ap (λ z. z.taken) e) (ap (λ z. z.seats) e)
-leaves s t (change.unfixes w r slot asked e) x told = sits s t x w _ (ap (λ z. z.taken) e) (ap (λ z. z.seats) e)
+leaves s t (change.unfixes w r slot a back asked e) x told = sits s t x w _ (ap (λ z. z.taken) e) (ap (λ z. z.seats) e)
 leaves s t (change.latches w r slot m asked goes e) x told =
     sits s t x w _ (ap (λ z. z.taken) e) (ap (λ z. z.seats) e)
 leaves s t (change.unlatches w r slot asked e) x told =

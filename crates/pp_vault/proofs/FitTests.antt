@@ -58,6 +58,8 @@ unfix_asked slot (Some (ask.Fix of region)) e = absurd (false≢true e)
 unfix_asked slot (Some (ask.Unfix of)) e = ap (λ n. Some (ask.Unfix n)) (sym (nat_is slot of e))
 unfix_asked slot (Some (ask.Latch of m)) e = absurd (false≢true e)
 unfix_asked slot (Some (ask.Unlatch of)) e = absurd (false≢true e)
+unfix_asked slot (Some (ask.Gather of region)) e = absurd (false≢true e)
+unfix_asked slot (Some (ask.Scatter of)) e = absurd (false≢true e)
 unfix_asked slot (Some (ask.Choose count)) e = absurd (false≢true e)
 unfix_asked slot (Some ask.End) e = absurd (false≢true e)
 
@@ -69,6 +71,8 @@ latch_asked slot m (Some (ask.Latch of n)) e =
     let both = both_hold (slot == of) (is_same_mode m n) e in
     λ i. Some (ask.Latch (sym (nat_is slot of both.0) i) (sym (mode_is m n both.1) i))
 latch_asked slot m (Some (ask.Unlatch of)) e = absurd (false≢true e)
+latch_asked slot m (Some (ask.Gather of region)) e = absurd (false≢true e)
+latch_asked slot m (Some (ask.Scatter of)) e = absurd (false≢true e)
 latch_asked slot m (Some (ask.Choose count)) e = absurd (false≢true e)
 latch_asked slot m (Some ask.End) e = absurd (false≢true e)
 
@@ -78,6 +82,8 @@ unlatch_asked slot (Some (ask.Fix of region)) e = absurd (false≢true e)
 unlatch_asked slot (Some (ask.Unfix of)) e = absurd (false≢true e)
 unlatch_asked slot (Some (ask.Latch of m)) e = absurd (false≢true e)
 unlatch_asked slot (Some (ask.Unlatch of)) e = ap (λ n. Some (ask.Unlatch n)) (sym (nat_is slot of e))
+unlatch_asked slot (Some (ask.Gather of region)) e = absurd (false≢true e)
+unlatch_asked slot (Some (ask.Scatter of)) e = absurd (false≢true e)
 unlatch_asked slot (Some (ask.Choose count)) e = absurd (false≢true e)
 unlatch_asked slot (Some ask.End) e = absurd (false≢true e)
 

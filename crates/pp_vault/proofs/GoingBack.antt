@@ -12,7 +12,7 @@ use Rattle.pp_model.specs.Moves.{seat_of, next_of}
 use Rattle.pp_model.specs.Reached.{IsReached}
 use Rattle.pp_model.specs.Ready.{Standing, ready_at, is_away, Enters, ImageComes}
 use Rattle.pp_model.specs.WorkerParts.{worker_of}
-use Rattle.pp_model.proofs.FrameLaws.{held_are_known}
+use Rattle.pp_model.proofs.FrameLaws.{found_is_known}
 use Rattle.pp_model.proofs.ReadyLaws.{exclusive_are_away}
 use Rattle.pp_core.specs.StandsFor as core
 use Rattle.pp_core.specs.Queries.{held_by, held_of}
@@ -88,7 +88,7 @@ module _ (s : State) (reached : IsReached s) (w slot page : ℕ) (held : held_of
   writer_known =
       subst (λ p. known_mark s p ≡ Some (mark_at s p)) has.page_is
       (known_at (known_mark s has.holding.page)
-      (held_are_known s reached w has.by slot has.holding has.seat has.found))
+      (found_is_known s reached w has.by slot has.holding has.seat has.found))
 
 -- ---- the step
 

@@ -28,6 +28,8 @@ ask_to (ask.Unfix slot) = Some (None, (slot, None))
 ask_to (ask.Latch slot mode.S) = Some (Some false, (slot, Some 0))
 ask_to (ask.Latch slot mode.X) = Some (Some false, (slot, Some 1))
 ask_to (ask.Unlatch slot) = Some (Some false, (slot, None))
+ask_to (ask.Gather slot region) = Some (Some true, (slot, Some (suc region)))
+ask_to (ask.Scatter slot) = Some (Some true, (slot, Some 0))
 ask_to (ask.Choose branches) = Some (Some true, (branches, None))
 ask_to ask.End = None
 
@@ -37,7 +39,9 @@ action_from None slot None = ask.Unfix slot
 action_from (Some false) slot (Some zero) = ask.Latch slot mode.S
 action_from (Some false) slot (Some (suc n)) = ask.Latch slot mode.X
 action_from (Some false) slot None = ask.Unlatch slot
-action_from (Some true) branches rest = ask.Choose branches
+action_from (Some true) slot (Some zero) = ask.Scatter slot
+action_from (Some true) slot (Some (suc region)) = ask.Gather slot region
+action_from (Some true) branches None = ask.Choose branches
 
 abbrev ask_from : AskParts → Ask
 ask_from None = ask.End
@@ -49,6 +53,8 @@ ask_back (ask.Unfix slot) = refl
 ask_back (ask.Latch slot mode.S) = refl
 ask_back (ask.Latch slot mode.X) = refl
 ask_back (ask.Unlatch slot) = refl
+ask_back (ask.Gather slot region) = refl
+ask_back (ask.Scatter slot) = refl
 ask_back (ask.Choose branches) = refl
 ask_back ask.End = refl
 

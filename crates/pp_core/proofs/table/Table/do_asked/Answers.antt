@@ -6,7 +6,7 @@ use Rattle.pp_model.specs.declared.moves.Move.TheVariants as move
 use Rattle.pp_core.specs.Draining.{host_of, DoesAsked}
 use Rattle.pp_core.specs.Parts.{parts_of}
 use Rattle.pp_core.specs.StandsFor.{Asks}
-use Rattle.pp_core.proofs.DrainTies.{asked_action, asked_decided, some_region, page_asked, some_branch}
+use Rattle.pp_core.proofs.DrainTies.{asked_action, asked_decided, some_region, page_asked, some_branch, none_bundled}
 use Rattle.pp_core.proofs.table.Table.do_asked.Goals as goal
 
 pub unreachable-requires : goal.unreachable-requires
@@ -51,3 +51,7 @@ returns-in-Some-clause-decided g c =
     asked_decided host f w c.args.ask c.args.decide.now m c.page.new.self c.requires.asks
     (subst (λ a. DoesAsked host f.layout w a c.args.decide.now m c.page.new.self) (sym c.in-Fix.is)
     (c.in-Some.extent, c.page.result, there, c.page.ensures.picked, refl))
+
+pub unreachable-requires-in-Gather : goal.unreachable-requires-in-Gather
+unreachable-requires-in-Gather g c =
+    none_bundled (parts_of c.args.self.now) c.args.worker c.args.ask c.requires.kept c.requires.asks c.in-Gather.is

@@ -1,4 +1,4 @@
-use Rattle.std.proofs.Common.{◌≡◌, ◌∙◌, true, false, subst, sym, rules}
+use Rattle.std.proofs.Common.{◌≡◌, ◌∙◌, true, false, subst, sym, refl, rules}
 use Rattle.pp_plan.specs.declared.action.Action.TheVariants as action
 use Rattle.pp_plan.specs.Asked.{region_has}
 use Rattle.pp_frames.specs.Marks.{is_dirty}
@@ -210,3 +210,10 @@ returns-in-AllBusy-clause-moves c =
     subst (λ (z : Parts). Moves f (move.Fix w page) (NotNow FlushHolds) z)
     (sym (parts ∙ step.lists_stay f w page slot region asks has free a is c.in-AllBusy.is))
     (step.held_up f w page slot region asks has free a is c.in-AllBusy.is)
+
+pub returns-in_default : goal.returns-in_default
+returns-in_default c = record {
+  moves = step.fix_unasked (parts_of c.args.self.now) c.args.worker c.args.page c.in-Ok.ask c.in-Ok.ensures.asks
+      c.in_default.not-Fix;
+  refusal = λ is. refl;
+}

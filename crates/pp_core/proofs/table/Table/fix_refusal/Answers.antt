@@ -56,3 +56,9 @@ returns c =
     let free : is_flying f page ≡ false = search rules in
     let room : is_all_busy (request f.lists page (is_busy f)).0 ≡ false = search rules in
     fix_possible f w page c.in-Fix.slot c.in-Fix.region asks has free room
+
+pub returns-in_default : goal.returns-in_default
+returns-in_default c =
+    refused_so (parts_of c.args.self.now) (move.Fix c.args.worker c.args.page) (OffPlan NotAsked) refl
+    (fixes.fix_unasked (parts_of c.args.self.now) c.args.worker c.args.page c.in-Ok.ask c.in-Ok.ensures.asks
+    c.in_default.not-Fix)

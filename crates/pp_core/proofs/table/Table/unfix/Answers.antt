@@ -1,7 +1,7 @@
-use Rattle.std.proofs.Common.{subst}
+use Rattle.std.proofs.Common.{refl, subst}
 use Rattle.pp_core.specs.Parts.{parts_of}
 use Rattle.pp_core.specs.StandsFor.{Asks}
-use Rattle.pp_core.proofs.UsingMoves.{has_seat, can_unfix, unfix_moves}
+use Rattle.pp_core.proofs.UsingMoves.{has_seat, can_unfix, unfix_moves, unfix_unasked}
 use Rattle.pp_core.proofs.table.Table.unfix.Goals as goal
 
 pub page_in-page-requires : goal.page_in-page-requires
@@ -21,3 +21,10 @@ returns-clause-moves c =
     let asks = subst (Asks f c.args.worker) c.in-Unfix.is c.in-Ok.ensures.asks in
     unfix_moves f (parts_of c.give_back.new.self) c.args.worker c.in-Unfix.slot c.page_in-page.result asks
     c.page_in-page.ensures c.give_back.ensures
+
+pub returns-in_default : goal.returns-in_default
+returns-in_default c = record {
+  moves = unfix_unasked (parts_of c.args.self.now) c.args.worker c.in-Ok.ask c.in-Ok.ensures.asks
+      c.in_default.not-Unfix;
+  refusal = λ is. refl;
+}
