@@ -1,4 +1,4 @@
-//! The note after a step.
+//! What is held after a step, from what is held before it.
 
 ghost use Rattle.std.specs.Prelude.{◌≡◌, IfOk, nat_lt, position};
 ghost use Rattle.pp_cert.specs.Notes.{entry_slot, is_slot, noted_as, without_page};
@@ -21,13 +21,9 @@ fn position_after(note: &[Entry], entry: Entry) -> Option<usize>
     note.iter().position(|other| entry.slot() < other.slot())
 }
 
-/// The note with one more entry, at its place by rising slot.
+/// What is held with one more entry, at its place by rising slot. `AllocError` where memory runs out.
 #[tactic(auto, using(crate::proofs::Splices::inserts))]
-pub(crate) fn inserted(
-    alloc: Global,
-    before: &[Entry],
-    entry: Entry,
-) -> Result<Vec<Entry>, AllocError>
+pub fn inserted(alloc: Global, before: &[Entry], entry: Entry) -> Result<Vec<Entry>, AllocError>
     ensures { IfOk result (λ after. after.items ≡ slot_insert entry_slot entry before.now) }
 {
     let mut after = Vec::from_slice(alloc, before)?;
@@ -38,8 +34,8 @@ pub(crate) fn inserted(
     Ok(after)
 }
 
-/// The note without the slot's entry.
-pub(crate) fn removed(alloc: Global, before: &[Entry], slot: u8) -> Result<Vec<Entry>, AllocError>
+/// What is held without the slot's entry. `AllocError` where memory runs out.
+pub fn removed(alloc: Global, before: &[Entry], slot: u8) -> Result<Vec<Entry>, AllocError>
     ensures { IfOk result (λ after. after.items ≡ without_page slot before.now) }
 {
     let mut after = Vec::from_slice(alloc, before)?;
@@ -47,9 +43,9 @@ pub(crate) fn removed(alloc: Global, before: &[Entry], slot: u8) -> Result<Vec<E
     Ok(after)
 }
 
-/// The note with the slot's page held so.
+/// What is held with the slot's page held so, and the same where the slot has none. `AllocError` where memory runs out.
 #[tactic(auto, using(crate::proofs::Splices::updates))]
-pub(crate) fn held_as(
+pub fn held_as(
     alloc: Global,
     before: &[Entry],
     held: Held,

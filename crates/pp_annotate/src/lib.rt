@@ -6,5 +6,6 @@ mod error;
 mod maker;
 mod writing;
 
+pub use entries::{held_as, inserted, removed};
 pub use error::AnnotateError;
 pub use maker::annotate;

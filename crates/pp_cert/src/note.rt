@@ -16,6 +16,21 @@ pub enum Held {
     X,
 }
 
+impl Held {
+    ghost use Rattle.pp_cert.specs.Words.{held_text};
+
+    /// How a text writes it: `-`, `S` or `X`.
+    pub fn text(self) -> &'static str
+        ensures { result.now ≡ held_text self }
+    {
+        match self {
+            Held::Free => "-",
+            Held::S => "S",
+            Held::X => "X",
+        }
+    }
+}
+
 /// How a page is held that is latched in the mode.
 impl From<Mode> for Held {
     ghost use Rattle.pp_cert.specs.Held.{held_in};

@@ -7,26 +7,14 @@ ghost use Rattle.serde_json.specs.Read.{read};
 ghost use Rattle.serde_json.specs.Written.{compact_text};
 ghost use Rattle.pp_plan.specs.Terms.{IsPlan};
 ghost use Rattle.pp_cert.specs.Claims.{claims_of, HasRegion, IsNote, AreClaims};
-ghost use Rattle.pp_cert.specs.Words.{held_text};
 ghost use Rattle.pp_cert.specs.Tree.{entry_tree, note_tree, certificate_members};
 
 use crate::certificate::Certificate;
-use crate::note::{Entry, Held, Note};
+use crate::note::{Entry, Note};
 use pp_plan::Plan;
 use pp_settings::Settings;
 use serde_json::{Map, Value, json};
 use std::alloc::{AllocError, Global};
-
-/// How a page is held, as a text writes it.
-fn held_text(held: Held) -> &'static str
-    ensures { result.now ≡ held_text held }
-{
-    match held {
-        Held::Free => "-",
-        Held::S => "S",
-        Held::X => "X",
-    }
-}
 
 /// The value at a slot's name.
 fn entry_value(alloc: Global, settings: &Settings, entry: Entry) -> Result<Value, AllocError>
@@ -34,8 +22,7 @@ fn entry_value(alloc: Global, settings: &Settings, entry: Entry) -> Result<Value
     ensures { IfOk result (λ v. view v ≡ entry_tree settings.now entry) }
 {
     match entry {
-        Entry::Slot { region, held, .. } =>
-            json!(in alloc; [settings.name(region), held_text(held)]),
+        Entry::Slot { region, held, .. } => json!(in alloc; [settings.name(region), held.text()]),
         Entry::Bundle { bound, .. } => json!(in alloc; bound),
     }
 }

@@ -1,3 +1,4 @@
 mod Formatting
 mod Ran
 mod Stopping
+mod Written

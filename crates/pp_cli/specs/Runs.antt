@@ -5,6 +5,7 @@ use Rattle.std.specs.List.{Contains}
 use Rattle.pp_judge.specs.declared.device.DeviceSize.{DeviceSize}
 use Rattle.pp_judge.specs.declared.error.JudgeError.{JudgeError}
 use Rattle.pp_judge.specs.Judgement.{device_size_in, workload_in}
+use Rattle.pp_explain.specs.Paragraphs.{IsAbout}
 use Rattle.pp_runner.specs.Runs.{MayRun}
 use Rattle.pp_judge.specs.Answers.{Answer, MaySimulate, audit_answer, certification_answer, judgement_answer}
 use Rattle.pp_judge.specs.Answers.{refused, shown, misused, status_of}
@@ -56,6 +57,21 @@ ComesOf (Asked.run journal settings device seed plans) answer = IsStopped (setti
 ComesOf (Asked.audit settings journal plans) answer = IsStopped (settings ∷ journal ∷ plans) answer
     ⊎ ((s j : List ℕ) × (ps : List (List ℕ)) × (length ps ≡ length plans) × (answer ≡ audit_answer s j ps))
 
+-- the files that a command reads texts from: the settings, then the certificate, the script or the journal, then the plans
+abbrev pub files_of : Asked → List Text
+files_of (Asked.check settings plan certificate) = settings ∷ certificate ∷ plan ∷ []
+files_of (Asked.annotate settings plan) = settings ∷ plan ∷ []
+files_of (Asked.simulate settings script plans) = settings ∷ script ∷ plans
+files_of (Asked.format settings device) = settings ∷ []
+files_of (Asked.run journal settings device seed plans) = settings ∷ plans
+files_of (Asked.audit settings journal plans) = settings ∷ journal ∷ plans
+
+-- what may explain the refusal of what words ask for: nothing, or a paragraph about one of its files
+abbrev pub Explains : Option Asked → (why : Option (List ℕ)) → Type 0
+Explains _ None = ⊤
+Explains (Some command) (Some text) = IsAbout (files_of command) text
+Explains None (Some text) = ⊥
+
 -- what words may come to that ask for no command: the help or the version where they ask for that, a bad command line
 -- where there is a mistake in them; the text ends with a line feed
 abbrev pub ComesOfNothing : List Text → Answer → Type 0
@@ -73,10 +89,10 @@ ComesOfAsked None words answer = ComesOfNothing words answer
 abbrev pub ComesOfWords : List Text → Answer → Type 0
 ComesOfWords words answer = ComesOfAsked (asked words) words answer
 
--- what the program does of these words, its name first: the answer that they come to is told, and the status is that
--- of what is told in the end
-abbrev pub IsRun : {O E : Type 0} → (O → Option (List ℕ)) → List Text → ℕ → (out out-after : O) → (err err-after : E)
-    → Type 0
-IsRun bytes_of words status out out-after err err-after =
-    (answer told : Answer) × ComesOfWords words answer × IsTold bytes_of answer told out out-after err err-after
-    × (status ≡ status_of told)
+-- what the program does of these words, its name first: the answer that they come to is told, with what explains it, and
+-- the status is that of what is told in the end
+abbrev pub IsRun : {O E : Type 0} → (O → Option (List ℕ)) → (E → Option (List ℕ)) → List Text → ℕ
+    → (out out-after : O) → (err err-after : E) → Type 0
+IsRun bytes_of errors_of words status out out-after err err-after =
+    (answer told : Answer) × (why : Option (List ℕ)) × ComesOfWords words answer × Explains (asked words) why
+    × IsTold bytes_of errors_of why answer told out out-after err err-after × (status ≡ status_of told)

@@ -1,17 +1,20 @@
 //! Reading and writing the files that a job names, and what the job comes to.
 
-ghost use Rattle.std.specs.Prelude.{◌≡◌, ◌≤◌, ◌∷◌, [], IfOk, IfErr, MatchResult, length, replicate, vec_len};
+ghost use Rattle.std.specs.Prelude.{◌≡◌, ◌≤◌, ◌∷◌, [], IfOk, IfErr, IfSome, None, MatchResult, length, replicate, vec_len};
 ghost use Rattle.std.specs.Io.KnownBytes.{Appends};
+ghost use Rattle.pp_explain.specs.Paragraphs.{IsAbout};
 ghost use Rattle.pp_format.specs.DeviceFile.{blank_file};
 ghost use Rattle.pp_judge.specs.Answers.{formatted, seen};
 ghost use Rattle.pp_words.specs.CommandLine.{asked_annotate, asked_audit, asked_by, asked_check, asked_format};
 ghost use Rattle.pp_words.specs.CommandLine.{asked_simulate, texts};
-ghost use Rattle.pp_cli.specs.Runs.{ComesOf, ComesOfWriting, IsStopped, stopped_by};
+ghost use Rattle.pp_cli.specs.Runs.{ComesOf, ComesOfWriting, IsStopped, files_of, stopped_by};
 
 use crate::bar::Bar;
+use crate::explaining::{Texts, explained, explained_alone, source};
 use crate::fault::fault;
 use crate::running::run;
 use pp_device::image::HEAD;
+use pp_explain::Sources;
 use pp_format::format_onto;
 use pp_judge::{
     AnnotateFiles, AuditFiles, CheckFiles, Contents, DeviceSize, Outcome, SimulateFiles,
@@ -37,21 +40,23 @@ pub enum Unread<'a> {
 }
 
 /// What the job comes to. All texts that it needs are read, in the order of the words, before any is refused; the device
-/// of a run is opened after that.
+/// of a run is opened after that. Where they are refused, the note explains that.
 pub fn perform<
     'a,
     R: Files<File = File> + AllocGlobal + Threads + Wait + Clock + Sync + Copy + Send + Drop,
     P: Write + Send,
->(rt: &R, job: Job<'a>, bar: &mut Bar<P>) -> Outcome<'a>
-    ensures { ComesOf (asked_by job.entry) (seen result) }
+>(rt: &R, job: Job<'a>, bar: &mut Bar<P>, note: &mut Option<Vec<u8>>) -> Outcome<'a>
+    requires { note.old ≡ None }
+    ensures comes { ComesOf (asked_by job.entry) (seen result) }
+    ensures explained { IfSome note.new (λ text. IsAbout (files_of (asked_by job.entry)) text.items) }
 {
     let ended = match job {
-        Job::Check(paths) => check(rt, paths),
-        Job::Annotate(paths) => annotate(rt, paths),
-        Job::Simulate(paths) => simulate(rt, paths),
-        Job::Format(paths) => format(rt, paths, bar),
-        Job::Run(paths) => run(rt, paths, bar.terminal()),
-        Job::Audit(paths) => audit(rt, paths),
+        Job::Check(paths) => check(rt, paths, note),
+        Job::Annotate(paths) => annotate(rt, paths, note),
+        Job::Simulate(paths) => simulate(rt, paths, note),
+        Job::Format(paths) => format(rt, paths, bar, note),
+        Job::Run(paths) => run(rt, paths, bar.terminal(), note),
+        Job::Audit(paths) => audit(rt, paths, note),
     };
     match ended {
         Ok(outcome) => outcome,
@@ -64,8 +69,11 @@ pub fn perform<
 fn check<'a, R: Files + AllocGlobal>(
     rt: &R,
     paths: CheckPaths<'a>,
+    note: &mut Option<Vec<u8>>,
 ) -> Result<Outcome<'a>, Unread<'a>>
-    ensures { MatchResult result (λ outcome. ComesOf (asked_check paths.entry) (seen outcome))
+    requires { note.old ≡ None }
+    ensures explained { IfSome note.new (λ text. IsAbout (files_of (asked_check paths.entry)) text.items) }
+    ensures comes { MatchResult result (λ outcome. ComesOf (asked_check paths.entry) (seen outcome))
         (λ why. ComesOf (asked_check paths.entry) (stopped_by why)) }
 {
     let settings = contents(rt, paths.settings)?;
@@ -76,15 +84,25 @@ fn check<'a, R: Files + AllocGlobal>(
         plan: plan.as_slice(),
         certificate: certificate.as_slice(),
     };
-    Ok(outcome_of(rt.alloc(), Contents::Check(files)))
+    let outcome = outcome_of(rt.alloc(), Contents::Check(files));
+    let sources = Sources {
+        settings: source(paths.settings, &settings),
+        other: Some(source(paths.certificate, &certificate)),
+        plans: &[source(paths.plan, &plan)],
+    };
+    *note = explained(rt.alloc(), sources, &outcome);
+    Ok(outcome)
 }
 
 /// What the two files of `annotate` come to, where both can be read.
 fn annotate<'a, R: Files + AllocGlobal>(
     rt: &R,
     paths: AnnotatePaths<'a>,
+    note: &mut Option<Vec<u8>>,
 ) -> Result<Outcome<'a>, Unread<'a>>
-    ensures { MatchResult result (λ outcome. ComesOf (asked_annotate paths.entry) (seen outcome))
+    requires { note.old ≡ None }
+    ensures explained { IfSome note.new (λ text. IsAbout (files_of (asked_annotate paths.entry)) text.items) }
+    ensures comes { MatchResult result (λ outcome. ComesOf (asked_annotate paths.entry) (seen outcome))
         (λ why. ComesOf (asked_annotate paths.entry) (stopped_by why)) }
 {
     let settings = contents(rt, paths.settings)?;
@@ -93,15 +111,25 @@ fn annotate<'a, R: Files + AllocGlobal>(
         settings: settings.as_slice(),
         plan: plan.as_slice(),
     };
-    Ok(outcome_of(rt.alloc(), Contents::Annotate(files)))
+    let outcome = outcome_of(rt.alloc(), Contents::Annotate(files));
+    let sources = Sources {
+        settings: source(paths.settings, &settings),
+        other: None,
+        plans: &[source(paths.plan, &plan)],
+    };
+    *note = explained(rt.alloc(), sources, &outcome);
+    Ok(outcome)
 }
 
 /// What the files of `simulate` come to, where all can be read.
 fn simulate<'a, R: Files + AllocGlobal>(
     rt: &R,
     paths: SimulatePaths<'a>,
+    note: &mut Option<Vec<u8>>,
 ) -> Result<Outcome<'a>, Unread<'a>>
-    ensures { MatchResult result (λ outcome. ComesOf (asked_simulate paths.entry) (seen outcome))
+    requires { note.old ≡ None }
+    ensures explained { IfSome note.new (λ text. IsAbout (files_of (asked_simulate paths.entry)) text.items) }
+    ensures comes { MatchResult result (λ outcome. ComesOf (asked_simulate paths.entry) (seen outcome))
         (λ why. ComesOf (asked_simulate paths.entry) (stopped_by why)) }
 {
     let settings = contents(rt, paths.settings)?;
@@ -112,15 +140,26 @@ fn simulate<'a, R: Files + AllocGlobal>(
         script: script.as_slice(),
         plans: plans.as_slice(),
     };
-    Ok(outcome_of(rt.alloc(), Contents::Simulate(files)))
+    let outcome = outcome_of(rt.alloc(), Contents::Simulate(files));
+    let files = Texts {
+        settings: source(paths.settings, &settings),
+        other: Some(source(paths.script, &script)),
+        paths: &paths.plans,
+        plans: &plans,
+    };
+    *note = files.explained(rt.alloc(), &outcome);
+    Ok(outcome)
 }
 
 /// What the files of `audit` come to, where all can be read.
 fn audit<'a, R: Files + AllocGlobal>(
     rt: &R,
     paths: AuditPaths<'a>,
+    note: &mut Option<Vec<u8>>,
 ) -> Result<Outcome<'a>, Unread<'a>>
-    ensures { MatchResult result (λ outcome. ComesOf (asked_audit paths.entry) (seen outcome))
+    requires { note.old ≡ None }
+    ensures explained { IfSome note.new (λ text. IsAbout (files_of (asked_audit paths.entry)) text.items) }
+    ensures comes { MatchResult result (λ outcome. ComesOf (asked_audit paths.entry) (seen outcome))
         (λ why. ComesOf (asked_audit paths.entry) (stopped_by why)) }
 {
     let settings = contents(rt, paths.settings)?;
@@ -131,7 +170,15 @@ fn audit<'a, R: Files + AllocGlobal>(
         journal: journal.as_slice(),
         plans: plans.as_slice(),
     };
-    Ok(outcome_of(rt.alloc(), Contents::Audit(files)))
+    let outcome = outcome_of(rt.alloc(), Contents::Audit(files));
+    let files = Texts {
+        settings: source(paths.settings, &settings),
+        other: Some(source(paths.journal, &journal)),
+        paths: &paths.plans,
+        plans: &plans,
+    };
+    *note = files.explained(rt.alloc(), &outcome);
+    Ok(outcome)
 }
 
 /// What the settings of `format` come to, where they can be read: their refusal, or what writing the device comes to.
@@ -139,14 +186,22 @@ fn format<'a, R: Files + AllocGlobal, P: Write>(
     rt: &R,
     paths: FormatPaths<'a>,
     bar: &mut Bar<P>,
+    note: &mut Option<Vec<u8>>,
 ) -> Result<Outcome<'a>, Unread<'a>>
-    ensures { MatchResult result (λ outcome. ComesOf (asked_format paths.entry) (seen outcome))
+    requires { note.old ≡ None }
+    ensures explained { IfSome note.new (λ text. IsAbout (files_of (asked_format paths.entry)) text.items) }
+    ensures comes { MatchResult result (λ outcome. ComesOf (asked_format paths.entry) (seen outcome))
         (λ why. ComesOf (asked_format paths.entry) (stopped_by why)) }
 {
     let settings = contents(rt, paths.settings)?;
     match device_size(rt.alloc(), settings.as_slice()) {
         Ok(size) => Ok(format_device(rt, paths.device, size, bar)),
-        Err(refusal) => Ok(Outcome::from(refusal)),
+        Err(refusal) => {
+            let outcome = Outcome::from(refusal);
+            let file = source(paths.settings, &settings);
+            *note = explained_alone(rt.alloc(), file, &outcome);
+            Ok(outcome)
+        }
     }
 }
 

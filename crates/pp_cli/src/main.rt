@@ -3,6 +3,7 @@
 #![tactic(auto)]
 
 mod bar;
+mod explaining;
 mod fault;
 mod files;
 mod program;
@@ -10,6 +11,7 @@ mod running;
 mod telling;
 #[cfg(test)]
 mod tests;
+mod writing;
 
 use program::serve;
 use std::io::IsTerminal;

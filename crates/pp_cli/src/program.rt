@@ -1,11 +1,11 @@
 //! The whole program, over two writers.
 
-ghost use Rattle.std.specs.Prelude.{◌≡◌, ◌≢◌, ◌≤◌, ◌⊎◌, IfErr, IfOk, IsSome, None, false, map};
+ghost use Rattle.std.specs.Prelude.{◌≡◌, ◌≢◌, ◌≤◌, ◌⊎◌, IfErr, IfOk, IsSome, None, false, map, option_map};
 ghost use Rattle.std.specs.IoError.{error_kind};
 ghost use Rattle.pp_judge.specs.Answers.{seen};
 ghost use Rattle.pp_words.specs.CommandLine.{asked};
 ghost use Rattle.pp_words.specs.Faults.{asks_for_help};
-ghost use Rattle.pp_cli.specs.Runs.{ComesOfWords, IsRun};
+ghost use Rattle.pp_cli.specs.Runs.{ComesOfWords, Explains, IsRun};
 
 use crate::bar::Bar;
 use crate::fault::fault;
@@ -25,10 +25,10 @@ use std::time::Clock;
 /// Does what the words ask for, the program's name first, and answers the status. Where there is a terminal, it shows how
 /// far a long job is.
 ///
-/// 0: done. 1: refused; standard output has the one line `refused N NAME` with what it is about. 2: the words are
-/// no command, or can't be read; the fault is on standard error. 3: a file can't be read or written, or standard output
-/// can't be written; standard error names it. Or a run left a plan or a flush undone; standard output has its report
-/// then. 4: out of memory.
+/// 0: done. 1: refused; standard output has the one line `refused N NAME` with what it is about, and standard error
+/// explains it. 2: the words are no command, or can't be read; the fault is on standard error. 3: a file can't be read
+/// or written, or standard output can't be written; standard error names it. Or a run left a plan or a flush undone;
+/// standard output has its report then. 4: out of memory.
 pub fn serve<
     R: Files<File = File> + AllocGlobal + Threads + Wait + Clock + Sync + Copy + Send + Drop,
     S: AsStr,
@@ -46,10 +46,11 @@ pub fn serve<
     ensures mistake { IfOk words.entry (λ words. asked (map S.text words.now) ≡ None
         → asks_for_help (map S.text words.now) ≡ false → (result ≡ 2) ⊎ (result ≡ 4)) }
     // What the words ask for is done on some bytes as the contents of the files, and told: the status is that of what
-    // is told in the end, an output has exactly its text more on standard output and nothing more on standard error,
-    // and a complaint leaves standard output as it was.
+    // is told in the end, an output has exactly its text more on standard output, and a complaint leaves standard output
+    // as it was. Behind a refusal standard error has nothing more, or a paragraph about one of the files that the words
+    // name, as far as it takes that; behind another output it has nothing more.
     ensures run { IfOk words.entry (λ words.
-        IsRun O.contents (map S.text words.now) result out.old out.new err.old err.new) }
+        IsRun O.contents E.contents (map S.text words.now) result out.old out.new err.old err.new) }
     // Words that can't be read are a complaint: a bad command line, or want of memory where reading them failed by
     // that.
     ensures unread { IfErr words.entry (λ _. out.new ≡ out.old) }
@@ -58,7 +59,7 @@ pub fn serve<
 {
     match words {
         Ok(words) => serve_words(rt, words, out, err, &mut Bar::on(terminal)),
-        Err(error) => tell(fault(error, Outcome::Wordless), out, err)
+        Err(error) => tell(fault(error, Outcome::Wordless), None, out, err)
             .outcome
             .status(),
     }
@@ -77,23 +78,26 @@ fn serve_words<
     ensures nothing { asked (map S.text words.now) ≡ None → result ≢ 1 }
     ensures mistake { asked (map S.text words.now) ≡ None → asks_for_help (map S.text words.now) ≡ false
         → (result ≡ 2) ⊎ (result ≡ 4) }
-    ensures run { IsRun O.contents (map S.text words.now) result out.old out.new err.old err.new }
+    ensures run { IsRun O.contents E.contents (map S.text words.now) result out.old out.new err.old err.new }
 {
-    let outcome = outcome_of_words(rt, words, bar);
-    tell(outcome, out, err).outcome.status()
+    let mut note = None;
+    let outcome = outcome_of_words(rt, words, bar, &mut note);
+    tell(outcome, note.as_deref(), out, err).outcome.status()
 }
 
-/// What the words come to, the program's name first, before anything is told.
+/// What the words come to, the program's name first, before anything is told; and what explains it, where it is a refusal.
 fn outcome_of_words<
     'a,
     R: Files<File = File> + AllocGlobal + Threads + Wait + Clock + Sync + Copy + Send + Drop,
     S: AsStr,
     P: Write + Send,
->(rt: &R, words: &'a [S], bar: &mut Bar<P>) -> Outcome<'a>
-    ensures { ComesOfWords (map S.text words.entry.now) (seen result) }
+>(rt: &R, words: &'a [S], bar: &mut Bar<P>, note: &mut Option<Vec<u8>>) -> Outcome<'a>
+    requires { note.old ≡ None }
+    ensures comes { ComesOfWords (map S.text words.entry.now) (seen result) }
+    ensures explained { Explains (asked (map S.text words.entry.now)) (option_map (λ text. text.items) note.new) }
 {
     match job(rt.alloc(), words) {
-        Ok(job) => perform(rt, job, bar),
+        Ok(job) => perform(rt, job, bar, note),
         Err(JobError::Shown(text)) => Outcome::Shown(text),
         Err(JobError::Words(text)) => Outcome::Misused(text),
         Err(JobError::OutOfMemory) => Outcome::OutOfMemory,

@@ -1,16 +1,21 @@
 //! The command `run`: its files, the run, and the file of the journal.
 
-ghost use Rattle.std.specs.Prelude.{◌≡◌, IfErr, MatchResult, option_map};
+ghost use Rattle.std.specs.Prelude.{◌≡◌, IfErr, IfSome, MatchResult, None, length, option_map};
 ghost use Rattle.pp_judge.specs.Answers.{seen};
+ghost use Rattle.pp_explain.specs.Paragraphs.{IsAbout};
 ghost use Rattle.pp_runner.specs.Runs.{IsUnwritten, MayEnd, Tells};
 ghost use Rattle.pp_words.specs.CommandLine.{asked_run};
-ghost use Rattle.pp_cli.specs.Runs.{ComesOf, stopped_by};
+ghost use Rattle.pp_cli.specs.Runs.{ComesOf, files_of, stopped_by};
+ghost use Rattle.pp_cli.specs.Texts.{paths_at};
 
+use crate::explaining::{Texts, source};
 use crate::fault::fault;
 use crate::files::{Unread, contents, contents_of_all};
+use pp_explain::{Refused, Stop};
 use pp_judge::{Outcome, Workload};
 use pp_model::Event;
 use pp_report::{RunRecord, journal_text};
+use pp_run::RunError;
 use pp_runner::{RunnerError, stopped_line, told, write_journal};
 use pp_words::RunPaths;
 use std::fs;
@@ -27,15 +32,32 @@ pub fn run<
     'a,
     R: Files<File = File> + AllocGlobal + Threads + Wait + Clock + Sync + Copy + Send + Drop,
     P: Write + Send,
->(rt: &R, paths: RunPaths<'a>, terminal: Option<&mut P>) -> Result<Outcome<'a>, Unread<'a>>
-    ensures { MatchResult result (λ outcome. ComesOf (asked_run paths.entry) (seen outcome))
+>(
+    rt: &R,
+    paths: RunPaths<'a>,
+    terminal: Option<&mut P>,
+    note: &mut Option<Vec<u8>>,
+) -> Result<Outcome<'a>, Unread<'a>>
+    requires { note.old ≡ None }
+    ensures explained { IfSome note.new (λ text. IsAbout (files_of (asked_run paths.entry)) text.items) }
+    ensures comes { MatchResult result (λ outcome. ComesOf (asked_run paths.entry) (seen outcome))
         (λ why. ComesOf (asked_run paths.entry) (stopped_by why)) }
 {
     let settings = contents(rt, paths.settings)?;
     let plans = contents_of_all(rt, &paths.plans)?;
+    let texts = Texts {
+        settings: source(paths.settings, &settings),
+        other: None,
+        paths: &paths.plans,
+        plans: &plans,
+    };
     match Workload::read(rt.alloc(), settings.as_slice(), plans.as_slice()) {
-        Ok(workload) => Ok(run_workload(rt, workload, &paths, terminal)),
-        Err(refusal) => Ok(Outcome::from(refusal)),
+        Ok(workload) => Ok(run_workload(rt, workload, &paths, texts, terminal, note)),
+        Err(refusal) => {
+            let outcome = Outcome::from(refusal);
+            *note = texts.explained(rt.alloc(), &outcome);
+            Ok(outcome)
+        }
     }
 }
 
@@ -44,18 +66,44 @@ fn run_workload<
     'a,
     R: Files<File = File> + AllocGlobal + Threads + Wait + Clock + Sync + Copy + Send + Drop,
     P: Write + Send,
->(rt: &R, workload: Workload, paths: &RunPaths<'a>, terminal: Option<&mut P>) -> Outcome<'a>
-    ensures { MayEnd paths.now.device.now (option_map (λ text. text.now) paths.now.journal)
+>(
+    rt: &R,
+    workload: Workload,
+    paths: &RunPaths<'a>,
+    texts: Texts<'_>,
+    terminal: Option<&mut P>,
+    note: &mut Option<Vec<u8>>,
+) -> Outcome<'a>
+    requires long { length texts.paths.now ≡ length texts.plans.now }
+    requires note { note.old ≡ None }
+    ensures explained { IfSome note.new (λ text. IsAbout (paths_at texts.entry) text.items) }
+    ensures comes { MayEnd paths.now.device.now (option_map (λ text. text.now) paths.now.journal)
         (workload.settings, workload.plans.items) (seen result) }
 {
     match pp_runner::run(rt, workload, paths.device, paths.seed, terminal) {
         Ok(done) => ended(rt, &done, paths.journal),
         Err(RunnerError::Unopened) => Outcome::Unread(paths.device),
         Err(RunnerError::OutOfMemory) => Outcome::OutOfMemory,
-        Err(RunnerError::Stopped(error)) => match stopped_line(rt.alloc(), error) {
-            Ok(text) => Outcome::Stopped(text),
-            Err(_) => Outcome::OutOfMemory,
-        },
+        Err(RunnerError::Stopped(error)) => {
+            if let Some(refused) = stopped_as(error) {
+                *note = texts.explained_as(rt.alloc(), refused);
+            }
+            match stopped_line(rt.alloc(), error) {
+                Ok(text) => Outcome::Stopped(text),
+                Err(_) => Outcome::OutOfMemory,
+            }
+        }
+    }
+}
+
+/// Why a run stopped, as it is explained.
+fn stopped_as(error: RunError) -> Option<Refused> {
+    match error {
+        RunError::Refused(error) => Some(Refused::Submit(error)),
+        RunError::OutOfMemory => None,
+        RunError::Mismatch(worker) => Some(Refused::Stop(Stop::Mismatch(worker))),
+        RunError::Broken(worker) => Some(Refused::Stop(Stop::Broken(worker))),
+        RunError::NoThread(worker) => Some(Refused::Stop(Stop::NoThread(worker))),
     }
 }
 

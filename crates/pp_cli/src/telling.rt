@@ -1,12 +1,13 @@
 //! Telling an outcome where it belongs, on standard output or standard error.
 
-ghost use Rattle.std.specs.Prelude.{◌≡◌, IfSome, IsTrue, OnOk, false};
+ghost use Rattle.std.specs.Prelude.{◌≡◌, IfSome, IsTrue, OnOk, option_map, true, false};
 ghost use Rattle.std.specs.Io.KnownBytes.{Appends};
 ghost use Rattle.pp_judge.specs.Answers.{is_output_of, seen};
 ghost use Rattle.pp_judge.specs.Lines.{text_of};
-ghost use Rattle.pp_cli.specs.Telling.{IsTold};
+ghost use Rattle.pp_cli.specs.Telling.{IsBehind, IsTold, is_refusal_of};
 
 use crate::fault::fault;
+use crate::writing::put;
 use pp_judge::Outcome;
 use std::fmt::Display;
 use std::io;
@@ -21,25 +22,56 @@ pub struct Told<'a> {
     pub is_whole: bool,
 }
 
-/// Says what the outcome has to say where it belongs. Where standard output doesn't take it, standard error says so.
-pub fn tell<'a, O: Write, E: Write>(outcome: Outcome<'a>, out: &mut O, err: &mut E) -> Told<'a>
-    // An output has exactly its text more on standard output, and nothing more on standard error; a complaint leaves
-    // standard output as it was; only an output gives way to a fault of writing.
-    ensures told { IsTold O.contents (seen outcome.entry) (seen result.outcome) out.old out.new err.old err.new }
+/// Says what the outcome has to say where it belongs, and behind a refusal what explains it on standard error. Where
+/// standard output doesn't take its text, standard error says so, and nothing is explained.
+pub fn tell<'a, O: Write, E: Write>(
+    outcome: Outcome<'a>,
+    note: Option<&[u8]>,
+    out: &mut O,
+    err: &mut E,
+) -> Told<'a>
+    // An output has exactly its text more on standard output, and nothing more on standard error but a front of what
+    // explains a refusal; a complaint leaves standard output as it was; only an output gives way to a fault of writing.
+    ensures told { IsTold O.contents E.contents (option_map (λ text. text.now) note.entry) (seen outcome.entry)
+        (seen result.outcome) out.old out.new err.old err.new }
     // A complaint that is whole has exactly its text more on standard error.
     ensures whole { is_output_of (seen result.outcome) ≡ false → IsTrue result.is_whole
         → Appends (E.contents err.old) (E.contents err.new) (text_of (seen result.outcome)) }
+    // A refusal that is whole has exactly what explains it more on standard error.
+    ensures explained { is_refusal_of (seen result.outcome) ≡ true → IsTrue result.is_whole
+        → IfSome note.entry (λ text. Appends (E.contents err.old) (E.contents err.new) text.now) }
 {
     if !outcome.is_output() {
         return complain(outcome, err);
     }
     match say(out, &outcome) {
-        Ok(()) => Told {
-            outcome,
-            is_whole: true,
-        },
+        Ok(()) => {
+            let is_whole = explain(&outcome, note, err);
+            Told { outcome, is_whole }
+        }
         Err(error) => complain(fault(&error, Outcome::Unwritten("-")), err),
     }
+}
+
+/// Writes what explains a refusal to standard error, and nothing behind another output. Whether that took all of it; what
+/// it doesn't take is lost.
+fn explain<E: Write>(outcome: &Outcome<'_>, note: Option<&[u8]>, err: &mut E) -> bool
+    ensures behind { IsBehind E.contents (is_refusal_of (seen outcome.now)) (option_map (λ text. text.now) note.entry)
+        err.old err.new }
+    ensures whole { IsTrue result → is_refusal_of (seen outcome.now) ≡ true
+        → IfSome note.entry (λ text. Appends (E.contents err.old) (E.contents err.new) text.now) }
+{
+    match note {
+        Some(text) if is_refusal(outcome) => put(err, text),
+        _ => true,
+    }
+}
+
+/// Whether the outcome is the refusal of a file, or of a run.
+fn is_refusal(outcome: &Outcome<'_>) -> bool
+    ensures { result ≡ is_refusal_of (seen outcome.now) }
+{
+    matches!(outcome, Outcome::Refused(_) | Outcome::Stopped(_))
 }
 
 /// Says the outcome on standard error. What that doesn't take is lost.

@@ -1,5 +1,6 @@
 //! What is held at a place of a plan.
 
+use pp_annotate::{held_as, inserted, removed};
 use pp_cert::{Entry, Held};
 use pp_explain_text::{region_name, slot_name};
 use pp_plan::{Plan, Stmt};
@@ -24,64 +25,12 @@ pub(crate) fn after(
                 region: *region,
                 held: Held::Free,
             };
-            with_entry(alloc, before, entry)
+            inserted(alloc, before, entry)
         }
-        Stmt::Unfix { slot } => without(alloc, before, *slot),
-        Stmt::Latch { slot, mode } => held_as(alloc, before, *slot, Held::from(*mode)),
-        Stmt::Unlatch { slot } => held_as(alloc, before, *slot, Held::Free),
+        Stmt::Unfix { slot } => removed(alloc, before, *slot),
+        Stmt::Latch { slot, mode } => held_as(alloc, before, Held::from(*mode), *slot),
+        Stmt::Unlatch { slot } => held_as(alloc, before, Held::Free, *slot),
         Stmt::Loop { .. } | Stmt::Choice { .. } => Vec::from_slice(alloc, before),
-    }
-}
-
-/// The entries with one more, by rising slot.
-fn with_entry(alloc: Global, before: &[Entry], entry: Entry) -> Result<Vec<Entry>, AllocError> {
-    let mut entries = Vec::new(alloc);
-    for other in before {
-        if other.slot() < entry.slot() {
-            entries.push(*other)?;
-        }
-    }
-    entries.push(entry)?;
-    for other in before {
-        if other.slot() > entry.slot() {
-            entries.push(*other)?;
-        }
-    }
-    Ok(entries)
-}
-
-/// The entries without that of the slot.
-fn without(alloc: Global, before: &[Entry], slot: u8) -> Result<Vec<Entry>, AllocError> {
-    let mut entries = Vec::new(alloc);
-    for other in before {
-        if other.slot() != slot {
-            entries.push(*other)?;
-        }
-    }
-    Ok(entries)
-}
-
-/// The entries with the slot's page held so.
-fn held_as(
-    alloc: Global,
-    before: &[Entry],
-    slot: u8,
-    held: Held,
-) -> Result<Vec<Entry>, AllocError> {
-    let mut entries = Vec::new(alloc);
-    for other in before {
-        let is_it = other.is_slot(slot);
-        entries.push(if is_it { other.held_as(held) } else { *other })?;
-    }
-    Ok(entries)
-}
-
-/// How a page is held, as a certificate writes it.
-fn held_text(held: Held) -> &'static str {
-    match held {
-        Held::Free => "-",
-        Held::S => "S",
-        Held::X => "X",
     }
 }
 
@@ -101,7 +50,7 @@ pub(crate) fn note_text(
         match *entry {
             Entry::Slot { region, held, .. } => {
                 let region = region_name(settings, region);
-                let held = held_text(held);
+                let held = held.text();
                 write!(text, "{slot:?}:[{region:?},{held:?}]")?;
             }
             Entry::Bundle { bound, .. } => write!(text, "{slot:?}:{bound}")?,

@@ -25,6 +25,14 @@ impl<'a> AnnotatePaths<'a> {
             × (app_of command ≡ annotate_command)) }
     {
         Command::new(alloc, "annotate")
+            .after_help(
+                "Example: pinpool annotate examples/set1.toml examples/pin.json > pin.cert.json\n\
+                \n\
+                Status: 0 made, 1 refused, 2 a bad command line, 3 a file that can't be read, 4 out of memory.\n\
+                A refusal is one line on standard output; standard error says where and why.\n\
+                Limits: 4,096 statements, 16 deep, of 32 slots; 1,000,000 steps.\n\
+                Read on: docs/formats.md, Plans and Certificates.",
+            )
             .about(
                 "Makes the least certificate of a plan under the settings of a pool, and prints it.",
             )

@@ -39,6 +39,14 @@ impl<'a> AuditPaths<'a> {
             "The plans of the run, in the order in which it took them: JSON texts",
         );
         Command::new(alloc, "audit")
+            .after_help(
+                "Example: pinpool audit examples/set1.toml set1.journal examples/pin.json\n\
+                \n\
+                Status: 0 a true journal, 1 refused, 2 a bad command line, 3 a file that can't be read, 4 out of memory.\n\
+                A refusal is one line on standard output; standard error says where and why.\n\
+                Limits: 256 plans, and 4,000,000 moves by their costs.\n\
+                Read on: docs/formats.md, Journals.",
+            )
             .about(
                 "Says whether a journal is a true one of these plans, to their end, and where it is not.",
             )

@@ -33,6 +33,14 @@ impl<'a> CheckPaths<'a> {
             "The certificate of the plan, what is held at each of its places: a JSON text",
         );
         Command::new(alloc, "check")
+            .after_help(
+                "Example: pinpool check examples/set1.toml examples/pin.json examples/pin.cert.json\n\
+                \n\
+                Status: 0 accepted, 1 refused, 2 a bad command line, 3 a file that can't be read, 4 out of memory.\n\
+                A refusal is one line on standard output; standard error says where and why.\n\
+                Limits: 70,000 notes of 32 entries, 1,000,000 steps, a peak of the frames of the settings.\n\
+                Read on: docs/formats.md, Certificates and Refusals explained.",
+            )
             .about("Checks the certificate of a plan under the settings of a pool.")
             .arg(settings(alloc))?
             .arg(plan(alloc))?

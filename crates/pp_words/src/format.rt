@@ -31,6 +31,14 @@ impl<'a> FormatPaths<'a> {
             "The device, a file of page images: what stands in it is lost",
         );
         Command::new(alloc, "format")
+            .after_help(
+                "Example: pinpool format examples/set1.toml set1.device\n\
+                \n\
+                Status: 0 written, 1 refused, 2 a bad command line, 3 a file that can't be read or written, 4 out of memory.\n\
+                A refusal is one line on standard output; standard error says where and why.\n\
+                Limits: pages below 65,536, of 64 to 65,536 bytes each.\n\
+                Read on: docs/formats.md, Devices.",
+            )
             .about("Writes a device anew, with every page of the settings blank.")
             .arg(settings(alloc))?
             .arg(device)

@@ -57,6 +57,15 @@ impl<'a> RunPaths<'a> {
             "The plans that workers take, in this order: JSON texts",
         );
         let command = Command::new(alloc, "run")
+            .after_help(
+                "Example: pinpool run --journal set1.journal examples/set1.toml set1.device 0 examples/pin.json\n\
+                \n\
+                Status: 0 done, 1 refused, 2 a bad command line, 3 a file that can't be read or written,\n\
+                or a plan that is gone or a flush that failed, 4 out of memory.\n\
+                A refusal is one line on standard output; standard error says where and why.\n\
+                Limits: 32 workers, 256 plans, and 4,000,000 moves by their costs.\n\
+                Read on: docs/formats.md, Runs and Reports.",
+            )
             .about("Runs plans on threads over a device, and prints a report.")
             .arg(journal)?
             .arg(settings(alloc))?

@@ -39,6 +39,14 @@ impl<'a> SimulatePaths<'a> {
             "The plans that workers take, in this order: JSON texts",
         );
         Command::new(alloc, "simulate")
+            .after_help(
+                "Example: pinpool simulate examples/set1.toml examples/no-room.script examples/two.json examples/two.json\n\
+                \n\
+                Status: 0 played, also where cues are refused, 1 refused, 2 a bad command line, 3 a file that can't be read, 4 out of memory.\n\
+                A refusal is one line on standard output; standard error says where and why.\n\
+                Limits: 256 plans, and 4,000,000 moves by their costs.\n\
+                Read on: docs/formats.md, Scripts.",
+            )
             .about(
                 "Plays a script over a pool with these plans, and prints what each cue comes to.",
             )

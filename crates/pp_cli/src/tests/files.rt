@@ -52,65 +52,70 @@ fn folder_of(rt: &HostRuntime, test: &str) -> Result<Folder, Fail> {
 #[test]
 fn files_are_judged(rt: HostRuntime) -> Result<(), Fail> {
     let folder = folder_of(&rt, "files_are_judged")?;
-    let rows: [(&str, &[&str], u8, &str); 9] = [
-        (
+    folder
+        .run(
+            &rt,
             "check",
             &["settings.toml", "plan.json", "plan.cert.json"],
-            0,
-            "accepted peak 1 steps 4 cost 46\n",
-        ),
-        (
+        )?
+        .is(&rt, 0, "accepted peak 1 steps 4 cost 46\n", "");
+    folder
+        .run(
+            &rt,
             "audit",
             &["settings.toml", "plan.journal", "plan.json"],
-            0,
-            "audited 8 lines\n",
-        ),
+        )?
+        .is(&rt, 0, "audited 8 lines\n", "");
+    // The command, its files, the line of its refusal, and the file that this is explained of.
+    let rows: [(&str, &[&str], &str, &str); 7] = [
         // A journal is bytes, and a line that is no text is refused as such.
         (
             "audit",
             &["settings.toml", "no text", "plan.json"],
-            1,
             "refused 91 NotALine at 1\n",
+            "no text",
         ),
         (
             "check",
             &["no text", "plan.json", "plan.cert.json"],
-            1,
             "refused 1 NotToml\n",
+            "no text",
         ),
         (
             "check",
             &["settings.toml", "no text", "plan.cert.json"],
-            1,
             "refused 11 NotJson\n",
+            "no text",
         ),
         (
             "check",
             &["settings.toml", "plan.json", "no text"],
-            1,
             "refused 21 NotJson\n",
+            "no text",
         ),
         (
             "check",
             &["bad.toml", "no text", "no text"],
-            1,
             "refused 4 Range frames\n",
+            "bad.toml",
         ),
         (
             "check",
             &["plan.json", "settings.toml", "no text"],
-            1,
             "refused 1 NotToml\n",
+            "plan.json",
         ),
         (
             "check",
             &["settings.toml", "plan.json", "plan.json"],
-            1,
             "refused 22 WrongField\n",
+            "plan.json",
         ),
     ];
-    for (command, names, status, line) in rows {
-        folder.run(&rt, command, names)?.is(&rt, status, line, "");
+    for (command, names, line, file) in rows {
+        folder
+            .run(&rt, command, names)?
+            .is_refusal(&rt, &folder, line, file)?;
     }
     let certificate = format!(in rt.alloc(); "{CERTIFICATE}\n")?;
     folder

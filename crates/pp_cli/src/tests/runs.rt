@@ -45,6 +45,24 @@ impl Ended {
         Ok(())
     }
 
+    /// Sees that the run ended with this line of a refusal on standard output, and on standard error a paragraph about this
+    /// file of the folder.
+    pub fn is_refusal<R: AllocGlobal + Abort>(
+        &self,
+        rt: &R,
+        folder: &Folder,
+        line: &str,
+        file: &str,
+    ) -> Result<(), Fail> {
+        let path = folder.at(rt, file)?;
+        let (out, err) = (self.out.as_str(), self.err.as_str());
+        let is = self.status == 1 && out == line;
+        assert!(rt; is, "{self:?} is not {line:?}");
+        let explains = err.starts_with(path.as_str()) && err.ends_with("\n");
+        assert!(rt; explains, "{self:?} says nothing of {path:?}");
+        Ok(())
+    }
+
     /// Sees that the run ended with this status, wrote nothing to one stream and to the other a text with this part.
     pub fn says(&self, rt: &impl Abort, status: u8, part: &str) {
         let (said, other) = if status == 0 {

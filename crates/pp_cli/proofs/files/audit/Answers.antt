@@ -4,8 +4,8 @@ use Rattle.pp_words.specs.CommandLine.{asked_audit, texts}
 use Rattle.pp_cli.proofs.Stopping.{behind_two, handed_on, second, stopped_among}
 use Rattle.pp_cli.proofs.files.audit.Goals as goal
 
-pub returns-in_err-journal : goal.returns-in_err-journal
-returns-in_err-journal g c =
+pub returns-in_err-journal-clause-comes : goal.returns-in_err-journal-clause-comes
+returns-in_err-journal-clause-comes g c =
     let plans = texts c.args.paths.plans.items in
     handed_on (asked_audit c.args.paths) c.from_residual-in_err-journal.result c.in_err-journal.field-0.0
     c.from_residual-in_err-journal.ensures.1
@@ -14,8 +14,8 @@ returns-in_err-journal g c =
     (second c.args.paths.settings.now c.args.paths.journal.now plans)
     c.in_err-journal.ensures))
 
-pub returns-in_err-plans : goal.returns-in_err-plans
-returns-in_err-plans g c =
+pub returns-in_err-plans-clause-comes : goal.returns-in_err-plans-clause-comes
+returns-in_err-plans-clause-comes g c =
     let plans = texts c.args.paths.plans.items in
     handed_on (asked_audit c.args.paths) c.from_residual-in_err-plans.result c.in_err-plans.field-0.0
     c.from_residual-in_err-plans.ensures.1

@@ -2,7 +2,7 @@ use Rattle.pp_judge.specs.Steps.{is_want_of_memory}
 use Rattle.pp_cli.proofs.Formatting.{refused_format}
 use Rattle.pp_cli.proofs.files.format.Goals as goal
 
-pub returns : goal.returns
-returns g c =
+pub returns-clause-comes : goal.returns-clause-comes
+returns-clause-comes g c =
     refused_format (is_want_of_memory c.in-Err.refusal) c.args.paths.settings.now c.args.paths.device.now
-    c.as_slice.result.now c.in-Err.refusal c.from.result c.from.ensures c.in-Err.ensures.exact
+    c.as_slice.result.now c.in-Err.refusal c.from-outcome.result c.from-outcome.ensures c.in-Err.ensures.exact

@@ -4,8 +4,8 @@ use Rattle.pp_words.specs.CommandLine.{asked_simulate, texts}
 use Rattle.pp_cli.proofs.Stopping.{behind_two, handed_on, second, stopped_among}
 use Rattle.pp_cli.proofs.files.simulate.Goals as goal
 
-pub returns-in_err-script : goal.returns-in_err-script
-returns-in_err-script g c =
+pub returns-in_err-script-clause-comes : goal.returns-in_err-script-clause-comes
+returns-in_err-script-clause-comes g c =
     let plans = texts c.args.paths.plans.items in
     handed_on (asked_simulate c.args.paths) c.from_residual-in_err-script.result c.in_err-script.field-0.0
     c.from_residual-in_err-script.ensures.1
@@ -14,8 +14,8 @@ returns-in_err-script g c =
     (second c.args.paths.settings.now c.args.paths.script.now plans)
     c.in_err-script.ensures))
 
-pub returns-in_err-plans : goal.returns-in_err-plans
-returns-in_err-plans g c =
+pub returns-in_err-plans-clause-comes : goal.returns-in_err-plans-clause-comes
+returns-in_err-plans-clause-comes g c =
     let plans = texts c.args.paths.plans.items in
     handed_on (asked_simulate c.args.paths) c.from_residual-in_err-plans.result c.in_err-plans.field-0.0
     c.from_residual-in_err-plans.ensures.1

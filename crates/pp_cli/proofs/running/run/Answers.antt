@@ -8,8 +8,8 @@ use Rattle.pp_cli.proofs.Ran.{comes_of_run, refused_run}
 use Rattle.pp_cli.proofs.Stopping.{behind_one, handed_on, stopped_among}
 use Rattle.pp_cli.proofs.running.run.Goals as goal
 
-pub returns-in_err-plans : goal.returns-in_err-plans
-returns-in_err-plans g c =
+pub returns-in_err-plans-clause-comes : goal.returns-in_err-plans-clause-comes
+returns-in_err-plans-clause-comes g c =
     let plans = texts c.args.paths.plans.items in
     handed_on (asked_run c.args.paths) c.from_residual-in_err-plans.result c.in_err-plans.field-0.0
     c.from_residual-in_err-plans.ensures.1
@@ -18,20 +18,20 @@ returns-in_err-plans g c =
     (subst (λ paths. Contains (texts paths) path) c.deref.ensures.value h))
     c.in_err-plans.ensures.stopped))
 
-pub returns-in-Ok : goal.returns-in-Ok
-returns-in-Ok g c =
+pub returns-in-Ok-clause-comes : goal.returns-in-Ok-clause-comes
+returns-in-Ok-clause-comes g c =
     comes_of_run (option_map (λ text. text.now) c.args.paths.journal) c.args.paths.settings.now
     c.args.paths.device.now c.args.paths.seed (texts c.args.paths.plans.items) c.as_slice.result.now
     (map (λ plan. plan.items) c.as_slice-2.result.now) _ (seen c.run_workload.result) (length-map c.as_slice-2.result.now (λ plan. plan.items) ∙ ap length c.as_slice-2.ensures.value
     ∙ c.in_ok-plans.ensures.each ∙ ap length c.deref.ensures.value
     ∙ sym (length-map c.args.paths.plans.items (λ text. text.now))) c.in-Ok.ensures
-    c.run_workload.ensures
+    c.run_workload.ensures.comes
 
-pub returns : goal.returns
-returns g c =
+pub returns-clause-comes : goal.returns-clause-comes
+returns-clause-comes g c =
     refused_run (is_want_of_memory c.in-Err.refusal) (option_map (λ text. text.now) c.args.paths.journal)
     c.args.paths.settings.now c.args.paths.device.now c.args.paths.seed (texts c.args.paths.plans.items)
-    c.as_slice.result.now (map (λ plan. plan.items) c.as_slice-2.result.now) c.in-Err.refusal c.from.result
+    c.as_slice.result.now (map (λ plan. plan.items) c.as_slice-2.result.now) c.in-Err.refusal c.from-outcome.result
     (length-map c.as_slice-2.result.now (λ plan. plan.items) ∙ ap length c.as_slice-2.ensures.value
     ∙ c.in_ok-plans.ensures.each ∙ ap length c.deref.ensures.value
-    ∙ sym (length-map c.args.paths.plans.items (λ text. text.now))) c.from.ensures c.in-Err.ensures
+    ∙ sym (length-map c.args.paths.plans.items (λ text. text.now))) c.from-outcome.ensures c.in-Err.ensures
