@@ -28,7 +28,8 @@ use Rattle.pp_model.proofs.Totals.{loads_of}
 use Rattle.pp_model.proofs.ReadyPages.{cached_ready}
 use Rattle.pp_model.proofs.ReadySteps.{shared_unwritten}
 use Rattle.pp_model.proofs.TurnsLatches.{a_latch_that_is_refused_has_a_holder}
-use Rattle.pp_core.specs.Queries.{held_by, held_of}
+use Rattle.pp_core.specs.Queries.{own_of, held_by, held_of}
+use Rattle.pp_core.proofs.PlainSlots.{plain_held}
 use Rattle.pp_vault.specs.declared.guards.Guard.{Guard}
 use Rattle.pp_vault.specs.declared.guards.Guard.TheVariants.{Pin, Read, Write}
 use Rattle.pp_vault.specs.declared.guards.WriteGuard.{WriteGuard}
@@ -128,7 +129,8 @@ module _ (s : State) (reached : IsReached s) (page : ℕ) (some : 0 < writers_of
         worker = has.worker;
         slot = h.slot;
         held =
-            ap (λ o. held_by o h.slot) has.seat ∙ ap (option_map (λ (x : Holding). (x.page, x.held))) found
+            ap (λ o. held_by o h.slot) has.seat ∙ ap own_of found
+            ∙ plain_held s reached has.worker has.running h.slot h has.seat found
             ∙ (λ i. Some (has.same i, latch i));
       }
 

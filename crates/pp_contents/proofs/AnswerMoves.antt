@@ -13,8 +13,7 @@ use Rattle.pp_model.specs.Ready.{Standing, Enters}
 use Rattle.pp_model.proofs.ReadyLaws.{away_are_apart}
 use Rattle.pp_model.proofs.ReadyAnswers.{loaded_enters, unread_returns, written_keeps, unwritten_enters}
 use Rattle.pp_core.specs.Queries.{errand_of, held_of}
-use Rattle.pp_core.specs.AfterMoves.{HasLoaded}
-use Rattle.pp_core.proofs.AfterMoves.{after_moves}
+use Rattle.pp_core.proofs.PlainSlots.{PlainLoaded, loaded as is_loaded}
 use Rattle.pp_device.specs.Image.{head_of}
 use Rattle.pp_vault.specs.declared.tokens.Chair.{Chair}
 use Rattle.pp_vault.specs.declared.tokens.Duty.{Duty}
@@ -103,9 +102,9 @@ module _ (old new : Parts) (s : State) (w : ℕ) (hand left : Hand) (st : Stands
       abbrev mark : ℕ
       mark = (told.replies s st).0
 
-      loaded : HasLoaded s t v slot page mark (came_of ok (head_of image))
+      loaded : PlainLoaded s t v slot page mark (came_of ok (head_of image))
       loaded =
-          (after_moves s reached).loaded v (came_of ok (head_of image)) slot page mark (told.replies s st).1 errand
+          is_loaded s reached v (came_of ok (head_of image)) slot page mark (told.replies s st).1 errand
 
       empty : held_of s w g.slot ≡ None
       empty =

@@ -1,8 +1,8 @@
 -- An action of a worker that its plan asks: the core can do it, and its seats then fit those of the state.
-use Rattle.std.proofs.Common.{◌≡◌, ◌∙◌, ℕ, ◌+◌, ◌<◌, ◌^◌, Option, Some, None, List, [], ◌∷◌, ◌++◌, length, refl}
+use Rattle.std.proofs.Common.{false, ◌≡◌, ◌∙◌, ℕ, ◌+◌, ◌<◌, ◌^◌, Option, Some, None, List, [], ◌∷◌, ◌++◌, length, refl}
 use Rattle.std.proofs.Common.{sym, ap}
 use Rattle.std.proofs.Common.{subst, arith}
-use Rattle.std.specs.Prelude.{slice_get, slice_set}
+use Rattle.std.specs.Prelude.{slice_get, slice_set, option_map, if◌then◌else◌}
 use Rattle.std.proofs.lemmas.List.{length-append}
 use Rattle.pp_plan.specs.declared.mode.Mode.{Mode}
 use Rattle.pp_plan.specs.declared.action.Action.{Action}
@@ -22,7 +22,6 @@ use Rattle.pp_model.specs.Moves.{seat_of, asked_by}
 use Rattle.pp_model.proofs.Changes.{IsAt, IsAsked}
 use Rattle.pp_model.proofs.HeldSlots.{few_held}
 use Rattle.pp_model.proofs.HoldingSteps as steps
-use Rattle.pp_core.proofs.PlainSlots as plain
 use Rattle.pp_model.proofs.BoundSteps as numbers
 use Rattle.pp_core.specs.declared.seat.Hold.{Hold}
 use Rattle.pp_core.specs.declared.seat.Seat.{Seat}
@@ -34,6 +33,17 @@ use Rattle.pp_core.specs.Effects.{IsIn, CanAct, Acted}
 use Rattle.pp_core.proofs.Crew.{seat_to, seat_set}
 use Rattle.pp_core.proofs.Asking.{both, runs}
 use Rattle.pp_core.proofs.SlotTies.{Tell, tell_set, tell_as, acted_fits}
+use Rattle.std.specs.Option.{is_some}
+use Rattle.pp_plan.specs.declared.action.Ask.{Ask}
+use Rattle.pp_cert.specs.declared.note.Held.TheVariants.{Free}
+use Rattle.pp_cert.specs.Held.{holding_slot, plain_page, bundle_page}
+use Rattle.pp_cert.proofs.Slots.{slot_all}
+use Rattle.pp_model.specs.Holders.{given_back}
+use Rattle.pp_model.proofs.HeldSlots.{count_of}
+use Rattle.pp_model.proofs.Swaps.{gathers, new_page, by_fix}
+use Rattle.pp_model.proofs.KeptSlots.{Fills, filled_at, found_in}
+use Rattle.pp_core.specs.Slots.{hold_of}
+use Rattle.pp_core.proofs.Gathered.{asks_low}
 
 -- ---- one worker on both sides
 
@@ -125,7 +135,7 @@ can_act f s w r a st e due =
 abbrev pub SlotsFollow : Running → Action → Type 0
 SlotsFollow r a =
     (xs : List (Option Hold)) (n : ℕ) → length xs ≡ 32 → Tell xs (holdings r) → n ≡ held_slots most_slots (holdings r)
-    → (count_after a n ≡ held_slots most_slots (holdings (having_done r a))) × Tell (slots_after a xs) (holdings (having_done r a))
+    → (count_after a xs n ≡ held_slots most_slots (holdings (having_done r a))) × Tell (slots_after a xs) (holdings (having_done r a))
 
 pub acted_crew : (f g : Parts) (s : State) (w : ℕ) (r : Running) (a : Action) → StandsFor f s → Acted f g w a
     → seat_of s w ≡ Some (Some r) → IsOnPlan r.stage → SlotsFollow r a
@@ -167,17 +177,24 @@ module _ (f : Parts) (s : State) (w : ℕ) (r : Running) (st : StandsFor f s) wh
     slots = fits;
   }
 
-  pub fix_due : (slot page : ℕ) → IsAsked s w r (action.Fix slot page) → IsDue r (action.Fix slot page)
-  fix_due slot page asked =
-      asked_due (action.Fix slot page) asked
-      ((plain.fix_finds s st.reached w r slot page asked).few, few_held most_slots (holdings r))
+  goes_fit : (k : Ask) (slot page : ℕ) → slot < 32
+      → FitsSlots (fixes k slot page) (held_slots most_slots (holdings r)) 32
+  goes_fit k slot page few =
+      by_fix (λ a g. FitsSlots a (held_slots most_slots (holdings r)) 32) k slot page
+      (few, few_held most_slots (holdings r)) (few, few_held most_slots (holdings r))
 
-  pub load_due : (slot page : ℕ) → IsAt s w r (reading slot page) → IsDue r (action.Fix slot page)
+  pub fix_due : (slot page : ℕ) → IsAsked s w r (fixes (asked_by r) slot page)
+      → IsDue r (fixes (asked_by r) slot page)
+  fix_due slot page asked =
+      asked_due (fixes (asked_by r) slot page) asked
+      (goes_fit (asked_by r) slot page (steps.fix_finds s st.reached w r slot page asked).few)
+
+  pub load_due : (slot page : ℕ) → IsAt s w r (reading slot page) → IsDue r (fixes (asked_by r) slot page)
   load_due slot page at = record {
     on = reading_on slot page at;
-    asks = plain.reading_asks s st.reached w r slot page at;
+    asks = steps.reading_asks s st.reached w r slot page at;
     few = limited at.seat (numbers.reading_few s st.reached w r slot page at);
-    slots = ((plain.reading_finds s st.reached w r slot page at).few, few_held most_slots (holdings r));
+    slots = goes_fit (asked_by r) slot page (steps.reading_finds s st.reached w r slot page at).few;
   }
 
   found_few : (slot : ℕ) (h : Holding) → seat_of s w ≡ Some (Some r) → holding_at (holdings r) slot ≡ Some h → slot < 32
@@ -188,6 +205,16 @@ module _ (f : Parts) (s : State) (w : ℕ) (r : Running) (st : StandsFor f s) wh
       let finds = steps.unfix_finds s st.reached w r slot asked in
       let some : 0 < held_slots most_slots (holdings r) = omega (arith, steps.unfix_slots s st.reached w r slot asked) in
       asked_due (action.Unfix slot) asked (found_few slot finds.0 asked.at.seat finds.1.found, some)
+
+  pub scatter_due : (slot : ℕ) → IsAsked s w r (action.Scatter slot) → IsDue r (action.Scatter slot)
+  scatter_due slot asked =
+      let some : 0 < held_slots most_slots (holdings r) =
+      omega (arith, steps.scatter_slots s st.reached w r slot asked) in
+      asked_due (action.Scatter slot) asked (
+        asks_low s st.reached w r (action.Scatter slot) asked.at.seat (ap given_back asked.at.stage)
+            (steps.asks_it s st.reached w r (action.Scatter slot) asked),
+        some,
+      )
 
   pub latch_due : (slot : ℕ) (m : Mode) → IsAsked s w r (action.Latch slot m) → IsDue r (action.Latch slot m)
   latch_due slot m asked =
@@ -203,27 +230,65 @@ module _ (f : Parts) (s : State) (w : ℕ) (r : Running) (st : StandsFor f s) wh
   choose_due i asked = asked_due (action.Choose i) asked tt
 
   -- The slots after it.
-  goes_in : (slot page : ℕ) → slot < 32 → plain.ComesIn s st.reached w r slot page (fixes (asked_by r) slot page)
-      → plain.CountsIn s st.reached w r (fixes (asked_by r) slot page) → SlotsFollow r (fixes (asked_by r) slot page)
-  goes_in slot page few comes counts =
-      subst (SlotsFollow r) (sym is) (λ xs n wide tell e. (
-        omega (arith, e, subst (plain.CountsIn s st.reached w r) is counts),
-        tell_set xs (holdings r) (holdings (having_done r (action.Fix slot page))) slot _ _ (omega
-            (arith, few, wide)) refl tell (subst (plain.ComesIn s st.reached w r slot page) is comes),
+  -- A page goes in: into a slot that is empty, or into a bundle.
+  goes_in : (k : Ask) (slot page : ℕ) (a : Action) → a ≡ fixes k slot page → slot < 32
+      → Fills slot (new_page k slot page ∷ slot_all holding_slot slot (holdings r)) (holdings r)
+      (holdings (having_done r a))
+      → (gathers k ≡ false → slot_all holding_slot slot (holdings r) ≡ [])
+      → held_slots most_slots (holdings (having_done r a)) + count_of (holding_at (holdings r) slot)
+      ≡ held_slots most_slots (holdings r) + 1 → SlotsFollow r a
+  goes_in k slot page a is few fills empty counts =
+      subst (SlotsFollow r) (sym is)
+      (by_fix (λ b g. g ≡ gathers k → Fills slot (record { slot = slot; page = page; held = Free; bundled = g }
+      ∷ slot_all holding_slot slot (holdings r)) (holdings r) (holdings (having_done r b))
+      → held_slots most_slots (holdings (having_done r b)) + count_of (holding_at (holdings r) slot)
+      ≡ held_slots most_slots (holdings r) + 1 → SlotsFollow r b) k slot page
+      (λ none fills counts xs n wide tell e. (
+        omega (arith, e, counts, ap count_of (found_in (holdings r) slot [] (empty (sym none)))),
+        tell_set xs (holdings r) (holdings (having_done r (action.Fix slot page))) slot _ _ (omega (arith, few, wide))
+            refl tell
+            (filled_at slot (plain_page slot page ∷ slot_all holding_slot slot (holdings r)) (holdings r)
+            (holdings (having_done r (action.Fix slot page))) fills),
       ))
+      (λ none fills counts xs n wide tell e. (
+        gathered_count xs n slot page tell e counts,
+        tell_set xs (holdings r) (holdings (having_done r (action.Gather slot page))) slot _ _ (omega (arith, few, wide))
+            refl tell
+            (filled_at slot (bundle_page slot page ∷ slot_all holding_slot slot (holdings r)) (holdings r)
+            (holdings (having_done r (action.Gather slot page))) fills),
+      )) refl (subst (λ b. Fills slot (new_page k slot page ∷ slot_all holding_slot slot (holdings r)) (holdings r)
+      (holdings (having_done r b))) is fills)
+      (subst (λ b. held_slots most_slots (holdings (having_done r b)) + count_of (holding_at (holdings r) slot)
+      ≡ held_slots most_slots (holdings r) + 1) is counts))
     where
-      is : fixes (asked_by r) slot page ≡ action.Fix slot page
-      is = plain.is_fix s st.reached w r slot page
+      by_hold : (o : Option Holding) (n m : ℕ) → m + count_of o ≡ n + 1
+          → (if is_some (option_map hold_of o) then n else n + 1) ≡ m
+      by_hold None n m e = omega (arith, e)
+      by_hold (Some h) n m e = omega (arith, e)
 
-  pub fix_follow : (slot page : ℕ) → IsAsked s w r (action.Fix slot page) → SlotsFollow r (fixes (asked_by r) slot page)
+      gathered_count : (xs : List (Option Hold)) (n slot page : ℕ) → Tell xs (holdings r)
+          → n ≡ held_slots most_slots (holdings r)
+          → held_slots most_slots (holdings (having_done r (action.Gather slot page)))
+          + count_of (holding_at (holdings r) slot) ≡ held_slots most_slots (holdings r) + 1
+          → count_after (action.Gather slot page) xs n
+          ≡ held_slots most_slots (holdings (having_done r (action.Gather slot page)))
+      gathered_count xs n slot page tell e counts =
+          ap (λ (o : Option Hold). if is_some o then n else n + 1) (tell slot)
+          ∙ by_hold (holding_at (holdings r) slot) n
+          (held_slots most_slots (holdings (having_done r (action.Gather slot page)))) (omega (arith, counts, e))
+
+  pub fix_follow : (slot page : ℕ) → IsAsked s w r (fixes (asked_by r) slot page)
+      → SlotsFollow r (fixes (asked_by r) slot page)
   fix_follow slot page asked =
-      goes_in slot page (plain.fix_finds s st.reached w r slot page asked).few
-      (plain.fix_holds s st.reached w r slot page asked) (plain.fix_slots s st.reached w r slot page asked)
+      let finds = steps.fix_finds s st.reached w r slot page asked in
+      goes_in (asked_by r) slot page (fixes (asked_by r) slot page) refl finds.few
+      (steps.fix_holds s st.reached w r slot page asked) finds.empty (steps.fix_slots s st.reached w r slot page asked)
 
   pub load_follow : (slot page : ℕ) → IsAt s w r (reading slot page) → SlotsFollow r (fixes (asked_by r) slot page)
   load_follow slot page at =
-      goes_in slot page (plain.reading_finds s st.reached w r slot page at).few
-      (plain.loaded_holds s st.reached w r slot page at) (plain.loaded_slots s st.reached w r slot page at)
+      let finds = steps.reading_finds s st.reached w r slot page at in
+      goes_in (asked_by r) slot page (fixes (asked_by r) slot page) refl finds.few
+      (steps.loaded_holds s st.reached w r slot page at) finds.empty (steps.loaded_slots s st.reached w r slot page at)
 
   pub unfix_follow : (slot : ℕ) → IsAsked s w r (action.Unfix slot) → SlotsFollow r (action.Unfix slot)
   unfix_follow slot asked xs n wide tell e =
@@ -232,7 +297,19 @@ module _ (f : Parts) (s : State) (w : ℕ) (r : Running) (st : StandsFor f s) wh
         omega (arith, e, steps.unfix_slots s st.reached w r slot asked),
         tell_set xs (holdings r) (holdings (having_done r (action.Unfix slot))) slot None None (omega
             (arith, few, wide)) refl tell
-            (plain.unfix_holds s st.reached w r slot asked),
+            (filled_at slot [] (holdings r) (holdings (having_done r (action.Unfix slot)))
+            (steps.unfix_holds s st.reached w r slot asked)),
+      )
+
+  pub scatter_follow : (slot : ℕ) → IsAsked s w r (action.Scatter slot) → SlotsFollow r (action.Scatter slot)
+  scatter_follow slot asked xs n wide tell e =
+      let few = asks_low s st.reached w r (action.Scatter slot) asked.at.seat (ap given_back asked.at.stage)
+      (steps.asks_it s st.reached w r (action.Scatter slot) asked) in (
+        omega (arith, e, steps.scatter_slots s st.reached w r slot asked),
+        tell_set xs (holdings r) (holdings (having_done r (action.Scatter slot))) slot None None (omega
+            (arith, few, wide)) refl tell
+            (filled_at slot [] (holdings r) (holdings (having_done r (action.Scatter slot)))
+            (steps.scatter_holds s st.reached w r slot asked)),
       )
 
   pub latch_follow : (slot : ℕ) (m : Mode) → IsAsked s w r (action.Latch slot m) → SlotsFollow r (action.Latch slot m)

@@ -63,7 +63,7 @@ module _ (s : State) where
   leaves_it (move.ReadDone v came) w is =
       of_read s (Leaves s) refusals_leave v came
       (record { loads = λ r k p stamp at image good. refl; fails = λ r k p failure at. refl })
-  leaves_it (move.Unfix v) w is = of_unfix s (Leaves s) refusals_leave v (λ r k asking. refl)
+  leaves_it (move.Unfix v) w is = of_unfix s (Leaves s) refusals_leave v (λ r k asking. refl) (λ r k asking. refl)
   leaves_it (move.Latch v) w is = of_latch s (Leaves s) refusals_leave v (λ r k m asking. refl)
   leaves_it (move.Unlatch v) w is =
       of_unlatch s (Leaves s) refusals_leave v (λ r k asking. released_flush s (held_in r k) (page_in r k))

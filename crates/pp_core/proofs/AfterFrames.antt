@@ -12,13 +12,12 @@ use Rattle.pp_model.specs.Reached.{IsReached}
 use Rattle.pp_model.proofs.Changes.{IsAt}
 use Rattle.pp_model.proofs.Framed.{some_of, framed, loads_one, sent_one, notes_length, victim_low}
 use Rattle.pp_model.proofs.HoldingSteps as slots
-use Rattle.pp_core.proofs.PlainSlots as plain
 use Rattle.pp_model.proofs.MarkChanges.{note_here, note_there, notes_stay}
 use Rattle.pp_model.proofs.Requests.{Which, same, other, which, hit_cached}
 use Rattle.pp_model.proofs.Soundness.{sound}
 use Rattle.pp_core.specs.Queries.{errand_of}
 use Rattle.pp_core.specs.AfterMoves.{HitFrame, FixFrame, FixVictimFrame, WrittenFrame}
-use Rattle.pp_core.proofs.MoveWays.{AsksFix, of_fix, of_write}
+use Rattle.pp_core.proofs.MoveWays.{AsksPage, of_fix, of_write}
 use Rattle.pp_core.proofs.AfterSeats.{errand_at, some_same}
 use Rattle.pp_core.proofs.AfterFixes.{Told, no_refusal}
 
@@ -57,9 +56,9 @@ module _ (s : State) (h : IsReached s) where
   in_frame : (p : ℕ) → is_cached s.lists p ≡ true → frame_of s p ≡ Some (frame_at s p)
   in_frame p here = some_of (frame_of s p) ((framed s h).placed p here)
 
-  low_page : (w page : ℕ) (r : Running) (k j : ℕ) → AsksFix s w r k j page → page < length s.notes
+  low_page : (w page : ℕ) (r : Running) (k j : ℕ) → AsksPage s w r k j page → page < length s.notes
   low_page w page r k j asks =
-      omega (arith, (plain.fix_finds s h w r k page asks.asked).low, notes_length s h)
+      omega (arith, (slots.fix_finds s h w r k page asks.asked).low, notes_length s h)
 
   pub hit_frame : HitFrame s
   hit_frame w page frame mark =

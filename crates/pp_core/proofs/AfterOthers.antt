@@ -1,7 +1,7 @@
 -- What a done move found; what the other workers have after it; and which marks it leaves.
 use Rattle.std.proofs.Common.{◌≡◌, ◌≢◌, ◌∙◌, ◌⊎◌, ◌<◌, ◌≤◌, ℕ, zero, suc, ◌+◌, Bool, true, false, eqb, cond, Option}
 use Rattle.std.proofs.Common.{Some, None, List, [], ◌∷◌, length, refl, sym, ap, subst, inl, inr, arith}
-use Rattle.std.specs.Prelude.{slice_get, slice_set, slice_index_or, option_map, sum_by, ◌==◌}
+use Rattle.std.specs.Prelude.{unwrap_or, slice_get, slice_set, slice_index_or, option_map, sum_by, ◌==◌}
 use Rattle.std.proofs.lemmas.Bool.{cases_lt, false≢true}
 use Rattle.std.proofs.lemmas.Bool.Decides.{nat_tests}
 use Rattle.std.proofs.lemmas.List.{set_past}
@@ -12,7 +12,7 @@ use Rattle.pp_plan.specs.declared.action.Action.TheVariants as action
 use Rattle.pp_plan.specs.declared.action.Ask.TheVariants as ask
 use Rattle.pp_cert.specs.declared.note.Held.{Held}
 use Rattle.pp_cert.specs.declared.note.Held.TheVariants.{Free, S, X}
-use Rattle.pp_cert.specs.Held.{Holding, Holdings, holding_at, held_in as held_for}
+use Rattle.pp_cert.specs.Held.{Holding, Holdings, holding_slot, holding_at, holds_bundle, held_in as held_for}
 use Rattle.pp_arc.specs.Figure.{forget, bring_back}
 use Rattle.pp_model.specs.declared.moves.Move.{Move}
 use Rattle.pp_model.specs.declared.moves.Move.TheVariants as move
@@ -21,11 +21,12 @@ use Rattle.pp_model.specs.declared.refusals.SubmitError.{SubmitError}
 use Rattle.pp_model.specs.declared.reply.Ending.{Ending}
 use Rattle.pp_model.specs.declared.reply.Ending.TheVariants as ending
 use Rattle.pp_model.specs.declared.reply.Reply.TheVariants as reply
-use Rattle.pp_model.specs.Pool.{reading, writing, Running, Note, Flush, State, untouched, note_of, frame_of, known_mark}
+use Rattle.pp_model.specs.Pool.{reading, writing, leaving, Running, Note, Flush, State, untouched, note_of, frame_of, known_mark}
 use Rattle.pp_model.specs.Pool.{mark_at}
 use Rattle.pp_model.specs.Holders.{holdings, is_shared, is_exclusive, page_in, held_in, writers_of}
 use Rattle.pp_model.specs.Outcome.{Outcome, with_note, with_frame, with_dirty, with_mark, with_lists, released}
 use Rattle.pp_model.specs.Answers.{write_where, read_where, is_other}
+use Rattle.pp_model.specs.Leaving.{unwind_where}
 use Rattle.pp_model.specs.Flushing.{flush_over}
 use Rattle.pp_model.specs.Moves.{seat_of, is_refusal, next_of}
 use Rattle.pp_model.specs.Submitting.{submit_error, submitted_unless}
@@ -39,12 +40,20 @@ use Rattle.pp_model.proofs.Requests.{Which, same, other, which}
 use Rattle.pp_model.proofs.Soundness.{sound}
 use Rattle.pp_model.proofs.Sums.{sum_by-term}
 use Rattle.pp_model.proofs.Totals.{weight, seat_weight, on_page, loads_of, victims_of, latched_on, readers_are, writers_are}
-use Rattle.pp_core.specs.Queries.{idle_by, held_of}
+use Rattle.pp_core.specs.Queries.{idle_by, own_of, held_by, held_of, gathered_of}
 use Rattle.pp_core.specs.AfterMoves.{WorkerStays, EndsBy, Found, DoneFound, OtherWorkersStay, PlansLeaveWorkers}
-use Rattle.pp_core.specs.AfterMoves.{ExclusiveAlone, Releases, ExclusiveKeepsMark, SharedKeepsMark, VictimKeepsMark, MarkStays}
+use Rattle.pp_core.specs.AfterMoves.{ExclusiveAlone, Releases, ExclusiveKeepsMark, SharedKeepsMark, VictimKeepsMark, MarkStays, OneKind}
 use Rattle.pp_core.proofs.MoveWays.{OfRefusals, not_negated, named, of_take, of_fix, of_write, of_read, of_unfix, of_latch}
 use Rattle.pp_core.proofs.MoveWays.{of_unlatch, of_choose, of_unwind, of_finish, of_flush, of_flushed}
-use Rattle.pp_core.proofs.AfterSeats.{set_apart, stays_by, asked_at, leaving_at, errand_at, held_found, HoldsSo, holds_so}
+use Rattle.pp_core.proofs.Crew.{set_apart}
+use Rattle.pp_cert.proofs.Slots.{slot_all}
+use Rattle.pp_model.proofs.Effects.{holdings_kept}
+use Rattle.pp_model.proofs.HoldingSteps.{seat_is}
+use Rattle.pp_model.proofs.KeptSlots.{IsKeptAt, own, packed}
+use Rattle.pp_core.specs.Gathered.{bundle_in}
+use Rattle.pp_core.proofs.Gathered.{plain_found, bundled_pages, bundle_is, none_bundled}
+use Rattle.pp_core.proofs.SlotKinds.{bundle_alone, bundle_free, scatter_some}
+use Rattle.pp_core.proofs.AfterSeats.{stays_by, none_of_its_own, asked_at, wanted_at, leaving_at, errand_at, held_found, HoldsSo, holds_so}
 use Rattle.pp_core.proofs.AfterSeats.{same_held, some_same, writes, released_apart}
 use Rattle.pp_core.proofs.AfterActs.{held_known}
 
@@ -59,14 +68,22 @@ module _ (s : State) (h : IsReached s) where
   not_done : (Q : Type 0) → OfRefusals s (λ o. is_refusal o.reply ≡ false → Q)
   not_done Q = record { delay = λ d e. absurd (cc); fault = λ c e. absurd (cc) }
 
+  -- What is found in a slot is told as its own, or as a bundle's pins.
+  kind_found : (w slot : ℕ) (r : Running) (x : Holding) → seat_of s w ≡ Some (Some r)
+      → holding_at (holdings r) slot ≡ Some x → (b : Bool) → x.bundled ≡ b
+      → ((page : ℕ) × (how : Held) × (held_of s w slot ≡ Some (page, how))) ⊎ (0 < gathered_of s w slot)
+  kind_found w slot r x seat found false e = inl (x.page, x.held, held_found s w r slot x seat found e)
+  kind_found w slot r x seat found true e =
+      inr (scatter_some s w r slot seat (ap holds_bundle found ∙ e) (bundle_alone s h w r seat slot x found e))
+
   pub done_found : DoneFound s
   done_found (move.Take w) = of_take s _ (not_done (Found s (move.Take w))) w (λ a idle e. ap idle_by idle)
   done_found (move.Fix w page) =
       of_fix s _ (not_done (Found s (move.Fix w page))) w page (record {
-        hits = λ r k j l asks is e. (k, j, asked_at s w r (ask.Fix k j) asks.asking);
-        fills = λ r k j l asks e. (k, j, asked_at s w r (ask.Fix k j) asks.asking);
-        evicts = λ r k j v l asks e. (k, j, asked_at s w r (ask.Fix k j) asks.asking);
-        sends = λ r k j v l asks e. (k, j, asked_at s w r (ask.Fix k j) asks.asking);
+        hits = λ r k j l asks is e. (k, j, wanted_at s w r asks.asked.at ∙ asks.into);
+        fills = λ r k j l asks e. (k, j, wanted_at s w r asks.asked.at ∙ asks.into);
+        evicts = λ r k j v l asks e. (k, j, wanted_at s w r asks.asked.at ∙ asks.into);
+        sends = λ r k j v l asks e. (k, j, wanted_at s w r asks.asked.at ∙ asks.into);
       })
   done_found (move.WriteDone w ok) =
       of_write s _ (not_done (Found s (move.WriteDone w ok))) w ok (λ r k p v at e. (k, p, v, errand_at s w r (writing k p v) at))
@@ -76,14 +93,21 @@ module _ (s : State) (h : IsReached s) where
         fails = λ r k p failure at e. (k, p, errand_at s w r (reading k p) at);
       })
   done_found (move.Unfix w) =
-      of_unfix s _ (not_done (Found s (move.Unfix w))) w (λ r k asking e.
+      of_unfix s _ (not_done (Found s (move.Unfix w))) w
+      (λ r k asking e.
       let asked = named s w r (ask.Unfix k) (action.Unfix k) asking refl in
-      let x = slots.unfix_finds s h w r k asked in (
+      let x = slots.unfix_finds s h w r k asked in
+      let plain = plain_found (holdings r) k x.0 _ x.1.found (slots.unfix_own s h w r k asked).1 in
+      inl (
         k,
         x.0.page,
         asked_at s w r (ask.Unfix k) asking,
-        held_found s w r k x.0 asking.at.seat x.1.found ∙ ap (λ u. Some (x.0.page, u)) x.2,
+        held_found s w r k x.0 asking.at.seat x.1.found plain ∙ ap (λ u. Some (x.0.page, u)) x.2,
       ))
+      (λ r k asking e.
+      let asked = named s w r (ask.Scatter k) (action.Scatter k) asking refl in
+      let found = slots.scatter_finds s h w r k asked in
+      inr (k, asked_at s w r (ask.Scatter k) asking, scatter_some s w r k asking.at.seat found.0 found.1))
   done_found (move.Latch w) =
       of_latch s _ (not_done (Found s (move.Latch w))) w (λ r k m asking e.
       let asked = named s w r (ask.Latch k m) (action.Latch k m) asking (refl, refl) in
@@ -92,7 +116,9 @@ module _ (s : State) (h : IsReached s) where
         m,
         x.0.page,
         asked_at s w r (ask.Latch k m) asking,
-        held_found s w r k x.0 asking.at.seat x.1.found ∙ ap (λ u. Some (x.0.page, u)) x.2,
+        held_found s w r k x.0 asking.at.seat x.1.found
+            (plain_found (holdings r) k x.0 _ x.1.found (slots.latch_own s h w r k m asked).1)
+            ∙ ap (λ u. Some (x.0.page, u)) x.2,
       ))
   done_found (move.Unlatch w) =
       of_unlatch s _ (not_done (Found s (move.Unlatch w))) w (λ r k asking e.
@@ -103,13 +129,15 @@ module _ (s : State) (h : IsReached s) where
         so.0,
         x.0.page,
         asked_at s w r (ask.Unlatch k) asking,
-        held_found s w r k x.0 asking.at.seat x.1.found ∙ ap (λ u. Some (x.0.page, u)) so.1,
+        held_found s w r k x.0 asking.at.seat x.1.found
+            (plain_found (holdings r) k x.0 _ x.1.found (slots.unlatch_own s h w r k asked).1)
+            ∙ ap (λ u. Some (x.0.page, u)) so.1,
       ))
   done_found (move.Choose w i) =
       of_choose s _ (not_done (Found s (move.Choose w i))) w i (λ r n asking lt e. (n, asked_at s w r (ask.Choose n) asking, lt))
   done_found (move.Unwind w slot) =
       of_unwind s _ (not_done (Found s (move.Unwind w slot))) w slot (λ r given x at found e.
-      (x.page, x.held, leaving_at s w r given at, held_found s w r slot x at.seat found))
+      (leaving_at s w r given at, kind_found w slot r x at.seat found x.bundled refl))
   done_found (move.Finish w) =
       of_finish s
       (λ o. is_refusal o.reply ≡ false → (by : Ending) × (o.reply ≡ reply.Finished by) × EndsBy s w by)
@@ -169,7 +197,9 @@ module _ (s : State) (w v : ℕ) (apart : Some w ≢ Some v) where
       })
 
   unfix_stays : WorkerStays s (next_of s (move.Unfix w)) v
-  unfix_stays = of_unfix s (Stays s v) refusals_stay w (λ r k asking. stays_by s _ v (seated _))
+  unfix_stays =
+      of_unfix s (Stays s v) refusals_stay w (λ r k asking. stays_by s _ v (seated _))
+      (λ r k asking. stays_by s _ v (seated _))
 
   latch_stays : WorkerStays s (next_of s (move.Latch w)) v
   latch_stays = of_latch s (Stays s v) refusals_stay w (λ r k m asking. stays_by s _ v (seated _))
@@ -421,6 +451,17 @@ module _ (s : State) (h : IsReached s) (q : ℕ) where
   freed_deals m t w slot p k (frees is on) notes holds rel =
       raises w slot rel (holds ∙ (λ i. Some (on i, is i)))
 
+  -- A slot that is given back: a page of its own with its latch, or a bundle, whose pages aren't latched.
+  unwound_deals : (w slot : ℕ) (r : Running) (given : List ℕ) (x : Holding) → IsAt s w r (leaving given)
+      → holding_at (holdings r) slot ≡ Some x → (b : Bool) → x.bundled ≡ b
+      → Deals (move.Unwind w slot) (unwind_where s w r slot given (Some x))
+  unwound_deals w slot r given x at found false e =
+      freed_deals (move.Unwind w slot) _ w slot x.page x.held (frees_how s x.held x.page q) refl
+      (held_found s w r slot x at.seat found e) (refl, refl)
+  unwound_deals w slot r given x at found true e =
+      let free = bundle_free (holdings r) slot x found (bundle_alone s h w r at.seat slot x found e) in
+      stays (ap (λ k. known_mark (released s k x.page) q) free)
+
   mark_way : (m : Move) → MarkWay s m q (next_of s m)
   mark_way (move.Take w) =
       of_take s (Deals (move.Take w)) (refusals_leave (move.Take w)) w (λ a idle. stays refl)
@@ -441,6 +482,7 @@ module _ (s : State) (h : IsReached s) (q : ℕ) where
       })
   mark_way (move.Unfix w) =
       of_unfix s (Deals (move.Unfix w)) (refusals_leave (move.Unfix w)) w (λ r k asking. stays refl)
+      (λ r k asking. stays refl)
   mark_way (move.Latch w) =
       of_latch s (Deals (move.Latch w)) (refusals_leave (move.Latch w)) w (λ r k m asking. stays refl)
   mark_way (move.Unlatch w) =
@@ -448,15 +490,16 @@ module _ (s : State) (h : IsReached s) (q : ℕ) where
       let asked = named s w r (ask.Unlatch k) (action.Unlatch k) asking refl in
       let x = slots.unlatch_finds s h w r k asked in
       let holds : held_of s w k ≡ Some (page_in r k, held_in r k) =
-      held_found s w r k x.0 asking.at.seat x.1.found ∙ sym (λ i. Some (x.1.page_is i, x.1.held_is i)) in
+      held_found s w r k x.0 asking.at.seat x.1.found
+      (plain_found (holdings r) k x.0 _ x.1.found (slots.unlatch_own s h w r k asked).1)
+      ∙ sym (λ i. Some (x.1.page_is i, x.1.held_is i)) in
       freed_deals (move.Unlatch w) _ w k (page_in r k) (held_in r k) (frees_how s (held_in r k) (page_in r k) q) refl
       holds (refl, asked_at s w r (ask.Unlatch k) asking))
   mark_way (move.Choose w i) =
       of_choose s (Deals (move.Choose w i)) (refusals_leave (move.Choose w i)) w i (λ r n asking lt. stays refl)
   mark_way (move.Unwind w slot) =
       of_unwind s (Deals (move.Unwind w slot)) (refusals_leave (move.Unwind w slot)) w slot (λ r given x at found.
-      freed_deals (move.Unwind w slot) _ w slot x.page x.held (frees_how s x.held x.page q) refl
-      (held_found s w r slot x at.seat found) (refl, refl))
+      unwound_deals w slot r given x at found x.bundled refl)
   mark_way (move.Finish w) =
       of_finish s (Deals (move.Finish w)) (refusals_leave (move.Finish w)) w
       (record { ends = λ r asking. stays refl; leaves = λ r given at empty. stays refl })
@@ -525,3 +568,20 @@ module _ (s : State) (h : IsReached s) where
           let on = subst (λ p. 0 < weight s (on_page p)) a.page_is (held_one s w a.by k a.holding a.seat a.found) in
           let here = (sound s h).cached victim (omega (arith, on)) in
           absurd (false≢true (sym ((sound s h).away victim sent).0 ∙ here))
+
+-- ---- the kinds of slots
+
+module _ (s : State) (h : IsReached s) where
+  pub one_kind : OneKind s
+  one_kind w slot = by_seat (seat_of s w) refl
+    where
+      kind : (r : Running) → IsKeptAt (slot_all holding_slot slot (holdings r))
+          → (own_of (holding_at (holdings r) slot) ≡ None) ⊎ (bundle_in (Some r) slot ≡ [])
+      kind r (own x e plain) = inr (bundle_is r slot ∙ ap bundled_pages e ∙ none_bundled x plain)
+      kind r (packed all) = inl (none_of_its_own (holdings r) slot all)
+
+      by_seat : (o : Option (Option Running)) → seat_of s w ≡ o
+          → (held_by o slot ≡ None) ⊎ (bundle_in (unwrap_or o None) slot ≡ [])
+      by_seat None e = inl refl
+      by_seat (Some None) e = inl refl
+      by_seat (Some (Some r)) e = kind r (holdings_kept s.settings.layout r (seat_is s h w r e) slot)

@@ -1,12 +1,14 @@
 -- What is told of a worker, by its seat; and the seats, slots and marks that a move writes.
-use Rattle.std.proofs.Common.{◌≡◌, ◌≢◌, ◌∙◌, ◌<◌, ℕ, zero, suc, ◌+◌, true, false, eqb, cond, Option, Some, None}
+use Rattle.std.proofs.Common.{◌≡◌, ◌≢◌, ◌∙◌, ◌<◌, ℕ, zero, suc, ◌+◌, Bool, true, false, eqb, cond, Option, Some, None}
 use Rattle.std.proofs.Common.{List, [], ◌∷◌, length, refl, sym, ap, subst, arith}
-use Rattle.std.specs.Prelude.{slice_get, slice_set, option_map, is_some, IsSome}
+use Rattle.std.specs.Prelude.{slice_get, slice_set, option_and_then, unwrap_or, if◌then◌else◌, is_some, IsSome}
+use Rattle.std.proofs.lemmas.Bool.{eqb-true}
 use Rattle.std.proofs.lemmas.Bool.Decides.{nat_tests}
 use Rattle.pp_plan.specs.declared.action.Ask.{Ask}
 use Rattle.pp_cert.specs.declared.note.Held.{Held}
 use Rattle.pp_cert.specs.declared.note.Held.TheVariants.{Free, S, X}
-use Rattle.pp_cert.specs.Held.{Holding, holding_at}
+use Rattle.pp_cert.specs.Held.{Holding, Holdings, holding_slot, holding_at}
+use Rattle.pp_cert.proofs.Slots.{first_of, slot_all}
 use Rattle.pp_model.specs.Pool.{Stage, acting, writing, reading, leaving, Running, Note, State, known_mark, mark_at}
 use Rattle.pp_model.specs.Pool.{note_of}
 use Rattle.pp_model.specs.Holders.{holdings}
@@ -14,10 +16,15 @@ use Rattle.pp_model.specs.Outcome.{released}
 use Rattle.pp_model.specs.Moves.{asked_by, seat_of}
 use Rattle.pp_model.proofs.Changes.{IsAt}
 use Rattle.pp_model.proofs.ChangeTotals.{released_seats}
+use Rattle.pp_model.proofs.KeptSlots.{AreBundled, Fills, found_in, filled_at}
 use Rattle.pp_model.proofs.MarkChanges.{note_here}
-use Rattle.pp_core.specs.Queries.{ask_in, ask_by, ask_of, leaves, leaving_by, is_leaving, held_by, held_of, errand_in}
-use Rattle.pp_core.specs.Queries.{idle_by, errand_by, errand_of}
-use Rattle.pp_core.specs.AfterMoves.{Acts, WorkerStays, SlotsStay, OtherSlotsStay}
+use Rattle.pp_core.specs.Fixing.{wanted}
+use Rattle.pp_core.specs.Gathered.{bundle_in}
+use Rattle.pp_core.specs.Queries.{ask_in, ask_by, ask_of, leaves, leaving_by, is_leaving, own_of, held_by, held_of, errand_in}
+use Rattle.pp_core.specs.Queries.{idle_by, pending_by, pending_of, bundle_of, errand_by, errand_of}
+use Rattle.pp_core.specs.AfterMoves.{Acts, wanted_of, WorkerStays, SlotsStay, OtherSlotsStay, BundlesStay, OtherBundlesStay}
+use Rattle.pp_core.proofs.Crew.{set_apart}
+use Rattle.pp_core.proofs.Gathered.{Gathers, SameBundles}
 use Rattle.pp_core.proofs.MoveWays.{IsAsking}
 
 -- ---- one place of a list is written
@@ -28,28 +35,39 @@ set_at [] w x y e = cc
 set_at (a ∷ xs) zero x y e = refl
 set_at (a ∷ xs) (suc w) x y e = set_at xs w x y e
 
-pub set_apart : {A : Type 0} (xs : List A) (w v : ℕ) (y : A) → v ≢ w
-    → slice_get (slice_set xs w y) v ≡ slice_get xs v
-set_apart [] w v y ne = refl
-set_apart (a ∷ xs) zero zero y ne = absurd (ne refl)
-set_apart (a ∷ xs) zero (suc v) y ne = refl
-set_apart (a ∷ xs) (suc w) zero y ne = refl
-set_apart (a ∷ xs) (suc w) (suc v) y ne = set_apart xs w v y (λ e. ne (ap suc e))
-
 -- ---- what is told by a seat
 
--- A page and how it is held.
-abbrev pub held_as : Holding → ℕ × Held
-held_as h = (h.page, h.held)
+-- The pages that a slot of a seat has as a bundle.
+abbrev pub bundle_by : (slot : ℕ) → Option (Option Running) → List ℕ
+bundle_by slot o = bundle_in (unwrap_or o None) slot
 
 pub stays_by : (s t : State) (v : ℕ) → seat_of t v ≡ seat_of s v → WorkerStays s t v
 stays_by s t v e = record {
   idle = ap idle_by e;
   leaving = ap leaving_by e;
   asks = ap ask_by e;
+  pending = ap pending_by e;
   held = λ slot. ap (λ o. held_by o slot) e;
+  bundles = λ slot. ap (bundle_by slot) e;
   errand = ap errand_by e;
 }
+
+-- A page of the slot's own is told, and a bundle's isn't.
+abbrev pub own_unless : Bool → Holding → Option (ℕ × Held)
+own_unless b h = if b then None else Some (h.page, h.held)
+
+pub own_is : (h : Holding) → h.bundled ≡ false → own_of (Some h) ≡ Some (h.page, h.held)
+own_is h plain = ap (λ b. own_unless b h) plain
+
+own_first : (hs : Holdings) → AreBundled hs → own_of (first_of hs) ≡ None
+own_first [] all = refl
+own_first (h ∷ hs) all = ap (λ b. own_unless b h) all.0.bundled
+
+-- A slot with a bundle's pages alone has none of its own.
+pub none_of_its_own : (hs : Holdings) (slot : ℕ) → AreBundled (slot_all holding_slot slot hs)
+    → own_of (holding_at hs slot) ≡ None
+none_of_its_own hs slot all =
+    ap own_of (found_in hs slot (slot_all holding_slot slot hs) refl) ∙ own_first (slot_all holding_slot slot hs) all
 
 module _ (s : State) (w : ℕ) (r : Running) where
   pub ask_at : IsAt s w r acting → ask_of s w ≡ Some (asked_by r)
@@ -67,13 +85,22 @@ module _ (s : State) (w : ℕ) (r : Running) where
   pub errand_at : (g : Stage) → IsAt s w r g → errand_of s w ≡ errand_in g
   errand_at g at = ap errand_by at.seat ∙ ap errand_in at.stage
 
-  pub held_at : (slot : ℕ) → seat_of s w ≡ Some (Some r)
-      → held_of s w slot ≡ option_map held_as (holding_at (holdings r) slot)
+  pub held_at : (slot : ℕ) → seat_of s w ≡ Some (Some r) → held_of s w slot ≡ own_of (holding_at (holdings r) slot)
   held_at slot seat = ap (λ o. held_by o slot) seat
 
   pub held_found : (slot : ℕ) (h : Holding) → seat_of s w ≡ Some (Some r) → holding_at (holdings r) slot ≡ Some h
-      → held_of s w slot ≡ Some (h.page, h.held)
-  held_found slot h seat found = held_at slot seat ∙ ap (option_map held_as) found
+      → h.bundled ≡ false → held_of s w slot ≡ Some (h.page, h.held)
+  held_found slot h seat found plain = held_at slot seat ∙ ap own_of found ∙ own_is h plain
+
+  pub bundle_at : (slot : ℕ) → seat_of s w ≡ Some (Some r) → bundle_of s w slot ≡ bundle_in (Some r) slot
+  bundle_at slot seat = ap (bundle_by slot) seat
+
+  pub pending_at : seat_of s w ≡ Some (Some r) → leaves r.stage ≡ false → pending_of s w ≡ Some (asked_by r)
+  pending_at seat stays = ap pending_by seat ∙ ap {B = Option Ask} (λ b. if b then None else Some (asked_by r)) stays
+
+  -- What the plan asks a page for.
+  pub wanted_at : IsAt s w r acting → wanted_of s w ≡ wanted (asked_by r)
+  wanted_at at = ap (option_and_then wanted) (ask_at at)
 
 -- ---- what holds, where it is told
 
@@ -83,6 +110,7 @@ pub record HoldsSo (s : State) (w slot page : ℕ) (how : Held) : Type 0 where
   pub seat : seat_of s w ≡ Some (Some by)
   pub holding : Holding
   pub found : holding_at (holdings by) slot ≡ Some holding
+  pub plain : holding.bundled ≡ false
   pub page_is : holding.page ≡ page
   pub held_is : holding.held ≡ how
 
@@ -97,16 +125,22 @@ same_held a b x y e = ap (λ p. p.1) (some_same (a, x) (b, y) e)
 
 in_holdings : (s : State) (w slot page : ℕ) (how : Held) (r : Running) (o : Option Holding)
     → seat_of s w ≡ Some (Some r) → holding_at (holdings r) slot ≡ o
-    → option_map held_as o ≡ Some (page, how) → HoldsSo s w slot page how
+    → own_of o ≡ Some (page, how) → HoldsSo s w slot page how
 in_holdings s w slot page how r None seat e told = cc
-in_holdings s w slot page how r (Some h) seat e told = record {
-  by = r;
-  seat = seat;
-  holding = h;
-  found = e;
-  page_is = same_page h.page page h.held how told;
-  held_is = same_held h.page page h.held how told;
-}
+in_holdings s w slot page how r (Some h) seat e told = go h.bundled refl told
+  where
+    go : (b : Bool) → h.bundled ≡ b → own_unless b h ≡ Some (page, how)
+        → HoldsSo s w slot page how
+    go true is so = cc
+    go false is so = record {
+      by = r;
+      seat = seat;
+      holding = h;
+      found = e;
+      plain = is;
+      page_is = same_page h.page page h.held how so;
+      held_is = same_held h.page page h.held how so;
+    }
 
 in_seat : (s : State) (w slot page : ℕ) (how : Held) (o : Option (Option Running)) → seat_of s w ≡ o
     → held_by o slot ≡ Some (page, how) → HoldsSo s w slot page how
@@ -166,23 +200,54 @@ module _ (s t : State) (w : ℕ) (r y : Running) (before : seat_of s w ≡ Some 
     (after : seat_of t w ≡ Some (Some y)) where
   pub one_slot : (slot : ℕ) (now : Option Holding)
       → ((k : ℕ) → holding_at (holdings y) k ≡ cond (eqb k slot) now (holding_at (holdings r) k))
-      → OneSlot s t w slot (option_map held_as now)
+      → OneSlot s t w slot (own_of now)
   one_slot slot now all = record {
     here =
         held_at t w y slot after
-        ∙ ap (option_map held_as)
+        ∙ ap own_of
         (all slot ∙ ap (λ b. cond b now (holding_at (holdings r) slot)) (its_own slot));
     others = λ k ne.
         held_at t w y k after
-        ∙ ap (option_map held_as)
+        ∙ ap own_of
         (all k ∙ ap (λ b. cond b now (holding_at (holdings r) k)) (not_its k slot ne))
         ∙ sym (held_at s w r k before);
   }
 
   pub same_slots : holdings y ≡ holdings r → SlotsStay s t w
   same_slots e slot =
-      held_at t w y slot after ∙ ap (λ hs. option_map held_as (holding_at hs slot)) e
-      ∙ sym (held_at s w r slot before)
+      held_at t w y slot after ∙ ap (λ hs. own_of (holding_at hs slot)) e ∙ sym (held_at s w r slot before)
+
+  -- Where only a bundle changes, each slot holds of its own what it held.
+  pub bundle_slots : (slot : ℕ) (now : Holdings) → AreBundled (slot_all holding_slot slot (holdings r)) → AreBundled now
+      → Fills slot now (holdings r) (holdings y) → SlotsStay s t w
+  bundle_slots slot now all all_now fills k =
+      held_at t w y k after ∙ go (eqb k slot) refl ∙ sym (held_at s w r k before)
+    where
+      go : (b : Bool) → eqb k slot ≡ b → own_of (holding_at (holdings y) k) ≡ own_of (holding_at (holdings r) k)
+      go true e =
+          none_of_its_own (holdings y) k (subst AreBundled (sym (fills k
+          ∙ ap (λ b. cond b now (slot_all holding_slot k (holdings r))) e)) all_now)
+          ∙ sym (none_of_its_own (holdings r) k
+          (subst (λ n. AreBundled (slot_all holding_slot n (holdings r))) (sym (eqb-true k slot e)) all))
+      go false e =
+          ap own_of
+          (filled_at slot now (holdings r) (holdings y) fills k
+          ∙ ap (λ b. cond b (first_of now) (holding_at (holdings r) k)) e)
+
+  -- Each bundle has the same pins; or one is another.
+  pub same_bundles : SameBundles (Some r) (Some y) → BundlesStay s t w
+  same_bundles same k = bundle_at t w y k after ∙ same.each k ∙ sym (bundle_at s w r k before)
+
+  module _ (slot : ℕ) (pages : List ℕ) (change : Gathers (Some r) (Some y) slot pages) where
+    pub bundle_here : bundle_of t w slot ≡ pages
+    bundle_here =
+        bundle_at t w y slot after ∙ change.each slot
+        ∙ ap (λ b. cond b pages (bundle_in (Some r) slot)) (its_own slot)
+
+    pub other_bundles : OtherBundlesStay s t w slot
+    other_bundles k ne =
+        bundle_at t w y k after ∙ change.each k
+        ∙ ap (λ b. cond b pages (bundle_in (Some r) k)) (not_its k slot ne) ∙ sym (bundle_at s w r k before)
 
 -- ---- marks
 

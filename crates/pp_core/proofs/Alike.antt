@@ -7,10 +7,10 @@ use Rattle.pp_core.specs.declared.seat.Seat.{Seat}
 use Rattle.pp_core.specs.Parts.{Parts}
 use Rattle.pp_core.specs.StandsFor.{StandsFor, Asks, CannotAct}
 use Rattle.pp_core.specs.Effects.{phase_of, acting_fault, IsIn}
-use Rattle.pp_core.specs.Queries.{is_idle, is_leaving, ask_of, held_of, errand_of, flushed_page}
+use Rattle.pp_core.specs.Queries.{is_idle, is_leaving, ask_of, held_of, bundle_of, pending_of, errand_of, flushed_page}
 use Rattle.pp_core.proofs.Asking.{InPhase, in_phase, asks_this, cannot, acts}
 use Rattle.pp_core.proofs.QueryTies.{idle_told, leaving_told, held_told, errand_told, ask_told, none_told, frame_told}
-use Rattle.pp_core.proofs.QueryTies.{mark_told, flush_told}
+use Rattle.pp_core.proofs.QueryTies.{mark_told, flush_told, bundle_told, pending_told}
 
 module _ (f : Parts) (s t : State) (a : StandsFor f s) (b : StandsFor f t) where
   pub same_idle : (w : ℕ) → is_idle s w ≡ is_idle t w
@@ -21,6 +21,12 @@ module _ (f : Parts) (s t : State) (a : StandsFor f s) (b : StandsFor f t) where
 
   pub same_held : (w slot : ℕ) → held_of s w slot ≡ held_of t w slot
   same_held w slot = sym (held_told f s a w slot) ∙ held_told f t b w slot
+
+  pub same_bundle : (w slot : ℕ) → bundle_of s w slot ≡ bundle_of t w slot
+  same_bundle w slot = sym (bundle_told f s a w slot) ∙ bundle_told f t b w slot
+
+  pub same_pending : (w : ℕ) → pending_of s w ≡ pending_of t w
+  same_pending w = sym (pending_told f s a w) ∙ pending_told f t b w
 
   pub same_errand : (w : ℕ) → errand_of s w ≡ errand_of t w
   same_errand w = sym (errand_told f s a w) ∙ errand_told f t b w

@@ -2,8 +2,8 @@
 use Rattle.std.proofs.Common.{◌≡◌, ◌∙◌, ℕ, ◌+◌, ◌-◌, ◌*◌, ◌<◌, ◌≤◌, Bool, true, false, Option, Some, None, [], ◌∷◌}
 use Rattle.std.proofs.Common.{length}
 use Rattle.std.proofs.Common.{refl, sym, ap, subst, arith}
-use Rattle.std.specs.Prelude.{slice_get, slice_set, option_map, unwrap_or, Result, Ok, Err, not, ◌||◌, ◌==◌}
-use Rattle.pp_plan.specs.declared.action.Action.TheVariants as action
+use Rattle.std.specs.Prelude.{slice_get, slice_set, option_map, option_and_then, unwrap_or, Result, Ok, Err, not, ◌||◌, ◌==◌}
+use Rattle.pp_plan.specs.declared.action.Ask.TheVariants as ask
 use Rattle.pp_plan.specs.Limits.{most_slots}
 use Rattle.pp_cert.specs.Accepted.{Acceptance}
 use Rattle.pp_arc.specs.FourLists.{FourLists, is_cached}
@@ -32,8 +32,8 @@ use Rattle.pp_model.proofs.Changes.{IsAt}
 use Rattle.pp_model.proofs.Sums.{sum_by-term}
 use Rattle.pp_model.proofs.Falls.{left_at}
 use Rattle.pp_model.proofs.HeldSlots.{few_held}
+use Rattle.pp_model.proofs.Stuck.{fix_fits}
 use Rattle.pp_model.proofs.HoldingSteps as steps
-use Rattle.pp_core.proofs.PlainSlots as plain
 use Rattle.pp_model.proofs.BoundSteps as numbers
 use Rattle.pp_model.proofs.FlightSteps as flights
 use Rattle.pp_model.proofs.MarkSteps as marked
@@ -48,7 +48,8 @@ use Rattle.pp_core.specs.declared.seat.Phase.TheVariants.{Acting, Writing, Readi
 use Rattle.pp_core.specs.declared.seat.Seat.{Seat}
 use Rattle.pp_core.specs.Parts.{Parts}
 use Rattle.pp_core.specs.StandsFor.{FitsStage, FitsRunning, FitsSeat, StandsFor, IsKept, Moves}
-use Rattle.pp_core.specs.Effects.{phase_of, IsIn, Runs, displaced, frame_at as frame_in, Acted}
+use Rattle.pp_core.specs.Effects.{phase_of, ask_in, IsIn, Runs, CanAct, displaced, frame_at as frame_in, Acted, stacks_after}
+use Rattle.pp_core.specs.Gathered.{BundlesFit}
 use Rattle.pp_core.specs.Answering.{writing_of, reading_of, is_misread, left_of, CanLose, CanWrite, written, CanBring}
 use Rattle.pp_core.specs.Answering.{brought}
 use Rattle.pp_core.specs.Answering.{CanForget, forgotten, CanLoad, Loaded}
@@ -57,6 +58,7 @@ use Rattle.pp_core.proofs.Asking.{in_phase, both, runs}
 use Rattle.pp_core.proofs.Ties.{Leads, moves_by, refuses, SameFrame, stands_with, flies_set, flies_both}
 use Rattle.pp_core.proofs.ActTies.{can_act, acted_crew, reading_on, load_due, load_follow}
 use Rattle.pp_core.proofs.SentTies.{staged_crew}
+use Rattle.pp_core.proofs.Gathered.{asked_bundles, staged_bundles, bundles_few, has_record}
 
 -- ---- errands
 
@@ -282,7 +284,7 @@ module _ (f : Parts) (w : ℕ) (e : Write) (writes : ◌≡◌ {A = Result Write
       let x = there s st in
       omega (
         arith,
-        (plain.writing_finds s st.reached w x.running e.slot e.page e.victim x.at).low,
+        (steps.writing_finds s st.reached w x.running e.slot e.page e.victim x.at).low,
         notes_length s st.reached,
       )
 
@@ -341,6 +343,8 @@ module _ (f : Parts) (w : ℕ) (e : Write) (writes : ◌≡◌ {A = Result Write
           let y = x.seat in
           let v = e.victim in
           let t = with_stage (with_dirty s v false) w r (reading e.slot e.page) in
+          let bundles = staged_bundles f.bundles s t w r (reading e.slot e.page) st.bundles x.at.seat
+          (sym (ap given_back x.at.stage)) refl refl in
           let crew = staged_crew f s w y r (Reading e.slot e.page) (reading e.slot e.page) st x.is_in x.at.seat
           (sym (ap given_back x.at.stage)) (refl, refl) in
           let same : SameFrame s t = record {
@@ -370,8 +374,8 @@ module _ (f : Parts) (w : ℕ) (e : Write) (writes : ◌≡◌ {A = Result Write
             replies = tells ∙ ap MustRead (frame_is s st);
             stands = λ reached. subst (λ (z : Parts). StandsFor z t) (sym (parts y x.is_in))
                 (stands_with f s t (slice_set f.seats w (Some (record y { phase = Reading e.slot e.page }))) f.lists
-                (map.with_dirty f.marks v false) (slice_set f.in_flight v false) (f.budget - 1) st reached same crew
-                st.lists now long flies (numbers.write_peaks s st.reached w r e.slot e.page v x.at) budget);
+                (map.with_dirty f.marks v false) f.bundles (slice_set f.in_flight v false) (f.budget - 1) st reached
+                same crew st.lists now bundles long flies (numbers.write_peaks s st.reached w r e.slot e.page v x.at) budget);
           }
 
   pub can_bring : IsKept f → CanBring f w e.page e.victim
@@ -420,6 +424,8 @@ module _ (f : Parts) (w : ℕ) (e : Write) (writes : ◌≡◌ {A = Result Write
           let y = x.seat in
           let v = e.victim in
           let t = with_stage (brought_back s e.page v) w r (leaving []) in
+          let bundles = staged_bundles f.bundles s t w r (leaving []) st.bundles x.at.seat
+          (sym (ap given_back x.at.stage)) refl refl in
           let crew = staged_crew f s w y r Leaving (leaving []) st x.is_in x.at.seat (sym
           (ap given_back x.at.stage)) tt in
           let same : SameFrame s t = record {
@@ -464,10 +470,10 @@ module _ (f : Parts) (w : ℕ) (e : Write) (writes : ◌≡◌ {A = Result Write
                 (sym (parts y r.accepted (runs f s w y r st x.is_in x.fits)))
                 (stands_with f s t (slice_set f.seats w (Some (record y { phase = Leaving })))
                 (bring_back_in f.lists e.page v)
-                (map.with_frame (displaced f.marks e.page) v (Some (frame_in f.marks e.page)))
+                (map.with_frame (displaced f.marks e.page) v (Some (frame_in f.marks e.page))) f.bundles
                 (slice_set (slice_set f.in_flight e.page false) v false) (f.budget - left + (y.holds + 1))
                 st reached same
-                crew (ap (λ (l : FourLists). bring_back_in l e.page v) st.lists) now long flies
+                crew (ap (λ (l : FourLists). bring_back_in l e.page v) st.lists) now bundles long flies
                 (numbers.bring_peaks s st.reached w r e.slot e.page v x.at) budget);
           }
 
@@ -482,7 +488,7 @@ module _ (f : Parts) (w : ℕ) (e : Read) (reads : ◌≡◌ {A = Result Read Ca
       let x = here s st in
       omega (
         arith,
-        (plain.reading_finds s st.reached w x.running e.slot e.page x.at).low,
+        (steps.reading_finds s st.reached w x.running e.slot e.page x.at).low,
         notes_length s st.reached,
       )
 
@@ -524,6 +530,8 @@ module _ (f : Parts) (w : ℕ) (e : Read) (reads : ◌≡◌ {A = Result Read Ca
           let r = x.running in
           let y = x.seat in
           let t = with_stage (with_frame (with_lists s (forget s.lists e.page)) e.page None) w r (leaving []) in
+          let bundles = staged_bundles f.bundles s t w r (leaving []) st.bundles x.at.seat
+          (sym (ap given_back x.at.stage)) refl refl in
           let crew = staged_crew f s w y r Leaving (leaving []) st x.is_in x.at.seat (sym
           (ap given_back x.at.stage)) tt in
           let same : SameFrame s t = record {
@@ -563,9 +571,9 @@ module _ (f : Parts) (w : ℕ) (e : Read) (reads : ◌≡◌ {A = Result Read Ca
             stands = λ reached. subst (λ (z : Parts). StandsFor z t)
                 (sym (parts y r.accepted (runs f s w y r st x.is_in x.fits)))
                 (stands_with f s t (slice_set f.seats w (Some (record y { phase = Leaving }))) (forget f.lists e.page)
-                (displaced f.marks e.page) (slice_set f.in_flight e.page false) (f.budget - left + (y.holds + 1))
+                (displaced f.marks e.page) f.bundles (slice_set f.in_flight e.page false) (f.budget - left + (y.holds + 1))
                 st reached
-                same crew (ap (λ (l : FourLists). forget l e.page) st.lists) now long flies
+                same crew (ap (λ (l : FourLists). forget l e.page) st.lists) now bundles long flies
                 (numbers.forget_peaks s st.reached w r e.slot e.page x.at) budget);
           }
 
@@ -593,6 +601,12 @@ module _ (f : Parts) (w : ℕ) (e : Read) (reads : ◌≡◌ {A = Result Read Ca
   misread_moves g named stamp is parts =
       forgotten_moves g (Image named stamp) Misread (λ s st. image_is s st named stamp true is) parts
 
+  -- The seat has what the plan asks.
+  ask_told : (s : State) (st : StandsFor f s) → ask_in f w ≡ asked_by (here s st).running
+  ask_told s st =
+      let x = here s st in
+      ap (λ o. unwrap_or (option_map (λ (y : Seat). y.ask) (option_and_then (λ z. z) o)) ask.End) x.is_in ∙ x.fits.ask
+
   pub can_load : IsKept f → CanLoad f w e.slot e.page
   can_load k =
       let s = k.state in
@@ -600,7 +614,14 @@ module _ (f : Parts) (w : ℕ) (e : Read) (reads : ◌≡◌ {A = Result Read Ca
       let x = here s st in
       let r = x.running in
       record {
-        can = can_act f s w r (action.Fix e.slot e.page) st x.at.seat (load_due f s w r st e.slot e.page x.at);
+        can = subst (λ k. CanAct f w (fixes k e.slot e.page)) (sym (ask_told s st))
+            (can_act f s w r (fixes (asked_by r) e.slot e.page) st x.at.seat
+            (load_due f s w r st e.slot e.page x.at));
+        record_free = has_record f.bundles s st.reached w r (ask_in f w) e.slot e.page st.bundles x.at.seat
+            (steps.reading_finds s st.reached w r e.slot e.page x.at).few
+            (bundles_few s st.reached w r x.at.seat
+            (fix_fits s.settings.layout r e.slot e.page (steps.seat_is s st.reached w r x.at.seat)
+            (ap given_back x.at.stage) (steps.reading_asks s st.reached w r e.slot e.page x.at)));
         flight = omega (arith, read_low s st, st.pages);
         low = omega (arith, read_low s st, count_told s, ap (λ (m : PageMap). map.page_count m) st.marks);
         budget = omega (arith, st.budget, read_left s st, sum_by-term left_to s.seats w (Some r) x.at.seat);
@@ -616,7 +637,11 @@ module _ (f : Parts) (w : ℕ) (e : Read) (reads : ◌≡◌ {A = Result Read Ca
           let r = x.running in
           let d = fixes (asked_by r) e.slot e.page in
           let t = did (with_mark s e.page stamp) w r d in
-          let acts = subst (Acted f g w) (sym (plain.is_fix s st.reached w r e.slot e.page)) load.acted in
+          let told = ask_told s st in
+          let acts = subst (λ k. Acted f g w (fixes k e.slot e.page)) told load.acted in
+          let bundles = subst (λ k. BundlesFit (stacks_after w (fixes k e.slot e.page) f.bundles) t) (sym told)
+          (asked_bundles f.bundles s t st.reached w r d st.bundles x.at.seat (ap given_back x.at.stage)
+          (steps.reading_asks s st.reached w r e.slot e.page x.at) refl refl) in
           let crew = acted_crew f g s w r d st acts x.at.seat (reading_on f s w r st e.slot e.page x.at)
           (load_follow f s w r st e.slot e.page x.at) in
           let same : SameFrame s t = record {
@@ -646,6 +671,7 @@ module _ (f : Parts) (w : ℕ) (e : Read) (reads : ◌≡◌ {A = Result Read Ca
             replies = refl;
             stands = λ reached. subst (λ (z : Parts). StandsFor z t) (sym load.rest)
                 (stands_with f s t g.seats f.lists (map.with_stamp f.marks e.page (Some stamp))
-                (slice_set f.in_flight e.page false) (f.budget - 1) st reached same crew st.lists now long flies
+                (stacks_after w (fixes (ask_in f w) e.slot e.page) f.bundles) (slice_set f.in_flight e.page false)
+                (f.budget - 1) st reached same crew st.lists now bundles long flies
                 (numbers.load_peaks s st.reached w r e.slot e.page stamp x.at) budget);
           }

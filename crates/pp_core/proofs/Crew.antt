@@ -1,5 +1,5 @@
 -- The seats that the core keeps and those of the state, worker by worker.
-use Rattle.std.proofs.Common.{◌≡◌, ℕ, zero, suc, Option, Some, None, List, [], ◌∷◌, length, refl, sym}
+use Rattle.std.proofs.Common.{◌≡◌, ◌≢◌, ℕ, zero, suc, Option, Some, None, List, [], ◌∷◌, length, refl, sym}
 use Rattle.std.proofs.Common.{ap, arith, subst}
 use Rattle.std.specs.Prelude.{slice_get, slice_set}
 use Rattle.pp_cert.specs.Accepted.{Acceptance}
@@ -28,6 +28,21 @@ pub set_length : {A : Type 0} (xs : List A) (i : ℕ) (x : A) → length (slice_
 set_length [] i x = refl
 set_length (y ∷ ys) zero x = refl
 set_length (y ∷ ys) (suc i) x = ap suc (set_length ys i x)
+
+pub set_here : {A : Type 0} (xs : List A) (i k : ℕ) (x y : A) → k ≡ i → slice_get (slice_set xs i x) k ≡ Some y → y ≡ x
+set_here {A = A} xs i k x y same e = at xs i (subst (λ (j : ℕ). slice_get (slice_set xs i x) j ≡ Some y) same e)
+  where
+    at : (zs : List A) (j : ℕ) → slice_get (slice_set zs j x) j ≡ Some y → y ≡ x
+    at [] j f = cc
+    at (z ∷ zs) zero f = cc
+    at (z ∷ zs) (suc j) f = at zs j f
+
+pub set_apart : {A : Type 0} (xs : List A) (i k : ℕ) (x : A) → k ≢ i → slice_get (slice_set xs i x) k ≡ slice_get xs k
+set_apart [] i k x ne = refl
+set_apart (y ∷ ys) zero zero x ne = absurd (ne refl)
+set_apart (y ∷ ys) zero (suc k) x ne = refl
+set_apart (y ∷ ys) (suc i) zero x ne = refl
+set_apart (y ∷ ys) (suc i) (suc k) x ne = set_apart ys i k x (λ e. ne (ap suc e))
 
 -- ---- seats
 

@@ -7,14 +7,13 @@ use Rattle.std.proofs.lemmas.Bool.Decides.{nat_tests}
 use Rattle.std.proofs.lemmas.List.Quantifiers.{position-Some}
 use Rattle.std.proofs.lemmas.Option.{get_or_from_slice_get, slice_get_within}
 use Rattle.pp_settings.specs.declared.extent.Extent.{Extent}
-use Rattle.pp_settings.specs.Layout.{Geometry, has_page, IsExtent, IsLayout}
+use Rattle.pp_settings.specs.Layout.{Geometry, HasPage, has_page, IsExtent, IsLayout}
 use Rattle.pp_plan.specs.declared.action.Action.{Action}
 use Rattle.pp_plan.specs.declared.action.Action.TheVariants as action
 use Rattle.pp_plan.specs.declared.action.Ask.{Ask}
 use Rattle.pp_plan.specs.declared.action.Ask.TheVariants as ask
 use Rattle.pp_plan.specs.Cursor.{NamesAction, IsAskOf}
 use Rattle.pp_plan.proofs.Asking.{asks_named, asked_within}
-use Rattle.pp_plan.proofs.NoBundle.{no_gather, no_scatter}
 use Rattle.pp_cert.specs.Held.{Holding, Holdings, holding_at}
 use Rattle.pp_model.specs.declared.moves.Move.{Move}
 use Rattle.pp_model.specs.declared.moves.Move.TheVariants as move
@@ -263,10 +262,18 @@ no_extent [] r lt e = omega (arith, lt)
 no_extent (x ∷ xs) zero lt e = cc
 no_extent (x ∷ xs) (suc r) lt e = no_extent xs r (omega (arith, lt)) e
 
-pub some_region : (f : Parts) (w slot region : ℕ) → IsKept f → Asks f w (ask.Fix slot region)
+-- A page of the region is asked, by a fix or by a gather.
+abbrev pub WantsPage : Ask → (region : ℕ) → Type 0
+WantsPage x region = ((slot : ℕ) × (x ≡ ask.Fix slot region)) ⊎ ((slot : ℕ) × (x ≡ ask.Gather slot region))
+
+pub some_region : (f : Parts) (w : ℕ) (x : Ask) (region : ℕ) → IsKept f → Asks f w x → WantsPage x region
     → slice_get f.layout.extents region ≡ None → ⊥
-some_region f w slot region kept asks none =
-    let i = ask_within f w (ask.Fix slot region) kept asks in no_extent f.layout.extents region i.1.1 none
+some_region f w x region kept asks (inl a) none =
+    let i = ask_within f w (ask.Fix a.0 region) kept (subst (Asks f w) a.1 asks) in
+    no_extent f.layout.extents region i.1.1 none
+some_region f w x region kept asks (inr a) none =
+    let i = ask_within f w (ask.Gather a.0 region) kept (subst (Asks f w) a.1 asks) in
+    no_extent f.layout.extents region i.1.1 none
 
 pub region_is : (f : Parts) (region : ℕ) (e : Extent) → IsKept f → slice_get f.layout.extents region ≡ Some e
     → IsExtent e
@@ -276,21 +283,32 @@ region_is f region e kept at =
     subst IsExtent (get_or_from_slice_get f.layout.extents region e e at)
     (l.extents region e (slice_get_within f.layout.extents region e at))
 
--- A page that is decided is one of the region's.
-pub page_asked : (g : Geometry) (slot region page : ℕ) (e : Extent) → slice_get g.extents region ≡ Some e
-    → e.first ≤ page → page < e.first + e.count → NamesAction g (ask.Fix slot region) (action.Fix slot page)
-page_asked g slot region page e at from below =
-    let has : has_page page e ≡ true = grind (arith, nat_tests) in (refl, (e, at, has))
+-- A page that is decided is one of the region's, so the worker can fix it.
+has_it : (g : Geometry) (region page : ℕ) (e : Extent) → slice_get g.extents region ≡ Some e → e.first ≤ page
+    → page < e.first + e.count → HasPage g region page
+has_it g region page e at from below = let has : has_page page e ≡ true = grind (arith, nat_tests) in (e, at, has)
 
--- No plan asks a bundle.
-pub none_bundled : (f : Parts) (w : ℕ) (x : Ask) → IsKept f → Asks f w x
-    → ((slot : ℕ) × (region : ℕ) × (x ≡ ask.Gather slot region)) ⊎ ((slot : ℕ) × (x ≡ ask.Scatter slot)) → ⊥
-none_bundled f w x kept asks is = go (asks kept.state kept.stands) is
-  where
-    go : ((r : Running) × IsActing kept.state w r × (asked_by r ≡ x))
-        → ((slot : ℕ) × (region : ℕ) × (x ≡ ask.Gather slot region)) ⊎ ((slot : ℕ) × (x ≡ ask.Scatter slot)) → ⊥
-    go at (inl g) = no_gather at.0.accepted.plan at.0.done g.0 g.1 (at.2 ∙ g.2)
-    go at (inr g) = no_scatter at.0.accepted.plan at.0.done g.0 (at.2 ∙ g.1)
+pub page_action : (f : Parts) (w : ℕ) (x : Ask) (region page : ℕ) (e : Extent) → IsOpenIn f (Act w) → Asks f w x
+    → WantsPage x region → slice_get f.layout.extents region ≡ Some e → e.first ≤ page → page < e.first + e.count
+    → CanBeMade f (move.Fix w page)
+page_action f w x region page e opens asks (inl a) at from below =
+    asked_action f w x (action.Fix a.0 page) opens asks
+    (subst (λ y. NamesAction f.layout y (action.Fix a.0 page)) (sym a.1)
+    (refl, has_it f.layout region page e at from below))
+page_action f w x region page e opens asks (inr a) at from below =
+    asked_action f w x (action.Gather a.0 page) opens asks
+    (subst (λ y. NamesAction f.layout y (action.Gather a.0 page)) (sym a.1)
+    (refl, has_it f.layout region page e at from below))
+
+pub page_decided : {H : Type 0} (host : Host H) (f : Parts) (w : ℕ) (x : Ask) (region page : ℕ) (e : Extent) (h i : H)
+    → Asks f w x → WantsPage x region → slice_get f.layout.extents region ≡ Some e
+    → host.picks h region e.first e.count page i → DecidesIn host f (Act w) h (move.Fix w page) i
+page_decided host f w x region page e h i asks (inl a) at picked =
+    asked_decided host f w x h (move.Fix w page) i asks
+    (subst (λ y. DoesAsked host f.layout w y h (move.Fix w page) i) (sym a.1) (e, page, at, picked, refl))
+page_decided host f w x region page e h i asks (inr a) at picked =
+    asked_decided host f w x h (move.Fix w page) i asks
+    (subst (λ y. DoesAsked host f.layout w y h (move.Fix w page) i) (sym a.1) (e, page, at, picked, refl))
 
 -- There is some branch.
 pub some_branch : (f : Parts) (w n : ℕ) → IsKept f → Asks f w (ask.Choose n) → 1 ≤ n

@@ -3,11 +3,9 @@ use Rattle.std.proofs.Common.{◌≡◌, ◌∙◌, ℕ, ◌+◌, ◌-◌, ◌<�
 use Rattle.std.proofs.Common.{refl, sym, ap, subst, arith}
 use Rattle.std.specs.Prelude.{slice_set, slice_index_or, option_map, unwrap_or, IsSome, nat_lt, ◌||◌}
 use Rattle.std.proofs.lemmas.Option.{slice_get-get_or}
-use Rattle.pp_plan.specs.declared.action.Action.TheVariants as action
 use Rattle.pp_plan.specs.declared.action.Ask.TheVariants as ask
 use Rattle.pp_plan.specs.declared.action.Ask.{Ask}
 use Rattle.pp_plan.specs.Asked.{region_has}
-use Rattle.pp_plan.proofs.NoBundle.{no_gather}
 use Rattle.pp_arc.specs.declared.answer.Answer.{Answer}
 use Rattle.pp_arc.specs.declared.answer.Answer.TheVariants as answer
 use Rattle.pp_arc.specs.FourLists.{FourLists}
@@ -30,7 +28,6 @@ use Rattle.pp_model.specs.Fixing.{fix_where, fix_asked}
 use Rattle.pp_model.specs.Moves.{asked_by, outcome_of}
 use Rattle.pp_model.proofs.Changes.{IsAnswered, slot_asked, IsAsked}
 use Rattle.pp_model.proofs.HoldingSteps as steps
-use Rattle.pp_core.proofs.PlainSlots as plain
 use Rattle.pp_model.proofs.BoundSteps as numbers
 use Rattle.pp_model.proofs.FlightSteps as flights
 use Rattle.pp_model.proofs.MarkSteps as marked
@@ -38,21 +35,24 @@ use Rattle.pp_model.proofs.MarkChanges.{notes_stay, count_told, pins_told, frame
 use Rattle.pp_model.proofs.MarkParts.{marks_is}
 use Rattle.pp_model.proofs.Framed.{notes_length, pages_are, cached_low}
 use Rattle.pp_model.proofs.PinRoom.{pins_room}
+use Rattle.pp_model.proofs.Stuck.{fix_fits}
 use Rattle.pp_core.specs.declared.seat.Phase.TheVariants.{Reading, Writing}
 use Rattle.pp_core.specs.declared.seat.Seat.{Seat}
 use Rattle.pp_core.specs.declared.table.Flush.{Flush}
 use Rattle.pp_core.specs.Busy.{is_that}
 use Rattle.pp_core.specs.Parts.{Parts}
 use Rattle.pp_core.specs.StandsFor.{StandsFor, IsKept, Moves, Asks, in_flight_as}
-use Rattle.pp_core.specs.Effects.{IsIn, Spent, pinned, is_flying, placed, is_busy as is_busy_in, Acted}
+use Rattle.pp_core.specs.Effects.{IsIn, Spent, pinned, is_flying, placed, is_busy as is_busy_in, Acted, CanAct, stacks_after}
+use Rattle.pp_core.specs.Gathered.{BundlesFit}
 use Rattle.pp_core.specs.Effects.{frame_at as frame_in, mark_at as mark_in}
-use Rattle.pp_core.specs.Fixing.{CanHit, CanFill, CanTakeOver, CanEvict, CanSend, free_frame, filled, taken_over}
+use Rattle.pp_core.specs.Fixing.{wanted, CanHit, CanFill, CanTakeOver, CanEvict, CanSend, free_frame, filled, taken_over}
 use Rattle.pp_core.specs.Fixing.{evicted, sent}
 use Rattle.pp_core.proofs.Crew.{set_length}
 use Rattle.pp_core.proofs.Ties.{Leads, moves_by, refuses, acted_outcome, SameFrame, stands_with, Flies}
 use Rattle.pp_core.proofs.Ties.{flies_set, flies_both}
 use Rattle.pp_core.proofs.ActTies.{kept, can_act, acted_crew, acting_on, fix_due, fix_follow}
 use Rattle.pp_core.proofs.SentTies.{staged_crew, can_act_listed, acted_listed}
+use Rattle.pp_core.proofs.Gathered.{asked_bundles, staged_bundles, bundles_few, has_record}
 use Rattle.pp_core.proofs.UsingMoves.{asked_bound, mark_told}
 
 -- ---- pages in flight and pages that are busy
@@ -97,27 +97,47 @@ record AskedFix (s : State) (w slot page : ℕ) : Type 0 where
   running : Running
   asked : IsAsked s w running (fixes (asked_by running) slot page)
 
--- A fix isn't asked where the plan asks no fix. (No plan asks a gather.)
-no_slot : (r : Running) (page : ℕ) (x : Ask) → asked_by r ≡ x
-    → ((slot region : ℕ) → x ≡ ask.Fix slot region → ⊥) → fix_slot r page x ≡ None
-no_slot r page (ask.Fix slot region) e isnt = absurd (isnt slot region refl)
-no_slot r page (ask.Unfix slot) e isnt = refl
-no_slot r page (ask.Latch slot m) e isnt = refl
-no_slot r page (ask.Unlatch slot) e isnt = refl
-no_slot r page (ask.Gather slot region) e isnt = absurd (no_gather r.accepted.plan r.done slot region e)
-no_slot r page (ask.Scatter slot) e isnt = refl
-no_slot r page (ask.Choose n) e isnt = refl
-no_slot r page ask.End e isnt = refl
+-- The plan asks a page of the region into the slot: a fix, or a gather.
+abbrev pub AsksIn : Ask → (slot region : ℕ) → Type 0
+AsksIn k slot region = wanted k ≡ Some (slot, region)
 
-pub fix_unasked : (f : Parts) (w page : ℕ) (x : Ask) → Asks f w x
-    → ((slot region : ℕ) → x ≡ ask.Fix slot region → ⊥) → Moves f (move.Fix w page) (OffPlan NotAsked) f
-fix_unasked f w page x asks isnt = refuses f (move.Fix w page) (OffPlan NotAsked) (λ s st.
+-- No page goes into a slot where the plan asks neither.
+no_slot : (r : Running) (page : ℕ) (x : Ask) → wanted x ≡ None → fix_slot r page x ≡ None
+no_slot r page (ask.Fix slot region) e = cc
+no_slot r page (ask.Unfix slot) e = refl
+no_slot r page (ask.Latch slot m) e = refl
+no_slot r page (ask.Unlatch slot) e = refl
+no_slot r page (ask.Gather slot region) e = cc
+no_slot r page (ask.Scatter slot) e = refl
+no_slot r page (ask.Choose n) e = refl
+no_slot r page ask.End e = refl
+
+abbrev slot_with : (r : Running) (page : ℕ) (p : ℕ × ℕ) → Option ℕ
+slot_with r page p = cond (region_has r.accepted.plan.layout p.1 page) (Some p.0) None
+
+same_pair : (p q : ℕ × ℕ) → Some p ≡ Some q → p ≡ q
+same_pair p q e = cc
+
+slot_in : (r : Running) (page : ℕ) (x : Ask) (slot region : ℕ) → AsksIn x slot region
+    → fix_slot r page x ≡ cond (region_has r.accepted.plan.layout region page) (Some slot) None
+slot_in r page (ask.Fix a b) slot region e = ap (slot_with r page) (same_pair (a, b) (slot, region) e)
+slot_in r page (ask.Unfix a) slot region e = cc
+slot_in r page (ask.Latch a m) slot region e = cc
+slot_in r page (ask.Unlatch a) slot region e = cc
+slot_in r page (ask.Gather a b) slot region e = ap (slot_with r page) (same_pair (a, b) (slot, region) e)
+slot_in r page (ask.Scatter a) slot region e = cc
+slot_in r page (ask.Choose n) slot region e = cc
+slot_in r page ask.End slot region e = cc
+
+pub fix_unasked : (f : Parts) (w page : ℕ) (x : Ask) → Asks f w x → wanted x ≡ None
+    → Moves f (move.Fix w page) (OffPlan NotAsked) f
+fix_unasked f w page x asks none = refuses f (move.Fix w page) (OffPlan NotAsked) (λ s st.
     let at = asks s st in
     acted_outcome s w at.0 (λ q. fix_asked s w q page (fix_slot q page (asked_by q))) at.1
     ∙ ap (λ y. fix_asked s w at.0 page (fix_slot at.0 page y)) at.2
-    ∙ ap (fix_asked s w at.0 page) (no_slot at.0 page x at.2 isnt))
+    ∙ ap (fix_asked s w at.0 page) (no_slot at.0 page x none))
 
-module _ (f : Parts) (w page slot region : ℕ) (asks : Asks f w (ask.Fix slot region)) where
+module _ (f : Parts) (w page slot region : ℕ) (wants : Ask) (into : AsksIn wants slot region) (asks : Asks f w wants) where
   in_layout : (s : State) (st : StandsFor f s) (b : Bool) → region_has f.layout region page ≡ b
       → region_has (asks s st).0.accepted.plan.layout region page ≡ b
   in_layout s st b e =
@@ -129,6 +149,7 @@ module _ (f : Parts) (w page slot region : ℕ) (asks : Asks f w (ask.Fix slot r
       → fix_slot (asks s st).0 page (asked_by (asks s st).0) ≡ cond b (Some slot) None
   slot_is s st b e =
       ap (fix_slot (asks s st).0 page) (asks s st).2
+      ∙ slot_in (asks s st).0 page wants slot region into
       ∙ ap (λ (k : Bool). cond k (Some slot) None) (in_layout s st b e)
 
   outcome_is : (s : State) (st : StandsFor f s) (b : Bool) → region_has f.layout region page ≡ b
@@ -153,18 +174,12 @@ module _ (f : Parts) (w page slot region : ℕ) (asks : Asks f w (ask.Fix slot r
           };
         }
 
-    is_fix : (s : State) (st : StandsFor f s) → fixes (asked_by (fix_of s st).running) slot page ≡ action.Fix slot page
-    is_fix s st = plain.is_fix s st.reached w (fix_of s st).running slot page
-
-    plainly : (s : State) (st : StandsFor f s) → IsAsked s w (fix_of s st).running (action.Fix slot page)
-    plainly s st = subst (IsAsked s w (fix_of s st).running) (is_fix s st) (fix_of s st).asked
-
     low_in : (s : State) → StandsFor f s → page < length s.notes
     low_in s st =
         let h = fix_of s st in
         omega (
           arith,
-          (plain.fix_finds s st.reached w h.running slot page (plainly s st)).low,
+          (steps.fix_finds s st.reached w h.running slot page h.asked).low,
           notes_length s st.reached,
         )
 
@@ -234,16 +249,24 @@ module _ (f : Parts) (w page slot region : ℕ) (asks : Asks f w (ask.Fix slot r
 
       -- ---- hit
 
-      pub can_hit : IsKept f → a ≡ answer.Hit → CanHit (record f { lists = after }) w slot page
+      pub can_hit : IsKept f → a ≡ answer.Hit → CanHit (record f { lists = after }) w wants slot page
       can_hit k hit =
           let s = k.state in
           let st = k.stands in
           let h = fix_of s st in
           let is_hit = subst (IsAnswered s page after) hit (answered s st) in
+          let r = h.running in
+          let d = fixes (asked_by r) slot page in
+          let seat = steps.seat_is s st.reached w r h.asked.at.seat in
+          let more = fix_fits s.settings.layout r slot page seat (ap given_back h.asked.at.stage)
+          (steps.asks_it s st.reached w r d h.asked) in
           record {
-            can = can_act_listed f after w (action.Fix slot page)
-                (can_act f s w h.running (action.Fix slot page) st h.asked.at.seat
-                (fix_due f s w h.running st slot page (plainly s st)));
+            can = subst (λ z. CanAct (record f { lists = after }) w (fixes z slot page)) (asks s st).2
+                (can_act_listed f after w d
+                (can_act f s w r d st h.asked.at.seat (fix_due f s w r st slot page h.asked)));
+            record_free = has_record f.bundles s st.reached w r wants slot page st.bundles h.asked.at.seat
+                (steps.fix_finds s st.reached w r slot page h.asked).few
+                (bundles_few s st.reached w r h.asked.at.seat more);
             placed = subst (λ (m : PageMap). IsSome (map.frame_of m page)) (sym st.marks)
                 (marked.hit_placed s st.reached w h.running slot page after h.asked is_hit);
             room = pins_fit s st;
@@ -251,7 +274,7 @@ module _ (f : Parts) (w page slot region : ℕ) (asks : Asks f w (ask.Fix slot r
           }
 
       pub hit_moves : (g : Parts) (reply : Reply) → a ≡ answer.Hit
-          → Spent (record f { lists = after }) g w (action.Fix slot page) (pinned f.marks page)
+          → Spent (record f { lists = after }) g w (fixes wants slot page) (pinned f.marks page)
           → reply ≡ Hit (frame_in f.marks page) (mark_in f.marks page) → Moves f (move.Fix w page) reply g
       hit_moves g reply hit spent tells = moves_by f g (move.Fix w page) reply leads
         where
@@ -262,9 +285,13 @@ module _ (f : Parts) (w page slot region : ℕ) (asks : Asks f w (ask.Fix slot r
               let d = fixes (asked_by r) slot page in
               let t = did (with_lists s after) w r d in
               let low = low_in s st in
-              let acts = subst (Acted (record f { lists = after }) g w) (sym (is_fix s st)) spent.acted in
+              let acts = subst (λ z. Acted (record f { lists = after }) g w (fixes z slot page)) (sym (asks s st).2)
+              spent.acted in
               let crew = acted_crew f g s w r d st (acted_listed f g after w d acts) h.asked.at.seat
-              (acting_on f s w r st d h.asked) (fix_follow f s w r st slot page (plainly s st)) in
+              (acting_on f s w r st d h.asked) (fix_follow f s w r st slot page h.asked) in
+              let gathers_it = subst (λ z. BundlesFit (stacks_after w (fixes z slot page) f.bundles) t) (asks s st).2
+              (asked_bundles f.bundles s t st.reached w r d st.bundles h.asked.at.seat (ap given_back h.asked.at.stage)
+              (steps.asks_it s st.reached w r d h.asked) refl refl) in
               let same : SameFrame s t = record {
                 settings = refl;
                 plans = refl;
@@ -287,8 +314,9 @@ module _ (f : Parts) (w page slot region : ℕ) (asks : Asks f w (ask.Fix slot r
                 is = by_answer s st ∙ ap (fix_by s after w r slot page) hit;
                 replies = tells ∙ (λ i. Hit (frame i) (mark i));
                 stands = λ reached. subst (λ (z : Parts). StandsFor z t) (sym spent.rest)
-                    (stands_with f s t g.seats after (pinned f.marks page) f.in_flight (f.budget - 3) st reached same
-                    crew refl now st.pages flies (numbers.hit_peaks s st.reached w r slot page after h.asked) budget);
+                    (stands_with f s t g.seats after (pinned f.marks page)
+                    (stacks_after w (fixes wants slot page) f.bundles) f.in_flight (f.budget - 3) st reached same
+                    crew refl now gathers_it st.pages flies (numbers.hit_peaks s st.reached w r slot page after h.asked) budget);
               }
 
       -- ---- fill
@@ -331,6 +359,8 @@ module _ (f : Parts) (w page slot region : ℕ) (asks : Asks f w (ask.Fix slot r
               let x = has_seat s st in
               let t = with_stage (with_frame (with_lists s after) page (Some (free_frame_of s))) w r
               (reading slot page) in
+              let bundles = staged_bundles f.bundles s t w r (reading slot page) st.bundles h.asked.at.seat
+              (sym (ap given_back h.asked.at.stage)) refl refl in
               let crew = staged_crew f s w x.0 r (Reading slot page) (reading slot page) st x.1 h.asked.at.seat
               (sym (ap given_back h.asked.at.stage)) (refl, refl) in
               let same : SameFrame s t = record {
@@ -361,9 +391,9 @@ module _ (f : Parts) (w page slot region : ℕ) (asks : Asks f w (ask.Fix slot r
                 replies = tells ∙ ap MustRead (free_told s st);
                 stands = λ reached. subst (λ (z : Parts). StandsFor z t) (sym (fills x.0 x.1))
                     (stands_with f s t (slice_set f.seats w (Some
-                    (record x.0 { phase = Reading slot page }))) after m (slice_set f.in_flight page true)
+                    (record x.0 { phase = Reading slot page }))) after m f.bundles (slice_set f.in_flight page true)
                     (f.budget - 2) st reached same crew refl
-                    now long flies (numbers.fill_peaks s st.reached w r slot page after h.asked) budget);
+                    now bundles long flies (numbers.fill_peaks s st.reached w r slot page after h.asked) budget);
               }
 
       -- ---- evict
@@ -472,6 +502,8 @@ module _ (f : Parts) (w page slot region : ℕ) (asks : Asks f w (ask.Fix slot r
                 let r = h.running in
                 let x = has_seat s st in
                 let t = with_stage (with_frame_moved (with_lists s after) page v) w r (reading slot page) in
+                let bundles = staged_bundles f.bundles s t w r (reading slot page) st.bundles h.asked.at.seat
+                (sym (ap given_back h.asked.at.stage)) refl refl in
                 let crew = staged_crew f s w x.0 r (Reading slot page) (reading slot page) st x.1 h.asked.at.seat
                 (sym (ap given_back h.asked.at.stage)) (refl, refl) in
                 let same : SameFrame s t = record {
@@ -496,9 +528,9 @@ module _ (f : Parts) (w page slot region : ℕ) (asks : Asks f w (ask.Fix slot r
                   replies = tells ∙ ap MustRead (frame_of_victim s st);
                   stands = λ reached. subst (λ (z : Parts). StandsFor z t) (sym (evicts x.0 x.1))
                       (stands_with f s t (slice_set f.seats w (Some (record x.0 { phase = Reading slot page }))) after
-                      (taken_over f.marks page v) (slice_set f.in_flight page true) (f.budget - 2)
+                      (taken_over f.marks page v) f.bundles (slice_set f.in_flight page true) (f.budget - 2)
                       st reached same crew refl
-                      now long flies (numbers.evict_peaks s st.reached w r slot page v after h.asked) budget);
+                      now bundles long flies (numbers.evict_peaks s st.reached w r slot page v after h.asked) budget);
                 }
 
         pub send_moves : (g : Parts) (reply : Reply) → map.is_dirty f.marks v ≡ true
@@ -512,6 +544,8 @@ module _ (f : Parts) (w page slot region : ℕ) (asks : Asks f w (ask.Fix slot r
                 let r = h.running in
                 let x = has_seat s st in
                 let t = with_stage (with_frame_moved (with_lists s after) page v) w r (writing slot page v) in
+                let bundles = staged_bundles f.bundles s t w r (writing slot page v) st.bundles h.asked.at.seat
+                (sym (ap given_back h.asked.at.stage)) refl refl in
                 let crew = staged_crew f s w x.0 r (Writing slot page v) (writing slot page v) st x.1 h.asked.at.seat
                 (sym (ap given_back h.asked.at.stage)) (refl, refl, refl) in
                 let same : SameFrame s t = record {
@@ -543,8 +577,8 @@ module _ (f : Parts) (w page slot region : ℕ) (asks : Asks f w (ask.Fix slot r
                   replies = tells ∙ ap (λ (n : ℕ). MustWrite n v) frame;
                   stands = λ reached. subst (λ (z : Parts). StandsFor z t) (sym (sends x.0 x.1))
                       (stands_with f s t (slice_set f.seats w (Some (record x.0 { phase = Writing slot page v }))) after
-                      (taken_over f.marks page v) (slice_set (slice_set f.in_flight page true) v true) (f.budget - 1) st
-                      reached same crew refl now long flies
+                      (taken_over f.marks page v) f.bundles (slice_set (slice_set f.in_flight page true) v true)
+                      (f.budget - 1) st reached same crew refl now bundles long flies
                       (numbers.send_peaks s st.reached w r slot page v after h.asked) budget);
                 }
 

@@ -31,6 +31,7 @@ use Rattle.pp_core.specs.Parts.{Parts}
 use Rattle.pp_core.specs.StandsFor.{FitsCrew, StandsFor, IsKept, Moves, in_flight_as}
 use Rattle.pp_core.specs.FlushEffects.{is_changed, flush_begun, is_clean, flush_ended}
 use Rattle.pp_core.specs.Effects.{mark_at as mark_in}
+use Rattle.pp_core.proofs.Gathered.{bundles_kept}
 use Rattle.pp_core.proofs.Crew.{set_length}
 use Rattle.pp_core.proofs.Ties.{Leads, moves_by, refuses}
 use Rattle.pp_core.proofs.UsingMoves.{mark_told}
@@ -63,6 +64,7 @@ flush_stands f s t m flush left b st reached same marked_so flushed so_many boun
       (subst (λ (ys : List (Option Running)). FitsCrew s.plans f.seats ys) (sym same.seats) st.seats);
   lists = st.lists ∙ sym same.lists;
   marks = marked_so;
+  bundles = bundles_kept f.bundles s t st.bundles same.seats same.settings;
   pages = st.pages ∙ sym same.notes;
   in_flight = λ q v e. st.in_flight q v e ∙ sym (same.in_flight q);
   flush = flushed;

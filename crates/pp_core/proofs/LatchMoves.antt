@@ -118,7 +118,7 @@ module _ (f : Parts) (w slot page : ℕ) (asks : Asks f w (ask.Unlatch slot)) (t
   can_unlatch k n =
       let h = unlatch_of k.state k.stands in
       can_spend_marked f n w (action.Unlatch slot)
-      (spend_needs f w (action.Unlatch slot) h (unlatch_due f h.state w h.running h.stands slot h.asked))
+      (spend_needs f w (action.Unlatch slot) h (unlatch_due f h.state w h.running h.stands slot h.asked) refl)
 
   marks_after : (s : State) (st : StandsFor f s) (k : Held) → held_in (asks s st).0 slot ≡ k
       → released k (marks s) (page_in (asks s st).0 slot)
@@ -196,7 +196,7 @@ module _ (f : Parts) (w branches i : ℕ) (asks : Asks f w (ask.Choose branches)
   pub can_choose : IsKept f → CanSpend f w (action.Choose i)
   can_choose k =
       let h = choose_of k.state k.stands in
-      spend_needs f w (action.Choose i) h (choose_due f h.state w h.running h.stands i h.asked)
+      spend_needs f w (action.Choose i) h (choose_due f h.state w h.running h.stands i h.asked) refl
 
   is_branch : nat_lt i branches ≡ true
   is_branch = grind (arith, nat_tests)

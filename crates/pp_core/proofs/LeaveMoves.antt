@@ -39,6 +39,7 @@ use Rattle.pp_core.proofs.Crew.{seat_set}
 use Rattle.pp_core.proofs.Asking.{in_phase, both, runs}
 use Rattle.pp_core.proofs.Ties.{Leads, moves_by, refuses, SameRest, stands_on}
 use Rattle.pp_core.proofs.ActTies.{kept, IsOnPlan}
+use Rattle.pp_core.proofs.Gathered.{bundles_stay, nothing_held}
 
 -- ---- leaving workers
 
@@ -134,20 +135,21 @@ same_rest s w r ending flight = record {
 }
 
 end_stands : (f g : Parts) (s : State) (w : ℕ) (r : Running) (ending : Ending) (left : ℕ) → StandsFor f s
-    → seat_of s w ≡ Some (Some r) → IsEnded f g w left → IsReached (ended_in s w r ending).state
+    → seat_of s w ≡ Some (Some r) → holdings r ≡ [] → IsEnded f g w left → IsReached (ended_in s w r ending).state
     → ((q : ℕ) → is_in_flight (ended_in s w r ending).state q ≡ is_in_flight s q)
     → marks (ended_in s w r ending).state ≡ marks s → bound (ended_in s w r ending).state + left ≡ bound s
     → StandsFor g (ended_in s w r ending).state
-end_stands f g s w r ending left st e is_ended reached flight marked_so falls =
+end_stands f g s w r ending left st e none is_ended reached flight marked_so falls =
     let t = (ended_in s w r ending).state in
     let k = kept f s w r st e in
     let running : f.running - r.accepted.peak ≡ running_peaks t =
     omega (arith, st.running, numbers.end_peaks s st.reached w r ending e) in
     let budget : f.budget - left ≡ bound t = omega (arith, st.budget, falls) in
     subst (λ (z : Parts). StandsFor z t) (sym (is_ended k.seat r.accepted (runs f s w k.seat r st k.is_in k.fits)))
-    (stands_on f s t (slice_set f.seats w None) f.marks (f.running - r.accepted.peak) (f.budget - left) st reached
-    (same_rest s w r ending flight) (seat_set s.plans f.seats s.seats w None None st.seats tt)
-    (st.marks ∙ sym marked_so) running budget)
+    (stands_on f s t (slice_set f.seats w None) f.marks f.bundles (f.running - r.accepted.peak) (f.budget - left) st
+    reached (same_rest s w r ending flight) (seat_set s.plans f.seats s.seats w None None st.seats tt)
+    (st.marks ∙ sym marked_so)
+    (bundles_stay f.bundles s t w (Some r) None st.bundles e refl refl (nothing_held r none)) running budget)
 
 can_end : (f : Parts) (s : State) (w : ℕ) (r : Running) (left : ℕ) → StandsFor f s → seat_of s w ≡ Some (Some r)
     → left ≤ bound s → CanEnd f w left
@@ -208,7 +210,7 @@ module _ (f : Parts) (w : ℕ) (leaves : is_leaving (phase_of f w) ≡ true) whe
             after = ended_in s w r Gone;
             is = leaver_outcome s l ∙ ap (finish_holding s w r) none;
             replies = refl;
-            stands = λ reached. end_stands f g s w r Gone 1 st l.at.seat is_ended reached
+            stands = λ reached. end_stands f g s w r Gone 1 st l.at.seat none is_ended reached
                 (flights.leave_flight s st.reached w r l.given l.at)
                 (marked.leave_marks s st.reached w r l.given l.at none)
                 (numbers.leave_bound s st.reached w r l.given l.at none);
@@ -294,7 +296,7 @@ module _ (f : Parts) (w : ℕ) where
               after = ended_in s w r Done;
               is = ap (finish_by s w) a.1.seat ∙ ap (finish_in s w r) a.1.stage ∙ ap (finish_asked s w r) a.2;
               replies = refl;
-              stands = λ reached. end_stands f g s w r Done left st a.1.seat is_ended reached
+              stands = λ reached. end_stands f g s w r Done left st a.1.seat (steps.ends_empty s st.reached w r at a.2) is_ended reached
                   (flights.end_flight s st.reached w r at)
                   (marked.end_marks s st.reached w r at (steps.ends_empty s st.reached w r at a.2))
                   (end_falls s st left tells);

@@ -2,7 +2,10 @@ mod SeatSteps
 mod Crew
 mod Asking
 mod SlotTies
-pub mod PlainSlots
+pub mod Gathered
+mod Unpinned
+mod SlotKinds
+mod Scattering
 mod Ties
 mod ActTies
 mod UsingMoves
@@ -33,3 +36,4 @@ mod AfterActs
 mod AfterOthers
 mod AfterFlushes
 pub mod AfterMoves
+pub mod PlainSlots

@@ -1,11 +1,11 @@
 -- What holds of each refusal and of each way in which a move is done holds of what the move comes to.
-use Rattle.std.proofs.Common.{◌≡◌, ◌<◌, ℕ, Bool, true, false, cond, Option, Some, None, List, [], ◌∷◌, refl, sym, subst}
+use Rattle.std.proofs.Common.{◌≡◌, ◌∙◌, ◌<◌, ℕ, Bool, true, false, cond, Option, Some, None, List, [], ◌∷◌, refl, sym, subst}
 use Rattle.std.proofs.Common.{ap, arith}
 use Rattle.std.specs.Prelude.{slice_get, nat_lt, not, ◌==◌, ◌||◌, ◌&&◌}
 use Rattle.std.proofs.lemmas.Bool.Decides.{nat_tests}
+use Rattle.pp_settings.specs.Layout.{HasPage}
 use Rattle.pp_plan.specs.declared.mode.Mode.{Mode}
 use Rattle.pp_plan.specs.declared.action.Action.{Action}
-use Rattle.pp_plan.specs.declared.action.Action.TheVariants as action
 use Rattle.pp_plan.specs.declared.action.Ask.{Ask}
 use Rattle.pp_plan.specs.declared.action.Ask.TheVariants as ask
 use Rattle.pp_plan.specs.Asked.{region_has}
@@ -18,7 +18,6 @@ use Rattle.pp_arc.specs.declared.answer.Answer.TheVariants as answer
 use Rattle.pp_arc.specs.FourLists.{FourLists, is_cached}
 use Rattle.pp_arc.specs.Figure.{request}
 use Rattle.pp_frames.specs.Marks.{is_exclusive}
-use Rattle.pp_plan.proofs.NoBundle.{no_gather, no_scatter}
 use Rattle.pp_model.specs.declared.moves.Move.TheVariants as move
 use Rattle.pp_model.specs.declared.moves.Came.{Came}
 use Rattle.pp_model.specs.declared.moves.Came.TheVariants.{Fault, Image}
@@ -31,7 +30,7 @@ use Rattle.pp_model.specs.Pool.{Stage, acting, writing, reading, leaving, Runnin
 use Rattle.pp_model.specs.Holders.{holdings, is_in_flight, is_busy, latches_of, page_in}
 use Rattle.pp_model.specs.Outcome.{Outcome, not_now, off_plan, with_lists}
 use Rattle.pp_model.specs.Taking.{has_room, take_where, take_by}
-use Rattle.pp_model.specs.Fixing.{fix_slot, evict_where, fix_by, fix_where, fix_asked}
+use Rattle.pp_model.specs.Fixing.{fixes, fix_slot, evict_where, fix_by, fix_where, fix_asked}
 use Rattle.pp_model.specs.Answers.{unread, write_where, write_in, write_by, is_other, is_misread}
 use Rattle.pp_model.specs.Answers.{read_where, read_came, read_in, read_by}
 use Rattle.pp_model.specs.Using.{unfix_asked, goes_with, latch_where, latch_asked, unlatch_asked}
@@ -41,6 +40,7 @@ use Rattle.pp_model.specs.Leaving.{finish_in, finish_by}
 use Rattle.pp_model.specs.Flushing.{flush_where, flush_by, is_clean, flushed_where, flushed_by}
 use Rattle.pp_model.specs.Moves.{asked_by, act_in, act_by, seat_of, outcome_of}
 use Rattle.pp_model.proofs.Changes.{IsAt, IsAsked, IsAnswered, CanFlush}
+use Rattle.pp_core.specs.Fixing.{wanted}
 
 -- It holds of all refusals.
 pub record OfRefusals (s : State) (P : Outcome → Type 0) : Type 0 where
@@ -58,10 +58,10 @@ pub named : (s : State) (w : ℕ) (r : Running) (x : Ask) (a : Action) → IsAsk
 named s w r x a asking n =
     record { at = asking.at; names = subst (λ y. NamesAction r.accepted.plan.layout y a) (sym asking.asks) n }
 
--- The plan asks a fix of the slot and this region, and the page is in it.
-pub record AsksFix (s : State) (w : ℕ) (r : Running) (slot region page : ℕ) : Type 0 where
-  pub asking : IsAsking s w r (ask.Fix slot region)
-  pub asked : IsAsked s w r (action.Fix slot page)
+-- The plan asks a page of this region into the slot, by a fix or by a gather, and the page is in it.
+pub record AsksPage (s : State) (w : ℕ) (r : Running) (slot region page : ℕ) : Type 0 where
+  pub into : wanted (asked_by r) ≡ Some (slot, region)
+  pub asked : IsAsked s w r (fixes (asked_by r) slot page)
 
 -- ---- ways of a fix
 
@@ -78,13 +78,13 @@ abbrev pub send_way : State → ℕ → Running → (slot page v : ℕ) → Four
 send_way s w r slot page v l = evict_where (with_lists s l) w r slot page v true
 
 pub record OfFixes (s : State) (P : Outcome → Type 0) (w page : ℕ) : Type 0 where
-  pub hits : (r : Running) (slot region : ℕ) (l : FourLists) → AsksFix s w r slot region page
+  pub hits : (r : Running) (slot region : ℕ) (l : FourLists) → AsksPage s w r slot region page
       → IsAnswered s page l answer.Hit → P (hit_way s w r slot page l)
-  pub fills : (r : Running) (slot region : ℕ) (l : FourLists) → AsksFix s w r slot region page
+  pub fills : (r : Running) (slot region : ℕ) (l : FourLists) → AsksPage s w r slot region page
       → P (fill_way s w r slot page l)
-  pub evicts : (r : Running) (slot region v : ℕ) (l : FourLists) → AsksFix s w r slot region page
+  pub evicts : (r : Running) (slot region v : ℕ) (l : FourLists) → AsksPage s w r slot region page
       → P (evict_way s w r slot page v l)
-  pub sends : (r : Running) (slot region v : ℕ) (l : FourLists) → AsksFix s w r slot region page
+  pub sends : (r : Running) (slot region v : ℕ) (l : FourLists) → AsksPage s w r slot region page
       → P (send_way s w r slot page v l)
 
 pub not_negated : (b : Bool) → not b ≡ false → b ≡ true
@@ -130,12 +130,12 @@ module _ (s : State) (P : Outcome → Type 0) (refused : OfRefusals s P) where
   -- ---- Fix
 
   dirty_cases : (w page : ℕ) (r : Running) (slot region v : ℕ) (l : FourLists) (b : Bool)
-      → AsksFix s w r slot region page → OfFixes s P w page → P (evict_where (with_lists s l) w r slot page v b)
+      → AsksPage s w r slot region page → OfFixes s P w page → P (evict_where (with_lists s l) w r slot page v b)
   dirty_cases w page r slot region v l true asks p = p.sends r slot region v l asks
   dirty_cases w page r slot region v l false asks p = p.evicts r slot region v l asks
 
   answer_cases : (w page : ℕ) (r : Running) (slot region : ℕ) (l : FourLists) (x : Answer)
-      → AsksFix s w r slot region page → IsAnswered s page l x → OfFixes s P w page → P (fix_by s l w r slot page x)
+      → AsksPage s w r slot region page → IsAnswered s page l x → OfFixes s P w page → P (fix_by s l w r slot page x)
   answer_cases w page r slot region l answer.Hit asks is p = p.hits r slot region l asks is
   answer_cases w page r slot region l answer.Free asks is p = p.fills r slot region l asks
   answer_cases w page r slot region l (answer.Evict v) asks is p =
@@ -143,32 +143,40 @@ module _ (s : State) (P : Outcome → Type 0) (refused : OfRefusals s P) where
   answer_cases w page r slot region l answer.AllBusy asks is p = refused.delay _
 
   flight_cases : (w page : ℕ) (r : Running) (slot region : ℕ) (b : Bool) → is_in_flight s page ≡ b
-      → AsksFix s w r slot region page → OfFixes s P w page → P (fix_where s w r slot page b)
+      → AsksPage s w r slot region page → OfFixes s P w page → P (fix_where s w r slot page b)
   flight_cases w page r slot region true e asks p = refused.delay _
   flight_cases w page r slot region false e asks p =
       let answered = request s.lists page (is_busy s) in
       answer_cases w page r slot region answered.1 answered.0 asks
       (record { grounded = e; after = refl; is = refl }) p
 
-  region_cases : (w page : ℕ) (r : Running) (slot region : ℕ) (b : Bool)
-      → region_has r.accepted.plan.layout region page ≡ b → IsAsking s w r (ask.Fix slot region) → OfFixes s P w page
-      → P (fix_asked s w r page (cond b (Some slot) None))
-  region_cases w page r slot region true e asking p =
-      let has = region_found r.accepted.plan.layout region page e in
-      flight_cases w page r slot region (is_in_flight s page) refl
-      (record { asking = asking; asked = named s w r (ask.Fix slot region) (action.Fix slot page) asking (refl, has) })
-      p
-  region_cases w page r slot region false e asking p = refused.fault _
+  module _ (w page : ℕ) (r : Running) (slot region : ℕ) (x : Ask) (asking : IsAsking s w r x)
+      (into : wanted x ≡ Some (slot, region))
+      (names : HasPage r.accepted.plan.layout region page → NamesAction r.accepted.plan.layout x (fixes x slot page)) where
+    asks_page : HasPage r.accepted.plan.layout region page → AsksPage s w r slot region page
+    asks_page has = record {
+      into = ap wanted asking.asks ∙ into;
+      asked = subst (λ y. IsAsked s w r (fixes y slot page)) (sym asking.asks) (named s w r x (fixes x slot page) asking (names has));
+    }
+
+    region_cases : (b : Bool) → region_has r.accepted.plan.layout region page ≡ b → OfFixes s P w page
+        → P (fix_asked s w r page (cond b (Some slot) None))
+    region_cases true e p =
+        let has = region_found r.accepted.plan.layout region page e in
+        flight_cases w page r slot region (is_in_flight s page) refl (asks_page has) p
+    region_cases false e p = refused.fault _
 
   fix_cases : (w page : ℕ) (r : Running) (x : Ask) → asked_by r ≡ x → IsAt s w r acting → OfFixes s P w page
       → P (fix_asked s w r page (fix_slot r page x))
   fix_cases w page r (ask.Fix slot region) e at p =
-      region_cases w page r slot region (region_has r.accepted.plan.layout region page) refl
-      (record { at = at; asks = e }) p
+      region_cases w page r slot region (ask.Fix slot region) (record { at = at; asks = e }) refl (λ has. (refl, has))
+      (region_has r.accepted.plan.layout region page) refl p
+  fix_cases w page r (ask.Gather slot region) e at p =
+      region_cases w page r slot region (ask.Gather slot region) (record { at = at; asks = e }) refl (λ has. (refl, has))
+      (region_has r.accepted.plan.layout region page) refl p
   fix_cases w page r (ask.Unfix slot) e at p = refused.fault _
   fix_cases w page r (ask.Latch slot m) e at p = refused.fault _
   fix_cases w page r (ask.Unlatch slot) e at p = refused.fault _
-  fix_cases w page r (ask.Gather slot region) e at p = absurd (no_gather r.accepted.plan r.done slot region e)
   fix_cases w page r (ask.Scatter slot) e at p = refused.fault _
   fix_cases w page r (ask.Choose n) e at p = refused.fault _
   fix_cases w page r ask.End e at p = refused.fault _
@@ -242,16 +250,19 @@ module _ (s : State) (P : Outcome → Type 0) (refused : OfRefusals s P) where
 
     -- ---- Unfix
 
-    unfix_cases : (r : Running) (x : Ask) → asked_by r ≡ x → IsAt s w r acting
-        → ((slot : ℕ) → IsAsking s w r (ask.Unfix slot) → P (unfix_asked s w r (ask.Unfix slot)))
-        → P (unfix_asked s w r x)
-    unfix_cases r (ask.Unfix slot) e at p = p slot (record { at = at; asks = e })
-    unfix_cases r (ask.Scatter slot) e at p = absurd (no_scatter r.accepted.plan r.done slot e)
-    unfix_cases r _ e at p = refused.fault _
+    abbrev pub OfUnfixed : Running → Ask → Type 0
+    OfUnfixed r x = IsAsking s w r x → P (unfix_asked s w r x)
 
-    pub of_unfix : ((r : Running) (slot : ℕ) → IsAsking s w r (ask.Unfix slot)
-        → P (unfix_asked s w r (ask.Unfix slot))) → P (outcome_of s (move.Unfix w))
-    of_unfix p = act_cases w _ (seat_of s w) refl (λ r at. unfix_cases r (asked_by r) refl at (p r))
+    unfix_cases : (r : Running) (x : Ask) → asked_by r ≡ x → IsAt s w r acting
+        → ((slot : ℕ) → OfUnfixed r (ask.Unfix slot)) → ((slot : ℕ) → OfUnfixed r (ask.Scatter slot))
+        → P (unfix_asked s w r x)
+    unfix_cases r (ask.Unfix slot) e at p q = p slot (record { at = at; asks = e })
+    unfix_cases r (ask.Scatter slot) e at p q = q slot (record { at = at; asks = e })
+    unfix_cases r _ e at p q = refused.fault _
+
+    pub of_unfix : ((r : Running) (slot : ℕ) → OfUnfixed r (ask.Unfix slot))
+        → ((r : Running) (slot : ℕ) → OfUnfixed r (ask.Scatter slot)) → P (outcome_of s (move.Unfix w))
+    of_unfix p q = act_cases w _ (seat_of s w) refl (λ r at. unfix_cases r (asked_by r) refl at (p r) (q r))
 
     -- ---- Latch
 

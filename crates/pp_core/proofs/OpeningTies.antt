@@ -1,5 +1,5 @@
 -- What a new core keeps stands for the opening state.
-use Rattle.std.proofs.Common.{◌≡◌, ◌∙◌, ℕ, zero, suc, ◌+◌, ◌*◌, false, Option, Some, None, [], ◌∷◌}
+use Rattle.std.proofs.Common.{◌≡◌, ◌∙◌, ℕ, zero, suc, ◌+◌, ◌*◌, false, Option, Some, None, List, [], ◌∷◌}
 use Rattle.std.proofs.Common.{length, map, refl, sym, ap, arith, subst}
 use Rattle.std.specs.Prelude.{replicate, slice_get, slice_index_or, sum_by, nat_lt}
 use Rattle.std.specs.List.{range_with_len}
@@ -17,6 +17,7 @@ use Rattle.pp_core.specs.declared.seat.Seat.{Seat}
 use Rattle.pp_core.specs.Parts.{Parts}
 use Rattle.pp_core.specs.StandsFor.{FitsSeat, StandsFor}
 use Rattle.pp_core.specs.Opening.{opening_parts}
+use Rattle.pp_core.specs.Gathered.{bundle_place, bundle_in, bundle_pins}
 
 -- Idle workers count nothing.
 idle : (f : Option Running → ℕ) (n : ℕ) → f None ≡ 0 → sum_by f (replicate n None) ≡ 0
@@ -90,6 +91,16 @@ module _ (k : Settings) where
     };
     lists = refl;
     marks = map_opens;
+    bundles = record {
+      places =
+          length-replicate {A = List ℕ} (32 * k.workers) []
+          ∙ ap (λ n. 32 * n) (sym (length-replicate {A = Option Running} k.workers None));
+      each = λ w slot x low at.
+          equal_or (32 * k.workers) (bundle_place w slot) []
+          ∙ ap (λ o. bundle_in o slot) (equal_places k.workers w None x at);
+      room = refl;
+      pins = sum_by-replicate length (32 * k.workers) [] ∙ omega (arith, idle bundle_pins k.workers refl);
+    };
     pages = length-replicate (page_count k.layout) false ∙ sym (length-replicate (page_count k.layout) untouched);
     in_flight = λ page b e. sym (equal_places (page_count k.layout) page false b e) ∙ sym (still page);
     flush = refl;

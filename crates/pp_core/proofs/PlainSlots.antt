@@ -1,27 +1,32 @@
--- What fixes and unfixes find and leave in the slots, while no plan asks a bundle: each slot holds one page at most.
-use Rattle.std.proofs.Common.{◌≡◌, ◌∙◌, ℕ, ◌+◌, ◌<◌, Option, Some, None, List, [], ◌∷◌, sym, ap, subst, arith}
-use Rattle.std.specs.Prelude.{◌==◌, if◌then◌else◌}
+-- While no plan asks a bundle: what is asked is a fix, its slot is empty, and a page that is loaded is fixed.
+use Rattle.std.proofs.Common.{◌≡◌, ℕ, ◌<◌, Bool, true, false, Option, Some, None, [], sym, ap, subst}
+use Rattle.std.specs.Prelude.{option_and_then, if◌then◌else◌}
 use Rattle.pp_settings.specs.Layout.{page_count}
-use Rattle.pp_plan.specs.declared.action.Action.{Action}
 use Rattle.pp_plan.specs.declared.action.Action.TheVariants as action
-use Rattle.pp_plan.specs.Limits.{most_slots}
-use Rattle.pp_cert.specs.declared.note.Held.TheVariants.{Free}
-use Rattle.pp_cert.specs.Held.{Holding, holding_slot, holding_at, plain_page}
-use Rattle.pp_cert.proofs.Slots.{slot_all}
-use Rattle.pp_model.specs.Pool.{writing, reading, leaving, Running, State}
-use Rattle.pp_model.specs.Holders.{holdings, held_slots}
+use Rattle.pp_plan.specs.declared.action.Ask.{Ask}
+use Rattle.pp_plan.specs.declared.action.Ask.TheVariants as ask
+use Rattle.pp_plan.proofs.NoBundle.{asks_bundle, none_asked}
+use Rattle.pp_cert.specs.declared.note.Held.{Held}
+use Rattle.pp_cert.specs.Held.{Holding, holding_at}
+use Rattle.pp_model.specs.declared.moves.Move.TheVariants as move
+use Rattle.pp_model.specs.declared.moves.Came.{Came}
+use Rattle.pp_model.specs.declared.moves.Came.TheVariants.{Image}
+use Rattle.pp_model.specs.declared.reply.Reply.TheVariants as reply
+use Rattle.pp_model.specs.Pool.{Stage, acting, writing, reading, leaving, Running, State}
+use Rattle.pp_model.specs.Holders.{holdings}
 use Rattle.pp_model.specs.Fixing.{fixes}
-use Rattle.pp_model.specs.Outcome.{at_stage, having_done}
-use Rattle.pp_model.specs.Moves.{asked_by, seat_of}
-use Rattle.pp_model.specs.Turns.{Asks}
+use Rattle.pp_model.specs.Moves.{asked_by, seat_of, reply_of, next_of, is_refusal}
 use Rattle.pp_model.specs.Reached.{IsReached}
 use Rattle.pp_model.proofs.Changes.{IsAt, IsAsked}
-use Rattle.pp_model.proofs.HeldSlots.{count_of}
 use Rattle.pp_model.proofs.HoldingSteps as steps
 use Rattle.pp_model.proofs.HoldingSteps.{CanHold}
-use Rattle.pp_model.proofs.KeptSlots.{Fills, filled_at, found_in}
-use Rattle.pp_model.proofs.NoBundles.{no_gather_asked, fixes_is, lone as lone_page}
-use Rattle.pp_model.proofs.Swaps.{new_page}
+use Rattle.pp_model.proofs.KeptSlots.{found_in}
+use Rattle.pp_model.proofs.NoBundles.{no_gather_asked, fixes_is, own_page}
+use Rattle.pp_core.specs.Fixing.{wanted}
+use Rattle.pp_core.specs.Queries.{own_of, leaves, pending_by, ask_in, ask_by, ask_of, errand_of}
+use Rattle.pp_core.specs.AfterMoves.{wanted_of, HasFixed}
+use Rattle.pp_core.proofs.AfterSeats.{own_is, own_unless, some_same}
+use Rattle.pp_core.proofs.AfterMoves.{after_moves}
 
 -- The slot into which a page goes is one of 32 and holds nothing, and the page is one of the layout.
 pub record HasRoom (s : State) (r : Running) (slot page : ℕ) : Type 0 where
@@ -37,20 +42,8 @@ room s r slot page can = record {
 }
 
 module _ (s : State) (h : IsReached s) (w : ℕ) (r : Running) where
-  -- A page that is found in a slot is all that the slot holds.
-  pub lone : (slot : ℕ) (x : Holding) → seat_of s w ≡ Some (Some r) → holding_at (holdings r) slot ≡ Some x
-      → slot_all holding_slot slot (holdings r) ≡ x ∷ []
-  lone slot x seat found = lone_page s.settings.layout r slot x (steps.seat_is s h w r seat) found
-
-  -- What goes into a slot is a fix.
-  pub is_fix : (slot page : ℕ) → fixes (asked_by r) slot page ≡ action.Fix slot page
-  is_fix slot page = fixes_is r slot page
-
-  pub asked_so : (slot page : ℕ) → IsAsked s w r (action.Fix slot page) → IsAsked s w r (fixes (asked_by r) slot page)
-  asked_so slot page asked = subst (IsAsked s w r) (sym (is_fix slot page)) asked
-
-  pub reading_asks : (slot page : ℕ) → IsAt s w r (reading slot page) → Asks r (action.Fix slot page)
-  reading_asks slot page at = subst (Asks r) (is_fix slot page) (steps.reading_asks s h w r slot page at)
+  asked_so : (slot page : ℕ) → IsAsked s w r (action.Fix slot page) → IsAsked s w r (fixes (asked_by r) slot page)
+  asked_so slot page asked = subst (IsAsked s w r) (sym (fixes_is r slot page)) asked
 
   pub fix_finds : (slot page : ℕ) → IsAsked s w r (action.Fix slot page) → HasRoom s r slot page
   fix_finds slot page asked = room s r slot page (steps.fix_finds s h w r slot page (asked_so slot page asked))
@@ -61,54 +54,80 @@ module _ (s : State) (h : IsReached s) (w : ℕ) (r : Running) where
   pub reading_finds : (slot page : ℕ) → IsAt s w r (reading slot page) → HasRoom s r slot page
   reading_finds slot page at = room s r slot page (steps.reading_finds s h w r slot page at)
 
-  -- After a fix the slot holds the page, not latched, and each other slot what it held.
-  abbrev pub ComesIn : (slot page : ℕ) → Action → Type 0
-  ComesIn slot page a =
-      (k : ℕ) → holding_at (holdings (having_done r a)) k
-      ≡ (if k == slot then Some (plain_page slot page) else holding_at (holdings r) k)
+-- What is found in a slot is the slot's own, so it is told.
+pub plain_held : (s : State) → IsReached s → (w : ℕ) (r : Running) (slot : ℕ) (x : Holding) → seat_of s w ≡ Some (Some r)
+    → holding_at (holdings r) slot ≡ Some x → own_of (Some x) ≡ Some (x.page, x.held)
+plain_held s h w r slot x seat found =
+    own_is x (own_page s.settings.layout r slot x (steps.seat_is s h w r seat) found)
 
-  comes_in : (slot page : ℕ)
-      → Fills slot (new_page (asked_by r) slot page ∷ slot_all holding_slot slot (holdings r)) (holdings r)
-      (holdings (having_done r (fixes (asked_by r) slot page))) → ComesIn slot page (fixes (asked_by r) slot page)
-  comes_in slot page fills k =
-      filled_at slot (new_page (asked_by r) slot page ∷ slot_all holding_slot slot (holdings r)) (holdings r)
-      (holdings (having_done r (fixes (asked_by r) slot page))) fills k
-      ∙ ap {B = Option Holding} (λ b. if k == slot then Some (record { slot = slot; page = page; held = Free; bundled = b })
-      else holding_at (holdings r) k) (no_gather_asked r)
+-- A page that is told of a slot is the slot's own, held so.
+pub own_told : (x : Holding) (page : ℕ) (how : Held) → own_of (Some x) ≡ Some (page, how)
+    → ◌≡◌ {A = ℕ × Held} (x.page, x.held) (page, how)
+own_told x page how told = go x.bundled told
+  where
+    go : (b : Bool) → own_unless b x ≡ Some (page, how) → ◌≡◌ {A = ℕ × Held} (x.page, x.held) (page, how)
+    go true e = cc
+    go false e = some_same (x.page, x.held) (page, how) e
 
-  pub fix_holds : (slot page : ℕ) → IsAsked s w r (action.Fix slot page) → ComesIn slot page (fixes (asked_by r) slot page)
-  fix_holds slot page asked = comes_in slot page (steps.fix_holds s h w r slot page (asked_so slot page asked))
+-- ---- a page that is asked is asked by a fix
 
-  pub loaded_holds : (slot page : ℕ) → IsAt s w r (reading slot page) → ComesIn slot page (fixes (asked_by r) slot page)
-  loaded_holds slot page at = comes_in slot page (steps.loaded_holds s h w r slot page at)
+same_pair : (p q : ℕ × ℕ) → Some p ≡ Some q → p ≡ q
+same_pair p q e = cc
 
-  -- One slot more holds something.
-  abbrev pub CountsIn : Action → Type 0
-  CountsIn a = held_slots most_slots (holdings (having_done r a)) ≡ held_slots most_slots (holdings r) + 1
+by_ask : (x : Ask) (slot region : ℕ) → asks_bundle x ≡ false → wanted x ≡ Some (slot, region) → x ≡ ask.Fix slot region
+by_ask (ask.Fix a b) slot region none e = ap (λ p. ask.Fix p.0 p.1) (same_pair (a, b) (slot, region) e)
+by_ask (ask.Gather a b) slot region none e = cc
+by_ask (ask.Unfix a) slot region none e = cc
+by_ask (ask.Latch a m) slot region none e = cc
+by_ask (ask.Unlatch a) slot region none e = cc
+by_ask (ask.Scatter a) slot region none e = cc
+by_ask (ask.Choose n) slot region none e = cc
+by_ask ask.End slot region none e = cc
 
-  pub fix_slots : (slot page : ℕ) → IsAsked s w r (action.Fix slot page) → CountsIn (fixes (asked_by r) slot page)
-  fix_slots slot page asked =
-      omega (
-        arith,
-        steps.fix_slots s h w r slot page (asked_so slot page asked),
-        ap count_of (fix_finds slot page asked).empty,
-      )
+by_stage : (r : Running) (g : Stage) (slot region : ℕ) → option_and_then wanted (ask_in r g) ≡ Some (slot, region)
+    → ask_in r g ≡ Some (ask.Fix slot region)
+by_stage r acting slot region e =
+    ap Some (by_ask (asked_by r) slot region (none_asked r.accepted.plan r.done) e)
+by_stage r (writing k p v) slot region e = cc
+by_stage r (reading k p) slot region e = cc
+by_stage r (leaving given) slot region e = cc
 
-  pub loaded_slots : (slot page : ℕ) → IsAt s w r (reading slot page) → CountsIn (fixes (asked_by r) slot page)
-  loaded_slots slot page at =
-      omega (arith, steps.loaded_slots s h w r slot page at, ap count_of (reading_finds slot page at).empty)
+by_seat : (o : Option (Option Running)) (slot region : ℕ) → option_and_then wanted (ask_by o) ≡ Some (slot, region)
+    → ask_by o ≡ Some (ask.Fix slot region)
+by_seat None slot region e = cc
+by_seat (Some None) slot region e = cc
+by_seat (Some (Some r)) slot region e = by_stage r r.stage slot region e
 
-  -- After an unfix, or where it is given back, the slot holds nothing.
-  pub unfix_holds : (slot : ℕ) → IsAsked s w r (action.Unfix slot) → (k : ℕ)
-      → holding_at (holdings (having_done r (action.Unfix slot))) k
-      ≡ (if k == slot then None else holding_at (holdings r) k)
-  unfix_holds slot asked =
-      filled_at slot [] (holdings r) (holdings (having_done r (action.Unfix slot)))
-      (steps.unfix_holds s h w r slot asked)
+pub wanted_by_fix : (s : State) (w slot region : ℕ) → wanted_of s w ≡ Some (slot, region)
+    → ask_of s w ≡ Some (ask.Fix slot region)
+wanted_by_fix s w slot region e = by_seat (seat_of s w) slot region e
 
-  pub unwind_holds : (slot : ℕ) (given : List ℕ) → IsAt s w r (leaving given) → (k : ℕ)
-      → holding_at (holdings (at_stage r (leaving (slot ∷ given)))) k
-      ≡ (if k == slot then None else holding_at (holdings r) k)
-  unwind_holds slot given at =
-      filled_at slot [] (holdings r) (holdings (at_stage r (leaving (slot ∷ given))))
-      (steps.unwind_holds s h w r slot given at)
+-- So a fix that isn't refused finds that.
+pub fix_found : (s : State) → IsReached s → (w page : ℕ) → is_refusal (reply_of s (move.Fix w page)) ≡ false
+    → (slot : ℕ) × (region : ℕ) × (ask_of s w ≡ Some (ask.Fix slot region))
+fix_found s h w page done =
+    let f = (after_moves s h).found (move.Fix w page) done in (f.0, f.1, wanted_by_fix s w f.0 f.1 f.2)
+
+-- ---- a page that is loaded is fixed
+
+by_pending : (o : Option (Option Running)) (slot region : ℕ)
+    → option_and_then wanted (pending_by o) ≡ Some (slot, region) → pending_by o ≡ Some (ask.Fix slot region)
+by_pending None slot region e = cc
+by_pending (Some None) slot region e = cc
+by_pending (Some (Some r)) slot region e = go (leaves r.stage) e
+  where
+    go : (b : Bool) → option_and_then wanted (if b then None else Some (asked_by r)) ≡ Some (slot, region)
+        → (if b then None else Some (asked_by r)) ≡ Some (ask.Fix slot region)
+    go true e = cc
+    go false e = ap Some (by_ask (asked_by r) slot region (none_asked r.accepted.plan r.done) e)
+
+pub record PlainLoaded (s t : State) (w slot page mark : ℕ) (came : Came) : Type 0 where
+  pub fixed : HasFixed s t w slot page mark
+  pub image : came ≡ Image page mark
+
+pub loaded : (s : State) → IsReached s → (w : ℕ) (came : Came) (slot page mark : ℕ)
+    → reply_of s (move.ReadDone w came) ≡ reply.Loaded mark → errand_of s w ≡ Some (slot, page, None)
+    → PlainLoaded s (next_of s (move.ReadDone w came)) w slot page mark came
+loaded s h w came slot page mark e told =
+    let it = (after_moves s h).loaded w came slot page mark e told in
+    record { fixed = it.fixed it.asked.0 (by_pending (seat_of s w) slot it.asked.0 it.asked.1); image = it.image }

@@ -1,14 +1,14 @@
 -- What the core tells is what the state has.
-use Rattle.std.proofs.Common.{◌≡◌, ◌∙◌, ℕ, suc, ◌+◌, Bool, true, false, Option, Some, None, List, [], ◌∷◌, length, map}
+use Rattle.std.proofs.Common.{◌≡◌, ◌∙◌, ℕ, zero, suc, ◌+◌, ◌^◌, Bool, true, false, Option, Some, None, List, [], ◌∷◌, length, map}
 use Rattle.std.proofs.Common.{◌<◌, ◌≤◌, cond, refl, sym, ap, subst, arith}
-use Rattle.std.specs.Prelude.{slice_get, slice_index_or, option_map, count_by, nat_lt}
+use Rattle.std.specs.Prelude.{slice_get, slice_index_or, option_map, unwrap_or, count_by, nat_lt, ◌&&◌, if◌then◌else◌}
+use Rattle.std.proofs.lemmas.Option.{slice_get-get_or}
 use Rattle.std.specs.List.{range_with_len}
 use Rattle.std.proofs.lemmas.Bool.Decides.{nat_tests}
 use Rattle.std.proofs.lemmas.List.{get_or_past}
 use Rattle.std.proofs.lemmas.List.FromFn.{length-map-range_with_len}
 use Rattle.std.proofs.lemmas.List.Sums.{sum_by-cons}
 use Rattle.pp_plan.specs.declared.action.Ask.{Ask}
-use Rattle.pp_cert.specs.declared.note.Held.{Held}
 use Rattle.pp_cert.specs.Held.{Holding, holding_at}
 use Rattle.pp_cert.specs.Accepted.{Acceptance}
 use Rattle.pp_frames.specs.Marks.{PageMarks, PageMap}
@@ -24,7 +24,6 @@ use Rattle.pp_model.specs.Moves.{act_by, act_in, seat_of}
 use Rattle.pp_model.specs.Marks.{marks_at, marks}
 use Rattle.pp_model.proofs.MarkParts.{marks_is}
 use Rattle.pp_model.proofs.BoundSteps as numbers
-use Rattle.pp_core.specs.declared.seat.Hold.{Hold}
 use Rattle.pp_core.specs.declared.seat.Phase.{Phase}
 use Rattle.pp_core.specs.declared.seat.Phase.TheVariants.{Acting, Writing, Reading, Leaving}
 use Rattle.pp_core.specs.declared.seat.Seat.{Seat}
@@ -34,7 +33,12 @@ use Rattle.pp_core.specs.Effects.{phase_of}
 use Rattle.pp_core.specs.Parts.{Parts}
 use Rattle.pp_core.specs.StandsFor.{FitsStage, FitsSeat, StandsFor, IsKept, in_flight_as, Asks, CannotAct}
 use Rattle.pp_core.specs.Queries.{idle_by, is_idle, leaves, leaving_by, is_leaving, ask_in, ask_by, ask_of, held_by}
-use Rattle.pp_core.specs.Queries.{held_of}
+use Rattle.pp_core.specs.Queries.{own_of, own_hold, held_of, bundle_of, gathered_of, gathered_in, pending_by, pending_of}
+use Rattle.pp_core.specs.Queries.{pending_seat}
+use Rattle.pp_core.specs.Gathered.{bundle_place, bundle_in}
+use Rattle.pp_core.proofs.SlotKinds.{none_past}
+use Rattle.pp_bundles.specs.Bundles.{pages_at}
+use Rattle.pp_model.proofs.BoundSteps.{seats_are_all}
 use Rattle.pp_core.specs.Queries.{errand_in, errand_by, errand_of, flushed_page, plan_count}
 use Rattle.pp_core.specs.Queries.{idle_seat, leaves_at, leaving_seat, held_seat, errand_at, errand_seat}
 use Rattle.pp_core.specs.LeaveEffects as leave
@@ -99,9 +103,19 @@ module _ (plans : List Acceptance) where
   same_leaving (Some (Some x)) (Some None) h = absurd h
   same_leaving (Some (Some x)) (Some (Some r)) h = same_leaves x.phase r.stage h.phase
 
-  same_hold : (o : Option Holding)
-      → option_map {U = ℕ × Held} (λ (h : Hold). (h.page, h.held)) (option_map hold_of o)
-      ≡ option_map {U = ℕ × Held} (λ (h : Holding). (h.page, h.held)) o
+  same_pending : (x : Option (Option Seat)) (y : Option (Option Running)) → FitsPlace plans x y
+      → pending_seat x ≡ pending_by y
+  same_pending None None h = refl
+  same_pending None (Some y) h = absurd h
+  same_pending (Some x) None h = absurd h
+  same_pending (Some None) (Some None) h = refl
+  same_pending (Some None) (Some (Some r)) h = absurd h
+  same_pending (Some (Some x)) (Some None) h = absurd h
+  same_pending (Some (Some x)) (Some (Some r)) h =
+      let leaves_so = same_leaves x.phase r.stage h.phase in
+      λ i. if leaves_so i then None else Some (h.ask i)
+
+  same_hold : (o : Option Holding) → own_hold (option_map hold_of o) ≡ own_of o
   same_hold None = refl
   same_hold (Some h) = refl
 
@@ -114,8 +128,7 @@ module _ (plans : List Acceptance) where
   same_held (Some None) (Some (Some r)) slot h = absurd h
   same_held (Some (Some x)) (Some None) slot h = absurd h
   same_held (Some (Some x)) (Some (Some r)) slot h =
-      ap (option_map {U = ℕ × Held} (λ (z : Hold). (z.page, z.held))) (h.slots slot) ∙ same_hold (holding_at
-      (holdings r) slot)
+      ap own_hold (h.slots slot) ∙ same_hold (holding_at (holdings r) slot)
 
   same_errand_at : (p : Phase) (g : Stage) → FitsStage p g → errand_at p ≡ errand_in g
   same_errand_at Acting acting h = refl
@@ -158,6 +171,28 @@ seat_leaves None = refl
 seat_leaves (Some None) = refl
 seat_leaves (Some (Some x)) = phase_leaves x.phase
 
+counted : (b : Bool) (ps : List ℕ) → (if b then length ps else 0) ≡ length (if b then ps else [])
+counted true ps = refl
+counted false ps = refl
+
+no_seat : (xs : List (Option Running)) (w : ℕ) → length xs ≤ w → slice_get xs w ≡ None
+no_seat [] w le = refl
+no_seat (x ∷ xs) zero le = absurd (omega (arith, le))
+no_seat (x ∷ xs) (suc w) le = no_seat xs w (omega (arith, le))
+
+-- There are at most 32 workers, so the number of a place fits 32 bits.
+pub few_seats : (f : Parts) → IsKept f → length f.seats ≤ 32
+few_seats f k =
+    omega (
+      arith,
+      k.stands.seats.size,
+      seats_are_all k.state k.stands.reached,
+      k.stands.reached.settings.workers.1,
+    )
+
+pub place_within : (n w slot : ℕ) → n ≤ 32 → slot < 32 → w < n → bundle_place w slot < 2 ^ 32
+place_within n w slot few low there = omega (arith, few, low, there)
+
 module _ (f : Parts) (s : State) (st : StandsFor f s) where
   pub idle_told : (w : ℕ) → idle_seat (slice_get f.seats w) ≡ is_idle s w
   idle_told w = same_idle s.plans (slice_get f.seats w) (seat_of s w) (place f s w st)
@@ -168,6 +203,40 @@ module _ (f : Parts) (s : State) (st : StandsFor f s) where
 
   pub held_told : (w slot : ℕ) → held_seat (slice_get f.seats w) slot ≡ held_of s w slot
   held_told w slot = same_held s.plans (slice_get f.seats w) (seat_of s w) slot (place f s w st)
+
+  -- The pages of a bundle are those of its stack; past the last slot and the last worker there are none.
+  abbrev pub stacked : (w slot : ℕ) → List ℕ
+  stacked w slot =
+      if nat_lt slot 32 && nat_lt w (length f.seats) then pages_at f.bundles (bundle_place w slot) else []
+
+  pub bundle_told : (w slot : ℕ) → stacked w slot ≡ bundle_of s w slot
+  bundle_told w slot = go (nat_lt slot 32) (nat_lt w (length f.seats)) refl refl
+    where
+      no_slot : 32 ≤ slot → (o : Option (Option Running)) → seat_of s w ≡ o → [] ≡ bundle_in (unwrap_or o None) slot
+      no_slot le None e = refl
+      no_slot le (Some None) e = refl
+      no_slot le (Some (Some r)) e = sym (none_past s st.reached w r slot e le)
+
+      go : (a b : Bool) → nat_lt slot 32 ≡ a → nat_lt w (length f.seats) ≡ b
+          → (if a && b then pages_at f.bundles (bundle_place w slot) else []) ≡ bundle_of s w slot
+      go false b e g = let le : 32 ≤ slot = grind (arith, nat_tests) in no_slot le (seat_of s w) refl
+      go true false e g =
+          let le : length f.seats ≤ w = grind (arith, nat_tests) in
+          sym (ap (λ o. bundle_in (unwrap_or o None) slot) (no_seat s.seats w (omega (arith, le, st.seats.size))))
+      go true true e g =
+          let low : slot < 32 = grind (arith, nat_tests) in
+          let there : w < length f.seats = grind (arith, nat_tests) in
+          let at = slice_get-get_or s.seats w None (omega (arith, there, st.seats.size)) in
+          st.bundles.each w slot (slice_index_or s.seats w None) low at
+          ∙ sym (ap (λ o. bundle_in (unwrap_or o None) slot) at)
+
+  pub gathered_told : (w slot : ℕ) → gathered_in f.bundles (length f.seats) w slot ≡ gathered_of s w slot
+  gathered_told w slot =
+      counted (nat_lt slot 32 && nat_lt w (length f.seats)) (pages_at f.bundles (bundle_place w slot))
+      ∙ ap (λ (ps : List ℕ). length ps) (bundle_told w slot)
+
+  pub pending_told : (w : ℕ) → pending_seat (slice_get f.seats w) ≡ pending_of s w
+  pending_told w = same_pending s.plans (slice_get f.seats w) (seat_of s w) (place f s w st)
 
   pub errand_told : (w : ℕ) → errand_seat (slice_get f.seats w) ≡ errand_of s w
   errand_told w = same_errand s.plans (slice_get f.seats w) (seat_of s w) (place f s w st)

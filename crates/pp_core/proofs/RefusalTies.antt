@@ -1,9 +1,10 @@
 -- What a move is refused with, as the core's tests tell it.
-use Rattle.std.proofs.Common.{◌≡◌, ◌∙◌, ℕ, ◌+◌, ◌<◌, ◌≤◌, Bool, true, false, Option, Some, None, [], length, refl, sym, ap}
+use Rattle.std.proofs.Common.{◌≡◌, ◌∙◌, ℕ, ◌+◌, ◌<◌, ◌≤◌, Bool, true, false, Some, None, [], refl, sym, ap}
 use Rattle.std.proofs.Common.{subst, arith}
-use Rattle.std.specs.Prelude.{option_map, not, ◌&&◌, ◌||◌, ◌==◌, nat_lt, Result, Ok, Err}
+use Rattle.std.specs.Prelude.{option_map, not, ◌&&◌, ◌==◌, Result, Ok}
 use Rattle.std.proofs.lemmas.Bool.Decides.{nat_tests}
 use Rattle.pp_plan.specs.declared.mode.Mode.{Mode}
+use Rattle.pp_plan.specs.declared.action.Ask.{Ask}
 use Rattle.pp_plan.specs.declared.action.Ask.TheVariants as ask
 use Rattle.pp_plan.specs.Asked.{region_has}
 use Rattle.pp_cert.specs.declared.note.Held.{Held}
@@ -25,7 +26,6 @@ use Rattle.pp_model.specs.declared.moves.Came.TheVariants.{Fault, Image}
 use Rattle.pp_model.specs.declared.reply.Reply.{Reply}
 use Rattle.pp_model.specs.declared.refusals.Cause.{Cause}
 use Rattle.pp_model.specs.Pool.{Running, State, is_dirty, mark_at}
-use Rattle.pp_model.specs.Holders.{holdings, is_in_flight}
 use Rattle.pp_model.specs.Outcome.{Outcome, with_lists, released}
 use Rattle.pp_model.specs.Fixing.{evict_where, fix_by}
 use Rattle.pp_model.specs.Answers.{write_where, write_in, write_by, read_where, read_came, read_in, read_by}
@@ -45,7 +45,7 @@ use Rattle.pp_core.specs.declared.seat.Seat.{Seat}
 use Rattle.pp_core.specs.declared.table.Flush.{Flush}
 use Rattle.pp_core.specs.Slots.{hold_at}
 use Rattle.pp_core.specs.Parts.{Parts}
-use Rattle.pp_core.specs.StandsFor.{StandsFor, IsKept, Moves, Asks, in_flight_as}
+use Rattle.pp_core.specs.StandsFor.{IsKept, Moves, Asks, in_flight_as}
 use Rattle.pp_core.specs.Effects.{phase_of, IsIn, IsPageIn, is_flying, is_busy}
 use Rattle.pp_core.specs.LeaveEffects.{is_leaving}
 use Rattle.pp_core.specs.FlushEffects.{is_changed}
@@ -125,15 +125,15 @@ fix_done s l w r slot page answer.Free e = refl
 fix_done s l w r slot page (answer.Evict v) e = evict_done (with_lists s l) w r slot page v (is_dirty s v)
 fix_done s l w r slot page answer.AllBusy e = cc
 
-pub fix_possible : (f : Parts) (w page slot region : ℕ) (asks : Asks f w (ask.Fix slot region))
-    → region_has f.layout region page ≡ true → is_flying f page ≡ false
+pub fix_possible : (f : Parts) (w page slot region : ℕ) (wants : Ask) (into : fixes.AsksIn wants slot region)
+    (asks : Asks f w wants) → region_has f.layout region page ≡ true → is_flying f page ≡ false
     → is_all_busy (request f.lists page (is_busy f)).0 ≡ false → IsRefusalTo f (move.Fix w page) None
-fix_possible f w page slot region asks has free room = λ s st.
+fix_possible f w page slot region wants into asks has free room = λ s st.
     let a = (request f.lists page (is_busy f)).0 in
     let l = (request f.lists page (is_busy f)).1 in
     let r = (asks s st).0 in
     done_so s (move.Fix w page) (fix_by s l w r slot page a)
-    (fixes.by_answer f w page slot region asks has free a refl s st) (fix_done s l w r slot page a room)
+    (fixes.by_answer f w page slot region wants into asks has free a refl s st) (fix_done s l w r slot page a room)
 
 pub busy_answer : (a : Answer) → is_all_busy a ≡ true → a ≡ answer.AllBusy
 busy_answer answer.Hit e = cc

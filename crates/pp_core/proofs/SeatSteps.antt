@@ -18,7 +18,7 @@ did plan x y z a goes asks same e =
       cursor = goes;
       ask = asks;
       actions = ap (λ (v : Seat). v.actions + 1) same;
-      holds = ap (λ (v : Seat). count_after a v.holds) same;
+      holds = ap (λ (v : Seat). count_after a v.slots v.holds) same;
       slots = ap (λ (v : Seat). slots_after a v.slots) same;
       phase = refl;
     })

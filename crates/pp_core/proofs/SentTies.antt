@@ -1,5 +1,5 @@
 -- A worker sends an errand out, or goes to another stage: the seats that the core keeps fit those of the state.
-use Rattle.std.proofs.Common.{◌≡◌, ◌∙◌, ℕ, Some, List, length, sym, ap, subst}
+use Rattle.std.proofs.Common.{◌≡◌, ◌∙◌, ℕ, Some, List, sym, ap, subst}
 use Rattle.std.specs.Prelude.{slice_set}
 use Rattle.pp_plan.specs.declared.action.Action.{Action}
 use Rattle.pp_plan.specs.Limits.{most_slots}

@@ -55,9 +55,9 @@ pub tell_as : (xs : List (Option Hold)) (hs ks : Holdings) (slot : ℕ) (h : Hol
     → ((k : ℕ) → holding_at ks k ≡ cond (eqb k slot) (Some (as_held u h)) (holding_at hs k))
     → Tell (held_as u slot xs) ks
 tell_as xs hs ks slot h u lt found tell is =
-    tell_set xs hs ks slot (option_map (λ x. record { page = x.page; held = u }) (hold_at xs slot))
+    tell_set xs hs ks slot (option_map (λ x. record { page = x.page; held = u; bundled = x.bundled }) (hold_at xs slot))
     (Some (as_held u h)) lt
-    (ap (option_map (λ (x : Hold). record { page = x.page; held = u })) (tell slot ∙ ap
+    (ap (option_map (λ (x : Hold). record { page = x.page; held = u; bundled = x.bundled })) (tell slot ∙ ap
     (option_map hold_of) found)) tell is
 
 -- ---- the worker after an action
@@ -67,13 +67,13 @@ slots_width (Fix slot page) xs = set_length xs slot _
 slots_width (Unfix slot) xs = set_length xs slot _
 slots_width (Latch slot m) xs = set_length xs slot _
 slots_width (Unlatch slot) xs = set_length xs slot _
-slots_width (Gather slot page) xs = refl
-slots_width (Scatter slot) xs = refl
+slots_width (Gather slot page) xs = set_length xs slot _
+slots_width (Scatter slot) xs = set_length xs slot _
 slots_width (Choose i) xs = refl
 
 pub acted_fits : (plans : List Acceptance) (x y : Seat) (r : Running) (a : Action) → FitsRunning plans x r
     → CursorStandsFor r.accepted.plan x.cursor r.done → Did r.accepted.plan x y a
-    → count_after a x.holds ≡ held_slots most_slots (holdings (having_done r a))
+    → count_after a x.slots x.holds ≡ held_slots most_slots (holdings (having_done r a))
     → Tell (slots_after a x.slots) (holdings (having_done r a)) → length r.done + 1 ≡ length (r.done ++ a ∷ [])
     → FitsRunning plans y (having_done r a)
 acted_fits plans x y r a fits cursor did count tell more = record {

@@ -18,6 +18,7 @@ use Rattle.pp_core.specs.declared.seat.Seat.{Seat}
 use Rattle.pp_core.specs.Parts.{Parts}
 use Rattle.pp_core.specs.StandsFor.{FitsRunning, FitsSeat, StandsFor, IsKept}
 use Rattle.pp_core.specs.Submits.{submit_fault, CanAdd, with_plan, TakesIn}
+use Rattle.pp_core.proofs.Gathered.{bundles_kept}
 
 -- ---- why a plan isn't taken in
 
@@ -101,6 +102,7 @@ submitted_stands f s a st e ok = record {
   };
   lists = st.lists;
   marks = st.marks;
+  bundles = bundles_kept f.bundles s (submitted s a) st.bundles refl refl;
   pages = st.pages;
   in_flight = st.in_flight;
   flush = st.flush;

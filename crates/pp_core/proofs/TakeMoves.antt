@@ -29,6 +29,7 @@ use Rattle.pp_core.specs.TakeEffects.{waiting_peak, has_room, CanBegin, Began}
 use Rattle.pp_core.proofs.Crew.{seat_from, seat_set}
 use Rattle.pp_core.proofs.Asking.{in_phase, both}
 use Rattle.pp_core.proofs.Ties.{Leads, moves_by, refuses}
+use Rattle.pp_core.proofs.Gathered.{bundles_stay}
 
 -- ---- a worker that begins a plan
 
@@ -183,6 +184,8 @@ module _ (f : Parts) (w : ℕ) where
                   seats = seat_set s.plans f.seats s.seats w (Some b.seat) (Some (beginning s a)) st.seats fits;
                   lists = st.lists;
                   marks = st.marks ∙ sym (marked.take_marks s st.reached w a at);
+                  bundles = bundles_stay f.bundles s t w None (Some (beginning s a)) st.bundles at refl refl
+                      (record { each = λ k. refl; pins = refl });
                   pages = st.pages;
                   in_flight = λ q v e. st.in_flight q v e ∙ sym (flights.take_flight s w a at q);
                   flush = st.flush;

@@ -1,5 +1,5 @@
 -- What a move does on both sides.
-use Rattle.std.proofs.Common.{◌≡◌, ◌≢◌, ◌∙◌, ℕ, zero, suc, Bool, true, false, eqb, cond, Option, Some, List, [], ◌∷◌}
+use Rattle.std.proofs.Common.{◌≡◌, ◌∙◌, ℕ, Bool, true, false, eqb, cond, Option, Some, List}
 use Rattle.std.proofs.Common.{length, refl, sym, ap, subst}
 use Rattle.std.proofs.lemmas.Bool.{eqb-true, eqb-false}
 use Rattle.std.specs.Prelude.{slice_get, slice_set}
@@ -20,6 +20,9 @@ use Rattle.pp_model.specs.Reached.{IsReached}
 use Rattle.pp_model.specs.Laws.{IsActing}
 use Rattle.pp_model.proofs.Changes.{IsAsked}
 use Rattle.pp_model.proofs.Journeys.{move_reached}
+use Rattle.pp_bundles.specs.Bundles.{PageStacks}
+use Rattle.pp_core.specs.Gathered.{BundlesFit}
+use Rattle.pp_core.proofs.Crew.{set_here, set_apart}
 use Rattle.pp_core.specs.declared.seat.Seat.{Seat}
 use Rattle.pp_core.specs.Parts.{Parts}
 use Rattle.pp_core.specs.StandsFor.{FitsCrew, StandsFor, Moves, Refuses}
@@ -78,10 +81,11 @@ pub record SameRest (s t : State) : Type 0 where
   pub in_flight : (q : ℕ) → is_in_flight t q ≡ is_in_flight s q
 
 -- The core's parts follow, where seats, marks and the numbers do.
-pub stands_on : (f : Parts) (s t : State) (xs : List (Option Seat)) (m : PageMap) (running b : ℕ) → StandsFor f s
-    → IsReached t → SameRest s t → FitsCrew s.plans xs t.seats → m ≡ marks t → running ≡ running_peaks t → b ≡ bound t
-    → StandsFor (record f { seats = xs; marks = m; running = running; budget = b }) t
-stands_on f s t xs m running b st reached same crew marked runs bounded = record {
+pub stands_on : (f : Parts) (s t : State) (xs : List (Option Seat)) (m : PageMap) (stacks : PageStacks) (running b : ℕ)
+    → StandsFor f s → IsReached t → SameRest s t → FitsCrew s.plans xs t.seats → m ≡ marks t → BundlesFit stacks t
+    → running ≡ running_peaks t → b ≡ bound t
+    → StandsFor (record f { seats = xs; marks = m; bundles = stacks; running = running; budget = b }) t
+stands_on f s t xs m stacks running b st reached same crew marked gathered runs bounded = record {
   reached = reached;
   layout = st.layout ∙ sym (ap (λ k. k.layout) same.settings);
   flushes = st.flushes ∙ sym (ap (λ k. k.flushes) same.settings);
@@ -91,6 +95,7 @@ stands_on f s t xs m running b st reached same crew marked runs bounded = record
   seats = subst (λ ps. FitsCrew ps xs t.seats) (sym same.plans) crew;
   lists = st.lists ∙ sym same.lists;
   marks = marked;
+  bundles = gathered;
   pages = st.pages ∙ sym same.notes;
   in_flight = λ q v e. st.in_flight q v e ∙ sym (same.in_flight q);
   flush = st.flush ∙ sym same.flush;
@@ -111,11 +116,12 @@ pub record SameFrame (s t : State) : Type 0 where
 abbrev pub Flies : List Bool → (ℕ → Bool) → Type 0
 Flies fl is = (q : ℕ) (b : Bool) → slice_get fl q ≡ Some b → b ≡ is q
 
-pub stands_with : (f : Parts) (s t : State) (xs : List (Option Seat)) (l : FourLists) (m : PageMap) (fl : List Bool)
-    (b : ℕ) → StandsFor f s → IsReached t → SameFrame s t → FitsCrew s.plans xs t.seats → l ≡ t.lists → m ≡ marks t
+pub stands_with : (f : Parts) (s t : State) (xs : List (Option Seat)) (l : FourLists) (m : PageMap) (stacks : PageStacks)
+    (fl : List Bool) (b : ℕ) → StandsFor f s → IsReached t → SameFrame s t → FitsCrew s.plans xs t.seats → l ≡ t.lists
+    → m ≡ marks t → BundlesFit stacks t
     → length fl ≡ length t.notes → Flies fl (is_in_flight t) → running_peaks t ≡ running_peaks s → b ≡ bound t
-    → StandsFor (record f { seats = xs; lists = l; marks = m; in_flight = fl; budget = b }) t
-stands_with f s t xs l m fl b st reached same crew listed marked long flies peaks bounded = record {
+    → StandsFor (record f { seats = xs; lists = l; marks = m; bundles = stacks; in_flight = fl; budget = b }) t
+stands_with f s t xs l m stacks fl b st reached same crew listed marked gathered long flies peaks bounded = record {
   reached = reached;
   layout = st.layout ∙ sym (ap (λ k. k.layout) same.settings);
   flushes = st.flushes ∙ sym (ap (λ k. k.flushes) same.settings);
@@ -125,6 +131,7 @@ stands_with f s t xs l m fl b st reached same crew listed marked long flies peak
   seats = subst (λ ps. FitsCrew ps xs t.seats) (sym same.plans) crew;
   lists = listed;
   marks = marked;
+  bundles = gathered;
   pages = long;
   in_flight = flies;
   flush = st.flush ∙ sym same.flush;
@@ -135,18 +142,6 @@ stands_with f s t xs l m fl b st reached same crew listed marked long flies peak
 
 -- ---- flights
 
-set_here : (fl : List Bool) (q : ℕ) (v b : Bool) → slice_get (slice_set fl q v) q ≡ Some b → b ≡ v
-set_here [] q v b e = cc
-set_here (x ∷ xs) zero v b e = cc
-set_here (x ∷ xs) (suc q) v b e = set_here xs q v b e
-
-set_there : (fl : List Bool) (p q : ℕ) (v : Bool) → q ≢ p → slice_get (slice_set fl p v) q ≡ slice_get fl q
-set_there [] p q v ne = refl
-set_there (x ∷ xs) zero zero v ne = absurd (ne refl)
-set_there (x ∷ xs) zero (suc q) v ne = refl
-set_there (x ∷ xs) (suc p) zero v ne = refl
-set_there (x ∷ xs) (suc p) (suc q) v ne = set_there xs p q v (λ e. ne (ap suc e))
-
 pub flies_set : (fl : List Bool) (page : ℕ) (v : Bool) (is now : ℕ → Bool) → Flies fl is
     → ((q : ℕ) → now q ≡ cond (eqb q page) v (is q)) → Flies (slice_set fl page v) now
 flies_set fl page v is now flies change q b e = go (eqb q page) refl
@@ -154,10 +149,10 @@ flies_set fl page v is now flies change q b e = go (eqb q page) refl
     go : (k : Bool) → eqb q page ≡ k → b ≡ now q
     go true at =
         let same : page ≡ q = sym (eqb-true q page at) in
-        set_here fl q v b (subst (λ (p : ℕ). slice_get (slice_set fl p v) q ≡ Some b) same e)
+        set_here fl page q v b (sym same) e
         ∙ sym (change q ∙ ap (λ (k : Bool). cond k v (is q)) at)
     go false at =
-        flies q b (sym (set_there fl page q v (λ x. eqb-false q page at x)) ∙ e)
+        flies q b (sym (set_apart fl page q v (λ x. eqb-false q page at x)) ∙ e)
         ∙ sym (change q ∙ ap (λ (k : Bool). cond k v (is q)) at)
 
 either_order : (a b v x : Bool) → cond a v (cond b v x) ≡ cond b v (cond a v x)

@@ -10,10 +10,9 @@ use Rattle.pp_plan.specs.declared.action.Action.{Action}
 use Rattle.pp_plan.specs.declared.action.Action.TheVariants as action
 use Rattle.pp_plan.specs.declared.action.Ask.{Ask}
 use Rattle.pp_plan.specs.declared.action.Ask.TheVariants as ask
-use Rattle.pp_plan.proofs.NoBundle.{no_scatter}
 use Rattle.pp_cert.specs.declared.note.Held.{Held}
 use Rattle.pp_cert.specs.declared.note.Held.TheVariants.{Free}
-use Rattle.pp_cert.specs.Held.{Holding, holding_at}
+use Rattle.pp_cert.specs.Held.{Holding, holding_slot, holding_at}
 use Rattle.pp_frames.specs.Marks as map
 use Rattle.pp_frames.specs.declared.mode.Mode.TheVariants as latch_mode
 use Rattle.pp_frames.specs.Marks.{PageMap, PageMarks}
@@ -22,7 +21,7 @@ use Rattle.pp_model.specs.declared.reply.Reply.TheVariants.{Did, Latched, NotNow
 use Rattle.pp_model.specs.declared.refusals.Delay.TheVariants.{LatchHeld}
 use Rattle.pp_model.specs.declared.refusals.Cause.TheVariants.{NotAsked}
 use Rattle.pp_model.specs.Pool.{acting, Running, State, known_mark, mark_at}
-use Rattle.pp_model.specs.Holders.{holdings, page_in, held_in}
+use Rattle.pp_model.specs.Holders.{given_back, holdings, page_in, held_in}
 use Rattle.pp_model.specs.Budget.{running_peaks, bound, left_to}
 use Rattle.pp_model.proofs.Sums.{sum_by-term}
 use Rattle.pp_model.proofs.Falls.{left_at}
@@ -46,12 +45,22 @@ use Rattle.pp_core.specs.declared.seat.Hold.{Hold}
 use Rattle.pp_core.specs.Slots.{hold_of}
 use Rattle.pp_core.specs.Parts.{Parts}
 use Rattle.pp_core.specs.StandsFor.{FitsCrew, StandsFor, IsKept, Moves, Asks}
-use Rattle.pp_core.specs.Effects.{IsIn, IsPageIn, IsHeldIn, CanUnfix, CanSpend, Spent, unpinned}
+use Rattle.pp_core.specs.Effects.{IsIn, IsPageIn, IsHeldIn, CanUnfix, CanScatter, CanSpend, Spent, unpinned}
+use Rattle.pp_core.specs.Effects.{unpinned_all, CanUnpinAll, bundle_pages}
 use Rattle.pp_core.specs.Effects.{mark_at as mark_in}
 use Rattle.pp_core.proofs.Ties.{Leads, moves_by, refuses, acted_outcome, is_asked, SameRest, stands_on}
 use Rattle.pp_core.proofs.ActTies.{kept, can_act, acted_crew, IsDue, SlotsFollow, acting_on}
-use Rattle.pp_core.proofs.ActTies.{unfix_due, latch_due}
-use Rattle.pp_core.proofs.ActTies.{unfix_follow, latch_follow}
+use Rattle.pp_core.proofs.ActTies.{unfix_due, scatter_due, latch_due}
+use Rattle.pp_core.proofs.ActTies.{unfix_follow, scatter_follow, latch_follow}
+use Rattle.pp_core.specs.Effects.{stacks_after}
+use Rattle.pp_core.proofs.Gathered.{asked_bundles, asks_low, place_low, place_fits}
+use Rattle.pp_core.proofs.SlotKinds.{stack_told}
+use Rattle.pp_core.proofs.Unpinned.{pages_of, can_go, marks_after}
+use Rattle.std.proofs.lemmas.Option.{slice_get_within}
+use Rattle.pp_cert.proofs.Slots.{slot_all}
+use Rattle.pp_model.proofs.ChangeTotals as totals
+use Rattle.pp_model.proofs.MarkChanges.{Reseated}
+use Rattle.pp_model.proofs.Seats.{good}
 
 -- ---- slots
 
@@ -89,25 +98,25 @@ has_seat f w x k asks =
     let there = kept f k.state w a.0 k.stands a.1.seat in
     (there.seat, there.is_in)
 
--- An unfix isn't asked where the plan asks none. (No plan asks a scatter.)
-no_unfix : (s : State) (w : ℕ) (r : Running) (x : Ask) → asked_by r ≡ x → ((slot : ℕ) → x ≡ ask.Unfix slot → ⊥)
-    → unfix_asked s w r x ≡ off_plan s NotAsked
-no_unfix s w r (ask.Unfix slot) e isnt = absurd (isnt slot refl)
-no_unfix s w r (ask.Scatter slot) e isnt = absurd (no_scatter r.accepted.plan r.done slot e)
-no_unfix s w r (ask.Fix slot region) e isnt = refl
-no_unfix s w r (ask.Latch slot m) e isnt = refl
-no_unfix s w r (ask.Unlatch slot) e isnt = refl
-no_unfix s w r (ask.Gather slot region) e isnt = refl
-no_unfix s w r (ask.Choose n) e isnt = refl
-no_unfix s w r ask.End e isnt = refl
+-- No slot is given back where the plan asks neither an unfix nor a scatter.
+no_unfix : (s : State) (w : ℕ) (r : Running) (x : Ask) → ((slot : ℕ) → x ≡ ask.Unfix slot → ⊥)
+    → ((slot : ℕ) → x ≡ ask.Scatter slot → ⊥) → unfix_asked s w r x ≡ off_plan s NotAsked
+no_unfix s w r (ask.Unfix slot) no_own no_bundle = absurd (no_own slot refl)
+no_unfix s w r (ask.Scatter slot) no_own no_bundle = absurd (no_bundle slot refl)
+no_unfix s w r (ask.Fix slot region) no_own no_bundle = refl
+no_unfix s w r (ask.Latch slot m) no_own no_bundle = refl
+no_unfix s w r (ask.Unlatch slot) no_own no_bundle = refl
+no_unfix s w r (ask.Gather slot region) no_own no_bundle = refl
+no_unfix s w r (ask.Choose n) no_own no_bundle = refl
+no_unfix s w r ask.End no_own no_bundle = refl
 
 pub unfix_unasked : (f : Parts) (w : ℕ) (x : Ask) → Asks f w x → ((slot : ℕ) → x ≡ ask.Unfix slot → ⊥)
-    → Moves f (move.Unfix w) (OffPlan NotAsked) f
-unfix_unasked f w x asks isnt = refuses f (move.Unfix w) (OffPlan NotAsked) (λ s st.
+    → ((slot : ℕ) → x ≡ ask.Scatter slot → ⊥) → Moves f (move.Unfix w) (OffPlan NotAsked) f
+unfix_unasked f w x asks no_own no_bundle = refuses f (move.Unfix w) (OffPlan NotAsked) (λ s st.
     let at = asks s st in
     acted_outcome s w at.0 (λ q. unfix_asked s w q (asked_by q)) at.1
     ∙ ap (unfix_asked s w at.0) at.2
-    ∙ no_unfix s w at.0 x at.2 isnt)
+    ∙ no_unfix s w at.0 x no_own no_bundle)
 
 -- ---- what an action needs
 
@@ -128,10 +137,12 @@ asked_bound s w r a h asked =
       numbers.asked_few s h w r a asked,
     )
 
-pub spend_needs : (f : Parts) (w : ℕ) (a : Action) (h : Asked f w a) → IsDue h.running a → CanSpend f w a
-spend_needs f w a h due = record {
+pub spend_needs : (f : Parts) (w : ℕ) (a : Action) (h : Asked f w a) → IsDue h.running a
+    → stacks_after w a f.bundles ≡ f.bundles → CanSpend f w a
+spend_needs f w a h due stacks = record {
   can = can_act f h.state w h.running a h.stands h.asked.at.seat due;
   budget = omega (arith, h.stands.budget, asked_bound h.state w h.running a h.stands.reached h.asked);
+  stacks = stacks;
 }
 
 pub unfix_asked_of : (f : Parts) (w slot : ℕ) → IsKept f → Asks f w (ask.Unfix slot) → Asked f w (action.Unfix slot)
@@ -151,7 +162,7 @@ can_unfix f w slot page k asks told =
     let s = h.state in
     let r = h.running in
     let st = h.stands in
-    let spends = spend_needs f w (action.Unfix slot) h (unfix_due f s w r st slot h.asked) in
+    let spends = spend_needs f w (action.Unfix slot) h (unfix_due f s w r st slot h.asked) refl in
     let at = page_is f s w slot page r st h.asked.at.seat told in
     let spare = marked.unfix_spares s st.reached w r slot h.asked in
     record {
@@ -172,9 +183,10 @@ spent_stands f g s t w r a m st reached asked spent follow same seats marked_so 
     let crew = acted_crew f g s w r a st spent.acted asked.at.seat (acting_on f s w r st a asked) follow in
     let budget : f.budget - 3 ≡ bound t = omega (arith, st.budget, bounded) in
     subst (λ (z : Parts). StandsFor z t) (sym spent.rest)
-    (stands_on f s t g.seats m f.running (f.budget - 3) st reached same
-    (subst (λ (ys : List (Option Running)). FitsCrew s.plans g.seats ys) (sym seats) crew) marked_so (st.running
-    ∙ sym peaks) budget)
+    (stands_on f s t g.seats m (stacks_after w a f.bundles) f.running (f.budget - 3) st reached same
+    (subst (λ (ys : List (Option Running)). FitsCrew s.plans g.seats ys) (sym seats) crew) marked_so
+    (asked_bundles f.bundles s t st.reached w r a st.bundles asked.at.seat (ap given_back asked.at.stage)
+    (steps.asks_it s st.reached w r a asked) seats same.settings) (st.running ∙ sym peaks) budget)
 
 -- ---- unfix
 
@@ -212,6 +224,99 @@ unfix_moves f g w slot page asks told spent = moves_by f g (move.Unfix w) Did le
               (numbers.unfix_bound s st.reached w r slot asked);
         }
 
+-- ---- scatter
+
+scatter_asked_of : (f : Parts) (w slot : ℕ) → IsKept f → Asks f w (ask.Scatter slot)
+    → Asked f w (action.Scatter slot)
+scatter_asked_of f w slot k asks =
+    let a = asks k.state k.stands in
+    record {
+      state = k.state;
+      stands = k.stands;
+      running = a.0;
+      asked = is_asked k.state w a.0 (ask.Scatter slot) (action.Scatter slot) a.1 a.2 refl;
+    }
+
+-- What goes: the pages of the slot's stack, none of them latched.
+record Scatters (f : Parts) (s : State) (w slot : ℕ) (r : Running) : Type 0 where
+  few : slot < 32
+  pages : bundle_pages f w slot ≡ pages_of (slot_all holding_slot slot (holdings r))
+  spare : CanUnpinAll (pages_of (slot_all holding_slot slot (holdings r))) (marks s)
+  marks_are : unpinned_all (pages_of (slot_all holding_slot slot (holdings r))) (marks s)
+      ≡ marks (did s w r (action.Scatter slot))
+
+scatters : (f : Parts) (s : State) (w slot : ℕ) (r : Running) → StandsFor f s → IsAsked s w r (action.Scatter slot)
+    → Scatters f s w slot r
+scatters f s w slot r st asked =
+    let h = st.reached in
+    let d = action.Scatter slot in
+    let t = did s w r d in
+    let few = asks_low s h w r d asked.at.seat (ap given_back asked.at.stage) (steps.asks_it s h w r d asked) in
+    let all = totals.scatter_totals s t w r (good s h) slot asked refl in
+    let out = slot_all holding_slot slot (holdings r) in
+    let rest : Reseated s t = record { settings = refl; notes = refl } in
+    record {
+      few = few;
+      pages = stack_told f s w slot r st asked.at.seat few (steps.scatter_finds s h w r slot asked).1;
+      spare = can_go s t h out all.0 all.1 rest;
+      marks_are = marks_after s t h out all.0 all.1 rest;
+    }
+
+pub can_scatter : (f : Parts) (w slot : ℕ) → IsKept f → Asks f w (ask.Scatter slot) → CanScatter f w slot
+can_scatter f w slot k asks =
+    let h = scatter_asked_of f w slot k asks in
+    let s = h.state in
+    let r = h.running in
+    let st = h.stands in
+    let goes = scatters f s w slot r st h.asked in
+    let due = scatter_due f s w r st slot h.asked in
+    record {
+      can = can_act f s w r (action.Scatter slot) st h.asked.at.seat due;
+      place = omega (
+        arith,
+        st.bundles.places,
+        place_low w slot (length s.seats) (slice_get_within s.seats w (Some r) h.asked.at.seat) goes.few,
+      );
+      fits = place_fits s st.reached w r slot h.asked.at.seat goes.few;
+      spare = subst (λ (m : PageMap). CanUnpinAll (bundle_pages f w slot) m) (sym st.marks)
+          (subst (λ ps. CanUnpinAll ps (marks s)) (sym goes.pages) goes.spare);
+      budget = omega (arith, st.budget, asked_bound s w r (action.Scatter slot) st.reached h.asked);
+    }
+
+pub scatter_moves : (f g : Parts) (w slot : ℕ) → Asks f w (ask.Scatter slot)
+    → Spent f g w (action.Scatter slot) (unpinned_all (bundle_pages f w slot) f.marks) → Moves f (move.Unfix w) Did g
+scatter_moves f g w slot asks spent = moves_by f g (move.Unfix w) Did leads
+  where
+    leads : (s : State) → StandsFor f s → Leads s (move.Unfix w) Did g
+    leads s st =
+        let a = asks s st in
+        let r = a.0 in
+        let d = action.Scatter slot in
+        let asked = is_asked s w r (ask.Scatter slot) d a.1 a.2 refl in
+        let t = did s w r d in
+        let goes = scatters f s w slot r st asked in
+        let same : SameRest s t = record {
+          settings = refl;
+          plans = refl;
+          taken = refl;
+          lists = refl;
+          notes = refl;
+          flush = refl;
+          flushes_left = refl;
+          in_flight = flights.scatter_flight s st.reached w r slot asked;
+        } in
+        let m : unpinned_all (bundle_pages f w slot) f.marks ≡ marks t =
+        ap (λ (z : PageMap). unpinned_all (bundle_pages f w slot) z) st.marks
+        ∙ ap (λ ps. unpinned_all ps (marks s)) goes.pages ∙ goes.marks_are in
+        record {
+          after = record { reply = Did; state = t };
+          is = acted_outcome s w r (λ q. unfix_asked s w q (asked_by q)) a.1 ∙ ap (unfix_asked s w r) a.2;
+          replies = refl;
+          stands = λ reached. spent_stands f g s t w r d (unpinned_all (bundle_pages f w slot) f.marks) st reached asked
+              spent (scatter_follow f s w r st slot asked) same refl m
+              (numbers.scatter_peaks s st.reached w r slot asked) (numbers.scatter_bound s st.reached w r slot asked);
+        }
+
 -- ---- marks as they are told
 
 -- The mark that the map has of a page is the state's.
@@ -238,6 +343,7 @@ can_spend_marked f m w a h = record {
     can = h.can.can;
   };
   budget = h.budget;
+  stacks = h.stacks;
 }
 
 pub spent_marked : (f g : Parts) (m n : PageMap) (w : ℕ) (a : Action) → Spent (record f { marks = m }) g w a n
@@ -302,7 +408,7 @@ module _ (f : Parts) (w slot page : ℕ) (m : Mode) (asks : Asks f w (ask.Latch 
   can_latch k n =
       let h = latch_of k.state k.stands in
       can_spend_marked f n w (action.Latch slot m)
-      (spend_needs f w (action.Latch slot m) h (latch_due f h.state w h.running h.stands slot m h.asked))
+      (spend_needs f w (action.Latch slot m) h (latch_due f h.state w h.running h.stands slot m h.asked) refl)
 
   -- Whether the latch goes with those that stand on the page, as the map tells it.
   pub latch_goes : (s : State) (st : StandsFor f s) (b : Bool)

@@ -1,5 +1,6 @@
 -- What a worker has after a move, told by what the move was answered, in the words of a core's queries.
-use Rattle.std.specs.Prelude.{◌≡◌, ◌≢◌, ◌<◌, ℕ, Bool, true, false, Option, None, Some, IsSome}
+use Rattle.std.specs.Prelude.{◌≡◌, ◌≢◌, ◌<◌, ◌⊎◌, ℕ, Bool, true, false, Option, None, Some, IsSome, option_and_then}
+use Rattle.std.specs.Prelude.{[], ◌∷◌}
 use Rattle.pp_plan.specs.declared.mode.Mode.{Mode}
 use Rattle.pp_plan.specs.declared.action.Ask.TheVariants as ask
 use Rattle.pp_cert.specs.declared.note.Held.{Held}
@@ -20,7 +21,9 @@ use Rattle.pp_model.specs.Moves.{reply_of, next_of, is_refusal}
 use Rattle.pp_model.specs.Submitting.{after_submit}
 use Rattle.pp_model.specs.Laws.{RefusedLeaves}
 use Rattle.pp_model.specs.WorkerParts.{worker_of}
-use Rattle.pp_core.specs.Queries.{is_idle, is_leaving, ask_of, held_of, errand_of, flushed_page}
+use Rattle.pp_core.specs.Fixing.{wanted}
+use Rattle.pp_core.specs.Queries.{is_idle, is_leaving, ask_of, pending_of, held_of, bundle_of, gathered_of, errand_of}
+use Rattle.pp_core.specs.Queries.{flushed_page}
 
 -- ---- words
 
@@ -28,19 +31,32 @@ use Rattle.pp_core.specs.Queries.{is_idle, is_leaving, ask_of, held_of, errand_o
 abbrev pub Acts : State → (w : ℕ) → Type 0
 Acts s w = IsSome (ask_of s w)
 
--- Each slot of worker w holds in t what it held in s; each but this one does.
+-- The slot and the region of which worker w's plan asks a page, by a fix or by a gather.
+abbrev pub wanted_of : State → (w : ℕ) → Option (ℕ × ℕ)
+wanted_of s w = option_and_then wanted (ask_of s w)
+
+-- Each slot of worker w holds in t what it held in s of its own; each but this one does.
 abbrev pub SlotsStay : (s t : State) → (w : ℕ) → Type 0
 SlotsStay s t w = (slot : ℕ) → held_of t w slot ≡ held_of s w slot
 
 abbrev pub OtherSlotsStay : (s t : State) → (w slot : ℕ) → Type 0
 OtherSlotsStay s t w slot = (k : ℕ) → k ≢ slot → held_of t w k ≡ held_of s w k
 
+-- Each bundle of worker w has the pages in t that it has in s; each but this one has.
+abbrev pub BundlesStay : (s t : State) → (w : ℕ) → Type 0
+BundlesStay s t w = (slot : ℕ) → bundle_of t w slot ≡ bundle_of s w slot
+
+abbrev pub OtherBundlesStay : (s t : State) → (w slot : ℕ) → Type 0
+OtherBundlesStay s t w slot = (k : ℕ) → k ≢ slot → bundle_of t w k ≡ bundle_of s w k
+
 -- All that is told of worker v in t is as in s.
 pub record WorkerStays (s t : State) (v : ℕ) : Type 0 where
   pub idle : is_idle t v ≡ is_idle s v
   pub leaving : is_leaving t v ≡ is_leaving s v
   pub asks : ask_of t v ≡ ask_of s v
+  pub pending : pending_of t v ≡ pending_of s v
   pub held : (slot : ℕ) → held_of t v slot ≡ held_of s v slot
+  pub bundles : BundlesStay s t v
   pub errand : errand_of t v ≡ errand_of s v
 
 -- ---- what a done move found
@@ -53,12 +69,13 @@ EndsBy s w ending.Gone = is_leaving s w ≡ true
 -- What the queries told, before a move that is done, of the worker that makes it, and of the flush before the flusher's.
 abbrev pub Found : State → Move → Type 0
 Found s (move.Take w) = is_idle s w ≡ true
-Found s (move.Fix w page) = (slot : ℕ) × (region : ℕ) × (ask_of s w ≡ Some (ask.Fix slot region))
+Found s (move.Fix w page) = (slot : ℕ) × (region : ℕ) × (wanted_of s w ≡ Some (slot, region))
 Found s (move.WriteDone w ok) =
     (slot : ℕ) × (page : ℕ) × (victim : ℕ) × (errand_of s w ≡ Some (slot, page, Some victim))
 Found s (move.ReadDone w came) = (slot : ℕ) × (page : ℕ) × (errand_of s w ≡ Some (slot, page, None))
 Found s (move.Unfix w) =
-    (slot : ℕ) × (page : ℕ) × (ask_of s w ≡ Some (ask.Unfix slot)) × (held_of s w slot ≡ Some (page, Free))
+    ((slot : ℕ) × (page : ℕ) × (ask_of s w ≡ Some (ask.Unfix slot)) × (held_of s w slot ≡ Some (page, Free)))
+    ⊎ ((slot : ℕ) × (ask_of s w ≡ Some (ask.Scatter slot)) × (0 < gathered_of s w slot))
 Found s (move.Latch w) =
     (slot : ℕ) × (mode : Mode) × (page : ℕ) × (ask_of s w ≡ Some (ask.Latch slot mode))
     × (held_of s w slot ≡ Some (page, Free))
@@ -67,7 +84,8 @@ Found s (move.Unlatch w) =
     × (held_of s w slot ≡ Some (page, held_in mode))
 Found s (move.Choose w branch) = (count : ℕ) × (ask_of s w ≡ Some (ask.Choose count)) × (branch < count)
 Found s (move.Unwind w slot) =
-    (page : ℕ) × (held : Held) × (is_leaving s w ≡ true) × (held_of s w slot ≡ Some (page, held))
+    (is_leaving s w ≡ true)
+    × (((page : ℕ) × (held : Held) × (held_of s w slot ≡ Some (page, held))) ⊎ (0 < gathered_of s w slot))
 Found s (move.Finish w) =
     (by : Ending) × (reply_of s (move.Finish w) ≡ reply.Finished by) × EndsBy s w by
 Found s (move.FlushBegin page) = flushed_page s ≡ None
@@ -82,6 +100,7 @@ DoneFound s = (m : Move) → is_refusal (reply_of s m) ≡ false → Found s m
 pub record HasBegun (t : State) (w : ℕ) : Type 0 where
   pub acts : Acts t w
   pub empty : (slot : ℕ) → held_of t w slot ≡ None
+  pub no_bundle : (slot : ℕ) → bundle_of t w slot ≡ []
 
 abbrev pub TakenActs : State → Type 0
 TakenActs s =
@@ -92,36 +111,57 @@ TakenActs s =
 -- The page is fixed into the slot, which was empty; it isn't latched, and this is its mark. The worker acts.
 pub record HasFixed (s t : State) (w slot page mark : ℕ) : Type 0 where
   pub empty : held_of s w slot ≡ None
+  pub no_bundle : bundle_of s w slot ≡ []
   pub held : held_of t w slot ≡ Some (page, Free)
   pub known : known_mark t page ≡ Some mark
   pub acts : Acts t w
   pub others : OtherSlotsStay s t w slot
+  pub bundles : BundlesStay s t w
 
--- This errand is out for the worker, and its slots are as they were, the errand's one empty.
+-- The page is gathered into the slot, a bundle or empty, before its other pages; this is its mark. The worker acts.
+pub record HasGathered (s t : State) (w slot page mark : ℕ) : Type 0 where
+  pub no_page : held_of s w slot ≡ None
+  pub more : bundle_of t w slot ≡ page ∷ bundle_of s w slot
+  pub known : known_mark t page ≡ Some mark
+  pub acts : Acts t w
+  pub slots : SlotsStay s t w
+  pub others : OtherBundlesStay s t w slot
+
+-- This errand is out for the worker, and its slots are as they were. The errand's one is empty, or a bundle where the plan asks
+-- a gather.
 pub record IsSent (s t : State) (w slot page : ℕ) (victim : Option ℕ) : Type 0 where
   pub errand : errand_of t w ≡ Some (slot, page, victim)
   pub empty : held_of s w slot ≡ None
+  pub no_bundle : (region : ℕ) → pending_of s w ≡ Some (ask.Fix slot region) → bundle_of s w slot ≡ []
+  pub pending : pending_of t w ≡ pending_of s w
   pub slots : SlotsStay s t w
+  pub bundles : BundlesStay s t w
 
 -- The worker leaves its plan, and its slots are as they were.
 pub record HasLost (s t : State) (w : ℕ) : Type 0 where
   pub leaving : is_leaving t w ≡ true
   pub slots : SlotsStay s t w
+  pub bundles : BundlesStay s t w
 
 abbrev pub HitFixes : State → Type 0
 HitFixes s =
     (w page slot region frame mark : ℕ) → reply_of s (move.Fix w page) ≡ reply.Hit frame mark
     → ask_of s w ≡ Some (ask.Fix slot region) → HasFixed s (next_of s (move.Fix w page)) w slot page mark
 
+abbrev pub HitGathers : State → Type 0
+HitGathers s =
+    (w page slot region frame mark : ℕ) → reply_of s (move.Fix w page) ≡ reply.Hit frame mark
+    → ask_of s w ≡ Some (ask.Gather slot region) → HasGathered s (next_of s (move.Fix w page)) w slot page mark
+
 abbrev pub FixSends : State → Type 0
 FixSends s =
     (w page slot region frame : ℕ) → reply_of s (move.Fix w page) ≡ reply.MustRead frame
-    → ask_of s w ≡ Some (ask.Fix slot region) → IsSent s (next_of s (move.Fix w page)) w slot page None
+    → wanted_of s w ≡ Some (slot, region) → IsSent s (next_of s (move.Fix w page)) w slot page None
 
 abbrev pub FixSendsVictim : State → Type 0
 FixSendsVictim s =
     (w page slot region frame victim : ℕ) → reply_of s (move.Fix w page) ≡ reply.MustWrite frame victim
-    → ask_of s w ≡ Some (ask.Fix slot region) → IsSent s (next_of s (move.Fix w page)) w slot page (Some victim)
+    → wanted_of s w ≡ Some (slot, region) → IsSent s (next_of s (move.Fix w page)) w slot page (Some victim)
 
 abbrev pub WrittenReads : State → Type 0
 WrittenReads s =
@@ -133,9 +173,12 @@ WriteFails s =
     (w : ℕ) (ok : Bool) (failure : Failure) → reply_of s (move.WriteDone w ok) ≡ reply.Failed failure
     → HasLost s (next_of s (move.WriteDone w ok)) w
 
--- What was read is loaded only where it named the page, and its stamp is the mark.
+-- What was read is loaded only where it named the page, and its stamp is the mark. The page is fixed or gathered, as the plan
+-- asks it.
 pub record HasLoaded (s t : State) (w slot page mark : ℕ) (came : Came) : Type 0 where
-  pub fixed : HasFixed s t w slot page mark
+  pub asked : (region : ℕ) × (option_and_then wanted (pending_of s w) ≡ Some (slot, region))
+  pub fixed : (region : ℕ) → pending_of s w ≡ Some (ask.Fix slot region) → HasFixed s t w slot page mark
+  pub gathered : (region : ℕ) → pending_of s w ≡ Some (ask.Gather slot region) → HasGathered s t w slot page mark
   pub image : came ≡ Image page mark
 
 abbrev pub ReadLoads : State → Type 0
@@ -180,11 +223,25 @@ pub record HasUnfixed (s t : State) (w slot : ℕ) : Type 0 where
   pub empty : held_of t w slot ≡ None
   pub acts : Acts t w
   pub others : OtherSlotsStay s t w slot
+  pub bundles : BundlesStay s t w
+
+-- The slot was a bundle and is empty, and the worker acts.
+pub record HasScattered (s t : State) (w slot : ℕ) : Type 0 where
+  pub some : 0 < gathered_of s w slot
+  pub none : bundle_of t w slot ≡ []
+  pub acts : Acts t w
+  pub slots : SlotsStay s t w
+  pub others : OtherBundlesStay s t w slot
 
 abbrev pub UnfixEmpties : State → Type 0
 UnfixEmpties s =
     (w slot : ℕ) → reply_of s (move.Unfix w) ≡ reply.Did → ask_of s w ≡ Some (ask.Unfix slot)
     → HasUnfixed s (next_of s (move.Unfix w)) w slot
+
+abbrev pub ScatterEmpties : State → Type 0
+ScatterEmpties s =
+    (w slot : ℕ) → reply_of s (move.Unfix w) ≡ reply.Did → ask_of s w ≡ Some (ask.Scatter slot)
+    → HasScattered s (next_of s (move.Unfix w)) w slot
 
 -- The slot's page is held so, and this is its mark. The worker acts.
 pub record NowHeld (s t : State) (w slot page mark : ℕ) (how : Held) : Type 0 where
@@ -192,6 +249,7 @@ pub record NowHeld (s t : State) (w slot page mark : ℕ) (how : Held) : Type 0 
   pub known : known_mark t page ≡ Some mark
   pub acts : Acts t w
   pub others : OtherSlotsStay s t w slot
+  pub bundles : BundlesStay s t w
 
 -- A latch leaves the page's mark.
 pub record HasLatched (s t : State) (w slot page mark : ℕ) (mode : Mode) : Type 0 where
@@ -214,6 +272,7 @@ UnlatchFrees s =
 pub record HasChosen (s t : State) (w : ℕ) : Type 0 where
   pub acts : Acts t w
   pub slots : SlotsStay s t w
+  pub bundles : BundlesStay s t w
 
 abbrev pub ChooseActs : State → Type 0
 ChooseActs s =
@@ -232,7 +291,16 @@ pub record HasUnwound (s t : State) (w slot page : ℕ) (held : Held) (r : Reply
   pub leaving : is_leaving t w ≡ true
   pub empty : held_of t w slot ≡ None
   pub others : OtherSlotsStay s t w slot
+  pub bundles : BundlesStay s t w
   pub told : IsUnwindReply t page held r
+
+-- The slot was a bundle and is empty, and the worker still leaves its plan.
+pub record HasUnwoundBundle (s t : State) (w slot : ℕ) (r : Reply) : Type 0 where
+  pub leaving : is_leaving t w ≡ true
+  pub none : bundle_of t w slot ≡ []
+  pub slots : SlotsStay s t w
+  pub others : OtherBundlesStay s t w slot
+  pub told : r ≡ reply.Did
 
 abbrev pub UnwindEmpties : State → Type 0
 UnwindEmpties s =
@@ -240,12 +308,19 @@ UnwindEmpties s =
     → held_of s w slot ≡ Some (page, held)
     → HasUnwound s (next_of s (move.Unwind w slot)) w slot page held (reply_of s (move.Unwind w slot))
 
+abbrev pub UnwindScatters : State → Type 0
+UnwindScatters s =
+    (w slot : ℕ) → is_refusal (reply_of s (move.Unwind w slot)) ≡ false → 0 < gathered_of s w slot
+    → HasUnwoundBundle s (next_of s (move.Unwind w slot)) w slot (reply_of s (move.Unwind w slot))
+
 -- The worker is idle. It ended its plan, or it had left it, and it held nothing.
 pub record HasFinished (s t : State) (w : ℕ) (by : Ending) : Type 0 where
   pub idle : is_idle t w ≡ true
   pub ends : EndsBy s w by
   pub empty : (slot : ℕ) → held_of s w slot ≡ None
+  pub no_bundle : (slot : ℕ) → bundle_of s w slot ≡ []
   pub after : (slot : ℕ) → held_of t w slot ≡ None
+  pub no_bundle_after : (slot : ℕ) → bundle_of t w slot ≡ []
 
 abbrev pub FinishIdles : State → Type 0
 FinishIdles s =
@@ -322,12 +397,17 @@ MarkStays s =
     → ((v slot : ℕ) → Releases s m v slot → held_of s v slot ≢ Some (page, X))
     → known_mark (next_of s m) page ≡ Some mark
 
+-- No slot has a page of its own beside a bundle's.
+abbrev pub OneKind : State → Type 0
+OneKind s = (w slot : ℕ) → (held_of s w slot ≡ None) ⊎ (bundle_of s w slot ≡ [])
+
 -- All of these; and a move that is refused leaves the state.
 pub record AfterMoves (s : State) : Type 0 where
   pub refused : RefusedLeaves s
   pub found : DoneFound s
   pub taken : TakenActs s
   pub hit : HitFixes s
+  pub hit_gather : HitGathers s
   pub sent : FixSends s
   pub sent_victim : FixSendsVictim s
   pub written : WrittenReads s
@@ -339,10 +419,12 @@ pub record AfterMoves (s : State) : Type 0 where
   pub sent_victim_frame : FixVictimFrame s
   pub written_frame : WrittenFrame s
   pub unfixed : UnfixEmpties s
+  pub scattered : ScatterEmpties s
   pub latched : LatchHolds s
   pub unlatched : UnlatchFrees s
   pub chosen : ChooseActs s
   pub unwound : UnwindEmpties s
+  pub unwound_bundle : UnwindScatters s
   pub finished : FinishIdles s
   pub flush_begun : FlushBegins s
   pub flush_ended : FlushEnds s
@@ -354,3 +436,4 @@ pub record AfterMoves (s : State) : Type 0 where
   pub shared_mark : SharedKeepsMark s
   pub victim_mark : VictimKeepsMark s
   pub mark : MarkStays s
+  pub one_kind : OneKind s

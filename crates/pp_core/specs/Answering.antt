@@ -4,11 +4,11 @@ use Rattle.std.specs.Prelude.{Result, Ok, Err, length, slice_set, IsTrue, IsFals
 use Rattle.pp_cert.specs.Accepted.{Acceptance}
 use Rattle.pp_arc.specs.FourLists.{is_cached}
 use Rattle.pp_arc.specs.Figure.{forget, bring_back}
-use Rattle.pp_plan.specs.declared.action.Action.TheVariants as action
 use Rattle.pp_frames.specs.Marks.{PageMap, pins_of, frame_of, latches_of, latch_count, stamp_of}
 use Rattle.pp_frames.specs.Marks.{with_frame, with_dirty, with_stamp}
 use Rattle.pp_model.specs.declared.refusals.Cause.{Cause}
 use Rattle.pp_model.specs.declared.refusals.Cause.TheVariants.{NoWorker, NoErrand}
+use Rattle.pp_model.specs.Fixing.{fixes}
 use Rattle.pp_model.specs.Answers.{is_other}
 use Rattle.pp_core.specs.declared.answering.Write.{Write}
 use Rattle.pp_core.specs.declared.answering.Read.{Read}
@@ -16,7 +16,7 @@ use Rattle.pp_core.specs.declared.seat.Phase.{Phase}
 use Rattle.pp_core.specs.declared.seat.Phase.TheVariants.{Acting, Writing, Reading, Leaving}
 use Rattle.pp_core.specs.declared.seat.Seat.{Seat}
 use Rattle.pp_core.specs.Parts.{Parts}
-use Rattle.pp_core.specs.Effects.{IsIn, Runs, CanAct, Acted, at_phase, frame_at, displaced}
+use Rattle.pp_core.specs.Effects.{ask_in, IsIn, Runs, CanAct, HasRecord, stacks_after, Acted, at_phase, frame_at, displaced}
 
 -- ---- errands
 
@@ -122,16 +122,18 @@ forgotten f w x a page =
     }
 
 pub record CanLoad (f : Parts) (w slot page : ℕ) : Type 0 where
-  pub can : CanAct f w (action.Fix slot page)
+  pub can : CanAct f w (fixes (ask_in f w) slot page)
+  pub record_free : HasRecord w (fixes (ask_in f w) slot page) f.bundles
   pub flight : page < length f.in_flight
   pub low : page < length f.marks.pages
   pub budget : 1 ≤ f.budget
 
 pub record Loaded (f g : Parts) (w slot page stamp : ℕ) : Type 0 where
-  pub acted : Acted f g w (action.Fix slot page)
+  pub acted : Acted f g w (fixes (ask_in f w) slot page)
   pub rest : g ≡ record f {
     seats = g.seats;
     marks = with_stamp f.marks page (Some stamp);
+    bundles = stacks_after w (fixes (ask_in f w) slot page) f.bundles;
     in_flight = slice_set f.in_flight page false;
     budget = f.budget - 1;
   }

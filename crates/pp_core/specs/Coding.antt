@@ -13,6 +13,7 @@ use Rattle.pp_cert.specs.declared.note.Held.{Held}
 use Rattle.pp_cert.specs.declared.note.Held.TheVariants.{Free, S, X}
 use Rattle.pp_cert.specs.Accepted.{Acceptance, coded_acceptance}
 use Rattle.pp_arc.specs.FourLists.{FourLists}
+use Rattle.pp_bundles.specs.Bundles.{PageStacks}
 use Rattle.pp_frames.specs.Marks.{Latches, Shared, Exclusive, PageMarks, PageMap}
 use Rattle.pp_core.specs.declared.seat.Seat.{Seat}
 use Rattle.pp_core.specs.declared.seat.Hold.{Hold}
@@ -110,8 +111,8 @@ coded_held = code_by (Option Bool) (coded_option coded_bool) held_to held_from h
 
 abbrev coded_hold : Coded Hold
 coded_hold =
-    code_by (ℕ × Held) (coded× coded_ℕ coded_held) (λ h. (h.page, h.held)) (λ p. record { page = p.0; held = p.1 })
-    (λ _. refl)
+    code_by (ℕ × (Held × Bool)) (coded× coded_ℕ (coded× coded_held coded_bool)) (λ h. (h.page, (h.held, h.bundled)))
+    (λ p. record { page = p.0; held = p.1.0; bundled = p.1.1 }) (λ _. refl)
 
 -- Whether the worker leaves its plan, and what is out for it: slot, page, and the victim if one is written back.
 abbrev PhaseParts : Type 0
@@ -204,6 +205,11 @@ coded_map =
     code_by (ℕ × List PageMarks) (coded× coded_ℕ (coded_list coded_marks)) (λ m. (m.frames, m.pages))
     (λ p. record { frames = p.0; pages = p.1 }) (λ _. refl)
 
+abbrev coded_stacks : Coded PageStacks
+coded_stacks =
+    code_by (ℕ × List (List ℕ)) (coded× coded_ℕ (coded_list (coded_list coded_ℕ))) (λ b. (b.room, b.stacks))
+    (λ p. record { room = p.0; stacks = p.1 }) (λ _. refl)
+
 abbrev coded_flush : Coded Flush
 coded_flush =
     code_by (ℕ × ℕ) (coded× coded_ℕ coded_ℕ) (λ f. (f.page, f.began)) (λ p. record { page = p.0; began = p.1 })
@@ -216,7 +222,7 @@ abbrev Kept : Type 0
 Kept = Geometry × (ℕ × (ℕ × (List Acceptance × (ℕ × List (Option Seat)))))
 
 abbrev Pages : Type 0
-Pages = FourLists × (PageMap × (List Bool × Option Flush))
+Pages = FourLists × (PageMap × (PageStacks × (List Bool × Option Flush)))
 
 abbrev Numbers : Type 0
 Numbers = ℕ × (ℕ × ℕ)
@@ -227,7 +233,8 @@ coded_kept =
     (coded_list (coded_option coded_seat))))))
 
 abbrev coded_pages : Coded Pages
-coded_pages = coded× coded_lists (coded× coded_map (coded× (coded_list coded_bool) (coded_option coded_flush)))
+coded_pages =
+    coded× coded_lists (coded× coded_map (coded× coded_stacks (coded× (coded_list coded_bool) (coded_option coded_flush))))
 
 abbrev coded_numbers : Coded Numbers
 coded_numbers = coded× coded_ℕ (coded× coded_ℕ coded_ℕ)
@@ -237,7 +244,7 @@ coded_parts =
     code_by (Kept × (Pages × Numbers)) (coded× coded_kept (coded× coded_pages coded_numbers))
     (λ f. (
       (f.layout, (f.flushes, (f.flushes_left, (f.plans, (f.taken, f.seats))))),
-      ((f.lists, (f.marks, (f.in_flight, f.flush))), (f.running, (f.need, f.budget))),
+      ((f.lists, (f.marks, (f.bundles, (f.in_flight, f.flush)))), (f.running, (f.need, f.budget))),
     ))
     (λ p. record {
       layout = p.0.0;
@@ -248,8 +255,9 @@ coded_parts =
       seats = p.0.1.1.1.1.1;
       lists = p.1.0.0;
       marks = p.1.0.1.0;
-      in_flight = p.1.0.1.1.0;
-      flush = p.1.0.1.1.1;
+      bundles = p.1.0.1.1.0;
+      in_flight = p.1.0.1.1.1.0;
+      flush = p.1.0.1.1.1.1;
       running = p.1.1.0;
       need = p.1.1.1.0;
       budget = p.1.1.1.1;

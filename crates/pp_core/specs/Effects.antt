@@ -1,6 +1,6 @@
 -- What the calls inside the core need of what it keeps, and what they do to it.
 use Rattle.std.specs.Prelude.{◌≡◌, ℕ, ◌+◌, ◌-◌, ◌<◌, ◌≤◌, ◌^◌, Bool, true, false, Option, None, Some, option_map}
-use Rattle.std.specs.Prelude.{option_and_then, unwrap_or, length, slice_get, slice_set}
+use Rattle.std.specs.Prelude.{option_and_then, unwrap_or, List, [], ◌∷◌, length, slice_get, slice_set}
 use Rattle.pp_plan.specs.declared.action.Action.{Action}
 use Rattle.pp_plan.specs.declared.action.Action.TheVariants as action
 use Rattle.pp_plan.specs.declared.action.Ask.{Ask}
@@ -11,6 +11,7 @@ use Rattle.pp_cert.specs.Accepted.{Acceptance}
 use Rattle.pp_frames.specs.declared.mode.Mode.TheVariants as mode
 use Rattle.pp_frames.specs.Marks.{PageMap, pins_of, frame_of, stamp_of, latches_of, with_pins, with_latches}
 use Rattle.pp_frames.specs.Marks.{without_latch}
+use Rattle.pp_bundles.specs.Bundles.{PageStacks, place_count, pages_at, free_records, with_pages, pushed}
 use Rattle.pp_frames.specs.Marks.{with_dirty, with_stamp, with_frame, has_latch, latch_count}
 use Rattle.pp_model.specs.declared.refusals.Cause.{Cause}
 use Rattle.pp_model.specs.declared.refusals.Cause.TheVariants.{NoWorker, NotActing}
@@ -23,6 +24,7 @@ use Rattle.pp_core.specs.Seats.{CanDo, Did}
 use Rattle.pp_core.specs.Slots.{hold_at}
 use Rattle.pp_core.specs.Busy.{is_busy_in}
 use Rattle.pp_core.specs.Parts.{Parts}
+use Rattle.pp_core.specs.Gathered.{bundle_place}
 
 -- ---- one worker's seat
 
@@ -59,6 +61,18 @@ pub record CanAct (f : Parts) (w : ℕ) (a : Action) : Type 0 where
   pub runs : Runs f w seat accepted
   pub can : CanDo accepted.plan seat a
 
+-- The stacks after an action of worker w: a gather puts its page on top, and a scatter takes all pages of the slot.
+abbrev pub stacks_after : (w : ℕ) → Action → PageStacks → PageStacks
+stacks_after w (action.Gather slot page) stacks = pushed stacks (bundle_place w slot) page
+stacks_after w (action.Scatter slot) stacks = with_pages stacks (bundle_place w slot) []
+stacks_after w _ stacks = stacks
+
+-- Where an action puts a page on a stack, the stack is there, and a record is free.
+abbrev pub HasRecord : (w : ℕ) → Action → PageStacks → Type 0
+HasRecord w (action.Gather slot page) stacks =
+    (bundle_place w slot < place_count stacks) × (0 < free_records stacks) × (bundle_place w slot < 2 ^ 32)
+HasRecord w _ stacks = Unit {0}
+
 -- It has done the action.
 pub record Acted (f g : Parts) (w : ℕ) (a : Action) : Type 0 where
   pub seat : Seat
@@ -90,6 +104,25 @@ pinned m page = with_pins m page (pins_of m page + 1)
 
 abbrev pub unpinned : PageMap → ℕ → PageMap
 unpinned m page = with_pins m page (pins_of m page - 1)
+
+-- The marks with one pin less for each of these pages, again for one that stands twice.
+abbrev pub unpinned_all : List ℕ → PageMap → PageMap
+unpinned_all [] m = m
+unpinned_all (page ∷ pages) m = unpinned_all pages (unpinned m page)
+
+-- They can go one after the other: each page has more pins than latches when it is its turn.
+abbrev pub CanUnpinAll : List ℕ → PageMap → Type 0
+CanUnpinAll [] m = Unit {0}
+CanUnpinAll (page ∷ pages) m =
+    (latch_count (latches_of m page) < pins_of m page) × CanUnpinAll pages (unpinned m page)
+
+-- A pin goes off each page at the place, and no page is there from now on.
+abbrev pub scattered : Parts → (place : ℕ) → Parts
+scattered f place =
+    record f {
+      marks = unpinned_all (pages_at f.bundles place) f.marks;
+      bundles = with_pages f.bundles place [];
+    }
 
 -- The page stands in the frame, and has one pin more.
 abbrev pub placed : PageMap → (page frame : ℕ) → PageMap
@@ -143,18 +176,36 @@ abbrev pub IsHeldIn : Parts → (w slot : ℕ) → Held → Type 0
 IsHeldIn f w slot held =
     (x : Seat) → IsIn f w x → held ≡ unwrap_or (option_map (λ (h : Hold). h.held) (hold_at x.slots slot)) Free
 
+-- The pages of the slot of worker w, which is a bundle, the last first.
+abbrev pub bundle_pages : Parts → (w slot : ℕ) → List ℕ
+bundle_pages f w slot = pages_at f.bundles (bundle_place w slot)
+
+-- The scatter can be done, and with it a pin goes off each page of the bundle.
+pub record CanScatter (f : Parts) (w slot : ℕ) : Type 0 where
+  pub can : CanAct f w (action.Scatter slot)
+  pub place : bundle_place w slot < place_count f.bundles
+  pub fits : bundle_place w slot < 2 ^ 32
+  pub spare : CanUnpinAll (bundle_pages f w slot) f.marks
+  pub budget : 3 ≤ f.budget
+
 -- The action can be done, and with it a pin goes off the page.
 pub record CanUnfix (f : Parts) (w slot page : ℕ) : Type 0 where
   pub can : CanAct f w (action.Unfix slot)
   pub spare : latch_count (latches_of f.marks page) < pins_of f.marks page
   pub budget : 3 ≤ f.budget
 
--- The action can be done, and the bound lowered.
+-- The action can be done, and the bound lowered; it is none that changes a bundle.
 pub record CanSpend (f : Parts) (w : ℕ) (a : Action) : Type 0 where
   pub can : CanAct f w a
   pub budget : 3 ≤ f.budget
+  pub stacks : stacks_after w a f.bundles ≡ f.bundles
 
 -- The action was done, and these are the marks since.
 pub record Spent (f g : Parts) (w : ℕ) (a : Action) (marks : PageMap) : Type 0 where
   pub acted : Acted f g w a
-  pub rest : g ≡ record f { seats = g.seats; marks = marks; budget = f.budget - 3 }
+  pub rest : g ≡ record f {
+    seats = g.seats;
+    marks = marks;
+    bundles = stacks_after w a f.bundles;
+    budget = f.budget - 3;
+  }

@@ -1,15 +1,24 @@
 -- What the calls of a fix need of what the core keeps, and what they do to it.
-use Rattle.std.specs.Prelude.{◌≡◌, ℕ, ◌-◌, ◌<◌, ◌≤◌, true, None, Some, IsSome, unwrap_or, length, slice_set}
-use Rattle.pp_plan.specs.declared.action.Action.TheVariants as action
+use Rattle.std.specs.Prelude.{◌≡◌, ℕ, ◌-◌, ◌<◌, ◌≤◌, true, Option, None, Some, IsSome, unwrap_or, length, slice_set}
+use Rattle.pp_plan.specs.declared.action.Ask.{Ask}
+use Rattle.pp_plan.specs.declared.action.Ask.TheVariants as ask
+use Rattle.pp_model.specs.Fixing.{fixes}
 use Rattle.pp_frames.specs.Marks.{PageMap, pins_of, frame_of, all_pins, least_free, with_frame}
 use Rattle.pp_core.specs.declared.seat.Phase.TheVariants.{Writing, Reading}
 use Rattle.pp_core.specs.declared.seat.Seat.{Seat}
 use Rattle.pp_core.specs.Parts.{Parts}
-use Rattle.pp_core.specs.Effects.{IsIn, CanAct, frame_at, placed}
+use Rattle.pp_core.specs.Effects.{IsIn, CanAct, HasRecord, frame_at, placed}
 
--- The action can be done, and the page pinned.
-pub record CanHit (f : Parts) (w slot page : ℕ) : Type 0 where
-  pub can : CanAct f w (action.Fix slot page)
+-- The slot and the region for which an ask wants a page: a fix, or a gather.
+abbrev pub wanted : Ask → Option (ℕ × ℕ)
+wanted (ask.Fix slot region) = Some (slot, region)
+wanted (ask.Gather slot region) = Some (slot, region)
+wanted _ = None
+
+-- The action by which the page goes into the slot can be done, and the page pinned.
+pub record CanHit (f : Parts) (w : ℕ) (k : Ask) (slot page : ℕ) : Type 0 where
+  pub can : CanAct f w (fixes k slot page)
+  pub record_free : HasRecord w (fixes k slot page) f.bundles
   pub placed : IsSome (frame_of f.marks page)
   pub room : all_pins f.marks < f.marks.frames
   pub budget : 3 ≤ f.budget

@@ -1,13 +1,15 @@
 -- What the moves of a worker that ends or leaves its plan need of what the core keeps, and what they do to it.
-use Rattle.std.specs.Prelude.{◌≡◌, ℕ, ◌+◌, ◌-◌, ◌*◌, ◌<◌, ◌≤◌, Bool, true, false, Option, None, Some, length}
+use Rattle.std.specs.Prelude.{◌≡◌, ℕ, ◌+◌, ◌-◌, ◌*◌, ◌<◌, ◌≤◌, ◌^◌, Bool, true, false, Option, None, Some, length}
 use Rattle.std.specs.Prelude.{slice_set}
+use Rattle.pp_bundles.specs.Bundles.{place_count}
 use Rattle.pp_cert.specs.Accepted.{Acceptance}
 use Rattle.pp_frames.specs.Marks.{pins_of, latch_count, latches_of}
 use Rattle.pp_core.specs.declared.seat.Phase.{Phase}
 use Rattle.pp_core.specs.declared.seat.Phase.TheVariants.{Acting, Writing, Reading, Leaving}
 use Rattle.pp_core.specs.declared.seat.Seat.{Seat}
 use Rattle.pp_core.specs.Parts.{Parts}
-use Rattle.pp_core.specs.Effects.{IsIn, Runs, unpinned}
+use Rattle.pp_core.specs.Effects.{IsIn, Runs, unpinned, scattered, CanUnpinAll, bundle_pages}
+use Rattle.pp_core.specs.Gathered.{bundle_place}
 
 -- A worker at this phase leaves its plan.
 abbrev pub is_leaving : Option (Option Phase) → Bool
@@ -66,6 +68,22 @@ pub record CanGiveBack (f : Parts) (w slot page : ℕ) : Type 0 where
   pub can : CanEmpty f w slot
   pub spare : latch_count (latches_of f.marks page) < pins_of f.marks page
   pub budget : 0 < f.budget
+
+-- The slot, a bundle, can be emptied, and a pin goes off each of its pages.
+pub record CanGiveAllBack (f : Parts) (w slot : ℕ) : Type 0 where
+  pub can : CanEmpty f w slot
+  pub place : bundle_place w slot < place_count f.bundles
+  pub fits : bundle_place w slot < 2 ^ 32
+  pub spare : CanUnpinAll (bundle_pages f w slot) f.marks
+  pub budget : 0 < f.budget
+
+-- The slot is empty, and each page of the bundle has a pin less.
+abbrev pub all_given_back : Parts → (w : ℕ) → Seat → (slot : ℕ) → Parts
+all_given_back f w x slot =
+    record (scattered f (bundle_place w slot)) {
+      seats = slice_set f.seats w (Some (emptied slot x));
+      budget = f.budget - 1;
+    }
 
 -- The slot is empty, and the page has one pin less.
 abbrev pub given_back : Parts → (w : ℕ) → Seat → (slot page : ℕ) → Parts

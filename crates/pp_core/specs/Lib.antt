@@ -3,6 +3,7 @@ pub mod CoreErrors
 pub mod Seats
 pub mod Busy
 pub mod Parts
+pub mod Gathered
 pub mod Coding
 pub mod StandsFor
 pub mod Effects

@@ -4,6 +4,7 @@ use Rattle.pp_settings.specs.Layout.{page_count}
 use Rattle.pp_settings.specs.Settings.{Configuration, geometry_of}
 use Rattle.pp_arc.specs.FourLists.{empty_lists}
 use Rattle.pp_frames.specs.Marks.{opening as opening_marks}
+use Rattle.pp_bundles.specs.Bundles.{empty_stacks}
 use Rattle.pp_model.specs.Pool.{Settings}
 use Rattle.pp_core.specs.Parts.{Parts}
 
@@ -23,6 +24,7 @@ opening_parts k =
       seats = replicate k.workers None;
       lists = empty_lists k.layout.frames (page_count k.layout);
       marks = opening_marks k.layout.frames (page_count k.layout);
+      bundles = empty_stacks (32 * k.workers) k.layout.frames;
       in_flight = replicate (page_count k.layout) false;
       flush = None;
       running = 0;

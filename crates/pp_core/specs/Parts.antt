@@ -4,6 +4,7 @@ use Rattle.pp_settings.specs.Layout.{Geometry}
 use Rattle.pp_cert.specs.Accepted.{Acceptance}
 use Rattle.pp_arc.specs.FourLists.{FourLists}
 use Rattle.pp_frames.specs.Marks.{PageMap}
+use Rattle.pp_bundles.specs.Bundles.{PageStacks}
 use Rattle.pp_core.specs.declared.seat.Seat.{Seat}
 use Rattle.pp_core.specs.declared.table.Flush.{Flush}
 use Rattle.pp_core.specs.declared.table.Table.{Table}
@@ -17,6 +18,7 @@ pub record Parts : Type 0 where
   pub seats : List (Option Seat)
   pub lists : FourLists
   pub marks : PageMap
+  pub bundles : PageStacks
   pub in_flight : List Bool
   pub flush : Option Flush
   pub running : ℕ
@@ -33,6 +35,7 @@ parts_of t = record {
   seats = t.seats.items;
   lists = t.directory;
   marks = t.marks;
+  bundles = t.bundles;
   in_flight = t.in_flight.items;
   flush = t.flush;
   running = t.running;

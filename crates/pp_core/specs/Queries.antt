@@ -1,5 +1,6 @@
 -- What a core tells of its state.
-use Rattle.std.specs.Prelude.{ℕ, Bool, true, false, Option, None, Some, option_map, length}
+use Rattle.std.specs.Prelude.{ℕ, nat_lt, ◌&&◌, Bool, true, false, if◌then◌else◌, Option, None, Some, option_map, unwrap_or}
+use Rattle.std.specs.Prelude.{List, length}
 use Rattle.pp_plan.specs.declared.action.Ask.{Ask}
 use Rattle.pp_cert.specs.declared.note.Held.{Held}
 use Rattle.pp_cert.specs.Held.{Holding, holding_at}
@@ -11,6 +12,8 @@ use Rattle.pp_core.specs.declared.seat.Phase.{Phase}
 use Rattle.pp_core.specs.declared.seat.Phase.TheVariants.{Acting, Writing, Reading, Leaving}
 use Rattle.pp_core.specs.declared.seat.Seat.{Seat}
 use Rattle.pp_core.specs.Slots.{hold_at}
+use Rattle.pp_bundles.specs.Bundles.{PageStacks, pages_at}
+use Rattle.pp_core.specs.Gathered.{bundle_place, bundle_in}
 
 -- ---- of a worker in the state; there may be no worker of this number, and it may be idle
 
@@ -53,14 +56,36 @@ ask_by (Some (Some r)) = ask_in r r.stage
 abbrev pub ask_of : State → (w : ℕ) → Option Ask
 ask_of s w = ask_by (seat_of s w)
 
--- The page that a slot of worker w holds, and how, where it holds one.
+-- A page of the slot's own, and how it is held; None of a bundle.
+abbrev pub own_of : Option Holding → Option (ℕ × Held)
+own_of None = None
+own_of (Some h) = if h.bundled then None else Some (h.page, h.held)
+
+-- The page that a slot of worker w holds, and how, where it holds one of its own.
 abbrev pub held_by : Option (Option Running) → (slot : ℕ) → Option (ℕ × Held)
 held_by None slot = None
 held_by (Some None) slot = None
-held_by (Some (Some r)) slot = option_map (λ (h : Holding). (h.page, h.held)) (holding_at (holdings r) slot)
+held_by (Some (Some r)) slot = own_of (holding_at (holdings r) slot)
 
 abbrev pub held_of : State → (w slot : ℕ) → Option (ℕ × Held)
 held_of s w slot = held_by (seat_of s w) slot
+
+-- The pages that a slot of worker w has as a bundle, the one that was gathered last first; none of any other slot. And how
+-- many these are.
+abbrev pub bundle_of : State → (w slot : ℕ) → List ℕ
+bundle_of s w slot = bundle_in (unwrap_or (seat_of s w) None) slot
+
+abbrev pub gathered_of : State → (w slot : ℕ) → ℕ
+gathered_of s w slot = length (bundle_of s w slot)
+
+-- What the plan of worker w asks, also while an errand is out for it; None where it leaves its plan or is in none.
+abbrev pub pending_by : Option (Option Running) → Option Ask
+pending_by None = None
+pending_by (Some None) = None
+pending_by (Some (Some r)) = if leaves r.stage then None else Some (asked_by r)
+
+abbrev pub pending_of : State → (w : ℕ) → Option Ask
+pending_of s w = pending_by (seat_of s w)
 
 -- The errand that is out for worker w: the slot, the page that is loaded into it, and the victim that is written back
 -- before, where one is.
@@ -106,10 +131,24 @@ leaving_seat None = false
 leaving_seat (Some None) = false
 leaving_seat (Some (Some x)) = leaves_at x.phase
 
+abbrev pub pending_seat : Option (Option Seat) → Option Ask
+pending_seat None = None
+pending_seat (Some None) = None
+pending_seat (Some (Some x)) = if leaves_at x.phase then None else Some x.ask
+
+abbrev pub own_hold : Option Hold → Option (ℕ × Held)
+own_hold None = None
+own_hold (Some h) = if h.bundled then None else Some (h.page, h.held)
+
 abbrev pub held_seat : Option (Option Seat) → (slot : ℕ) → Option (ℕ × Held)
 held_seat None slot = None
 held_seat (Some None) slot = None
-held_seat (Some (Some x)) slot = option_map (λ (h : Hold). (h.page, h.held)) (hold_at x.slots slot)
+held_seat (Some (Some x)) slot = own_hold (hold_at x.slots slot)
+
+-- How many pages stand in the stack of the slot; 0 of a slot or a worker that isn't there.
+abbrev pub gathered_in : PageStacks → (workers w slot : ℕ) → ℕ
+gathered_in stacks workers w slot =
+    if nat_lt slot 32 && nat_lt w workers then length (pages_at stacks (bundle_place w slot)) else 0
 
 abbrev pub errand_at : Phase → Option (ℕ × ℕ × Option ℕ)
 errand_at Acting = None

@@ -20,14 +20,14 @@ pub record IsBegun (plan : Terms) (k : ℕ) (x : Seat) : Type 0 where
   pub slots : x.slots ≡ replicate 32 None
   pub phase : x.phase ≡ Acting
 
--- The slot that an action needs, and how many slots hold a page before it. (No plan asks a gather or a scatter.)
+-- The slot that an action needs, and how many slots hold something before it.
 abbrev pub FitsSlots : Action → (count slots : ℕ) → Type 0
 FitsSlots (Fix slot page) count slots = (slot < slots) × (count ≤ 32)
 FitsSlots (Unfix slot) count slots = (slot < slots) × (0 < count)
 FitsSlots (Latch slot m) count slots = slot < slots
 FitsSlots (Unlatch slot) count slots = slot < slots
-FitsSlots (Gather slot page) count slots = ⊥
-FitsSlots (Scatter slot) count slots = ⊥
+FitsSlots (Gather slot page) count slots = (slot < slots) × (count ≤ 32)
+FitsSlots (Scatter slot) count slots = (slot < slots) × (0 < count)
 FitsSlots (Choose i) count slots = Unit {0}
 
 -- The plan asks the action of the worker, and its counters have room for it.
@@ -43,7 +43,7 @@ counted a x =
     record x {
       actions = x.actions + 1;
       phase = Acting;
-      holds = count_after a x.holds;
+      holds = count_after a x.slots x.holds;
       slots = slots_after a x.slots;
     }
 
@@ -53,6 +53,6 @@ pub record Did (plan : Terms) (x y : Seat) (a : Action) : Type 0 where
   pub cursor : (before : List Action) → StandsFor plan x.cursor before → StandsFor plan y.cursor (before ++ a ∷ [])
   pub ask : (before : List Action) → StandsFor plan x.cursor before → y.ask ≡ asked plan (before ++ a ∷ [])
   pub actions : y.actions ≡ x.actions + 1
-  pub holds : y.holds ≡ count_after a x.holds
+  pub holds : y.holds ≡ count_after a x.slots x.holds
   pub slots : y.slots ≡ slots_after a x.slots
   pub phase : y.phase ≡ Acting

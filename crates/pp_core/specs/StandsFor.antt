@@ -22,6 +22,7 @@ use Rattle.pp_core.specs.declared.seat.Phase.TheVariants.{Acting, Writing, Readi
 use Rattle.pp_core.specs.declared.seat.Seat.{Seat}
 use Rattle.pp_core.specs.declared.table.Flush.{Flush}
 use Rattle.pp_core.specs.Slots.{hold_at, hold_of}
+use Rattle.pp_core.specs.Gathered.{BundlesFit}
 use Rattle.pp_core.specs.Parts.{Parts}
 
 -- ---- one worker
@@ -44,7 +45,7 @@ pub record FitsRunning (plans : List Acceptance) (x : Seat) (r : Running) : Type
   pub actions : x.actions ≡ length r.done
   -- how many slots hold something
   pub holds : x.holds ≡ held_slots most_slots (holdings r)
-  -- a slot holds what the worker holds in it
+  -- a slot holds what the worker holds in it, of a bundle the page that was gathered last
   pub width : length x.slots ≡ 32
   pub slots : (slot : ℕ) → hold_at x.slots slot ≡ option_map hold_of (holding_at (holdings r) slot)
   pub phase : FitsStage x.phase r.stage
@@ -76,6 +77,7 @@ pub record StandsFor (f : Parts) (s : State) : Type 0 where
   pub seats : FitsCrew s.plans f.seats s.seats
   pub lists : f.lists ≡ s.lists
   pub marks : f.marks ≡ marks s
+  pub bundles : BundlesFit f.bundles s
   pub pages : length f.in_flight ≡ length s.notes
   pub in_flight : (page : ℕ) (b : Bool) → slice_get f.in_flight page ≡ Some b → b ≡ is_in_flight s page
   pub flush : option_map in_flight_as f.flush ≡ s.flush

@@ -15,7 +15,6 @@ ghost use Rattle.pp_core.specs.Answering.{brought, CanForget, forgotten, CanLoad
 use crate::seat::Phase;
 use crate::table::Table;
 use pp_model::{Came, Cause, Failure, Move, Reply};
-use pp_plan::Action;
 
 /// A victim that is written back, so that the page can have its frame and be fixed into the slot.
 #[derive(Clone, Copy, Debug, PartialEq, Eq)]
@@ -180,7 +179,8 @@ impl Table {
         requires { CanLoad (parts_of self.old) worker slot page }
         ensures { Loaded (parts_of self.old) (parts_of self.new) worker slot page stamp }
     {
-        self.act(worker, Action::Fix { slot, page });
+        let ask = self.next_ask(worker);
+        self.put_in(worker, ask, slot, page);
         self.marks.set_stamp(page, stamp);
         self.in_flight[page as usize] = false;
         self.budget -= 1;

@@ -140,21 +140,23 @@ impl Table {
             (Turn.Act worker) decide.old result decide.new }
     {
         match ask {
-            Ask::Fix { region, .. } => match self.layout.extent(region) {
+            Ask::Fix { region, .. } | Ask::Gather { region, .. } => match self
+                .layout
+                .extent(region)
+            {
                 Some(extent) => Move::Fix {
                     worker,
                     page: decide.page(region, extent.first, extent.count),
                 },
                 None => unreachable!(),
             },
-            Ask::Unfix { .. } => Move::Unfix { worker },
+            Ask::Unfix { .. } | Ask::Scatter { .. } => Move::Unfix { worker },
             Ask::Latch { .. } => Move::Latch { worker },
             Ask::Unlatch { .. } => Move::Unlatch { worker },
             Ask::Choose { branches } => Move::Choose {
                 worker,
                 branch: u32::from(decide.branch(branches)),
             },
-            Ask::Gather { .. } | Ask::Scatter { .. } => unreachable!(),
             Ask::End => Move::Finish { worker },
         }
     }

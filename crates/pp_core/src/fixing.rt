@@ -4,7 +4,7 @@
 ghost use Rattle.std.specs.Prelude.{◌≡◌, ◌<◌, ◌≤◌, ◌-◌, ℕ, IsTrue, Some};
 ghost use Rattle.pp_plan.specs.Asked.{region_has};
 ghost use Rattle.pp_arc.specs.Figure.{request};
-ghost use Rattle.pp_plan.specs.declared.action.Action.{Action};
+ghost use Rattle.pp_model.specs.Fixing.{fixes};
 ghost use Rattle.pp_model.specs.Moves.{is_refusal};
 ghost use Rattle.pp_core.specs.declared.seat.Seat.{Seat};
 ghost use Rattle.pp_core.specs.declared.seat.Phase.TheVariants.{Writing, Reading};
@@ -13,15 +13,24 @@ ghost use Rattle.pp_core.specs.StandsFor.{IsKept, Moves};
 ghost use Rattle.pp_core.specs.Effects.{IsIn, Spent, ask_in, frame_at, mark_at, pinned, is_flying, flushed_page};
 ghost use Rattle.pp_core.specs.Effects.{is_busy};
 ghost use Rattle.pp_core.specs.Fixing.{CanHit, CanFill, CanEvict, CanSend, CanTakeOver, filled, evicted, sent};
-ghost use Rattle.pp_core.specs.Fixing.{taken_over};
-ghost use Rattle.pp_core.specs.Fixing.{free_frame};
+ghost use Rattle.pp_core.specs.Fixing.{wanted, taken_over, free_frame};
 
 use crate::busy::BusyPages;
 use crate::seat::Phase;
 use crate::table::Table;
 use pp_arc::Answer;
 use pp_model::{Cause, Delay, Move, Reply};
-use pp_plan::{Action, Ask};
+use pp_plan::Ask;
+
+/// The slot and the region for which an ask wants a page: a fix, or a gather.
+pub(crate) fn wanted(ask: Ask) -> Option<(u8, u8)>
+    ensures { result ≡ wanted ask }
+{
+    match ask {
+        Ask::Fix { slot, region } | Ask::Gather { slot, region } => Some((slot, region)),
+        _ => None,
+    }
+}
 
 impl Table {
     /// Whether the region has the page.
@@ -59,7 +68,7 @@ impl Table {
             Ok(ask) => ask,
             Err(cause) => return Reply::OffPlan(cause),
         };
-        let Ask::Fix { slot, region } = ask else {
+        let Some((slot, region)) = wanted(ask) else {
             return Reply::OffPlan(Cause::NotAsked);
         };
         if !self.has_page(region, page) {
@@ -69,7 +78,7 @@ impl Table {
             return Reply::NotNow(Delay::InFlight);
         }
         match self.request(page) {
-            Answer::Hit => self.hit(worker, slot, page),
+            Answer::Hit => self.hit(worker, ask, slot, page),
             Answer::Free => self.fill(worker, slot, page),
             Answer::Evict(victim) => {
                 if self.marks.is_dirty(victim) {
@@ -100,17 +109,17 @@ impl Table {
 
     /// The page is cached: it is fixed at once.
     #[inline(always)]
-    fn hit(&mut self, worker: u32, slot: u8, page: u32) -> Reply
-        requires { CanHit (parts_of self.old) worker slot page }
+    fn hit(&mut self, worker: u32, ask: Ask, slot: u8, page: u32) -> Reply
+        requires { CanHit (parts_of self.old) worker ask slot page }
         ensures spent { Spent (parts_of self.old) (parts_of self.new) worker
-            (Action.Fix slot page) (pinned self.old.marks page) }
+            (fixes ask slot page) (pinned self.old.marks page) }
         ensures reply { result ≡ Reply.Hit (frame_at self.old.marks page) (mark_at self.old.marks page) }
     {
         let reply = Reply::Hit {
             frame: self.frame_at(page),
             mark: self.mark_at(page),
         };
-        self.act(worker, Action::Fix { slot, page });
+        self.put_in(worker, ask, slot, page);
         self.marks.pin(page);
         self.budget -= 3;
         reply

@@ -9,10 +9,10 @@ ghost use Rattle.pp_core.specs.Parts.{parts_of};
 ghost use Rattle.pp_core.specs.StandsFor.{IsKept, Moves};
 ghost use Rattle.pp_core.specs.Effects.{phase_of, IsIn, Runs, with_seat, mark_at};
 ghost use Rattle.pp_core.specs.LeaveEffects.{is_leaving, HasPlan, CanCount, left_of, CanEnd, ended};
-ghost use Rattle.pp_core.specs.LeaveEffects.{CanGiveBack, given_back, CanEmpty, emptied};
+ghost use Rattle.pp_core.specs.LeaveEffects.{CanGiveBack, given_back, CanGiveAllBack, all_given_back, CanEmpty, emptied};
 
 use crate::seat::{Hold, Phase};
-use crate::table::Table;
+use crate::table::{Table, bundle_place};
 use pp_cert::Held;
 use pp_model::{Cause, Ending, Move, Reply};
 use pp_plan::Ask;
@@ -122,7 +122,7 @@ impl Table {
 
     // ---- unwind
 
-    /// A worker that leaves its plan gives the page of the slot back, with the latch on it.
+    /// A worker that leaves its plan gives the page of the slot back, with the latch on it, or all pages of the bundle.
     pub(crate) fn unwind(&mut self, worker: u32, slot: u32) -> Reply
         requires { IsKept (parts_of self.old) }
         ensures moves { Moves (parts_of self.old) (Move.Unwind worker slot) result (parts_of self.new) }
@@ -137,9 +137,24 @@ impl Table {
         let Some(hold) = self.hold(worker, slot) else {
             return Reply::OffPlan(Cause::NotHeld);
         };
+        if hold.bundled {
+            self.give_all_back(worker, slot);
+            return Reply::Did;
+        }
         self.release(hold.held, hold.page);
         self.give_slot_back(worker, slot, hold.page);
         self.unwound(hold)
+    }
+
+    /// A pin goes off each page of the bundle, and the slot holds nothing from now on.
+    fn give_all_back(&mut self, worker: u32, slot: u32)
+        requires { CanGiveAllBack (parts_of self.old) worker slot }
+        ensures { (x : Seat) → IsIn (parts_of self.old) worker x →
+            parts_of self.new ≡ all_given_back (parts_of self.old) worker x slot }
+    {
+        self.scatter(bundle_place(worker, slot));
+        self.budget -= 1;
+        self.empty_slot(worker, slot);
     }
 
     /// A pin goes off the page, and the slot holds nothing from now on.

@@ -14,13 +14,15 @@ ghost use Rattle.pp_core.specs.Opening.{kept_of};
 ghost use Rattle.pp_core.specs.Submits.{TakesIn};
 ghost use Rattle.pp_core.specs.Runs.{MovesAll};
 ghost use Rattle.pp_core.specs.Draining.{host_of, IsOpenIn, CanBeMade, DecidesIn, Drains, Rests};
-ghost use Rattle.pp_core.specs.Queries.{is_idle, is_leaving, ask_of, held_of, errand_of, flushed_page, plan_count};
+ghost use Rattle.pp_core.specs.Queries.{is_idle, is_leaving, ask_of, held_of, gathered_of, errand_of, flushed_page, plan_count};
 ghost use Rattle.pp_core.specs.Headline.{HeadlineHolds};
 
 use crate::draining::Decide;
 use crate::error::CoreError;
 use crate::table::Table;
+use pp_arc::Directory;
 use pp_cert::{Accepted, Held};
+use pp_frames::Marks;
 use pp_model::{Move, Reply, SubmitError, Turn};
 use pp_plan::Ask;
 use pp_settings::Settings;
@@ -57,8 +59,8 @@ impl PlanId {
 /// [`Move::ReadDone`]. At [`Reply::MustWrite`] write the victim's bytes, which stand in that frame, with their
 /// [`Core::mark`] as stamp, and say [`Move::WriteDone`]; if that is answered `MustRead`, read. At [`Reply::Unlatched`]
 /// after X, put the new stamp into the page's head. At [`Reply::Flushing`] copy the bytes, write them with this stamp,
-/// and say [`Move::FlushDone`]. At [`Reply::Failed`] say [`Move::Unwind`] for each slot that [`Core::held`] tells, then
-/// [`Move::Finish`]. At [`Reply::NotNow`] ask again after some other move. [`Reply::OffPlan`] is the caller's slip.
+/// and say [`Move::FlushDone`]. At [`Reply::Failed`] say [`Move::Unwind`] for each slot that [`Core::held`] or
+/// [`Core::gathered`] tells, then [`Move::Finish`]. At [`Reply::NotNow`] ask again after some other move. [`Reply::OffPlan`] is the caller's slip.
 ///
 /// Contracts see it as the record `Parts`. Every core stands for a state of the model that can be reached
 /// (`StandsFor`), and each call says what it answers and leads to from each state that the core stands for. Of all
@@ -90,8 +92,8 @@ impl Model for Core {
 impl Core {
     /// A core with these settings: every worker is idle, no plan was submitted, and no page is cached.
     ///
-    /// It gets all the memory that the core ever needs: room for 256 plans, for the workers, and for what is noted of
-    /// each page number. Of the settings it keeps the layout, the workers and the flushes.
+    /// It gets all the memory that the core ever needs: room for 256 plans, for the workers, for what is noted of each
+    /// page number, and for as many pages of bundles as there are frames. Of the settings it keeps the layout, the workers and the flushes.
     ///
     /// # Errors
     ///
@@ -283,12 +285,22 @@ impl Core {
         }
     }
 
-    /// The page that the worker's slot holds, and how it is latched. None where it holds none now, where the page is
-    /// still being loaded (see [`Core::errand`]), and where there is no such worker or slot.
+    /// The page that the worker's slot holds, and how it is latched. None where it holds none now, where the slot is a
+    /// bundle (see [`Core::gathered`]), where the page is still being loaded (see [`Core::errand`]), and where there is no
+    /// such worker or slot.
     pub fn held(&self, worker: u32, slot: u32) -> Option<(u32, Held)>
         ensures { (s : State) → StandsFor self.now s → result ≡ held_of s worker slot }
     {
         self.table.held(worker, slot)
+    }
+
+    /// How many pins the worker's slot has as a bundle: one for each page that was gathered, again for one that was
+    /// gathered twice. 0 of any other slot, and where there is no such worker or slot.
+    pub fn gathered(&self, worker: u32, slot: u32) -> u32
+        ensures { (s : State) → StandsFor self.now s → result ≡ gathered_of s worker slot }
+    {
+        self.known();
+        self.table.gathered(worker, slot)
     }
 
     /// The errand that is out for the worker: the slot, the page that is loaded into it, and the victim while that is
@@ -325,6 +337,21 @@ impl Core {
         ensures { (s : State) → StandsFor self.now s → result ≡ dirty_pages s }
     {
         self.table.dirty()
+    }
+
+    /// ARC's directory: which pages are cached and which are remembered, in their order, and the target.
+    pub fn directory(&self) -> &Directory
+        ensures { (s : State) → StandsFor self.now s → result.now ≡ s.lists }
+    {
+        &self.table.directory
+    }
+
+    /// The marks of all pages: the frame, the pins and latches of each, whether it is newer than the device's, and its
+    /// mark.
+    pub fn marks(&self) -> &Marks
+        ensures { (s : State) → StandsFor self.now s → result.now ≡ marks s }
+    {
+        &self.table.marks
     }
 
     /// The least page from this number on that lets a flush begin; where there is none, the least of all that do. Such

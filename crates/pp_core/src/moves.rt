@@ -21,7 +21,7 @@ impl Core {
         self.table.take(worker)
     }
 
-    /// A worker fixes a page into the slot that its plan names: [`Move::Fix`].
+    /// A worker fixes a page into the slot that its plan names, or gathers it into the bundle: [`Move::Fix`].
     #[inline(always)]
     pub fn fix(&mut self, worker: u32, page: u32) -> Reply
         ensures moves { Moves self.old (Move.Fix worker page) result self.new }
@@ -56,7 +56,7 @@ impl Core {
         self.table.read_done(worker, came)
     }
 
-    /// A worker gives back the page of the slot that its plan names: [`Move::Unfix`].
+    /// A worker gives back the page of the slot that its plan names, or all pages of the bundle: [`Move::Unfix`].
     #[inline(always)]
     pub fn unfix(&mut self, worker: u32) -> Reply
         ensures moves { Moves self.old (Move.Unfix worker) result self.new }
@@ -103,7 +103,7 @@ impl Core {
         self.table.choose(worker, branch)
     }
 
-    /// A worker that leaves its plan gives a slot back, latch and pin together: [`Move::Unwind`].
+    /// A worker that leaves its plan gives a slot back: latch and pin together, or all pins of a bundle. [`Move::Unwind`].
     pub fn unwind(&mut self, worker: u32, slot: u32) -> Reply
         ensures moves { Moves self.old (Move.Unwind worker slot) result self.new }
         ensures refusal { IsTrue (is_refusal result) → self.new ≡ self.old }

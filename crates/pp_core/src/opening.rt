@@ -8,6 +8,7 @@ ghost use Rattle.pp_core.specs.Opening.{kept_of, opening_parts};
 use crate::seat::Seat;
 use crate::table::{MOST_PLANS, Table};
 use pp_arc::Directory;
+use pp_bundles::Bundles;
 use pp_frames::Marks;
 use pp_settings::Settings;
 use std::alloc::{AllocError, Global};
@@ -35,6 +36,7 @@ impl Table {
         let seats = idle_seats(alloc, settings.workers())?;
         let directory = Directory::new(alloc, layout.frames(), pages)?;
         let marks = Marks::new(alloc, layout.frames(), pages)?;
+        let bundles = Bundles::new(alloc, 32 * settings.workers(), layout.frames())?;
         let in_flight = vec![in alloc; false; pages as usize]?;
         let flushes = settings.flushes();
         Ok(Table {
@@ -46,6 +48,7 @@ impl Table {
             seats,
             directory,
             marks,
+            bundles,
             in_flight,
             flush: None,
             running: 0,

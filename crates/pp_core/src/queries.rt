@@ -1,10 +1,10 @@
 //! What the table tells.
 
 ghost use Rattle.std.specs.Prelude.{◌≡◌, ◌≤◌, length, slice_get, count_by};
-ghost use Rattle.pp_core.specs.Queries.{idle_seat, held_seat, errand_seat};
+ghost use Rattle.pp_core.specs.Queries.{idle_seat, held_seat, gathered_in, errand_seat};
 
 use crate::seat::Phase;
-use crate::table::Table;
+use crate::table::{Table, bundle_place};
 use pp_cert::Held;
 
 impl Table {
@@ -36,9 +36,21 @@ impl Table {
                 .get(slot as usize)
                 .copied()
                 .flatten()
+                .filter(|hold| !hold.bundled)
                 .map(|hold| (hold.page, hold.held)),
             _ => None,
         }
+    }
+
+    /// How many pins the worker's slot has as a bundle.
+    pub(crate) fn gathered(&self, worker: u32, slot: u32) -> u32
+        requires { length self.now.seats.items ≤ 32 }
+        ensures { result ≡ gathered_in self.now.bundles (length self.now.seats.items) worker slot }
+    {
+        if slot >= 32 || worker as usize >= self.seats.len() {
+            return 0;
+        }
+        self.bundles.count(bundle_place(worker, slot))
     }
 
     /// The errand that is out for the worker.

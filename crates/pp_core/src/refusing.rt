@@ -14,6 +14,7 @@ ghost use Rattle.pp_core.specs.Refusals.{refusal_to, IsRefusalTo};
 
 use crate::answering::{reading_of, writing_of};
 use crate::busy::BusyPages;
+use crate::fixing::wanted;
 use crate::machine::Core;
 use crate::table::Table;
 use crate::using::latch_mode;
@@ -163,7 +164,7 @@ impl Table {
             Err(cause) => return Some(Reply::OffPlan(cause)),
         };
         match ask {
-            Ask::Unfix { .. } => None,
+            Ask::Unfix { .. } | Ask::Scatter { .. } => None,
             _ => Some(Reply::OffPlan(Cause::NotAsked)),
         }
     }
@@ -213,7 +214,7 @@ impl Table {
             Ok(ask) => ask,
             Err(cause) => return Some(Reply::OffPlan(cause)),
         };
-        let Ask::Fix { region, .. } = ask else {
+        let Some((_, region)) = wanted(ask) else {
             return Some(Reply::OffPlan(Cause::NotAsked));
         };
         if !self.has_page(region, page) {

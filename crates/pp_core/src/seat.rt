@@ -4,8 +4,8 @@ ghost use Rattle.std.specs.Prelude.{◌≡◌, ◌<◌, ◌≤◌, ◌+◌, ◌-
 ghost use Rattle.pp_plan.specs.Cursor.{StandsFor};
 ghost use Rattle.pp_plan.specs.Asked.{asked};
 ghost use Rattle.pp_plan.specs.declared.action.Action.{Action};
-ghost use Rattle.pp_cert.specs.declared.note.Held.TheVariants.{Free};
-ghost use Rattle.pp_core.specs.Slots.{held_as, first_filled};
+ghost use Rattle.pp_plan.specs.declared.action.Action.TheVariants.{Gather};
+ghost use Rattle.pp_core.specs.Slots.{plain_hold, bundle_hold, count_after, held_as, first_filled};
 ghost use Rattle.pp_core.specs.Seats.{IsBegun, FitsSlots, CanDo, Did, counted};
 
 use pp_cert::Held;
@@ -14,11 +14,12 @@ use pp_plan::{Action, Ask, Cursor, Plan};
 /// The most slots that a plan has.
 pub(crate) const MOST_SLOTS: usize = 32;
 
-/// A page that a slot holds, and how.
+/// A page that a slot holds, and how. Of a bundle it is the page that was gathered last.
 #[derive(Clone, Copy, Debug, PartialEq, Eq)]
 pub struct Hold {
     pub(crate) page: u32,
     pub(crate) held: Held,
+    pub(crate) bundled: bool,
 }
 
 /// What a worker in its plan is at.
@@ -107,7 +108,8 @@ impl Seat {
             Action::Unfix { slot } => self.empty(slot),
             Action::Latch { slot, mode } => self.hold_as(slot, Held::from(mode)),
             Action::Unlatch { slot } => self.hold_as(slot, Held::Free),
-            Action::Gather { .. } | Action::Scatter { .. } => unreachable!(),
+            Action::Gather { slot, page } => self.gather(slot, page),
+            Action::Scatter { slot } => self.empty(slot),
             Action::Choose { .. } => {}
         }
     }
@@ -117,15 +119,36 @@ impl Seat {
         requires slot { slot < length self.old.slots }
         requires room { self.old.holds ≤ 32 }
         ensures { self.new ≡ record self.old {
-          slots = slice_set self.old.slots slot (Some (record { page = page; held = Free }));
+          slots = slice_set self.old.slots slot (Some (plain_hold page));
           holds = self.old.holds + 1;
         } }
     {
         self.slots[usize::from(slot)] = Some(Hold {
             page,
             held: Held::Free,
+            bundled: false,
         });
         self.holds += 1;
+    }
+
+    /// The bundle has the page from now on, beside those that it has.
+    fn gather(&mut self, slot: u8, page: u32)
+        requires slot { slot < length self.old.slots }
+        requires room { self.old.holds ≤ 32 }
+        ensures { self.new ≡ record self.old {
+          slots = slice_set self.old.slots slot (Some (bundle_hold page));
+          holds = count_after (Gather slot page) self.old.slots self.old.holds;
+        } }
+    {
+        let place = &mut self.slots[usize::from(slot)];
+        if place.is_none() {
+            self.holds += 1;
+        }
+        *place = Some(Hold {
+            page,
+            held: Held::Free,
+            bundled: true,
+        });
     }
 
     /// The slot, which holds a page, holds none from now on.

@@ -1,14 +1,16 @@
 //! What a core keeps. A table has no invariant of its own.
 
 ghost use Rattle.std.specs.Prelude.{◌≡◌, ◌<◌, ◌≤◌, ◌+◌, ◌-◌, ◌^◌, ℕ, IfOk, IfErr, IfSome, Some, None, List, length};
-ghost use Rattle.std.specs.Prelude.{slice_get, vec_capacity};
+ghost use Rattle.std.specs.Prelude.{slice_get, vec_capacity, []};
 ghost use Rattle.pp_frames.specs.Marks.{IsFree, frame_of, pins_of, all_pins, latch_count, latches_of};
 ghost use Rattle.pp_core.specs.declared.seat.Seat.{Seat};
 ghost use Rattle.pp_core.specs.Slots.{hold_at};
+ghost use Rattle.pp_core.specs.Gathered.{bundle_place};
 
 use crate::busy::BusyPages;
 use crate::seat::{Hold, Phase, Seat};
 use pp_arc::{Answer, Directory};
+use pp_bundles::Bundles;
 use pp_cert::{Accepted, Held};
 use pp_frames::{Marks, Mode};
 use pp_model::{Cause, Delay, Move, Reply};
@@ -46,6 +48,8 @@ pub struct Table {
     pub(crate) directory: Directory,
     /// What is noted of each page, with its pins and latches.
     pub(crate) marks: Marks,
+    /// The pages of bundles, a stack for each slot of each worker.
+    pub(crate) bundles: Bundles,
     /// At place p whether page p is loaded for a worker or written back as a victim.
     pub(crate) in_flight: Vec<bool>,
     /// The flush in flight.
@@ -60,8 +64,20 @@ pub struct Table {
     ghost room: { 256 ≤ vec_capacity plans },
 }
 
+/// Where the stack of the worker's slot is.
+#[inline(always)]
+pub(crate) fn bundle_place(worker: u32, slot: u32) -> u32
+    requires { bundle_place worker slot < 2 ^ 32 }
+    ensures { result ≡ bundle_place worker slot }
+{
+    worker * 32 + slot
+}
+
 impl Table {
     ghost use Rattle.pp_core.specs.Parts.{parts_of};
+    ghost use Rattle.pp_bundles.specs.Bundles.{place_count, pages_at};
+    ghost use Rattle.pp_model.specs.Fixing.{fixes};
+    ghost use Rattle.pp_core.specs.Effects.{HasRecord, stacks_after, scattered, CanUnpinAll};
     ghost use Rattle.pp_core.specs.Effects.{phase_of, IsIn, CanAct, Acted, with_seat, at_phase};
     ghost use Rattle.pp_core.specs.Effects.{frame_at, mark_at, placed, displaced, released, IsLatched};
 
@@ -113,6 +129,49 @@ impl Table {
                 seat.act(plan, action);
             }
             None => unreachable!(),
+        }
+    }
+
+    /// A page goes into a slot, as the plan asks it so.
+    #[inline(always)]
+    pub(crate) fn put_in(&mut self, worker: u32, ask: Ask, slot: u8, page: u32)
+        requires can { CanAct (parts_of self.old) worker (fixes ask slot page) }
+        requires record { HasRecord worker (fixes ask slot page) self.old.bundles }
+        ensures acted { Acted (parts_of self.old) (parts_of self.new) worker (fixes ask slot page) }
+        ensures rest { parts_of self.new ≡ record (parts_of self.old) {
+          seats = self.new.seats.items;
+          bundles = stacks_after worker (fixes ask slot page) self.old.bundles;
+        } }
+    {
+        match ask {
+            Ask::Gather { .. } => self.gather(worker, slot, page),
+            _ => self.act(worker, Action::Fix { slot, page }),
+        }
+    }
+
+    /// A page goes into a bundle, as the plan asks it so.
+    fn gather(&mut self, worker: u32, slot: u8, page: u32)
+        requires can { CanAct (parts_of self.old) worker (Action.Gather slot page) }
+        requires record { HasRecord worker (Action.Gather slot page) self.old.bundles }
+        ensures acted { Acted (parts_of self.old) (parts_of self.new) worker (Action.Gather slot page) }
+        ensures rest { parts_of self.new ≡ record (parts_of self.old) {
+          seats = self.new.seats.items;
+          bundles = stacks_after worker (Action.Gather slot page) self.old.bundles;
+        } }
+    {
+        self.act(worker, Action::Gather { slot, page });
+        self.bundles
+            .push(bundle_place(worker, u32::from(slot)), page);
+    }
+
+    /// The pins of all pages at the place go, and no page is there from now on.
+    pub(crate) fn scatter(&mut self, place: u32)
+        requires place { place < place_count self.old.bundles }
+        requires spare { CanUnpinAll (pages_at self.old.bundles place) self.old.marks }
+        ensures { parts_of self.new ≡ scattered (parts_of self.old) place }
+    {
+        while let Some(page) = self.bundles.pop(place) {
+            self.marks.unpin(page);
         }
     }
 

@@ -11,10 +11,10 @@ ghost use Rattle.pp_core.specs.Parts.{parts_of};
 ghost use Rattle.pp_core.specs.Slots.{hold_at};
 ghost use Rattle.pp_core.specs.StandsFor.{IsKept, Moves, Asks, CannotAct};
 ghost use Rattle.pp_core.specs.Effects.{acting_fault, IsIn, IsPageIn, IsHeldIn, CanUnfix, CanSpend, Spent, unpinned};
-ghost use Rattle.pp_core.specs.Effects.{released, IsLatched, mark_at};
+ghost use Rattle.pp_core.specs.Effects.{CanScatter, bundle_pages, unpinned_all, released, IsLatched, mark_at};
 
 use crate::seat::{Hold, Phase};
-use crate::table::Table;
+use crate::table::{Table, bundle_place};
 use pp_cert::Held;
 use pp_frames::Mode as LatchMode;
 use pp_model::{Cause, Delay, Move, Reply};
@@ -86,12 +86,29 @@ impl Table {
             Ok(ask) => ask,
             Err(cause) => return Reply::OffPlan(cause),
         };
-        let Ask::Unfix { slot } = ask else {
-            return Reply::OffPlan(Cause::NotAsked);
-        };
-        let page = self.page_in(worker, slot);
-        self.give_back(worker, slot, page);
-        Reply::Did
+        match ask {
+            Ask::Unfix { slot } => {
+                let page = self.page_in(worker, slot);
+                self.give_back(worker, slot, page);
+                Reply::Did
+            }
+            Ask::Scatter { slot } => {
+                self.give_bundle_back(worker, slot);
+                Reply::Did
+            }
+            _ => Reply::OffPlan(Cause::NotAsked),
+        }
+    }
+
+    /// The scatter is done, and a pin goes off each page of the bundle.
+    fn give_bundle_back(&mut self, worker: u32, slot: u8)
+        requires { CanScatter (parts_of self.old) worker slot }
+        ensures { Spent (parts_of self.old) (parts_of self.new) worker (Action.Scatter slot)
+            (unpinned_all (bundle_pages (parts_of self.old) worker slot) self.old.marks) }
+    {
+        self.act(worker, Action::Scatter { slot });
+        self.scatter(bundle_place(worker, u32::from(slot)));
+        self.budget -= 3;
     }
 
     /// The unfix is done, and a pin goes off the page.

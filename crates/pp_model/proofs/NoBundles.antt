@@ -139,3 +139,20 @@ lone g r slot h seat found =
     lone_at (slot_all holding_slot slot (holdings r)) h (holdings_kept g r seat slot)
     (omega (arith, slot_part slot (holdings r), seat_plain g r seat))
     (sym (get_first holding_slot slot (holdings r)) ∙ found)
+
+-- It is the slot's own.
+pub own_page : (g : Geometry) (r : Running) (slot : ℕ) (h : Holding) → IsSeat g r → holding_at (holdings r) slot ≡ Some h
+    → h.bundled ≡ false
+own_page g r slot h seat found = go h.bundled refl
+  where
+    go : (b : Bool) → h.bundled ≡ b → h.bundled ≡ false
+    go true e =
+        absurd (omega (
+          arith,
+          one h,
+          ap {B = ℕ} (λ b. cond b 1 0) e,
+          ap (sum_by in_bundle) (lone g r slot h seat found),
+          slot_part slot (holdings r),
+          seat_plain g r seat,
+        ))
+    go false e = e

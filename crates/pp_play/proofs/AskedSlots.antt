@@ -1,8 +1,8 @@
 -- What a slot holds of which a worker's plan asks something: a fix and its errand find it empty, an unfix and a latch
 -- find a page there that isn't latched, and an unlatch one that is. So it is since the checker accepted the plan.
-use Rattle.std.proofs.Common.{◌≡◌, ◌∙◌, ◌⊎◌, ℕ, Option, Some, None, List, [], ◌∷◌, ◌++◌, refl, sym, ap, subst, inl, inr}
+use Rattle.std.proofs.Common.{◌≡◌, ◌∙◌, ◌⊎◌, ℕ, Bool, Option, Some, None, List, [], ◌∷◌, ◌++◌, refl, sym, ap, subst, inl, inr}
 use Rattle.std.proofs.Common.{append-nil}
-use Rattle.std.specs.Prelude.{option_map, unwrap_or}
+use Rattle.std.specs.Prelude.{unwrap_or, if◌then◌else◌}
 use Rattle.pp_plan.specs.declared.mode.Mode.{Mode}
 use Rattle.pp_plan.specs.declared.action.Action.{Action}
 use Rattle.pp_plan.specs.declared.action.Action.TheVariants as action
@@ -21,9 +21,12 @@ use Rattle.pp_model.specs.Holders.{holdings}
 use Rattle.pp_model.specs.Moves.{asked_by, seat_of}
 use Rattle.pp_model.specs.Reached.{IsReached}
 use Rattle.pp_model.proofs.Changes.{IsAt, IsAsked}
-use Rattle.pp_model.proofs.HoldingSteps.{Holds, seat_is, unfix_finds, latch_finds, unlatch_finds}
+use Rattle.pp_model.proofs.HoldingSteps.{Holds, seat_is, unfix_finds, unfix_own, latch_finds, latch_own, unlatch_finds}
+use Rattle.pp_model.proofs.HoldingSteps.{unlatch_own}
+use Rattle.pp_model.proofs.KeptSlots.{HasOwn}
+use Rattle.pp_core.proofs.Gathered.{plain_found}
 use Rattle.pp_core.proofs.PlainSlots.{fix_finds, writing_finds, reading_finds}
-use Rattle.pp_core.specs.Queries.{ask_in, ask_by, ask_of, held_by, held_of, errand_in, errand_by, errand_of}
+use Rattle.pp_core.specs.Queries.{ask_in, ask_by, ask_of, own_of, held_by, held_of, errand_in, errand_by, errand_of}
 use Rattle.pp_vault.specs.Parts.{Parts}
 use Rattle.pp_vault.specs.StandsFor.{StandsFor}
 
@@ -85,10 +88,6 @@ same_slot k p slot page v u e = ap (λ o. (unwrap_or {T = ℕ × ℕ × Option �
 
 -- ---- the slots
 
--- A page and how it is held.
-abbrev held_as : Holding → ℕ × Held
-held_as h = (h.page, h.held)
-
 module _ (v : Parts) (s : State) (st : StandsFor v s) (w : ℕ) where
   h : IsReached s
   h = st.core.reached
@@ -98,12 +97,17 @@ module _ (v : Parts) (s : State) (st : StandsFor v s) (w : ℕ) where
 
   empty_here : (r : Running) (slot : ℕ) → seat_of s w ≡ Some (Some r) → holding_at (holdings r) slot ≡ None
       → held_of s w slot ≡ None
-  empty_here r slot seat e = ap (λ o. held_by o slot) seat ∙ ap (option_map held_as) e
+  empty_here r slot seat e = ap (λ o. held_by o slot) seat ∙ ap own_of e
+
+  abbrev own_unless : Bool → Holding → Option (ℕ × Held)
+  own_unless b x = if b then None else Some (x.page, x.held)
 
   held_here : (r : Running) (slot : ℕ) (held : Held) → seat_of s w ≡ Some (Some r)
-      → (x : Holding) → Holds r slot x → x.held ≡ held → held_of s w slot ≡ Some (x.page, held)
-  held_here r slot held seat x holds how =
-      ap (λ o. held_by o slot) seat ∙ ap (option_map held_as) holds.found
+      → (x : Holding) → Holds r slot x → (own : (y : Holding) × HasOwn slot (holdings r) y) → x.held ≡ held
+      → held_of s w slot ≡ Some (x.page, held)
+  held_here r slot held seat x holds own how =
+      ap (λ o. held_by o slot) seat ∙ ap own_of holds.found
+      ∙ ap (λ b. own_unless b x) (plain_found (holdings r) slot x own.0 holds.found own.1)
       ∙ ap {B = Option (ℕ × Held)} (λ k. Some (x.page, k)) how
 
   -- The slot of a fix that is asked is empty.
@@ -122,16 +126,19 @@ module _ (v : Parts) (s : State) (st : StandsFor v s) (w : ℕ) where
   unfix_held slot e =
       let of = asker (ask.Unfix slot) e in
       let r = of.running in
-      let x = unfix_finds s h w r slot (named s w (ask.Unfix slot) of (action.Unfix slot) refl) in
-      (x.0.page, held_here r slot Free of.at.seat x.0 x.1 x.2)
+      let asked = named s w (ask.Unfix slot) of (action.Unfix slot) refl in
+      let x = unfix_finds s h w r slot asked in
+      (x.0.page, held_here r slot Free of.at.seat x.0 x.1 (unfix_own s h w r slot asked) x.2)
 
   pub latch_held : (slot : ℕ) (m : Mode) → ask_of s w ≡ Some (ask.Latch slot m)
       → (page : ℕ) × (held_of s w slot ≡ Some (page, Free))
   latch_held slot m e =
       let of = asker (ask.Latch slot m) e in
       let r = of.running in
-      let x = latch_finds s h w r slot m (named s w (ask.Latch slot m) of (action.Latch slot m) (refl, refl)) in
-      (x.0.page, held_here r slot Free of.at.seat x.0 x.1 x.2)
+      let asked = named s w (ask.Latch slot m) of (action.Latch slot m) (refl, refl) in
+      let x = latch_finds s h w r slot m asked in
+      let own = latch_own s h w r slot m asked in
+      (x.0.page, held_here r slot Free of.at.seat x.0 x.1 (own.0, own.1) x.2)
 
   -- The slot of an unlatch that is asked holds a page that is latched.
   pub unlatch_held : (slot : ℕ) → ask_of s w ≡ Some (ask.Unlatch slot)
@@ -139,12 +146,15 @@ module _ (v : Parts) (s : State) (st : StandsFor v s) (w : ℕ) where
   unlatch_held slot e =
       let of = asker (ask.Unlatch slot) e in
       let r = of.running in
-      let x = unlatch_finds s h w r slot (named s w (ask.Unlatch slot) of (action.Unlatch slot) refl) in
+      let asked = named s w (ask.Unlatch slot) of (action.Unlatch slot) refl in
+      let x = unlatch_finds s h w r slot asked in
+      let both = unlatch_own s h w r slot asked in
+      let own : (y : Holding) × HasOwn slot (holdings r) y = (both.0, both.1) in
       let at = of.at.seat in (
         x.0.page,
         elim (x.2) [
-          | inl shared ↦ inl (held_here r slot S at x.0 x.1 shared)
-          | inr exclusive ↦ inr (held_here r slot X at x.0 x.1 exclusive)
+          | inl shared ↦ inl (held_here r slot S at x.0 x.1 own shared)
+          | inr exclusive ↦ inr (held_here r slot X at x.0 x.1 own exclusive)
         ],
       )
 

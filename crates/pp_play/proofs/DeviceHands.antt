@@ -14,6 +14,7 @@ use Rattle.pp_model.specs.Moves.{reply_of, next_of}
 use Rattle.pp_core.specs.Queries.{errand_of, held_of}
 use Rattle.pp_core.specs.AfterMoves.{SlotsStay}
 use Rattle.pp_core.proofs.AfterMoves.{after_moves}
+use Rattle.pp_core.proofs.PlainSlots.{loaded}
 use Rattle.pp_device.specs.Image.{head_of}
 use Rattle.pp_vault.specs.declared.tokens.Duty.{Duty}
 use Rattle.pp_vault.specs.declared.tokens.Duty.TheVariants as duty
@@ -118,7 +119,7 @@ module _ (still : StillFits) (old new : Parts) (kept : IsKept old) (w slot page 
       subst (λ n. g.slot < n) (sym long) (low new t w g.slot st (g.page, Free) (r.guard.held t st)) in
       let others : (k : ℕ) → k ≢ g.slot → PlaceFits new.page_bytes t w k (placed hand.guards k) =
       λ k apart. read_slot k
-      (λ s st. ((after_moves s st.core.reached).loaded w came slot page (r.replies s st).0 (r.replies s st).1
+      (λ s st. (loaded s st.core.reached w came slot page (r.replies s st).0 (r.replies s st).1
       (out s st)).fixed.others k (λ e. apart (e ∙ sym r.of_slot))) t st in
       record {
         stage = (r.session.worker, r.session.ask t st);

@@ -16,6 +16,7 @@ use Rattle.pp_model.specs.Answers.{write_in, write_by, is_other, is_misread, rea
 use Rattle.pp_model.specs.Flushing.{is_clean, flushed_where, flushed_by}
 use Rattle.pp_core.specs.Queries.{errand_in, errand_by, errand_of, held_of, flushed_page}
 use Rattle.pp_core.proofs.AfterMoves.{after_moves}
+use Rattle.pp_core.proofs.PlainSlots.{loaded}
 use Rattle.pp_device.specs.Image.{head_of}
 use Rattle.pp_vault.specs.declared.tokens.Duty.{Duty}
 use Rattle.pp_vault.specs.declared.tokens.Duty.TheVariants as duty
@@ -135,7 +136,7 @@ pub errand_empty : (v : Parts) (s : State) → StandsFor v s → (w slot page : 
     → errand_of s w ≡ Some (slot, page, victim) → held_of s w slot ≡ None
 errand_empty v s st w slot page None e =
     let l = loaded_by_seat s w slot page (seat_of s w) e in
-    ((after_moves s st.core.reached).loaded w l.0 slot page l.1 l.2 e).fixed.empty
+    (loaded s st.core.reached w l.0 slot page l.1 l.2 e).fixed.empty
 errand_empty v s st w slot page (Some victim) e =
     let l = written_by_seat s w slot page victim (seat_of s w) e in
     ((after_moves s st.core.reached).written w true slot page victim l.0 l.1 e).empty

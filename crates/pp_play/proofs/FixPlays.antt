@@ -1,13 +1,15 @@
 -- A fix with a hand that fits.
 use Rattle.std.proofs.Common.{◌≡◌, ◌∙◌, ℕ, true, Option, Some, List, refl, ap, subst, arith}
-use Rattle.std.specs.Prelude.{◌==◌, if◌then◌else◌, slice_set}
+use Rattle.std.specs.Prelude.{option_and_then, ◌==◌, if◌then◌else◌, slice_set}
 use Rattle.std.proofs.lemmas.Bool.Decides.{nat_tests}
 use Rattle.pp_cert.specs.declared.note.Held.TheVariants.{Free}
 use Rattle.pp_model.specs.declared.moves.Move.TheVariants as move
 use Rattle.pp_model.specs.Pool.{State}
 use Rattle.pp_model.specs.Moves.{is_refusal}
 use Rattle.pp_core.specs.AfterMoves.{AfterMoves}
+use Rattle.pp_core.specs.Fixing.{wanted}
 use Rattle.pp_core.proofs.AfterMoves.{after_moves}
+use Rattle.pp_core.proofs.PlainSlots.{fix_found}
 use Rattle.pp_vault.specs.declared.refusal.Refusal.{Refusal}
 use Rattle.pp_vault.specs.declared.tokens.Duty.{Duty}
 use Rattle.pp_vault.specs.declared.tokens.Duty.TheVariants as duty
@@ -94,12 +96,12 @@ module _ (old new : Parts) (kept : IsKept old) (x : Session) (page : ℕ) (place
         → (k : ℕ) → LeavesSlot s (asks (move.Fix x.worker page)) x.worker k
     away_leaves (duty.Read v slot p) image sent s st k =
         let r = sent.2 s st in
-        let f = (after s st).found (move.Fix x.worker page) (ap is_refusal r.1) in
-        (((after s st).sent x.worker page f.0 f.1 r.0 r.1 f.2).slots k, λ h. h)
+        let f = fix_found s st.core.reached x.worker page (ap is_refusal r.1) in
+        (((after s st).sent x.worker page f.0 f.1 r.0 r.1 (ap (option_and_then wanted) f.2)).slots k, λ h. h)
     away_leaves (duty.Write v slot p victim) image sent s st k =
         let r = sent.2 s st in
-        let f = (after s st).found (move.Fix x.worker page) (ap is_refusal r.1) in
-        (((after s st).sent_victim x.worker page f.0 f.1 r.0 victim r.1 f.2).slots k, λ h. h)
+        let f = fix_found s st.core.reached x.worker page (ap is_refusal r.1) in
+        (((after s st).sent_victim x.worker page f.0 f.1 r.0 victim r.1 (ap (option_and_then wanted) f.2)).slots k, λ h. h)
     away_leaves (duty.Flush p) image sent s st k = absurd sent
 
     pub fix_away : (e : Errand) → IsSent old new x.worker page e.image e.duty → ErrandFits new e

@@ -168,5 +168,5 @@ unwind_empty v w hand line x slot at none fits is =
     off_plan_plays v w hand line (cue.Unwind w slot) NotHeld is fits
     (λ s st.
     ap refusal_in
-    (not_held s w slot (leaves s st).stage.1
+    (not_held s w slot st.core.reached (leaves s st).stage.1
     (subst (λ o. PlaceFits v.page_bytes s w slot o) none ((fits s st).guards slot))))

@@ -19,8 +19,10 @@ use Rattle.pp_model.specs.Outcome.{Outcome, off_plan}
 use Rattle.pp_model.specs.Using.{unfix_asked, latch_where, latch_asked, goes_with, unlatch_asked}
 use Rattle.pp_model.specs.Leaving.{unwind_where, unwind_in, unwind_by}
 use Rattle.pp_model.specs.Moves.{act_in, act_by, asked_by, seat_of, reply_of, is_refusal}
+use Rattle.pp_model.specs.Reached.{IsReached}
 use Rattle.pp_core.specs.Queries.{idle_by, is_leaving, leaving_by, leaves, ask_of, ask_in, ask_by, held_of}
-use Rattle.pp_core.specs.Queries.{held_by, errand_of, errand_in, errand_by}
+use Rattle.pp_core.specs.Queries.{own_of, held_by, errand_of, errand_in, errand_by}
+use Rattle.pp_core.proofs.PlainSlots.{plain_held}
 use Rattle.pp_vault.specs.Calls.{refusal_in}
 use Rattle.pp_vault.specs.declared.tokens.Duty.{Duty}
 use Rattle.pp_vault.specs.declared.tokens.Duty.TheVariants as duty
@@ -272,21 +274,23 @@ module _ (s : State) (w slot : ℕ) where
   held_in_none r (reading k page) e none = absurd (false≢true e)
   held_in_none r (leaving given) e none = lacks r given (holding_at (holdings r) slot) none
 
-  some_holding : (o : Option Holding) → ◌≡◌ {A = Option (ℕ × Held)} (option_map (λ (h : Holding). (h.page, h.held)) o) None
-      → is_some o ≡ false
-  some_holding None e = refl
-  some_holding (Some h) e = absurd (false≢true (sym (ap is_some e)))
+  module _ (reached : IsReached s) where
+    some_holding : (r : Running) → seat_of s w ≡ Some (Some r) → (o : Option Holding) → holding_at (holdings r) slot ≡ o
+        → own_of o ≡ None → is_some o ≡ false
+    some_holding r at None found e = refl
+    some_holding r at (Some x) found e =
+        absurd (false≢true (ap is_some (sym e ∙ plain_held s reached w r slot x at found)))
 
-  held_by_none : (o : Option (Option Running)) → leaving_by o ≡ true → held_by o slot ≡ None
-      → unwind_by s w slot o ≡ off_plan s NotHeld
-  held_by_none None e none = absurd (false≢true e)
-  held_by_none (Some None) e none = absurd (false≢true e)
-  held_by_none (Some (Some r)) e none =
-      held_in_none r r.stage e (some_holding (holding_at (holdings r) slot) none)
+    held_by_none : (o : Option (Option Running)) → seat_of s w ≡ o → leaving_by o ≡ true → held_by o slot ≡ None
+        → unwind_by s w slot o ≡ off_plan s NotHeld
+    held_by_none None at e none = absurd (false≢true e)
+    held_by_none (Some None) at e none = absurd (false≢true e)
+    held_by_none (Some (Some r)) at e none =
+        held_in_none r r.stage e (some_holding r at (holding_at (holdings r) slot) refl none)
 
-  pub not_held : is_leaving s w ≡ true → held_of s w slot ≡ None
-      → reply_of s (move.Unwind w slot) ≡ reply.OffPlan NotHeld
-  not_held e none = ap (λ o. o.reply) (held_by_none (seat_of s w) e none)
+    pub not_held : is_leaving s w ≡ true → held_of s w slot ≡ None
+        → reply_of s (move.Unwind w slot) ≡ reply.OffPlan NotHeld
+    not_held e none = ap (λ o. o.reply) (held_by_none (seat_of s w) refl e none)
 
 -- ---- refusals
 

@@ -12,7 +12,7 @@ use Rattle.pp_model.specs.Holders.{holdings}
 use Rattle.pp_model.specs.Moves.{seat_of}
 use Rattle.pp_core.specs.declared.seat.Hold.{Hold}
 use Rattle.pp_core.specs.declared.seat.Seat.{Seat}
-use Rattle.pp_core.specs.Queries.{held_of, held_by}
+use Rattle.pp_core.specs.Queries.{own_of, held_of, held_by}
 use Rattle.pp_core.specs.Slots.{hold_at, hold_of}
 use Rattle.pp_core.specs.StandsFor as core
 use Rattle.pp_vault.specs.Parts.{Parts}
@@ -23,8 +23,7 @@ within [] slot some = absurd (false≢true some)
 within (x ∷ slots) zero some = omega arith
 within (x ∷ slots) (suc n) some = omega (arith, within slots n some)
 
-filled : (o : Option Holding) → IsSome {T = ℕ × Held} (option_map (λ (h : Holding). (h.page, h.held)) o)
-    → IsSome {T = Hold} (option_map hold_of o)
+filled : (o : Option Holding) → IsSome {T = ℕ × Held} (own_of o) → IsSome {T = Hold} (option_map hold_of o)
 filled None some = absurd (false≢true some)
 filled (Some h) some = refl
 

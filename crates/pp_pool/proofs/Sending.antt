@@ -1,6 +1,6 @@
 -- For which slot an errand is.
 use Rattle.std.proofs.Common.{◌≡◌, ◌∙◌, ℕ, Bool, true, false, Option, Some, None, refl, sym, ap, subst}
-use Rattle.std.specs.Prelude.{if◌then◌else◌}
+use Rattle.std.specs.Prelude.{option_and_then, if◌then◌else◌}
 use Rattle.pp_plan.specs.declared.action.Ask.{Ask}
 use Rattle.pp_plan.specs.declared.action.Ask.TheVariants as ask
 use Rattle.pp_model.specs.declared.moves.Move.{Move}
@@ -11,7 +11,9 @@ use Rattle.pp_model.specs.Pool.{State}
 use Rattle.pp_model.specs.Moves.{reply_of, next_of, is_refusal}
 use Rattle.pp_core.specs.Queries.{ask_of, errand_of}
 use Rattle.pp_core.specs.AfterMoves.{AfterMoves}
+use Rattle.pp_core.specs.Fixing.{wanted}
 use Rattle.pp_core.proofs.AfterMoves.{after_moves}
+use Rattle.pp_core.proofs.PlainSlots.{fix_found}
 use Rattle.pp_vault.specs.declared.tokens.Duty.{Duty}
 use Rattle.pp_vault.specs.declared.tokens.Duty.TheVariants.{Read, Write, Flush}
 use Rattle.pp_vault.specs.declared.tokens.Errand.{Errand}
@@ -74,7 +76,7 @@ module _ (old new : vault.Parts) (x : Session) (page : ℕ) (errand : Errand) (s
   asked : (r : Reply) → reply_of s (Fix x.worker page) ≡ r → is_refusal r ≡ false
       → (region : ℕ) × (ask_of s x.worker ≡ Some (ask.Fix (fix_slot x.ask) region))
   asked r replied done =
-      let f = laws.found (Fix x.worker page) (ap is_refusal replied ∙ done) in
+      let f = fix_found s st.core.reached x.worker page (ap is_refusal replied ∙ done) in
       let same = same_slot (fix_slot x.ask) f.0 f.1 (ask_of s x.worker) f.2 names in
       (f.1, f.2 ∙ ap (λ n. Some (ask.Fix n f.1)) same)
 
@@ -83,13 +85,14 @@ module _ (old new : vault.Parts) (x : Session) (page : ℕ) (errand : Errand) (s
   by_duty (Read v slot p) sent out =
       let told = sent.2 s st in
       let now = asked (MustRead told.0) told.1 refl in
-      let here = (laws.sent x.worker page (fix_slot x.ask) now.0 told.0 told.1 now.1).errand in
+      let here = (laws.sent x.worker page (fix_slot x.ask) now.0 told.0 told.1 (ap (option_and_then wanted) now.1)).errand in
       let mine = subst (λ u. errand_of next u ≡ Some (slot, p, None)) sent.0 out in
       ap Some (same_errand slot p (fix_slot x.ask) page None None (sym mine ∙ here))
   by_duty (Write v slot p victim) sent out =
       let told = sent.2 s st in
       let now = asked (MustWrite told.0 victim) told.1 refl in
-      let here = (laws.sent_victim x.worker page (fix_slot x.ask) now.0 told.0 victim told.1 now.1).errand in
+      let here = (laws.sent_victim x.worker page (fix_slot x.ask) now.0 told.0 victim told.1
+      (ap (option_and_then wanted) now.1)).errand in
       let mine = subst (λ u. errand_of next u ≡ Some (slot, p, Some victim)) sent.0 out in
       ap Some (same_errand slot p (fix_slot x.ask) page (Some victim) (Some victim) (sym mine ∙ here))
   by_duty (Flush p) sent out = absurd sent

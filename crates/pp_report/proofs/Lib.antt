@@ -12,3 +12,4 @@ pub mod Readback
 pub mod Columns
 pub mod OneMore
 pub mod Complete
+mod Submitted

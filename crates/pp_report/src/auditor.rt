@@ -1,6 +1,7 @@
 //! What an audit keeps: a core, and the plans that no line has submitted yet.
 
 ghost use Rattle.std.specs.Prelude.{◌≡◌, ◌∷◌, ◌<◌, ℕ, None, IfOk, length};
+ghost use Rattle.pp_core.specs.StandsFor.{StandsFor};
 ghost use Rattle.pp_report.specs.declared.line.Asked.TheVariants as asked;
 ghost use Rattle.pp_report.specs.Journals.{journal_lines};
 ghost use Rattle.pp_report.specs.Reading.{line_in};
@@ -16,16 +17,22 @@ use pp_model::{Move, Reply};
 use pp_settings::Settings;
 use std::alloc::Global;
 
-/// A core, and the plans that no line has submitted yet, the next one last.
+/// An audit that is under way: a core to which the lines so far were done, and the plans that no line has submitted yet.
+///
+/// It is for whoever watches an audit line by line; [`audit`](crate::audit) is the whole of it.
 #[derive(Drop)]
-pub(crate) struct Auditor {
+pub struct Auditor {
     core: Core,
     waiting: Vec<Accepted>,
 }
 
 impl Auditor {
-    /// Nothing was done yet.
-    pub(crate) fn new(
+    /// An audit of a journal of these plans, of which no line was passed yet.
+    ///
+    /// # Errors
+    ///
+    /// Only where memory runs out.
+    pub fn new(
         alloc: Global,
         settings: &Settings,
         plans: Vec<Accepted>,
@@ -85,16 +92,27 @@ impl Auditor {
         Ok(())
     }
 
-    /// The same with the text of a line.
-    fn pass_text(&mut self, number: u64, text: &[u8]) -> Result<(), AuditError>
+    /// Passes a line, the one with this number from 1, by its text without a line feed.
+    ///
+    /// # Errors
+    ///
+    /// `NotALine`, `NotPossible` or `ReplyDiffers` with this number, the first that applies.
+    pub fn pass_text(&mut self, number: u64, text: &[u8]) -> Result<(), AuditError>
         ensures { (p : Progress) → IsAt self.old p → Passes self.new (pass_text p number text.now) result }
     {
         let line = line_in(text).ok_or(AuditError::NotALine(number))?;
         self.pass(number, line)
     }
 
+    /// The core after the lines that were passed.
+    pub fn core(&self) -> &Core
+        ensures { (p : Progress) → IsAt self.now p → StandsFor result.now p.state }
+    {
+        &self.core
+    }
+
     /// Whether every plan was submitted, and nothing more is possible.
-    fn is_over(&self) -> bool
+    pub fn is_over(&self) -> bool
         ensures { (p : Progress) → IsAt self.now p → result ≡ is_over p }
     {
         self.waiting.is_empty() && self.core.next_possible().is_none()
@@ -137,7 +155,7 @@ fn is_same(left: Told, right: Told) -> bool
 }
 
 /// What the line says, if it is one of a journal. One that isn't UTF-8 is none.
-fn line_in(line: &[u8]) -> Option<Line>
+pub fn line_in(line: &[u8]) -> Option<Line>
     ensures { result ≡ line_in line.now }
 {
     let Ok(text) = str::from_utf8(line) else {
@@ -147,7 +165,7 @@ fn line_in(line: &[u8]) -> Option<Line>
 }
 
 /// The first line of a text that isn't empty, without its line feed, and the text behind it.
-fn first_line(text: &[u8]) -> (&[u8], &[u8])
+pub fn first_line(text: &[u8]) -> (&[u8], &[u8])
     requires { 0 < length text.now }
     ensures lines { journal_lines text.now ≡ result.0.now ∷ journal_lines result.1.now }
     ensures shorter { length result.1.now < length text.now }

@@ -7,6 +7,7 @@ use crate::line::{Asked, Told};
 use pp_core::CoreError;
 use pp_model::Turn;
 use pp_text::{About, Refusal};
+use std::alloc::{AllocError, AllocFailed};
 use std::fmt;
 use thiserror::Error;
 
@@ -89,6 +90,22 @@ impl From<CoreError> for AuditError {
     ghost from_gives = { λ _ e. e ≡ OutOfMemory };
 
     fn from(_refused: CoreError) -> AuditError {
+        AuditError::OutOfMemory
+    }
+}
+
+impl From<AllocError> for AuditError {
+    ghost from_gives = { λ _ e. e ≡ OutOfMemory };
+
+    fn from(_refused: AllocError) -> AuditError {
+        AuditError::OutOfMemory
+    }
+}
+
+impl<T: Drop> From<AllocFailed<T>> for AuditError {
+    ghost from_gives = { λ _ e. e ≡ OutOfMemory };
+
+    fn from(_refused: AllocFailed<T>) -> AuditError {
         AuditError::OutOfMemory
     }
 }

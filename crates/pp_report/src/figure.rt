@@ -8,21 +8,43 @@ use pp_model::{Came, Event, Failure, Move, Reply};
 
 /// What is told of a whole run.
 #[derive(Clone, Copy)]
-pub(crate) enum Figure {
+pub enum Figure {
+    /// The moves.
     Moves,
+    /// The fixes of pages that were cached.
     Hits,
+    /// The fixes whose page was read.
     Loads,
+    /// The readings that failed.
     ReadFaults,
+    /// The readings that gave another page or stamp.
     Misreads,
+    /// The victims that were written back.
     WriteBacks,
+    /// The writings that failed.
     WriteFaults,
+    /// The flushes that went well.
     Flushes,
+    /// The pages that are newer than the device's in the end.
     Dirty,
 }
 
+/// The figures of a report, in their order.
+pub const FIGURES: [Figure; 9] = [
+    Figure::Moves,
+    Figure::Hits,
+    Figure::Loads,
+    Figure::ReadFaults,
+    Figure::Misreads,
+    Figure::WriteBacks,
+    Figure::WriteFaults,
+    Figure::Flushes,
+    Figure::Dirty,
+];
+
 impl Figure {
     /// The name of the figure in a report.
-    pub(crate) fn name(self) -> &'static str
+    pub fn name(self) -> &'static str
         ensures { result.now ≡ figure_name self }
     {
         match self {
@@ -38,8 +60,8 @@ impl Figure {
         }
     }
 
-    /// Whether the event counts for the figure.
-    pub(crate) fn counts(self, event: Event) -> bool
+    /// Whether the event counts for the figure. None counts for the dirty pages, which are counted at the end.
+    pub fn counts(self, event: Event) -> bool
         ensures { result ≡ counts self event }
     {
         let Event::Step { did, reply } = event else {

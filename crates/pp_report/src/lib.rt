@@ -2,8 +2,10 @@
 #![tactic(auto)]
 
 pub use auditing::{Audited, audit};
+pub use auditor::{Auditor, first_line, line_in};
 pub use error::{AuditError, Next};
 pub use events::{is_same_event, names_worker};
+pub use figure::{FIGURES, Figure};
 pub use journal::journal_text;
 pub use line::{Asked, Line, Told};
 pub use record::RunRecord;

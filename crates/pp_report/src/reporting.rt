@@ -4,24 +4,11 @@ ghost use Rattle.std.specs.Prelude.{◌≡◌, ◌++◌, IfOk, OnOk, string_byte
 ghost use Rattle.pp_report.specs.Complete.{TellsEachPlan};
 ghost use Rattle.pp_report.specs.Reports.{row_line, figure_words, figure_lines, report_text};
 
-use crate::figure::Figure;
+use crate::figure::{FIGURES, Figure};
 use crate::record::RunRecord;
 use crate::row::Row;
 use crate::turns::rows;
 use std::alloc::{AllocError, Global};
-
-/// The figures of a report, in their order.
-const FIGURES: [Figure; 9] = [
-    Figure::Moves,
-    Figure::Hits,
-    Figure::Loads,
-    Figure::ReadFaults,
-    Figure::Misreads,
-    Figure::WriteBacks,
-    Figure::WriteFaults,
-    Figure::Flushes,
-    Figure::Dirty,
-];
 
 /// The report of a run: the names of the columns; a line for each plan that a worker took and finished, in the order of
 /// their numbers, with the worker, the actions that were done, the hits and the loads among them, and how it ended; and

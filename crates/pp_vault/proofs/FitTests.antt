@@ -13,7 +13,8 @@ use Rattle.pp_cert.specs.Held.{Holding, holding_at}
 use Rattle.pp_model.specs.Pool.{Stage, acting, writing, reading, leaving, Running, State}
 use Rattle.pp_model.specs.Holders.{holdings, page_in, held_in}
 use Rattle.pp_model.specs.Moves.{asked_by, seat_of}
-use Rattle.pp_core.specs.Queries.{ask_in, ask_by, ask_of, held_by, held_of}
+use Rattle.pp_core.specs.Queries.{own_of, ask_in, ask_by, ask_of, held_by, held_of}
+use Rattle.pp_core.proofs.PlainSlots.{own_told}
 use Rattle.pp_vault.specs.Calls.{Call}
 use Rattle.pp_vault.specs.Fits.{is_acting_by, is_acting, is_same_held, is_held_by, is_held_so, asks_unfix, is_same_mode}
 use Rattle.pp_vault.specs.Fits.{asks_latch, asks_unlatch, guard_call, fits_both}
@@ -143,10 +144,10 @@ pub record Holds (r : Running) (slot page : ℕ) (held : Held) : Type 0 where
   pub held_is : held_in r slot ≡ held
 
 holds_by : (r : Running) (slot page : ℕ) (held : Held) (o : Option Holding) → holding_at (holdings r) slot ≡ o
-    → option_map {U = ℕ × Held} (λ (h : Holding). (h.page, h.held)) o ≡ Some (page, held) → Holds r slot page held
+    → own_of o ≡ Some (page, held) → Holds r slot page held
 holds_by r slot page held None f e = absurd (none_some e)
 holds_by r slot page held (Some h) f e =
-    let same = some_some {A = ℕ × Held} (h.page, h.held) (h.page, h.held) (page, held) e in
+    let same = own_told h page held e in
     record {
       page_is = ap (λ (o : Option Holding). unwrap_or (option_map (λ z. z.page) o) 0) f ∙ ap (λ (p : ℕ × Held). p.0) same;
       held_is = ap (λ (o : Option Holding). unwrap_or (option_map (λ z. z.held) o) Free) f ∙ ap (λ (p : ℕ × Held). p.1) same;

@@ -1,7 +1,7 @@
 -- A fix: what the core's step did, and what becomes of the images.
 use Rattle.std.proofs.Common.{◌≡◌, ◌≢◌, ◌∙◌, ℕ, ◌<◌, Bool, true, false, not, Option, Some, None, List, length}
 use Rattle.std.proofs.Common.{refl, sym, ap, subst}
-use Rattle.std.specs.Prelude.{slice_set, unwrap_or, option_map, IsSome, if◌then◌else◌, ◌||◌, IsTrue}
+use Rattle.std.specs.Prelude.{option_and_then, slice_set, unwrap_or, option_map, IsSome, if◌then◌else◌, ◌||◌, IsTrue}
 use Rattle.std.specs.Option.{is_some}
 use Rattle.std.proofs.lemmas.Bool.{false≢true}
 use Rattle.pp_plan.specs.declared.action.Ask.{Ask}
@@ -23,7 +23,9 @@ use Rattle.pp_model.proofs.Requests.{same, other, which}
 use Rattle.pp_core.specs.StandsFor as core
 use Rattle.pp_core.specs.Queries.{ask_of, held_of, errand_of}
 use Rattle.pp_core.specs.AfterMoves.{AfterMoves}
+use Rattle.pp_core.specs.Fixing.{wanted}
 use Rattle.pp_core.proofs.AfterMoves.{after_moves}
+use Rattle.pp_core.proofs.PlainSlots.{fix_found}
 use Rattle.pp_core.proofs.Alike.{same_ask, same_held, same_errand, same_mark}
 use Rattle.pp_device.specs.Image.{head_of}
 use Rattle.pp_vault.specs.declared.tokens.Session.{Session}
@@ -125,7 +127,7 @@ module _ (old mid : Parts) (w slot page : ℕ) (r : Reply) (did : Stepped old mi
   laws s st = after_moves s st.core.reached
 
   found : (s : State) → StandsFor old s → (slot : ℕ) × (region : ℕ) × (ask_of s w ≡ Some (ask.Fix slot region))
-  found s st = (laws s st).found (Fix w page) (ap is_refusal (answer s st) ∙ did.done)
+  found s st = fix_found s st.core.reached w page (ap is_refusal (answer s st) ∙ did.done)
 
   -- The slot that the plan names.
   asked : (s : State) → StandsFor old s → (region : ℕ) × (ask_of s w ≡ Some (ask.Fix slot region))
@@ -288,7 +290,8 @@ module _ (old mid : Parts) (w slot page : ℕ) (r : Reply) (did : Stepped old mi
       read_errand : errand_of (next k.state) w ≡ Some (slot, page, None)
       read_errand =
           let now = asked k.state k.stands in
-          ((laws k.state k.stands).sent w page slot now.0 frame (answer k.state k.stands ∙ e) now.1).errand
+          ((laws k.state k.stands).sent w page slot now.0 frame (answer k.state k.stands ∙ e)
+          (ap (option_and_then wanted) now.1)).errand
 
       pub read_answers : Does old (fix_call w slot page) new × IsSent old new w page image (Read w slot page)
           × ErrandFits new (record { duty = Read w slot page; image = image })
@@ -347,7 +350,8 @@ module _ (old mid : Parts) (w slot page : ℕ) (r : Reply) (did : Stepped old mi
       write_errand : errand_of (next k.state) w ≡ Some (slot, page, Some victim)
       write_errand =
           let now = asked k.state k.stands in
-          ((laws k.state k.stands).sent_victim w page slot now.0 frame victim (answer k.state k.stands ∙ e) now.1).errand
+          ((laws k.state k.stands).sent_victim w page slot now.0 frame victim (answer k.state k.stands ∙ e)
+          (ap (option_and_then wanted) now.1)).errand
 
       -- The victim's mark stays as its write begins.
       mark_next : known_mark (next k.state) victim ≡ Some (mark_at k.state victim)

@@ -15,7 +15,8 @@ use Rattle.pp_model.specs.WorkerParts.{worker_of}
 use Rattle.pp_model.proofs.FrameLaws.{found_is_known}
 use Rattle.pp_model.proofs.ReadyLaws.{exclusive_are_away}
 use Rattle.pp_core.specs.StandsFor as core
-use Rattle.pp_core.specs.Queries.{held_by, held_of}
+use Rattle.pp_core.specs.Queries.{own_of, held_by, held_of}
+use Rattle.pp_core.proofs.PlainSlots.{own_told}
 use Rattle.pp_device.specs.Image.{with_head, head_of}
 use Rattle.pp_vault.specs.Parts.{Parts}
 use Rattle.pp_vault.specs.StandsFor.{StandsFor, IsKept}
@@ -40,10 +41,10 @@ pub record HoldsSo (s : State) (w slot page : ℕ) (how : Held) : Type 0 where
 
 in_slot : (s : State) (w slot page : ℕ) (how : Held) (r : Running) → seat_of s w ≡ Some (Some r) → (o : Option Holding)
     → holding_at (holdings r) slot ≡ o
-    → option_map {U = ℕ × Held} (λ (h : Holding). (h.page, h.held)) o ≡ Some (page, how) → HoldsSo s w slot page how
+    → own_of o ≡ Some (page, how) → HoldsSo s w slot page how
 in_slot s w slot page how r seat None f e = absurd (none_some e)
 in_slot s w slot page how r seat (Some h) f e =
-    let same = some_some {A = ℕ × Held} (h.page, h.held) (h.page, h.held) (page, how) e in
+    let same = own_told h page how e in
     record {
       by = r;
       seat = seat;

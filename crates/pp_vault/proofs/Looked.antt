@@ -12,7 +12,8 @@ use Rattle.pp_model.specs.Moves.{seat_of}
 use Rattle.pp_model.specs.Reached.{IsReached}
 use Rattle.pp_model.specs.Ready.{ready_at, standing_of}
 use Rattle.pp_model.proofs.ReadyLaws.{shared_are_ready, ready_stand}
-use Rattle.pp_core.specs.Queries.{held_by, held_of}
+use Rattle.pp_core.specs.Queries.{own_of, held_by, held_of}
+use Rattle.pp_core.proofs.PlainSlots.{own_told}
 use Rattle.pp_device.specs.Image.{head_of, body_of}
 use Rattle.pp_vault.specs.declared.guards.ReadGuard.{ReadGuard}
 use Rattle.pp_vault.specs.Parts.{Parts}
@@ -26,11 +27,11 @@ use Rattle.pp_vault.proofs.Flushed.{same_frame, same_image}
 
 module _ (s : State) (h : IsReached s) (w slot page : ℕ) where
   of_holding : (r : Running) → seat_of s w ≡ Some (Some r) → (o : Option Holding) → holding_at (holdings r) slot ≡ o
-      → option_map {U = ℕ × Held} (λ (x : Holding). (x.page, x.held)) o ≡ Some (page, S)
+      → own_of o ≡ Some (page, S)
       → ready_at s page ≡ Some (standing_of s page)
   of_holding r seat None is e = absurd (false≢true (ap is_some e))
   of_holding r seat (Some x) is e =
-      let both : ◌≡◌ {A = ℕ × Held} (x.page, x.held) (page, S) = ap (λ o. unwrap_or o (page, S)) e in
+      let both = own_told x page S e in
       let ready = shared_are_ready s h w slot r x seat is (ap (λ b. b.1) both) in
       subst (λ p. ready_at s p ≡ Some (standing_of s p)) (ap (λ b. b.0) both) ready
 

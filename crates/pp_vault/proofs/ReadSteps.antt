@@ -17,8 +17,9 @@ use Rattle.pp_model.specs.Ready.{Standing, ready_at, Enters, ReadyStay, ImageCom
 use Rattle.pp_model.proofs.ReadyAnswers.{loaded_enters, unread_returns}
 use Rattle.pp_core.specs.StandsFor as core
 use Rattle.pp_core.specs.Queries.{ask_of, errand_of}
-use Rattle.pp_core.specs.AfterMoves.{AfterMoves, HasLoaded}
+use Rattle.pp_core.specs.AfterMoves.{AfterMoves}
 use Rattle.pp_core.proofs.AfterMoves.{after_moves}
+use Rattle.pp_core.proofs.PlainSlots.{PlainLoaded, loaded}
 use Rattle.pp_core.proofs.Alike.{same_ask, same_held, same_leaving}
 use Rattle.pp_device.specs.Image.{head_of}
 use Rattle.pp_vault.specs.declared.tokens.Session.{Session}
@@ -114,9 +115,9 @@ module _ (old : Parts) (w slot page : ℕ) (image : List ℕ)
 
         module _ (mark : ℕ) (e : r ≡ Loaded mark) where
           has : (s : State) → StandsFor old s
-              → HasLoaded s (next s) w slot page mark (came_of ok (head_of image))
+              → PlainLoaded s (next s) w slot page mark (came_of ok (head_of image))
           has s st =
-              (laws s st).loaded w (came_of ok (head_of image)) slot page mark (answer s st ∙ e) (fits s st).0
+              loaded s st.core.reached w (came_of ok (head_of image)) slot page mark (answer s st ∙ e) (fits s st).0
 
           head : head_of image ≡ (page, mark)
           head = came_head ok (head_of image).0 (head_of image).1 page mark (has k.state k.stands).image

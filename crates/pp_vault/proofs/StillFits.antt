@@ -14,7 +14,7 @@ use Rattle.pp_core.specs.StandsFor as core_stands
 use Rattle.pp_core.specs.Queries.{held_of, errand_of, flushed_page}
 use Rattle.pp_core.specs.AfterMoves.{WorkerStays, Releases}
 use Rattle.pp_core.proofs.AfterMoves.{after_moves}
-use Rattle.pp_core.proofs.Alike.{same_idle, same_leaving, same_ask, same_held, same_errand, same_mark, same_flushed}
+use Rattle.pp_core.proofs.Alike.{same_idle, same_leaving, same_ask, same_held, same_bundle, same_pending, same_errand, same_mark, same_flushed}
 use Rattle.pp_vault.specs.declared.tokens.Duty.{Duty}
 use Rattle.pp_vault.specs.declared.tokens.Duty.TheVariants as duty
 use Rattle.pp_vault.specs.declared.guards.Guard.{Guard}
@@ -159,7 +159,7 @@ after_other s m v reached apart =
 unchanged : (s : State) (v : ℕ) → Same s s v
 unchanged s v =
     record {
-      stays = record { idle = refl; leaving = refl; asks = refl; held = λ slot. refl; errand = refl };
+      stays = record { idle = refl; leaving = refl; asks = refl; held = λ slot. refl; bundles = λ slot. refl; pending = refl; errand = refl };
       shared = λ slot page held. refl;
       exclusive = λ slot page held. refl;
       victim = λ slot page victim out. refl;
@@ -181,6 +181,8 @@ same_told f s t a b v =
             leaving = same_leaving f t s b a v;
             asks = same_ask f t s b a v;
             held = λ slot. same_held f t s b a v slot;
+            bundles = λ slot. same_bundle f t s b a v slot;
+            pending = same_pending f t s b a v;
             errand = same_errand f t s b a v;
           };
       shared = λ slot page held. same_mark f t s b a page;

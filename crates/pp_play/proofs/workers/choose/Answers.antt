@@ -52,6 +52,11 @@ returns-in-Ok-clause-plays c fits =
       others = choose_others laws old new c.known.ensures.kept w c.args.hand fits c.args.branch does;
     }
 
+pub did-requires : goal.did-requires
+did-requires c =
+    (choose_done c.args.vault.now c.choose.new.self c.known.ensures.kept c.in-In.session.worker c.args.worker
+    (same _ _ (search rules)) c.args.branch c.in-Ok.ensures.ok).some
+
 pub returns-in-Err-clause-plays : goal.returns-in-Err-clause-plays
 returns-in-Err-clause-plays c fits =
     let old = c.args.vault.now in

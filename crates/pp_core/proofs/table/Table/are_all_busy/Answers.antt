@@ -1,4 +1,4 @@
-use Rattle.std.proofs.Common.{◌≤◌, arith, rules}
+use Rattle.std.proofs.Common.{◌≤◌, rules}
 use Rattle.pp_frames.specs.Marks.{page_count}
 use Rattle.pp_core.specs.Parts.{parts_of}
 use Rattle.pp_core.proofs.RefusalTies.{all_below}

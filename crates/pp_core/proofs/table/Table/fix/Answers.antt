@@ -1,13 +1,13 @@
 use Rattle.std.proofs.Common.{◌≡◌, ◌∙◌, true, false, subst, sym, refl, rules}
-use Rattle.pp_plan.specs.declared.action.Action.TheVariants as action
 use Rattle.pp_plan.specs.Asked.{region_has}
 use Rattle.pp_frames.specs.Marks.{is_dirty}
+use Rattle.pp_model.specs.Fixing.{fixes}
 use Rattle.pp_model.specs.declared.moves.Move.TheVariants as move
 use Rattle.pp_model.specs.declared.reply.Reply.TheVariants.{Hit, MustRead, MustWrite, NotNow}
 use Rattle.pp_model.specs.declared.refusals.Delay.TheVariants.{FlushHolds}
 use Rattle.pp_core.specs.declared.seat.Seat.{Seat}
 use Rattle.pp_core.specs.Parts.{Parts, parts_of}
-use Rattle.pp_core.specs.StandsFor.{Asks, Moves}
+use Rattle.pp_core.specs.StandsFor.{Moves}
 use Rattle.pp_core.specs.Effects.{IsIn, Spent, is_flying, pinned, frame_at, mark_at}
 use Rattle.pp_core.specs.Fixing.{CanHit, CanFill, CanEvict, CanSend, free_frame, filled, evicted, sent}
 use Rattle.pp_core.proofs.FixMoves as step
@@ -18,127 +18,145 @@ returns-then-not-has_page-clause-moves c =
     let f = parts_of c.args.self.now in
     let w = c.args.worker in
     let page = c.args.page in
-    let slot = c.in-Fix.slot in
-    let region = c.in-Fix.region in
-    let asks = subst (Asks f w) c.in-Fix.is c.in-Ok.ensures.asks in
+    let slot = c.in-Some.slot in
+    let region = c.in-Some.region in
+    let asks = c.in-Ok.ensures.asks in
+    let wants = c.in-Ok.ask in
+    let into = sym c.wanted.ensures ∙ c.in-Some.is in
     let hasnt : region_has f.layout region page ≡ false = search rules in
-    step.fix_elsewhere f w page slot region asks hasnt
+    step.fix_elsewhere f w page slot region wants into asks hasnt
 
 pub returns-then-is_flying-clause-moves : goal.returns-then-is_flying-clause-moves
 returns-then-is_flying-clause-moves c =
     let f = parts_of c.args.self.now in
     let w = c.args.worker in
     let page = c.args.page in
-    let slot = c.in-Fix.slot in
-    let region = c.in-Fix.region in
-    let asks = subst (Asks f w) c.in-Fix.is c.in-Ok.ensures.asks in
+    let slot = c.in-Some.slot in
+    let region = c.in-Some.region in
+    let asks = c.in-Ok.ensures.asks in
+    let wants = c.in-Ok.ask in
+    let into = sym c.wanted.ensures ∙ c.in-Some.is in
     let has : region_has f.layout region page ≡ true = search rules in
     let flies : is_flying f page ≡ true = search rules in
-    step.fix_flying f w page slot region asks has flies
+    step.fix_flying f w page slot region wants into asks has flies
 
 pub request-requires : goal.request-requires
 request-requires c =
     let f = parts_of c.args.self.now in
     let w = c.args.worker in
     let page = c.args.page in
-    let slot = c.in-Fix.slot in
-    let region = c.in-Fix.region in
-    let asks = subst (Asks f w) c.in-Fix.is c.in-Ok.ensures.asks in
+    let slot = c.in-Some.slot in
+    let region = c.in-Some.region in
+    let asks = c.in-Ok.ensures.asks in
+    let wants = c.in-Ok.ask in
+    let into = sym c.wanted.ensures ∙ c.in-Some.is in
     let has : region_has f.layout region page ≡ true = search rules in
-    step.request_low f w page slot region asks has c.requires
+    step.request_low f w page slot region wants into asks has c.requires
 
 pub hit-requires : goal.hit-requires
 hit-requires c =
     let f = parts_of c.args.self.now in
     let w = c.args.worker in
     let page = c.args.page in
-    let slot = c.in-Fix.slot in
-    let region = c.in-Fix.region in
-    let asks = subst (Asks f w) c.in-Fix.is c.in-Ok.ensures.asks in
+    let slot = c.in-Some.slot in
+    let region = c.in-Some.region in
+    let asks = c.in-Ok.ensures.asks in
+    let wants = c.in-Ok.ask in
+    let into = sym c.wanted.ensures ∙ c.in-Some.is in
     let has : region_has f.layout region page ≡ true = search rules in
     let free : is_flying f page ≡ false = search rules in
     let a = c.request.result in
     let is = c.request.ensures.answer in
     let parts = c.request.ensures.parts in
-    subst (λ (z : Parts). CanHit z w slot page) (sym parts)
-    (step.can_hit f w page slot region asks has free a is c.requires c.in-Hit.is)
+    subst (λ (z : Parts). CanHit z w wants slot page) (sym parts)
+    (step.can_hit f w page slot region wants into asks has free a is c.requires c.in-Hit.is)
 
 pub fill-requires : goal.fill-requires
 fill-requires c =
     let f = parts_of c.args.self.now in
     let w = c.args.worker in
     let page = c.args.page in
-    let slot = c.in-Fix.slot in
-    let region = c.in-Fix.region in
-    let asks = subst (Asks f w) c.in-Fix.is c.in-Ok.ensures.asks in
+    let slot = c.in-Some.slot in
+    let region = c.in-Some.region in
+    let asks = c.in-Ok.ensures.asks in
+    let wants = c.in-Ok.ask in
+    let into = sym c.wanted.ensures ∙ c.in-Some.is in
     let has : region_has f.layout region page ≡ true = search rules in
     let free : is_flying f page ≡ false = search rules in
     let a = c.request.result in
     let is = c.request.ensures.answer in
     let parts = c.request.ensures.parts in
     subst (λ (z : Parts). CanFill z w page) (sym parts)
-    (step.can_fill f w page slot region asks has free a is c.requires c.in-Free.is)
+    (step.can_fill f w page slot region wants into asks has free a is c.requires c.in-Free.is)
 
 pub send-requires : goal.send-requires
 send-requires c =
     let f = parts_of c.args.self.now in
     let w = c.args.worker in
     let page = c.args.page in
-    let slot = c.in-Fix.slot in
-    let region = c.in-Fix.region in
-    let asks = subst (Asks f w) c.in-Fix.is c.in-Ok.ensures.asks in
+    let slot = c.in-Some.slot in
+    let region = c.in-Some.region in
+    let asks = c.in-Ok.ensures.asks in
+    let wants = c.in-Ok.ask in
+    let into = sym c.wanted.ensures ∙ c.in-Some.is in
     let has : region_has f.layout region page ≡ true = search rules in
     let free : is_flying f page ≡ false = search rules in
     let a = c.request.result in
     let is = c.request.ensures.answer in
     let parts = c.request.ensures.parts in
     subst (λ (z : Parts). CanSend z w page c.in-Evict.victim) (sym parts)
-    (step.can_send f w page slot region asks has free a is c.in-Evict.victim c.in-Evict.is c.requires)
+    (step.can_send f w page slot region wants into asks has free a is c.in-Evict.victim c.in-Evict.is c.requires)
 
 pub evict-requires : goal.evict-requires
 evict-requires c =
     let f = parts_of c.args.self.now in
     let w = c.args.worker in
     let page = c.args.page in
-    let slot = c.in-Fix.slot in
-    let region = c.in-Fix.region in
-    let asks = subst (Asks f w) c.in-Fix.is c.in-Ok.ensures.asks in
+    let slot = c.in-Some.slot in
+    let region = c.in-Some.region in
+    let asks = c.in-Ok.ensures.asks in
+    let wants = c.in-Ok.ask in
+    let into = sym c.wanted.ensures ∙ c.in-Some.is in
     let has : region_has f.layout region page ≡ true = search rules in
     let free : is_flying f page ≡ false = search rules in
     let a = c.request.result in
     let is = c.request.ensures.answer in
     let parts = c.request.ensures.parts in
     subst (λ (z : Parts). CanEvict z w page c.in-Evict.victim) (sym parts)
-    (step.can_evict f w page slot region asks has free a is c.in-Evict.victim c.in-Evict.is c.requires)
+    (step.can_evict f w page slot region wants into asks has free a is c.in-Evict.victim c.in-Evict.is c.requires)
 
 pub returns-in-Hit-clause-moves : goal.returns-in-Hit-clause-moves
 returns-in-Hit-clause-moves c =
     let f = parts_of c.args.self.now in
     let w = c.args.worker in
     let page = c.args.page in
-    let slot = c.in-Fix.slot in
-    let region = c.in-Fix.region in
-    let asks = subst (Asks f w) c.in-Fix.is c.in-Ok.ensures.asks in
+    let slot = c.in-Some.slot in
+    let region = c.in-Some.region in
+    let asks = c.in-Ok.ensures.asks in
+    let wants = c.in-Ok.ask in
+    let into = sym c.wanted.ensures ∙ c.in-Some.is in
     let has : region_has f.layout region page ≡ true = search rules in
     let free : is_flying f page ≡ false = search rules in
     let a = c.request.result in
     let is = c.request.ensures.answer in
     let parts = c.request.ensures.parts in
     let g = parts_of c.hit.new.self in
-    let spent = subst (λ (z : Parts). Spent z g w (action.Fix slot page)
+    let spent = subst (λ (z : Parts). Spent z g w (fixes wants slot page)
     (pinned z.marks page)) parts c.hit.ensures.spent in
     let tells = subst (λ (z : Parts). c.hit.result ≡ Hit (frame_at z.marks page) (mark_at z.marks page)) parts
     c.hit.ensures.reply in
-    step.hit_moves f w page slot region asks has free a is g c.hit.result c.in-Hit.is spent tells
+    step.hit_moves f w page slot region wants into asks has free a is g c.hit.result c.in-Hit.is spent tells
 
 pub returns-in-Free-clause-moves : goal.returns-in-Free-clause-moves
 returns-in-Free-clause-moves c =
     let f = parts_of c.args.self.now in
     let w = c.args.worker in
     let page = c.args.page in
-    let slot = c.in-Fix.slot in
-    let region = c.in-Fix.region in
-    let asks = subst (Asks f w) c.in-Fix.is c.in-Ok.ensures.asks in
+    let slot = c.in-Some.slot in
+    let region = c.in-Some.region in
+    let asks = c.in-Ok.ensures.asks in
+    let wants = c.in-Ok.ask in
+    let into = sym c.wanted.ensures ∙ c.in-Some.is in
     let has : region_has f.layout region page ≡ true = search rules in
     let free : is_flying f page ≡ false = search rules in
     let a = c.request.result in
@@ -148,16 +166,18 @@ returns-in-Free-clause-moves c =
     let fills = subst (λ (z : Parts). (x : Seat) → IsIn z w x → g
     ≡ filled z w x slot page) parts c.fill.ensures.parts in
     let tells = subst (λ (z : Parts). c.fill.result ≡ MustRead (free_frame z.marks)) parts c.fill.ensures.reply in
-    step.fill_moves f w page slot region asks has free a is g c.fill.result c.in-Free.is fills tells
+    step.fill_moves f w page slot region wants into asks has free a is g c.fill.result c.in-Free.is fills tells
 
 pub returns-then-is_dirty-clause-moves : goal.returns-then-is_dirty-clause-moves
 returns-then-is_dirty-clause-moves c =
     let f = parts_of c.args.self.now in
     let w = c.args.worker in
     let page = c.args.page in
-    let slot = c.in-Fix.slot in
-    let region = c.in-Fix.region in
-    let asks = subst (Asks f w) c.in-Fix.is c.in-Ok.ensures.asks in
+    let slot = c.in-Some.slot in
+    let region = c.in-Some.region in
+    let asks = c.in-Ok.ensures.asks in
+    let wants = c.in-Ok.ask in
+    let into = sym c.wanted.ensures ∙ c.in-Some.is in
     let has : region_has f.layout region page ≡ true = search rules in
     let free : is_flying f page ≡ false = search rules in
     let a = c.request.result in
@@ -170,16 +190,18 @@ returns-then-is_dirty-clause-moves c =
     let sends = subst (λ (z : Parts). (x : Seat) → IsIn z w x → g
     ≡ sent z w x slot page v) parts c.send.ensures.parts in
     let tells = subst (λ (z : Parts). c.send.result ≡ MustWrite (frame_at z.marks v) v) parts c.send.ensures.reply in
-    step.send_moves f w page slot region asks has free a is v c.in-Evict.is g c.send.result changed sends tells
+    step.send_moves f w page slot region wants into asks has free a is v c.in-Evict.is g c.send.result changed sends tells
 
 pub returns-else-is_dirty-clause-moves : goal.returns-else-is_dirty-clause-moves
 returns-else-is_dirty-clause-moves c =
     let f = parts_of c.args.self.now in
     let w = c.args.worker in
     let page = c.args.page in
-    let slot = c.in-Fix.slot in
-    let region = c.in-Fix.region in
-    let asks = subst (Asks f w) c.in-Fix.is c.in-Ok.ensures.asks in
+    let slot = c.in-Some.slot in
+    let region = c.in-Some.region in
+    let asks = c.in-Ok.ensures.asks in
+    let wants = c.in-Ok.ask in
+    let into = sym c.wanted.ensures ∙ c.in-Some.is in
     let has : region_has f.layout region page ≡ true = search rules in
     let free : is_flying f page ≡ false = search rules in
     let a = c.request.result in
@@ -192,28 +214,30 @@ returns-else-is_dirty-clause-moves c =
     let evicts = subst (λ (z : Parts). (x : Seat) → IsIn z w x → g ≡ evicted z w x slot page v) parts
     c.evict.ensures.parts in
     let tells = subst (λ (z : Parts). c.evict.result ≡ MustRead (frame_at z.marks v)) parts c.evict.ensures.reply in
-    step.evict_moves f w page slot region asks has free a is v c.in-Evict.is g c.evict.result clean evicts tells
+    step.evict_moves f w page slot region wants into asks has free a is v c.in-Evict.is g c.evict.result clean evicts tells
 
 pub returns-in-AllBusy-clause-moves : goal.returns-in-AllBusy-clause-moves
 returns-in-AllBusy-clause-moves c =
     let f = parts_of c.args.self.now in
     let w = c.args.worker in
     let page = c.args.page in
-    let slot = c.in-Fix.slot in
-    let region = c.in-Fix.region in
-    let asks = subst (Asks f w) c.in-Fix.is c.in-Ok.ensures.asks in
+    let slot = c.in-Some.slot in
+    let region = c.in-Some.region in
+    let asks = c.in-Ok.ensures.asks in
+    let wants = c.in-Ok.ask in
+    let into = sym c.wanted.ensures ∙ c.in-Some.is in
     let has : region_has f.layout region page ≡ true = search rules in
     let free : is_flying f page ≡ false = search rules in
     let a = c.request.result in
     let is = c.request.ensures.answer in
     let parts = c.request.ensures.parts in
     subst (λ (z : Parts). Moves f (move.Fix w page) (NotNow FlushHolds) z)
-    (sym (parts ∙ step.lists_stay f w page slot region asks has free a is c.in-AllBusy.is))
-    (step.held_up f w page slot region asks has free a is c.in-AllBusy.is)
+    (sym (parts ∙ step.lists_stay f w page slot region wants into asks has free a is c.in-AllBusy.is))
+    (step.held_up f w page slot region wants into asks has free a is c.in-AllBusy.is)
 
 pub returns-in_default : goal.returns-in_default
 returns-in_default c = record {
   moves = step.fix_unasked (parts_of c.args.self.now) c.args.worker c.args.page c.in-Ok.ask c.in-Ok.ensures.asks
-      c.in_default.not-Fix;
+      (sym c.wanted.ensures ∙ c.in_default.is);
   refusal = λ is. refl;
 }

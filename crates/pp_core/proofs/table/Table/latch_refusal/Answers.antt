@@ -1,4 +1,4 @@
-use Rattle.std.proofs.Common.{◌≡◌, ◌∙◌, true, false, subst, refl, sym, ap}
+use Rattle.std.proofs.Common.{◌∙◌, subst, refl, sym, ap}
 use Rattle.pp_frames.specs.declared.mode.Mode.{Mode}
 use Rattle.pp_frames.specs.Marks.{is_compatible, latches_of}
 use Rattle.pp_model.specs.declared.moves.Move.TheVariants as move

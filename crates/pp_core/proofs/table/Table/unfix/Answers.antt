@@ -1,7 +1,7 @@
 use Rattle.std.proofs.Common.{refl, subst}
 use Rattle.pp_core.specs.Parts.{parts_of}
 use Rattle.pp_core.specs.StandsFor.{Asks}
-use Rattle.pp_core.proofs.UsingMoves.{has_seat, can_unfix, unfix_moves, unfix_unasked}
+use Rattle.pp_core.proofs.UsingMoves.{has_seat, can_unfix, unfix_moves, can_scatter, scatter_moves, unfix_unasked}
 use Rattle.pp_core.proofs.table.Table.unfix.Goals as goal
 
 pub page_in-page-requires : goal.page_in-page-requires
@@ -15,8 +15,21 @@ give_back-requires c =
     let asks = subst (Asks f c.args.worker) c.in-Unfix.is c.in-Ok.ensures.asks in
     can_unfix f c.args.worker c.in-Unfix.slot c.page_in-page.result c.requires asks c.page_in-page.ensures
 
-pub returns-clause-moves : goal.returns-clause-moves
-returns-clause-moves c =
+pub give_bundle_back-requires : goal.give_bundle_back-requires
+give_bundle_back-requires c =
+    let f = parts_of c.args.self.now in
+    let asks = subst (Asks f c.args.worker) c.in-Scatter.is c.in-Ok.ensures.asks in
+    can_scatter f c.args.worker c.in-Scatter.slot c.requires asks
+
+pub returns-in-Scatter-clause-moves : goal.returns-in-Scatter-clause-moves
+returns-in-Scatter-clause-moves c =
+    let f = parts_of c.args.self.now in
+    let asks = subst (Asks f c.args.worker) c.in-Scatter.is c.in-Ok.ensures.asks in
+    scatter_moves f (parts_of c.give_bundle_back.new.self) c.args.worker c.in-Scatter.slot asks
+    c.give_bundle_back.ensures
+
+pub returns-in-Unfix-clause-moves : goal.returns-in-Unfix-clause-moves
+returns-in-Unfix-clause-moves c =
     let f = parts_of c.args.self.now in
     let asks = subst (Asks f c.args.worker) c.in-Unfix.is c.in-Ok.ensures.asks in
     unfix_moves f (parts_of c.give_back.new.self) c.args.worker c.in-Unfix.slot c.page_in-page.result asks
@@ -25,6 +38,6 @@ returns-clause-moves c =
 pub returns-in_default : goal.returns-in_default
 returns-in_default c = record {
   moves = unfix_unasked (parts_of c.args.self.now) c.args.worker c.in-Ok.ask c.in-Ok.ensures.asks
-      c.in_default.not-Unfix;
+      c.in_default.not-Unfix c.in_default.not-Scatter;
   refusal = λ is. refl;
 }

@@ -10,4 +10,5 @@ use Rattle.pp_core.proofs.table.Table.unfix_refusal.Goals as goal
 pub returns-in_default : goal.returns-in_default
 returns-in_default c =
     refused_so (parts_of c.args.self.now) (move.Unfix c.args.worker) (OffPlan NotAsked) refl
-    (unfix_unasked (parts_of c.args.self.now) c.args.worker c.in-Ok.ask c.in-Ok.ensures.asks c.in_default.not-Unfix)
+    (unfix_unasked (parts_of c.args.self.now) c.args.worker c.in-Ok.ask c.in-Ok.ensures.asks
+    c.in_default.not-Unfix c.in_default.not-Scatter)
