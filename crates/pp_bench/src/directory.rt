@@ -3,6 +3,7 @@
 ghost use Rattle.std.specs.Prelude.{◌≡◌, ◌≤◌, ◌<◌, false};
 
 use crate::trouble::Trouble;
+use crate::watch::{self, Watch};
 use pp_arc::{Answer, Busy, Directory};
 use pp_traces::{Kind, PAGES, Trace};
 
@@ -18,13 +19,16 @@ impl Busy for NoneBusy {
 }
 
 /// Plays the trace of the kind that the first word names, as many operations long as the second says, to
-/// a directory of as many frames as the third says, or 4,096. Prints how many requests missed.
+/// a directory of as many frames as the third says, or 4,096. Prints how many requests missed, and on standard error how many
+/// nanoseconds each took.
 pub fn play(rt: &HostRuntime, words: &[String]) -> Result<(), Trouble> {
     let (kind, ops, frames) = asked(words).ok_or(Trouble::Words)?;
     let mut directory = Directory::new(rt.alloc(), frames.max(1), PAGES)?;
+    let watch = Watch::start(rt);
     let misses = misses(&mut directory, Trace::new(kind, frames), ops);
+    let nanos = watch.nanos(rt);
     println!(rt; "{misses}")?;
-    Ok(())
+    watch::tell(rt, nanos, ops, "an operation")
 }
 
 /// What the words ask for: the kind, how many operations, and how many frames.

@@ -7,6 +7,7 @@ ghost use Rattle.std.specs.Prelude.{◌≡◌, ◌++◌, ◌∷◌, [], IfOk, On
 ghost use Rattle.pp_model.specs.declared.event.Event.TheVariants.{Step};
 
 use crate::trouble::Trouble;
+use crate::watch::{self, Watch};
 use crate::words;
 use pp_core::{Accepted, Came, Core, Event, Move, Reply};
 use pp_report::journal_text;
@@ -14,7 +15,6 @@ use pp_settings::Settings;
 use pp_traces::{Kind, Trace};
 use std::alloc::{AllocError, Global};
 use std::io::{Read, Write};
-use std::time::Instant;
 
 /// Writes a journal of at least as many lines as the word says to standard output.
 pub fn write(rt: &HostRuntime, words: &[String]) -> Result<(), Trouble> {
@@ -34,13 +34,11 @@ pub fn audit(rt: &HostRuntime, words: &[String]) -> Result<(), Trouble> {
     plans.push_reserved(accepted);
     let mut text = Vec::new(rt.alloc());
     rt.stdin().read_to_end(&mut text)?;
-    let started = Instant::now(rt)?;
+    let watch = Watch::start(rt);
     let audited = pp_report::audit(rt.alloc(), &settings, plans, text.as_slice())?;
-    let spent = started.elapsed(rt)?.as_nanos();
+    let nanos = watch.nanos(rt);
     println!(rt; "{}", audited.lines)?;
-    let each = spent / u128::from(audited.lines.max(1));
-    eprintln!(rt; "{each} ns a line")?;
-    Ok(())
+    watch::tell(rt, nanos, audited.lines, "a line")
 }
 
 /// The settings of one worker, and its plan of so many operations.

@@ -4,9 +4,9 @@
 //! `pp_bench marks OPS [FRAMES]` how many pages were brought in, each in place of another. `pp_bench moves
 //! hit|skew|loop|mixed OPS` plays fixes, latches, unlatches and unfixes to the core, and `pp_bench pool` the same to a
 //! vault over pages in memory; both print how many pages were read. `pp_bench journal LINES` writes a journal of at least
-//! so many lines, and `pp_bench audit LINES` audits it from standard input; it prints how many lines there were, and on
-//! standard error what one took.
-//! How long the other runs take is for the caller to measure.
+//! so many lines, and `pp_bench audit LINES` audits it from standard input; it prints how many lines there were.
+//! On standard error each run but `marks` and `journal` says what one operation, or one line, took by the clock, from the
+//! first one's begin to the last one's end. How long these two take is for the caller to measure.
 #![tactic(auto)]
 
 mod directory;
@@ -15,6 +15,7 @@ mod marks;
 mod moves;
 mod pool;
 mod trouble;
+mod watch;
 mod words;
 
 use std::env;

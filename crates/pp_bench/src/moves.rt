@@ -3,19 +3,22 @@
 ghost use Rattle.std.specs.Prelude.{◌≤◌};
 
 use crate::trouble::Trouble;
+use crate::watch::{self, Watch};
 use crate::words;
 use pp_core::{Came, Core, Move, Reply};
 use pp_traces::Trace;
 use std::alloc::Global;
 
 /// Plays the trace of the kind that the first word names, as many operations long as the second says, to a core of
-/// 4,096 frames. Prints how many pages had to be read.
+/// 4,096 frames. Prints how many pages had to be read, and on standard error how many nanoseconds an operation took.
 pub fn play(rt: &HostRuntime, words: &[String]) -> Result<(), Trouble> {
     let (kind, ops) = words::kind_and_ops(words)?;
     let mut core = running(rt.alloc(), ops)?;
+    let watch = Watch::start(rt);
     let misses = misses(&mut core, Trace::new(kind, 4096), ops).ok_or(Trouble::Refused)?;
+    let nanos = watch.nanos(rt);
     println!(rt; "{misses}")?;
-    Ok(())
+    watch::tell(rt, nanos, ops, "an operation")
 }
 
 /// A core whose worker has taken a plan of so many operations.

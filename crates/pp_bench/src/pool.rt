@@ -5,6 +5,7 @@ ghost use Rattle.std.specs.Prelude.{◌≡◌, true};
 ghost use Rattle.pp_vault.specs.Stages.{is_idle_hand};
 
 use crate::trouble::Trouble;
+use crate::watch::{self, Watch};
 use crate::words;
 use pp_device::{Device, SoloDevice, image};
 use pp_traces::{Kind, PAGES, Trace};
@@ -27,25 +28,28 @@ struct Pool {
 }
 
 /// Plays the trace of the kind that the first word names, as many operations long as the second says, to a pool of
-/// 4,096 frames. Prints how many pages had to be read.
+/// 4,096 frames. Prints how many pages had to be read, and on standard error how many nanoseconds an operation took.
 pub fn play(rt: &HostRuntime, words: &[String]) -> Result<(), Trouble> {
     let (kind, ops) = words::kind_and_ops(words)?;
-    let misses = run(rt.alloc(), kind, ops)?;
+    let (misses, nanos) = run(rt, kind, ops)?;
     println!(rt; "{misses}")?;
-    Ok(())
+    watch::tell(rt, nanos, ops, "an operation")
 }
 
-/// How many pages are read in so many operations of a trace of this kind.
-fn run(alloc: Global, kind: Kind, ops: u64) -> Result<u64, Trouble> {
+/// How many pages are read in so many operations of a trace of this kind, and how many nanoseconds the operations took.
+fn run(rt: &HostRuntime, kind: Kind, ops: u64) -> Result<(u64, Option<u128>), Trouble> {
+    let alloc = rt.alloc();
     let settings = pp_traces::settings(alloc, 1)?;
     let accepted = pp_traces::accepted(alloc, &settings, ops)?;
     let device = numbered(alloc)?;
     let (vault, mut hands) = Vault::new(alloc, &settings).map_err(|_| Trouble::Memory)?;
     let mut pool = Pool { vault, device };
+    let watch = Watch::start(rt);
     let played = match hands.part(0) {
         Some(hand) => pool.play(chair_of(hand), accepted, Trace::new(kind, 4096), ops),
         None => Err(Stopped::with_nothing()),
     };
+    let nanos = watch.nanos(rt);
     let Pool {
         vault,
         device: _device,
@@ -53,7 +57,7 @@ fn run(alloc: Global, kind: Kind, ops: u64) -> Result<u64, Trouble> {
     match played {
         Ok((chair, misses)) => {
             vault.scrap_with(hands, Stopped::at(Stage::Idle(chair)));
-            Ok(misses)
+            Ok((misses, nanos))
         }
         Err(stopped) => {
             vault.scrap_with(hands, stopped);

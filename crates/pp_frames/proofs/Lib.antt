@@ -2,6 +2,7 @@
 mod Bits
 mod Firsts
 mod Moves
+mod Narrow
 mod Opening
 mod Search
 mod Spelling

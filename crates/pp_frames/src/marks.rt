@@ -132,17 +132,17 @@ impl Marks {
         self.pages[page as usize]
     }
 
-    /// Gives the page these marks, in the frame that it is in.
+    /// Gives the page these marks, in the frame that it is in, with the pins that it has.
     #[inline(always)]
     fn write(&mut self, page: u32, to: Page)
         requires page { page < page_count self.old }
+        requires pins { to.pins ≡ pins_of self.old page }
         requires fits { Fits self.old page (marks_at to) }
         ensures exact { self.new ≡ with_marks self.old page (marks_at to) }
         ensures sound { IsSound self.new }
     {
         let now = self.pages[page as usize];
         self.pages[page as usize] = to;
-        self.pins = self.pins - now.pins + to.pins;
         keep(
             &mut self.flushable,
             page,
@@ -243,15 +243,16 @@ impl Marks {
         self.pins
     }
 
-    /// Sets one more pin on a page that is in a frame. There are never more pins in all than frames.
+    /// Sets one more pin on a page that is in a frame. There are never more pins in all than frames. The sets stay as they
+    /// are: no pin changes which frames are free, and which pages let a flush begin.
     pub fn pin(&mut self, page: u32)
         requires placed { IsSome (frame_of self.old page) }
         requires room { all_pins self.old < self.old.frames }
         ensures exact { self.new ≡ with_pins self.old page (pins_of self.old page + 1) }
         ensures sound { IsSound self.new }
     {
-        let now = self.kept(page);
-        self.write(page, now.with_pins(now.pins + 1));
+        self.pages[page as usize].pins += 1;
+        self.pins += 1;
     }
 
     /// Takes one pin off a page that has more pins than latches.
@@ -260,8 +261,8 @@ impl Marks {
         ensures exact { self.new ≡ with_pins self.old page (pins_of self.old page - 1) }
         ensures sound { IsSound self.new }
     {
-        let now = self.kept(page);
-        self.write(page, now.with_pins(now.pins - 1));
+        self.pages[page as usize].pins -= 1;
+        self.pins -= 1;
     }
 
     // ---- latches
@@ -290,6 +291,27 @@ impl Marks {
         self.page(page).goes(mode)
     }
 
+    /// One reader more latches the page, which has no writer. The sets stay as they are: readers keep no flush from beginning.
+    #[inline(always)]
+    fn share(&mut self, page: u32)
+        requires goes { is_compatible Mode.S (latches_of self.old page) ≡ true }
+        requires spare_pin { latch_count (latches_of self.old page) < pins_of self.old page }
+        ensures exact { self.new ≡ with_latches self.old page (with_latch Mode.S (latches_of self.old page)) }
+        ensures sound { IsSound self.new }
+    {
+        self.pages[page as usize].readers += 1;
+    }
+
+    /// One reader's latch goes off the page.
+    #[inline(always)]
+    fn unshare(&mut self, page: u32)
+        requires latched { IsTrue (has_latch Mode.S (latches_of self.old page)) }
+        ensures exact { self.new ≡ with_latches self.old page (without_latch (latches_of self.old page)) }
+        ensures sound { IsSound self.new }
+    {
+        self.pages[page as usize].readers -= 1;
+    }
+
     /// Latches the page where this mode goes with the latches that stand on it. The page has fewer latches than pins.
     #[inline(always)]
     pub fn grant(&mut self, page: u32, mode: Mode) -> bool
@@ -304,7 +326,10 @@ impl Marks {
         if !now.goes(mode) {
             return false;
         }
-        self.write(page, now.with_latch(mode));
+        match mode {
+            Mode::S => self.share(page),
+            Mode::X => self.write(page, now.with_writer()),
+        }
         true
     }
 
@@ -315,8 +340,13 @@ impl Marks {
         ensures exact { self.new ≡ with_latches self.old page (without_latch (latches_of self.old page)) }
         ensures sound { IsSound self.new }
     {
-        let now = self.kept(page);
-        self.write(page, now.without_latch());
+        match mode {
+            Mode::S => self.unshare(page),
+            Mode::X => {
+                let now = self.kept(page);
+                self.write(page, now.without_writer());
+            }
+        }
     }
 
     // ---- dirty marks and stamps

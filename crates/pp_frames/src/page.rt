@@ -1,7 +1,7 @@
 //! What is kept of one page: 24 bytes.
 
 ghost use Rattle.std.specs.Prelude.{◌≡◌, ◌<◌, ◌≤◌, ◌^◌, true, IsTrue, IfOk, replicate};
-ghost use Rattle.pp_frames.specs.Marks.{latch_count, is_compatible, has_latch, is_flushable, with_latch, without_latch};
+ghost use Rattle.pp_frames.specs.Marks.{Shared, Exclusive, latch_count, is_compatible, has_latch, is_flushable};
 ghost use Rattle.pp_frames.specs.Kept.{frame_at, latches_at, stamp_at, marks_at, untouched_page};
 
 use crate::mode::Mode;
@@ -114,38 +114,22 @@ impl Page {
         }
     }
 
-    /// The same page with so many pins.
-    pub(crate) fn with_pins(self, pins: u32) -> Page
-        ensures { marks_at result ≡ record (marks_at self) { pins = pins } }
+    /// The same page, latched by a writer alone.
+    pub(crate) fn with_writer(self) -> Page
+        ensures { marks_at result ≡ record (marks_at self) { latches = Exclusive } }
     {
-        Page { pins, ..self }
-    }
-
-    /// The same page with one more latch, which goes with those that stand.
-    pub(crate) fn with_latch(self, mode: Mode) -> Page
-        requires goes { is_compatible mode (latches_at self) ≡ true }
-        requires room { latch_count (latches_at self) < self.pins }
-        ensures { marks_at result ≡ record (marks_at self) { latches = with_latch mode (latches_at self) } }
-    {
-        match mode {
-            Mode::S => Page {
-                readers: self.readers + 1,
-                ..self
-            },
-            Mode::X => Page {
-                has_writer: true,
-                ..self
-            },
+        Page {
+            has_writer: true,
+            ..self
         }
     }
 
-    /// The same page with one latch less: the writer's, or one of the readers'.
-    pub(crate) fn without_latch(self) -> Page
-        requires { 0 < latch_count (latches_at self) }
-        ensures { marks_at result ≡ record (marks_at self) { latches = without_latch (latches_at self) } }
+    /// The same page without the writer's latch, and with no other.
+    pub(crate) fn without_writer(self) -> Page
+        ensures { marks_at result ≡ record (marks_at self) { latches = Shared 0 } }
     {
         Page {
-            readers: self.latches() - 1,
+            readers: 0,
             has_writer: false,
             ..self
         }
