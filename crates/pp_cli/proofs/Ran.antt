@@ -7,8 +7,8 @@ use Rattle.pp_settings.specs.Settings.{Configuration}
 use Rattle.pp_text.specs.Steps.{Refuses}
 use Rattle.pp_report.specs.declared.record.RunRecord.{RunRecord}
 use Rattle.pp_run.specs.Runs.{IsRun}
-use Rattle.pp_judge.specs.Answers.{Answer, seen, done, made, simulated, formatted, ran, stopped, audited, shown, refused}
-use Rattle.pp_judge.specs.Answers.{misused, wordless, unread, unwritten, out_of_memory}
+use Rattle.pp_judge.specs.Answers.{Answer, seen, done, made, simulated, formatted, ran, stopped, audited, drawn, shown}
+use Rattle.pp_judge.specs.Answers.{refused, misused, wordless, unread, unwritten, out_of_memory}
 use Rattle.pp_judge.specs.Judgement.{workload_in}
 use Rattle.pp_judge.specs.declared.error.JudgeError.{JudgeError}
 use Rattle.pp_judge.specs.declared.outcome.Outcome.{Outcome}
@@ -33,6 +33,7 @@ told_end device journal w run (simulated text) is h = absurd h
 told_end device journal w run (formatted pages) is h = absurd h
 told_end device journal w run (stopped text) is h = absurd h
 told_end device journal w run (audited lines) is h = absurd h
+told_end device journal w run (drawn text) is h = absurd h
 told_end device journal w run (shown text) is h = absurd h
 told_end device journal w run (refused refusal) is h = absurd h
 told_end device journal w run (misused text) is h = absurd h
@@ -51,6 +52,7 @@ unwritten_told run path (simulated text) h = absurd h
 unwritten_told run path (formatted pages) h = absurd h
 unwritten_told run path (stopped text) h = absurd h
 unwritten_told run path (audited lines) h = absurd h
+unwritten_told run path (drawn text) h = absurd h
 unwritten_told run path (shown text) h = absurd h
 unwritten_told run path (refused refusal) h = absurd h
 unwritten_told run path (misused text) h = absurd h

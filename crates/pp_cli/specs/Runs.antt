@@ -7,7 +7,7 @@ use Rattle.pp_judge.specs.declared.error.JudgeError.{JudgeError}
 use Rattle.pp_judge.specs.Judgement.{device_size_in, workload_in}
 use Rattle.pp_explain.specs.Paragraphs.{IsAbout}
 use Rattle.pp_runner.specs.Runs.{MayRun}
-use Rattle.pp_judge.specs.Answers.{Answer, MaySimulate, audit_answer, certification_answer, judgement_answer}
+use Rattle.pp_judge.specs.Answers.{Answer, MayDraw, MaySimulate, audit_answer, certification_answer, judgement_answer}
 use Rattle.pp_judge.specs.Answers.{refused, shown, misused, status_of}
 use Rattle.pp_judge.specs.Answers.{formatted, out_of_memory, unread, unwritten}
 use Rattle.pp_words.specs.CommandLine.{Asked, Text, asked}
@@ -56,6 +56,8 @@ ComesOf (Asked.run journal settings device seed plans) answer = IsStopped (setti
     × MayRun device journal (workload_in s ps) answer)
 ComesOf (Asked.audit settings journal plans) answer = IsStopped (settings ∷ journal ∷ plans) answer
     ⊎ ((s j : List ℕ) × (ps : List (List ℕ)) × (length ps ≡ length plans) × (answer ≡ audit_answer s j ps))
+ComesOf (Asked.draw settings journal plans) answer = IsStopped (settings ∷ journal ∷ plans) answer
+    ⊎ ((s j : List ℕ) × (ps : List (List ℕ)) × (length ps ≡ length plans) × MayDraw s j ps answer)
 
 -- the files that a command reads texts from: the settings, then the certificate, the script or the journal, then the plans
 abbrev pub files_of : Asked → List Text
@@ -65,6 +67,7 @@ files_of (Asked.simulate settings script plans) = settings ∷ script ∷ plans
 files_of (Asked.format settings device) = settings ∷ []
 files_of (Asked.run journal settings device seed plans) = settings ∷ plans
 files_of (Asked.audit settings journal plans) = settings ∷ journal ∷ plans
+files_of (Asked.draw settings journal plans) = settings ∷ journal ∷ plans
 
 -- what may explain the refusal of what words ask for: nothing, or a paragraph about one of its files
 abbrev pub Explains : Option Asked → (why : Option (List ℕ)) → Type 0

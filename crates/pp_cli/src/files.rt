@@ -5,8 +5,8 @@ ghost use Rattle.std.specs.Io.KnownBytes.{Appends};
 ghost use Rattle.pp_explain.specs.Paragraphs.{IsAbout};
 ghost use Rattle.pp_format.specs.DeviceFile.{blank_file};
 ghost use Rattle.pp_judge.specs.Answers.{formatted, seen};
-ghost use Rattle.pp_words.specs.CommandLine.{asked_annotate, asked_audit, asked_by, asked_check, asked_format};
-ghost use Rattle.pp_words.specs.CommandLine.{asked_simulate, texts};
+ghost use Rattle.pp_words.specs.CommandLine.{asked_annotate, asked_audit, asked_by, asked_check, asked_draw};
+ghost use Rattle.pp_words.specs.CommandLine.{asked_format, asked_simulate, texts};
 ghost use Rattle.pp_cli.specs.Runs.{ComesOf, ComesOfWriting, IsStopped, files_of, stopped_by};
 
 use crate::bar::Bar;
@@ -20,7 +20,7 @@ use pp_judge::{
     AnnotateFiles, AuditFiles, CheckFiles, Contents, DeviceSize, Outcome, SimulateFiles,
     device_size, outcome_of,
 };
-use pp_words::{AnnotatePaths, AuditPaths, CheckPaths, FormatPaths, Job, SimulatePaths};
+use pp_words::{AnnotatePaths, AuditPaths, CheckPaths, DrawPaths, FormatPaths, Job, SimulatePaths};
 use std::alloc::Global;
 use std::fs;
 use std::fs::File;
@@ -57,6 +57,7 @@ pub fn perform<
         Job::Format(paths) => format(rt, paths, bar, note),
         Job::Run(paths) => run(rt, paths, bar.terminal(), note),
         Job::Audit(paths) => audit(rt, paths, note),
+        Job::Draw(paths) => draw(rt, paths, note),
     };
     match ended {
         Ok(outcome) => outcome,
@@ -174,6 +175,36 @@ fn audit<'a, R: Files + AllocGlobal>(
     let files = Texts {
         settings: source(paths.settings, &settings),
         other: Some(source(paths.journal, &journal)),
+        paths: &paths.plans,
+        plans: &plans,
+    };
+    *note = files.explained(rt.alloc(), &outcome);
+    Ok(outcome)
+}
+
+/// What the files of `draw` come to, where all can be read.
+fn draw<'a, R: Files + AllocGlobal>(
+    rt: &R,
+    paths: DrawPaths<'a>,
+    note: &mut Option<Vec<u8>>,
+) -> Result<Outcome<'a>, Unread<'a>>
+    requires { note.old ≡ None }
+    ensures explained { IfSome note.new (λ text. IsAbout (files_of (asked_draw paths.entry)) text.items) }
+    ensures comes { MatchResult result (λ outcome. ComesOf (asked_draw paths.entry) (seen outcome))
+        (λ why. ComesOf (asked_draw paths.entry) (stopped_by why)) }
+{
+    let settings = contents(rt, paths.settings)?;
+    let text = contents(rt, paths.journal)?;
+    let plans = contents_of_all(rt, &paths.plans)?;
+    let files = AuditFiles {
+        settings: settings.as_slice(),
+        journal: text.as_slice(),
+        plans: plans.as_slice(),
+    };
+    let outcome = outcome_of(rt.alloc(), Contents::Draw(files));
+    let files = Texts {
+        settings: source(paths.settings, &settings),
+        other: Some(source(paths.journal, &text)),
         paths: &paths.plans,
         plans: &plans,
     };

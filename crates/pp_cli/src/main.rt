@@ -1,5 +1,5 @@
 //! The program `pinpool`: makes and checks the certificates of plans for a page buffer pool, plays scripts over a pool,
-//! formats devices, runs plans over them, and audits journals.
+//! formats devices, runs plans over them, and audits and draws journals.
 #![tactic(auto)]
 
 mod bar;

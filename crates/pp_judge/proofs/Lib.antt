@@ -4,4 +4,5 @@ pub mod Judged
 pub mod Staged
 pub mod Rehearsed
 pub mod Audited
+pub mod Painted
 pub mod Ended

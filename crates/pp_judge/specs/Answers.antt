@@ -1,6 +1,7 @@
 -- What a run comes to: the answer, its status, and where it is told.
 use Rattle.std.specs.Prelude.{◌≡◌, ◌⊎◌, ◌+◌, ◌*◌, ℕ, Bool, true, false, List, Result, Ok, Err, if◌then◌else◌}
-use Rattle.std.specs.Prelude.{String, map, string_bytes}
+use Rattle.std.specs.Prelude.{String, map, string_bytes, ⊤}
+use Rattle.pp_text.specs.Steps.{Refuses}
 use Rattle.pp_cert.specs.Accepted.{Acceptance}
 use Rattle.pp_cert.specs.Limits.{step_events, plan_events}
 use Rattle.pp_core.specs.Opening.{kept_of}
@@ -12,13 +13,13 @@ use Rattle.pp_simulate.specs.declared.error.SimulateError.TheVariants.{Submit}
 use Rattle.pp_judge.specs.Judgement.{Stage, audited_in, certification, judgement, staged_in}
 use Rattle.pp_judge.specs.Steps.{is_want_of_memory}
 use Rattle.pp_judge.specs.declared.contents.Contents.{Contents}
-use Rattle.pp_judge.specs.declared.contents.Contents.TheVariants.{Check, Annotate, Simulate, Audit}
+use Rattle.pp_judge.specs.declared.contents.Contents.TheVariants.{Check, Annotate, Simulate, Audit, Draw}
 use Rattle.pp_judge.specs.declared.error.JudgeError.{JudgeError}
 use Rattle.pp_judge.specs.declared.error.JudgeError.TheVariants as judge_error
 use Rattle.pp_judge.specs.declared.outcome.Figures.{Figures}
 use Rattle.pp_judge.specs.declared.outcome.Outcome.{Outcome}
-use Rattle.pp_judge.specs.declared.outcome.Outcome.TheVariants.{Done, Made, Simulated, Formatted, Ran, Stopped, Audited, Shown}
-use Rattle.pp_judge.specs.declared.outcome.Outcome.TheVariants.{Refused, Misused, Wordless, Unread, Unwritten, OutOfMemory}
+use Rattle.pp_judge.specs.declared.outcome.Outcome.TheVariants.{Done, Made, Simulated, Formatted, Ran, Stopped, Audited, Drawn}
+use Rattle.pp_judge.specs.declared.outcome.Outcome.TheVariants.{Shown, Refused, Misused, Wordless, Unread, Unwritten, OutOfMemory}
 
 -- what a run comes to; texts are their bytes
 pub data Answer : Type 0 where
@@ -29,6 +30,7 @@ pub data Answer : Type 0 where
   ran : (report : List ℕ) → (is_well : Bool) → Answer
   stopped : (text : List ℕ) → Answer
   audited : (lines : ℕ) → Answer
+  drawn : (text : List ℕ) → Answer
   shown : (text : List ℕ) → Answer
   refused : JudgeError → Answer
   misused : (text : List ℕ) → Answer
@@ -46,6 +48,7 @@ seen (Formatted pages) = formatted pages
 seen (Ran report) = ran (string_bytes report.text) report.is_well
 seen (Stopped text) = stopped (string_bytes text)
 seen (Audited lines) = audited lines
+seen (Drawn text) = drawn (string_bytes text)
 seen (Shown text) = shown (string_bytes text)
 seen (Refused refusal) = refused refusal
 seen (Misused text) = misused (string_bytes text)
@@ -63,6 +66,7 @@ status_of (formatted pages) = 0
 status_of (ran report is_well) = if is_well then 0 else 3
 status_of (stopped text) = 1
 status_of (audited lines) = 0
+status_of (drawn text) = 0
 status_of (shown text) = 0
 status_of (refused refusal) = 1
 status_of (misused text) = 2
@@ -80,6 +84,7 @@ is_output_of (formatted pages) = true
 is_output_of (ran report is_well) = true
 is_output_of (stopped text) = true
 is_output_of (audited lines) = true
+is_output_of (drawn text) = true
 is_output_of (shown text) = true
 is_output_of (refused refusal) = true
 is_output_of (misused text) = false
@@ -123,6 +128,22 @@ answer_of_audit (Err refusal) = refused refusal
 abbrev pub audit_answer : (settings journal : List ℕ) → (plans : List (List ℕ)) → Answer
 audit_answer settings journal plans = answer_of_audit (audited_in settings journal plans)
 
+-- what may be answered where this is the verdict on a journal that is to be drawn: some picture of a true one, whose text no
+-- clause says; and else the refusal
+abbrev pub IsDrawingAnswer : Result ℕ JudgeError → Answer → Type 0
+IsDrawingAnswer (Err refusal) answer = answer ≡ refused refusal
+IsDrawingAnswer (Ok lines) (drawn text) = ⊤
+IsDrawingAnswer (Ok lines) _ = ⊥
+
+-- what drawing may end with where this is the verdict on the journal
+abbrev pub Draws : {Z : Type 0} → Result ℕ JudgeError → Result (String Z) JudgeError → Type 0
+Draws verdict (Ok text) = IsDrawingAnswer verdict (drawn (string_bytes text))
+Draws verdict (Err refusal) = Refuses (is_want_of_memory refusal) refusal verdict
+
+-- what the bytes of the files of `draw` may come to
+abbrev pub MayDraw : (settings journal : List ℕ) → (plans : List (List ℕ)) → Answer → Type 0
+MayDraw settings journal plans answer = IsDrawingAnswer (audited_in settings journal plans) answer
+
 -- a new pool with these settings takes the plans in up to one, which it refuses so
 pub record RefusesPlan (stage : Stage) (refusal : JudgeError) : Type 0 where
   pub error : SubmitError
@@ -155,6 +176,8 @@ MayAnswer (Simulate files) answer =
     MaySimulate files.settings.now files.script.now (map (λ plan. plan.items) files.plans.now) answer
 MayAnswer (Audit files) answer =
     answer ≡ audit_answer files.settings.now files.journal.now (map (λ plan. plan.items) files.plans.now)
+MayAnswer (Draw files) answer =
+    MayDraw files.settings.now files.journal.now (map (λ plan. plan.items) files.plans.now) answer
 
 -- the outcome is one of these answers, or want of memory
 abbrev pub MayCome : (Answer → Type 0) → Outcome → Type 0

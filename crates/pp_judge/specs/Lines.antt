@@ -10,8 +10,8 @@ use Rattle.pp_annotate.specs.Refusals.{annotate_error_row}
 use Rattle.pp_script.specs.Refusals.{script_error_row}
 use Rattle.pp_simulate.specs.Refusals.{simulate_error_row}
 use Rattle.pp_report.specs.Refusals.{audit_error_row}
-use Rattle.pp_judge.specs.Answers.{Answer, done, made, simulated, formatted, ran, stopped, audited, shown, refused}
-use Rattle.pp_judge.specs.Answers.{misused, wordless, unread, unwritten, out_of_memory}
+use Rattle.pp_judge.specs.Answers.{Answer, done, made, simulated, formatted, ran, stopped, audited, drawn, shown}
+use Rattle.pp_judge.specs.Answers.{refused, misused, wordless, unread, unwritten, out_of_memory}
 use Rattle.pp_judge.specs.declared.error.JudgeError.{JudgeError}
 use Rattle.pp_judge.specs.declared.error.JudgeError.TheVariants.{Settings, Script, Plan, Certificate, Check, Annotate}
 use Rattle.pp_judge.specs.declared.error.JudgeError.TheVariants.{Simulate, Audit}
@@ -46,6 +46,7 @@ text_of (formatted pages) = codes "formatted " ++ decimal pages ++ codes " pages
 text_of (ran report is_well) = report
 text_of (stopped text) = text
 text_of (audited lines) = codes "audited " ++ decimal lines ++ codes " lines\n"
+text_of (drawn text) = text
 text_of (shown text) = text
 text_of (refused refusal) = refusal_line refusal ++ codes "\n"
 text_of (misused text) = text

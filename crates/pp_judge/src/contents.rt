@@ -1,11 +1,12 @@
 //! What was asked for with the bytes of its files, and what these come to: one outcome, but where a script is played.
 
 ghost use Rattle.std.specs.Prelude.{map};
-ghost use Rattle.pp_judge.specs.Answers.{audit_answer, certification_answer, judgement_answer, ComesTo, MayAnswer};
-ghost use Rattle.pp_judge.specs.Answers.{MayCome, IsSimulationAnswer};
-ghost use Rattle.pp_judge.specs.Judgement.{staged_in};
+ghost use Rattle.pp_judge.specs.Answers.{audit_answer, certification_answer, judgement_answer, ComesTo, IsDrawingAnswer};
+ghost use Rattle.pp_judge.specs.Answers.{MayAnswer, MayCome, IsSimulationAnswer};
+ghost use Rattle.pp_judge.specs.Judgement.{audited_in, staged_in};
 
 use crate::auditing::audit;
+use crate::drawing::draw;
 use crate::judgement::{certify, judge};
 use crate::outcome::{Figures, Outcome};
 use crate::rehearsal::rehearse;
@@ -22,6 +23,8 @@ pub enum Contents<'a> {
     Simulate(SimulateFiles<'a>),
     /// A journal is audited.
     Audit(AuditFiles<'a>),
+    /// A journal is drawn.
+    Draw(AuditFiles<'a>),
 }
 
 /// The bytes of the three files of `check`.
@@ -55,7 +58,7 @@ pub struct SimulateFiles<'a> {
     pub plans: &'a [Vec<u8>],
 }
 
-/// The bytes of the files of `audit`.
+/// The bytes of the files of `audit` and of `draw`.
 #[derive(Clone, Copy, Debug)]
 pub struct AuditFiles<'a> {
     /// The bytes of the settings.
@@ -76,6 +79,7 @@ pub fn outcome_of<'a>(alloc: Global, contents: Contents<'_>) -> Outcome<'a>
         Contents::Annotate(files) => annotated(alloc, files),
         Contents::Simulate(files) => simulated(alloc, files),
         Contents::Audit(files) => audited(alloc, files),
+        Contents::Draw(files) => drawn(alloc, files),
     }
 }
 
@@ -119,6 +123,17 @@ fn audited<'a>(alloc: Global, files: AuditFiles<'_>) -> Outcome<'a>
 {
     match audit(alloc, files) {
         Ok(audited) => Outcome::Audited(audited.lines),
+        Err(refusal) => Outcome::from(refusal),
+    }
+}
+
+/// What the files of `draw` come to.
+fn drawn<'a>(alloc: Global, files: AuditFiles<'_>) -> Outcome<'a>
+    ensures { MayCome (IsDrawingAnswer (audited_in files.entry.settings.now files.entry.journal.now
+        (map (λ plan. plan.items) files.entry.plans.now))) result }
+{
+    match draw(alloc, files) {
+        Ok(text) => Outcome::Drawn(text),
         Err(refusal) => Outcome::from(refusal),
     }
 }

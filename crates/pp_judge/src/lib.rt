@@ -4,6 +4,7 @@
 mod auditing;
 mod contents;
 mod device;
+mod drawing;
 mod error;
 mod judgement;
 mod outcome;
@@ -13,6 +14,7 @@ mod workload;
 pub use auditing::audit;
 pub use contents::{AnnotateFiles, AuditFiles, CheckFiles, Contents, SimulateFiles, outcome_of};
 pub use device::{DeviceSize, device_size};
+pub use drawing::draw;
 pub use error::JudgeError;
 pub use judgement::{certify, judge};
 pub use outcome::{Figures, Outcome, RunReport};

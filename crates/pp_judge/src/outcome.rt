@@ -26,6 +26,8 @@ pub enum Outcome<'a> {
     Stopped(String),
     /// A journal with so many lines is a true one.
     Audited(u64),
+    /// The picture of a true journal, which ends with a line feed.
+    Drawn(String),
     /// The help or the version, which ends with a line feed.
     Shown(String),
     /// A file is refused, or the certificate.
@@ -96,6 +98,7 @@ impl Outcome<'_> {
             | Outcome::Simulated(_)
             | Outcome::Formatted(_)
             | Outcome::Audited(_)
+            | Outcome::Drawn(_)
             | Outcome::Shown(_) => 0,
             Outcome::Ran(report) if report.is_well => 0,
             Outcome::Refused(_) | Outcome::Stopped(_) => 1,
@@ -117,6 +120,7 @@ impl Outcome<'_> {
             | Outcome::Ran(_)
             | Outcome::Stopped(_)
             | Outcome::Audited(_)
+            | Outcome::Drawn(_)
             | Outcome::Shown(_)
             | Outcome::Refused(_) => true,
             Outcome::Misused(_)
@@ -142,6 +146,7 @@ impl fmt::Display for Outcome<'_> {
             Outcome::Refused(refusal) => writeln!(f, "{refusal}"),
             Outcome::Simulated(text)
             | Outcome::Stopped(text)
+            | Outcome::Drawn(text)
             | Outcome::Shown(text)
             | Outcome::Misused(text) => f.write_str(text.as_str()),
             Outcome::Wordless => f.write_str("error: the words can't be read\n"),

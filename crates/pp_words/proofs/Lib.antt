@@ -7,6 +7,7 @@ pub mod PlainSimulate
 pub mod PlainFormat
 pub mod PlainRun
 pub mod PlainAudit
+pub mod PlainDraw
 pub mod Numbers
 pub mod Commands
 pub mod PlainWords

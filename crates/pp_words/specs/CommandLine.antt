@@ -21,8 +21,9 @@ use Rattle.pp_words.specs.declared.simulate.SimulatePaths.{SimulatePaths}
 use Rattle.pp_words.specs.declared.format.FormatPaths.{FormatPaths}
 use Rattle.pp_words.specs.declared.run.RunPaths.{RunPaths}
 use Rattle.pp_words.specs.declared.audit.AuditPaths.{AuditPaths}
+use Rattle.pp_words.specs.declared.draw.DrawPaths.{DrawPaths}
 use Rattle.pp_words.specs.declared.request.Job.{Job}
-use Rattle.pp_words.specs.declared.request.Job.TheVariants.{Check, Annotate, Simulate, Format, Run, Audit}
+use Rattle.pp_words.specs.declared.request.Job.TheVariants.{Check, Annotate, Simulate, Format, Run, Audit, Draw}
 
 -- a path that has to be given, as a word of its own
 abbrev pub path_rule : Text → Rule
@@ -75,6 +76,12 @@ audit_command =
     with_rule (with_rule (with_rule (new_app (codes "audit")) (path_rule (codes "settings")))
     (path_rule (codes "journal"))) (paths_rule (codes "plans"))
 
+-- `draw SETTINGS JOURNAL PLAN...`
+abbrev pub draw_command : App
+draw_command =
+    with_rule (with_rule (with_rule (new_app (codes "draw")) (path_rule (codes "settings")))
+    (path_rule (codes "journal"))) (paths_rule (codes "plans"))
+
 -- the program without its commands: it has a version, and wants a command
 abbrev pub program_alone : App
 program_alone = on_top (λ shape. record shape {
@@ -83,12 +90,12 @@ program_alone = on_top (λ shape. record shape {
   arg_required_else_help = true;
 }) (new_app (codes "pinpool"))
 
--- the program with its commands `check`, `annotate`, `simulate`, `format`, `run` and `audit`
+-- the program with its commands `check`, `annotate`, `simulate`, `format`, `run`, `audit` and `draw`
 abbrev pub program : App
 program =
-    with_subcommand (with_subcommand (with_subcommand (with_subcommand (with_subcommand (with_subcommand program_alone
-    check_command.top) annotate_command.top) simulate_command.top) format_command.top) run_command.top)
-    audit_command.top
+    with_subcommand (with_subcommand (with_subcommand (with_subcommand (with_subcommand (with_subcommand (with_subcommand
+    program_alone check_command.top) annotate_command.top) simulate_command.top) format_command.top) run_command.top)
+    audit_command.top) draw_command.top
 
 -- what words ask for: a command with the paths of its files
 pub data Asked : Type 0 where
@@ -98,6 +105,7 @@ pub data Asked : Type 0 where
   format : (settings device : Text) → Asked
   run : (journal : Option Text) → (settings device : Text) → (seed : ℕ) → (plans : List Text) → Asked
   audit : (settings journal : Text) → (plans : List Text) → Asked
+  draw : (settings journal : Text) → (plans : List Text) → Asked
 
 -- a check of three files
 abbrev pub asked_check : CheckPaths → Asked
@@ -127,6 +135,10 @@ asked_run p = run (option_map (λ text. text.now) p.journal) p.settings.now p.de
 abbrev pub asked_audit : AuditPaths → Asked
 asked_audit p = audit p.settings.now p.journal.now (texts p.plans.items)
 
+-- a journal drawn with the plans of some files
+abbrev pub asked_draw : DrawPaths → Asked
+asked_draw p = draw p.settings.now p.journal.now (texts p.plans.items)
+
 -- what a job does
 abbrev pub asked_by : Job → Asked
 asked_by (Check p) = asked_check p
@@ -135,6 +147,7 @@ asked_by (Simulate p) = asked_simulate p
 asked_by (Format p) = asked_format p
 asked_by (Run p) = asked_run p
 asked_by (Audit p) = asked_audit p
+asked_by (Draw p) = asked_draw p
 
 -- the first value of an argument; the arguments of the commands are required, so they have one
 abbrev pub value_among : List Row → Text → Text
@@ -181,6 +194,11 @@ abbrev pub audit_among : List Row → Asked
 audit_among rows = audit (value_among rows (codes "settings")) (value_among rows (codes "journal"))
     (values_among rows (codes "plans"))
 
+-- the values of the arguments of `draw`
+abbrev pub draw_among : List Row → Asked
+draw_among rows = draw (value_among rows (codes "settings")) (value_among rows (codes "journal"))
+    (values_among rows (codes "plans"))
+
 -- what a command of this name with the values of its arguments asks for
 abbrev pub asked_of : Option (Text × List Row) → Option Asked
 asked_of None = None
@@ -191,6 +209,7 @@ asked_of (Some command) =
     else if bytes_eq command.0 (codes "format") then Some (format_among command.1)
     else if bytes_eq command.0 (codes "run") then Some (run_among command.1)
     else if bytes_eq command.0 (codes "audit") then Some (audit_among command.1)
+    else if bytes_eq command.0 (codes "draw") then Some (draw_among command.1)
     else None
 
 -- what is found, where there is no fault
@@ -234,3 +253,7 @@ pub record PlainWordsAreThePaths : Type 0 where
       → is_plain_word journal ≡ true → is_plain_word plan ≡ true → All IsPlainWord plans
       → asked (name ∷ codes "audit" ∷ settings ∷ journal ∷ plan ∷ plans)
       ≡ Some (audit settings journal (plan ∷ plans))
+  pub draw : (name settings journal plan : Text) (plans : List Text) → is_plain_word settings ≡ true
+      → is_plain_word journal ≡ true → is_plain_word plan ≡ true → All IsPlainWord plans
+      → asked (name ∷ codes "draw" ∷ settings ∷ journal ∷ plan ∷ plans)
+      ≡ Some (draw settings journal (plan ∷ plans))

@@ -4,6 +4,7 @@
 mod annotate;
 mod audit;
 mod check;
+mod draw;
 mod format;
 mod parts;
 mod request;
@@ -14,6 +15,7 @@ mod words;
 pub use annotate::AnnotatePaths;
 pub use audit::AuditPaths;
 pub use check::CheckPaths;
+pub use draw::DrawPaths;
 pub use format::FormatPaths;
 pub use request::{Job, JobError};
 pub use run::RunPaths;

@@ -6,6 +6,7 @@ ghost use Rattle.pp_words.specs.declared.request.JobError.TheVariants.{OutOfMemo
 use crate::annotate::AnnotatePaths;
 use crate::audit::AuditPaths;
 use crate::check::CheckPaths;
+use crate::draw::DrawPaths;
 use crate::format::FormatPaths;
 use crate::run::RunPaths;
 use crate::simulate::SimulatePaths;
@@ -27,6 +28,8 @@ pub enum Job<'a> {
     Run(RunPaths<'a>),
     /// Say whether a journal is a true one: `audit SETTINGS JOURNAL PLAN...`.
     Audit(AuditPaths<'a>),
+    /// Draw a true journal: `draw SETTINGS JOURNAL PLAN...`.
+    Draw(DrawPaths<'a>),
 }
 
 /// Why words give no job.

@@ -9,6 +9,7 @@ ghost use Rattle.pp_words.specs.Texts.{is_ended, with_line_feed, IsSaid};
 use crate::annotate::AnnotatePaths;
 use crate::audit::AuditPaths;
 use crate::check::CheckPaths;
+use crate::draw::DrawPaths;
 use crate::format::FormatPaths;
 use crate::request::{Job, JobError};
 use crate::run::RunPaths;
@@ -57,13 +58,15 @@ fn command<'a>(alloc: Global) -> Result<Command<'a>, AllocError>
     let format = FormatPaths::command(alloc)?;
     let run = RunPaths::command(alloc)?;
     let audit = AuditPaths::command(alloc)?;
+    let draw = DrawPaths::command(alloc)?;
     let command = top(alloc)?
         .subcommand(check)?
         .subcommand(annotate)?
         .subcommand(simulate)?
         .subcommand(format)?
         .subcommand(run)?
-        .subcommand(audit)?;
+        .subcommand(audit)?
+        .subcommand(draw)?;
     Ok(command)
 }
 
@@ -75,7 +78,7 @@ fn top<'a>(alloc: Global) -> Result<Command<'a>, AllocError>
         .version("0.1.0")
         .about(
             "Makes and checks the certificates of plans for a page buffer pool, plays scripts over a pool, formats \
-            devices, runs plans over them, and audits journals.",
+            devices, runs plans over them, and audits and draws journals.",
         )
         .subcommand_required(true)
         .arg_required_else_help(true);
@@ -95,6 +98,7 @@ fn job_of<'a>(alloc: Global, matches: &ArgMatches<'a>) -> Result<Option<Job<'a>>
         Some(("format", given)) => Job::Format(FormatPaths::among(given)),
         Some(("run", given)) => Job::Run(RunPaths::among(alloc, given)?),
         Some(("audit", given)) => Job::Audit(AuditPaths::among(alloc, given)?),
+        Some(("draw", given)) => Job::Draw(DrawPaths::among(alloc, given)?),
         _ => return Ok(None),
     };
     Ok(Some(job))

@@ -14,7 +14,7 @@ fn words_are_told(rt: HostRuntime) -> Result<(), Fail> {
             For more information, try '--help'.\n",
     );
     run(&rt, &["pinpool", "check", "--", "-a", "-b", "-c"])?.is(&rt, 3, "", "fault reading -a\n");
-    let rows: [(u8, &[&str], &str); 29] = [
+    let rows: [(u8, &[&str], &str); 32] = [
         (0, &["pinpool", "--help"], "Usage: pinpool <COMMAND>"),
         (0, &["pinpool", "help"], "\n  check "),
         (0, &["pinpool", "-h"], "\n  annotate "),
@@ -22,6 +22,7 @@ fn words_are_told(rt: HostRuntime) -> Result<(), Fail> {
         (0, &["pinpool", "--help"], "\n  format "),
         (0, &["pinpool", "--help"], "\n  run "),
         (0, &["pinpool", "--help"], "\n  audit "),
+        (0, &["pinpool", "--help"], "\n  draw "),
         (
             0,
             &["pinpool", "check", "--help"],
@@ -51,6 +52,11 @@ fn words_are_told(rt: HostRuntime) -> Result<(), Fail> {
             0,
             &["pinpool", "audit", "--help"],
             "Usage: pinpool audit <SETTINGS> <JOURNAL> <PLAN>...",
+        ),
+        (
+            0,
+            &["pinpool", "draw", "--help"],
+            "Usage: pinpool draw <SETTINGS> <JOURNAL> <PLAN>...",
         ),
         (2, &["pinpool"], "Usage: pinpool <COMMAND>"),
         (2, &["another"], "Usage: pinpool <COMMAND>"),
@@ -89,6 +95,7 @@ fn words_are_told(rt: HostRuntime) -> Result<(), Fail> {
         ),
         (2, &["pinpool", "audit", "a"], "<JOURNAL>"),
         (2, &["pinpool", "audit", "a", "b"], "<PLAN>..."),
+        (2, &["pinpool", "draw", "a", "b"], "<PLAN>..."),
         (2, &["pinpool", "format", "a", "b", "c"], "'c'"),
     ];
     for (status, words, part) in rows {

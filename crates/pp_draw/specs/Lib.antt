@@ -1,0 +1,4 @@
+pub mod Columns
+pub mod Counted
+pub mod Drawing
+pub mod Walks

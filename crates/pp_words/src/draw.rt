@@ -1,0 +1,66 @@
+//! The command `draw SETTINGS JOURNAL PLAN...`.
+
+ghost use Rattle.std.specs.Prelude.{◌≡◌, IfOk, false};
+ghost use Rattle.clap.specs.Words.{app_of, found_of, rows_of};
+ghost use Rattle.clap.specs.declared.builder.command.Command.TheViews.{out-Command};
+ghost use Rattle.pp_words.specs.CommandLine.{asked_draw, draw_among, draw_command};
+
+use crate::parts::{path, paths, settings, value_of, values_of};
+use clap::{ArgMatches, Command};
+use std::alloc::{AllocError, Global};
+
+/// The files of `draw`, by their paths, in the order of the words.
+#[derive(Debug, Drop)]
+pub struct DrawPaths<'a> {
+    /// The settings of the pool, a TOML text.
+    pub settings: &'a str,
+    /// The journal, a text with an event on each line.
+    pub journal: &'a str,
+    /// The plans that the journal is of, in the order in which they were submitted: JSON texts. There is one at least.
+    pub plans: Vec<&'a str>,
+}
+
+impl<'a> DrawPaths<'a> {
+    /// The command with its arguments.
+    pub fn command(alloc: Global) -> Result<Command<'a>, AllocError>
+        ensures { IfOk result (λ command. ((out-Command command).has_globals ≡ false)
+            × (app_of command ≡ draw_command)) }
+    {
+        let journal = path(
+            alloc,
+            "journal",
+            "JOURNAL",
+            "The journal of a run, an event on each line: a text",
+        );
+        let plans = paths(
+            alloc,
+            "plans",
+            "PLAN",
+            "The plans of the run, in the order in which it took them: JSON texts",
+        );
+        Command::new(alloc, "draw")
+            .after_help(
+                "Example: pinpool draw examples/one-worker.toml nine.journal examples/pin.json > nine.svg\n\
+                \n\
+                Status: 0 drawn, 1 refused, 2 a bad command line, 3 a file that can't be read, 4 out of memory.\n\
+                A refusal is one line on standard output; standard error says where and why.\n\
+                Limits: 256 plans, and 4,000,000 moves by their costs; 4,000 columns, rows for 64 frames.\n\
+                Read on: docs/formats.md, Pictures.",
+            )
+            .about("Draws a true journal of these plans as a picture, an SVG text.")
+            .arg(settings(alloc))?
+            .arg(journal)?
+            .arg(plans)
+    }
+
+    /// The paths among the matches of the command.
+    pub fn among(alloc: Global, matches: &ArgMatches<'a>) -> Result<DrawPaths<'a>, AllocError>
+        ensures { IfOk result (λ paths. asked_draw paths ≡ draw_among (rows_of (found_of matches.now))) }
+    {
+        Ok(DrawPaths {
+            settings: value_of(matches, "settings"),
+            journal: value_of(matches, "journal"),
+            plans: values_of(alloc, matches, "plans")?,
+        })
+    }
+}
