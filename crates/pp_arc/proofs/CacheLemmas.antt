@@ -25,7 +25,7 @@ use Rattle.pp_arc.proofs.StepLemmas.{times_in-cached, times_in-not_cached}
 abbrev pub times_cached : FourLists → ℕ → ℕ
 times_cached s q = times_in s.t1 q + times_in s.t2 q
 
-is_cached-times : (s : FourLists) (q : ℕ) → 1 ≤ times_cached s q → is_cached s q ≡ true
+pub is_cached-times : (s : FourLists) (q : ℕ) → 1 ≤ times_cached s q → is_cached s q ≡ true
 is_cached-times s q n =
     elim (cases_Bool (is_cached s q)) [ inl e ↦ e | inr e ↦ absurd (omega (arith, times_in-not_cached s q e)) ]
 
@@ -274,3 +274,25 @@ CachesAgain-bring_back s x v q = (forth, back)
     back : (q ≡ v) ⊎ ((is_cached s q ≡ true) × (q ≢ x)) → is_cached (bring_back s x v) q ≡ true
     back (inl e) = (instead q).1 (inl e)
     back (inr k) = let other : Evict x ≢ Evict q = λ e. k.1 (cc) in (instead q).1 (inr (k.0, other))
+
+-- a page that is given up
+CachesWithout-leaves : (s t : FourLists) (v : ℕ) → Leaves s t (Evict v) → CachesWithout s t v
+unfolding Leaves
+CachesWithout-leaves s t v left q = (forth, back)
+  where
+    forth : is_cached t q ≡ true → (is_cached s q ≡ true) × (q ≢ v)
+    forth here = elim (evicts (Evict v) q) [
+      | inl e ↦ absurd (omega (arith, times_in-cached t q here, (left q).0 e))
+      | inr ne ↦ (
+        is_cached-times s q (omega (arith, times_in-cached t q here, (left q).1 ne)),
+        λ same. ne (ap Evict (sym same)),
+      )
+    ]
+
+    back : (is_cached s q ≡ true) × (q ≢ v) → is_cached t q ≡ true
+    back k = let other : Evict v ≢ Evict q = λ e. k.1 (cc) in
+        is_cached-times t q (omega (arith, times_in-cached s q k.0, (left q).1 other))
+
+pub CachesWithout-with_remembered : (s : FourLists) (v : ℕ) → IsWithinBounds s → CachesWithout s (with_remembered s v) v
+CachesWithout-with_remembered s v h =
+    CachesWithout-leaves s (with_remembered s v) v (Leaves-with_remembered s v (omega (arith, h.once v)))

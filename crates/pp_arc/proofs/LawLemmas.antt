@@ -34,7 +34,7 @@ AllCachedAreBusy-none s busy e f x here = go (contains s.t1 x) refl
     go true k = all_busy-last_not_busy s.t1 busy x e k
     go false k = let there : contains s.t2 x ≡ true = rw k at here in all_busy-last_not_busy s.t2 busy x f there
 
-busy-either : (s : FourLists) (busy : ℕ → Bool) (v : ℕ)
+pub busy-either : (s : FourLists) (busy : ℕ → Bool) (v : ℕ)
     → (last_not_busy s.t1 busy ≡ Some v) ⊎ (last_not_busy s.t2 busy ≡ Some v) → busy v ≡ false
 busy-either s busy v (inl h) = busy-last_not_busy s.t1 busy v h
 busy-either s busy v (inr h) = busy-last_not_busy s.t2 busy v h

@@ -13,3 +13,5 @@ pub mod WriteLemmas
 pub mod LinkLemmas
 pub mod LookLemmas
 pub mod FreshLemmas
+pub mod SizeLemmas
+pub mod RenameLemmas

@@ -10,7 +10,7 @@ use Rattle.std.proofs.lemmas.Grind.{reverse_onto}
 use Rattle.pp_arc.specs.declared.list.List.{List as ListName}
 use Rattle.pp_arc.specs.declared.list.List.TheVariants.{T1, T2, B1, B2}
 use Rattle.pp_arc.specs.declared.links.Record.{Record}
-use Rattle.pp_arc.specs.Pages.{times_in, without, without_last, next_after, last_not_busy}
+use Rattle.pp_arc.specs.Pages.{times_in, without, without_last, next_after, last_not_busy, last_page}
 use Rattle.pp_arc.specs.FourLists.{FourLists, list_of, place, after}
 use Rattle.pp_arc.specs.Figure.{forget}
 use Rattle.pp_arc.specs.Links.{code, page_at, without_last_of}
@@ -236,3 +236,15 @@ forget-last d s l k o h view ck eo = rw (← view, e) (go l refl)
     go T2 same = rw (own T2 same, other T1 (λ w. cc), other B1 (λ w. cc), other B2 (λ w. cc)) refl
     go B1 same = rw (own B1 same, other T1 (λ w. cc), other T2 (λ w. cc), other B2 (λ w. cc)) refl
     go B2 same = rw (own B2 same, other T1 (λ w. cc), other T2 (λ w. cc), other B1 (λ w. cc)) refl
+
+-- what a head leads back to
+pub last_at : (d : Content) (s : FourLists) (l : ListName) (k : ℕ) (o : Record) → IsSound d → lists_in d ≡ s
+    → k ≡ code l → o ≡ get_or d.records (d.pages + k) o
+    → page_at s.pages o.before ≡ last_page (list_of s l)
+last_at d s l k o h view ck eo =
+    let t : Table = table_of d.pages d.records in
+    let e : o ≡ get_or d.records (head_at d.pages l) blank = read d.records (head_at d.pages l) o
+    (omega (arith, h.size, code_below l)) (rw ck at eo) in
+    rw (← view, ap (λ (w : Record). w.before) e) (front-Linked d.pages t.before t.after
+    (reverse (list_of (lists_in d) l)) (head_at d.pages l) (head_at d.pages l) (λ i k. back_below d l i h k)
+    (omega arith) (back_ring d l h))

@@ -22,3 +22,9 @@ CachesWithout old new page =
 abbrev pub CachesAgain : FourLists → FourLists → ℕ → ℕ → Type 0
 CachesAgain old new page victim =
     (x : ℕ) → IsTrue (is_cached new x) ↔ ((x ≡ victim) ⊎ (IsTrue (is_cached old x) × (x ≢ page)))
+
+-- the new cache has the page `name` where the old one had `page`, and else what it had, but for these two
+abbrev pub CachesRenamed : FourLists → FourLists → ℕ → ℕ → Type 0
+CachesRenamed old new page name =
+    (x : ℕ) → IsTrue (is_cached new x)
+    ↔ (((x ≡ name) × IsTrue (is_cached old page)) ⊎ (IsTrue (is_cached old x) × (x ≢ page) × (x ≢ name)))

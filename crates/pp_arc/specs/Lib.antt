@@ -5,5 +5,6 @@ pub mod Bounds
 pub mod Figure
 pub mod Laws
 pub mod Links
+pub mod Sizes
 pub mod Table
 pub mod Fields

@@ -1,9 +1,9 @@
 -- What the steps of a table of links do to the four lists.
-use Rattle.std.specs.Prelude.{ℕ, ◌∷◌, nat_lt, Option, None, Some, if◌then◌else◌}
+use Rattle.std.specs.Prelude.{ℕ, List, ◌∷◌, take, nat_lt, Option, None, Some, if◌then◌else◌}
 use Rattle.pp_arc.specs.declared.list.List.{List as ListName}
 use Rattle.pp_arc.specs.declared.list.List.TheVariants.{T1, T2, B1, B2}
 use Rattle.pp_arc.specs.Pages.{without_last}
-use Rattle.pp_arc.specs.FourLists.{FourLists}
+use Rattle.pp_arc.specs.FourLists.{FourLists, list_of}
 
 -- the number of a list among the four
 abbrev pub code : ListName → ℕ
@@ -25,6 +25,17 @@ without_last_of s T1 = record s { t1 = without_last s.t1 }
 without_last_of s T2 = record s { t2 = without_last s.t2 }
 without_last_of s B1 = record s { b1 = without_last s.b1 }
 without_last_of s B2 = record s { b2 = without_last s.b2 }
+
+-- the list of this name is this one
+abbrev pub with_list : FourLists → ListName → List ℕ → FourLists
+with_list s T1 xs = record s { t1 = xs }
+with_list s T2 xs = record s { t2 = xs }
+with_list s B1 xs = record s { b1 = xs }
+with_list s B2 xs = record s { b2 = xs }
+
+-- the list of this name keeps its first n pages
+abbrev pub with_first : FourLists → ListName → ℕ → FourLists
+with_first s list n = with_list s list (take n (list_of s list))
 
 -- the page of a node, which is the node's number; a node from `pages` on is a head's, and has none
 abbrev pub page_at : ℕ → ℕ → Option ℕ

@@ -1,16 +1,18 @@
 //! ARC's directory: the request, a page forgotten, and a victim brought back.
 
 ghost use Rattle.std.specs.Prelude.{◌≡◌, ◌≢◌, ℕ, ◌+◌, ◌*◌, ◌^◌, ◌<◌, ◌≤◌, ◌⊎◌, ◌↔◌, ◌==◌, if◌then◌else◌, is_none, Bool};
-ghost use Rattle.std.specs.Prelude.{true, false, List, [], ◌∷◌, length, Option, Some, None, IsTrue, IsFalse, IfOk};
+ghost use Rattle.std.specs.Prelude.{true, false, List, [], ◌∷◌, length, Option, Some, None, IsTrue, IsFalse, IfOk, IfSome};
 ghost use Rattle.std.specs.Prelude.{slice_get};
-ghost use Rattle.pp_arc.specs.Pages.{times_in, contains};
+ghost use Rattle.std.specs.Prelude.{IsNone};
+ghost use Rattle.pp_arc.specs.Pages.{times_in, contains, last_page};
 ghost use Rattle.pp_arc.specs.FourLists.{empty_lists, list_of, cached_count, recent_count, total_count, times_named};
 ghost use Rattle.pp_arc.specs.FourLists.{is_cached, place, after};
 ghost use Rattle.pp_arc.specs.Bounds.{IsWithinBounds};
-ghost use Rattle.pp_arc.specs.Laws.{AllCachedAreBusy, CachesInstead, CachesWithout, CachesAgain};
+ghost use Rattle.pp_arc.specs.Laws.{AllCachedAreBusy, CachesInstead, CachesWithout, CachesAgain, CachesRenamed};
 ghost use Rattle.pp_arc.specs.Figure.{forget, with_front_of_t1, with_front_of_t2, with_remembered, raised_target};
 ghost use Rattle.pp_arc.specs.Figure.{lowered_target, victim, replacement, after_replace, replace_in_t1, room_for_new};
 ghost use Rattle.pp_arc.specs.Figure.{without_last_of_b1, without_last_of_b2, is_all_busy, request, bring_back};
+ghost use Rattle.pp_arc.specs.Sizes.{dropped_name, given_up, after_giving_up, renamed, resized, with_pages};
 
 use crate::links::Links;
 use crate::{Answer, Busy, List};
@@ -67,6 +69,14 @@ impl Directory {
         })
     }
 
+    /// How many pages the cache holds at most.
+    pub fn size(&self) -> u32
+        ensures size { result ≡ self.now.c }
+        ensures bounds { IsWithinBounds self.now }
+    {
+        self.c
+    }
+
     /// The size that `T1` should have, from 0 to `c`.
     pub fn target(&self) -> u32
         ensures target { result ≡ self.now.target }
@@ -89,6 +99,16 @@ impl Directory {
         ensures bounds { IsWithinBounds self.now }
     {
         self.links.front(list)
+    }
+
+    /// The last page of the list, which is its least recent, if it has one.
+    pub fn last(&self, list: List) -> Option<u32>
+        ensures last { result ≡ last_page (list_of self.now list) }
+        ensures stands { (page : ℕ) → result ≡ Some page → IsTrue (contains (list_of self.now list) page) }
+        ensures empty { result ≡ None → length (list_of self.now list) ≡ 0 }
+        ensures bounds { IsWithinBounds self.now }
+    {
+        self.links.last(list)
     }
 
     /// The next less recent page of the list in which this page stands.
@@ -169,6 +189,105 @@ impl Directory {
         self.links.place_below(page)
     }
 
+    /// The remembered name that the request for this page drops, if it drops one.
+    ///
+    /// Where the answer to the request is [`Answer::AllBusy`], it drops none. A victim that leaves a `T1` that is all
+    /// of the cache is remembered nowhere: the answer names it.
+    pub fn dropped_name(&self, page: u32) -> Option<u32>
+        ensures dropped { result ≡ dropped_name self.now page }
+        ensures bounds { IsWithinBounds self.now }
+    {
+        if self.place(page).is_some() {
+            return None;
+        }
+        let c = self.c as usize;
+        let t1 = self.links.len(List::T1);
+        let recent = t1 + self.links.len(List::B1);
+        let named = recent + self.links.len(List::T2) + self.links.len(List::B2);
+        if recent == c {
+            self.links.last(List::B1)
+        } else if named == 2 * c {
+            self.links.last(List::B2)
+        } else {
+            None
+        }
+    }
+
+    /// Gives up one cached page, though no page comes in: the one that REPLACE would take leaves the cache, and its
+    /// name is remembered. None where each cached page is busy; then nothing changes.
+    pub fn give_up<B: Busy>(&mut self, busy: &B) -> Option<u32>
+        ensures victim { result ≡ given_up self.old (B.busy busy.now) }
+        ensures all_busy { IsNone result ↔ AllCachedAreBusy self.old (B.busy busy.now) }
+        ensures lists { self.new ≡ after_giving_up self.old result }
+        ensures was_cached { IfSome result (λ v. IsTrue (is_cached self.old v)) }
+        ensures is_not_busy { IfSome result (λ v. IsFalse (B.busy busy.now v)) }
+        ensures fewer { IfSome result (λ _. cached_count self.new + 1 ≡ cached_count self.old) }
+        ensures cache { IfSome result (λ v. CachesWithout self.old self.new v) }
+        ensures bounds { IsWithinBounds self.new }
+    {
+        let page = self.page_to_give_up(busy)?;
+        self.demote(page);
+        Some(page)
+    }
+
+    /// The page that leaves where the cache gives up one. Nothing changes yet.
+    fn page_to_give_up<B: Busy>(&self, busy: &B) -> Option<u32>
+        ensures victim { result ≡ given_up self.now (B.busy busy.now) }
+        ensures all_busy { IsNone result ↔ AllCachedAreBusy self.now (B.busy busy.now) }
+        ensures is_cached { IfSome result (λ v. IsTrue (is_cached self.now v)) }
+        ensures is_not_busy { IfSome result (λ v. IsFalse (B.busy busy.now v)) }
+        ensures bounds { IsWithinBounds self.now }
+    {
+        self.victim(self.target, false, busy)
+    }
+
+    /// Gives the page of the name `old` the name `new`: it stays in its list, and stands at its front.
+    ///
+    /// What had the name `new` is forgotten. Where `old` stands nowhere, nothing else changes.
+    pub fn rename(&mut self, old: u32, new: u32)
+        requires below { new < self.old.pages }
+        ensures lists { self.new ≡ renamed self.old old new }
+        ensures cache { CachesRenamed self.old self.new old new }
+        ensures bounds { IsWithinBounds self.new }
+    {
+        self.links.rename(old, new);
+    }
+
+    /// Makes the cache one of `c` pages: so many are cached at most.
+    ///
+    /// The target falls to `c` at most, and `B1` and then `B2` lose their last names until the bounds hold. More room
+    /// keeps all.
+    pub fn resize(&mut self, c: u32)
+        requires holds_a_page { 1 ≤ c }
+        requires cached { cached_count self.old ≤ c }
+        ensures lists { self.new ≡ resized self.old c }
+        ensures bounds { IsWithinBounds self.new }
+    {
+        let size = c as usize;
+        let t1 = self.links.len(List::T1);
+        let cached = t1 + self.links.len(List::T2);
+        self.links.cut(List::B1, size - t1);
+        let named = cached + self.links.len(List::B1);
+        self.links.cut(List::B2, 2 * size - named);
+        self.target = self.target.min(c);
+        self.c = c;
+    }
+
+    /// Moves the lists into a larger directory, which is empty. This takes no memory: [`Directory::new`] got it.
+    pub fn move_into(&mut self, larger: Directory)
+        requires more { self.old.pages ≤ larger.pages }
+        requires empty { larger ≡ empty_lists larger.c larger.pages }
+        ensures lists { self.new ≡ with_pages self.old larger.pages }
+        ensures bounds { IsWithinBounds self.new }
+    {
+        let Directory {
+            c: _,
+            target: _,
+            links,
+        } = larger;
+        self.links.move_into(links);
+    }
+
     /// Takes the page out of its list. A page that stands nowhere changes nothing.
     pub fn forget(&mut self, page: u32)
         ensures lists { self.new ≡ forget self.old page }
@@ -177,6 +296,7 @@ impl Directory {
         ensures cache { CachesWithout self.old self.new page }
         ensures room { IsTrue (is_cached self.old page)
             → (cached_count self.new < self.new.c) × (total_count self.new < 2 * self.new.c) }
+        ensures fewer { IsTrue (is_cached self.old page) → cached_count self.new + 1 ≡ cached_count self.old }
     {
         self.links.take_out(page);
     }

@@ -1,11 +1,13 @@
 //! Four lists of page numbers in one table of linked records.
 
 ghost use Rattle.std.specs.Prelude.{◌≡◌, ◌≢◌, ℕ, ◌+◌, ◌^◌, ◌<◌, ◌≤◌, ◌==◌, [], ◌∷◌, length, IfOk, IfSome, slice_get};
-ghost use Rattle.std.specs.Prelude.{Some, None};
-ghost use Rattle.pp_arc.specs.Pages.{last_not_busy, next_after};
-ghost use Rattle.pp_arc.specs.FourLists.{empty_lists, list_of, place, after};
+ghost use Rattle.std.specs.Prelude.{Some, None, ◌++◌};
+ghost use Rattle.pp_arc.specs.Pages.{last_not_busy, next_after, last_page};
+ghost use Rattle.pp_arc.specs.FourLists.{empty_lists, list_of, place, after, times_named};
 ghost use Rattle.pp_arc.specs.Figure.{forget};
-ghost use Rattle.pp_arc.specs.Links.{code, with_front, without_last_of, page_at};
+ghost use Rattle.pp_arc.specs.Links.{code, with_front, without_last_of, with_list, with_first, page_at};
+ghost use Rattle.pp_arc.specs.Sizes.{with_pages, renamed};
+ghost use Rattle.pp_arc.specs.declared.list.List.{List as ListName};
 
 use crate::{Busy, List};
 use std::alloc::{AllocError, Global};
@@ -137,6 +139,14 @@ impl Links {
         self.page_at(self.records[head as usize].after)
     }
 
+    /// The last page of the list, if it has one.
+    pub(crate) fn last(&self, list: List) -> Option<u32>
+        ensures { result ≡ last_page (list_of self.now list) }
+    {
+        let head = self.pages + code_of(list);
+        self.page_at(self.records[head as usize].before)
+    }
+
     /// The next less recent page of the list in which this page stands.
     pub(crate) fn after(&self, page: u32) -> Option<u32>
         ensures { result ≡ after self.now page }
@@ -215,6 +225,20 @@ impl Links {
         }
     }
 
+    /// Gives what stands under the name `old` the name `new`, and puts it at the front of its list.
+    pub(crate) fn rename(&mut self, old: u32, new: u32)
+        requires below { new < self.old.pages }
+        requires room { (list : ListName) → length (list_of self.old list) < 2 ^ 63 }
+        ensures { self.new ≡ renamed self.old old new }
+    {
+        let list = self.place(old);
+        self.take_out(old);
+        self.take_out(new);
+        if let Some(list) = list {
+            self.put_first(list, new);
+        }
+    }
+
     /// Takes the last page of the list out of it, if there is one.
     pub(crate) fn drop_last(&mut self, list: List)
         ensures lists { self.new ≡ without_last_of self.old list }
@@ -222,5 +246,66 @@ impl Links {
         let head = self.pages + code_of(list);
         let last = self.records[head as usize].before;
         self.take_out(last);
+    }
+    /// Takes the last pages of the list out of it until it has so many at most.
+    pub(crate) fn cut(&mut self, list: List, most: usize)
+        ensures { self.new ≡ with_first self.old list most }
+    {
+        for _ in most..self.len(list) {
+            self.drop_last(list);
+        }
+    }
+
+    /// Moves the pages of the list into another table, in front of the same list there.
+    fn pour(&mut self, list: List, to: &mut Links)
+        requires below { (x : ℕ) → 0 < times_named self.old x → x < to.old.pages }
+        requires apart { (x : ℕ) → times_named self.old x + times_named to.old x ≤ 1 }
+        requires room { length (list_of self.old list) + length (list_of to.old list) < 2 ^ 63 }
+        ensures left { self.new ≡ with_list self.old list [] }
+        ensures lists { to.new ≡ with_list to.old list (list_of self.old list ++ list_of to.old list) }
+        ensures still_apart { (x : ℕ) → times_named self.new x + times_named to.new x ≤ 1 }
+        ensures still_below { (x : ℕ) → 0 < times_named self.new x → x < to.new.pages }
+    {
+        while let Some(page) = self.last(list) {
+            self.drop_last(list);
+            to.put_first(list, page);
+        }
+    }
+
+    /// A table whose lists are empty is as a new one.
+    fn as_new(self) -> Links
+        requires empty { (list : ListName) → list_of self list ≡ [] }
+        ensures { result ≡ empty_lists 0 self.pages }
+    {
+        let _ = &self.pages;
+        self
+    }
+
+    /// Moves the lists into a larger table, which is empty.
+    pub(crate) fn move_into(&mut self, larger: Links)
+        requires more { self.old.pages ≤ larger.pages }
+        requires empty { (list : ListName) → list_of larger list ≡ [] }
+        requires once { (x : ℕ) → times_named self.old x ≤ 1 }
+        requires below { (x : ℕ) → 0 < times_named self.old x → x < self.old.pages }
+        requires room { (list : ListName) → length (list_of self.old list) < 2 ^ 63 }
+        ensures lists { self.new ≡ with_pages self.old larger.pages }
+    {
+        self.move_into_new(larger.as_new());
+    }
+
+    /// The same, where the larger table is as a new one.
+    fn move_into_new(&mut self, mut larger: Links)
+        requires more { self.old.pages ≤ larger.pages }
+        requires empty { larger ≡ empty_lists 0 larger.pages }
+        requires once { (x : ℕ) → times_named self.old x ≤ 1 }
+        requires below { (x : ℕ) → 0 < times_named self.old x → x < self.old.pages }
+        requires room { (list : ListName) → length (list_of self.old list) < 2 ^ 63 }
+        ensures lists { self.new ≡ with_pages self.old larger.pages }
+    {
+        self.pour(List::T1, &mut larger);
+        self.pour(List::T2, &mut larger);
+        self.pour(List::B1, &mut larger);
+        self.pour(List::B2, &mut larger);
+        *self = larger;
     }
 }

@@ -47,6 +47,11 @@ fn contents<'a>(row: &str, plans: &'a [Vec<u8>]) -> Contents<'a> {
             script: SCRIPT.as_bytes(),
             plans,
         }),
+        "draw" => Contents::Draw(AuditFiles {
+            settings,
+            journal: JOURNAL.as_bytes(),
+            plans,
+        }),
         _ => Contents::Audit(AuditFiles {
             settings,
             journal: JOURNAL.as_bytes(),
@@ -56,7 +61,10 @@ fn contents<'a>(row: &str, plans: &'a [Vec<u8>]) -> Contents<'a> {
 }
 
 fn outcome<R: AllocGlobal + Print>(rt: &R, row: &str) -> anyhow::Result<()> {
-    let text = if row == "audit" { TOUCH } else { WRITE };
+    let text = match row {
+        "audit" | "draw" => TOUCH,
+        _ => WRITE,
+    };
     let plans = bytes_of(rt.alloc(), &[text])?;
     for _time in 0..2 {
         let contents = contents(row, &plans);

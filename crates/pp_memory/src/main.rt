@@ -9,6 +9,7 @@
 #![tactic(auto)]
 
 mod books;
+mod caches;
 mod journals;
 mod judging;
 mod parts;
@@ -58,6 +59,7 @@ fn case<
         "pp_arc" | "pp_frames" | "pp_bundles" | "pp_core" | "pp_device" | "pp_vault" => parts::case(
             rt, library, call,
         ),
+        "pp_cache" => caches::case(rt, call),
         "pp_shared" => shared::case(rt, call),
         "pp_play" | "pp_simulate" => playing::case(rt, call),
         "pp_pool" => books::case(rt, call),

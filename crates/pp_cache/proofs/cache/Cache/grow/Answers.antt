@@ -1,0 +1,50 @@
+-- What is left to show of Cache::grow: keys without a page change nothing else.
+use Rattle.std.proofs.Common.{◌≡◌, ℕ, ◌≤◌, length, refl, subst, sym, ap, ◌∙◌}
+use Rattle.pp_arc.specs.FourLists.{FourLists}
+use Rattle.pp_arc.specs.Bounds.{IsWithinBounds}
+use Rattle.pp_arc.specs.Sizes.{with_pages}
+use Rattle.pp_cache.specs.Frames.{FrameMap, page_of, with_keys}
+use Rattle.pp_cache.specs.Cache.{PageCache, SamePages, IsSound}
+use Rattle.pp_cache.proofs.CacheLemmas.{together-grow, one_to_one-keys, page-keys}
+use Rattle.pp_cache.proofs.cache.Cache.grow.Goals as goal
+
+-- what both fields are afterwards
+sound_grown : (s : PageCache) (lists : FourLists) (table : FrameMap) (keys : ℕ) → IsSound s → length s.table.pages ≤ keys
+    → IsWithinBounds lists → lists ≡ with_pages s.lists keys → table ≡ with_keys s.table keys
+    → IsSound (record { lists = lists; table = table })
+sound_grown s lists table keys h more bounds e f = record {
+  bounds = bounds;
+  frames = rw f (one_to_one-keys s.table keys h.frames);
+  together = rw f (together-grow s lists keys h.together more e);
+}
+
+same_grown : (s : PageCache) (lists : FourLists) (table : FrameMap) (keys : ℕ)
+    → lists ≡ with_pages s.lists keys → table ≡ with_keys s.table keys
+    → SamePages s (record { lists = lists; table = table })
+same_grown s lists table keys e f = record {
+  lists = e ∙ ap (with_pages s.lists) (sym (ap (λ (w : FourLists). w.pages) e));
+  pages = λ k. ap (λ (w : FrameMap). page_of w k) f ∙ page-keys s.table keys k;
+}
+
+pub returns-clause-same_pages : goal.returns-clause-same_pages
+returns-clause-same_pages c =
+    let pages : c.in_ok-larger.larger.pages ≡ c.args.keys = ap (λ (w : FourLists). w.pages) c.in_ok-larger.ensures.empty
+    in
+    subst (λ (w : PageCache). SamePages w (record { lists = c.move_into.new.self; table = c.grow.new.self }))
+    c.self.view_is
+    (same_grown (record { lists = c.self.inside.directory; table = c.self.inside.frames }) c.move_into.new.self
+    c.grow.new.self c.args.keys (c.move_into.ensures.lists ∙ ap (with_pages c.self.inside.directory) pages)
+    (c.in_ok-grow.ensures.grown refl))
+
+pub invariant_of-self-2 : goal.invariant_of-self-2
+invariant_of-self-2 c =
+    let pages : c.in_ok-larger.larger.pages ≡ c.args.keys = ap (λ (w : FourLists). w.pages) c.in_ok-larger.ensures.empty
+    in
+    let more : length c.self.inside.frames.pages ≤ c.args.keys =
+    subst (λ (w : PageCache). length w.table.pages ≤ c.args.keys) (sym c.self.view_is) c.requires.more in
+    sound_grown (record { lists = c.self.inside.directory; table = c.self.inside.frames }) c.move_into.new.self
+    c.grow.new.self c.args.keys c.self.invariant more c.move_into.ensures.bounds
+    (c.move_into.ensures.lists ∙ ap (with_pages c.self.inside.directory) pages) (c.in_ok-grow.ensures.grown refl)
+
+pub returns-clause-sound : goal.returns-clause-sound
+returns-clause-sound c = invariant_of-self-2 c

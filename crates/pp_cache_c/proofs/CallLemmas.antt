@@ -1,0 +1,40 @@
+-- Lemmas on the calls: what a handle holds before and after them, and which status an answer is.
+use Rattle.std.proofs.Common.{◌≡◌, ℕ, false, true, refl}
+use Rattle.std.specs.Prelude.{Option, None, Some, IsSome, ◌↔◌}
+use Rattle.pp_cache.specs.declared.fetched.Fetched.{Fetched}
+use Rattle.pp_cache.specs.declared.fetched.Fetched.TheVariants.{Hit}
+use Rattle.pp_cache.specs.Cache.{PageCache}
+use Rattle.pp_cache_c.specs.Calls.{code, Goes}
+use Rattle.pp_cache_c.specs.declared.handle.Kept.{Kept}
+use Rattle.pp_cache_c.specs.declared.status.Status.{Status}
+use Rattle.pp_cache_c.specs.declared.status.Status.TheVariants as status
+
+pub goes : (are : PageCache → PageCache → Type 0) (old new : Option Kept) (before after : Kept) → old ≡ Some before
+    → new ≡ Some after → are before.cache after.cache → Goes are old new
+goes are old new before after e f h = rw (e, f) h
+
+-- a page that stands in a frame is a hit
+pub some_is_hit : (answer : Fetched) (found : Option ℕ) → ((frame : ℕ) → (answer ≡ Hit frame) ↔ (found ≡ Some frame))
+    → IsSome found → (frame : ℕ) × (answer ≡ Hit frame)
+some_is_hit answer None h some = let n : false ≡ true = some in absurd (cc)
+some_is_hit answer (Some frame) h some = (frame, (h frame).1 refl)
+
+-- no other status has the number 3
+pub is_nothing : (s : Status) → code s ≡ 3 → s ≡ status.Nothing
+is_nothing status.Done e = absurd (cc)
+is_nothing status.Hit e = absurd (cc)
+is_nothing status.New e = absurd (cc)
+is_nothing status.Nothing e = refl
+is_nothing status.NoCache e = absurd (cc)
+is_nothing status.NoRoom e = absurd (cc)
+is_nothing status.BadArgument e = absurd (cc)
+
+-- and no other one the number 0
+pub is_done : (s : Status) → code s ≡ 0 → s ≡ status.Done
+is_done status.Done e = refl
+is_done status.Hit e = absurd (cc)
+is_done status.New e = absurd (cc)
+is_done status.Nothing e = absurd (cc)
+is_done status.NoCache e = absurd (cc)
+is_done status.NoRoom e = absurd (cc)
+is_done status.BadArgument e = absurd (cc)

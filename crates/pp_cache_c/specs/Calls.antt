@@ -1,0 +1,31 @@
+-- What calls from C answer, and what they do to the cache that a handle holds.
+use Rattle.std.specs.Prelude.{◌≡◌, ℕ, Option, None, Some, zero, suc}
+use Rattle.std.specs.Option.{MatchOption}
+use Rattle.pp_cache.specs.declared.create.Create.{Create}
+use Rattle.pp_cache.specs.declared.create.Create.TheVariants.{Never, IfRoom, Always}
+use Rattle.pp_cache.specs.Cache.{PageCache}
+use Rattle.pp_cache_c.specs.declared.handle.Kept.{Kept}
+use Rattle.pp_cache_c.specs.declared.status.Status.{Status}
+use Rattle.pp_cache_c.specs.declared.status.Status.TheVariants.{Done, Hit, New, Nothing, NoCache, NoRoom, BadArgument}
+
+-- The number by which C knows a status.
+abbrev pub code : Status → ℕ
+code Done = 0
+code Hit = 1
+code New = 2
+code Nothing = 3
+code NoCache = 4
+code NoRoom = 5
+code BadArgument = 6
+
+-- What C's number says of how a fetch may create: 0, 1 and 2 in this order, and no other.
+abbrev pub create_of : ℕ → Option Create
+create_of zero = Some Never
+create_of (suc zero) = Some IfRoom
+create_of (suc (suc zero)) = Some Always
+create_of (suc (suc (suc _))) = None
+
+-- A handle holds a cache after the call exactly where it held one before, and these two caches are so.
+abbrev pub Goes : (PageCache → PageCache → Type 0) → Option Kept → Option Kept → Type 0
+Goes are old new =
+    MatchOption old (new ≡ None) (λ before. MatchOption new ⊥ (λ after. are before.cache after.cache))
