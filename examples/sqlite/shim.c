@@ -23,7 +23,8 @@ static void sqlite3EndBenignMalloc(void) {}
 typedef struct bytes {
     sqlite3_pcache_page page;
     uint32_t key;
-    uint32_t unused[3]; /* so that the page begins at 16 bytes */
+    uint32_t fetches;   /* since it was unpinned */
+    uint32_t unused[2]; /* so that the page begins at 16 bytes */
 } bytes;
 
 typedef struct cache {
@@ -113,7 +114,10 @@ static sqlite3_pcache_page *fetch(sqlite3_pcache *p, unsigned number, int way) {
     cache *c = (cache *)p;
     uint32_t key = key_of(c, number), frame = 0;
     uint32_t answer = pinpool_cache_fetch(&c->held, key, (uint32_t)way, &frame);
-    if (answer == PINPOOL_HIT) return &c->by_frame[frame]->page;
+    if (answer == PINPOOL_HIT) {
+        c->by_frame[frame]->fetches++;
+        return &c->by_frame[frame]->page;
+    }
     if (answer != PINPOOL_NEW) return 0;
     if (way == PINPOOL_IF_ROOM) sqlite3BeginBenignMalloc();
     bytes *b = bytes_of(c, frame);
@@ -124,13 +128,22 @@ static sqlite3_pcache_page *fetch(sqlite3_pcache *p, unsigned number, int way) {
     }
     if (key > c->greatest) c->greatest = key;
     b->key = key;
+    b->fetches = 1;
     memset(b->page.pExtra, 0, c->extra_bytes);
     return &b->page;
 }
 
+/* SQLite keeps a page pinned as long as it is dirty, for all of a transaction, and the cache counts no fetch of a pinned page.
+** So where there were such fetches, the page is asked for once more, after its last use. */
 static void unpin(sqlite3_pcache *p, sqlite3_pcache_page *page, int discard) {
     cache *c = (cache *)p;
-    pinpool_cache_unpin(&c->held, ((bytes *)page)->key, (uint32_t)(discard || c->keeps_none));
+    bytes *b = (bytes *)page;
+    uint32_t frame = 0, leaves = (uint32_t)(discard || c->keeps_none), fetches = b->fetches;
+    b->fetches = 0;
+    pinpool_cache_unpin(&c->held, b->key, leaves);
+    if (leaves || fetches < 2) return;
+    if (pinpool_cache_fetch(&c->held, b->key, PINPOOL_NEVER, &frame) == PINPOOL_HIT)
+        pinpool_cache_unpin(&c->held, b->key, 0);
 }
 
 static void rekey(sqlite3_pcache *p, sqlite3_pcache_page *page, unsigned from, unsigned to) {
