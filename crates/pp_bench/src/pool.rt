@@ -136,6 +136,8 @@ impl Pool {
     fn fix(&mut self, session: Session, page: u32) -> Result<(Session, PinGuard, bool), Stopped> {
         match self.vault.fix(session, page) {
             Fixed::Got(session, guard) => Ok((session, guard, true)),
+            Fixed::Opened(session, guard) => Err(Stopped::holding(Stage::In(session), Guard::Bundle(guard))),
+            Fixed::Joined(session) => Err(Stopped::at(Stage::In(session))),
             Fixed::Away(errand) => {
                 let (session, guard) = self.load(errand)?;
                 Ok((session, guard, false))
@@ -148,6 +150,8 @@ impl Pool {
     fn load(&mut self, errand: Errand) -> Result<(Session, PinGuard), Stopped> {
         match self.vault.answer(errand.carry_out(&mut self.device)) {
             Answered::Got(session, guard) => Ok((session, guard)),
+            Answered::Opened(session, guard) => Err(Stopped::holding(Stage::In(session), Guard::Bundle(guard))),
+            Answered::Joined(session) => Err(Stopped::at(Stage::In(session))),
             Answered::Away(errand) => Err(Stopped::at(Stage::Out(errand))),
             Answered::Lost(leaver) => Err(Stopped::at(Stage::Leaving(leaver))),
             Answered::Flushed(_) => Err(Stopped::with_nothing()),

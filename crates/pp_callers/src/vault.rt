@@ -7,7 +7,9 @@ use pp_cert::{Accepted, check};
 use pp_device::SoloDevice;
 use pp_plan::Plan;
 use pp_settings::Settings;
-use pp_vault::{Answered, Chair, Errand, Fixed, Guard, PinGuard, Session, Stage, Stopped, Vault};
+use pp_vault::{
+    Answered, BundleGuard, Chair, Errand, Fixed, Guard, PinGuard, Session, Stage, Stopped, Vault,
+};
 use std::alloc::Global;
 
 pub(crate) const SETTINGS: &str = "frames = 1
@@ -74,6 +76,9 @@ fn run(vault: &mut Vault, device: &mut SoloDevice, chair: Chair, accepted: Accep
     };
     let (session, guard) = match vault.fix(session, 2) {
         Fixed::Got(session, guard) => (session, guard),
+        // A plan that asks a gather gives what it gathered back at once.
+        Fixed::Opened(session, guard) => return scatter(vault, session, guard),
+        Fixed::Joined(session) => return Stopped::at(Stage::In(session)),
         Fixed::Away(errand) => match load(vault, device, errand) {
             Ok(loaded) => loaded,
             Err(out) => return out,
@@ -100,10 +105,25 @@ fn load(
 {
     match vault.answer(errand.carry_out(device)) {
         Answered::Got(session, guard) => Ok((session, guard)),
+        Answered::Opened(session, guard) => Err(scatter(vault, session, guard)),
+        Answered::Joined(session) => Err(Stopped::at(Stage::In(session))),
         Answered::Away(errand) => Err(Stopped::at(Stage::Out(errand))),
         Answered::Lost(leaver) => Err(Stopped::at(Stage::Leaving(leaver))),
         Answered::Flushed(_) => Err(Stopped::with_nothing()),
         Answered::No(returned, _refusal) => Err(Stopped::at(Stage::Back(returned))),
+    }
+}
+
+/// A bundle is given back, all its pages at once.
+fn scatter(vault: &mut Vault, session: Session, guard: BundleGuard) -> Stopped
+    ensures headline { HeadlineHolds vault.new }
+{
+    match vault.scatter(session, guard) {
+        Ok(session) => Stopped::at(Stage::In(session)),
+        Err((session, guard, _refusal)) => Stopped::holding(
+            Stage::In(session),
+            Guard::Bundle(guard),
+        ),
     }
 }
 

@@ -9,7 +9,7 @@ use Rattle.pp_model.specs.declared.moves.Move.{Move}
 use Rattle.pp_model.specs.declared.moves.Move.TheVariants.{ReadDone}
 use Rattle.pp_model.specs.declared.reply.Reply.{Reply}
 use Rattle.pp_model.specs.declared.reply.Reply.TheVariants.{Loaded}
-use Rattle.pp_model.specs.Pool.{State}
+use Rattle.pp_model.specs.Pool.{State, frame_of}
 use Rattle.pp_model.specs.Moves.{reply_of, next_of}
 use Rattle.pp_model.specs.Reached.{IsReached}
 use Rattle.pp_model.specs.Ready.{Standing, ready_at}
@@ -22,13 +22,12 @@ use Rattle.pp_device.specs.Image.{head_of, body_of}
 use Rattle.pp_vault.specs.declared.tokens.Duty.{Duty}
 use Rattle.pp_vault.specs.declared.tokens.Duty.TheVariants as duty
 use Rattle.pp_vault.specs.declared.tokens.Leaver.{Leaver}
-use Rattle.pp_vault.specs.declared.tokens.Session.{Session}
-use Rattle.pp_vault.specs.declared.guards.PinGuard.{PinGuard}
 use Rattle.pp_vault.specs.declared.answering.Answered.{Answered}
 use Rattle.pp_vault.specs.declared.answering.Answered.TheVariants as answered
 use Rattle.pp_vault.specs.Parts.{Parts}
 use Rattle.pp_vault.specs.StandsFor.{StandsFor, image_in}
-use Rattle.pp_vault.specs.Answers.{is_read_out, read_call, came_of, IsRead, IsUnread, DutyEnds}
+use Rattle.pp_vault.specs.ImageMoves.{PutIn}
+use Rattle.pp_vault.specs.Answers.{is_read_out, read_call, came_of, IsUnread, DutyEnds}
 use Rattle.pp_vault.specs.Events.{Does}
 use Rattle.pp_contents.specs.Told.{duty_page, told_after}
 use Rattle.pp_contents.specs.Content.{ready_image}
@@ -94,10 +93,10 @@ module _ (old new : Parts) (s : State) (m : Move) (reply : Reply) (st : StandsFo
   stands = shown new (next_of s moved) page j (ap (λ n. ready_image new (next_of s n) page) same_move ∙ is)
 
   -- It is the image that came, and came well.
-  loaded_told : (x : Session) (g : PinGuard) → IsRead old w slot page given ok x g new → (ok ≡ true) × (j ≡ given)
-  loaded_told x g read =
-      let told = read.replies s st in
-      let put = read.images s st in
+  loaded_told : (mark : ℕ) × (reply_of s (ReadDone w (came_of ok (head_of given))) ≡ Loaded mark)
+      × (head_of given ≡ (page, mark))
+      → (frame : ℕ) × (frame_of s page ≡ Some frame) × PutIn old new frame given → (ok ≡ true) × (j ≡ given)
+  loaded_told told put =
       let at = is_reading s w slot page out in
       let enters =
       loaded_enters s st.core.reached w slot page told.0 at.running (came_of ok (head_of given)) at.seat at.stage
@@ -128,7 +127,11 @@ pub reading_told : (old new : Parts) (s : State) (m : Move) (reply : Reply) → 
     (ok : Bool) (out : Answered) → DutyEnds old (duty.Read w slot page) given ok out new → (j : List ℕ)
     → ready_image new (next_of s m) page ≡ Some j → (ok ≡ true) × (j ≡ given)
 reading_told old new s m reply st last w slot page out given ok (answered.Got x g) ends j is =
-    loaded_told old new s m reply st last w slot page out given ok ends.0 j is x g ends.1
+    loaded_told old new s m reply st last w slot page out given ok ends.0 j is (ends.1.replies s st) (ends.1.images s st)
+reading_told old new s m reply st last w slot page out given ok (answered.Opened x g) ends j is =
+    loaded_told old new s m reply st last w slot page out given ok ends.0 j is (ends.1.replies s st) (ends.1.images s st)
+reading_told old new s m reply st last w slot page out given ok (answered.Joined x) ends j is =
+    loaded_told old new s m reply st last w slot page out given ok ends.0 j is (ends.1.replies s st) (ends.1.images s st)
 reading_told old new s m reply st last w slot page out given ok (answered.Lost leaver) ends j is =
     absurd (lost_told old new s m reply st last w slot page out given ok ends.0 j is leaver ends.1)
 reading_told old new s m reply st last w slot page out given ok (answered.Away errand) ends j is = absurd ends

@@ -19,7 +19,7 @@ use Rattle.pp_vault.specs.declared.tokens.Duty.TheVariants as duty
 use Rattle.pp_vault.specs.declared.tokens.Leaver.{Leaver}
 use Rattle.pp_vault.specs.declared.tokens.Returned.{Returned}
 use Rattle.pp_vault.specs.declared.guards.Guard.{Guard}
-use Rattle.pp_vault.specs.declared.guards.Guard.TheVariants.{Pin, Read, Write}
+use Rattle.pp_vault.specs.declared.guards.Guard.TheVariants.{Pin, Read, Write, Bundle}
 use Rattle.pp_vault.specs.declared.stage.Stage.{Stage}
 use Rattle.pp_vault.specs.declared.stage.Stage.TheVariants.{Idle, In, Out, Back, Leaving}
 use Rattle.pp_vault.specs.declared.stage.Hand.{Hand}
@@ -30,16 +30,17 @@ use Rattle.pp_vault.specs.Parts.{Parts}
 use Rattle.pp_vault.specs.StandsFor.{StandsFor}
 use Rattle.pp_vault.specs.Calls.{Call, stranger, refused, asks, told}
 use Rattle.pp_vault.specs.Events.{Does}
-use Rattle.pp_vault.specs.Fits.{is_acting, names_slot, fix_slot, guard_call, fits_both, asks_unfix, asks_latch}
-use Rattle.pp_vault.specs.Fits.{asks_unlatch, leaver_fits, take_call, choose_call, finish_call, end_call, fix_call}
+use Rattle.pp_vault.specs.Fits.{is_acting, names_slot, fix_slot, guard_call, fits_both, bundle_fits, asks_unfix}
+use Rattle.pp_vault.specs.Fits.{asks_scatter, asks_latch, asks_unlatch, leaver_fits, leaver_fits_bundle, take_call}
+use Rattle.pp_vault.specs.Fits.{choose_call, finish_call, end_call, fix_call, scatter_call, unwind_bundle_call}
 use Rattle.pp_vault.specs.Fits.{unfix_call, latch_call, unlatch_call, put_back_call, unwind_call}
 use Rattle.pp_vault.specs.Tokens.{is_long}
 use Rattle.pp_vault.specs.Answers.{is_flush_out, is_write_out, is_read_out, came_of, duty_call, DutyEnds, AnswerComesTo}
 use Rattle.pp_vault.specs.Leaves.{GivesBack}
 use Rattle.pp_vault.specs.Stages.{stage_worker}
 use Rattle.pp_vault.specs.Duties.{duty_worker}
-use Rattle.pp_contents.specs.HandMoves.{HandMoves, takes, chooses, finishes, ends, fixes, answers, unfixes, latches_shared}
-use Rattle.pp_contents.specs.HandMoves.{latches_exclusive, unlatches_shared, unlatches_exclusive, gives_back, HasAnswer}
+use Rattle.pp_contents.specs.HandMoves.{HandMoves, takes, chooses, finishes, ends, fixes, answers, unfixes, scatters}
+use Rattle.pp_contents.specs.HandMoves.{latches_shared, latches_exclusive, unlatches_shared, unlatches_exclusive, gives_back, HasAnswer}
 use Rattle.pp_vault.proofs.FitTests.{none_some}
 
 -- ---- which move a call is
@@ -83,6 +84,8 @@ told_asks s (asks n) m reply e = ap asks (told_by m n reply (reply_of s n) (is_p
 pub duty_does : (old new : Parts) (d : Duty) (image : List ℕ) (ok : Bool) (out : Answered)
     → DutyEnds old d image ok out new → Does old (duty_call old.page_bytes d image ok) new
 duty_does old new (duty.Read w slot page) image ok (answered.Got session guard) h = h.0
+duty_does old new (duty.Read w slot page) image ok (answered.Opened session guard) h = h.0
+duty_does old new (duty.Read w slot page) image ok (answered.Joined session) h = h.0
 duty_does old new (duty.Read w slot page) image ok (answered.Lost leaver) h = h.0
 duty_does old new (duty.Write w slot page victim) image ok (answered.Away errand) h = h.1
 duty_does old new (duty.Write w slot page victim) image ok (answered.Lost leaver) h = h.1
@@ -91,9 +94,13 @@ duty_does old new (duty.Read w slot page) image ok (answered.Away errand) h = ab
 duty_does old new (duty.Read w slot page) image ok (answered.Flushed clean) h = absurd h
 duty_does old new (duty.Read w slot page) image ok (answered.No back refusal) h = absurd h
 duty_does old new (duty.Write w slot page victim) image ok (answered.Got session guard) h = absurd h
+duty_does old new (duty.Write w slot page victim) image ok (answered.Opened session guard) h = absurd h
+duty_does old new (duty.Write w slot page victim) image ok (answered.Joined session) h = absurd h
 duty_does old new (duty.Write w slot page victim) image ok (answered.Flushed clean) h = absurd h
 duty_does old new (duty.Write w slot page victim) image ok (answered.No back refusal) h = absurd h
 duty_does old new (duty.Flush page) image ok (answered.Got session guard) h = absurd h
+duty_does old new (duty.Flush page) image ok (answered.Opened session guard) h = absurd h
+duty_does old new (duty.Flush page) image ok (answered.Joined session) h = absurd h
 duty_does old new (duty.Flush page) image ok (answered.Away errand) h = absurd h
 duty_does old new (duty.Flush page) image ok (answered.Lost leaver) h = absurd h
 duty_does old new (duty.Flush page) image ok (answered.No back refusal) h = absurd h
@@ -102,6 +109,8 @@ duty_does old new (duty.Flush page) image ok (answered.No back refusal) h = absu
 pub answer_ends : (old new : Parts) (x : Returned) (out : Answered) (hand left : Hand) → AnswerComesTo old x out new
     → HasAnswer hand out left → DutyEnds old x.duty x.image (is_ok x.answer) out new
 answer_ends old new x (answered.Got session guard) hand left comes has = comes
+answer_ends old new x (answered.Opened session guard) hand left comes has = comes
+answer_ends old new x (answered.Joined session) hand left comes has = comes
 answer_ends old new x (answered.Away errand) hand left comes has = comes
 answer_ends old new x (answered.Lost leaver) hand left comes has = comes
 answer_ends old new x (answered.Flushed clean) hand left comes has = absurd has
@@ -137,10 +146,18 @@ module _ (old new : Parts) (s : State) (m : Move) (reply : Reply) (st : StandsFo
       (sym (if_move (leaver_fits s x.worker of slot page held && long) (move.Unwind x.worker slot) m
       (does_asks (unwind_call long held x.worker of slot page) does)))
 
+  bundle_unwinder : (x : Leaver) (of slot : ℕ) → Does old (unwind_bundle_call x.worker of slot) new
+      → worker_of m ≡ Some x.worker
+  bundle_unwinder x of slot does =
+      ap worker_of
+      (sym (if_move (leaver_fits_bundle s x.worker of slot) (move.Unwind x.worker slot) m
+      (does_asks (unwind_bundle_call x.worker of slot) does)))
+
   gives_mover : (x y : Leaver) (g : Guard) → GivesBack old x g new y → worker_of m ≡ Some x.worker
   gives_mover x y (Pin g) gives = unwinder true x g.worker g.slot g.page Free gives.still.does
   gives_mover x y (Read g) gives = unwinder true x g.worker g.slot g.page S gives.still.does
   gives_mover x y (Write g) gives = unwinder (is_long old g.image) x g.worker g.slot g.page X gives.still.does
+  gives_mover x y (Bundle g) gives = bundle_unwinder x g.worker g.slot gives.still.does
 
   -- The move is of the worker whose token the hand had.
   pub mover : (hand left : Hand) → HandMoves old hand new left → worker_of m ≡ stage_worker hand.stage
@@ -168,6 +185,16 @@ module _ (old new : Parts) (s : State) (m : Move) (reply : Reply) (st : StandsFo
       (sym (if_move (names_slot (fix_slot session.ask) (ask_of s session.worker)) (move.Fix session.worker page) m
       (does_asks (fix_call session.worker (fix_slot session.ask) page) gives.0)))
       ∙ sym (ap stage_worker e)
+  mover hand left (fixes session page (fixed.Opened x g) e gives has) =
+      ap worker_of
+      (sym (if_move (names_slot (fix_slot session.ask) (ask_of s session.worker)) (move.Fix session.worker page) m
+      (does_asks (fix_call session.worker (fix_slot session.ask) page) gives.0)))
+      ∙ sym (ap stage_worker e)
+  mover hand left (fixes session page (fixed.Joined x) e gives has) =
+      ap worker_of
+      (sym (if_move (names_slot (fix_slot session.ask) (ask_of s session.worker)) (move.Fix session.worker page) m
+      (does_asks (fix_call session.worker (fix_slot session.ask) page) gives.0)))
+      ∙ sym (ap stage_worker e)
   mover hand left (fixes session page (fixed.Away errand) e gives has) =
       ap worker_of
       (sym (if_move (names_slot (fix_slot session.ask) (ask_of s session.worker)) (move.Fix session.worker page) m
@@ -184,6 +211,12 @@ module _ (old new : Parts) (s : State) (m : Move) (reply : Reply) (st : StandsFo
       (sym (guard_move (fits_both s session.worker g.worker g.slot g.page Free)
       (asks_unfix g.slot (ask_of s session.worker)) (move.Unfix session.worker) m
       (does_asks (unfix_call session.worker g.worker g.slot g.page) does.does)))
+      ∙ sym (ap stage_worker e)
+  mover hand left (scatters session now slot g e there does has) =
+      ap worker_of
+      (sym (guard_move (bundle_fits s session.worker g.worker g.slot)
+      (asks_scatter g.slot (ask_of s session.worker)) (move.Unfix session.worker) m
+      (does_asks (scatter_call session.worker g.worker g.slot) does.does)))
       ∙ sym (ap stage_worker e)
   mover hand left (latches_shared session now slot g latched e there does has) =
       ap worker_of
@@ -230,14 +263,19 @@ left_ahead old new hand left (chooses session now branch e does images is) = ap 
 left_ahead old new hand left (finishes session chair e does images now) = ap at_back now
 left_ahead old new hand left (ends leaver chair e does images now) = ap at_back now
 left_ahead old new hand left (fixes session page (fixed.Got x g) e gives has) = ap at_back has
+left_ahead old new hand left (fixes session page (fixed.Opened x g) e gives has) = ap at_back has
+left_ahead old new hand left (fixes session page (fixed.Joined x) e gives has) = ap at_back has
 left_ahead old new hand left (fixes session page (fixed.Away errand) e gives has) = ap at_back has
 left_ahead old new hand left (fixes session page (fixed.No x refusal) e gives has) = absurd has
 left_ahead old new hand left (answers returned (answered.Got session guard) e comes has) = ap at_back has
+left_ahead old new hand left (answers returned (answered.Opened session guard) e comes has) = ap at_back has
+left_ahead old new hand left (answers returned (answered.Joined session) e comes has) = ap at_back has
 left_ahead old new hand left (answers returned (answered.Away errand) e comes has) = ap at_back has
 left_ahead old new hand left (answers returned (answered.Lost leaver) e comes has) = ap at_back has
 left_ahead old new hand left (answers returned (answered.Flushed clean) e comes has) = absurd has
 left_ahead old new hand left (answers returned (answered.No back refusal) e comes has) = absurd has
 left_ahead old new hand left (unfixes session now slot g e there does has) = ap at_back has
+left_ahead old new hand left (scatters session now slot g e there does has) = ap at_back has
 left_ahead old new hand left (latches_shared session now slot g latched e there does has) = ap at_back has
 left_ahead old new hand left (latches_exclusive session now slot g latched e there does has) = ap at_back has
 left_ahead old new hand left (unlatches_shared session now slot g pinned e there does has) = ap at_back has
@@ -269,6 +307,7 @@ is_home old new hand left none (ends leaver chair e does images now) = ap is_abr
 is_home old new hand left none (fixes session page out e gives has) = ap is_abroad e
 is_home old new hand left none (answers returned out e comes has) = absurd (none returned e)
 is_home old new hand left none (unfixes session now slot g e there does has) = ap is_abroad e
+is_home old new hand left none (scatters session now slot g e there does has) = ap is_abroad e
 is_home old new hand left none (latches_shared session now slot g latched e there does has) = ap is_abroad e
 is_home old new hand left none (latches_exclusive session now slot g latched e there does has) = ap is_abroad e
 is_home old new hand left none (unlatches_shared session now slot g pinned e there does has) = ap is_abroad e
@@ -303,6 +342,7 @@ module _ (old new : Parts) (hand left : Hand) (x : Returned) (at : hand.stage �
       let it : returned ≡ x = ap (returned_in returned) (sym e ∙ at) in
       subst (Ended old new) it (record { out = out; done = answer_ends old new returned out hand left comes has })
   answer_ended (unfixes session now slot g e there does has) = absurd (not_at (In session) e refl)
+  answer_ended (scatters session now slot g e there does has) = absurd (not_at (In session) e refl)
   answer_ended (latches_shared session now slot g latched e there does has) = absurd (not_at (In session) e refl)
   answer_ended (latches_exclusive session now slot g latched e there does has) = absurd (not_at (In session) e refl)
   answer_ended (unlatches_shared session now slot g pinned e there does has) = absurd (not_at (In session) e refl)

@@ -2,7 +2,7 @@
 -- of a worker that has it latched X.
 use Rattle.std.proofs.Common.{◌≡◌, ◌∙◌, ◌⊎◌, ℕ, zero, suc, ◌<◌, ◌≤◌, Bool, true, false, eqb, cond, Option, Some}
 use Rattle.std.proofs.Common.{None, List, [], ◌∷◌, ◌++◌, length, refl, sym, ap, subst, inl, inr, arith}
-use Rattle.std.specs.Prelude.{nat_lt, slice_get, option_map, is_some, IsSome, if◌then◌else◌}
+use Rattle.std.specs.Prelude.{nat_lt, slice_get, is_some, IsSome, if◌then◌else◌}
 use Rattle.std.proofs.lemmas.Bool.{false≢true, cases_lt}
 use Rattle.std.proofs.lemmas.Bool.Decides.{nat_tests}
 use Rattle.std.proofs.lemmas.Option.{slice_get_within}
@@ -29,9 +29,8 @@ use Rattle.pp_model.proofs.ReadyPages.{cached_ready}
 use Rattle.pp_model.proofs.ReadySteps.{shared_unwritten}
 use Rattle.pp_model.proofs.TurnsLatches.{a_latch_that_is_refused_has_a_holder}
 use Rattle.pp_core.specs.Queries.{own_of, held_by, held_of}
-use Rattle.pp_core.proofs.PlainSlots.{plain_held}
 use Rattle.pp_vault.specs.declared.guards.Guard.{Guard}
-use Rattle.pp_vault.specs.declared.guards.Guard.TheVariants.{Pin, Read, Write}
+use Rattle.pp_vault.specs.declared.guards.Guard.TheVariants.{Pin, Read, Write, Bundle}
 use Rattle.pp_vault.specs.declared.guards.WriteGuard.{WriteGuard}
 use Rattle.pp_vault.specs.declared.hands.Hands.{Hands}
 use Rattle.pp_vault.specs.Parts.{Parts}
@@ -40,7 +39,7 @@ use Rattle.pp_vault.specs.Hands.{PlaceFits, HasHand}
 use Rattle.pp_contents.specs.Content.{or_other, first_given, written_by, written_in, victim_in, standing_image}
 use Rattle.pp_contents.specs.Content.{ready_image, image_here}
 use Rattle.pp_contents.specs.ContentLaws.{Held}
-use Rattle.pp_vault.proofs.FitTests.{none_some, some_some}
+use Rattle.pp_vault.proofs.FitTests.{own_is, bundle_alone, none_some, some_some}
 use Rattle.pp_contents.proofs.AgreementAnswers.{same_page}
 
 -- ---- who has a page latched X
@@ -92,6 +91,18 @@ latched_found hs i h (packed all) at latched =
     let free = free_among (slot_all holding_slot h.slot hs) among.0 among.1 h among.2 all in
     absurd (false≢true (sym (ap is_latched free) ∙ latched))
 
+-- It is the slot's own.
+latched_own : (hs : Holdings) (i : ℕ) (h : Holding) → IsKeptAt (slot_all holding_slot h.slot hs)
+    → slice_get hs i ≡ Some h → is_latched h.held ≡ true → h.bundled ≡ false
+latched_own hs i h (own x e plain) at latched =
+    let among = listed_in hs i h at in
+    let same : x ≡ h = only_one among.0 among.1 h x (sym e ∙ among.2) in
+    ap (λ (y : Holding). y.bundled) (sym same) ∙ plain
+latched_own hs i h (packed all) at latched =
+    let among = listed_in hs i h at in
+    let free = free_among (slot_all holding_slot h.slot hs) among.0 among.1 h among.2 all in
+    absurd (false≢true (sym (ap is_latched free) ∙ latched))
+
 -- A slot has the page latched X.
 record HasExclusive (s : State) (page : ℕ) : Type 0 where
   worker : ℕ
@@ -130,7 +141,7 @@ module _ (s : State) (reached : IsReached s) (page : ℕ) (some : 0 < writers_of
         slot = h.slot;
         held =
             ap (λ o. held_by o h.slot) has.seat ∙ ap own_of found
-            ∙ plain_held s reached has.worker has.running h.slot h has.seat found
+            ∙ own_is h (latched_own (holdings has.running) has.place h kept has.found has.latched)
             ∙ (λ i. Some (has.same i, latch i));
       }
 
@@ -164,15 +175,17 @@ writes_page : (g : WriteGuard) (page : ℕ) → g.page ≡ page → IsSome (writ
 writes_page g page e = ap (λ b. is_some (if b then Some g.image else None)) (same_page g.page page e)
 
 -- The place of a slot that has the page latched X has a guard with its image.
-place_writes : (n : ℕ) (s : State) (w slot page : ℕ) (guards : List (Option Guard)) (o : Option Guard)
+place_writes : (n : ℕ) (s : State) → IsReached s → (w slot page : ℕ) (guards : List (Option Guard)) (o : Option Guard)
     → placed guards slot ≡ o → PlaceFits n s w slot o → held_of s w slot ≡ Some (page, X)
     → IsSome (first_given (written_by page) guards)
-place_writes n s w slot page guards None e fits held = absurd (none_some (sym fits ∙ held))
-place_writes n s w slot page guards (Some (Pin g)) e fits held =
+place_writes n s h w slot page guards None e fits held = absurd (none_some (sym fits.no_page ∙ held))
+place_writes n s h w slot page guards (Some (Bundle g)) e fits held =
+    absurd (none_some (sym (bundle_alone s h w slot fits.gathered) ∙ held))
+place_writes n s h w slot page guards (Some (Pin g)) e fits held =
     absurd (false≢true (ap holds_exclusive (sym fits.held ∙ held)))
-place_writes n s w slot page guards (Some (Read g)) e fits held =
+place_writes n s h w slot page guards (Some (Read g)) e fits held =
     absurd (false≢true (ap holds_exclusive (sym fits.held ∙ held)))
-place_writes n s w slot page guards (Some (Write g)) e fits held =
+place_writes n s h w slot page guards (Some (Write g)) e fits held =
     given_some (written_by page) guards slot (Write g) e
     (writes_page g page (page_is (sym fits.held ∙ held)))
 
@@ -187,8 +200,8 @@ hand_writes v s hands held page has =
     let low = seated_low s has.worker has.slot page (seat_of s has.worker) refl has.held in
     let hand : HasHand v.page_bytes s hands.workers has.worker = held.fit.each has.worker low in
     given_some (written_in page) hands.workers has.worker hand.hand hand.there
-    (place_writes v.page_bytes s has.worker has.slot page hand.hand.guards (placed hand.hand.guards has.slot) refl
-    (hand.fits.guards has.slot) has.held)
+    (place_writes v.page_bytes s held.stands.core.reached has.worker has.slot page hand.hand.guards
+    (placed hand.hand.guards has.slot) refl (hand.fits.guards has.slot) has.held)
 
 -- ---- a page that is cached
 

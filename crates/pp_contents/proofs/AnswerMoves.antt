@@ -1,19 +1,21 @@
 -- The answer of a device to a worker's errand: what it does with the images of pages.
-use Rattle.std.proofs.Common.{◌≡◌, ◌≢◌, ◌∙◌, ℕ, Bool, true, false, Option, Some, None, List, length, refl, sym, ap, subst}
+use Rattle.std.proofs.Common.{◌≡◌, ◌≢◌, ◌∙◌, ℕ, Bool, true, false, Some, None, List, length, refl, sym, ap, subst}
 use Rattle.std.specs.Prelude.{slice_set, is_ok, ◌&&◌, ◌==◌, if◌then◌else◌}
 use Rattle.pp_cert.specs.declared.note.Held.TheVariants.{X}
 use Rattle.pp_model.specs.declared.moves.Came.TheVariants.{Image}
 use Rattle.pp_model.specs.declared.moves.Move.{Move}
 use Rattle.pp_model.specs.declared.moves.Move.TheVariants as move
 use Rattle.pp_model.specs.declared.reply.Reply.{Reply}
-use Rattle.pp_model.specs.Pool.{State, frame_at, mark_at, known_mark}
-use Rattle.pp_model.specs.Moves.{next_of}
+use Rattle.pp_model.specs.declared.reply.Reply.TheVariants.{Loaded}
+use Rattle.pp_model.specs.Pool.{State, frame_of, frame_at, mark_at, known_mark}
+use Rattle.pp_model.specs.Moves.{reply_of, next_of}
 use Rattle.pp_model.specs.Reached.{IsReached}
 use Rattle.pp_model.specs.Ready.{Standing, Enters}
 use Rattle.pp_model.proofs.ReadyLaws.{away_are_apart}
 use Rattle.pp_model.proofs.ReadyAnswers.{loaded_enters, unread_returns, written_keeps, unwritten_enters}
-use Rattle.pp_core.specs.Queries.{errand_of, held_of}
-use Rattle.pp_core.proofs.PlainSlots.{PlainLoaded, loaded as is_loaded}
+use Rattle.pp_core.specs.Queries.{errand_of}
+use Rattle.pp_core.specs.AfterMoves.{HasLoaded}
+use Rattle.pp_core.proofs.AfterMoves.{after_moves}
 use Rattle.pp_device.specs.Image.{head_of}
 use Rattle.pp_vault.specs.declared.tokens.Chair.{Chair}
 use Rattle.pp_vault.specs.declared.tokens.Duty.{Duty}
@@ -22,9 +24,9 @@ use Rattle.pp_vault.specs.declared.tokens.Errand.{Errand}
 use Rattle.pp_vault.specs.declared.tokens.Leaver.{Leaver}
 use Rattle.pp_vault.specs.declared.tokens.Returned.{Returned}
 use Rattle.pp_vault.specs.declared.tokens.Session.{Session}
-use Rattle.pp_vault.specs.declared.guards.Guard.{Guard}
-use Rattle.pp_vault.specs.declared.guards.Guard.TheVariants.{Pin, Write}
+use Rattle.pp_vault.specs.declared.guards.Guard.TheVariants.{Pin, Write, Bundle}
 use Rattle.pp_vault.specs.declared.guards.PinGuard.{PinGuard}
+use Rattle.pp_vault.specs.declared.guards.BundleGuard.{BundleGuard}
 use Rattle.pp_vault.specs.declared.answering.Answered.{Answered}
 use Rattle.pp_vault.specs.declared.answering.Answered.TheVariants as answered
 use Rattle.pp_vault.specs.declared.stage.Stage.{Stage}
@@ -33,8 +35,9 @@ use Rattle.pp_vault.specs.declared.stage.Hand.{Hand}
 use Rattle.pp_vault.specs.Parts.{Parts}
 use Rattle.pp_vault.specs.StandsFor.{StandsFor}
 use Rattle.pp_vault.specs.ImageMoves.{PutIn}
-use Rattle.pp_vault.specs.Answers.{came_of, is_head_of, is_read_out, is_write_out, IsRead, IsUnread, IsWritten}
-use Rattle.pp_vault.specs.Answers.{IsUnwritten, DutyEnds, AnswerComesTo}
+use Rattle.pp_vault.specs.Fits.{IsEmpty}
+use Rattle.pp_vault.specs.Answers.{came_of, is_head_of, is_read_out, is_write_out, IsRead, IsReadFirst, IsReadFurther}
+use Rattle.pp_vault.specs.Answers.{IsUnread, IsWritten, IsUnwritten, DutyEnds, AnswerComesTo}
 use Rattle.pp_vault.specs.Duties.{duty_worker}
 use Rattle.pp_vault.specs.Stages.{stage_worker}
 use Rattle.pp_vault.specs.Holding.{placed}
@@ -42,7 +45,7 @@ use Rattle.pp_contents.specs.Content.{ready_image, victim_of, victim_by}
 use Rattle.pp_contents.specs.HandMoves.{HandMoves, IsNowAt, HasAnswer}
 use Rattle.pp_contents.specs.HandMoves as hands
 use Rattle.pp_vault.proofs.BackSteps as back
-use Rattle.pp_contents.proofs.CallMoves.{pin_writes}
+use Rattle.pp_contents.proofs.CallMoves.{pin_writes, bundle_writes}
 use Rattle.pp_contents.proofs.ContentPlaces.{unready_image}
 use Rattle.pp_vault.proofs.ErrandSteps.{IsReading, is_reading, IsWriting, is_writing}
 use Rattle.pp_contents.proofs.Finding.{test_same, test_apart}
@@ -52,7 +55,7 @@ use Rattle.pp_contents.proofs.MovesDone.{IsDone, call_done, if_asks}
 use Rattle.pp_contents.proofs.ReadyMoves.{ready_same, ready_beside, entered_none, entered_is, entered_others}
 use Rattle.pp_contents.proofs.StepKinds.{AnswerStep, loads, loses, writes, keeps}
 use Rattle.pp_contents.proofs.TokenMoves.{at_now, has_more}
-use Rattle.pp_contents.proofs.TokensApart.{Stands, token_unready, token_unloaded, written_unsent}
+use Rattle.pp_contents.proofs.TokensApart.{Stands, empty_place, token_unready, token_unloaded, written_unsent}
 use Rattle.pp_vault.proofs.ReadSteps.{read_out}
 use Rattle.pp_vault.proofs.WriteSteps.{write_out}
 
@@ -91,50 +94,59 @@ module _ (old new : Parts) (s : State) (w : ℕ) (hand left : Hand) (st : Stands
     at : IsReading s v slot page
     at = is_reading s v slot page errand
 
-    slot_empty : (n : ℕ) → held_of s w n ≡ None → (o : Option Guard) → placed hand.guards n ≡ o
-        → placed hand.guards n ≡ None
-    slot_empty n empty None e = e
-    slot_empty n empty (Some guard) e = absurd (none_some (sym empty ∙ a.slots n guard e))
+    -- A slot that was empty of worker v's has no guard in its place.
+    place_empty : (n : ℕ) → n ≡ slot → IsEmpty s v slot → placed hand.guards n ≡ None
+    place_empty n at empty =
+        empty_place s w hand a n (subst (λ u. IsEmpty s u n) of (subst (λ i. IsEmpty s v i) (sym at) empty))
 
-    module _ (x : Session) (g : PinGuard) (told : IsRead old v slot page image ok x g new)
-        (now : left ≡ record { stage = In x; guards = slice_set hand.guards g.slot (Some (Pin g)) })
-        (next : IsReached t) (b : Stands t w left) where
-      abbrev mark : ℕ
-      mark = (told.replies s st).0
-
-      loaded : PlainLoaded s t v slot page mark (came_of ok (head_of image))
-      loaded =
-          is_loaded s reached v (came_of ok (head_of image)) slot page mark (told.replies s st).1 errand
-
-      empty : held_of s w g.slot ≡ None
-      empty =
-          ap (λ u. held_of s u g.slot) (sym of) ∙ ap (held_of s v) told.of_slot ∙ loaded.fixed.empty
-
-      tokens : (q : ℕ) → SameToken hand left q
-      tokens q =
-          has_more hand left (In x) g.slot (Pin g) (slot_empty g.slot empty (placed hand.guards g.slot) refl) now q
-          (sym (none q)) (pin_writes q g)
+    module _ (mark : ℕ) (answer : reply_of s k ≡ Loaded mark)
+        (how : (frame : ℕ) × (frame_of s page ≡ Some frame) × PutIn old new frame image) where
+      has_loaded : HasLoaded s t v slot page mark (came_of ok (head_of image))
+      has_loaded = (after_moves s reached).loaded v (came_of ok (head_of image)) slot page mark answer errand
 
       enters : Enters s t page (record { frame = frame_at s page; mark = mark })
-      enters =
-          loaded_enters s reached v slot page mark at.running (came_of ok (head_of image)) at.seat at.stage
-          (told.replies s st).1
+      enters = loaded_enters s reached v slot page mark at.running (came_of ok (head_of image)) at.seat at.stage answer
 
       into : PutIn old new (frame_at s page) image
-      into =
-          let how = told.images s st in
-          subst (λ f. PutIn old new f image) (sym (back.frame_is s page how.0 how.1)) how.2
+      into = subst (λ f. PutIn old new f image) (sym (back.frame_is s page how.0 how.1)) how.2
 
-      pub read_loads : AnswerStep old new s t hand left (duty.Read v slot page) ok image
-      read_loads =
+      -- The tokens that the hand has now have no image.
+      read_loads : ((q : ℕ) → SameToken hand left q) → IsReached t → Stands t w left
+          → AnswerStep old new s t hand left (duty.Read v slot page) ok image
+      read_loads tokens next b =
           let y : Standing = record { frame = frame_at s page; mark = mark } in
-          let is_ok_read = came_ok ok (head_of image).0 (head_of image).1 page mark loaded.image in
+          let is_ok_read = came_ok ok (head_of image).0 (head_of image).1 page mark has_loaded.image in
           subst (λ good. AnswerStep old new s t hand left (duty.Read v slot page) good image) (sym is_ok_read)
           (loads v slot page image (λ c token. token_unloaded s reached w hand a v slot page c errand token)
           (λ c token. none_some (sym (token_unready t next w left b page c token) ∙ enters.is))
           (entered_none old new s t reached page y enters image into)
           (entered_is old new s t reached page y enters image into)
           (record { tokens = λ q apart. tokens q; ready = entered_others old new s t reached page y enters image into }))
+
+    module _ (next : IsReached t) (b : Stands t w left) where
+      pub read_fixes : (x : Session) (g : PinGuard) → IsRead old v slot page image ok x g new
+          → left ≡ record { stage = In x; guards = slice_set hand.guards g.slot (Some (Pin g)) }
+          → AnswerStep old new s t hand left (duty.Read v slot page) ok image
+      read_fixes x g told now =
+          let answer = told.replies s st in
+          read_loads answer.0 answer.1 (told.images s st)
+          (λ q. has_more hand left (In x) g.slot (Pin g) (place_empty g.slot told.of_slot (told.was s st)) now q (sym (none q))
+          (pin_writes q g)) next b
+
+      pub read_opens : (x : Session) (g : BundleGuard) → IsReadFirst old v slot page image ok x g new
+          → left ≡ record { stage = In x; guards = slice_set hand.guards g.slot (Some (Bundle g)) }
+          → AnswerStep old new s t hand left (duty.Read v slot page) ok image
+      read_opens x g told now =
+          let answer = told.replies s st in
+          read_loads answer.0 answer.1 (told.images s st)
+          (λ q. has_more hand left (In x) g.slot (Bundle g) (place_empty g.slot told.of_slot (told.was s st)) now q (sym (none q))
+          (bundle_writes q g)) next b
+
+      pub read_joins : (x : Session) → IsReadFurther old v slot page image ok x new → IsNowAt hand (In x) left
+          → AnswerStep old new s t hand left (duty.Read v slot page) ok image
+      read_joins x told now =
+          let answer = told.replies s st in
+          read_loads answer.0 answer.1 (told.images s st) (λ q. at_now hand left (In x) now q (sym (none q))) next b
 
     module _ (x : Leaver) (told : IsUnread old v page image ok x new) (now : IsNowAt hand (Leaving x) left) where
       pub read_loses : AnswerStep old new s t hand left (duty.Read v slot page) ok image
@@ -224,8 +236,24 @@ module _ (old new : Parts) (s : State) (w : ℕ) (hand left : Hand) (m : Move) (
       let is = if_asks (is_read_out old.page_bytes v slot page image s) k m d.is in
       let next : StandsFor new (next_of s k) = subst (λ n. StandsFor new (next_of s n)) (sym is.1) st' in
       to_move (duty.Read v slot page) ok image k is.1
-      (read_loads old new s w hand left st a v slot page ok image of none is.0 x g ends.1 now next.core.reached
-      (subst (λ n. Stands (next_of s n) w left) (sym is.1) b))
+      (read_fixes old new s w hand left st a v slot page ok image of none is.0 next.core.reached
+      (subst (λ n. Stands (next_of s n) w left) (sym is.1) b) x g ends.1 now)
+  read_moves v slot page ok image of none (answered.Opened x g) ends now =
+      let k : Move = move.ReadDone v (came_of ok (head_of image)) in
+      let d : IsDone s _ m = call_done old new _ s m reply st ends.0 last in
+      let is = if_asks (is_read_out old.page_bytes v slot page image s) k m d.is in
+      let next : StandsFor new (next_of s k) = subst (λ n. StandsFor new (next_of s n)) (sym is.1) st' in
+      to_move (duty.Read v slot page) ok image k is.1
+      (read_opens old new s w hand left st a v slot page ok image of none is.0 next.core.reached
+      (subst (λ n. Stands (next_of s n) w left) (sym is.1) b) x g ends.1 now)
+  read_moves v slot page ok image of none (answered.Joined x) ends now =
+      let k : Move = move.ReadDone v (came_of ok (head_of image)) in
+      let d : IsDone s _ m = call_done old new _ s m reply st ends.0 last in
+      let is = if_asks (is_read_out old.page_bytes v slot page image s) k m d.is in
+      let next : StandsFor new (next_of s k) = subst (λ n. StandsFor new (next_of s n)) (sym is.1) st' in
+      to_move (duty.Read v slot page) ok image k is.1
+      (read_joins old new s w hand left st a v slot page ok image of none is.0 next.core.reached
+      (subst (λ n. Stands (next_of s n) w left) (sym is.1) b) x ends.1 now)
   read_moves v slot page ok image of none (answered.Lost x) ends now =
       let k : Move = move.ReadDone v (came_of ok (head_of image)) in
       let d : IsDone s _ m = call_done old new _ s m reply st ends.0 last in
@@ -259,6 +287,8 @@ module _ (old new : Parts) (s : State) (w : ℕ) (hand left : Hand) (m : Move) (
       (ap (λ good. move.WriteDone v good) (sym ends.0) ∙ is.1)
       (write_fails old new s w hand left st a v slot page victim image with_it out x ends.2 now))
   write_moves v slot page victim ok image with_it (answered.Got x g) ends now = absurd ends
+  write_moves v slot page victim ok image with_it (answered.Opened x g) ends now = absurd ends
+  write_moves v slot page victim ok image with_it (answered.Joined x) ends now = absurd ends
   write_moves v slot page victim ok image with_it (answered.Flushed clean) ends now = absurd ends
   write_moves v slot page victim ok image with_it (answered.No returned refusal) ends now = absurd ends
 
@@ -275,6 +305,8 @@ module _ (old new : Parts) (s : State) (w : ℕ) (hand left : Hand) (m : Move) (
   answer_ends : (r : Returned) (o : Answered) → AnswerComesTo old r o new → HasAnswer hand o left
       → DutyEnds old r.duty r.image (is_ok r.answer) o new
   answer_ends r (answered.Got x g) told now = told
+  answer_ends r (answered.Opened x g) told now = told
+  answer_ends r (answered.Joined x) told now = told
   answer_ends r (answered.Away further) told now = told
   answer_ends r (answered.Lost x) told now = told
   answer_ends r (answered.Flushed clean) told now = absurd now
@@ -312,6 +344,7 @@ module _ (old new : Parts) (s : State) (w : ℕ) (hand left : Hand) (m : Move) (
     answer_moves (hands.ends x chair at does stay now) = absurd (leaving_back x (sym at ∙ stage))
     answer_moves (hands.fixes x page f at told now) = absurd (in_back x (sym at ∙ stage))
     answer_moves (hands.unfixes x y slot g at there told now) = absurd (in_back x (sym at ∙ stage))
+    answer_moves (hands.scatters x y slot g at there told now) = absurd (in_back x (sym at ∙ stage))
     answer_moves (hands.latches_shared x y slot g h at there told now) = absurd (in_back x (sym at ∙ stage))
     answer_moves (hands.latches_exclusive x y slot g h at there told now) = absurd (in_back x (sym at ∙ stage))
     answer_moves (hands.unlatches_shared x y slot g h at there told now) = absurd (in_back x (sym at ∙ stage))

@@ -1,6 +1,6 @@
 -- Calls that ask no device: what each does with the images of pages.
 use Rattle.std.proofs.Common.{◌≡◌, ◌≢◌, ◌∙◌, ℕ, ◌+◌, Bool, true, false, Option, Some, None, List, refl, sym, ap, subst}
-use Rattle.std.specs.Prelude.{slice_set, ◌&&◌, if◌then◌else◌}
+use Rattle.std.specs.Prelude.{slice_set, ◌&&◌, ◌==◌, if◌then◌else◌}
 use Rattle.pp_plan.specs.declared.mode.Mode.TheVariants as mode
 use Rattle.pp_plan.specs.declared.action.Ask.TheVariants as ask
 use Rattle.pp_cert.specs.declared.note.Held.{Held}
@@ -17,7 +17,7 @@ use Rattle.pp_model.specs.Ready.{empty as frees, takes as leaves_for}
 use Rattle.pp_model.proofs.ReadyLaws.{write_leaves}
 use Rattle.pp_model.proofs.ReadyAnswers.{shared_stays, shared_goes, exclusive_leaves, exclusive_enters, unwound_enters}
 use Rattle.pp_model.proofs.Shapes.{reply_fits}
-use Rattle.pp_core.specs.Queries.{ask_of, held_of}
+use Rattle.pp_core.specs.Queries.{is_leaving, ask_of, held_of}
 use Rattle.pp_core.specs.AfterMoves.{IsUnwindReply, HasUnwound}
 use Rattle.pp_core.proofs.AfterMoves.{after_moves}
 use Rattle.pp_device.specs.Image.{with_head, body_of}
@@ -27,18 +27,20 @@ use Rattle.pp_vault.specs.declared.tokens.Errand.{Errand}
 use Rattle.pp_vault.specs.declared.tokens.Leaver.{Leaver}
 use Rattle.pp_vault.specs.declared.tokens.Session.{Session}
 use Rattle.pp_vault.specs.declared.guards.Guard.{Guard}
-use Rattle.pp_vault.specs.declared.guards.Guard.TheVariants.{Pin, Read, Write}
+use Rattle.pp_vault.specs.declared.guards.Guard.TheVariants.{Pin, Read, Write, Bundle}
 use Rattle.pp_vault.specs.declared.guards.PinGuard.{PinGuard}
 use Rattle.pp_vault.specs.declared.guards.ReadGuard.{ReadGuard}
 use Rattle.pp_vault.specs.declared.guards.WriteGuard.{WriteGuard}
+use Rattle.pp_vault.specs.declared.guards.BundleGuard.{BundleGuard}
 use Rattle.pp_vault.specs.declared.stage.Stage.{Stage}
 use Rattle.pp_vault.specs.declared.stage.Stage.TheVariants.{In, Out, Leaving}
 use Rattle.pp_vault.specs.declared.stage.Hand.{Hand}
 use Rattle.pp_vault.specs.Parts.{Parts}
 use Rattle.pp_vault.specs.StandsFor.{StandsFor}
-use Rattle.pp_vault.specs.Fits.{fits_both, asks_latch, asks_unlatch, leaver_fits}
+use Rattle.pp_vault.specs.Fits.{is_gathered, IsEmpty, fits_both, asks_latch, asks_unlatch, leaver_fits}
+use Rattle.pp_vault.specs.Fits.{leaver_fits_bundle}
 use Rattle.pp_vault.specs.ImageMoves.{TakenOut, PutIn, ImagesStay}
-use Rattle.pp_vault.specs.Fixes.{IsHit, IsSent}
+use Rattle.pp_vault.specs.Fixes.{IsHit, OpensBundle, JoinsBundle, IsSent}
 use Rattle.pp_vault.specs.Steps.{told_mark}
 use Rattle.pp_vault.specs.Uses.{IsPutBack}
 use Rattle.pp_vault.specs.Holding.{placed}
@@ -47,7 +49,8 @@ use Rattle.pp_contents.specs.Content.{victim_of, victim_by}
 use Rattle.pp_vault.proofs.BackSteps as back
 use Rattle.pp_contents.proofs.Evictions.{evicted_clean}
 use Rattle.pp_contents.proofs.Finding.{test_same, test_apart}
-use Rattle.pp_vault.proofs.FitTests.{none_some, guard_held, latch_asked, unlatch_asked}
+use Rattle.pp_vault.proofs.FitTests.{none_some, both_hold, guard_held, latch_asked, unlatch_asked}
+use Rattle.pp_vault.proofs.FitTests.{gathered_some}
 use Rattle.pp_vault.proofs.FitTests.{Asking, asking, Holds, holds}
 use Rattle.pp_vault.proofs.GoingBack.{WriterSeat, writer_seat}
 use Rattle.pp_contents.proofs.ImageSteps.{TokenIn, guarded, sent, NoToken, SameToken}
@@ -56,7 +59,7 @@ use Rattle.pp_contents.proofs.ReadyMoves.{ready_same, ready_beside, left_was, le
 use Rattle.pp_contents.proofs.ReadyMoves.{entered_is, entered_others}
 use Rattle.pp_contents.proofs.StepKinds.{CallStep, stays, takes, evicts, puts}
 use Rattle.pp_contents.proofs.TokenMoves.{WritesPage, at_now, now_there, has_now, has_spent, has_more}
-use Rattle.pp_contents.proofs.TokensApart.{Stands, token_unready}
+use Rattle.pp_contents.proofs.TokensApart.{Stands, empty_place, token_unready}
 use Rattle.pp_vault.proofs.UseReplies.{latched_by, unlatched_by}
 
 -- ---- guards that have no page latched X
@@ -72,6 +75,12 @@ read_writes page g w = read_write g w.0 w.1
   where
     read_write : (g : ReadGuard) (h : WriteGuard) → ◌≡◌ {A = Option Guard} (Some (Read g)) (Some (Write h)) → ⊥
     read_write g h e = cc
+
+pub bundle_writes : (page : ℕ) (g : BundleGuard) → WritesPage page (Some (Bundle g)) → ⊥
+bundle_writes page g w = bundle_write g w.0 w.1
+  where
+    bundle_write : (g : BundleGuard) (h : WriteGuard) → ◌≡◌ {A = Option Guard} (Some (Bundle g)) (Some (Write h)) → ⊥
+    bundle_write g h e = cc
 
 same_guard : (g h : WriteGuard) → ◌≡◌ {A = Option Guard} (Some (Write g)) (Some (Write h)) → g ≡ h
 same_guard g h e = cc
@@ -145,17 +154,30 @@ module _ (old new : Parts) (s : State) (w page : ℕ) (hand left : Hand) (x : Se
       → CallStep old new s fixed_next hand left
   hit_moves y g hit now =
       let told = hit.replies s st in
-      let asked = hit.asked s st in
-      let fixed = (after_moves s fix_reached).hit x.worker page g.slot asked.0 told.0 told.1 told.2 asked.1 in
-      let empty : held_of s w g.slot ≡ None = ap (λ v. held_of s v g.slot) (sym worker) ∙ fixed.empty in
+      let empty : IsEmpty s w g.slot = subst (λ v. IsEmpty s v g.slot) worker (hit.was s st) in
       all_stay old new s fixed_next hand left hit.images (still_move s (move.Fix x.worker page) fix_reached (ap is_still told.2))
-      (λ q. has_more hand left (In y) g.slot (Pin g) (slot_empty g.slot empty (placed hand.guards g.slot) refl) now q
+      (λ q. has_more hand left (In y) g.slot (Pin g) (empty_place s w hand a g.slot empty) now q
       (in_plan q) (pin_writes q g))
-    where
-      slot_empty : (slot : ℕ) → held_of s w slot ≡ None → (o : Option Guard) → placed hand.guards slot ≡ o
-          → placed hand.guards slot ≡ None
-      slot_empty slot empty None at = at
-      slot_empty slot empty (Some guard) at = absurd (none_some (sym empty ∙ a.slots slot guard at))
+
+  -- A page that was gathered: the first of a bundle, and a further one.
+  pub opens_moves : (y : Session) (g : BundleGuard) → OpensBundle old new x.worker page y g
+      → left ≡ record { stage = In y; guards = slice_set hand.guards g.slot (Some (Bundle g)) }
+      → CallStep old new s fixed_next hand left
+  opens_moves y g opens now =
+      let told = opens.replies s st in
+      let empty : IsEmpty s w g.slot =
+      subst (λ v. IsEmpty s v g.slot) worker (opens.was s st) in
+      all_stay old new s fixed_next hand left opens.images
+      (still_move s (move.Fix x.worker page) fix_reached (ap is_still told.2))
+      (λ q. has_more hand left (In y) g.slot (Bundle g) (empty_place s w hand a g.slot empty) now q
+      (in_plan q) (bundle_writes q g))
+
+  pub joins_moves : (slot : ℕ) (y : Session) → JoinsBundle old new x.worker slot page y → IsNowAt hand (In y) left
+      → CallStep old new s fixed_next hand left
+  joins_moves slot y joins now =
+      let told = joins.replies s st in
+      now_stays old new s fixed_next hand left (In y) joins.images
+      (still_move s (move.Fix x.worker page) fix_reached (ap is_still told.2)) now in_plan
 
   read_vacates : (frame : ℕ) (image : List ℕ) → reply_of s (move.Fix x.worker page) ≡ reply.MustRead frame
       → TakenOut old new frame image → ((q : ℕ) → SameToken hand left q) → Vacates s fixed_next frame
@@ -330,6 +352,21 @@ module _ (old new : Parts) (s : State) (w : ℕ) (hand left : Hand) (x y : Leave
         let still = did_still s k (unwound_did (next_of s k) page held (reply_of s k) apart unwound.told) in
         all_stay old new s (next_of s k) hand left stay (still_move s k way_reached still)
         (λ q. has_spent hand left (Leaving y) slot guard at now q (same_way q) (none q))
+
+  -- A bundle.
+  module _ (slot : ℕ) (g : BundleGuard) (at : placed hand.guards slot ≡ Some (Bundle g))
+      (fit : leaver_fits_bundle s x.worker g.worker g.slot ≡ true)
+      (done : is_refusal (reply_of s (move.Unwind x.worker g.slot)) ≡ false) where
+    pub bundle_moves : ImagesStay old new → HasSpent hand (Leaving y) slot left
+        → CallStep old new s (next_of s (move.Unwind x.worker g.slot)) hand left
+    bundle_moves stay now =
+        let k : Move = move.Unwind x.worker g.slot in
+        let gathered : is_gathered s x.worker g.slot ≡ true =
+        (both_hold (is_leaving s x.worker && (g.worker == x.worker)) (is_gathered s x.worker g.slot) fit).1 in
+        let unwound = (after_moves s way_reached).unwound_bundle x.worker g.slot done
+        (gathered_some s x.worker g.slot gathered) in
+        all_stay old new s (next_of s k) hand left stay (still_move s k way_reached (did_still s k unwound.told))
+        (λ q. has_spent hand left (Leaving y) slot (Bundle g) at now q (same_way q) (bundle_writes q g))
 
   -- One that is.
   module _ (slot : ℕ) (g : WriteGuard) (at : placed hand.guards slot ≡ Some (Write g)) (long : Bool)

@@ -6,7 +6,7 @@ use Rattle.pp_model.specs.Pool.{State}
 use Rattle.pp_model.specs.Ready.{ready_at}
 use Rattle.pp_device.specs.Image.{body_of}
 use Rattle.pp_vault.specs.declared.guards.Guard.{Guard}
-use Rattle.pp_vault.specs.declared.guards.Guard.TheVariants.{Pin, Read, Write}
+use Rattle.pp_vault.specs.declared.guards.Guard.TheVariants.{Pin, Read, Write, Bundle}
 use Rattle.pp_vault.specs.declared.stage.Hand.{Hand}
 use Rattle.pp_vault.specs.declared.hands.Hands.{Hands}
 use Rattle.pp_vault.specs.Parts.{Parts}
@@ -29,6 +29,7 @@ module _ (hand : Hand) (page : ℕ) where
   by_guard image slot None at e = absurd (none_some e)
   by_guard image slot (Some (Pin g)) at e = absurd (none_some e)
   by_guard image slot (Some (Read g)) at e = absurd (none_some e)
+  by_guard image slot (Some (Bundle g)) at e = absurd (none_some e)
   by_guard image slot (Some (Write g)) at e = go (g.page == page) refl e
     where
       go : (b : Bool) → (g.page == page) ≡ b → (if b then Some g.image else None) ≡ Some image → TokenIn hand page image

@@ -14,10 +14,11 @@ use Rattle.pp_vault.specs.declared.tokens.Leaver.{Leaver}
 use Rattle.pp_vault.specs.declared.tokens.Returned.{Returned}
 use Rattle.pp_vault.specs.declared.tokens.Session.{Session}
 use Rattle.pp_vault.specs.declared.guards.Guard.{Guard}
-use Rattle.pp_vault.specs.declared.guards.Guard.TheVariants.{Pin, Read, Write}
+use Rattle.pp_vault.specs.declared.guards.Guard.TheVariants.{Pin, Read, Write, Bundle}
 use Rattle.pp_vault.specs.declared.guards.PinGuard.{PinGuard}
 use Rattle.pp_vault.specs.declared.guards.ReadGuard.{ReadGuard}
 use Rattle.pp_vault.specs.declared.guards.WriteGuard.{WriteGuard}
+use Rattle.pp_vault.specs.declared.guards.BundleGuard.{BundleGuard}
 use Rattle.pp_vault.specs.declared.fixing.Fixed.{Fixed}
 use Rattle.pp_vault.specs.declared.fixing.Fixed.TheVariants as fixed
 use Rattle.pp_vault.specs.declared.stage.Stage.{Stage}
@@ -28,10 +29,10 @@ use Rattle.pp_vault.specs.StandsFor.{StandsFor}
 use Rattle.pp_vault.specs.Calls.{Call, stranger, asks}
 use Rattle.pp_vault.specs.Events.{Does}
 use Rattle.pp_vault.specs.Fits.{is_acting, fits_both, asks_unfix, asks_latch, asks_unlatch, leaver_fits, names_slot, fix_slot}
-use Rattle.pp_vault.specs.Fits.{take_call, choose_call, finish_call, end_call}
+use Rattle.pp_vault.specs.Fits.{bundle_fits, asks_scatter, leaver_fits_bundle, take_call, choose_call, finish_call, end_call}
 use Rattle.pp_vault.specs.Tokens.{is_long}
 use Rattle.pp_vault.specs.Fixes.{FixAnswers}
-use Rattle.pp_vault.specs.Uses.{Unfixes, LatchesShared, LatchesExclusive, UnlatchesShared, UnlatchesExclusive}
+use Rattle.pp_vault.specs.Uses.{Unfixes, Scatters, LatchesShared, LatchesExclusive, UnlatchesShared, UnlatchesExclusive}
 use Rattle.pp_vault.specs.Leaves.{GivesBack}
 use Rattle.pp_vault.specs.ImageMoves.{ImagesStay}
 use Rattle.pp_vault.specs.Holding.{placed}
@@ -41,6 +42,7 @@ use Rattle.pp_contents.specs.HandMoves.{HandMoves, IsNowAt, HasNow, HasSpent, Ha
 use Rattle.pp_contents.specs.HandMoves as hands
 use Rattle.pp_contents.proofs.CallMoves.{pin_writes, read_writes, all_stay, now_stays, hit_moves, sent_moves, shared_moves}
 use Rattle.pp_contents.proofs.CallMoves.{exclusive_moves, unshared_moves, unlatch_moves, slot_moves, image_moves}
+use Rattle.pp_contents.proofs.CallMoves.{bundle_writes, opens_moves, joins_moves, bundle_moves}
 use Rattle.pp_vault.proofs.FitTests.{some_some, both_hold}
 use Rattle.pp_contents.proofs.MovesDone.{IsDone, call_done, if_asks, guard_is, still_move}
 use Rattle.pp_vault.proofs.Plain.{answered, taken, chosen, finished}
@@ -102,6 +104,16 @@ module _ (old new : Parts) (s : State) (w : ℕ) (hand left : Hand) (m : Move) (
       let e = (if_asks (names_slot (fix_slot x.ask) (ask_of s x.worker)) (move.Fix x.worker page) m d.is).1 in
       to_move (move.Fix x.worker page) e
       (hit_moves old new s w page hand left x stage (in_worker w hand s x a stage) st a y g told.1 now)
+  fix_moves x page (fixed.Opened y g) stage told now =
+      let d : IsDone s _ m = call_done old new _ s m reply st told.0 last in
+      let e = (if_asks (names_slot (fix_slot x.ask) (ask_of s x.worker)) (move.Fix x.worker page) m d.is).1 in
+      to_move (move.Fix x.worker page) e
+      (opens_moves old new s w page hand left x stage (in_worker w hand s x a stage) st a y g told.1 now)
+  fix_moves x page (fixed.Joined y) stage told now =
+      let d : IsDone s _ m = call_done old new _ s m reply st told.0 last in
+      let e = (if_asks (names_slot (fix_slot x.ask) (ask_of s x.worker)) (move.Fix x.worker page) m d.is).1 in
+      to_move (move.Fix x.worker page) e
+      (joins_moves old new s w page hand left x stage (in_worker w hand s x a stage) st a (fix_slot x.ask) y told.1 now)
   fix_moves x page (fixed.Away errand) stage told now =
       let d : IsDone s _ m = call_done old new _ s m reply st told.0 last in
       let e = (if_asks (names_slot (fix_slot x.ask) (ask_of s x.worker)) (move.Fix x.worker page) m d.is).1 in
@@ -120,6 +132,19 @@ module _ (old new : Parts) (s : State) (w : ℕ) (hand left : Hand) (m : Move) (
       to_move k is.2
       (all_stay old new s (next_of s k) hand left told.images (still_move s k st.core.reached still)
       (λ q. has_spent hand left (In y) slot (Pin g) at now q (sym (ap (victim_by q) stage)) (pin_writes q g)))
+
+  scatter_moves : (x y : Session) (slot : ℕ) (g : BundleGuard) → hand.stage ≡ In x
+      → placed hand.guards slot ≡ Some (Bundle g)
+      → Scatters old x g new y → HasSpent hand (In y) slot left → CallStep old new s (next_of s m) hand left
+  scatter_moves x y slot g stage at told now =
+      let k : Move = move.Unfix x.worker in
+      let d : IsDone s _ m = call_done old new _ s m reply st told.does last in
+      let is = guard_is (bundle_fits s x.worker g.worker g.slot) (asks_scatter g.slot (ask_of s x.worker)) k m d.is in
+      let still : is_still (reply_of s k) ≡ true =
+      ap is_still (did_by x.worker (reply_of s k) (done_of k is.2 d.done) (reply_fits s k)) in
+      to_move k is.2
+      (all_stay old new s (next_of s k) hand left told.images (still_move s k st.core.reached still)
+      (λ q. has_spent hand left (In y) slot (Bundle g) at now q (sym (ap (victim_by q) stage)) (bundle_writes q g)))
 
   latch_shared_moves : (x y : Session) (slot : ℕ) (g : PinGuard) (h : ReadGuard) → hand.stage ≡ In x
       → placed hand.guards slot ≡ Some (Pin g) → LatchesShared old x g new y h → HasNow hand (In y) slot (Read h) left
@@ -192,6 +217,12 @@ module _ (old new : Parts) (s : State) (w : ℕ) (hand left : Hand) (m : Move) (
       to_move k is.1
       (image_moves old new s w hand left x y stage st a slot g at (is_long old g.image) is.0 (done_of k is.1 d.done)
       (reached_next k is.1).core.reached (stands_next k is.1) told.image now)
+  give_back_moves x y slot (Bundle g) stage at told now =
+      let k : Move = move.Unwind x.worker g.slot in
+      let d : IsDone s _ m = call_done old new _ s m reply st told.still.does last in
+      let is = if_asks (leaver_fits_bundle s x.worker g.worker g.slot) k m d.is in
+      to_move k is.1
+      (bundle_moves old new s w hand left x y stage st a slot g at is.0 (done_of k is.1 d.done) told.images now)
 
   -- Any of them.
   pub call_moves : HandMoves old hand new left → ((r : Returned) → hand.stage ≡ Back r → ⊥)
@@ -211,6 +242,7 @@ module _ (old new : Parts) (s : State) (w : ℕ) (hand left : Hand) (m : Move) (
   call_moves (hands.fixes x page f stage told now) asks_none = fix_moves x page f stage told now
   call_moves (hands.answers returned out stage told now) asks_none = absurd (asks_none returned stage)
   call_moves (hands.unfixes x y slot g stage at told now) asks_none = unfix_moves x y slot g stage at told now
+  call_moves (hands.scatters x y slot g stage at told now) asks_none = scatter_moves x y slot g stage at told now
   call_moves (hands.latches_shared x y slot g h stage at told now) asks_none =
       latch_shared_moves x y slot g h stage at told now
   call_moves (hands.latches_exclusive x y slot g h stage at told now) asks_none =

@@ -5,7 +5,7 @@ use Rattle.std.specs.Prelude.{slice_get, sum_by, if◌then◌else◌, ◌==◌, 
 use Rattle.std.proofs.lemmas.Bool.{false≢true}
 use Rattle.std.proofs.lemmas.List.Sums.{sum_by-cons}
 use Rattle.pp_cert.specs.declared.note.Held.{Held}
-use Rattle.pp_cert.specs.declared.note.Held.TheVariants.{X}
+use Rattle.pp_cert.specs.declared.note.Held.TheVariants.{Free, S, X}
 use Rattle.pp_arc.specs.FourLists.{is_cached}
 use Rattle.pp_model.specs.Pool.{writing, reading, Running, State, frame_of, frame_at}
 use Rattle.pp_model.specs.Holders.{times}
@@ -24,7 +24,7 @@ use Rattle.pp_core.proofs.AfterMoves.{after_moves}
 use Rattle.pp_vault.specs.declared.tokens.Duty.{Duty}
 use Rattle.pp_vault.specs.declared.tokens.Duty.TheVariants as duty
 use Rattle.pp_vault.specs.declared.guards.Guard.{Guard}
-use Rattle.pp_vault.specs.declared.guards.Guard.TheVariants.{Pin, Read, Write}
+use Rattle.pp_vault.specs.declared.guards.Guard.TheVariants.{Pin, Read, Write, Bundle}
 use Rattle.pp_vault.specs.declared.guards.WriteGuard.{WriteGuard}
 use Rattle.pp_vault.specs.declared.stage.Stage.{Stage}
 use Rattle.pp_vault.specs.declared.stage.Stage.TheVariants.{Idle, In, Out, Back, Leaving}
@@ -33,7 +33,8 @@ use Rattle.pp_vault.specs.Hands.{StageFits, PlaceFits, GuardFits, HandFits}
 use Rattle.pp_vault.specs.Tokens.{IsOut}
 use Rattle.pp_vault.specs.Duties.{duty_worker}
 use Rattle.pp_vault.specs.Stages.{stage_worker}
-use Rattle.pp_vault.specs.Holding.{placed, held_by}
+use Rattle.pp_vault.specs.Fits.{is_gathered, IsEmpty}
+use Rattle.pp_vault.specs.Holding.{placed}
 use Rattle.pp_contents.specs.Content.{victim_of, victim_by}
 use Rattle.pp_contents.proofs.AgreementPlaces.{stage_fits}
 use Rattle.pp_vault.proofs.ErrandSteps.{is_writing, is_reading}
@@ -49,11 +50,18 @@ pub record Sends (s : State) (w page : ℕ) : Type 0 where
   pub loaded : ℕ
   pub out : errand_of s w ≡ Some (slot, loaded, Some page)
 
+-- What the guard of a slot is about is so in the state.
+abbrev pub StandsSo : State → (w slot : ℕ) → Guard → Type 0
+StandsSo s w slot (Pin g) = held_of s w slot ≡ Some (g.page, Free)
+StandsSo s w slot (Read g) = held_of s w slot ≡ Some (g.page, S)
+StandsSo s w slot (Write g) = held_of s w slot ≡ Some (g.page, X)
+StandsSo s w slot (Bundle g) = is_gathered s w slot ≡ true
+
 -- What the tokens of worker w's hand are about is so in the state.
 pub record Stands (s : State) (w : ℕ) (hand : Hand) : Type 0 where
   pub worker : stage_worker hand.stage ≡ Some w
   pub slots : (slot : ℕ) (guard : Guard) → placed hand.guards slot ≡ Some guard
-      → held_of s w slot ≡ Some (held_by guard)
+      → StandsSo s w slot guard
   pub sends : (page : ℕ) (image : List ℕ) → victim_by page hand.stage ≡ Some image → Sends s w page
 
 -- ---- a hand that fits stands
@@ -91,11 +99,11 @@ stage_sends n s w (Back returned) fits page image e =
     duty_sends s w page returned.image image returned.duty fits.worker fits.out e
 stage_sends n s w (Leaving leaver) fits page image e = absurd (none_some e)
 
-guard_stands : (n : ℕ) (s : State) (w slot : ℕ) (g : Guard) → GuardFits n s w slot g
-    → held_of s w slot ≡ Some (held_by g)
+guard_stands : (n : ℕ) (s : State) (w slot : ℕ) (g : Guard) → GuardFits n s w slot g → StandsSo s w slot g
 guard_stands n s w slot (Pin g) fits = fits.held
 guard_stands n s w slot (Read g) fits = fits.held
 guard_stands n s w slot (Write g) fits = fits.held
+guard_stands n s w slot (Bundle g) fits = fits.gathered
 
 pub stands : (n : ℕ) (s : State) (w : ℕ) (hand : Hand) → HandFits n s w hand → Stands s w hand
 stands n s w hand fits =
@@ -104,6 +112,21 @@ stands n s w hand fits =
       slots = λ slot g at. guard_stands n s w slot g (subst (PlaceFits n s w slot) at (fits.guards slot));
       sends = stage_sends n s w hand.stage fits.stage;
     }
+
+-- The place of a slot that is empty has no guard.
+guard_holds : (s : State) (w slot : ℕ) (g : Guard) → StandsSo s w slot g → IsEmpty s w slot → ⊥
+guard_holds s w slot (Pin g) so empty = none_some (sym empty.no_page ∙ so)
+guard_holds s w slot (Read g) so empty = none_some (sym empty.no_page ∙ so)
+guard_holds s w slot (Write g) so empty = none_some (sym empty.no_page ∙ so)
+guard_holds s w slot (Bundle g) so empty = false≢true (sym empty.no_bundle ∙ so)
+
+pub empty_place : (s : State) (w : ℕ) (hand : Hand) → Stands s w hand → (slot : ℕ) → IsEmpty s w slot
+    → placed hand.guards slot ≡ None
+empty_place s w hand a slot empty = go (placed hand.guards slot) refl
+  where
+    go : (o : Option Guard) → placed hand.guards slot ≡ o → placed hand.guards slot ≡ None
+    go None at = at
+    go (Some g) at = absurd (guard_holds s w slot g (a.slots slot g at) empty)
 
 -- An errand that was carried out is of the same worker, and stands as before it was.
 pub stands_back : (n : ℕ) (s : State) (w : ℕ) (hand : Hand) (d : Duty) (image : List ℕ) (back : Stage)

@@ -1,10 +1,11 @@
 -- What a call of a vault that is done makes of the hand in which its tokens were.
 use Rattle.std.specs.Prelude.{◌≡◌, ℕ, Some, None, slice_set}
 use Rattle.pp_vault.specs.declared.guards.Guard.{Guard}
-use Rattle.pp_vault.specs.declared.guards.Guard.TheVariants.{Pin, Read, Write}
+use Rattle.pp_vault.specs.declared.guards.Guard.TheVariants.{Pin, Read, Write, Bundle}
 use Rattle.pp_vault.specs.declared.guards.PinGuard.{PinGuard}
 use Rattle.pp_vault.specs.declared.guards.ReadGuard.{ReadGuard}
 use Rattle.pp_vault.specs.declared.guards.WriteGuard.{WriteGuard}
+use Rattle.pp_vault.specs.declared.guards.BundleGuard.{BundleGuard}
 use Rattle.pp_vault.specs.declared.tokens.Chair.{Chair}
 use Rattle.pp_vault.specs.declared.tokens.Session.{Session}
 use Rattle.pp_vault.specs.declared.tokens.Leaver.{Leaver}
@@ -21,7 +22,7 @@ use Rattle.pp_vault.specs.Events.{Does}
 use Rattle.pp_vault.specs.Fits.{take_call, choose_call, finish_call, end_call}
 use Rattle.pp_vault.specs.Fixes.{FixAnswers}
 use Rattle.pp_vault.specs.Answers.{AnswerComesTo}
-use Rattle.pp_vault.specs.Uses.{Unfixes, LatchesShared, LatchesExclusive, UnlatchesShared, UnlatchesExclusive}
+use Rattle.pp_vault.specs.Uses.{Unfixes, Scatters, LatchesShared, LatchesExclusive, UnlatchesShared, UnlatchesExclusive}
 use Rattle.pp_vault.specs.Leaves.{GivesBack}
 use Rattle.pp_vault.specs.ImageMoves.{ImagesStay}
 use Rattle.pp_vault.specs.Holding.{placed}
@@ -39,17 +40,25 @@ HasNow hand stage slot guard left =
 abbrev pub HasSpent : (hand : Hand) → Stage → (slot : ℕ) → (left : Hand) → Type 0
 HasSpent hand stage slot left = left ≡ record { stage = stage; guards = slice_set hand.guards slot None }
 
--- What a fix gave: the guard of a slot, or an errand.
+-- What a fix gave: the guard of a slot, or of a bundle that it opened; nothing beside the token for a further page of a
+-- bundle; or an errand.
 abbrev pub HasFixed : (hand : Hand) → Fixed → (left : Hand) → Type 0
 HasFixed hand (fixed.Got session guard) left =
     left ≡ record { stage = In session; guards = slice_set hand.guards guard.slot (Some (Pin guard)) }
+HasFixed hand (fixed.Opened session guard) left =
+    left ≡ record { stage = In session; guards = slice_set hand.guards guard.slot (Some (Bundle guard)) }
+HasFixed hand (fixed.Joined session) left = IsNowAt hand (In session) left
 HasFixed hand (fixed.Away errand) left = IsNowAt hand (Out errand) left
 HasFixed hand (fixed.No session refusal) left = ⊥
 
--- What an answer gave: the guard of a slot, a further errand, or the way out of the plan.
+-- What an answer gave: the guard of a slot, or of a bundle that it opened; nothing beside the token for a further page of a
+-- bundle; a further errand; or the way out of the plan.
 abbrev pub HasAnswer : (hand : Hand) → Answered → (left : Hand) → Type 0
 HasAnswer hand (answered.Got session guard) left =
     left ≡ record { stage = In session; guards = slice_set hand.guards guard.slot (Some (Pin guard)) }
+HasAnswer hand (answered.Opened session guard) left =
+    left ≡ record { stage = In session; guards = slice_set hand.guards guard.slot (Some (Bundle guard)) }
+HasAnswer hand (answered.Joined session) left = IsNowAt hand (In session) left
 HasAnswer hand (answered.Away errand) left = IsNowAt hand (Out errand) left
 HasAnswer hand (answered.Lost leaver) left = IsNowAt hand (Leaving leaver) left
 HasAnswer hand (answered.Flushed clean) left = ⊥
@@ -72,6 +81,9 @@ pub data HandMoves (old : Parts) (hand : Hand) (new : Parts) (left : Hand) : Typ
       → AnswerComesTo old returned answered new → HasAnswer hand answered left → HandMoves old hand new left
   unfixes : (session now : Session) (slot : ℕ) (guard : PinGuard) → hand.stage ≡ In session
       → placed hand.guards slot ≡ Some (Pin guard) → Unfixes old session guard new now
+      → HasSpent hand (In now) slot left → HandMoves old hand new left
+  scatters : (session now : Session) (slot : ℕ) (guard : BundleGuard) → hand.stage ≡ In session
+      → placed hand.guards slot ≡ Some (Bundle guard) → Scatters old session guard new now
       → HasSpent hand (In now) slot left → HandMoves old hand new left
   latches_shared : (session now : Session) (slot : ℕ) (guard : PinGuard) (latched : ReadGuard)
       → hand.stage ≡ In session → placed hand.guards slot ≡ Some (Pin guard)

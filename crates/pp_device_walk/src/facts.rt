@@ -99,10 +99,10 @@ fn push_guards(
     Ok(())
 }
 
-/// Sees that a worker at a fix can find a frame, and that one at a latch asks it in the order of the classes.
+/// Sees that a worker at a fix or a gather can find a frame, and that one at a latch asks it in the order of the classes.
 fn see_ask(vault: &Vault, plain: &Plain, holdings: &[Holding], worker: u32) -> anyhow::Result<()> {
     match vault.ask(worker) {
-        Some(Ask::Fix { .. }) => {
+        Some(Ask::Fix { .. } | Ask::Gather { .. }) => {
             if frames_fixed(vault, plain, holdings) >= plain.frames as usize {
                 anyhow::bail!("worker {worker} finds all frames fixed");
             }
@@ -196,7 +196,7 @@ fn see_image(
 fn show(vault: &Vault, guards: &mut Guards, slot: u32, shown: &mut [u8]) -> Option<(u32, u64)> {
     let guard = guards.take(slot)?;
     let named = match &guard {
-        Guard::Pin(_) => None,
+        Guard::Pin(_) | Guard::Bundle(_) => None,
         Guard::Read(guard) => {
             let _ = vault.look(guard, shown);
             Some((guard.page(), guard.mark()))

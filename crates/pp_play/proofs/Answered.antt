@@ -194,6 +194,8 @@ write_line slot byte old now (guard.Pin g) h NoLatch into there is =
     is ∙ ap (λ x. slice_set old slot (Some x)) into ∙ stays_put old slot (guard.Pin g) there
 write_line slot byte old now (guard.Read g) h NoLatch into there is =
     is ∙ ap (λ x. slice_set old slot (Some x)) into ∙ stays_put old slot (guard.Read g) there
+write_line slot byte old now (guard.Bundle g) h NoLatch into there is =
+    is ∙ ap (λ x. slice_set old slot (Some x)) into ∙ stays_put old slot (guard.Bundle g) there
 write_line slot byte old now g h line into there is = absurd into
 
 pub look_line : (v : Parts) (s : State) (slot : ℕ) (old now : List (Option Guard)) (g : Guard) (line : Line)

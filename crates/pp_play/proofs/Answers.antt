@@ -1,5 +1,5 @@
 -- How an answer of a device is told to the core.
-use Rattle.std.proofs.Common.{◌≡◌, ◌∙◌, ℕ, Bool, true, false, Option, Some, None, List, refl, sym, ap, subst, rules}
+use Rattle.std.proofs.Common.{◌≡◌, ◌∙◌, ℕ, Bool, true, false, Option, Some, None, List, refl, sym, ap, subst}
 use Rattle.std.specs.Prelude.{IsSome, is_ok, is_some, unwrap_or, if◌then◌else◌}
 use Rattle.std.proofs.lemmas.Bool.{false≢true}
 use Rattle.pp_model.specs.declared.moves.Move.{Move}
@@ -12,7 +12,7 @@ use Rattle.pp_vault.specs.declared.tokens.Duty.TheVariants as duty
 use Rattle.pp_vault.specs.declared.tokens.Errand.{Errand}
 use Rattle.pp_vault.specs.declared.tokens.Returned.{Returned}
 use Rattle.pp_vault.specs.declared.answering.Answered.{Answered}
-use Rattle.pp_vault.specs.declared.answering.Answered.TheVariants.{Got, Away, Lost, Flushed, No}
+use Rattle.pp_vault.specs.declared.answering.Answered.TheVariants.{Got, Opened, Joined, Away, Lost, Flushed}
 use Rattle.pp_vault.specs.declared.stage.Hand.{Hand}
 use Rattle.pp_vault.specs.declared.stage.Stage.{Stage}
 use Rattle.pp_vault.specs.declared.stage.Stage.TheVariants.{Idle, In, Out, Back, Leaving}
@@ -65,6 +65,8 @@ duty_move s n (duty.Flush page) image answer m r allowed e =
 duty_does : (old new : Parts) (d : Duty) (image : List ℕ) (ok : Bool) (out : Answered)
     → DutyEnds old d image ok out new → Does old (duty_call old.page_bytes d image ok) new
 duty_does old new (duty.Read w slot page) image ok (Got x g) ends = ends.0
+duty_does old new (duty.Read w slot page) image ok (Opened x g) ends = ends.0
+duty_does old new (duty.Read w slot page) image ok (Joined x) ends = ends.0
 duty_does old new (duty.Read w slot page) image ok (Lost leaver) ends = ends.0
 duty_does old new (duty.Write w slot page victim) image ok (Away errand) ends = ends.1
 duty_does old new (duty.Write w slot page victim) image ok (Lost leaver) ends = ends.1

@@ -7,7 +7,8 @@ use Rattle.pp_vault.specs.Parts.{Parts}
 use Rattle.pp_vault.specs.StandsFor.{IsKept}
 use Rattle.pp_vault.specs.Events.{Does}
 use Rattle.pp_vault.specs.Fits.{take_call, end_call, finish_call, fix_call, choose_call}
-use Rattle.pp_vault.specs.Fits.{unfix_call, latch_call, unlatch_call, put_back_call, unwind_call}
+use Rattle.pp_vault.specs.Fits.{unfix_call, scatter_call, latch_call, unlatch_call, put_back_call, unwind_call}
+use Rattle.pp_vault.specs.Fits.{unwind_bundle_call}
 use Rattle.pp_vault.specs.Flushes.{flush_call}
 use Rattle.pp_vault.specs.Answers.{read_call, write_call, flushed_call, came_of}
 use Rattle.pp_device.specs.Image.{head_of}
@@ -43,6 +44,10 @@ module _ (old new : Parts) (kept : IsKept old) (v w : ℕ) (e : v ≡ w) where
   unfix_done of k p does =
       is_done old new (unfix_call v of k p) (cue.Unfix w) does (λ s. asks_guard _ _ (cue.Unfix w) _ (ap move.Unfix e)) kept
 
+  pub scatter_done : (of slot : ℕ) → Does old (scatter_call v of slot) new → IsDone old (cue.Unfix w) new
+  scatter_done of k does =
+      is_done old new (scatter_call v of k) (cue.Unfix w) does (λ s. asks_guard _ _ (cue.Unfix w) _ (ap move.Unfix e)) kept
+
   pub latch_done : (m : Mode) (of slot page : ℕ) → Does old (latch_call m v of slot page) new
       → IsDone old (cue.Latch w) new
   latch_done m of k p does =
@@ -64,6 +69,13 @@ module _ (old new : Parts) (kept : IsKept old) (v w : ℕ) (e : v ≡ w) where
       → Does old (unwind_call long h v of slot page) new → IsDone old (cue.Unwind w k) new
   unwind_done long h of slot k p same_slot does =
       is_done old new (unwind_call long h v of slot p) (cue.Unwind w k) does
+      (λ s. asks_if _ (cue.Unwind w k) (move.Unwind v slot)
+      (ap (λ x. move.Unwind x slot) e ∙ ap (move.Unwind w) same_slot)) kept
+
+  pub unwind_bundle_done : (of slot k : ℕ) → slot ≡ k → Does old (unwind_bundle_call v of slot) new
+      → IsDone old (cue.Unwind w k) new
+  unwind_bundle_done of slot k same_slot does =
+      is_done old new (unwind_bundle_call v of slot) (cue.Unwind w k) does
       (λ s. asks_if _ (cue.Unwind w k) (move.Unwind v slot)
       (ap (λ x. move.Unwind x slot) e ∙ ap (move.Unwind w) same_slot)) kept
 

@@ -1,5 +1,5 @@
 -- What a cue leaves of the contents of pages.
-use Rattle.std.proofs.Common.{◌≡◌, ◌∙◌, ℕ, ◌≤◌, true, false, Option, Some, None, List, [], refl, sym, ap, subst, arith}
+use Rattle.std.proofs.Common.{◌≡◌, ◌∙◌, ℕ, ◌≤◌, Option, Some, None, List, [], refl, sym, ap, subst, arith}
 use Rattle.std.specs.Prelude.{slice_get, slice_set, is_some, unwrap_or, length}
 use Rattle.std.proofs.lemmas.Bool.{false≢true}
 use Rattle.std.proofs.lemmas.List.{get_or_past, drop-set-add}
@@ -20,7 +20,7 @@ use Rattle.pp_vault.specs.declared.hands.Hands.{Hands}
 use Rattle.pp_vault.specs.Parts.{Parts}
 use Rattle.pp_vault.specs.StandsFor.{StandsFor}
 use Rattle.pp_vault.specs.Events.{untold}
-use Rattle.pp_vault.specs.Hands.{HandsFit, HandsFitState, GuardFits, PlaceFits}
+use Rattle.pp_vault.specs.Hands.{HandsFit, GuardFits, PlaceFits}
 use Rattle.pp_vault.specs.HandLaws.{FitsIn}
 use Rattle.pp_vault.specs.Holding.{placed}
 use Rattle.pp_contents.specs.Content.{or_other, first_given, written_in, victim_in, standing_image, ready_image, content}
@@ -30,8 +30,7 @@ use Rattle.pp_contents.specs.ContentLaws as law
 use Rattle.pp_contents.specs.ContentLaws.{KeepsContents, ContentsAreSeen, WritersSetContents}
 use Rattle.pp_script.specs.declared.cue.Cue.{Cue}
 use Rattle.pp_script.specs.declared.cue.Cue.TheVariants.{Write, Look}
-use Rattle.pp_play.specs.declared.line.Line.{Line}
-use Rattle.pp_play.specs.declared.line.Line.TheVariants.{Did, Refused, Wrote, Looked, NoLatch}
+use Rattle.pp_play.specs.declared.line.Line.TheVariants.{Did, Refused}
 use Rattle.pp_play.specs.Exact.{Lets, Writes, first_of, guards_by, guards_of, hand_with, hands_with}
 use Rattle.pp_play.specs.Following.{CueFollows, ShowsFirst}
 use Rattle.pp_play.proofs.AllHands.{part_fits}
@@ -141,6 +140,7 @@ module _ (v : Parts) (s : State) (st : StandsFor v s) (hands : Hands) (w slot : 
         → (image : List ℕ) (byte : ℕ) → Lets v s o image → first_of image ≡ Some byte → Shown byte
     shown_by hand there None at image byte lets first = absurd lets
     shown_by hand there (Some (guard.Pin g)) at image byte lets first = absurd lets
+    shown_by hand there (Some (guard.Bundle g)) at image byte lets first = absurd lets
     shown_by hand there (Some (guard.Read g)) at image byte lets first =
         let same = (seen v s hands told w slot hand at_hand there).1 g image at lets in
         (g.page, S, (here hand there (guard.Read g) at).held, ap (λ l. slice_get l 0) same ∙ first)

@@ -1,7 +1,7 @@
--- Errands that are out: each answer of a device to one is taken, and the slot of one is empty.
-use Rattle.std.proofs.Common.{◌≡◌, ◌∙◌, ℕ, Bool, true, false, not, Option, Some, None, List, length, refl, sym, ap}
+-- Errands that are out: each answer of a device to one is taken.
+use Rattle.std.proofs.Common.{◌≡◌, ℕ, Bool, true, false, Option, Some, None, List, length, refl, sym, ap}
 use Rattle.std.proofs.Common.{subst, arith}
-use Rattle.std.specs.Prelude.{◌&&◌, ◌||◌, ◌==◌, if◌then◌else◌, option_map, unwrap_or}
+use Rattle.std.specs.Prelude.{◌&&◌, ◌==◌, if◌then◌else◌, option_map, unwrap_or}
 use Rattle.std.specs.Option.{is_some}
 use Rattle.std.proofs.lemmas.Bool.{false≢true}
 use Rattle.std.proofs.lemmas.Bool.Decides.{nat_tests}
@@ -9,19 +9,14 @@ use Rattle.pp_model.specs.declared.moves.Came.{Came}
 use Rattle.pp_model.specs.declared.moves.Came.TheVariants.{Fault, Image}
 use Rattle.pp_model.specs.declared.moves.Move.{Move}
 use Rattle.pp_model.specs.declared.moves.Move.TheVariants as move
-use Rattle.pp_model.specs.declared.reply.Reply.TheVariants as reply
-use Rattle.pp_model.specs.Pool.{Stage, acting, writing, reading, leaving, Running, Flush, State, frame_at, known_mark}
+use Rattle.pp_model.specs.Pool.{Stage, acting, writing, reading, leaving, Running, Flush, State, known_mark}
 use Rattle.pp_model.specs.Moves.{reply_of, seat_of}
-use Rattle.pp_model.specs.Answers.{write_in, write_by, is_other, is_misread, read_where, read_came, read_in, read_by}
+use Rattle.pp_model.specs.Answers.{write_in, write_by, is_misread, read_where, read_came, read_in, read_by}
 use Rattle.pp_model.specs.Flushing.{is_clean, flushed_where, flushed_by}
-use Rattle.pp_core.specs.Queries.{errand_in, errand_by, errand_of, held_of, flushed_page}
-use Rattle.pp_core.proofs.AfterMoves.{after_moves}
-use Rattle.pp_core.proofs.PlainSlots.{loaded}
+use Rattle.pp_core.specs.Queries.{errand_in, errand_by, errand_of, flushed_page}
 use Rattle.pp_device.specs.Image.{head_of}
 use Rattle.pp_vault.specs.declared.tokens.Duty.{Duty}
 use Rattle.pp_vault.specs.declared.tokens.Duty.TheVariants as duty
-use Rattle.pp_vault.specs.Parts.{Parts}
-use Rattle.pp_vault.specs.StandsFor.{StandsFor}
 use Rattle.pp_vault.specs.Calls.{asks, stranger, refusal_in, refusal_of}
 use Rattle.pp_vault.specs.Answers.{is_of_read, is_of_write, is_of_flush, is_head_of, came_of, duty_call}
 use Rattle.pp_vault.specs.Answers.{is_read_out, is_write_out, is_flush_out}
@@ -57,28 +52,11 @@ module _ (s : State) (w slot page victim : ℕ) where
       → refusal_in (reply_of s (move.WriteDone w ok)) ≡ None
   write_taken ok e = write_by_seat ok (seat_of s w) e
 
-  written_at : (r : Running) (x : Stage) → errand_in x ≡ Some (slot, page, Some victim)
-      → (frame : ℕ) × ((write_in s w true r x).reply ≡ reply.MustRead frame)
-  written_at r acting e = absurd (false≢true (ap has_victim e))
-  written_at r (writing k p v) e = (frame_at s p, refl)
-  written_at r (reading k p) e = absurd (false≢true (ap has_victim e))
-  written_at r (leaving given) e = absurd (false≢true (ap has_victim e))
-
-  written_by_seat : (o : Option (Option Running)) → errand_by o ≡ Some (slot, page, Some victim)
-      → (frame : ℕ) × ((write_by s w true o).reply ≡ reply.MustRead frame)
-  written_by_seat None e = absurd (false≢true (ap has_victim e))
-  written_by_seat (Some None) e = absurd (false≢true (ap has_victim e))
-  written_by_seat (Some (Some r)) e = written_at r r.stage e
-
 -- Whether a page is read.
 abbrev is_reading : Option (ℕ × ℕ × Option ℕ) → Bool
 is_reading None = false
 is_reading (Some (slot, page, None)) = true
 is_reading (Some (slot, page, Some victim)) = false
-
-known_or_none : (o : Option ℕ) → (mark : ℕ) × (is_other o mark ≡ false)
-known_or_none None = (0, refl)
-known_or_none (Some mark) = (mark, ap not (same_number mark))
 
 module _ (s : State) (w slot page : ℕ) where
   where_taken : (r : Running) (k p mark : ℕ) (misread : Bool)
@@ -106,40 +84,6 @@ module _ (s : State) (w slot page : ℕ) where
   pub read_taken : (came : Came) → errand_of s w ≡ Some (slot, page, None)
       → refusal_in (reply_of s (move.ReadDone w came)) ≡ None
   read_taken came e = read_by_seat came (seat_of s w) e
-
-  -- Some answer loads the page.
-  right_image : (p mark : ℕ) → is_other (known_mark s p) mark ≡ false → is_misread s p p mark ≡ false
-  right_image p mark e = ap (λ b. not b || is_other (known_mark s p) mark) (same_number p) ∙ e
-
-  loaded_at : (r : Running) (x : Stage) → errand_in x ≡ Some (slot, page, None)
-      → (came : Came) × (mark : ℕ) × ((read_in s w came r x).reply ≡ reply.Loaded mark)
-  loaded_at r acting e = absurd (false≢true (ap is_reading e))
-  loaded_at r (writing k p v) e = absurd (false≢true (ap is_reading e))
-  loaded_at r (reading k p) e =
-      let known = known_or_none (known_mark s p) in (
-        Image p known.0,
-        known.0,
-        ap (λ b. (read_where s w r k p known.0 b).reply) (right_image p known.0 known.1),
-      )
-  loaded_at r (leaving given) e = absurd (false≢true (ap is_reading e))
-
-  loaded_by_seat : (o : Option (Option Running)) → errand_by o ≡ Some (slot, page, None)
-      → (came : Came) × (mark : ℕ) × ((read_by s w came o).reply ≡ reply.Loaded mark)
-  loaded_by_seat None e = absurd (false≢true (ap is_reading e))
-  loaded_by_seat (Some None) e = absurd (false≢true (ap is_reading e))
-  loaded_by_seat (Some (Some r)) e = loaded_at r r.stage e
-
--- ---- the slot of an errand
-
--- The slot of an errand is empty: a page may come that it holds then.
-pub errand_empty : (v : Parts) (s : State) → StandsFor v s → (w slot page : ℕ) (victim : Option ℕ)
-    → errand_of s w ≡ Some (slot, page, victim) → held_of s w slot ≡ None
-errand_empty v s st w slot page None e =
-    let l = loaded_by_seat s w slot page (seat_of s w) e in
-    (loaded s st.core.reached w l.0 slot page l.1 l.2 e).fixed.empty
-errand_empty v s st w slot page (Some victim) e =
-    let l = written_by_seat s w slot page victim (seat_of s w) e in
-    ((after_moves s st.core.reached).written w true slot page victim l.0 l.1 e).empty
 
 -- ---- a flush
 

@@ -17,8 +17,10 @@ use Rattle.pp_vault.specs.Parts.{Parts}
 use Rattle.pp_vault.specs.StandsFor.{StandsFor}
 use Rattle.pp_vault.specs.Looks as looks
 use Rattle.pp_vault.specs.Holding.{placed, slot_by}
-use Rattle.pp_vault.specs.Hands.{PlaceFits, GuardFits, IsWrite}
+use Rattle.pp_vault.specs.Fits.{IsEmpty}
+use Rattle.pp_vault.specs.Hands.{PlaceFits, GuardFits, IsWrite, IsBundle}
 use Rattle.pp_vault.specs.HandLaws.{FitsIn}
+use Rattle.pp_vault.proofs.FitTests.{bundle_alone}
 use Rattle.pp_script.specs.declared.cue.Cue.TheVariants as cue
 use Rattle.pp_play.specs.declared.line.Line.{Line}
 use Rattle.pp_play.specs.declared.line.Line.TheVariants.{Did, Refused, Wrote, Looked, NoLatch}
@@ -60,7 +62,9 @@ module _ (v : Parts) (w : ℕ) (hand : Hand) (slot : ℕ) (fits : FitsIn v w han
   here g there s st = subst (λ o. PlaceFits v.page_bytes s w slot o) there ((fits s st).guards slot)
 
   none_here : placed hand.guards slot ≡ None → (s : State) → StandsFor v s → held_of s w slot ≡ None
-  none_here there s st = subst (λ o. PlaceFits v.page_bytes s w slot o) there ((fits s st).guards slot)
+  none_here there s st =
+      let empty : IsEmpty s w slot = subst (λ o. PlaceFits v.page_bytes s w slot o) there ((fits s st).guards slot) in
+      empty.no_page
 
   with_guards : (guards : List (Option Guard)) → guards ≡ hand.guards
       → FitsIn v w (record { stage = hand.stage; guards = guards })
@@ -165,6 +169,10 @@ module _ (v : Parts) (w : ℕ) (hand : Hand) (slot byte : ℕ) (fits : FitsIn v 
   by_guard (guard.Read g) now NoLatch into there is =
       stayed (guard.Read g) there (is ∙ ap (λ x. slice_set hand.guards slot (Some x)) into) (λ s st.
       ap may_write (here v w hand slot fits (guard.Read g) there s st).held)
+  by_guard (guard.Bundle g) now NoLatch into there is =
+      stayed (guard.Bundle g) there (is ∙ ap (λ x. slice_set hand.guards slot (Some x)) into) (λ s st.
+      let f : IsBundle s w slot g = here v w hand slot fits (guard.Bundle g) there s st in
+      ap may_write (bundle_alone s st.core.reached w slot f.gathered))
   by_guard g now line into there is = absurd into
 
   pub write_plays : (g now : Guard) (line : Line) → WritesInto byte g line now → placed hand.guards slot ≡ Some g

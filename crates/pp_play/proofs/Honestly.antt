@@ -1,5 +1,5 @@
 -- A script over a device that keeps every byte: what the device told is what it keeps.
-use Rattle.std.proofs.Common.{◌≡◌, ◌∙◌, ◌++◌, ℕ, Bool, true, false, Option, Some, None, List, [], ◌∷◌, nat_eq}
+use Rattle.std.proofs.Common.{◌≡◌, ◌∙◌, ℕ, Bool, true, false, Option, Some, None, List, [], ◌∷◌, nat_eq}
 use Rattle.std.proofs.Common.{refl, sym, ap, subst, arith}
 use Rattle.std.specs.Prelude.{◌==◌, slice_get, slice_set, is_some, unwrap_or, if◌then◌else◌, Ok, Err}
 use Rattle.std.proofs.lemmas.Bool.{false≢true}
@@ -13,7 +13,6 @@ use Rattle.pp_vault.specs.declared.tokens.Duty.{Duty}
 use Rattle.pp_vault.specs.declared.tokens.Duty.TheVariants as duty
 use Rattle.pp_vault.specs.declared.tokens.Errand.{Errand}
 use Rattle.pp_vault.specs.declared.stage.Hand.{Hand}
-use Rattle.pp_vault.specs.declared.stage.Stage.TheVariants as stage
 use Rattle.pp_vault.specs.declared.hands.Flushing.{Flushing}
 use Rattle.pp_vault.specs.declared.hands.Flushing.TheVariants as flushing
 use Rattle.pp_vault.specs.declared.hands.Hands.{Hands}
@@ -23,8 +22,7 @@ use Rattle.pp_vault.specs.Hands.{HandsFit, IsAway, FlushingFits, StageFits, IsFl
 use Rattle.pp_vault.specs.HandLaws.{FitsIn}
 use Rattle.pp_vault.specs.Holding.{placed}
 use Rattle.pp_vault.specs.Tokens.{IsOut}
-use Rattle.pp_vault.specs.Carrying.{CarriesOut}
-use Rattle.pp_contents.specs.Told.{duty_page, told_after, TellsWhatItKeeps, HonestTellsWhatItKeeps}
+use Rattle.pp_contents.specs.Told.{duty_page, told_after, HonestTellsWhatItKeeps}
 use Rattle.pp_contents.specs.Content.{image_here, content, ContentsStay, ContentIsSet}
 use Rattle.pp_contents.specs.Agreeing.{Agrees}
 use Rattle.pp_contents.specs.ContentLaws as law

@@ -1,4 +1,5 @@
 pub mod Places
+pub mod Room
 pub mod Done
 pub mod Runs
 pub mod Slots

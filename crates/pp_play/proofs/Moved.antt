@@ -1,5 +1,5 @@
 -- What lines say of the hand whose tokens a call of the vault was done with.
-use Rattle.std.proofs.Common.{◌≡◌, ◌∙◌, ℕ, true, false, Option, Some, None, List, refl, sym, ap, subst}
+use Rattle.std.proofs.Common.{◌≡◌, ◌∙◌, ℕ, true, Option, Some, None, List, refl, sym, ap, subst}
 use Rattle.std.specs.Prelude.{IsSome, slice_set}
 use Rattle.std.proofs.lemmas.Bool.{false≢true}
 use Rattle.pp_model.specs.declared.moves.Move.{Move}
@@ -7,10 +7,9 @@ use Rattle.pp_model.specs.declared.reply.Reply.{Reply}
 use Rattle.pp_model.specs.Pool.{State}
 use Rattle.pp_vault.specs.declared.refusal.Refusal.{Refusal}
 use Rattle.pp_vault.specs.declared.tokens.Session.{Session}
-use Rattle.pp_vault.specs.declared.tokens.Leaver.{Leaver}
 use Rattle.pp_vault.specs.declared.guards.PinGuard.{PinGuard}
 use Rattle.pp_vault.specs.declared.guards.Guard.{Guard}
-use Rattle.pp_vault.specs.declared.guards.Guard.TheVariants.{Pin, Read, Write}
+use Rattle.pp_vault.specs.declared.guards.Guard.TheVariants.{Pin, Read, Write, Bundle}
 use Rattle.pp_vault.specs.declared.stage.Hand.{Hand}
 use Rattle.pp_vault.specs.declared.stage.Stage.{Stage}
 use Rattle.pp_vault.specs.declared.stage.Stage.TheVariants.{In}
@@ -72,6 +71,7 @@ module _ (old new : Parts) (x y : Session) (places : List (Option Guard)) (slot 
   latch_moves g (Pin h) at did = absurd did
   latch_moves g (Read h) at did = latches_shared x y slot g h refl at did refl
   latch_moves g (Write h) at did = latches_exclusive x y slot g h refl at did refl
+  latch_moves g (Bundle h) at did = absurd did
 
   pub unlatch_moves : (g h : Guard) → placed places slot ≡ Some g → UnlatchesWith old x g new y h → Left h
   unlatch_moves (Read g) (Pin h) at did = unlatches_shared x y slot g h refl at did refl
@@ -81,6 +81,9 @@ module _ (old new : Parts) (x y : Session) (places : List (Option Guard)) (slot 
   unlatch_moves (Read g) (Write h) at did = absurd did
   unlatch_moves (Write g) (Read h) at did = absurd did
   unlatch_moves (Write g) (Write h) at did = absurd did
+  unlatch_moves (Read g) (Bundle h) at did = absurd did
+  unlatch_moves (Write g) (Bundle h) at did = absurd did
+  unlatch_moves (Bundle g) h at did = absurd did
 
 -- A guard is put where one was taken out.
 pub put_there : (places taken now : List (Option Guard)) (slot : ℕ) (h : Guard)

@@ -1,24 +1,22 @@
 -- Hands that fit, where no errand is out for their worker, and where one is.
-use Rattle.std.proofs.Common.{◌≡◌, ◌≢◌, ◌∙◌, ℕ, true, Option, Some, None, refl, sym, ap}
+use Rattle.std.proofs.Common.{◌≡◌, ◌≢◌, ℕ, true, Option, Some, None, refl, ap}
 use Rattle.std.specs.Prelude.{is_some}
 use Rattle.std.proofs.lemmas.Bool.{false≢true}
 use Rattle.pp_plan.specs.declared.action.Ask.{Ask}
 use Rattle.pp_model.specs.Pool.{Stage, acting, writing, reading, leaving, Running, State}
 use Rattle.pp_model.specs.Moves.{seat_of}
-use Rattle.pp_core.specs.Queries.{idle_by, leaves, leaving_by, ask_in, ask_by, errand_in, errand_by, errand_of, held_of}
+use Rattle.pp_core.specs.Queries.{idle_by, leaves, leaving_by, ask_in, ask_by, errand_in, errand_by, errand_of}
 use Rattle.pp_vault.specs.declared.tokens.Errand.{Errand}
 use Rattle.pp_vault.specs.declared.tokens.Returned.{Returned}
-use Rattle.pp_vault.specs.declared.guards.Guard.{Guard}
-use Rattle.pp_vault.specs.declared.guards.Guard.TheVariants.{Pin, Read, Write}
 use Rattle.pp_vault.specs.declared.stage.Hand.{Hand}
 use Rattle.pp_vault.specs.declared.stage.Stage as token
 use Rattle.pp_vault.specs.declared.stage.Stage.TheVariants.{Idle, In, Out, Back, Leaving}
 use Rattle.pp_vault.specs.Parts.{Parts}
-use Rattle.pp_vault.specs.Holding.{placed, held_by}
-use Rattle.pp_vault.specs.Hands.{StageFits, GuardFits, PlaceFits}
+use Rattle.pp_vault.specs.Hands.{StageFits}
 use Rattle.pp_vault.specs.HandLaws.{FitsIn}
 use Rattle.pp_play.specs.Doing.{ErrandHasPlace}
-use Rattle.pp_play.proofs.Errands.{errand_empty}
+use Rattle.pp_play.proofs.AskedSlots.{errand_takes}
+use Rattle.pp_play.proofs.Room.{room_fits}
 
 -- ---- where no errand is out
 
@@ -58,26 +56,11 @@ none_out n s w (Out errand) a b fits = absurd (a errand refl)
 none_out n s w (Back returned) a b fits = absurd (b returned refl)
 none_out n s w (Leaving leaver) a b fits = leaving_none (seat_of s w) fits.1
 
--- ---- guards that fit
+-- ---- where one is
 
--- A guard that fits tells what its slot holds.
-pub guard_held : (n : ℕ) (s : State) (w slot : ℕ) (g : Guard) → GuardFits n s w slot g
-    → held_of s w slot ≡ Some (held_by g)
-guard_held n s w slot (Pin g) fits = fits.held
-guard_held n s w slot (Read g) fits = fits.held
-guard_held n s w slot (Write g) fits = fits.held
-
-none_placed : (n : ℕ) (s : State) (w slot : ℕ) (o : Option Guard) → PlaceFits n s w slot o → held_of s w slot ≡ None
-    → o ≡ None
-none_placed n s w slot None fits e = refl
-none_placed n s w slot (Some g) fits e = absurd (false≢true (ap is_some (sym e ∙ guard_held n s w slot g fits)))
-
--- The place of the slot of a worker's errand is free.
+-- The slot of a worker's errand has room for its page.
 pub place_is_free : (old : Parts) (w : ℕ) (hand : Hand) → FitsIn old w hand → ErrandHasPlace old w hand.guards
 place_is_free old w hand fits s st slot page victim e =
-    record {
-      none =
-          none_placed old.page_bytes s w slot (placed hand.guards slot) ((fits s st).guards slot)
-          (errand_empty old s st w slot page victim e);
-      long = (fits s st).places;
-    }
+    let f = fits s st in
+    let takes = errand_takes old s st w slot page victim e in
+    room_fits old.page_bytes s w hand.guards slot f.places takes.0 takes.1 (f.guards slot)

@@ -18,6 +18,7 @@ use Rattle.pp_vault.specs.declared.stage.Stage.TheVariants.{Idle, In, Out, Back,
 use Rattle.pp_vault.specs.Calls.{refusal_in}
 use Rattle.pp_vault.specs.Parts.{Parts}
 use Rattle.pp_vault.specs.StandsFor.{StandsFor}
+use Rattle.pp_vault.specs.Fits.{IsEmpty}
 use Rattle.pp_vault.specs.Hands.{PlaceFits}
 use Rattle.pp_vault.specs.HandLaws.{FitsIn}
 use Rattle.pp_vault.specs.Holding.{placed}
@@ -48,15 +49,16 @@ no_leaver (Out errand) isnt = refl
 no_leaver (Back returned) isnt = refl
 no_leaver (Leaving leaver) isnt = absurd (isnt leaver refl)
 
-no_unfix : (a : Ask) → ((slot : ℕ) → a ≡ ask.Unfix slot → ⊥) → is_unfix a ≡ false
-no_unfix (ask.Fix slot region) isnt = refl
-no_unfix (ask.Unfix slot) isnt = absurd (isnt slot refl)
-no_unfix (ask.Latch slot m) isnt = refl
-no_unfix (ask.Unlatch slot) isnt = refl
-no_unfix (ask.Gather of region) isnt = refl
-no_unfix (ask.Scatter of) isnt = refl
-no_unfix (ask.Choose count) isnt = refl
-no_unfix ask.End isnt = refl
+no_unfix : (a : Ask) → ((slot : ℕ) → a ≡ ask.Unfix slot → ⊥) → ((slot : ℕ) → a ≡ ask.Scatter slot → ⊥)
+    → is_unfix a ≡ false
+no_unfix (ask.Fix slot region) isnt other = refl
+no_unfix (ask.Unfix slot) isnt other = absurd (isnt slot refl)
+no_unfix (ask.Latch slot m) isnt other = refl
+no_unfix (ask.Unlatch slot) isnt other = refl
+no_unfix (ask.Gather of region) isnt other = refl
+no_unfix (ask.Scatter of) isnt other = absurd (other of refl)
+no_unfix (ask.Choose count) isnt other = refl
+no_unfix ask.End isnt other = refl
 
 no_latch : (a : Ask) → ((slot : ℕ) (m : Mode) → a ≡ ask.Latch slot m → ⊥) → is_latch a ≡ false
 no_latch (ask.Fix slot region) isnt = refl
@@ -134,13 +136,14 @@ module _ (v : Parts) (w : ℕ) (hand : Hand) (line : Line) (x : Session) (a : As
   fits_in : FitsIn v w (hand_of (In x) hand.guards)
   fits_in = subst (λ t. FitsIn v w (hand_of t hand.guards)) at fits
 
-  pub unfix_other : ((slot : ℕ) → a ≡ ask.Unfix slot → ⊥) → line ≡ Refused (cue.Unfix w) (OffPlan NotAsked)
-      → HandPlays v w hand (cue.Unfix w) line v hand
-  unfix_other isnt is =
+  pub unfix_other : ((slot : ℕ) → a ≡ ask.Unfix slot → ⊥) → ((slot : ℕ) → a ≡ ask.Scatter slot → ⊥)
+      → line ≡ Refused (cue.Unfix w) (OffPlan NotAsked) → HandPlays v w hand (cue.Unfix w) line v hand
+  unfix_other isnt other is =
       off_plan_plays v w hand line (cue.Unfix w) NotAsked is fits
       (λ s st.
       ap refusal_in
-      (unfix_unasked s w x.ask (fits_in s st).stage.1 (no_unfix x.ask (λ slot e. isnt slot (reads ∙ e)))))
+      (unfix_unasked s w x.ask (fits_in s st).stage.1
+      (no_unfix x.ask (λ slot e. isnt slot (reads ∙ e)) (λ slot e. other slot (reads ∙ e)))))
 
   pub latch_other : ((slot : ℕ) (m : Mode) → a ≡ ask.Latch slot m → ⊥)
       → line ≡ Refused (cue.Latch w) (OffPlan NotAsked) → HandPlays v w hand (cue.Latch w) line v hand
@@ -167,6 +170,5 @@ unwind_empty v w hand line x slot at none fits is =
     subst (λ t. FitsIn v w (hand_of t hand.guards)) at fits in
     off_plan_plays v w hand line (cue.Unwind w slot) NotHeld is fits
     (λ s st.
-    ap refusal_in
-    (not_held s w slot st.core.reached (leaves s st).stage.1
-    (subst (λ o. PlaceFits v.page_bytes s w slot o) none ((fits s st).guards slot))))
+    let empty : IsEmpty s w slot = subst (λ o. PlaceFits v.page_bytes s w slot o) none ((fits s st).guards slot) in
+    ap refusal_in (not_held s w slot st.core.reached empty.no_page empty.no_bundle (leaves s st).stage.1))

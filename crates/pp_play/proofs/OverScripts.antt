@@ -11,7 +11,7 @@ use Rattle.pp_vault.specs.Hands.{HandsFit}
 use Rattle.pp_contents.specs.Agreeing.{Agrees}
 use Rattle.pp_script.specs.declared.cue.Cue.{Cue}
 use Rattle.pp_play.specs.declared.line.Line.{Line}
-use Rattle.pp_play.specs.Following.{PlaysOver, AllOver, PlaysOverDevice}
+use Rattle.pp_play.specs.Following.{AllOver, PlaysOverDevice}
 use Rattle.pp_play.specs.Moving.{PlaysFromAll}
 
 module _ {D : Type 0} (reads : D → ℕ → List ℕ → Answer → List ℕ → D → Type 0)

@@ -1,12 +1,12 @@
 -- Cues that are played over a device.
-use Rattle.std.proofs.Common.{◌≡◌, ◌∙◌, ℕ, Bool, true, false, Option, Some, None, List, refl, sym, ap, subst}
-use Rattle.std.specs.Prelude.{slice_set, is_some, is_ok, unwrap_or}
+use Rattle.std.proofs.Common.{◌≡◌, ◌∙◌, ℕ, true, false, Option, Some, None, List, refl, sym, ap, subst}
+use Rattle.std.specs.Prelude.{is_some, is_ok}
 use Rattle.std.proofs.lemmas.Bool.{false≢true}
 use Rattle.pp_model.specs.declared.moves.Move.{Move}
 use Rattle.pp_model.specs.declared.reply.Reply.{Reply}
 use Rattle.pp_model.specs.Pool.{State}
 use Rattle.pp_model.specs.Moves.{next_of}
-use Rattle.pp_core.specs.Queries.{errand_of, held_of, flushed_page}
+use Rattle.pp_core.specs.Queries.{errand_of, flushed_page}
 use Rattle.pp_device.specs.Answers.{Answer}
 use Rattle.pp_model.specs.declared.refusals.Cause.TheVariants.{NoErrand}
 use Rattle.pp_vault.specs.declared.refusal.Refusal.{Refusal}
@@ -35,7 +35,6 @@ use Rattle.pp_vault.specs.Carrying.{CarriesOut}
 use Rattle.pp_contents.specs.Told.{told_after}
 use Rattle.pp_contents.specs.Content.{content, ContentsStay}
 use Rattle.pp_contents.specs.Agreeing.{Agrees}
-use Rattle.pp_contents.specs.HandMoves.{HandMoves}
 use Rattle.pp_contents.specs.ContentLaws as law
 use Rattle.pp_contents.specs.ContentLaws.{HandsBack, KeepsContents, GivesBackImage, AnswerFollows, returned_of}
 use Rattle.pp_contents.specs.ContentLaws.{CallsKeepContents, AnswersSetContents, FlushesKeepContents}
@@ -44,13 +43,13 @@ use Rattle.pp_script.specs.declared.cue.Cue.{Cue}
 use Rattle.pp_script.specs.declared.cue.Cue.TheVariants as cue
 use Rattle.pp_play.specs.declared.line.Line.{Line}
 use Rattle.pp_play.specs.declared.line.Line.TheVariants.{Did, Refused, Wrote, Looked, NoLatch}
-use Rattle.pp_play.specs.Plays.{Tells, ComesTo}
-use Rattle.pp_play.specs.Exact.{unless_out, refusal_to, IsLineOf, looker, guards_of, hands_with, Leaves, Plays}
+use Rattle.pp_play.specs.Plays.{Tells}
+use Rattle.pp_play.specs.Exact.{unless_out, refusal_to, guards_of, Plays}
 use Rattle.pp_play.specs.Calling.{is_back, tells_answer}
 use Rattle.pp_play.specs.Doing.{cue_worker}
 use Rattle.pp_play.specs.Following.{errand_at, errand_in, flush_errand, errand_for, answer_move}
 use Rattle.pp_play.specs.Following.{CueFollows, ShowsFirst, FlusherFollows, Follows, PlaysOver}
-use Rattle.pp_play.specs.Moving.{tells_move, MovesHand, hand_errand, DoesWith, EndsFlush, KeepsAll, PlaysFromAll}
+use Rattle.pp_play.specs.Moving.{tells_move, hand_errand, DoesWith, EndsFlush, KeepsAll, PlaysFromAll}
 use Rattle.pp_play.proofs.AllHands.{part_fits}
 use Rattle.pp_play.proofs.Answers.{out_at, same_returned}
 use Rattle.pp_play.proofs.Asked.{same}

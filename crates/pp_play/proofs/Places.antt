@@ -7,15 +7,15 @@ use Rattle.std.proofs.lemmas.Bool.Decides.{nat_tests}
 use Rattle.std.proofs.lemmas.List.{get_or_past}
 use Rattle.std.proofs.lemmas.Grind.{common_steps}
 use Rattle.pp_vault.specs.Holding.{placed, is_free}
-use Rattle.pp_play.specs.Doing.{HasPlace}
 
 -- A place that was emptied is free.
 pub freed : {T : Type 0} (places : List (Option T)) (n : ℕ) → n < length places
     → is_free (slice_set places n None) n ≡ true
 freed places n low = grind (arith, common_steps)
 
-pub free_here : {T : Type 0} (places : List (Option T)) (n : ℕ) → HasPlace places n → n < 32 → is_free places n ≡ true
-free_here places n h low = grind (arith, common_steps, h.none, h.long)
+pub free_here : {T : Type 0} (places : List (Option T)) (n : ℕ) → placed places n ≡ None → length places ≡ 32 → n < 32
+    → is_free places n ≡ true
+free_here places n none long low = grind (arith, common_steps, none, long)
 
 -- So is one from which something was taken.
 there_by : {T : Type 0} (places : List (Option T)) (n : ℕ) (x : T) (b : Bool) → nat_lt n (length places) ≡ b

@@ -2,9 +2,10 @@
 use Rattle.std.proofs.Common.{◌≡◌, ◌∙◌, ℕ, false, Option, Some, None, List, refl, ap, subst}
 use Rattle.std.specs.Prelude.{IfNone, IfSome, slice_set}
 use Rattle.pp_vault.specs.declared.guards.PinGuard.{PinGuard}
+use Rattle.pp_vault.specs.declared.guards.BundleGuard.{BundleGuard}
 use Rattle.pp_vault.specs.declared.guards.Guard.{Guard}
-use Rattle.pp_vault.specs.declared.guards.Guard.TheVariants.{Pin, Read, Write}
-use Rattle.pp_vault.specs.Holding.{slot_by, placed}
+use Rattle.pp_vault.specs.declared.guards.Guard.TheVariants.{Pin, Read, Write, Bundle}
+use Rattle.pp_vault.specs.Holding.{slot_by, is_bundle, placed}
 use Rattle.pp_play.proofs.Held.{is_pin, put_other, put_back}
 
 -- The guard that was taken is put back.
@@ -27,6 +28,13 @@ pub no_pin : (g : Guard) → ((pin : PinGuard) → g ≡ Pin pin → ⊥) → is
 no_pin (Pin g) isnt = absurd (isnt g refl)
 no_pin (Read g) isnt = refl
 no_pin (Write g) isnt = refl
+no_pin (Bundle g) isnt = refl
+
+pub no_bundle : (g : Guard) → ((bundle : BundleGuard) → g ≡ Bundle bundle → ⊥) → is_bundle g ≡ false
+no_bundle (Pin g) isnt = refl
+no_bundle (Read g) isnt = refl
+no_bundle (Write g) isnt = refl
+no_bundle (Bundle g) isnt = absurd (isnt g refl)
 
 -- What holds where something is None, or Some.
 pub at_none : {T : Type 0} {P : Type 0} (o : Option T) → IfNone o P → o ≡ None → P

@@ -1,12 +1,13 @@
 -- Take, choose and finish, where the worker's hand fits.
-use Rattle.std.proofs.Common.{◌≡◌, ◌∙◌, ℕ, Bool, true, false, Option, Some, None, refl, sym, ap, subst, rules}
-use Rattle.std.specs.Prelude.{if◌then◌else◌}
+use Rattle.std.proofs.Common.{◌≡◌, ◌∙◌, ℕ, Bool, true, false, [], Option, Some, None, refl, sym, ap, subst, rules}
+use Rattle.std.specs.Prelude.{if◌then◌else◌, unwrap_or}
 use Rattle.std.proofs.lemmas.Bool.{false≢true}
 use Rattle.pp_model.specs.declared.moves.Move.{Move}
 use Rattle.pp_model.specs.declared.moves.Move.TheVariants as move
 use Rattle.pp_model.specs.declared.reply.Ending.{Ending}
 use Rattle.pp_model.specs.Pool.{Running, State}
 use Rattle.pp_model.specs.Moves.{reply_of, next_of, seat_of}
+use Rattle.pp_core.specs.Gathered.{bundle_in}
 use Rattle.pp_core.specs.Queries.{is_idle, idle_by, is_leaving, held_by}
 use Rattle.pp_core.specs.AfterMoves.{HasFinished}
 use Rattle.pp_core.proofs.AfterMoves.{after_moves}
@@ -26,10 +27,12 @@ use Rattle.pp_vault.specs.Fits.{is_acting, is_acting_by, take_call, choose_call,
 use Rattle.pp_vault.specs.Tokens.{SessionFits}
 use Rattle.pp_vault.specs.Hands.{StageFits}
 use Rattle.pp_vault.specs.HandLaws.{FitsIn, LeavesSlot}
+use Rattle.pp_vault.proofs.FitTests.{none_gathered}
 use Rattle.pp_vault.proofs.Plain.{answered, taken, chosen, finished}
 use Rattle.pp_play.specs.Doing.{LeavesOthers}
 use Rattle.pp_play.proofs.Exactly.{not_refusal}
 use Rattle.pp_play.proofs.Fitting.{Laws, called_by, others_left, guards_left}
+use Rattle.pp_play.proofs.Room.{gathered_same}
 
 -- ---- calls that are done
 
@@ -57,6 +60,11 @@ idle_empty None e slot = refl
 idle_empty (Some None) e slot = refl
 idle_empty (Some (Some r)) e slot = absurd (false≢true e)
 
+idle_no_bundle : (o : Option (Option Running)) → idle_by o ≡ true → (slot : ℕ) → bundle_in (unwrap_or o None) slot ≡ []
+idle_no_bundle None e slot = refl
+idle_no_bundle (Some None) e slot = refl
+idle_no_bundle (Some (Some r)) e slot = absurd (false≢true e)
+
 module _ (laws : Laws) (old new : Parts) (kept : IsKept old) (w : ℕ) (hand : Hand) (fits : FitsIn old w hand) where
   -- ---- take
 
@@ -68,7 +76,12 @@ module _ (laws : Laws) (old new : Parts) (kept : IsKept old) (w : ℕ) (hand : H
         (answered s (move.Take w) (reply_of s (move.Take w)) refl (not_refusal (reply_of s (move.Take w)) done)) in
         let begun = (after_moves s st.core.reached).taken w of.0 of.1 in
         leaves_if s (is_idle s w) (move.Take w) w slot
-        (λ idle. (begun.empty slot ∙ sym (idle_empty (seat_of s w) idle slot), λ r. r))
+        (λ idle. (
+          begun.empty slot ∙ sym (idle_empty (seat_of s w) idle slot),
+          none_gathered (next_of s (move.Take w)) w slot (begun.no_bundle slot)
+              ∙ sym (none_gathered s w slot (idle_no_bundle (seat_of s w) idle slot)),
+          λ r. r,
+        ))
 
     pub take_others : LeavesOthers old w new
     take_others =
@@ -90,7 +103,9 @@ module _ (laws : Laws) (old new : Parts) (kept : IsKept old) (w : ℕ) (hand : H
         let done = done_move s (is_acting s w) m (does.allowed s st) in
         let is = chosen w branch (reply_of s m) (answered s m (reply_of s m) refl (not_refusal (reply_of s m) done)) in
         leaves_if s (is_acting s w) m w slot
-        (λ acts. (((after_moves s st.core.reached).chosen w branch is).slots slot, λ r. r))
+        (λ acts.
+        let c = (after_moves s st.core.reached).chosen w branch is in
+        (c.slots slot, gathered_same s (next_of s m) w slot (c.bundles slot), λ r. r))
 
     pub choose_others : LeavesOthers old w new
     choose_others =
@@ -117,7 +132,13 @@ module _ (laws : Laws) (old new : Parts) (kept : IsKept old) (w : ℕ) (hand : H
         → LeavesSlot s (tested test (move.Finish w) s) w slot
     finish_leaves s st slot =
         let h = (over s st).1 in
-        leaves_if s (test s) (move.Finish w) w slot (λ b. (h.after slot ∙ sym (h.empty slot), λ r. r))
+        leaves_if s (test s) (move.Finish w) w slot
+        (λ b. (
+          h.after slot ∙ sym (h.empty slot),
+          none_gathered (next_of s (move.Finish w)) w slot (h.no_bundle_after slot)
+              ∙ sym (none_gathered s w slot (h.no_bundle slot)),
+          λ r. r,
+        ))
 
     pub finish_others : LeavesOthers old w new
     finish_others =

@@ -1,35 +1,36 @@
 -- How a move of a worker is answered, by what the worker is at and by what its plan asks.
-use Rattle.std.proofs.Common.{◌≡◌, ◌∙◌, ℕ, Bool, true, false, Option, Some, None, List, refl, sym, ap, subst}
-use Rattle.std.specs.Prelude.{option_map}
+use Rattle.std.proofs.Common.{◌≡◌, ◌∙◌, ℕ, Bool, true, false, Option, Some, None, List, refl, sym, ap, subst, inl, inr}
 use Rattle.std.specs.Option.{is_some}
 use Rattle.std.proofs.lemmas.Bool.{false≢true}
 use Rattle.pp_plan.specs.declared.mode.Mode.{Mode}
 use Rattle.pp_plan.specs.declared.action.Ask.{Ask}
 use Rattle.pp_plan.specs.declared.action.Ask.TheVariants as ask
-use Rattle.pp_plan.proofs.NoBundle.{no_scatter}
 use Rattle.pp_cert.specs.declared.note.Held.{Held}
+use Rattle.pp_cert.specs.declared.note.Held.TheVariants.{Free, S, X}
 use Rattle.pp_cert.specs.Held.{Holding, holding_at}
 use Rattle.pp_model.specs.declared.moves.Move.TheVariants as move
 use Rattle.pp_model.specs.declared.reply.Reply.{Reply}
 use Rattle.pp_model.specs.declared.reply.Reply.TheVariants as reply
 use Rattle.pp_model.specs.declared.refusals.Cause.TheVariants.{NotAsked, NotActing, NotLeaving, NotHeld}
-use Rattle.pp_model.specs.Pool.{Stage, acting, writing, reading, leaving, Running, State}
+use Rattle.pp_model.specs.Pool.{Stage, acting, writing, reading, leaving, Running, State, mark_at}
 use Rattle.pp_model.specs.Holders.{holdings, page_in}
-use Rattle.pp_model.specs.Outcome.{Outcome, off_plan}
+use Rattle.pp_model.specs.Outcome.{Outcome, off_plan, released}
 use Rattle.pp_model.specs.Using.{unfix_asked, latch_where, latch_asked, goes_with, unlatch_asked}
-use Rattle.pp_model.specs.Leaving.{unwind_where, unwind_in, unwind_by}
+use Rattle.pp_model.specs.Leaving.{unwound, unwind_where, unwind_in, unwind_by}
 use Rattle.pp_model.specs.Moves.{act_in, act_by, asked_by, seat_of, reply_of, is_refusal}
 use Rattle.pp_model.specs.Reached.{IsReached}
 use Rattle.pp_core.specs.Queries.{idle_by, is_leaving, leaving_by, leaves, ask_of, ask_in, ask_by, held_of}
-use Rattle.pp_core.specs.Queries.{own_of, held_by, errand_of, errand_in, errand_by}
-use Rattle.pp_core.proofs.PlainSlots.{plain_held}
+use Rattle.pp_core.specs.Queries.{gathered_of, errand_of, errand_in, errand_by}
+use Rattle.pp_core.proofs.AfterMoves.{after_moves}
 use Rattle.pp_vault.specs.Calls.{refusal_in}
 use Rattle.pp_vault.specs.declared.tokens.Duty.{Duty}
 use Rattle.pp_vault.specs.declared.tokens.Duty.TheVariants as duty
 use Rattle.pp_vault.specs.declared.stage.Stage.{Stage as Token}
 use Rattle.pp_vault.specs.declared.stage.Stage.TheVariants.{Idle, In, Out, Back, Leaving}
+use Rattle.pp_vault.specs.Fits.{is_gathered}
 use Rattle.pp_vault.specs.Hands.{StageFits, IsAway}
 use Rattle.pp_play.proofs.Asked.{same}
+use Rattle.pp_play.proofs.Room.{some_gathered}
 
 -- ---- an errand
 
@@ -121,8 +122,10 @@ acts_as s w a e = acting_by s w a (seat_of s w) refl e
 
 -- ---- what the plan doesn't ask
 
+-- Whether an unfix is asked, of a slot or of a whole bundle.
 abbrev pub is_unfix : Ask → Bool
 is_unfix (ask.Unfix slot) = true
+is_unfix (ask.Scatter slot) = true
 is_unfix _ = false
 
 abbrev pub is_latch : Ask → Bool
@@ -134,15 +137,15 @@ is_unlatch (ask.Unlatch slot) = true
 is_unlatch _ = false
 
 module _ (s : State) (w : ℕ) where
-  no_unfix : (r : Running) (a : Ask) → asked_by r ≡ a → is_unfix a ≡ false → unfix_asked s w r a ≡ off_plan s NotAsked
-  no_unfix r (ask.Fix slot region) asks e = refl
-  no_unfix r (ask.Unfix slot) asks e = absurd (false≢true (sym e))
-  no_unfix r (ask.Latch slot m) asks e = refl
-  no_unfix r (ask.Unlatch slot) asks e = refl
-  no_unfix r (ask.Gather of region) asks e = refl
-  no_unfix r (ask.Scatter of) asks e = absurd (no_scatter r.accepted.plan r.done of asks)
-  no_unfix r (ask.Choose count) asks e = refl
-  no_unfix r ask.End asks e = refl
+  no_unfix : (r : Running) (a : Ask) → is_unfix a ≡ false → unfix_asked s w r a ≡ off_plan s NotAsked
+  no_unfix r (ask.Fix slot region) e = refl
+  no_unfix r (ask.Unfix slot) e = absurd (false≢true (sym e))
+  no_unfix r (ask.Latch slot m) e = refl
+  no_unfix r (ask.Unlatch slot) e = refl
+  no_unfix r (ask.Gather of region) e = refl
+  no_unfix r (ask.Scatter of) e = absurd (false≢true (sym e))
+  no_unfix r (ask.Choose count) e = refl
+  no_unfix r ask.End e = refl
 
   no_latch : (r : Running) (a : Ask) → is_latch a ≡ false → latch_asked s w r a ≡ off_plan s NotAsked
   no_latch r (ask.Fix slot region) e = refl
@@ -171,8 +174,7 @@ module _ (s : State) (w : ℕ) where
     pub unfix_unasked : is_unfix a ≡ false → reply_of s (move.Unfix w) ≡ reply.OffPlan NotAsked
     unfix_unasked e =
         ap (λ o. o.reply)
-        (at.does (λ r. unfix_asked s w r (asked_by r)) ∙ ap (unfix_asked s w at.run) at.asks
-        ∙ no_unfix at.run a at.asks e)
+        (at.does (λ r. unfix_asked s w r (asked_by r)) ∙ ap (unfix_asked s w at.run) at.asks ∙ no_unfix at.run a e)
 
     pub latch_unasked : is_latch a ≡ false → reply_of s (move.Latch w) ≡ reply.OffPlan NotAsked
     latch_unasked e =
@@ -190,6 +192,12 @@ module _ (s : State) (w : ℕ) where
   pub unfix_did : (slot : ℕ) → ask_of s w ≡ Some (ask.Unfix slot) → reply_of s (move.Unfix w) ≡ reply.Did
   unfix_did slot e =
       let at = acts_as s w (ask.Unfix slot) e in
+      ap (λ o. o.reply)
+      (at.does (λ r. unfix_asked s w r (asked_by r)) ∙ ap (unfix_asked s w at.run) at.asks)
+
+  pub scatter_did : (slot : ℕ) → ask_of s w ≡ Some (ask.Scatter slot) → reply_of s (move.Unfix w) ≡ reply.Did
+  scatter_did slot e =
+      let at = acts_as s w (ask.Scatter slot) e in
       ap (λ o. o.reply)
       (at.does (λ r. unfix_asked s w r (asked_by r)) ∙ ap (unfix_asked s w at.run) at.asks)
 
@@ -262,35 +270,48 @@ module _ (s : State) (w slot : ℕ) where
       → reply_of s (move.Unwind w slot) ≡ reply.OffPlan NotLeaving
   not_leaving n t fits e = ap (λ o. o.reply) (not_leaving_by n t fits e)
 
-  lacks : (r : Running) (given : List ℕ) (o : Option Holding) → is_some o ≡ false
-      → unwind_where s w r slot given o ≡ off_plan s NotHeld
-  lacks r given None e = refl
-  lacks r given (Some h) e = absurd (false≢true (sym e))
+  no_page : (x : ℕ × Held) → ◌≡◌ {A = Option (ℕ × Held)} None (Some x) → ⊥
+  no_page x e = none_some x e
 
-  held_in_none : (r : Running) (g : Stage) → leaves g ≡ true → is_some (holding_at (holdings r) slot) ≡ false
-      → unwind_in s w slot r g ≡ off_plan s NotHeld
-  held_in_none r acting e none = absurd (false≢true e)
-  held_in_none r (writing k page victim) e none = absurd (false≢true e)
-  held_in_none r (reading k page) e none = absurd (false≢true e)
-  held_in_none r (leaving given) e none = lacks r given (holding_at (holdings r) slot) none
+  -- What is given back is no refusal.
+  unwound_done : (how : Held) (mark : ℕ) → is_refusal (unwound how mark) ≡ false
+  unwound_done Free mark = refl
+  unwound_done S mark = refl
+  unwound_done X mark = refl
 
-  module _ (reached : IsReached s) where
-    some_holding : (r : Running) → seat_of s w ≡ Some (Some r) → (o : Option Holding) → holding_at (holdings r) slot ≡ o
-        → own_of o ≡ None → is_some o ≡ false
-    some_holding r at None found e = refl
-    some_holding r at (Some x) found e =
-        absurd (false≢true (ap is_some (sym e ∙ plain_held s reached w r slot x at found)))
+  module _ (reached : IsReached s) (none : held_of s w slot ≡ None) (single : is_gathered s w slot ≡ false) where
+    -- A slot that holds nothing isn't given back.
+    not_done : is_refusal (reply_of s (move.Unwind w slot)) ≡ false → ⊥
+    not_done e =
+        let found = (after_moves s reached).found (move.Unwind w slot) e in
+        elim (found.1) [
+          | inl own ↦ no_page (own.0, own.1) (sym none ∙ own.2)
+          | inr more ↦ some_gathered (gathered_of s w slot) more single
+        ]
 
-    held_by_none : (o : Option (Option Running)) → seat_of s w ≡ o → leaving_by o ≡ true → held_by o slot ≡ None
-        → unwind_by s w slot o ≡ off_plan s NotHeld
-    held_by_none None at e none = absurd (false≢true e)
-    held_by_none (Some None) at e none = absurd (false≢true e)
-    held_by_none (Some (Some r)) at e none =
-        held_in_none r r.stage e (some_holding r at (holding_at (holdings r) slot) refl none)
+    lacks : (r : Running) (given : List ℕ) (o : Option Holding)
+        → reply_of s (move.Unwind w slot) ≡ (unwind_where s w r slot given o).reply
+        → unwind_where s w r slot given o ≡ off_plan s NotHeld
+    lacks r given None is = refl
+    lacks r given (Some h) is =
+        absurd (not_done (ap is_refusal is ∙ unwound_done h.held (mark_at (released s h.held h.page) h.page)))
 
-    pub not_held : is_leaving s w ≡ true → held_of s w slot ≡ None
-        → reply_of s (move.Unwind w slot) ≡ reply.OffPlan NotHeld
-    not_held e none = ap (λ o. o.reply) (held_by_none (seat_of s w) refl e none)
+    held_in_none : (r : Running) (g : Stage) → leaves g ≡ true
+        → reply_of s (move.Unwind w slot) ≡ (unwind_in s w slot r g).reply
+        → unwind_in s w slot r g ≡ off_plan s NotHeld
+    held_in_none r acting e is = absurd (false≢true e)
+    held_in_none r (writing k page victim) e is = absurd (false≢true e)
+    held_in_none r (reading k page) e is = absurd (false≢true e)
+    held_in_none r (leaving given) e is = lacks r given (holding_at (holdings r) slot) is
+
+    held_by_none : (o : Option (Option Running)) → leaving_by o ≡ true
+        → reply_of s (move.Unwind w slot) ≡ (unwind_by s w slot o).reply → unwind_by s w slot o ≡ off_plan s NotHeld
+    held_by_none None e is = absurd (false≢true e)
+    held_by_none (Some None) e is = absurd (false≢true e)
+    held_by_none (Some (Some r)) e is = held_in_none r r.stage e is
+
+    pub not_held : is_leaving s w ≡ true → reply_of s (move.Unwind w slot) ≡ reply.OffPlan NotHeld
+    not_held e = ap (λ o. o.reply) (held_by_none (seat_of s w) e refl)
 
 -- ---- refusals
 

@@ -38,16 +38,22 @@ module _ (old new : Parts) where
 
   pub duty_steady : (x : Duty) (image : List ℕ) (ok : Bool) (out : Answered) → DutyEnds old x image ok out new → Steady
   duty_steady (duty.Read w slot page) image ok (answered.Got session guard) ends = ends.0.page_bytes
+  duty_steady (duty.Read w slot page) image ok (answered.Opened session guard) ends = ends.0.page_bytes
+  duty_steady (duty.Read w slot page) image ok (answered.Joined session) ends = ends.0.page_bytes
   duty_steady (duty.Read w slot page) image ok (answered.Lost leaver) ends = ends.0.page_bytes
   duty_steady (duty.Read w slot page) image ok (answered.Away errand) ends = absurd ends
   duty_steady (duty.Read w slot page) image ok (answered.Flushed clean) ends = absurd ends
   duty_steady (duty.Read w slot page) image ok (answered.No back refusal) ends = absurd ends
   duty_steady (duty.Write w slot page victim) image ok (answered.Got session guard) ends = absurd ends
+  duty_steady (duty.Write w slot page victim) image ok (answered.Opened session guard) ends = absurd ends
+  duty_steady (duty.Write w slot page victim) image ok (answered.Joined session) ends = absurd ends
   duty_steady (duty.Write w slot page victim) image ok (answered.Lost leaver) ends = ends.1.page_bytes
   duty_steady (duty.Write w slot page victim) image ok (answered.Away errand) ends = ends.1.page_bytes
   duty_steady (duty.Write w slot page victim) image ok (answered.Flushed clean) ends = absurd ends
   duty_steady (duty.Write w slot page victim) image ok (answered.No back refusal) ends = absurd ends
   duty_steady (duty.Flush page) image ok (answered.Got session guard) ends = absurd ends
+  duty_steady (duty.Flush page) image ok (answered.Opened session guard) ends = absurd ends
+  duty_steady (duty.Flush page) image ok (answered.Joined session) ends = absurd ends
   duty_steady (duty.Flush page) image ok (answered.Lost leaver) ends = absurd ends
   duty_steady (duty.Flush page) image ok (answered.Away errand) ends = absurd ends
   duty_steady (duty.Flush page) image ok (answered.Flushed clean) ends = ends.does.page_bytes
@@ -56,6 +62,8 @@ module _ (old new : Parts) where
   answer_steady : (hand left : Hand) (returned : Returned) (out : Answered) → AnswerComesTo old returned out new
       → HasAnswer hand out left → Steady
   answer_steady hand left returned (answered.Got session guard) ends has = duty_steady _ _ _ _ ends
+  answer_steady hand left returned (answered.Opened session guard) ends has = duty_steady _ _ _ _ ends
+  answer_steady hand left returned (answered.Joined session) ends has = duty_steady _ _ _ _ ends
   answer_steady hand left returned (answered.Lost leaver) ends has = duty_steady _ _ _ _ ends
   answer_steady hand left returned (answered.Away errand) ends has = duty_steady _ _ _ _ ends
   answer_steady hand left returned (answered.Flushed clean) ends has = absurd has
@@ -64,6 +72,8 @@ module _ (old new : Parts) where
   fix_steady : (hand left : Hand) (x : Session) (page : ℕ) (out : Fixed) → FixAnswers old x page out new
       → HasFixed hand out left → Steady
   fix_steady hand left x page (fixed.Got session guard) ends has = ends.0.page_bytes
+  fix_steady hand left x page (fixed.Opened session guard) ends has = ends.0.page_bytes
+  fix_steady hand left x page (fixed.Joined session) ends has = ends.0.page_bytes
   fix_steady hand left x page (fixed.Away errand) ends has = ends.0.page_bytes
   fix_steady hand left x page (fixed.No session refusal) ends has = absurd has
 
@@ -71,6 +81,7 @@ module _ (old new : Parts) where
   give_steady x y (guard.Pin g) gives = gives.still.does.page_bytes
   give_steady x y (guard.Read g) gives = gives.still.does.page_bytes
   give_steady x y (guard.Write g) gives = gives.still.does.page_bytes
+  give_steady x y (guard.Bundle g) gives = gives.still.does.page_bytes
 
   pub hand_steady : (hand left : Hand) → HandMoves old hand new left → Steady
   hand_steady hand left (done.takes chair session at does stay now) = does.page_bytes
@@ -80,6 +91,7 @@ module _ (old new : Parts) where
   hand_steady hand left (done.fixes session page out at ends has) = fix_steady hand left session page out ends has
   hand_steady hand left (done.answers returned out at ends has) = answer_steady hand left returned out ends has
   hand_steady hand left (done.unfixes session now slot g at there uses is) = uses.does.page_bytes
+  hand_steady hand left (done.scatters session now slot g at there uses is) = uses.does.page_bytes
   hand_steady hand left (done.latches_shared session now slot g latched at there uses is) = uses.does.page_bytes
   hand_steady hand left (done.latches_exclusive session now slot g latched at there uses is) = uses.does.page_bytes
   hand_steady hand left (done.unlatches_shared session now slot g pinned at there uses is) = uses.does.page_bytes

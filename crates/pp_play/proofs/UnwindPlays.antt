@@ -1,5 +1,5 @@
 -- Giving a slot back with a hand that fits.
-use Rattle.std.proofs.Common.{◌≡◌, ◌≢◌, ◌∙◌, ℕ, Bool, true, Option, Some, None, List, refl, sym, ap, subst}
+use Rattle.std.proofs.Common.{◌≡◌, ◌≢◌, ◌∙◌, ℕ, ◌<◌, Bool, true, false, Option, Some, None, List, refl, sym, ap, subst}
 use Rattle.std.specs.Prelude.{◌&&◌, ◌==◌, if◌then◌else◌, slice_set}
 use Rattle.pp_cert.specs.declared.note.Held.{Held}
 use Rattle.pp_cert.specs.declared.note.Held.TheVariants.{Free, S, X}
@@ -7,33 +7,34 @@ use Rattle.pp_model.specs.declared.moves.Move.{Move}
 use Rattle.pp_model.specs.declared.moves.Move.TheVariants as move
 use Rattle.pp_model.specs.declared.reply.Reply.{Reply}
 use Rattle.pp_model.specs.Pool.{State}
-use Rattle.pp_model.specs.Moves.{reply_of, next_of}
+use Rattle.pp_model.specs.Moves.{reply_of, next_of, is_refusal}
 use Rattle.pp_core.specs.Queries.{is_leaving, held_of}
-use Rattle.pp_core.specs.AfterMoves.{HasUnwound}
+use Rattle.pp_core.specs.AfterMoves.{HasUnwound, HasUnwoundBundle}
 use Rattle.pp_core.proofs.AfterMoves.{after_moves}
-use Rattle.pp_core.proofs.Alike.{same_held}
 use Rattle.pp_vault.specs.declared.refusal.Refusal.{Refusal}
 use Rattle.pp_vault.specs.declared.tokens.Leaver.{Leaver}
 use Rattle.pp_vault.specs.declared.guards.Guard.{Guard}
-use Rattle.pp_vault.specs.declared.guards.Guard.TheVariants.{Pin, Read, Write}
+use Rattle.pp_vault.specs.declared.guards.Guard.TheVariants.{Pin, Read, Write, Bundle}
 use Rattle.pp_vault.specs.declared.stage.Stage.TheVariants.{Leaving}
 use Rattle.pp_vault.specs.Parts.{Parts}
 use Rattle.pp_vault.specs.StandsFor.{StandsFor, IsKept}
-use Rattle.pp_vault.specs.Calls.{asks, stranger, refusal_of, after_call}
+use Rattle.pp_vault.specs.Calls.{asks, stranger, refusal_of}
 use Rattle.pp_vault.specs.Events.{Refuses, untold}
-use Rattle.pp_vault.specs.Fits.{is_held_so, leaver_fits}
+use Rattle.pp_vault.specs.Fits.{is_held_so, is_gathered, IsEmpty, leaver_fits, leaver_fits_bundle}
 use Rattle.pp_vault.specs.Tokens.{is_long}
 use Rattle.pp_vault.specs.Leaves.{StillLeaves, GivesBack, give_back_call}
 use Rattle.pp_vault.specs.Hands.{GuardFits, PlaceFits}
-use Rattle.pp_vault.specs.HandLaws.{FitsIn}
-use Rattle.pp_vault.specs.Holding.{held_by, placed}
+use Rattle.pp_vault.specs.HandLaws.{FitsIn, LeavesSlot}
+use Rattle.pp_vault.specs.Holding.{slot_by, placed}
+use Rattle.pp_vault.proofs.FitTests.{gathered_some}
 use Rattle.pp_script.specs.declared.cue.Cue.TheVariants as cue
 use Rattle.pp_play.specs.declared.line.Line.{Line}
 use Rattle.pp_play.specs.declared.line.Line.TheVariants.{Did, Refused}
 use Rattle.pp_play.specs.Doing.{IsDone, HandPlays}
 use Rattle.pp_play.specs.Guarding.{hand_of}
 use Rattle.pp_play.proofs.Leaves.{did_leaves}
-use Rattle.pp_play.proofs.Slots.{low}
+use Rattle.pp_play.proofs.Room.{gathered_same}
+use Rattle.pp_play.proofs.Slots.{low, low_gathered}
 use Rattle.pp_play.proofs.Seats.{unrefused}
 use Rattle.pp_play.proofs.UsePlays.{both, number_is, held_so}
 use Rattle.pp_play.proofs.StillFitting.{StillFit, refused_plays, others_fit, allowed, one_fits, line_fits}
@@ -44,12 +45,18 @@ module _ (old new : Parts) (x : Leaver) (y : Leaver) where
   still_leaves (Pin g) gives = gives.still
   still_leaves (Read g) gives = gives.still
   still_leaves (Write g) gives = gives.still
+  still_leaves (Bundle g) gives = gives.still
 
 unwind_asks : (long leaver : Bool) (w k slot : ℕ) → k ≡ slot → leaver ≡ true → long ≡ true
     → (if leaver && long then asks (move.Unwind w k) else stranger) ≡ asks (move.Unwind w slot)
 unwind_asks long leaver w k slot at a b =
     ap (λ t. if t then asks (move.Unwind w k) else stranger) (both leaver long a b)
     ∙ ap (λ n. asks (move.Unwind w n)) at
+
+unwind_asks_bundle : (leaver : Bool) (w k slot : ℕ) → k ≡ slot → leaver ≡ true
+    → (if leaver then asks (move.Unwind w k) else stranger) ≡ asks (move.Unwind w slot)
+unwind_asks_bundle leaver w k slot at a =
+    ap (λ t. if t then asks (move.Unwind w k) else stranger) a ∙ ap (λ n. asks (move.Unwind w n)) at
 
 module _ (old new : Parts) (kept : IsKept old) (x : Leaver) (places : List (Option Guard))
     (fits : FitsIn old x.worker (hand_of (Leaving x) places)) (slot : ℕ) (g : Guard)
@@ -64,6 +71,13 @@ module _ (old new : Parts) (kept : IsKept old) (x : Leaver) (places : List (Opti
       (both (is_leaving s x.worker) (of == x.worker) (fits s st).stage.1 (number_is of x.worker is))
       (held_so s x.worker slot k page how same held)
 
+  bundle_leaver : (s : State) → StandsFor old s → (of k : ℕ) → of ≡ x.worker → k ≡ slot
+      → is_gathered s x.worker slot ≡ true → leaver_fits_bundle s x.worker of k ≡ true
+  bundle_leaver s st of k is same gathered =
+      both (is_leaving s x.worker && (of == x.worker)) (is_gathered s x.worker k)
+      (both (is_leaving s x.worker) (of == x.worker) (fits s st).stage.1 (number_is of x.worker is))
+      (ap (is_gathered s x.worker) same ∙ gathered)
+
   calls_by : (s : State) → StandsFor old s → (h : Guard) → GuardFits old.page_bytes s x.worker slot h
       → give_back_call old x h s ≡ asks (move.Unwind x.worker slot)
   calls_by s st (Pin h) fit =
@@ -75,15 +89,19 @@ module _ (old new : Parts) (kept : IsKept old) (x : Leaver) (places : List (Opti
   calls_by s st (Write h) fit =
       unwind_asks (is_long old h.image) (leaver_fits s x.worker h.worker h.slot h.page X) x.worker h.slot slot
       fit.of_slot (leaver s st h.worker h.slot h.page X fit.worker fit.of_slot fit.held) (number_is _ _ fit.long)
+  calls_by s st (Bundle h) fit =
+      unwind_asks_bundle (leaver_fits_bundle s x.worker h.worker h.slot) x.worker h.slot slot fit.of_slot
+      (bundle_leaver s st h.worker h.slot fit.worker fit.of_slot fit.gathered)
 
   calls : (s : State) → StandsFor old s → give_back_call old x g s ≡ asks (move.Unwind x.worker slot)
   calls s st = calls_by s st g (here s st)
 
-  held_now : (s : State) (h : Guard) → GuardFits old.page_bytes s x.worker slot h
-      → held_of s x.worker slot ≡ Some (held_by h)
-  held_now s (Pin h) fit = fit.held
-  held_now s (Read h) fit = fit.held
-  held_now s (Write h) fit = fit.held
+  -- The slot is one of 32.
+  low_by : (s : State) → StandsFor old s → (h : Guard) → GuardFits old.page_bytes s x.worker slot h → slot < 32
+  low_by s st (Pin h) fit = low old s x.worker slot st (h.page, Free) fit.held
+  low_by s st (Read h) fit = low old s x.worker slot st (h.page, S) fit.held
+  low_by s st (Write h) fit = low old s x.worker slot st (h.page, X) fit.held
+  low_by s st (Bundle h) fit = low_gathered old s x.worker slot st fit.gathered
 
   pub unwind_refused : (why : Refusal) → Refuses old (give_back_call old x g) why → untold new ≡ untold old
       → HandPlays old x.worker (hand_of (Leaving x) places) (cue.Unwind x.worker slot)
@@ -93,28 +111,58 @@ module _ (old new : Parts) (kept : IsKept old) (x : Leaver) (places : List (Opti
       (λ s st. subst (λ c. refusal_of s c ≡ Some why) (calls s st) (refuses s st))
 
   module _ (laws : StillFit) (y : Leaver) (still : StillLeaves old (give_back_call old x g) x new y) where
-    unwound : (s : State) (st : StandsFor old s)
-        → HasUnwound s (next_of s (move.Unwind x.worker slot)) x.worker slot (held_by g).0 (held_by g).1
-        (reply_of s (move.Unwind x.worker slot))
-    unwound s st =
-        (after_moves s st.core.reached).unwound x.worker slot (held_by g).0 (held_by g).1
-        (unrefused (reply_of s (move.Unwind x.worker slot))
-        (allowed laws old new (give_back_call old x g) kept still.does x.worker (move.Unwind x.worker slot) refl calls s st))
-        (held_now s g (here s st))
-
-    next : StandsFor new (next_of kept.state (move.Unwind x.worker slot))
-    next =
-        subst (λ c. StandsFor new (after_call kept.state c)) (calls kept.state kept.stands)
-        (still.does.stands kept.state kept.stands)
+    done_so : (s : State) → StandsFor old s → is_refusal (reply_of s (move.Unwind x.worker slot)) ≡ false
+    done_so s st =
+        unrefused (reply_of s (move.Unwind x.worker slot))
+        (allowed laws old new (give_back_call old x g) kept still.does x.worker (move.Unwind x.worker slot) refl calls s st)
 
     other_slot : (k : ℕ) → k ≢ slot → (x.worker ≡ x.worker) × (slot ≡ k) → ⊥
     other_slot k off e = off (sym e.1)
 
-    pub unwind_plays : (line : Line) → IsDone old (cue.Unwind x.worker slot) new
+    -- Every other slot is left: a page of the slot's own goes, or a bundle.
+    own_leaves : (s : State) → StandsFor old s → (page : ℕ) (how : Held)
+        → held_of s x.worker slot ≡ Some (page, how) → (k : ℕ) → k ≢ slot
+        → LeavesSlot s (asks (move.Unwind x.worker slot)) x.worker k
+    own_leaves s st page how held k off =
+        let u : HasUnwound s (next_of s (move.Unwind x.worker slot)) x.worker slot page how
+        (reply_of s (move.Unwind x.worker slot)) =
+        (after_moves s st.core.reached).unwound x.worker slot page how (done_so s st) held in (
+          u.others k off,
+          gathered_same s (next_of s (move.Unwind x.worker slot)) x.worker k (u.bundles k),
+          λ e. other_slot k off e,
+        )
+
+    bundle_leaves : (s : State) → StandsFor old s → is_gathered s x.worker slot ≡ true → (k : ℕ) → k ≢ slot
+        → LeavesSlot s (asks (move.Unwind x.worker slot)) x.worker k
+    bundle_leaves s st gathered k off =
+        let u : HasUnwoundBundle s (next_of s (move.Unwind x.worker slot)) x.worker slot
+        (reply_of s (move.Unwind x.worker slot)) =
+        (after_moves s st.core.reached).unwound_bundle x.worker slot (done_so s st)
+        (gathered_some s x.worker slot gathered) in (
+          u.slots k,
+          gathered_same s (next_of s (move.Unwind x.worker slot)) x.worker k (u.others k off),
+          λ e. other_slot k off e,
+        )
+
+    leaves_by : (s : State) → StandsFor old s → (h : Guard) → GuardFits old.page_bytes s x.worker slot h → (k : ℕ)
+        → k ≢ slot → LeavesSlot s (asks (move.Unwind x.worker slot)) x.worker k
+    leaves_by s st (Pin h) fit k off = own_leaves s st h.page Free fit.held k off
+    leaves_by s st (Read h) fit k off = own_leaves s st h.page S fit.held k off
+    leaves_by s st (Write h) fit k off = own_leaves s st h.page X fit.held k off
+    leaves_by s st (Bundle h) fit k off = bundle_leaves s st fit.gathered k off
+
+    slot_of : (h : Guard) → GuardFits old.page_bytes kept.state x.worker slot h → slot_by h ≡ slot
+    slot_of (Pin h) fit = fit.of_slot
+    slot_of (Read h) fit = fit.of_slot
+    slot_of (Write h) fit = fit.of_slot
+    slot_of (Bundle h) fit = fit.of_slot
+
+    pub unwind_plays : ((s : State) → StandsFor new s → IsEmpty s x.worker (slot_by g)) → (line : Line)
+        → IsDone old (cue.Unwind x.worker slot) new
         → ((m : Move) (r : Reply) → new.last ≡ Some (m, r) → line ≡ Did m r)
         → HandPlays old x.worker (hand_of (Leaving x) places) (cue.Unwind x.worker slot) line new
         (hand_of (Leaving y) (slice_set places slot None))
-    unwind_plays line done tells =
+    unwind_plays empty line done tells =
         let call = give_back_call old x g in
         let w = x.worker in
         record {
@@ -125,10 +173,8 @@ module _ (old new : Parts) (kept : IsKept old) (x : Leaver) (places : List (Opti
               (hand_of (Leaving y) (slice_set places slot None));
           fit = one_fits laws old new call kept still.does w (move.Unwind w slot) refl calls (Leaving x) (Leaving y)
               places fits (λ s st. (ap (λ (l : Leaver). l.worker) still.same, still.leaves s st)) slot None
-              (low old kept.state w slot kept.stands (held_by g) (held_now kept.state g (here kept.state kept.stands)))
-              (λ s st.
-              same_held new.core s (next_of kept.state (move.Unwind w slot)) st.core next.core w slot
-              ∙ (unwound kept.state kept.stands).empty)
-              (λ s st k off. ((unwound s st).others k off, λ e. other_slot k off e));
+              (low_by kept.state kept.stands g (here kept.state kept.stands))
+              (λ s st. subst (λ n. IsEmpty s w n) (slot_of g (here kept.state kept.stands)) (empty s st))
+              (λ s st k off. leaves_by s st g (here s st) k off);
           others = others_fit laws old new call kept still.does w (move.Unwind w slot) refl calls;
         }

@@ -1,4 +1,4 @@
--- Unfix, latch and unlatch with a hand that fits.
+-- Unfix, scatter, latch and unlatch with a hand that fits.
 use Rattle.std.proofs.Common.{◌≡◌, ◌≢◌, ◌∙◌, ℕ, Bool, true, false, Option, Some, None, List, refl, sym, ap, subst, arith}
 use Rattle.std.specs.Prelude.{◌&&◌, ◌==◌, slice_set}
 use Rattle.std.proofs.lemmas.Bool.{false≢true}
@@ -15,35 +15,37 @@ use Rattle.pp_model.specs.declared.reply.Reply.{Reply}
 use Rattle.pp_model.specs.Pool.{State}
 use Rattle.pp_model.specs.Moves.{next_of}
 use Rattle.pp_core.specs.Queries.{ask_of, held_of}
-use Rattle.pp_core.specs.AfterMoves.{AfterMoves, HasUnfixed}
+use Rattle.pp_core.specs.AfterMoves.{AfterMoves, HasUnfixed, HasScattered}
 use Rattle.pp_core.proofs.AfterMoves.{after_moves}
-use Rattle.pp_core.proofs.Alike.{same_held}
 use Rattle.pp_vault.specs.declared.refusal.Refusal.{Refusal}
 use Rattle.pp_vault.specs.declared.tokens.Session.{Session}
 use Rattle.pp_vault.specs.declared.guards.PinGuard.{PinGuard}
 use Rattle.pp_vault.specs.declared.guards.Guard.{Guard}
-use Rattle.pp_vault.specs.declared.guards.Guard.TheVariants.{Pin, Read, Write}
+use Rattle.pp_vault.specs.declared.guards.Guard.TheVariants.{Pin, Read, Write, Bundle}
+use Rattle.pp_vault.specs.declared.guards.BundleGuard.{BundleGuard}
 use Rattle.pp_vault.specs.declared.stage.Stage.TheVariants.{In}
 use Rattle.pp_vault.specs.Parts.{Parts}
 use Rattle.pp_vault.specs.StandsFor.{StandsFor, IsKept}
-use Rattle.pp_vault.specs.Calls.{Call, asks, refusal_of, after_call}
+use Rattle.pp_vault.specs.Calls.{Call, asks, refusal_of}
 use Rattle.pp_vault.specs.Events.{Refuses, untold}
 use Rattle.pp_vault.specs.Fits.{is_acting_by, is_acting, is_same_held, is_held_by, is_held_so, asks_unfix, is_same_mode}
-use Rattle.pp_vault.specs.Fits.{asks_latch, asks_unlatch, guard_call, fits_both, unfix_call, latch_call}
+use Rattle.pp_vault.specs.Fits.{asks_scatter, asks_latch, asks_unlatch, guard_call, fits_both, bundle_fits, is_gathered}
+use Rattle.pp_vault.specs.Fits.{IsEmpty, unfix_call, scatter_call, latch_call}
 use Rattle.pp_vault.specs.Tokens.{is_long}
-use Rattle.pp_vault.specs.Uses.{Unfixes}
-use Rattle.pp_vault.specs.Hands.{GuardFits, PlaceFits, IsPin}
+use Rattle.pp_vault.specs.Uses.{Unfixes, Scatters}
+use Rattle.pp_vault.specs.Hands.{GuardFits, PlaceFits, IsPin, IsBundle}
 use Rattle.pp_vault.specs.HandLaws.{FitsIn}
-use Rattle.pp_vault.specs.Holding.{held_by, placed}
+use Rattle.pp_vault.specs.Holding.{placed}
 use Rattle.pp_script.specs.declared.cue.Cue.TheVariants as cue
 use Rattle.pp_play.specs.declared.line.Line.{Line}
 use Rattle.pp_play.specs.declared.line.Line.TheVariants.{Did, Refused}
 use Rattle.pp_play.specs.Doing.{IsDone, HandPlays}
 use Rattle.pp_play.specs.Guarding.{hand_of, unlatch_with, ChangesGuard}
 use Rattle.pp_play.proofs.Leaves.{did_leaves}
-use Rattle.pp_play.proofs.Slots.{low}
-use Rattle.pp_play.proofs.Held.{is_pin}
-use Rattle.pp_play.proofs.Seats.{unfix_did, latch_marks, unlatch_marks}
+use Rattle.pp_play.proofs.Room.{gathered_same}
+use Rattle.pp_play.proofs.Slots.{low, low_gathered}
+use Rattle.pp_play.proofs.Held.{is_latched}
+use Rattle.pp_play.proofs.Seats.{unfix_did, scatter_did, latch_marks, unlatch_marks}
 use Rattle.pp_play.proofs.StillFitting.{StillFit, refused_plays, others_fit, allowed, one_fits, line_fits}
 
 -- ---- tests
@@ -77,6 +79,12 @@ both_fit : (s : State) (w of slot k page : ℕ) (how : Held) (a : Ask) → ask_o
 both_fit s w of slot k page how a wanted is at e =
     both (is_acting s w && (of == w)) (is_held_so s w k page how)
     (both (is_acting s w) (of == w) (ap is_acting_by wanted) (number_is of w is)) (held_so s w slot k page how at e)
+
+bundle_fit : (s : State) (w of slot k : ℕ) (a : Ask) → ask_of s w ≡ Some a → of ≡ w → k ≡ slot
+    → is_gathered s w slot ≡ true → bundle_fits s w of k ≡ true
+bundle_fit s w of slot k a wanted is at e =
+    both (is_acting s w && (of == w)) (is_gathered s w k)
+    (both (is_acting s w) (of == w) (ap is_acting_by wanted) (number_is of w is)) (ap (is_gathered s w) at ∙ e)
 
 asked_call : (fits asked : Bool) (call : Call) → fits ≡ true → asked ≡ true → guard_call fits asked call ≡ call
 asked_call true true call e f = refl
@@ -128,18 +136,15 @@ module _ (old new : Parts) (kept : IsKept old) (x : Session) (places : List (Opt
         let wants = asked s st (ask.Unfix slot) is in
         (after s st).unfixed x.worker slot (unfix_did s x.worker slot wants) wants
 
-    pub unfix_plays : (laws : StillFit) (y : Session) → Unfixes old x g new y → (line : Line)
-        → IsDone old (cue.Unfix x.worker) new
+    pub unfix_plays : (laws : StillFit) (y : Session) → Unfixes old x g new y
+        → ((s : State) → StandsFor new s → IsEmpty s x.worker g.slot) → (line : Line) → IsDone old (cue.Unfix x.worker) new
         → ((m : Move) (r : Reply) → new.last ≡ Some (m, r) → line ≡ Did m r)
         → HandPlays old x.worker (hand_of (In x) places) (cue.Unfix x.worker) line new
         (hand_of (In y) (slice_set places slot None))
-    unfix_plays laws y unfixes line done tells =
+    unfix_plays laws y unfixes empty line done tells =
         let call = unfix_call x.worker g.worker g.slot g.page in
         let w = x.worker in
         let pin : IsPin kept.state w slot g = here kept.state kept.stands (Some (Pin g)) at in
-        let next : StandsFor new (next_of kept.state (move.Unfix w)) =
-        subst (λ c. StandsFor new (after_call kept.state c)) (unfix_calls kept.state kept.stands)
-        (unfixes.does.stands kept.state kept.stands) in
         record {
           exact = line_fits old new (cue.Unfix w) line done tells (move.Unfix w) (λ n e. e) (λ s. refl) places
               (slice_set places slot None);
@@ -149,11 +154,62 @@ module _ (old new : Parts) (kept : IsKept old) (x : Session) (places : List (Opt
           fit = one_fits laws old new call kept unfixes.does w (move.Unfix w) refl unfix_calls (In x) (In y) places fits
               (λ s st. (unfixes.session.worker, unfixes.session.ask s st)) slot None
               (low old kept.state w slot kept.stands (g.page, Free) pin.held)
-              (λ s st.
-              same_held new.core s (next_of kept.state (move.Unfix w)) st.core next.core w slot
-              ∙ (unfixed kept.state kept.stands).empty)
-              (λ s st k off. ((unfixed s st).others k off, λ h. h));
+              (λ s st. subst (λ n. IsEmpty s w n) pin.of_slot (empty s st))
+              (λ s st k off.
+              let u = unfixed s st in
+              (u.others k off, gathered_same s (next_of s (move.Unfix w)) w k (u.bundles k), λ h. h));
           others = others_fit laws old new call kept unfixes.does w (move.Unfix w) refl unfix_calls;
+        }
+
+  -- ---- scatter
+
+  module _ (is : x.ask ≡ ask.Scatter slot) (g : BundleGuard) (at : placed places slot ≡ Some (Bundle g)) where
+    scatter_calls : (s : State) → StandsFor old s
+        → scatter_call x.worker g.worker g.slot s ≡ asks (move.Unfix x.worker)
+    scatter_calls s st =
+        let bundle : IsBundle s x.worker slot g = here s st (Some (Bundle g)) at in
+        let wants = asked s st (ask.Scatter slot) is in
+        asked_call (bundle_fits s x.worker g.worker g.slot) (asks_scatter g.slot (ask_of s x.worker))
+        (asks (move.Unfix x.worker))
+        (bundle_fit s x.worker g.worker slot g.slot (ask.Scatter slot) wants bundle.worker bundle.of_slot bundle.gathered)
+        (ap (asks_scatter g.slot) wants ∙ number_is g.slot slot bundle.of_slot)
+
+    pub scatter_refused : (why : Refusal) → Refuses old (scatter_call x.worker g.worker g.slot) why
+        → untold new ≡ untold old
+        → HandPlays old x.worker (hand_of (In x) places) (cue.Unfix x.worker) (Refused (cue.Unfix x.worker) why) new
+        (hand_of (In x) places)
+    scatter_refused why refuses same =
+        refused_plays old new same x.worker (hand_of (In x) places) (cue.Unfix x.worker) why fits
+        (λ s st. subst (λ c. refusal_of s c ≡ Some why) (scatter_calls s st) (refuses s st))
+
+    scattered : (s : State) → StandsFor old s → HasScattered s (next_of s (move.Unfix x.worker)) x.worker slot
+    scattered s st =
+        let wants = asked s st (ask.Scatter slot) is in
+        (after s st).scattered x.worker slot (scatter_did s x.worker slot wants) wants
+
+    pub scatter_plays : (laws : StillFit) (y : Session) → Scatters old x g new y
+        → ((s : State) → StandsFor new s → IsEmpty s x.worker g.slot) → (line : Line) → IsDone old (cue.Unfix x.worker) new
+        → ((m : Move) (r : Reply) → new.last ≡ Some (m, r) → line ≡ Did m r)
+        → HandPlays old x.worker (hand_of (In x) places) (cue.Unfix x.worker) line new
+        (hand_of (In y) (slice_set places slot None))
+    scatter_plays laws y scatters empty line done tells =
+        let call = scatter_call x.worker g.worker g.slot in
+        let w = x.worker in
+        let bundle : IsBundle kept.state w slot g = here kept.state kept.stands (Some (Bundle g)) at in
+        record {
+          exact = line_fits old new (cue.Unfix w) line done tells (move.Unfix w) (λ n e. e) (λ s. refl) places
+              (slice_set places slot None);
+          leaves =
+              did_leaves old new line done.some tells (hand_of (In x) places)
+              (hand_of (In y) (slice_set places slot None));
+          fit = one_fits laws old new call kept scatters.does w (move.Unfix w) refl scatter_calls (In x) (In y) places fits
+              (λ s st. (scatters.session.worker, scatters.session.ask s st)) slot None
+              (low_gathered old kept.state w slot kept.stands bundle.gathered)
+              (λ s st. subst (λ n. IsEmpty s w n) bundle.of_slot (empty s st))
+              (λ s st k off.
+              let u = scattered s st in
+              (u.slots k, gathered_same s (next_of s (move.Unfix w)) w k (u.others k off), λ h. h));
+          others = others_fit laws old new call kept scatters.does w (move.Unfix w) refl scatter_calls;
         }
 
   -- ---- latch
@@ -202,23 +258,25 @@ module _ (old new : Parts) (kept : IsKept old) (x : Session) (places : List (Opt
               let free : IsPin s w slot g = here s st (Some (Pin g)) at in
               let mark = latch_marks s w slot m wants
               (allowed laws old new call kept changes.does w (move.Latch w) refl latch_calls s st) in
-              (((after s st).latched w slot g.page mark.0 m mark.1 wants free.held).now.others k off, λ h. h));
+              let now = ((after s st).latched w slot g.page mark.0 m mark.1 wants free.held).now in
+              (now.others k off, gathered_same s (next_of s (move.Latch w)) w k (now.bundles k), λ h. h));
           others = others_fit laws old new call kept changes.does w (move.Latch w) refl latch_calls;
         }
 
   -- ---- unlatch
 
-  module _ (is : x.ask ≡ ask.Unlatch slot) (g : Guard) (at : placed places slot ≡ Some g) (latched : is_pin g ≡ false) where
+  module _ (is : x.ask ≡ ask.Unlatch slot) (g : Guard) (at : placed places slot ≡ Some g) (latched : is_latched g ≡ true) where
     unlatch_calls_by : (s : State) → StandsFor old s → (h : Guard) → GuardFits old.page_bytes s x.worker slot h
-        → is_pin h ≡ false → unlatch_with old x h s ≡ asks (move.Unlatch x.worker)
-    unlatch_calls_by s st (Pin h) fit isnt = absurd (false≢true (sym isnt))
-    unlatch_calls_by s st (Read h) fit isnt =
+        → is_latched h ≡ true → unlatch_with old x h s ≡ asks (move.Unlatch x.worker)
+    unlatch_calls_by s st (Pin h) fit of = absurd (false≢true of)
+    unlatch_calls_by s st (Bundle h) fit of = absurd (false≢true of)
+    unlatch_calls_by s st (Read h) fit of =
         let wants = asked s st (ask.Unlatch slot) is in
         asked_call (fits_both s x.worker h.worker h.slot h.page S) (asks_unlatch h.slot (ask_of s x.worker))
         (asks (move.Unlatch x.worker))
         (both_fit s x.worker h.worker slot h.slot h.page S (ask.Unlatch slot) wants fit.worker fit.of_slot fit.held)
         (ap (asks_unlatch h.slot) wants ∙ number_is h.slot slot fit.of_slot)
-    unlatch_calls_by s st (Write h) fit isnt =
+    unlatch_calls_by s st (Write h) fit of =
         let wants = asked s st (ask.Unlatch slot) is in
         asked_call (fits_both s x.worker h.worker h.slot h.page X && is_long old h.image)
         (asks_unlatch h.slot (ask_of s x.worker)) (asks (move.Unlatch x.worker))
@@ -237,11 +295,19 @@ module _ (old new : Parts) (kept : IsKept old) (x : Session) (places : List (Opt
         refused_plays old new same x.worker (hand_of (In x) places) (cue.Unlatch x.worker) why fits
         (λ s st. subst (λ c. refusal_of s c ≡ Some why) (unlatch_calls s st) (refuses s st))
 
-    held_here : (s : State) (h : Guard) → GuardFits old.page_bytes s x.worker slot h
-        → held_of s x.worker slot ≡ Some (held_by h)
-    held_here s (Pin h) fit = fit.held
-    held_here s (Read h) fit = fit.held
-    held_here s (Write h) fit = fit.held
+    -- The page of such a guard, and how its slot holds it.
+    abbrev page_of : (h : Guard) → ℕ × Held
+    page_of (Pin h) = (h.page, Free)
+    page_of (Read h) = (h.page, S)
+    page_of (Write h) = (h.page, X)
+    page_of (Bundle h) = (0, Free)
+
+    held_here : (s : State) (h : Guard) → is_latched h ≡ true → GuardFits old.page_bytes s x.worker slot h
+        → held_of s x.worker slot ≡ Some (page_of h)
+    held_here s (Pin h) of fit = fit.held
+    held_here s (Read h) of fit = fit.held
+    held_here s (Write h) of fit = fit.held
+    held_here s (Bundle h) of fit = absurd (false≢true of)
 
     other_ask : (s : State) (k : ℕ) → k ≢ slot → ask_of s x.worker ≡ Some (ask.Unlatch slot)
         → ask_of s x.worker ≡ Some (ask.Unlatch k) → ⊥
@@ -264,13 +330,16 @@ module _ (old new : Parts) (kept : IsKept old) (x : Session) (places : List (Opt
               (hand_of (In y) (slice_set places slot (Some h)));
           fit = one_fits laws old new call kept changes.does w (move.Unlatch w) refl unlatch_calls (In x) (In y) places
               fits (λ s st. (changes.session_fits.worker, changes.session_fits.ask s st)) slot (Some h)
-              (low old kept.state w slot kept.stands (held_by g)
-              (held_here kept.state g (here kept.state kept.stands (Some g) at))) changes.guard_fits
+              (low old kept.state w slot kept.stands (page_of g)
+              (held_here kept.state g latched (here kept.state kept.stands (Some g) at))) changes.guard_fits
               (λ s st k off.
               let wants = asked s st (ask.Unlatch slot) is in
-              let mark = unlatch_marks s w slot wants in (
-                ((after s st).unlatched w slot (held_by g).0 mark.0 (held_by g).1 mark.1 wants
-                    (held_here s g (here s st (Some g) at))).others k off,
+              let mark = unlatch_marks s w slot wants in
+              let now =
+              (after s st).unlatched w slot (page_of g).0 mark.0 (page_of g).1 mark.1 wants
+              (held_here s g latched (here s st (Some g) at)) in (
+                now.others k off,
+                gathered_same s (next_of s (move.Unlatch w)) w k (now.bundles k),
                 λ h. other_ask s k off wants h.1,
               ));
           others = others_fit laws old new call kept changes.does w (move.Unlatch w) refl unlatch_calls;

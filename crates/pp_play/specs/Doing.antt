@@ -1,5 +1,6 @@
 -- What the functions that play one cue tell one another.
-use Rattle.std.specs.Prelude.{◌≡◌, ◌≢◌, ℕ, Option, None, Some, IsSome, List, length}
+use Rattle.std.specs.Prelude.{◌≡◌, ◌≢◌, ℕ, Bool, true, ◌&&◌, ◌||◌, Option, None, Some, IsSome, List}
+use Rattle.pp_plan.specs.declared.action.Ask.{Ask}
 use Rattle.pp_plan.specs.declared.action.Ask.TheVariants as ask
 use Rattle.pp_model.specs.declared.moves.Move.{Move}
 use Rattle.pp_model.specs.Pool.{State}
@@ -9,7 +10,8 @@ use Rattle.pp_vault.specs.Calls.{refusal_in}
 use Rattle.pp_vault.specs.Events.{untold}
 use Rattle.pp_vault.specs.Parts.{Parts}
 use Rattle.pp_vault.specs.StandsFor.{StandsFor}
-use Rattle.pp_vault.specs.Holding.{placed}
+use Rattle.pp_vault.specs.Fits.{is_gathered}
+use Rattle.pp_vault.specs.Holding.{has_bundle, placed, is_free}
 use Rattle.pp_script.specs.declared.cue.Cue.{Cue}
 use Rattle.pp_script.specs.declared.cue.Cue.TheVariants.{Take, Fix, Device, Unfix, Latch, Unlatch, Choose, Unwind, Finish}
 use Rattle.pp_script.specs.declared.cue.Cue.TheVariants.{Flush, FlushDevice, Write, Look}
@@ -50,21 +52,28 @@ pub record IsDone (old : Parts) (cue : Cue) (new : Parts) : Type 0 where
       → (m : Move) × IsMoveOf cue m × (new.last ≡ Some (m, reply_of s m)) × (refusal_in (reply_of s m) ≡ None)
       × StandsFor new (next_of s m)
 
--- Nothing is in the place of this slot, one of 32.
-pub record HasPlace {T : Type 0} (places : List (Option T)) (slot : ℕ) : Type 0 where
-  pub none : placed places slot ≡ None
-  pub long : length places ≡ 32
+-- Whether a page may come into the slot of worker w with these guards in their places: nothing is in its place, or the slot is
+-- a bundle, and the guard of one is there.
+abbrev pub has_room : State → (w : ℕ) → List (Option Guard) → (slot : ℕ) → Bool
+has_room s w places slot = is_free places slot || (has_bundle (placed places slot) && is_gathered s w slot)
 
--- The slot that the worker's plan asks a fix into has its place.
-abbrev pub FixHasPlace : {T : Type 0} → Parts → (w : ℕ) → List (Option T) → Type 0
+-- The slot into which a plan asks a page, by a fix or by a gather.
+abbrev pub slot_wanted : Ask → Option ℕ
+slot_wanted (ask.Fix slot region) = Some slot
+slot_wanted (ask.Gather slot region) = Some slot
+slot_wanted _ = None
+
+-- The slot into which the worker's plan asks a page has room for it.
+abbrev pub FixHasPlace : Parts → (w : ℕ) → List (Option Guard) → Type 0
 FixHasPlace v w places =
-    (s : State) → StandsFor v s → (slot region : ℕ) → ask_of s w ≡ Some (ask.Fix slot region) → HasPlace places slot
+    (s : State) → StandsFor v s → (a : Ask) (slot : ℕ) → ask_of s w ≡ Some a → slot_wanted a ≡ Some slot
+    → has_room s w places slot ≡ true
 
--- The slot of the worker's errand has its place.
-abbrev pub ErrandHasPlace : {T : Type 0} → Parts → (w : ℕ) → List (Option T) → Type 0
+-- The slot of the worker's errand has room for its page.
+abbrev pub ErrandHasPlace : Parts → (w : ℕ) → List (Option Guard) → Type 0
 ErrandHasPlace v w places =
     (s : State) → StandsFor v s → (slot page : ℕ) (victim : Option ℕ) → errand_of s w ≡ Some (slot, page, victim)
-    → HasPlace places slot
+    → has_room s w places slot ≡ true
 
 -- The flusher's token fits, in every state that the parts stand for.
 abbrev pub FlushingFitsIn : Parts → Option Flushing → Type 0

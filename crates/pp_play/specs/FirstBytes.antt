@@ -20,6 +20,7 @@ WritesInto byte (guard.Write g) Wrote new = new ≡ guard.Write (record g { imag
 WritesInto byte (guard.Write g) NoLatch new = (new ≡ guard.Write g) × (length g.image ≤ 12)
 WritesInto byte (guard.Pin g) NoLatch new = new ≡ guard.Pin g
 WritesInto byte (guard.Read g) NoLatch new = new ≡ guard.Read g
+WritesInto byte (guard.Bundle g) NoLatch new = new ≡ guard.Bundle g
 WritesInto byte g line new = ⊥
 
 -- The line of a look with this guard: the first byte of the image that it lets its worker see, or none.

@@ -1,6 +1,5 @@
 -- What the functions that play one cue tell one another of the tokens that they move, and of the device that they ask.
 use Rattle.std.specs.Prelude.{◌≡◌, ℕ, Bool, true, false, Option, None, Some, List}
-use Rattle.pp_model.specs.declared.moves.Move.{Move}
 use Rattle.pp_model.specs.declared.reply.Reply.{Reply}
 use Rattle.pp_model.specs.Pool.{State}
 use Rattle.pp_device.specs.Answers.{Answer}
@@ -8,7 +7,7 @@ use Rattle.pp_vault.specs.declared.tokens.Errand.{Errand}
 use Rattle.pp_vault.specs.declared.tokens.Returned.{Returned}
 use Rattle.pp_vault.specs.declared.tokens.Session.{Session}
 use Rattle.pp_vault.specs.declared.guards.Guard.{Guard}
-use Rattle.pp_vault.specs.declared.guards.Guard.TheVariants.{Pin, Read, Write}
+use Rattle.pp_vault.specs.declared.guards.Guard.TheVariants.{Pin, Read, Write, Bundle}
 use Rattle.pp_vault.specs.declared.guards.PinGuard.{PinGuard}
 use Rattle.pp_vault.specs.declared.stage.Stage.TheVariants.{Back}
 use Rattle.pp_vault.specs.declared.stage.Hand.{Hand}
@@ -47,6 +46,7 @@ abbrev pub LatchesWith : (old : Parts) → Session → PinGuard → (new : Parts
 LatchesWith old x g new y (Pin h) = ⊥
 LatchesWith old x g new y (Read h) = LatchesShared old x g new y h
 LatchesWith old x g new y (Write h) = LatchesExclusive old x g new y h
+LatchesWith old x g new y (Bundle h) = ⊥
 
 -- The latch of a guard is off its page.
 abbrev pub UnlatchesWith : (old : Parts) → Session → Guard → (new : Parts) → Session → Guard → Type 0

@@ -99,6 +99,7 @@ fn looked(vault: &Vault, guard: &Guard) -> Line
             None => Line::NoLatch,
         },
         Guard::Write(guard) => first_byte(guard.body()),
+        Guard::Bundle(_) => Line::NoLatch,
     }
 }
 

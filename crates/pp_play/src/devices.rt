@@ -15,7 +15,7 @@ ghost use Rattle.pp_play.specs.Doing.{ErrandHasPlace, HandPlays};
 ghost use Rattle.pp_play.specs.Following.{errand_at};
 ghost use Rattle.pp_play.specs.Moving.{MovesHand, TellsAnswer, DoesWith, EndsFlush, KeepsAll, PlaysFromAll};
 
-use crate::guards::put;
+use crate::guards::{has_room, put};
 use crate::line::{Line, did, off_plan};
 use pp_contents::laws::contents_are_kept;
 use pp_script::Cue;
@@ -24,13 +24,13 @@ use pp_vault::{
     Vault, laws,
 };
 
-/// Whether the page of the worker's errand would find the place of its slot free.
+/// Whether the page of the worker's errand would find room in its slot.
 fn errand_has_place(vault: &Vault, guards: &Guards, worker: u32) -> bool
     ensures free { result ≡ true → ErrandHasPlace vault.now worker guards.now }
     ensures taken { result ≡ false → IsKept vault.now → ¬ ErrandHasPlace vault.now worker guards.now }
 {
     match vault.errand(worker) {
-        Some((slot, _, _)) => guards.held(slot).is_none(),
+        Some((slot, _, _)) => has_room(vault, guards, worker, slot),
         None => true,
     }
 }
@@ -87,7 +87,7 @@ pub(crate) fn work<D: Device>(
     }
 }
 
-/// The answer to an errand of a worker; the place of its slot is free. An errand that is out is taken, whatever came of
+/// The answer to an errand of a worker; its slot has room for the page. An errand that is out is taken, whatever came of
 /// it, so that one that is refused is a stranger's.
 fn answer(vault: &mut Vault, returned: Returned, guards: &mut Guards, worker: u32) -> (Stage, Line)
     requires kept { IsKept vault.old }
@@ -111,6 +111,11 @@ fn answer(vault: &mut Vault, returned: Returned, guards: &mut Guards, worker: u3
             put(guards, Guard::Pin(guard));
             (Stage::In(session), did(vault))
         }
+        Answered::Opened(session, guard) => {
+            put(guards, Guard::Bundle(guard));
+            (Stage::In(session), did(vault))
+        }
+        Answered::Joined(session) => (Stage::In(session), did(vault)),
         Answered::Away(errand) => (Stage::Out(errand), did(vault)),
         Answered::Lost(leaver) => (Stage::Leaving(leaver), did(vault)),
         Answered::No(returned, _) => {

@@ -1,10 +1,12 @@
-//! Fix, unfix, latch, unlatch and unwind: cues of a worker that move the guards of its slots.
+//! Fix, unfix, latch, unlatch and unwind: cues of a worker that move the guards of its slots. A fix is a gather where the
+//! plan asks one, and an unfix a scatter.
 
 ghost use Rattle.std.specs.Prelude.{◌≡◌, true, false, None, Some, IfNone, IfSome, slice_set};
 ghost use Rattle.pp_plan.specs.declared.action.Ask.TheVariants as ask;
+ghost use Rattle.pp_model.specs.Pool.{State};
 ghost use Rattle.pp_vault.specs.Holding.{slot_by, is_free};
 ghost use Rattle.pp_vault.specs.Stages.{stage_worker};
-ghost use Rattle.pp_vault.specs.StandsFor.{IsKept};
+ghost use Rattle.pp_vault.specs.StandsFor.{StandsFor, IsKept};
 ghost use Rattle.pp_vault.specs.Fits.{latch_call};
 ghost use Rattle.pp_vault.specs.HandLaws.{FitsIn};
 ghost use Rattle.pp_vault.specs.declared.guards.Guard.TheVariants.{Pin};
@@ -12,7 +14,7 @@ ghost use Rattle.pp_vault.specs.declared.stage.Stage.TheVariants.{In};
 ghost use Rattle.pp_script.specs.declared.cue.Cue.TheVariants as cue;
 ghost use Rattle.pp_play.specs.Plays.{ComesTo};
 ghost use Rattle.pp_play.specs.Calling.{is_back};
-ghost use Rattle.pp_play.specs.Doing.{FixHasPlace, IsDone, Stays, HandPlays};
+ghost use Rattle.pp_play.specs.Doing.{slot_wanted, has_room, FixHasPlace, IsDone, Stays, HandPlays};
 ghost use Rattle.pp_play.specs.Guarding.{hand_of, PlaysHand, FixLacksPlace, unlatch_with, ChangesGuard, KeepsGuard};
 ghost use Rattle.pp_play.specs.Moving.{MovesHand, LatchesWith, UnlatchesWith};
 
@@ -22,14 +24,35 @@ use pp_script::Cue;
 use pp_vault::laws::hands_still_fit;
 use pp_vault::{Ask, Cause, Fixed, Guard, Guards, Hand, PinGuard, Refusal, Session, Stage, Vault};
 
-/// Whether the page that the worker's plan asks to fix would find the place of its slot free.
+/// Whether a page may come into the slot of the worker: nothing is in its place, or the slot is a bundle, and the guard of
+/// one is there.
+pub(crate) fn has_room(vault: &Vault, guards: &Guards, worker: u32, slot: u32) -> bool
+    ensures { (s : State) → StandsFor vault.now s → result ≡ has_room s worker guards.now slot }
+{
+    guards.is_free(slot) || (guards.has_bundle(slot) && vault.has_bundle(worker, slot))
+}
+
+/// The slot into which a plan asks a page, by a fix or by a gather.
+fn slot_wanted(ask: Ask) -> Option<u32>
+    ensures { result ≡ slot_wanted ask }
+{
+    match ask {
+        Ask::Fix { slot, .. } | Ask::Gather { slot, .. } => Some(u32::from(slot)),
+        _ => None,
+    }
+}
+
+/// Whether the page that the worker's plan asks to fix or to gather would find room in its slot.
 fn fix_has_place(vault: &Vault, guards: &Guards, worker: u32) -> bool
     ensures free { result ≡ true → FixHasPlace vault.now worker guards.now }
     ensures taken { result ≡ false → FixLacksPlace vault.now worker guards.now }
 {
     match vault.ask(worker) {
-        Some(Ask::Fix { slot, .. }) => guards.held(u32::from(slot)).is_none(),
-        _ => true,
+        Some(ask) => match slot_wanted(ask) {
+            Some(slot) => has_room(vault, guards, worker, slot),
+            None => true,
+        },
+        None => true,
     }
 }
 
@@ -44,7 +67,7 @@ pub(crate) fn put(guards: &mut Guards, guard: Guard)
     }
 }
 
-/// A worker fixes a page into the slot that its plan names.
+/// A worker fixes or gathers a page into the slot that its plan names.
 pub(crate) fn fix(vault: &mut Vault, hand: Hand, worker: u32, page: u32) -> (Hand, Line)
     requires { stage_worker hand.stage ≡ Some worker }
     ensures of { stage_worker result.0.stage ≡ Some worker }
@@ -73,7 +96,8 @@ pub(crate) fn fix(vault: &mut Vault, hand: Hand, worker: u32, page: u32) -> (Han
     }
 }
 
-/// The fix of a worker that acts; the place of the slot is free.
+/// The fix or the gather of a worker that acts; the slot has room for the page. The hand gets the guard of a bundle with the
+/// first page that the bundle holds, and with a further one it stays.
 fn fix_in(
     vault: &mut Vault,
     session: Session,
@@ -98,6 +122,11 @@ fn fix_in(
             put(guards, Guard::Pin(guard));
             (Stage::In(session), did(vault))
         }
+        Fixed::Opened(session, guard) => {
+            put(guards, Guard::Bundle(guard));
+            (Stage::In(session), did(vault))
+        }
+        Fixed::Joined(session) => (Stage::In(session), did(vault)),
         Fixed::Away(errand) => (Stage::Out(errand), did(vault)),
         Fixed::No(session, refusal) => {
             (
@@ -108,7 +137,7 @@ fn fix_in(
     }
 }
 
-/// A worker gives the page of the slot back that its plan names.
+/// A worker gives the page of the slot back that its plan names, or all pages of the bundle.
 pub(crate) fn unfix(vault: &mut Vault, hand: Hand, worker: u32) -> (Hand, Line)
     requires { stage_worker hand.stage ≡ Some worker }
     ensures of { stage_worker result.0.stage ≡ Some worker }
@@ -125,6 +154,10 @@ pub(crate) fn unfix(vault: &mut Vault, hand: Hand, worker: u32) -> (Hand, Line)
         Stage::In(session) => match session.ask() {
             Ask::Unfix { slot } => {
                 let (stage, line) = unfix_slot(vault, session, &mut guards, slot, worker);
+                (Hand { stage, guards }, line)
+            }
+            Ask::Scatter { slot } => {
+                let (stage, line) = scatter_slot(vault, session, &mut guards, slot, worker);
                 (Hand { stage, guards }, line)
             }
             _ => (
@@ -166,6 +199,45 @@ fn unfix_slot(
                 Ok(session) => (Stage::In(session), did(vault)),
                 Err((session, guard, refusal)) => {
                     put(guards, Guard::Pin(guard));
+                    (Stage::In(session), Line::Refused(cue, refusal))
+                }
+            },
+            guard => {
+                put(guards, guard);
+                (Stage::In(session), Line::Refused(cue, Refusal::Stranger))
+            }
+        },
+        None => (Stage::In(session), Line::Refused(cue, Refusal::Stranger)),
+    }
+}
+
+/// The scatter of a bundle, which the plan asks.
+fn scatter_slot(
+    vault: &mut Vault,
+    session: Session,
+    guards: &mut Guards,
+    slot: u8,
+    worker: u32,
+) -> (Stage, Line)
+    requires kept { IsKept vault.old }
+    requires of { session.worker ≡ worker }
+    requires asks { session.ask ≡ ask.Scatter slot }
+    ensures of { stage_worker result.0 ≡ Some worker }
+    ensures comes { ComesTo vault.old (cue.Unfix worker) result.1 vault.new }
+    ensures plays { PlaysHand vault.old worker (hand_of (In session) guards.old) (cue.Unfix worker) result.1
+        vault.new (hand_of result.0 guards.new) }
+    ensures moves { MovesHand vault.old (hand_of (In session) guards.old) result.1 vault.new
+        (hand_of result.0 guards.new) }
+    ensures forth { is_back result.0 ≡ false }
+{
+    hands_still_fit();
+    let cue = Cue::Unfix { worker };
+    match guards.take(u32::from(slot)) {
+        Some(guard) => match guard {
+            Guard::Bundle(guard) => match vault.scatter(session, guard) {
+                Ok(session) => (Stage::In(session), did(vault)),
+                Err((session, guard, refusal)) => {
+                    put(guards, Guard::Bundle(guard));
                     (Stage::In(session), Line::Refused(cue, refusal))
                 }
             },
@@ -370,10 +442,11 @@ fn unlatched(vault: &mut Vault, session: Session, guard: Guard) -> (Session, Gua
             Ok((session, guard)) => (session, Guard::Pin(guard), None),
             Err((session, guard, refusal)) => (session, Guard::Write(guard), Some(refusal)),
         },
+        Guard::Bundle(guard) => (session, Guard::Bundle(guard), Some(Refusal::Stranger)),
     }
 }
 
-/// A worker that leaves its plan gives a slot back, latch and pin together.
+/// A worker that leaves its plan gives a slot back: latch and pin together, and a bundle whole.
 pub(crate) fn unwind(vault: &mut Vault, hand: Hand, worker: u32, slot: u32) -> (Hand, Line)
     requires { stage_worker hand.stage ≡ Some worker }
     ensures of { stage_worker result.0.stage ≡ Some worker }

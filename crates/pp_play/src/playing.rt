@@ -52,6 +52,9 @@ impl From<AllocError> for PlayError {
 /// called once for each of its answers that a line tells, but for one that was in the hands already. An errand of another
 /// vault may be carried out before its answer is refused: then the device was called, and the answer stays in the hands.
 ///
+/// Where a worker's plan asks a gather, a fix plays it, and where it asks a scatter, an unfix does. A bundle's pages aren't
+/// latched through it, so a byte of a bundle is neither written nor looked at.
+///
 /// Room for all lines is got first.
 ///
 /// # Errors

@@ -15,16 +15,18 @@ use Rattle.pp_model.specs.Moves.{reply_of, is_possible}
 use Rattle.pp_core.specs.Queries.{is_idle, is_leaving, ask_of, flushed_page}
 use Rattle.pp_vault.specs.declared.tokens.Duty.{Duty}
 use Rattle.pp_vault.specs.declared.tokens.Duty.TheVariants as duty
+use Rattle.pp_vault.specs.declared.tokens.Returned.{Returned}
 use Rattle.pp_vault.specs.declared.guards.Guard.TheVariants as guard
 use Rattle.pp_vault.specs.Parts as vault
 use Rattle.pp_vault.specs.Calls.{Call, stranger, asks}
 use Rattle.pp_vault.specs.Fits.{is_acting, fix_slot, names_slot, fits_both, asks_unfix, asks_latch, asks_unlatch, guard_call, leaver_fits}
+use Rattle.pp_vault.specs.Fits.{bundle_fits, asks_scatter, leaver_fits_bundle}
 use Rattle.pp_vault.specs.Answers.{is_flush_out, is_write_out, is_read_out, duty_call}
 use Rattle.pp_vault.specs.Flushes.{flush_if}
 use Rattle.pp_vault.specs.Tokens.{is_long}
 use Rattle.pp_pool.specs.declared.request.Request.{Request}
 use Rattle.pp_pool.specs.declared.request.Request.TheVariants as request
-use Rattle.pp_pool.specs.Requests.{call_of, event_of}
+use Rattle.pp_pool.specs.Requests.{call_of, event_of, can_join, bundle_asked, bundle_served}
 use Rattle.pp_pool.specs.Replies.{IsMoveOf, IsEventOf, duty_move}
 
 -- An event that the call adds is of a move that it asks.
@@ -49,6 +51,24 @@ module _ (asked : Request) (s : State) where
   by_guard true false m is = tt
   by_guard false wants m is = tt
 
+  by_join : (there : Bool) (call : Call) → Asks asked s call → Asks asked s (if there then call else stranger)
+  by_join true call h = h
+  by_join false call h = tt
+
+  by_duty : (page_bytes : ℕ) (returned : Returned)
+      → ((m : Move) → m ≡ duty_move returned.duty returned.image (is_ok returned.answer) → IsMoveOf asked m)
+      → (d : Duty) → d ≡ returned.duty
+      → Asks asked s (duty_call page_bytes d returned.image (is_ok returned.answer) s)
+  by_duty page_bytes returned is (duty.Read w slot page) e =
+      by_token (is_read_out page_bytes w slot page returned.image s) _
+      (is _ (ap (λ d. duty_move d returned.image (is_ok returned.answer)) e))
+  by_duty page_bytes returned is (duty.Write w slot page victim) e =
+      by_token (is_write_out page_bytes w slot page victim returned.image s) _
+      (is _ (ap (λ d. duty_move d returned.image (is_ok returned.answer)) e))
+  by_duty page_bytes returned is (duty.Flush page) e =
+      by_token (is_flush_out page_bytes page returned.image s) _
+      (is _ (ap (λ d. duty_move d returned.image (is_ok returned.answer)) e))
+
 by_search : (number : ℕ) (s : State) (busy : Bool) (found : Option ℕ)
     → Asks (request.FlushNext number) s (flush_if busy found)
 by_search number s busy (Some page) = by_move (request.FlushNext number) s (move.FlushBegin page) (page, refl)
@@ -58,9 +78,14 @@ by_search number s false None = tt
 pub event_fits : (v : vault.Parts) (asked : Request) (s : State) → IfSome (event_of s (call_of v asked s)) (IsEventOf asked)
 event_fits v (request.Take chair) s = by_token (request.Take chair) s (is_idle s chair.worker) _ refl
 event_fits v (request.Fix x page) s = by_token (request.Fix x page) s (names_slot (fix_slot x.ask) (ask_of s x.worker)) _ refl
+event_fits v (request.Join x page) s =
+    by_join (request.Join x page) s (can_join s (bundle_asked x.worker x.ask)) _
+    (by_token (request.Join x page) s (names_slot (fix_slot x.ask) (ask_of s x.worker)) _ refl)
 event_fits v (request.Unfix x g) s =
     by_guard (request.Unfix x g) s (fits_both s x.worker g.worker g.slot g.page Free)
     (asks_unfix g.slot (ask_of s x.worker)) _ refl
+event_fits v (request.Scatter x g) s =
+    by_guard (request.Scatter x g) s (bundle_fits s x.worker g.worker g.slot) (asks_scatter g.slot (ask_of s x.worker)) _ refl
 event_fits v (request.LatchShared x g) s =
     by_guard (request.LatchShared x g) s (fits_both s x.worker g.worker g.slot g.page Free)
     (asks_latch g.slot mode.S (ask_of s x.worker)) _ refl
@@ -83,19 +108,13 @@ event_fits v (request.GiveBack x (guard.Read g)) s =
 event_fits v (request.GiveBack x (guard.Write g)) s =
     by_token (request.GiveBack x (guard.Write g)) s
     (leaver_fits s x.worker g.worker g.slot g.page X && is_long v g.image) _ refl
-event_fits v (request.Answer returned) s = by_duty returned.duty refl
-  where
-    by_duty : (d : Duty) → d ≡ returned.duty
-        → Asks (request.Answer returned) s (duty_call v.page_bytes d returned.image (is_ok returned.answer) s)
-    by_duty (duty.Read w slot page) e =
-        by_token (request.Answer returned) s (is_read_out v.page_bytes w slot page returned.image s) _
-        (ap (λ d. duty_move d returned.image (is_ok returned.answer)) e)
-    by_duty (duty.Write w slot page victim) e =
-        by_token (request.Answer returned) s (is_write_out v.page_bytes w slot page victim returned.image s) _
-        (ap (λ d. duty_move d returned.image (is_ok returned.answer)) e)
-    by_duty (duty.Flush page) e =
-        by_token (request.Answer returned) s (is_flush_out v.page_bytes page returned.image s) _
-        (ap (λ d. duty_move d returned.image (is_ok returned.answer)) e)
+event_fits v (request.GiveBack x (guard.Bundle g)) s =
+    by_token (request.GiveBack x (guard.Bundle g)) s (leaver_fits_bundle s x.worker g.worker g.slot) _ refl
+event_fits v (request.Answer returned) s =
+    by_duty (request.Answer returned) s v.page_bytes returned (λ m is. is) returned.duty refl
+event_fits v (request.AnswerJoin returned) s =
+    by_join (request.AnswerJoin returned) s (can_join s (bundle_served returned.duty)) _
+    (by_duty (request.AnswerJoin returned) s v.page_bytes returned (λ m is. is) returned.duty refl)
 event_fits v (request.Flush page) s = by_move (request.Flush page) s (move.FlushBegin page) refl
 event_fits v (request.FlushNext number) s =
     by_search number s (is_some (flushed_page s)) (dirty_from (marks s) number)

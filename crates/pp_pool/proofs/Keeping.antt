@@ -1,18 +1,20 @@
--- A worker's tokens stay that worker's over a turn, and an errand keeps the place of its slot free.
-use Rattle.std.proofs.Common.{◌≡◌, ◌∙◌, ℕ, Option, Some, None, List, refl, sym, ap, subst}
-use Rattle.std.specs.Prelude.{true, IfSome, IsSome}
+-- A worker's tokens stay that worker's over a turn, and an errand keeps the place of its slot.
+use Rattle.std.proofs.Common.{◌≡◌, ◌∙◌, ℕ, Bool, true, false, Option, Some, None, List, refl, sym, ap, subst, inl, inr}
+use Rattle.std.specs.Prelude.{◌||◌, IfSome, IsSome}
 use Rattle.std.proofs.lemmas.Bool.{false≢true}
 use Rattle.pp_settings.specs.Layout.{Geometry}
 use Rattle.pp_device.specs.Answers.{Answer as DeviceAnswer}
 use Rattle.pp_vault.specs.declared.tokens.Session.{Session}
 use Rattle.pp_vault.specs.declared.tokens.Leaver.{Leaver}
 use Rattle.pp_vault.specs.declared.tokens.Errand.{Errand}
+use Rattle.pp_vault.specs.declared.tokens.Returned.{Returned}
 use Rattle.pp_vault.specs.declared.guards.Guard.{Guard}
 use Rattle.pp_vault.specs.declared.stage.Stage.{Stage}
 use Rattle.pp_vault.specs.declared.stage.Stage.TheVariants as stage
 use Rattle.pp_vault.specs.Stages.{stage_worker}
 use Rattle.pp_vault.specs.Duties.{duty_worker, duty_slot}
-use Rattle.pp_vault.specs.Holding.{is_free}
+use Rattle.pp_vault.specs.Fits.{fix_slot}
+use Rattle.pp_vault.specs.Holding.{slot_by, placed, is_free, has_bundle}
 use Rattle.pp_pool.specs.declared.request.Request.{Request}
 use Rattle.pp_pool.specs.declared.request.Request.TheVariants as request
 use Rattle.pp_pool.specs.declared.outcome.Answer.{Answer}
@@ -23,14 +25,16 @@ use Rattle.pp_pool.specs.declared.turned.Turned.{Turned}
 use Rattle.pp_pool.specs.declared.site.Site as Site
 use Rattle.pp_pool.specs.declared.work.Work as Work
 use Rattle.pp_pool.specs.Turns.{stage_asked, stage_in, Uses, IsStep, IsWayOut, Asks, guard_asked, guard_in, places_with}
-use Rattle.pp_pool.specs.Turns.{FindsPlace, IsWorkers, Prepares, has_place, keeps_place}
+use Rattle.pp_pool.specs.Turns.{FindsPlace, IsWorkers, Prepares, IsTold, HasBundle, has_place, keeps_place}
 use Rattle.pp_pool.proofs.Turning.{used_stage}
 
 -- The worker of a request; none where it is the flusher's.
 abbrev worker_asked : Request → Option ℕ
 worker_asked (request.Take chair) = Some chair.worker
 worker_asked (request.Fix x page) = Some x.worker
+worker_asked (request.Join x page) = Some x.worker
 worker_asked (request.Unfix x g) = Some x.worker
+worker_asked (request.Scatter x g) = Some x.worker
 worker_asked (request.LatchShared x g) = Some x.worker
 worker_asked (request.LatchExclusive x g) = Some x.worker
 worker_asked (request.UnlatchShared x g) = Some x.worker
@@ -40,6 +44,7 @@ worker_asked (request.Finish x) = Some x.worker
 worker_asked (request.End x) = Some x.worker
 worker_asked (request.GiveBack x g) = Some x.worker
 worker_asked (request.Answer returned) = duty_worker returned.duty
+worker_asked (request.AnswerJoin returned) = duty_worker returned.duty
 worker_asked (request.Flush page) = None
 worker_asked (request.FlushNext number) = None
 
@@ -53,7 +58,9 @@ of_leaver x y same = ap (λ (z : Leaver). Some z.worker) same
 
 of_step : (layout : Geometry) (x : Session) (asked : Request) → IsStep layout x asked → worker_asked asked ≡ Some x.worker
 of_step layout x (request.Fix y page) step = of_session x y step.0
+of_step layout x (request.Join y page) step = of_session x y step.0
 of_step layout x (request.Unfix y g) step = of_session x y step.0
+of_step layout x (request.Scatter y g) step = of_session x y step.0
 of_step layout x (request.LatchShared y g) step = of_session x y step.0
 of_step layout x (request.LatchExclusive y g) step = of_session x y step.0
 of_step layout x (request.UnlatchShared y g) step = of_session x y step.0
@@ -64,6 +71,7 @@ of_step layout x (request.Take chair) step = absurd step
 of_step layout x (request.End y) step = absurd step
 of_step layout x (request.GiveBack y g) step = absurd step
 of_step layout x (request.Answer returned) step = absurd step
+of_step layout x (request.AnswerJoin returned) step = absurd step
 of_step layout x (request.Flush page) step = absurd step
 of_step layout x (request.FlushNext number) step = absurd step
 
@@ -72,7 +80,9 @@ of_way_out x (request.GiveBack y g) out = of_leaver x y out
 of_way_out x (request.End y) out = of_leaver x y out
 of_way_out x (request.Take chair) out = absurd out
 of_way_out x (request.Fix y page) out = absurd out
+of_way_out x (request.Join y page) out = absurd out
 of_way_out x (request.Unfix y g) out = absurd out
+of_way_out x (request.Scatter y g) out = absurd out
 of_way_out x (request.LatchShared y g) out = absurd out
 of_way_out x (request.LatchExclusive y g) out = absurd out
 of_way_out x (request.UnlatchShared y g) out = absurd out
@@ -80,8 +90,13 @@ of_way_out x (request.UnlatchExclusive y g) out = absurd out
 of_way_out x (request.Choose y branch) out = absurd out
 of_way_out x (request.Finish y) out = absurd out
 of_way_out x (request.Answer returned) out = absurd out
+of_way_out x (request.AnswerJoin returned) out = absurd out
 of_way_out x (request.Flush page) out = absurd out
 of_way_out x (request.FlushNext number) out = absurd out
+
+told_worker : (returned : Returned) (asked : Request) → IsTold returned asked → worker_asked asked ≡ duty_worker returned.duty
+told_worker returned asked (inl answer) = ap worker_asked answer
+told_worker returned asked (inr join) = ap worker_asked join
 
 of_stage : {D : Type 0} (reads : D → ℕ → List ℕ → DeviceAnswer → List ℕ → D → Type 0)
     (writes : D → ℕ → List ℕ → DeviceAnswer → D → Type 0) (calls failures : D → ℕ) (layout : Geometry) (at : Stage)
@@ -90,8 +105,8 @@ of_stage : {D : Type 0} (reads : D → ℕ → List ℕ → DeviceAnswer → Lis
 of_stage reads writes calls failures layout (stage.Idle chair) old asked new asks = ap worker_asked asks.0
 of_stage reads writes calls failures layout (stage.In x) old asked new asks = of_step layout x asked asks.0
 of_stage reads writes calls failures layout (stage.Out errand) old asked new asks =
-    ap worker_asked asks.sent ∙ ap duty_worker asks.duty
-of_stage reads writes calls failures layout (stage.Back returned) old asked new asks = ap worker_asked asks.0
+    told_worker asks.returned asked asks.sent ∙ ap duty_worker asks.duty
+of_stage reads writes calls failures layout (stage.Back returned) old asked new asks = told_worker returned asked asks.0
 of_stage reads writes calls failures layout (stage.Leaving x) old asked new asks = of_way_out x asked asks.0
 
 -- ---- the answer is of the request's worker
@@ -103,7 +118,9 @@ IsOf w at = IfSome at (λ s. stage_worker s ≡ w)
 of_back : (asked : Request) → IsOf (worker_asked asked) (stage_asked asked)
 of_back (request.Take chair) = refl
 of_back (request.Fix x page) = refl
+of_back (request.Join x page) = refl
 of_back (request.Unfix x g) = refl
+of_back (request.Scatter x g) = refl
 of_back (request.LatchShared x g) = refl
 of_back (request.LatchExclusive x g) = refl
 of_back (request.UnlatchShared x g) = refl
@@ -113,6 +130,7 @@ of_back (request.Finish x) = refl
 of_back (request.End x) = refl
 of_back (request.GiveBack x g) = refl
 of_back (request.Answer returned) = refl
+of_back (request.AnswerJoin returned) = refl
 of_back (request.Flush page) = tt
 of_back (request.FlushNext number) = tt
 
@@ -120,8 +138,13 @@ of_answer : (asked : Request) (out : Answer) → TokensFit asked out → IsOf (w
 of_answer asked (answer.No back why) fit = subst (λ r. IsOf (worker_asked r) (stage_asked back)) fit (of_back back)
 of_answer (request.Take chair) (answer.Acts y) fit = ap Some fit
 of_answer (request.Fix x page) (answer.Pinned y h) fit = ap Some fit.0
+of_answer (request.Fix x page) (answer.Opened y h) fit = ap Some fit.0
+of_answer (request.Fix x page) (answer.Joined y) fit = ap Some fit
 of_answer (request.Fix x page) (answer.Away errand) fit = fit
+of_answer (request.Join x page) (answer.Joined y) fit = ap Some fit
+of_answer (request.Join x page) (answer.Away errand) fit = fit
 of_answer (request.Unfix x g) (answer.Acts y) fit = ap Some fit
+of_answer (request.Scatter x g) (answer.Acts y) fit = ap Some fit
 of_answer (request.LatchShared x g) (answer.Shared y h) fit = ap Some fit.0
 of_answer (request.LatchExclusive x g) (answer.Exclusive y h) fit = ap Some fit.0
 of_answer (request.UnlatchShared x g) (answer.Pinned y h) fit = ap Some fit.0
@@ -131,9 +154,14 @@ of_answer (request.Finish x) (answer.Idle chair) fit = ap Some fit
 of_answer (request.End x) (answer.Idle chair) fit = ap Some fit
 of_answer (request.GiveBack x g) (answer.Leaves y) fit = of_leaver x y fit
 of_answer (request.Answer returned) (answer.Pinned y h) fit = sym fit.0
+of_answer (request.Answer returned) (answer.Opened y h) fit = sym fit.0
+of_answer (request.Answer returned) (answer.Joined y) fit = sym fit
 of_answer (request.Answer returned) (answer.Away errand) fit = fit
 of_answer (request.Answer returned) (answer.Leaves y) fit = sym fit
 of_answer (request.Answer returned) (answer.Flushed clean) fit = tt
+of_answer (request.AnswerJoin returned) (answer.Joined y) fit = sym fit
+of_answer (request.AnswerJoin returned) (answer.Away errand) fit = fit
+of_answer (request.AnswerJoin returned) (answer.Leaves y) fit = sym fit
 of_answer (request.Flush page) (answer.Away errand) fit = fit
 of_answer (request.FlushNext number) (answer.Away errand) fit = fit
 of_answer asked out fit = absurd fit
@@ -154,13 +182,47 @@ keeps_worker s k reads writes calls failures layout before after old asked new o
     (of_answer asked outcome.answer replies.tokens)
     ∙ of_stage reads writes calls failures layout before old asked new asks
 
--- ---- an errand's place stays free
+-- ---- an errand's place stays
 
--- The place of a slot, which is there and is free.
-place_there : (places : List (Option Guard)) (o : Option ℕ) → IsSome o → IfSome o (λ slot. is_free places slot ≡ true)
+either_left : (free bundle : Bool) → free ≡ true → (free || bundle) ≡ true
+either_left true bundle e = refl
+either_left false bundle e = absurd (false≢true e)
+
+either_right : (free bundle : Bool) → bundle ≡ true → (free || bundle) ≡ true
+either_right true bundle e = refl
+either_right false bundle e = e
+
+-- For a slot whose place is free a page may come, and for one whose place has a bundle's guard.
+where_free : (places : List (Option Guard)) (o : Option ℕ) → IsSome o → IfSome o (λ slot. is_free places slot ≡ true)
     → has_place places o ≡ true
-place_there places (Some slot) some free = free
-place_there places None some free = absurd (false≢true some)
+where_free places (Some slot) some free = either_left (is_free places slot) (has_bundle (placed places slot)) free
+where_free places None some free = absurd (false≢true some)
+
+where_bundle : (places : List (Option Guard)) (o : Option ℕ) → IsSome o → IfSome o (HasBundle places)
+    → has_place places o ≡ true
+where_bundle places (Some slot) some there = either_right (is_free places slot) (has_bundle (placed places slot)) there
+where_bundle places None some there = absurd (false≢true some)
+
+-- So it may for the slot of a request that finds its place.
+place_found : (places : List (Option Guard)) (asked : Request) → IsSome (slot_for asked) → FindsPlace places asked
+    → has_place places (slot_for asked) ≡ true
+place_found places (request.Join x page) some finds = where_bundle places (Some (fix_slot x.ask)) refl finds
+place_found places (request.AnswerJoin returned) some finds = where_bundle places (duty_slot returned.duty) some finds
+place_found places (request.Fix x page) some finds = where_free places (Some (fix_slot x.ask)) refl finds
+place_found places (request.Unfix x g) some finds = where_free places (Some g.slot) refl finds
+place_found places (request.Scatter x g) some finds = where_free places (Some g.slot) refl finds
+place_found places (request.LatchShared x g) some finds = where_free places (Some g.slot) refl finds
+place_found places (request.LatchExclusive x g) some finds = where_free places (Some g.slot) refl finds
+place_found places (request.UnlatchShared x g) some finds = where_free places (Some g.slot) refl finds
+place_found places (request.UnlatchExclusive x g) some finds = where_free places (Some g.slot) refl finds
+place_found places (request.GiveBack x g) some finds = where_free places (Some (slot_by g)) refl finds
+place_found places (request.Answer returned) some finds = where_free places (duty_slot returned.duty) some finds
+place_found places (request.Take chair) some finds = absurd (false≢true some)
+place_found places (request.Choose x branch) some finds = absurd (false≢true some)
+place_found places (request.Finish x) some finds = absurd (false≢true some)
+place_found places (request.End x) some finds = absurd (false≢true some)
+place_found places (request.Flush page) some finds = absurd (false≢true some)
+place_found places (request.FlushNext number) some finds = absurd (false≢true some)
 
 -- What is known of a stage that comes.
 abbrev KeepsIn : List (Option Guard) → Option Stage → Type 0
@@ -169,10 +231,13 @@ KeepsIn places o = IfSome o (λ at. keeps_place places at ≡ true)
 -- A request that comes back keeps its place.
 back_keeps : (rest : List (Option Guard)) (asked : Request) → FindsPlace rest asked → IsWorkers asked
     → KeepsIn (places_with rest (guard_asked asked)) (stage_asked asked)
-back_keeps rest (request.Answer returned) free workers = place_there rest (duty_slot returned.duty) workers free
+back_keeps rest (request.Answer returned) free workers = place_found rest (request.Answer returned) workers free
+back_keeps rest (request.AnswerJoin returned) free workers = place_found rest (request.AnswerJoin returned) workers free
 back_keeps rest (request.Take chair) free workers = refl
 back_keeps rest (request.Fix x page) free workers = refl
+back_keeps rest (request.Join x page) free workers = refl
 back_keeps rest (request.Unfix x g) free workers = refl
+back_keeps rest (request.Scatter x g) free workers = refl
 back_keeps rest (request.LatchShared x g) free workers = refl
 back_keeps rest (request.LatchExclusive x g) free workers = refl
 back_keeps rest (request.UnlatchShared x g) free workers = refl
@@ -188,11 +253,14 @@ back_keeps rest (request.FlushNext number) free workers = tt
 away_slot : (asked : Request) (errand : Errand) → IsWorkers asked → TokensFit asked (answer.Away errand)
     → IsSome (slot_for asked)
 away_slot (request.Fix x page) errand workers fit = refl
+away_slot (request.Join x page) errand workers fit = refl
 away_slot (request.Answer returned) errand workers fit = workers
+away_slot (request.AnswerJoin returned) errand workers fit = workers
 away_slot (request.Flush page) errand workers fit = absurd workers
 away_slot (request.FlushNext number) errand workers fit = absurd workers
 away_slot (request.Take chair) errand workers fit = absurd fit
 away_slot (request.Unfix x g) errand workers fit = absurd fit
+away_slot (request.Scatter x g) errand workers fit = absurd fit
 away_slot (request.LatchShared x g) errand workers fit = absurd fit
 away_slot (request.LatchExclusive x g) errand workers fit = absurd fit
 away_slot (request.UnlatchShared x g) errand workers fit = absurd fit
@@ -208,7 +276,7 @@ module _ {S W : Type 0} (s : Site.Ghosts S) (k : Work.Ghosts W) (site : S) (room
       → Uses s k site room old out turned after new → KeepsIn (places_with rest (guard_in after)) (stage_in out)
   answer_keeps (answer.Away errand) after fit slot uses =
       subst (λ o. has_place (places_with rest (guard_in o)) (duty_slot errand.duty) ≡ true) (sym uses.1)
-      (ap (has_place rest) slot ∙ place_there rest (slot_for asked) (away_slot asked errand p.workers fit) p.finds)
+      (ap (has_place rest) slot ∙ place_found rest asked (away_slot asked errand p.workers fit) p.finds)
   answer_keeps (answer.No back why) after fit slot uses =
       subst (λ o. KeepsIn (places_with rest (guard_in o)) (stage_asked back)) (sym uses.1)
       (subst (λ r. KeepsIn (places_with rest (guard_asked r)) (stage_asked r)) (sym fit)
@@ -217,6 +285,8 @@ module _ {S W : Type 0} (s : Site.Ghosts S) (k : Work.Ghosts W) (site : S) (room
   answer_keeps (answer.Idle chair) after fit slot uses = refl
   answer_keeps (answer.Leaves x) after fit slot uses = refl
   answer_keeps (answer.Pinned x g) after fit slot uses = refl
+  answer_keeps (answer.Opened x g) after fit slot uses = refl
+  answer_keeps (answer.Joined x) after fit slot uses = refl
   answer_keeps (answer.Shared x g) after fit slot uses = refl
   answer_keeps (answer.Exclusive x g) after fit slot uses = refl
   answer_keeps (answer.Flushed clean) after fit slot uses = tt

@@ -1,6 +1,7 @@
 pub mod Noted
 pub mod Growing
 pub mod Tokens
+pub mod Joining
 pub mod Fitting
 pub mod Sending
 pub mod Replying

@@ -14,7 +14,7 @@ use Rattle.pp_vault.specs.Events.{Refuses, Does, untold}
 use Rattle.pp_pool.specs.declared.request.Request.{Request}
 use Rattle.pp_pool.specs.declared.outcome.Answer.{Answer}
 use Rattle.pp_pool.specs.declared.outcome.Answer.TheVariants.{Acts, Idle, Leaves, Pinned, Shared, Exclusive, Away}
-use Rattle.pp_pool.specs.declared.outcome.Answer.TheVariants.{Flushed, No}
+use Rattle.pp_pool.specs.declared.outcome.Answer.TheVariants.{Opened, Joined, Flushed, No}
 use Rattle.pp_pool.specs.Requests.{call_of}
 use Rattle.pp_pool.specs.Performing.{ComesTo, DoesUnless}
 
@@ -72,6 +72,8 @@ noted old new asked (Acts x) h d = noted_done old new (call_of old asked) (d ref
 noted old new asked (Idle chair) h d = noted_done old new (call_of old asked) (d refl)
 noted old new asked (Leaves x) h d = noted_done old new (call_of old asked) (d refl)
 noted old new asked (Pinned x g) h d = noted_done old new (call_of old asked) (d refl)
+noted old new asked (Opened x g) h d = noted_done old new (call_of old asked) (d refl)
+noted old new asked (Joined x) h d = noted_done old new (call_of old asked) (d refl)
 noted old new asked (Shared x g) h d = noted_done old new (call_of old asked) (d refl)
 noted old new asked (Exclusive x g) h d = noted_done old new (call_of old asked) (d refl)
 noted old new asked (Away errand) h d = noted_done old new (call_of old asked) (d refl)

@@ -1,16 +1,23 @@
 -- Places from which a guard is taken, and to which it goes back.
 use Rattle.std.proofs.Common.{◌≡◌, ◌∙◌, ◌<◌, ℕ, suc, true, false, Option, Some, None, List, [], ◌∷◌, length, refl, sym, ap, subst, inl, inr, arith}
-use Rattle.std.specs.Prelude.{ltb, ◌&&◌, is_none, slice_set, IfSome, IfOk, Result, Ok, Err}
+use Rattle.std.specs.Prelude.{ltb, ◌&&◌, ◌||◌, Bool, is_none, slice_set, IfSome, IfOk, Result, Ok, Err}
+use Rattle.std.specs.Option.{is_some}
 use Rattle.std.proofs.lemmas.List.{get_or-set_same, length-set, set-set, set-get_or, get_or_past}
 use Rattle.std.proofs.lemmas.Bool.{lt-ltb, cases_lt, false≢true}
-use Rattle.pp_settings.specs.Layout.{Geometry}
+use Rattle.pp_settings.specs.Layout.{Geometry, HasPage}
+use Rattle.pp_plan.specs.declared.action.Ask.TheVariants as ask
+use Rattle.pp_core.specs.Fixing.{wanted}
 use Rattle.pp_vault.specs.declared.tokens.Session.{Session}
+use Rattle.pp_vault.specs.declared.tokens.Returned.{Returned}
 use Rattle.pp_vault.specs.declared.guards.Guard.{Guard}
-use Rattle.pp_vault.specs.Holding.{slot_by, placed, is_free, all_free}
+use Rattle.pp_vault.specs.Duties.{duty_slot}
+use Rattle.pp_vault.specs.Fits.{fix_slot}
+use Rattle.pp_vault.specs.Holding.{slot_by, placed, is_free, all_free, has_bundle}
 use Rattle.pp_pool.specs.declared.request.Request.{Request}
 use Rattle.pp_pool.specs.declared.request.Request.TheVariants as request
 use Rattle.pp_pool.specs.Replies.{slot_for}
-use Rattle.pp_pool.specs.Turns.{guard_asked, places_without, IsStep, IsWorkers, LeavesNone, Prepares}
+use Rattle.pp_pool.specs.Turns.{guard_asked, places_without, IsStep, IsWorkers, FindsPlace, HasBundle, LeavesNone, Prepares}
+use Rattle.pp_pool.specs.Turns.{has_place}
 
 none_is_some : (g : Guard) → ◌≡◌ {A = Option Guard} None (Some g) → ⊥
 none_is_some g e = cc
@@ -53,7 +60,9 @@ leaves_none : (places : List (Option Guard)) (g : Guard) (asked : Request) → g
 leaves_none places g (request.End x) e = absurd (none_is_some g e)
 leaves_none places g (request.Take chair) e = tt
 leaves_none places g (request.Fix x page) e = tt
+leaves_none places g (request.Join x page) e = tt
 leaves_none places g (request.Unfix x h) e = tt
+leaves_none places g (request.Scatter x h) e = tt
 leaves_none places g (request.LatchShared x h) e = tt
 leaves_none places g (request.LatchExclusive x h) e = tt
 leaves_none places g (request.UnlatchShared x h) e = tt
@@ -62,13 +71,123 @@ leaves_none places g (request.Choose x branch) e = tt
 leaves_none places g (request.Finish x) e = tt
 leaves_none places g (request.GiveBack x h) e = tt
 leaves_none places g (request.Answer returned) e = tt
+leaves_none places g (request.AnswerJoin returned) e = tt
 leaves_none places g (request.Flush page) e = tt
 leaves_none places g (request.FlushNext number) e = tt
+
+-- ---- a page that is asked for
+
+-- A request for a page is what the plan asks.
+pub fix_step : (layout : Geometry) (x : Session) (slot region page : ℕ) → x.ask ≡ ask.Fix slot region
+    → HasPage layout region page → IsStep layout x (request.Fix x page)
+fix_step layout x slot region page asks has = (refl, slot, region, ap wanted asks, has)
+
+pub gather_step : (layout : Geometry) (x : Session) (slot region page : ℕ) → x.ask ≡ ask.Gather slot region
+    → HasPage layout region page → IsStep layout x (request.Fix x page)
+gather_step layout x slot region page asks has = (refl, slot, region, ap wanted asks, has)
+
+pub join_step : (layout : Geometry) (x : Session) (slot region page : ℕ) → x.ask ≡ ask.Gather slot region
+    → HasPage layout region page → IsStep layout x (request.Join x page)
+join_step layout x slot region page asks has = (refl, slot, region, asks, has)
+
+module _ (places : List (Option Guard)) (x : Session) (slot region page : ℕ) where
+  fixes_at : fix_slot x.ask ≡ slot → is_free places slot ≡ true → Prepares places (request.Fix x page) places
+  fixes_at of free =
+      record { keeps = refl; own = tt; finds = ap (is_free places) of ∙ free; none = tt; workers = tt }
+
+  -- A fix is asked where the place of its slot is free.
+  pub fix_prepared : x.ask ≡ ask.Fix slot region → is_free places slot ≡ true
+      → Prepares places (request.Fix x page) places
+  fix_prepared asks free = fixes_at (ap fix_slot asks) free
+
+  -- So is a gather that opens a bundle.
+  pub opening_prepared : x.ask ≡ ask.Gather slot region → is_free places slot ≡ true
+      → Prepares places (request.Fix x page) places
+  opening_prepared asks free = fixes_at (ap fix_slot asks) free
+
+  -- One that joins a bundle is asked where the bundle's guard is.
+  pub joining_prepared : x.ask ≡ ask.Gather slot region → has_bundle (placed places slot) ≡ true
+      → Prepares places (request.Join x page) places
+  joining_prepared asks there =
+      record {
+        keeps = refl;
+        own = tt;
+        finds = ap (λ a. has_bundle (placed places (fix_slot a))) asks ∙ there;
+        none = tt;
+        workers = tt;
+      }
+
+-- ---- what a device has done
+
+free_of : (free bundle : Bool) → (free || bundle) ≡ true → bundle ≡ false → free ≡ true
+free_of true bundle may none = refl
+free_of false bundle may none = absurd (false≢true (sym none ∙ may))
+
+free_there : (places : List (Option Guard)) (o : Option ℕ) (slot : ℕ) → o ≡ Some slot → has_place places o ≡ true
+    → has_bundle (placed places slot) ≡ false → IfSome o (λ k. is_free places k ≡ true)
+free_there places None slot is may none = absurd (false≢true may)
+free_there places (Some k) slot is may none =
+    let same : k ≡ slot = cc in
+    free_of (is_free places k) (has_bundle (placed places k)) may (ap (λ n. has_bundle (placed places n)) same ∙ none)
+
+bundle_there : (places : List (Option Guard)) (o : Option ℕ) (slot : ℕ) → o ≡ Some slot
+    → has_bundle (placed places slot) ≡ true → IfSome o (HasBundle places)
+bundle_there places None slot is there = tt
+bundle_there places (Some k) slot is there =
+    let same : k ≡ slot = cc in ap (λ n. has_bundle (placed places n)) same ∙ there
+
+-- For a page of the slot's own, or the first of a bundle, it is sent where the place is free.
+pub answer_prepared : (places : List (Option Guard)) (returned : Returned) (slot : ℕ) → duty_slot returned.duty ≡ Some slot
+    → has_place places (duty_slot returned.duty) ≡ true → has_bundle (placed places slot) ≡ false
+    → Prepares places (request.Answer returned) places
+answer_prepared places returned slot is may none =
+    record {
+      keeps = refl;
+      own = tt;
+      finds = free_there places (duty_slot returned.duty) slot is may none;
+      none = tt;
+      workers = ap is_some is;
+    }
+
+-- For a further page of a bundle it is sent where the bundle's guard is.
+pub join_prepared : (places : List (Option Guard)) (returned : Returned) (slot : ℕ) → duty_slot returned.duty ≡ Some slot
+    → has_bundle (placed places slot) ≡ true → Prepares places (request.AnswerJoin returned) places
+join_prepared places returned slot is there =
+    record {
+      keeps = refl;
+      own = tt;
+      finds = bundle_there places (duty_slot returned.duty) slot is there;
+      none = tt;
+      workers = ap is_some is;
+    }
+
+-- ---- the hand's own guard
 
 -- What stands in a place stands in the place of its slot.
 pub own_there : (places : List (Option Guard)) (n : ℕ) (g : Guard) → placed places n ≡ Some g → slot_by g ≡ n
     → placed places (slot_by g) ≡ Some g
 own_there places n g there slot = ap (placed places) slot ∙ there
+
+-- A request with a guard in it joins no bundle, so it finds its place where that is free.
+finds_free : (places : List (Option Guard)) (g : Guard) (asked : Request) → guard_asked asked ≡ Some g
+    → IfSome (slot_for asked) (λ k. is_free places k ≡ true) → FindsPlace places asked
+finds_free places g (request.Join x page) e free = absurd (none_is_some g e)
+finds_free places g (request.AnswerJoin returned) e free = absurd (none_is_some g e)
+finds_free places g (request.Take chair) e free = free
+finds_free places g (request.Fix x page) e free = free
+finds_free places g (request.Unfix x h) e free = free
+finds_free places g (request.Scatter x h) e free = free
+finds_free places g (request.LatchShared x h) e free = free
+finds_free places g (request.LatchExclusive x h) e free = free
+finds_free places g (request.UnlatchShared x h) e free = free
+finds_free places g (request.UnlatchExclusive x h) e free = free
+finds_free places g (request.Choose x branch) e free = free
+finds_free places g (request.Finish x) e free = free
+finds_free places g (request.End x) e free = free
+finds_free places g (request.GiveBack x h) e free = free
+finds_free places g (request.Answer returned) e free = free
+finds_free places g (request.Flush page) e free = free
+finds_free places g (request.FlushNext number) e free = free
 
 -- A worker whose slot has this guard makes the request with it.
 pub prepared : (places rest : List (Option Guard)) (n : ℕ) (g : Guard) (asked : Request) → placed places n ≡ Some g
@@ -82,8 +201,9 @@ prepared places rest n g asked there slot keeps guard by workers =
           subst (λ (o : Option Guard). IfSome o (λ h. placed places (slot_by h) ≡ Some h)) (sym guard)
           (own_there places n g there slot);
       finds =
-          subst (λ (o : Option ℕ). IfSome o (λ k. is_free rest k ≡ true)) (sym by)
-          (ap (is_free rest) slot ∙ ap (λ (ps : List (Option Guard)). is_free ps n) keeps ∙ taken_free places n g there);
+          finds_free rest g asked guard
+          (subst (λ (o : Option ℕ). IfSome o (λ k. is_free rest k ≡ true)) (sym by)
+          (ap (is_free rest) slot ∙ ap (λ (ps : List (Option Guard)). is_free ps n) keeps ∙ taken_free places n g there));
       none = leaves_none places g asked guard;
       workers = workers;
     }

@@ -15,7 +15,7 @@ use Rattle.pp_vault.specs.Calls.{Call, stranger, refused, asks, refusal_in, refu
 use Rattle.pp_pool.specs.declared.request.Request.{Request}
 use Rattle.pp_pool.specs.declared.outcome.Answer.{Answer}
 use Rattle.pp_pool.specs.declared.outcome.Answer.TheVariants.{Acts, Idle, Leaves, Pinned, Shared, Exclusive, Away}
-use Rattle.pp_pool.specs.declared.outcome.Answer.TheVariants.{Flushed, No}
+use Rattle.pp_pool.specs.declared.outcome.Answer.TheVariants.{Opened, Joined, Flushed, No}
 use Rattle.pp_pool.specs.Parts.{Parts, state_of}
 use Rattle.pp_pool.specs.Books.{IsBook}
 use Rattle.pp_pool.specs.Requests.{call_of, event_for}
@@ -64,6 +64,8 @@ module _ (old new : vault.Parts) (asked : Request) (s : State) (st : StandsFor o
   told_by (Idle chair) h d = told_where (Idle chair) refl d
   told_by (Leaves x) h d = told_where (Leaves x) refl d
   told_by (Pinned x g) h d = told_where (Pinned x g) refl d
+  told_by (Opened x g) h d = told_where (Opened x g) refl d
+  told_by (Joined x) h d = told_where (Joined x) refl d
   told_by (Shared x g) h d = told_where (Shared x g) refl d
   told_by (Exclusive x g) h d = told_where (Exclusive x g) refl d
   told_by (Away errand) h d = told_where (Away errand) refl d

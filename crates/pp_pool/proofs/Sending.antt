@@ -1,6 +1,6 @@
 -- For which slot an errand is.
 use Rattle.std.proofs.Common.{◌≡◌, ◌∙◌, ℕ, Bool, true, false, Option, Some, None, refl, sym, ap, subst}
-use Rattle.std.specs.Prelude.{option_and_then, if◌then◌else◌}
+use Rattle.std.specs.Prelude.{option_and_then, ◌==◌, if◌then◌else◌}
 use Rattle.pp_plan.specs.declared.action.Ask.{Ask}
 use Rattle.pp_plan.specs.declared.action.Ask.TheVariants as ask
 use Rattle.pp_model.specs.declared.moves.Move.{Move}
@@ -10,10 +10,9 @@ use Rattle.pp_model.specs.declared.reply.Reply.TheVariants.{MustRead, MustWrite}
 use Rattle.pp_model.specs.Pool.{State}
 use Rattle.pp_model.specs.Moves.{reply_of, next_of, is_refusal}
 use Rattle.pp_core.specs.Queries.{ask_of, errand_of}
-use Rattle.pp_core.specs.AfterMoves.{AfterMoves}
+use Rattle.pp_core.specs.AfterMoves.{AfterMoves, wanted_of}
 use Rattle.pp_core.specs.Fixing.{wanted}
 use Rattle.pp_core.proofs.AfterMoves.{after_moves}
-use Rattle.pp_core.proofs.PlainSlots.{fix_found}
 use Rattle.pp_vault.specs.declared.tokens.Duty.{Duty}
 use Rattle.pp_vault.specs.declared.tokens.Duty.TheVariants.{Read, Write, Flush}
 use Rattle.pp_vault.specs.declared.tokens.Errand.{Errand}
@@ -31,7 +30,7 @@ use Rattle.pp_pool.specs.declared.request.Request.{Request}
 use Rattle.pp_pool.specs.declared.request.Request.TheVariants as request
 use Rattle.pp_pool.specs.declared.outcome.Answer.{Answer}
 use Rattle.pp_pool.specs.declared.outcome.Answer.TheVariants.{Acts, Idle, Leaves, Pinned, Shared, Exclusive, Away}
-use Rattle.pp_pool.specs.declared.outcome.Answer.TheVariants.{Flushed, No}
+use Rattle.pp_pool.specs.declared.outcome.Answer.TheVariants.{Opened, Joined, Flushed, No}
 use Rattle.pp_pool.specs.Performing.{ComesTo}
 use Rattle.pp_pool.specs.Replies.{TokensFit, slot_for, SlotFits}
 use Rattle.pp_pool.proofs.Tokens.{away_slot, no_slot}
@@ -42,10 +41,29 @@ names_by : (s : State) (m : Move) (fits : Bool) → refusal_of s (if fits then a
 names_by s m true e = refl
 names_by s m false e = cc
 
--- The slot that the session tells is the one that the plan asks.
-same_slot : (told slot region : ℕ) (o : Option Ask) → o ≡ Some (ask.Fix slot region) → names_slot told o ≡ true
-    → slot ≡ told
-same_slot told slot region o e names = sym (nat_is told slot (ap (names_slot told) (sym e) ∙ names))
+none_wanted : {f : ℕ × ℕ} → ◌≡◌ {A = Option (ℕ × ℕ)} None (Some f) → ⊥
+none_wanted e = cc
+
+-- The slot for which a page is wanted. (0 where none is.)
+abbrev slot_wanted : Option (ℕ × ℕ) → ℕ
+slot_wanted None = 0
+slot_wanted (Some f) = f.0
+
+-- The slot that the session tells is the one for which the plan asks a page.
+told_slot : (told slot region : ℕ) (a : Ask) → wanted a ≡ Some (slot, region) → (told == fix_slot a) ≡ true → slot ≡ told
+told_slot told slot region (ask.Fix k r) e names = sym (ap slot_wanted e) ∙ sym (nat_is told k names)
+told_slot told slot region (ask.Gather k r) e names = sym (ap slot_wanted e) ∙ sym (nat_is told k names)
+told_slot told slot region (ask.Unfix k) e names = absurd (none_wanted e)
+told_slot told slot region (ask.Latch k m) e names = absurd (none_wanted e)
+told_slot told slot region (ask.Unlatch k) e names = absurd (none_wanted e)
+told_slot told slot region (ask.Scatter k) e names = absurd (none_wanted e)
+told_slot told slot region (ask.Choose count) e names = absurd (none_wanted e)
+told_slot told slot region ask.End e names = absurd (none_wanted e)
+
+same_slot : (told slot region : ℕ) (o : Option Ask) → option_and_then wanted o ≡ Some (slot, region)
+    → names_slot told o ≡ true → slot ≡ told
+same_slot told slot region None e names = absurd (none_wanted e)
+same_slot told slot region (Some a) e names = told_slot told slot region a e names
 
 -- The slot of an errand that is out. (0 where none is.)
 abbrev slot_out : Option (ℕ × ℕ × Option ℕ) → ℕ
@@ -72,27 +90,26 @@ module _ (old new : vault.Parts) (x : Session) (page : ℕ) (errand : Errand) (s
   laws : AfterMoves s
   laws = after_moves s st.core.reached
 
-  -- The worker's plan asks a fix into the slot that the session tells.
+  -- The worker's plan asks a page into the slot that the session tells, by a fix or by a gather.
   asked : (r : Reply) → reply_of s (Fix x.worker page) ≡ r → is_refusal r ≡ false
-      → (region : ℕ) × (ask_of s x.worker ≡ Some (ask.Fix (fix_slot x.ask) region))
+      → (region : ℕ) × (wanted_of s x.worker ≡ Some (fix_slot x.ask, region))
   asked r replied done =
-      let f = fix_found s st.core.reached x.worker page (ap is_refusal replied ∙ done) in
-      let same = same_slot (fix_slot x.ask) f.0 f.1 (ask_of s x.worker) f.2 names in
-      (f.1, f.2 ∙ ap (λ n. Some (ask.Fix n f.1)) same)
+      let f = laws.found (Fix x.worker page) (ap is_refusal replied ∙ done) in
+      let same : f.0 ≡ fix_slot x.ask = same_slot (fix_slot x.ask) f.0 f.1 (ask_of s x.worker) f.2 names in
+      (f.1, f.2 ∙ ap (λ n. Some (n, f.1)) same)
 
   by_duty : (d : Duty) → IsSent old new x.worker page errand.image d → IsOut next d
       → duty_slot d ≡ Some (fix_slot x.ask)
   by_duty (Read v slot p) sent out =
       let told = sent.2 s st in
       let now = asked (MustRead told.0) told.1 refl in
-      let here = (laws.sent x.worker page (fix_slot x.ask) now.0 told.0 told.1 (ap (option_and_then wanted) now.1)).errand in
+      let here = (laws.sent x.worker page (fix_slot x.ask) now.0 told.0 told.1 now.1).errand in
       let mine = subst (λ u. errand_of next u ≡ Some (slot, p, None)) sent.0 out in
       ap Some (same_errand slot p (fix_slot x.ask) page None None (sym mine ∙ here))
   by_duty (Write v slot p victim) sent out =
       let told = sent.2 s st in
       let now = asked (MustWrite told.0 victim) told.1 refl in
-      let here = (laws.sent_victim x.worker page (fix_slot x.ask) now.0 told.0 victim told.1
-      (ap (option_and_then wanted) now.1)).errand in
+      let here = (laws.sent_victim x.worker page (fix_slot x.ask) now.0 told.0 victim told.1 now.1).errand in
       let mine = subst (λ u. errand_of next u ≡ Some (slot, p, Some victim)) sent.0 out in
       ap Some (same_errand slot p (fix_slot x.ask) page (Some victim) (Some victim) (sym mine ∙ here))
   by_duty (Flush p) sent out = absurd sent
@@ -105,11 +122,14 @@ module _ (old new : vault.Parts) (s : State) (st : StandsFor old s) where
   away : (asked : Request) (errand : Errand) → ComesTo old asked (Away errand) new → TokensFit asked (Away errand)
       → duty_slot errand.duty ≡ slot_for asked
   away (request.Fix x page) errand h fit = fix_slot_is old new x page errand s st h
+  away (request.Join x page) errand h fit = fix_slot_is old new x page errand s st h
   away (request.Answer returned) errand h fit = away_slot old new returned.image _ returned.duty errand h
+  away (request.AnswerJoin returned) errand h fit = away_slot old new returned.image _ returned.duty errand h
   away (request.Flush page) errand h fit = no_slot errand.duty fit
   away (request.FlushNext number) errand h fit = no_slot errand.duty fit
   away (request.Take chair) errand h fit = absurd fit
   away (request.Unfix x g) errand h fit = absurd fit
+  away (request.Scatter x g) errand h fit = absurd fit
   away (request.LatchShared x g) errand h fit = absurd fit
   away (request.LatchExclusive x g) errand h fit = absurd fit
   away (request.UnlatchShared x g) errand h fit = absurd fit
@@ -126,6 +146,8 @@ module _ (old new : vault.Parts) (s : State) (st : StandsFor old s) where
   slot_fits asked (Idle chair) h fit = tt
   slot_fits asked (Leaves x) h fit = tt
   slot_fits asked (Pinned x g) h fit = tt
+  slot_fits asked (Opened x g) h fit = tt
+  slot_fits asked (Joined x) h fit = tt
   slot_fits asked (Shared x g) h fit = tt
   slot_fits asked (Exclusive x g) h fit = tt
   slot_fits asked (Flushed clean) h fit = tt

@@ -1,11 +1,12 @@
 -- What a worker has in hand after an answer that fits its request.
 use Rattle.std.proofs.Common.{◌≡◌, ◌∙◌, ◌++◌, ◌<◌, ◌≤◌, length, ℕ, Bool, true, false, inl, inr, arith, Option, Some, None, List, refl, sym, ap, subst}
-use Rattle.std.specs.Prelude.{IfSome, IsSome, IfOk, Result, Ok, Err, vec_len, vec_capacity, if◌then◌else◌}
+use Rattle.std.specs.Prelude.{IfSome, IsSome, IfOk, Result, Ok, Err, slice_get, vec_len, vec_capacity, if◌then◌else◌}
 use Rattle.std.proofs.lemmas.Bool.{false≢true, true_from_ne_false}
 use Rattle.pp_vault.specs.declared.tokens.Session.{Session}
 use Rattle.pp_vault.specs.declared.guards.PinGuard.{PinGuard}
 use Rattle.pp_vault.specs.declared.guards.ReadGuard.{ReadGuard}
 use Rattle.pp_vault.specs.declared.guards.WriteGuard.{WriteGuard}
+use Rattle.pp_vault.specs.declared.guards.BundleGuard.{BundleGuard}
 use Rattle.pp_vault.specs.declared.guards.Guard.{Guard}
 use Rattle.pp_vault.specs.Holding.{slot_by, is_free}
 use Rattle.pp_vault.specs.Lending.{with_body}
@@ -31,6 +32,10 @@ use Rattle.pp_pool.specs.declared.work.Work as Work
 use Rattle.pp_device.specs.declared.device.Device as Device
 use Rattle.pp_pool.specs.Replies.{Replies}
 use Rattle.pp_settings.specs.Layout.{Geometry}
+use Rattle.pp_settings.specs.declared.extent.Extent.{Extent}
+use Rattle.pp_plan.specs.declared.action.Ask.{Ask}
+use Rattle.pp_plan.specs.declared.action.Ask.TheVariants as ask
+use Rattle.pp_core.specs.Fixing.{wanted}
 use Rattle.pp_pool.specs.Turns.{guard_asked, guard_in, stage_asked, stage_in, FindsPlace, LeavesNone, IsOwn, IsWorkers, IsLong}
 use Rattle.pp_pool.specs.Turns.{Asks, Consults, Prepares, places_without, places_with, Uses, MayWait, TurnIs, can_ask, can_ask_at}
 use Rattle.pp_pool.specs.Turns.{Makes, MakesOne, logged_events, has_errand, keeps_place, KeepsPlace}
@@ -47,7 +52,9 @@ no_flush (duty.Flush page) some e = absurd (false≢true some)
 stage_back : (asked : Request) → IsWorkers asked → IsSome (stage_asked asked)
 stage_back (request.Take chair) h = refl
 stage_back (request.Fix x page) h = refl
+stage_back (request.Join x page) h = refl
 stage_back (request.Unfix x g) h = refl
+stage_back (request.Scatter x g) h = refl
 stage_back (request.LatchShared x g) h = refl
 stage_back (request.LatchExclusive x g) h = refl
 stage_back (request.UnlatchShared x g) h = refl
@@ -57,13 +64,16 @@ stage_back (request.Finish x) h = refl
 stage_back (request.End x) h = refl
 stage_back (request.GiveBack x g) h = refl
 stage_back (request.Answer returned) h = refl
+stage_back (request.AnswerJoin returned) h = refl
 stage_back (request.Flush page) h = absurd h
 stage_back (request.FlushNext number) h = absurd h
 
 not_flushed : (asked : Request) (clean : Bool) → IsWorkers asked → TokensFit asked (answer.Flushed clean) → ⊥
 not_flushed (request.Take chair) clean h fit = fit
 not_flushed (request.Fix x page) clean h fit = fit
+not_flushed (request.Join x page) clean h fit = fit
 not_flushed (request.Unfix x g) clean h fit = fit
+not_flushed (request.Scatter x g) clean h fit = fit
 not_flushed (request.LatchShared x g) clean h fit = fit
 not_flushed (request.LatchExclusive x g) clean h fit = fit
 not_flushed (request.UnlatchShared x g) clean h fit = fit
@@ -73,6 +83,7 @@ not_flushed (request.Finish x) clean h fit = fit
 not_flushed (request.End x) clean h fit = fit
 not_flushed (request.GiveBack x g) clean h fit = fit
 not_flushed (request.Answer returned) clean h fit = no_flush returned.duty h fit
+not_flushed (request.AnswerJoin returned) clean h fit = fit
 not_flushed (request.Flush page) clean h fit = fit
 not_flushed (request.FlushNext number) clean h fit = fit
 
@@ -81,6 +92,8 @@ stage_there asked (answer.Acts x) h fit = refl
 stage_there asked (answer.Idle chair) h fit = refl
 stage_there asked (answer.Leaves x) h fit = refl
 stage_there asked (answer.Pinned x g) h fit = refl
+stage_there asked (answer.Opened x g) h fit = refl
+stage_there asked (answer.Joined x) h fit = refl
 stage_there asked (answer.Shared x g) h fit = refl
 stage_there asked (answer.Exclusive x g) h fit = refl
 stage_there asked (answer.Away errand) h fit = refl
@@ -98,7 +111,9 @@ guard_back : (places : List (Option Guard)) (asked : Request) → FindsPlace pla
     → IsPlaced places (guard_asked asked)
 guard_back places (request.Take chair) free = tt
 guard_back places (request.Fix x page) free = tt
+guard_back places (request.Join x page) free = tt
 guard_back places (request.Unfix x g) free = free
+guard_back places (request.Scatter x g) free = free
 guard_back places (request.LatchShared x g) free = free
 guard_back places (request.LatchExclusive x g) free = free
 guard_back places (request.UnlatchShared x g) free = free
@@ -108,6 +123,7 @@ guard_back places (request.Finish x) free = tt
 guard_back places (request.End x) free = tt
 guard_back places (request.GiveBack x g) free = free
 guard_back places (request.Answer returned) free = tt
+guard_back places (request.AnswerJoin returned) free = tt
 guard_back places (request.Flush page) free = tt
 guard_back places (request.FlushNext number) free = tt
 
@@ -115,7 +131,9 @@ pin_placed : (places : List (Option Guard)) (asked : Request) (y : Session) (h :
     → TokensFit asked (answer.Pinned y h) → is_free places h.slot ≡ true
 pin_placed places (request.Take chair) y h free fit = absurd fit
 pin_placed places (request.Fix x page) y h free fit = ap (is_free places) fit.3 ∙ free
+pin_placed places (request.Join x page) y h free fit = absurd fit
 pin_placed places (request.Unfix x g) y h free fit = absurd fit
+pin_placed places (request.Scatter x g) y h free fit = absurd fit
 pin_placed places (request.LatchShared x g) y h free fit = absurd fit
 pin_placed places (request.LatchExclusive x g) y h free fit = absurd fit
 pin_placed places (request.UnlatchShared x g) y h free fit = ap (is_free places) fit.1 ∙ free
@@ -124,7 +142,9 @@ pin_placed places (request.Choose x branch) y h free fit = absurd fit
 pin_placed places (request.Finish x) y h free fit = absurd fit
 pin_placed places (request.End x) y h free fit = absurd fit
 pin_placed places (request.GiveBack x g) y h free fit = absurd fit
-pin_placed places (request.Answer returned) y h free fit = subst (λ o. IfSome o (λ n. is_free places n ≡ true)) fit.1 free
+pin_placed places (request.Answer returned) y h free fit =
+    subst (λ o. IfSome o (λ n. is_free places n ≡ true)) fit.1 free
+pin_placed places (request.AnswerJoin returned) y h free fit = absurd fit
 pin_placed places (request.Flush page) y h free fit = absurd fit
 pin_placed places (request.FlushNext number) y h free fit = absurd fit
 
@@ -132,7 +152,9 @@ shared_placed : (places : List (Option Guard)) (asked : Request) (y : Session) (
     → TokensFit asked (answer.Shared y h) → is_free places h.slot ≡ true
 shared_placed places (request.Take chair) y h free fit = absurd fit
 shared_placed places (request.Fix x page) y h free fit = absurd fit
+shared_placed places (request.Join x page) y h free fit = absurd fit
 shared_placed places (request.Unfix x g) y h free fit = absurd fit
+shared_placed places (request.Scatter x g) y h free fit = absurd fit
 shared_placed places (request.LatchShared x g) y h free fit = ap (is_free places) fit.1 ∙ free
 shared_placed places (request.LatchExclusive x g) y h free fit = absurd fit
 shared_placed places (request.UnlatchShared x g) y h free fit = absurd fit
@@ -142,6 +164,7 @@ shared_placed places (request.Finish x) y h free fit = absurd fit
 shared_placed places (request.End x) y h free fit = absurd fit
 shared_placed places (request.GiveBack x g) y h free fit = absurd fit
 shared_placed places (request.Answer returned) y h free fit = absurd fit
+shared_placed places (request.AnswerJoin returned) y h free fit = absurd fit
 shared_placed places (request.Flush page) y h free fit = absurd fit
 shared_placed places (request.FlushNext number) y h free fit = absurd fit
 
@@ -149,7 +172,9 @@ exclusive_placed : (places : List (Option Guard)) (asked : Request) (y : Session
     → TokensFit asked (answer.Exclusive y h) → is_free places h.slot ≡ true
 exclusive_placed places (request.Take chair) y h free fit = absurd fit
 exclusive_placed places (request.Fix x page) y h free fit = absurd fit
+exclusive_placed places (request.Join x page) y h free fit = absurd fit
 exclusive_placed places (request.Unfix x g) y h free fit = absurd fit
+exclusive_placed places (request.Scatter x g) y h free fit = absurd fit
 exclusive_placed places (request.LatchShared x g) y h free fit = absurd fit
 exclusive_placed places (request.LatchExclusive x g) y h free fit = ap (is_free places) fit.1 ∙ free
 exclusive_placed places (request.UnlatchShared x g) y h free fit = absurd fit
@@ -159,8 +184,30 @@ exclusive_placed places (request.Finish x) y h free fit = absurd fit
 exclusive_placed places (request.End x) y h free fit = absurd fit
 exclusive_placed places (request.GiveBack x g) y h free fit = absurd fit
 exclusive_placed places (request.Answer returned) y h free fit = absurd fit
+exclusive_placed places (request.AnswerJoin returned) y h free fit = absurd fit
 exclusive_placed places (request.Flush page) y h free fit = absurd fit
 exclusive_placed places (request.FlushNext number) y h free fit = absurd fit
+
+bundle_placed : (places : List (Option Guard)) (asked : Request) (y : Session) (h : BundleGuard) → FindsPlace places asked
+    → TokensFit asked (answer.Opened y h) → is_free places h.slot ≡ true
+bundle_placed places (request.Take chair) y h free fit = absurd fit
+bundle_placed places (request.Fix x page) y h free fit = ap (is_free places) fit.2 ∙ free
+bundle_placed places (request.Join x page) y h free fit = absurd fit
+bundle_placed places (request.Unfix x g) y h free fit = absurd fit
+bundle_placed places (request.Scatter x g) y h free fit = absurd fit
+bundle_placed places (request.LatchShared x g) y h free fit = absurd fit
+bundle_placed places (request.LatchExclusive x g) y h free fit = absurd fit
+bundle_placed places (request.UnlatchShared x g) y h free fit = absurd fit
+bundle_placed places (request.UnlatchExclusive x g) y h free fit = absurd fit
+bundle_placed places (request.Choose x branch) y h free fit = absurd fit
+bundle_placed places (request.Finish x) y h free fit = absurd fit
+bundle_placed places (request.End x) y h free fit = absurd fit
+bundle_placed places (request.GiveBack x g) y h free fit = absurd fit
+bundle_placed places (request.Answer returned) y h free fit =
+    subst (λ o. IfSome o (λ n. is_free places n ≡ true)) fit.1 free
+bundle_placed places (request.AnswerJoin returned) y h free fit = absurd fit
+bundle_placed places (request.Flush page) y h free fit = absurd fit
+bundle_placed places (request.FlushNext number) y h free fit = absurd fit
 
 pub guard_placed : (places : List (Option Guard)) (asked : Request) (out : Answer) → FindsPlace places asked
     → TokensFit asked out → IsPlaced places (guard_in out)
@@ -168,6 +215,8 @@ guard_placed places asked (answer.Acts x) free fit = tt
 guard_placed places asked (answer.Idle chair) free fit = tt
 guard_placed places asked (answer.Leaves x) free fit = tt
 guard_placed places asked (answer.Pinned x g) free fit = pin_placed places asked x g free fit
+guard_placed places asked (answer.Opened x g) free fit = bundle_placed places asked x g free fit
+guard_placed places asked (answer.Joined x) free fit = tt
 guard_placed places asked (answer.Shared x g) free fit = shared_placed places asked x g free fit
 guard_placed places asked (answer.Exclusive x g) free fit = exclusive_placed places asked x g free fit
 guard_placed places asked (answer.Away errand) free fit = tt
@@ -183,7 +232,9 @@ exclusive_long : (asked : Request) (y : Session) (h : WriteGuard) → TokensFit 
 exclusive_long (request.LatchExclusive x g) y h fit = fit.3
 exclusive_long (request.Take chair) y h fit = absurd fit
 exclusive_long (request.Fix x page) y h fit = absurd fit
+exclusive_long (request.Join x page) y h fit = absurd fit
 exclusive_long (request.Unfix x g) y h fit = absurd fit
+exclusive_long (request.Scatter x g) y h fit = absurd fit
 exclusive_long (request.LatchShared x g) y h fit = absurd fit
 exclusive_long (request.UnlatchShared x g) y h fit = absurd fit
 exclusive_long (request.UnlatchExclusive x g) y h fit = absurd fit
@@ -192,6 +243,7 @@ exclusive_long (request.Finish x) y h fit = absurd fit
 exclusive_long (request.End x) y h fit = absurd fit
 exclusive_long (request.GiveBack x g) y h fit = absurd fit
 exclusive_long (request.Answer returned) y h fit = absurd fit
+exclusive_long (request.AnswerJoin returned) y h fit = absurd fit
 exclusive_long (request.Flush page) y h fit = absurd fit
 exclusive_long (request.FlushNext number) y h fit = absurd fit
 
@@ -201,6 +253,8 @@ long_by asked (answer.Acts x) fit = tt
 long_by asked (answer.Idle chair) fit = tt
 long_by asked (answer.Leaves x) fit = tt
 long_by asked (answer.Pinned x g) fit = tt
+long_by asked (answer.Opened x g) fit = tt
+long_by asked (answer.Joined x) fit = tt
 long_by asked (answer.Shared x g) fit = tt
 long_by asked (answer.Away errand) fit = tt
 long_by asked (answer.Flushed clean) fit = tt
@@ -218,11 +272,13 @@ module _ {S W : Type 0} (s : Site.Ghosts S) (k : Work.Ghosts W) (site : S) (room
   used_stage (answer.Idle chair) after h = ap stage_in h.1
   used_stage (answer.Leaves x) after h = ap stage_in h.1
   used_stage (answer.Pinned x g) after h = ap stage_in h.1
+  used_stage (answer.Opened x g) after h = ap stage_in h.1
+  used_stage (answer.Joined x) after h = ap stage_in h.1
   used_stage (answer.Away errand) after h = ap stage_in h.1
   used_stage (answer.Flushed clean) after h = ap stage_in h.1
   used_stage (answer.No back why) after h = ap stage_in h.1
 
-  -- So its guard finds its place free, as before.
+  -- So its guard finds its place, as before.
   pub used_placed : (places : List (Option Guard)) (before after : Answer)
       → Uses s k site room old before turned after new → IsPlaced places (guard_in before) → IsPlaced places (guard_in after)
   used_placed places (answer.Exclusive x g) after h free =
@@ -232,6 +288,8 @@ module _ {S W : Type 0} (s : Site.Ghosts S) (k : Work.Ghosts W) (site : S) (room
   used_placed places (answer.Idle chair) after h free = subst (λ o. IsPlaced places (guard_in o)) (sym h.1) free
   used_placed places (answer.Leaves x) after h free = subst (λ o. IsPlaced places (guard_in o)) (sym h.1) free
   used_placed places (answer.Pinned x g) after h free = subst (λ o. IsPlaced places (guard_in o)) (sym h.1) free
+  used_placed places (answer.Opened x g) after h free = subst (λ o. IsPlaced places (guard_in o)) (sym h.1) free
+  used_placed places (answer.Joined x) after h free = subst (λ o. IsPlaced places (guard_in o)) (sym h.1) free
   used_placed places (answer.Away errand) after h free = subst (λ o. IsPlaced places (guard_in o)) (sym h.1) free
   used_placed places (answer.Flushed clean) after h free = subst (λ o. IsPlaced places (guard_in o)) (sym h.1) free
   used_placed places (answer.No back why) after h free = subst (λ o. IsPlaced places (guard_in o)) (sym h.1) free
@@ -289,6 +347,7 @@ module _ {S D W : Type 0} (s : Site.Ghosts S) (d : Device.Ghosts D) (k : Work.Gh
         asks = asks;
         consults = consults;
         own = prepares.own;
+        finds = subst (λ ps. FindsPlace ps asked) prepares.keeps prepares.finds;
         none = prepares.none;
         given = subst (s.gives old.site asked outcome) (sym same) given;
         fits = fits;
@@ -329,7 +388,36 @@ module _ {S D W : Type 0} (s : Site.Ghosts S) (d : Device.Ghosts D) (k : Work.Gh
       (makes_one is_logged ends
       (makes is_logged ends asks consults prepares given fits same log long uses stage guards) has_room full))
 
+-- ---- where the work is asked for a page
+
+module _ {W : Type 0} (k : Work.Ghosts W) (layout : Geometry) (old new : W) (x : Session) (slot region page : ℕ) (e : Extent)
+    (there : slice_get layout.extents region ≡ Some e) (given : k.page_gives old region e.first e.count page new) where
+  -- For a fix.
+  pub fix_consults : x.ask ≡ ask.Fix slot region → Consults k layout old (request.Fix x page) new
+  fix_consults asks = (slot, region, e, ap wanted asks, there, given)
+
+  -- For a gather that opens a bundle, and for one that joins one.
+  pub gather_consults : x.ask ≡ ask.Gather slot region → Consults k layout old (request.Fix x page) new
+  gather_consults asks = (slot, region, e, ap wanted asks, there, given)
+
+  pub join_consults : x.ask ≡ ask.Gather slot region → Consults k layout old (request.Join x page) new
+  join_consults asks = (slot, region, e, ap wanted asks, there, given)
+
 -- ---- where the work is asked nothing
+
+no_page : {f : ℕ × ℕ} → ◌≡◌ {A = Option (ℕ × ℕ)} None (Some f) → ⊥
+no_page e = cc
+
+-- A plan that asks something of a slot wants no page.
+none_wanted : (slot : ℕ) (a : Ask) (f : ℕ × ℕ) → AsksSlot slot a → wanted a ≡ Some f → ⊥
+none_wanted slot (ask.Fix k region) f of e = of
+none_wanted slot (ask.Gather k region) f of e = of
+none_wanted slot (ask.Unfix k) f of e = no_page e
+none_wanted slot (ask.Latch k m) f of e = no_page e
+none_wanted slot (ask.Unlatch k) f of e = no_page e
+none_wanted slot (ask.Scatter k) f of e = no_page e
+none_wanted slot (ask.Choose count) f of e = of
+none_wanted slot ask.End f of e = of
 
 module _ {W : Type 0} (k : Work.Ghosts W) (layout : Geometry) (old : W) where
   -- On the way out of a plan.
@@ -338,7 +426,9 @@ module _ {W : Type 0} (k : Work.Ghosts W) (layout : Geometry) (old : W) where
   way_consults x (request.End y) h = refl
   way_consults x (request.Take chair) h = absurd h
   way_consults x (request.Fix y page) h = absurd h
+  way_consults x (request.Join y page) h = absurd h
   way_consults x (request.Unfix y g) h = absurd h
+  way_consults x (request.Scatter y g) h = absurd h
   way_consults x (request.LatchShared y g) h = absurd h
   way_consults x (request.LatchExclusive y g) h = absurd h
   way_consults x (request.UnlatchShared y g) h = absurd h
@@ -346,15 +436,18 @@ module _ {W : Type 0} (k : Work.Ghosts W) (layout : Geometry) (old : W) where
   way_consults x (request.Choose y branch) h = absurd h
   way_consults x (request.Finish y) h = absurd h
   way_consults x (request.Answer returned) h = absurd h
+  way_consults x (request.AnswerJoin returned) h = absurd h
   way_consults x (request.Flush page) h = absurd h
   way_consults x (request.FlushNext number) h = absurd h
 
-  -- Where the plan asks something of a slot that holds a page.
+  -- Where the plan asks something of a slot that holds a page, or is a bundle.
   pub slot_consults : (x : Session) (slot : ℕ) (asked : Request) → AsksSlot slot x.ask → IsStep layout x asked
       → Consults k layout old asked old
-  slot_consults x slot (request.Fix y page) of step = absurd (subst (AsksSlot slot) step.3 of)
+  slot_consults x slot (request.Fix y page) of step = absurd (none_wanted slot x.ask (step.1, step.2) of step.3)
+  slot_consults x slot (request.Join y page) of step = absurd (none_wanted slot x.ask (step.1, step.2) of (ap wanted step.3))
   slot_consults x slot (request.Choose y branch) of step = absurd (subst (AsksSlot slot) step.2 of)
   slot_consults x slot (request.Unfix y g) of step = refl
+  slot_consults x slot (request.Scatter y g) of step = refl
   slot_consults x slot (request.LatchShared y g) of step = refl
   slot_consults x slot (request.LatchExclusive y g) of step = refl
   slot_consults x slot (request.UnlatchShared y g) of step = refl
@@ -364,6 +457,7 @@ module _ {W : Type 0} (k : Work.Ghosts W) (layout : Geometry) (old : W) where
   slot_consults x slot (request.End y) of step = absurd step
   slot_consults x slot (request.GiveBack y g) of step = absurd step
   slot_consults x slot (request.Answer returned) of step = absurd step
+  slot_consults x slot (request.AnswerJoin returned) of step = absurd step
   slot_consults x slot (request.Flush page) of step = absurd step
   slot_consults x slot (request.FlushNext number) of step = absurd step
 
@@ -405,6 +499,8 @@ module _ {S D W : Type 0} (s : Site.Ghosts S) (d : Device.Ghosts D) (k : Work.Gh
             device t.asks));
         consults = subst (λ l. Consults k l before t.asked t.between) layout t.consults;
         own = subst (λ (h : Hand). IsOwn h.guards t.asked) hand t.own;
+        finds =
+            subst (λ (h : Hand). FindsPlace (places_without h.guards (guard_asked t.asked)) t.asked) hand t.finds;
         none = subst (λ (h : Hand). LeavesNone h.guards t.asked) hand t.none;
         given = subst (λ x. s.gives x t.asked t.outcome new.site) site t.given;
         fits = t.fits;

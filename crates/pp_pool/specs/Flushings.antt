@@ -22,16 +22,20 @@ use Rattle.pp_pool.specs.declared.turned.Turned.TheVariants.{Done, NotNow, Ended
 
 -- ---- what is asked
 
--- The errand's one call of the device is made, and what came of it is sent.
+-- The errand's one call of the device is made, and what came of it is sent by a request that tells it.
 pub record Sends {D : Type 0} (reads : D → ℕ → List ℕ → DeviceAnswer → List ℕ → D → Type 0)
-    (writes : D → ℕ → List ℕ → DeviceAnswer → D → Type 0) (calls failures : D → ℕ) (errand : Errand) (old : D)
-    (asked : Request) (new : D) : Type 0 where
+    (writes : D → ℕ → List ℕ → DeviceAnswer → D → Type 0) (calls failures : D → ℕ) (tells : Returned → Request → Type 0)
+    (errand : Errand) (old : D) (asked : Request) (new : D) : Type 0 where
   pub returned : Returned
-  pub sent : asked ≡ request.Answer returned
+  pub sent : tells returned asked
   pub duty : returned.duty ≡ errand.duty
   pub made : CarriesOut reads writes errand.duty old errand.image returned.answer returned.image new
   pub called : calls new ≡ calls old + 1
   pub failed : failures new ≡ failures old + (if is_ok returned.answer then 0 else 1)
+
+-- The request tells what came of a device.
+abbrev pub IsAnswer : Returned → Request → Type 0
+IsAnswer returned asked = asked ≡ request.Answer returned
 
 -- The worker whose errand is in hand; none for a flush, or where nothing is in hand.
 abbrev pub flushing_worker : Option Flushing → Option ℕ
@@ -49,9 +53,8 @@ abbrev pub AsksFlush : {D : Type 0} → (D → ℕ → List ℕ → DeviceAnswer
     → D → Type 0
 AsksFlush reads writes calls failures None from old asked new = (asked ≡ request.FlushNext from) × (new ≡ old)
 AsksFlush reads writes calls failures (Some (Out errand)) from old asked new =
-    Sends reads writes calls failures errand old asked new
-AsksFlush reads writes calls failures (Some (Back returned)) from old asked new =
-    (asked ≡ request.Answer returned) × (new ≡ old)
+    Sends reads writes calls failures IsAnswer errand old asked new
+AsksFlush reads writes calls failures (Some (Back returned)) from old asked new = IsAnswer returned asked × (new ≡ old)
 
 -- ---- what comes of it
 

@@ -12,14 +12,14 @@ use Rattle.pp_vault.specs.Tokens.{SessionFits, HoldsNothing, ErrandFits}
 use Rattle.pp_vault.specs.ImageMoves.{ImagesStay}
 use Rattle.pp_vault.specs.Fixes.{FixAnswers}
 use Rattle.pp_vault.specs.Answers.{AnswerComesTo}
-use Rattle.pp_vault.specs.Uses.{Unfixes, LatchesShared, LatchesExclusive, UnlatchesShared, UnlatchesExclusive}
+use Rattle.pp_vault.specs.Uses.{Unfixes, Scatters, LatchesShared, LatchesExclusive, UnlatchesShared, UnlatchesExclusive}
 use Rattle.pp_vault.specs.Leaves.{GivesBack}
 use Rattle.pp_vault.specs.Flushes.{CopiesOut, CopiesNext}
 use Rattle.pp_pool.specs.declared.request.Request.{Request}
 use Rattle.pp_pool.specs.declared.request.Request.TheVariants as request
 use Rattle.pp_pool.specs.declared.outcome.Answer.{Answer}
 use Rattle.pp_pool.specs.declared.outcome.Answer.TheVariants.{Acts, Idle, Leaves, Pinned, Shared, Exclusive, Away}
-use Rattle.pp_pool.specs.declared.outcome.Answer.TheVariants.{Flushed, No}
+use Rattle.pp_pool.specs.declared.outcome.Answer.TheVariants.{Opened, Joined, Flushed, No}
 use Rattle.pp_pool.specs.Requests.{call_of}
 
 -- The request is done; worker w acts, and no image has moved.
@@ -58,8 +58,13 @@ abbrev pub ComesTo : (old : Parts) → Request → Answer → (new : Parts) → 
 ComesTo old asked (No back refusal) new = Declines old asked back refusal new
 ComesTo old (request.Take chair) (Acts x) new = GoesOn old (request.Take chair) chair.worker x new
 ComesTo old (request.Fix x page) (Pinned y g) new = FixAnswers old x page (fixed.Got y g) new
+ComesTo old (request.Fix x page) (Opened y g) new = FixAnswers old x page (fixed.Opened y g) new
+ComesTo old (request.Fix x page) (Joined y) new = FixAnswers old x page (fixed.Joined y) new
 ComesTo old (request.Fix x page) (Away errand) new = FixAnswers old x page (fixed.Away errand) new
+ComesTo old (request.Join x page) (Joined y) new = FixAnswers old x page (fixed.Joined y) new
+ComesTo old (request.Join x page) (Away errand) new = FixAnswers old x page (fixed.Away errand) new
 ComesTo old (request.Unfix x g) (Acts y) new = Unfixes old x g new y
+ComesTo old (request.Scatter x g) (Acts y) new = Scatters old x g new y
 ComesTo old (request.LatchShared x g) (Shared y h) new = LatchesShared old x g new y h
 ComesTo old (request.LatchExclusive x g) (Exclusive y h) new = LatchesExclusive old x g new y h
 ComesTo old (request.UnlatchShared x g) (Pinned y h) new = UnlatchesShared old x g new y h
@@ -69,9 +74,14 @@ ComesTo old (request.Finish x) (Idle chair) new = Rests old (request.Finish x) x
 ComesTo old (request.End x) (Idle chair) new = Rests old (request.End x) x.worker chair new
 ComesTo old (request.GiveBack x g) (Leaves y) new = GivesBack old x g new y
 ComesTo old (request.Answer returned) (Pinned y g) new = AnswerComesTo old returned (answered.Got y g) new
+ComesTo old (request.Answer returned) (Opened y g) new = AnswerComesTo old returned (answered.Opened y g) new
+ComesTo old (request.Answer returned) (Joined y) new = AnswerComesTo old returned (answered.Joined y) new
 ComesTo old (request.Answer returned) (Away errand) new = AnswerComesTo old returned (answered.Away errand) new
 ComesTo old (request.Answer returned) (Leaves x) new = AnswerComesTo old returned (answered.Lost x) new
 ComesTo old (request.Answer returned) (Flushed clean) new = AnswerComesTo old returned (answered.Flushed clean) new
+ComesTo old (request.AnswerJoin returned) (Joined y) new = AnswerComesTo old returned (answered.Joined y) new
+ComesTo old (request.AnswerJoin returned) (Away errand) new = AnswerComesTo old returned (answered.Away errand) new
+ComesTo old (request.AnswerJoin returned) (Leaves x) new = AnswerComesTo old returned (answered.Lost x) new
 ComesTo old (request.Flush page) (Away errand) new = Flushes old page errand new
 ComesTo old (request.FlushNext number) (Away errand) new = FlushesNext old number errand new
 ComesTo old asked out new = ⊥

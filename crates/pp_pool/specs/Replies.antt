@@ -16,7 +16,7 @@ use Rattle.pp_pool.specs.declared.request.Request.{Request}
 use Rattle.pp_pool.specs.declared.request.Request.TheVariants as request
 use Rattle.pp_pool.specs.declared.outcome.Answer.{Answer}
 use Rattle.pp_pool.specs.declared.outcome.Answer.TheVariants.{Acts, Idle, Leaves, Pinned, Shared, Exclusive, Away}
-use Rattle.pp_pool.specs.declared.outcome.Answer.TheVariants.{Flushed, No}
+use Rattle.pp_pool.specs.declared.outcome.Answer.TheVariants.{Opened, Joined, Flushed, No}
 use Rattle.pp_pool.specs.declared.outcome.Outcome.{Outcome}
 use Rattle.pp_pool.specs.Performing.{is_no}
 
@@ -32,7 +32,9 @@ duty_move (Flush page) image ok = move.FlushDone ok
 abbrev pub IsMoveOf : Request → Move → Type 0
 IsMoveOf (request.Take chair) m = m ≡ move.Take chair.worker
 IsMoveOf (request.Fix x page) m = m ≡ move.Fix x.worker page
+IsMoveOf (request.Join x page) m = m ≡ move.Fix x.worker page
 IsMoveOf (request.Unfix x g) m = m ≡ move.Unfix x.worker
+IsMoveOf (request.Scatter x g) m = m ≡ move.Unfix x.worker
 IsMoveOf (request.LatchShared x g) m = m ≡ move.Latch x.worker
 IsMoveOf (request.LatchExclusive x g) m = m ≡ move.Latch x.worker
 IsMoveOf (request.UnlatchShared x g) m = m ≡ move.Unlatch x.worker
@@ -42,6 +44,7 @@ IsMoveOf (request.Finish x) m = m ≡ move.Finish x.worker
 IsMoveOf (request.End x) m = m ≡ move.Finish x.worker
 IsMoveOf (request.GiveBack x g) m = m ≡ move.Unwind x.worker (slot_by g)
 IsMoveOf (request.Answer returned) m = m ≡ duty_move returned.duty returned.image (is_ok returned.answer)
+IsMoveOf (request.AnswerJoin returned) m = m ≡ duty_move returned.duty returned.image (is_ok returned.answer)
 IsMoveOf (request.Flush page) m = m ≡ move.FlushBegin page
 IsMoveOf (request.FlushNext number) m = (page : ℕ) × (m ≡ move.FlushBegin page)
 
@@ -51,15 +54,21 @@ IsEventOf asked (Step did reply) = IsMoveOf asked did
 
 -- ---- the tokens
 
--- The tokens of an answer are of the request's worker, and a guard is of the slot and the page that it was of; one of a
--- latch X has an image of 64 bytes or more. What is refused comes back.
+-- The tokens of an answer are of the request's worker, and a guard is of the slot and the page that it was of, a bundle's of
+-- the slot; one of a latch X has an image of 64 bytes or more. A page that joins a bundle brings no guard. What is refused comes
+-- back.
 abbrev pub TokensFit : Request → Answer → Type 0
 TokensFit asked (No back refusal) = back ≡ asked
 TokensFit (request.Take chair) (Acts x) = x.worker ≡ chair.worker
 TokensFit (request.Fix x page) (Pinned y g) =
     (y.worker ≡ x.worker) × (g.worker ≡ x.worker) × (g.page ≡ page) × (g.slot ≡ fix_slot x.ask)
+TokensFit (request.Fix x page) (Opened y g) = (y.worker ≡ x.worker) × (g.worker ≡ x.worker) × (g.slot ≡ fix_slot x.ask)
+TokensFit (request.Fix x page) (Joined y) = y.worker ≡ x.worker
 TokensFit (request.Fix x page) (Away errand) = duty_worker errand.duty ≡ Some x.worker
+TokensFit (request.Join x page) (Joined y) = y.worker ≡ x.worker
+TokensFit (request.Join x page) (Away errand) = duty_worker errand.duty ≡ Some x.worker
 TokensFit (request.Unfix x g) (Acts y) = y.worker ≡ x.worker
+TokensFit (request.Scatter x g) (Acts y) = y.worker ≡ x.worker
 TokensFit (request.LatchShared x g) (Shared y h) = (y.worker ≡ x.worker) × (h.slot ≡ g.slot) × (h.page ≡ g.page)
 TokensFit (request.LatchExclusive x g) (Exclusive y h) =
     (y.worker ≡ x.worker) × (h.slot ≡ g.slot) × (h.page ≡ g.page) × (64 ≤ length h.image)
@@ -70,30 +79,39 @@ TokensFit (request.Finish x) (Idle chair) = chair.worker ≡ x.worker
 TokensFit (request.End x) (Idle chair) = chair.worker ≡ x.worker
 TokensFit (request.GiveBack x g) (Leaves y) = y ≡ x
 TokensFit (request.Answer returned) (Pinned y g) =
-    (duty_worker returned.duty ≡ Some y.worker) × (duty_slot returned.duty ≡ Some g.slot)
+    (duty_worker returned.duty ≡ Some y.worker) × (duty_slot returned.duty ≡ Some g.slot) × (g.worker ≡ y.worker)
+TokensFit (request.Answer returned) (Opened y g) =
+    (duty_worker returned.duty ≡ Some y.worker) × (duty_slot returned.duty ≡ Some g.slot) × (g.worker ≡ y.worker)
+TokensFit (request.Answer returned) (Joined y) = duty_worker returned.duty ≡ Some y.worker
 TokensFit (request.Answer returned) (Away errand) = duty_worker errand.duty ≡ duty_worker returned.duty
 TokensFit (request.Answer returned) (Leaves x) = duty_worker returned.duty ≡ Some x.worker
 TokensFit (request.Answer returned) (Flushed clean) = duty_worker returned.duty ≡ None
+TokensFit (request.AnswerJoin returned) (Joined y) = duty_worker returned.duty ≡ Some y.worker
+TokensFit (request.AnswerJoin returned) (Away errand) = duty_worker errand.duty ≡ duty_worker returned.duty
+TokensFit (request.AnswerJoin returned) (Leaves x) = duty_worker returned.duty ≡ Some x.worker
 TokensFit (request.Flush page) (Away errand) = duty_worker errand.duty ≡ None
 TokensFit (request.FlushNext number) (Away errand) = duty_worker errand.duty ≡ None
 TokensFit asked out = ⊥
 
 -- ---- the slot
 
--- The slot of a guard that can come of the request, if one can.
+-- The slot of a guard or of a page that can come of the request, if one can.
 abbrev pub slot_for : Request → Option ℕ
 slot_for (request.Fix x page) = Some (fix_slot x.ask)
+slot_for (request.Join x page) = Some (fix_slot x.ask)
 slot_for (request.Unfix x g) = Some g.slot
+slot_for (request.Scatter x g) = Some g.slot
 slot_for (request.LatchShared x g) = Some g.slot
 slot_for (request.LatchExclusive x g) = Some g.slot
 slot_for (request.UnlatchShared x g) = Some g.slot
 slot_for (request.UnlatchExclusive x g) = Some g.slot
 slot_for (request.GiveBack x g) = Some (slot_by g)
 slot_for (request.Answer returned) = duty_slot returned.duty
+slot_for (request.AnswerJoin returned) = duty_slot returned.duty
 slot_for _ = None
 
--- An errand is for the request's slot: the one that a fix names, or the one for which a device has worked. One of the flusher
--- is for none.
+-- An errand is for the request's slot: the one that a fix or a gather names, or the one for which a device has worked. One of
+-- the flusher is for none.
 abbrev pub SlotFits : Request → Answer → Type 0
 SlotFits asked (Away errand) = duty_slot errand.duty ≡ slot_for asked
 SlotFits asked out = Unit {0}

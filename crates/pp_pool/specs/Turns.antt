@@ -1,5 +1,5 @@
 -- What a turn of a worker does.
-use Rattle.std.specs.Prelude.{◌≡◌, ◌≢◌, ◌⊎◌, ◌==◌, if◌then◌else◌, ℕ, ◌+◌, ◌-◌, ◌^◌, ◌<◌, ◌≤◌, nat_lt, min, max, Bool, true, false, ◌&&◌}
+use Rattle.std.specs.Prelude.{◌≡◌, ◌≢◌, ◌⊎◌, ◌==◌, if◌then◌else◌, ℕ, ◌+◌, ◌-◌, ◌^◌, ◌<◌, ◌≤◌, nat_lt, min, max, Bool, true, false, ◌&&◌, ◌||◌}
 use Rattle.std.specs.Prelude.{List, [], length, ◌++◌, slice_get, slice_set}
 use Rattle.std.specs.Prelude.{Option, None, Some, IfSome, IsSome, vec_len, vec_capacity}
 use Rattle.std.specs.Option.{is_some}
@@ -9,6 +9,7 @@ use Rattle.pp_settings.specs.declared.extent.Extent.{Extent}
 use Rattle.pp_plan.specs.declared.mode.Mode.TheVariants as mode
 use Rattle.pp_plan.specs.declared.action.Ask.{Ask}
 use Rattle.pp_plan.specs.declared.action.Ask.TheVariants as ask
+use Rattle.pp_core.specs.Fixing.{wanted}
 use Rattle.pp_model.specs.declared.event.Event.{Event}
 use Rattle.pp_model.specs.declared.refusals.Delay.TheVariants.{NothingWaiting}
 use Rattle.pp_device.specs.declared.device.Device as Device
@@ -18,6 +19,7 @@ use Rattle.pp_vault.specs.declared.refusal.Refusal.{Refusal}
 use Rattle.pp_vault.specs.declared.refusal.Refusal.TheVariants as refusal
 use Rattle.pp_vault.specs.declared.tokens.Session.{Session}
 use Rattle.pp_vault.specs.declared.tokens.Leaver.{Leaver}
+use Rattle.pp_vault.specs.declared.tokens.Returned.{Returned}
 use Rattle.pp_vault.specs.declared.guards.ReadGuard.{ReadGuard}
 use Rattle.pp_vault.specs.declared.guards.WriteGuard.{WriteGuard}
 use Rattle.pp_vault.specs.declared.guards.Guard.{Guard}
@@ -27,7 +29,8 @@ use Rattle.pp_vault.specs.declared.stage.Stage.TheVariants as stage
 use Rattle.pp_vault.specs.declared.stage.Hand.{Hand}
 use Rattle.pp_vault.specs.Stages.{is_chair}
 use Rattle.pp_vault.specs.Duties.{duty_slot}
-use Rattle.pp_vault.specs.Holding.{slot_by, placed, is_free, all_free}
+use Rattle.pp_vault.specs.Fits.{fix_slot}
+use Rattle.pp_vault.specs.Holding.{slot_by, placed, is_free, all_free, has_bundle}
 use Rattle.pp_vault.specs.Lending.{with_body}
 use Rattle.pp_pool.specs.declared.request.Request.{Request}
 use Rattle.pp_pool.specs.declared.request.Request.TheVariants as request
@@ -41,7 +44,7 @@ use Rattle.pp_pool.specs.declared.work.Work as Work
 use Rattle.pp_pool.specs.declared.worker.Worker.{Worker}
 use Rattle.pp_pool.specs.Requests.{events_in}
 use Rattle.pp_pool.specs.Replies.{slot_for, Replies}
-use Rattle.pp_pool.specs.Flushings.{Sends}
+use Rattle.pp_pool.specs.Flushings.{Sends, IsAnswer}
 
 -- As many bytes as can be counted: a work that wants all of a page reaches for them.
 abbrev pub all_bytes : ℕ
@@ -49,12 +52,15 @@ all_bytes = 2 ^ 64 - 1
 
 -- ---- what a worker asks
 
--- The request is what the session's plan asks: a page of the region that it names, a branch of those that it has, or
--- the guard of the slot that it names.
+-- The request is what the session's plan asks: a page of the region that its fix or its gather names, a branch of those that
+-- it has, or the guard of the slot that it names.
 abbrev pub IsStep : Geometry → Session → Request → Type 0
 IsStep layout x (request.Fix y page) =
-    (y ≡ x) × (slot : ℕ) × (region : ℕ) × (x.ask ≡ ask.Fix slot region) × HasPage layout region page
+    (y ≡ x) × (slot : ℕ) × (region : ℕ) × (wanted x.ask ≡ Some (slot, region)) × HasPage layout region page
+IsStep layout x (request.Join y page) =
+    (y ≡ x) × (slot : ℕ) × (region : ℕ) × (x.ask ≡ ask.Gather slot region) × HasPage layout region page
 IsStep layout x (request.Unfix y g) = (y ≡ x) × (x.ask ≡ ask.Unfix g.slot)
+IsStep layout x (request.Scatter y g) = (y ≡ x) × (x.ask ≡ ask.Scatter g.slot)
 IsStep layout x (request.LatchShared y g) = (y ≡ x) × (x.ask ≡ ask.Latch g.slot mode.S)
 IsStep layout x (request.LatchExclusive y g) = (y ≡ x) × (x.ask ≡ ask.Latch g.slot mode.X)
 IsStep layout x (request.UnlatchShared y g) = (y ≡ x) × (x.ask ≡ ask.Unlatch g.slot)
@@ -69,24 +75,32 @@ IsWayOut x (request.GiveBack y g) = y ≡ x
 IsWayOut x (request.End y) = y ≡ x
 IsWayOut x _ = ⊥
 
+-- The request tells what came of a device, for a page that comes into a slot, or for one that joins a bundle.
+abbrev pub IsTold : Returned → Request → Type 0
+IsTold returned asked = IsAnswer returned asked ⊎ (asked ≡ request.AnswerJoin returned)
+
 -- What the worker asks by its stage: with an errand in hand it calls the device once, and else it does not.
 abbrev pub Asks : {D : Type 0} → (D → ℕ → List ℕ → DeviceAnswer → List ℕ → D → Type 0)
     → (D → ℕ → List ℕ → DeviceAnswer → D → Type 0) → (D → ℕ) → (D → ℕ) → Geometry → Stage → D → Request → D → Type 0
 Asks reads writes calls failures layout (stage.Idle chair) old asked new = (asked ≡ request.Take chair) × (new ≡ old)
 Asks reads writes calls failures layout (stage.In session) old asked new = IsStep layout session asked × (new ≡ old)
 Asks reads writes calls failures layout (stage.Out errand) old asked new =
-    Sends reads writes calls failures errand old asked new
-Asks reads writes calls failures layout (stage.Back returned) old asked new =
-    (asked ≡ request.Answer returned) × (new ≡ old)
+    Sends reads writes calls failures IsTold errand old asked new
+Asks reads writes calls failures layout (stage.Back returned) old asked new = IsTold returned asked × (new ≡ old)
 Asks reads writes calls failures layout (stage.Leaving leaver) old asked new = IsWayOut leaver asked × (new ≡ old)
 
--- What the work is asked for the request. For a fix it is a page: of the region that the plan names, from the region's first
--- page on, of as many as the region has. For a choice it is a branch, of as many as the choice has. For any other request it
--- is asked nothing, and is as it was.
-abbrev pub Consults : {W : Type 0} → Work.Ghosts W → Geometry → (old : W) → Request → (new : W) → Type 0
-Consults k layout old (request.Fix x page) new =
-    (slot : ℕ) × (region : ℕ) × (e : Extent) × (x.ask ≡ ask.Fix slot region) × (slice_get layout.extents region ≡ Some e)
+-- The work is asked for a page: of the region that the plan's fix or gather names, from the region's first page on, of as many
+-- as the region has.
+abbrev pub ConsultsPage : {W : Type 0} → Work.Ghosts W → Geometry → (old : W) → Session → (page : ℕ) → (new : W) → Type 0
+ConsultsPage k layout old x page new =
+    (slot : ℕ) × (region : ℕ) × (e : Extent) × (wanted x.ask ≡ Some (slot, region)) × (slice_get layout.extents region ≡ Some e)
     × k.page_gives old region e.first e.count page new
+
+-- What the work is asked for the request: for a fix or a gather a page; for a choice a branch, of as many as the choice has.
+-- For any other request it is asked nothing, and is as it was.
+abbrev pub Consults : {W : Type 0} → Work.Ghosts W → Geometry → (old : W) → Request → (new : W) → Type 0
+Consults k layout old (request.Fix x page) new = ConsultsPage k layout old x page new
+Consults k layout old (request.Join x page) new = ConsultsPage k layout old x page new
 Consults k layout old (request.Choose x branch) new =
     (count : ℕ) × (x.ask ≡ ask.Choose count) × k.branch_gives old count branch new
 Consults k layout old _ new = new ≡ old
@@ -96,6 +110,7 @@ Consults k layout old _ new = new ≡ old
 -- The guard that a request has in it, if it has one.
 abbrev pub guard_asked : Request → Option Guard
 guard_asked (request.Unfix x g) = Some (guard.Pin g)
+guard_asked (request.Scatter x g) = Some (guard.Bundle g)
 guard_asked (request.LatchShared x g) = Some (guard.Pin g)
 guard_asked (request.LatchExclusive x g) = Some (guard.Pin g)
 guard_asked (request.UnlatchShared x g) = Some (guard.Read g)
@@ -106,6 +121,7 @@ guard_asked _ = None
 -- The guard that an answer has in it, if it has one.
 abbrev pub guard_in : Answer → Option Guard
 guard_in (answer.Pinned x g) = Some (guard.Pin g)
+guard_in (answer.Opened x g) = Some (guard.Bundle g)
 guard_in (answer.Shared x g) = Some (guard.Read g)
 guard_in (answer.Exclusive x g) = Some (guard.Write g)
 guard_in (answer.No back why) = guard_asked back
@@ -120,8 +136,15 @@ abbrev pub places_with : List (Option Guard) → Option Guard → List (Option G
 places_with places None = places
 places_with places (Some g) = slice_set places (slot_by g) (Some g)
 
--- A guard that comes of the request finds its place free.
+-- A bundle's guard is in the place of the slot.
+abbrev pub HasBundle : List (Option Guard) → (slot : ℕ) → Type 0
+HasBundle places slot = has_bundle (placed places slot) ≡ true
+
+-- A page that joins a bundle finds the bundle's guard in its place, and brings none. A guard that comes of any other request
+-- finds its place free.
 abbrev pub FindsPlace : List (Option Guard) → Request → Type 0
+FindsPlace places (request.Join x page) = HasBundle places (fix_slot x.ask)
+FindsPlace places (request.AnswerJoin returned) = IfSome (duty_slot returned.duty) (HasBundle places)
 FindsPlace places asked = IfSome (slot_for asked) (λ slot. is_free places slot ≡ true)
 
 -- A worker that leaves its plan is idle again only where no slot has a guard any more.
@@ -132,6 +155,7 @@ LeavesNone places _ = Unit {0}
 -- The request is one of a worker.
 abbrev pub IsWorkers : Request → Type 0
 IsWorkers (request.Answer returned) = IsSome (duty_slot returned.duty)
+IsWorkers (request.AnswerJoin returned) = IsSome (duty_slot returned.duty)
 IsWorkers (request.Flush page) = ⊥
 IsWorkers (request.FlushNext number) = ⊥
 IsWorkers _ = Unit {0}
@@ -150,41 +174,49 @@ pub record Prepares (places : List (Option Guard)) (asked : Request) (rest : Lis
 
 -- ---- whether a request can be made
 
--- The plan asks something of this slot, which has to hold a page.
+-- The plan asks something of this slot, which has to hold a page, or to be a bundle.
 abbrev pub AsksSlot : (slot : ℕ) → Ask → Type 0
 AsksSlot slot (ask.Unfix of) = of ≡ slot
 AsksSlot slot (ask.Latch of m) = of ≡ slot
 AsksSlot slot (ask.Unlatch of) = of ≡ slot
+AsksSlot slot (ask.Scatter of) = of ≡ slot
 AsksSlot slot _ = ⊥
 
--- Whether the guard is one with which this can be done: a pin to unfix or to latch, and a latch to unlatch.
+-- Whether the guard is one with which this can be done: a pin to unfix or to latch, a latch to unlatch, and a bundle to
+-- scatter.
 abbrev pub suits : Ask → Guard → Bool
 suits (ask.Unfix slot) (guard.Pin g) = true
 suits (ask.Latch slot m) (guard.Pin g) = true
 suits (ask.Unlatch slot) (guard.Read g) = true
 suits (ask.Unlatch slot) (guard.Write g) = true
+suits (ask.Scatter slot) (guard.Bundle g) = true
 suits _ _ = false
 
 abbrev pub is_suited : Ask → Option Guard → Bool
 is_suited a None = false
 is_suited a (Some g) = suits a g
 
--- Whether a worker with these guards can ask what its plan asks: a fix finds its region, and the place of its slot free;
--- a choice has a branch; and any other slot has the guard that is wanted. (No plan asks a bundle.)
+-- Whether a page may come for the slot: its place is free, or has a bundle's guard, and the page joins that bundle.
+abbrev pub may_come : List (Option Guard) → (slot : ℕ) → Bool
+may_come places slot = is_free places slot || has_bundle (placed places slot)
+
+-- Whether a worker with these guards can ask what its plan asks: a fix finds its region, and the place of its slot free; a
+-- gather its region, and that place free or with a bundle's guard; a choice has a branch; and any other slot has the guard that
+-- is wanted.
 abbrev pub can_step : Geometry → List (Option Guard) → Ask → Bool
 can_step layout places (ask.Fix slot region) = is_some (slice_get layout.extents region) && is_free places slot
 can_step layout places (ask.Unfix slot) = is_suited (ask.Unfix slot) (placed places slot)
 can_step layout places (ask.Latch slot m) = is_suited (ask.Latch slot m) (placed places slot)
 can_step layout places (ask.Unlatch slot) = is_suited (ask.Unlatch slot) (placed places slot)
-can_step layout places (ask.Gather slot region) = false
-can_step layout places (ask.Scatter slot) = false
+can_step layout places (ask.Gather slot region) = is_some (slice_get layout.extents region) && may_come places slot
+can_step layout places (ask.Scatter slot) = is_suited (ask.Scatter slot) (placed places slot)
 can_step layout places (ask.Choose count) = nat_lt 0 count
 can_step layout places ask.End = true
 
--- Whether the place of the slot, if there is one, is free.
+-- Whether there is a slot, and a page may come for it.
 abbrev pub has_place : List (Option Guard) → Option ℕ → Bool
 has_place places None = false
-has_place places (Some slot) = is_free places slot
+has_place places (Some slot) = may_come places slot
 
 -- Whether the hand can make a request: what its plan asks, or what a device's answer wants, has its guard or its place.
 abbrev pub can_ask_at : Geometry → List (Option Guard) → Stage → Bool
@@ -205,13 +237,14 @@ has_errand (stage.Out errand) = true
 has_errand (stage.Back returned) = true
 has_errand _ = false
 
--- Whether the place of the errand's slot is free for the page that comes; true where no errand is in hand.
+-- Whether the errand's page may come for its slot; true where no errand is in hand.
 abbrev pub keeps_place : List (Option Guard) → Stage → Bool
 keeps_place places (stage.Out errand) = has_place places (duty_slot errand.duty)
 keeps_place places (stage.Back returned) = has_place places (duty_slot returned.duty)
 keeps_place places _ = true
 
--- A hand in which an errand, if there is one, finds the place of its slot free. An idle hand is one, and each turn leaves one.
+-- A hand in which the place of an errand's slot, if there is one, is free or has a bundle's guard. An idle hand is one, and each
+-- turn leaves one.
 abbrev pub KeepsPlace : Hand → Type 0
 KeepsPlace hand = keeps_place hand.guards hand.stage ≡ true
 
@@ -221,7 +254,9 @@ KeepsPlace hand = keeps_place hand.guards hand.stage ≡ true
 abbrev pub stage_asked : Request → Option Stage
 stage_asked (request.Take chair) = Some (stage.Idle chair)
 stage_asked (request.Fix x page) = Some (stage.In x)
+stage_asked (request.Join x page) = Some (stage.In x)
 stage_asked (request.Unfix x g) = Some (stage.In x)
+stage_asked (request.Scatter x g) = Some (stage.In x)
 stage_asked (request.LatchShared x g) = Some (stage.In x)
 stage_asked (request.LatchExclusive x g) = Some (stage.In x)
 stage_asked (request.UnlatchShared x g) = Some (stage.In x)
@@ -231,6 +266,7 @@ stage_asked (request.Finish x) = Some (stage.In x)
 stage_asked (request.End x) = Some (stage.Leaving x)
 stage_asked (request.GiveBack x g) = Some (stage.Leaving x)
 stage_asked (request.Answer returned) = Some (stage.Back returned)
+stage_asked (request.AnswerJoin returned) = Some (stage.Back returned)
 stage_asked (request.Flush page) = None
 stage_asked (request.FlushNext number) = None
 
@@ -239,6 +275,8 @@ stage_in (answer.Acts x) = Some (stage.In x)
 stage_in (answer.Idle chair) = Some (stage.Idle chair)
 stage_in (answer.Leaves x) = Some (stage.Leaving x)
 stage_in (answer.Pinned x g) = Some (stage.In x)
+stage_in (answer.Opened x g) = Some (stage.In x)
+stage_in (answer.Joined x) = Some (stage.In x)
 stage_in (answer.Shared x g) = Some (stage.In x)
 stage_in (answer.Exclusive x g) = Some (stage.In x)
 stage_in (answer.Away errand) = Some (stage.Out errand)
@@ -320,6 +358,7 @@ pub record Makes {S D W : Type 0} (s : Site.Ghosts S) (d : Device.Ghosts D) (k :
   pub asks : Asks d.read_gives d.write_leaves d.calls d.failures old.layout old.hand.stage old.device asked new.device
   pub consults : Consults k old.layout before asked between
   pub own : IsOwn old.hand.guards asked
+  pub finds : FindsPlace (places_without old.hand.guards (guard_asked asked)) asked
   pub none : LeavesNone old.hand.guards asked
   pub given : s.gives old.site asked outcome new.site
   pub fits : Replies asked outcome

@@ -2,21 +2,22 @@
 
 ghost use Rattle.std.specs.Prelude.{◌≡◌, ◌<◌, ℕ, List, Option, true, false, None, Some, IfOk, IfErr, IfSome, IfNone, OnErr, nat_lt, slice_set};
 ghost use Rattle.pp_plan.specs.declared.action.Ask.TheVariants as plan_ask;
+ghost use Rattle.pp_vault.specs.Duties.{duty_slot};
 ghost use Rattle.pp_vault.specs.Holding.{slot_by, placed, is_free};
 ghost use Rattle.pp_vault.specs.declared.guards.Guard.{Guard};
 ghost use Rattle.pp_vault.specs.declared.guards.Guard.TheVariants as guard_kinds;
 ghost use Rattle.pp_settings.specs.Layout.{Geometry};
-ghost use Rattle.pp_pool.specs.Turns.{Asks, Consults, IsStep, IsWayOut, Prepares, AsksSlot, IsWorkers};
+ghost use Rattle.pp_pool.specs.Turns.{Asks, Consults, IsStep, IsWayOut, IsTold, Prepares, AsksSlot, IsWorkers};
 ghost use Rattle.pp_pool.specs.Replies.{slot_for};
 ghost use Rattle.pp_pool.specs.Turns.{guard_asked, places_without, suits, is_suited, can_step, can_ask_at};
-ghost use Rattle.pp_pool.specs.Turns.{has_place as place_is_free};
+ghost use Rattle.pp_pool.specs.Turns.{has_place as page_may_come};
 
 use crate::request::Request;
 use crate::work::Work;
 use pp_device::Device;
 use pp_plan::{Ask, Mode};
 use pp_settings::Layout;
-use pp_vault::{Guard, Guards, Leaver, PinGuard, Session, Stage};
+use pp_vault::{Guard, Guards, Leaver, PinGuard, Returned, Session, Stage};
 
 /// The request that a worker of this stage makes, whose guard is taken out of its place; or the stage, where it makes none.
 /// With an errand in hand the device is called.
@@ -48,25 +49,38 @@ pub(crate) fn next<D: Device, W: Work>(
             if !has_place(guards, errand.slot()) {
                 return Err(Stage::Out(errand));
             }
-            Ok(Request::Answer(errand.carry_out(device)))
+            Ok(told(errand.carry_out(device), guards))
         }
         Stage::Back(returned) => {
             if !has_place(guards, returned.slot()) {
                 return Err(Stage::Back(returned));
             }
-            Ok(Request::Answer(returned))
+            Ok(told(returned, guards))
         }
         Stage::Leaving(leaver) => Ok(on_the_way_out(leaver, guards)),
     }
 }
 
-/// Whether there is a slot, and its place is free.
+/// Whether there is a slot, and a page may come for it: its place is free, or has a bundle's guard.
 fn has_place(guards: &Guards, slot: Option<u32>) -> bool
-    ensures { result ≡ place_is_free guards.now slot }
+    ensures { result ≡ page_may_come guards.now slot }
 {
     match slot {
-        Some(slot) => guards.is_free(slot),
+        Some(slot) => guards.is_free(slot) || guards.has_bundle(slot),
         None => false,
+    }
+}
+
+/// What came of a device is sent: for a page that joins a bundle, where the bundle's guard is there.
+#[tactic(auto, using(crate::proofs::Placing::answer_prepared, crate::proofs::Placing::join_prepared))]
+fn told(returned: Returned, guards: &Guards) -> Request
+    requires { page_may_come guards.now (duty_slot returned.duty) ≡ true }
+    ensures told { IsTold returned result }
+    ensures prepares { Prepares guards.now result guards.now }
+{
+    match returned.slot() {
+        Some(slot) if guards.has_bundle(slot) => Request::AnswerJoin(returned),
+        _ => Request::Answer(returned),
     }
 }
 
@@ -87,16 +101,18 @@ fn in_plan<W: Work>(
 {
     match session.ask() {
         Ask::Fix { slot, region } => fix(session, guards, slot, region, layout, work),
+        Ask::Gather { slot, region } => gather(session, guards, slot, region, layout, work),
         Ask::Choose { branches } => choose(session, branches, work),
         Ask::End => Ok(Request::Finish(session)),
         Ask::Unfix { slot } => with_slot(session, guards, slot),
         Ask::Latch { slot, .. } => with_slot(session, guards, slot),
         Ask::Unlatch { slot } => with_slot(session, guards, slot),
-        Ask::Gather { .. } | Ask::Scatter { .. } => Err(session),
+        Ask::Scatter { slot } => with_slot(session, guards, slot),
     }
 }
 
 /// A fix of a page of the region, where the place of its slot is free.
+#[tactic(auto, using(crate::proofs::Placing::fix_step, crate::proofs::Turning::fix_consults, crate::proofs::Placing::fix_prepared))]
 fn fix<W: Work>(
     session: Session,
     guards: &Guards,
@@ -123,6 +139,40 @@ fn fix<W: Work>(
     }
 }
 
+/// A gather of a page of the region: it opens a bundle where the place of its slot is free, and joins the one whose guard is
+/// there.
+#[tactic(auto, using(crate::proofs::Placing::gather_step, crate::proofs::Placing::join_step, crate::proofs::Turning::gather_consults, crate::proofs::Turning::join_consults, crate::proofs::Placing::opening_prepared, crate::proofs::Placing::joining_prepared))]
+fn gather<W: Work>(
+    session: Session,
+    guards: &Guards,
+    slot: u8,
+    region: u8,
+    layout: &Layout,
+    work: &mut W,
+) -> Result<Request, Session>
+    requires { session.ask ≡ plan_ask.Gather slot region }
+    ensures step { IfOk result (λ asked. IsStep layout.now session asked) }
+    ensures consults { IfOk result (λ asked. Consults W.Work layout.now work.old asked work.new) }
+    ensures prepares { IfOk result (λ asked. Prepares guards.now asked guards.now) }
+    ensures err { OnErr result (can_step layout.now guards.now (plan_ask.Gather slot region) ≡ false) }
+    ensures back { IfErr result (λ e. e ≡ session) }
+    ensures work { OnErr result (work.new ≡ work.old) }
+{
+    let _extents = layout.extents();
+    let slot = u32::from(slot);
+    match layout.extent(region) {
+        Some(extent) if guards.is_free(slot) => {
+            let first = work.page(region, extent.first, extent.count);
+            Ok(Request::Fix(session, first))
+        }
+        Some(extent) if guards.has_bundle(slot) => {
+            let further = work.page(region, extent.first, extent.count);
+            Ok(Request::Join(session, further))
+        }
+        _ => Err(session),
+    }
+}
+
 /// A branch of the choice, where it has one.
 fn choose<W: Work>(session: Session, branches: u16, work: &mut W) -> Result<Request, Session>
     requires { session.ask ≡ plan_ask.Choose branches }
@@ -141,7 +191,7 @@ fn choose<W: Work>(session: Session, branches: u16, work: &mut W) -> Result<Requ
 }
 
 /// What the plan asks of this slot, where it has a guard.
-// Inlined, since else the guard goes through memory at each of the three calls: a tenth of the instructions of a hit.
+// Inlined, since else the guard goes through memory at each of its calls: a tenth of the instructions of a hit.
 #[tactic(auto, using(crate::proofs::Placing::prepared, crate::proofs::Placing::back_same))]
 #[inline(always)]
 fn with_slot(session: Session, guards: &mut Guards, slot: u8) -> Result<Request, Session>
@@ -183,6 +233,10 @@ fn with_guard(session: Session, guard: Guard) -> Result<Request, (Session, Guard
         Guard::Write(write) => match session.ask() {
             Ask::Unlatch { .. } => Ok(Request::UnlatchExclusive(session, write)),
             _ => Err((session, Guard::Write(write))),
+        },
+        Guard::Bundle(bundle) => match session.ask() {
+            Ask::Scatter { .. } => Ok(Request::Scatter(session, bundle)),
+            _ => Err((session, Guard::Bundle(bundle))),
         },
     }
 }

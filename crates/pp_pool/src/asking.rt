@@ -1,14 +1,19 @@
 //! The calls of a vault that requests make.
 
+ghost use Rattle.std.specs.Prelude.{◌≡◌};
+ghost use Rattle.pp_model.specs.Pool.{State};
+ghost use Rattle.pp_vault.specs.StandsFor.{StandsFor};
 ghost use Rattle.pp_pool.specs.declared.request.Request.TheVariants as request;
 ghost use Rattle.pp_pool.specs.Performing.{ComesTo, DoesUnless};
 ghost use Rattle.pp_pool.specs.Replies.{TokensFit};
+ghost use Rattle.pp_pool.specs.Requests.{can_join, bundle_asked, bundle_served};
 
 use crate::outcome::Answer;
 use crate::request::Request;
+use pp_plan::Ask;
 use pp_vault::{
-    Answered, Chair, Fixed, Guard, Leaver, PinGuard, ReadGuard, Returned, Session, Vault,
-    WriteGuard,
+    Answered, BundleGuard, Chair, Fixed, Guard, Leaver, PinGuard, ReadGuard, Refusal, Returned,
+    Session, Vault, WriteGuard,
 };
 
 /// Makes the call of the request.
@@ -20,7 +25,9 @@ pub(crate) fn ask(vault: &mut Vault, request: Request) -> Answer
     match request {
         Request::Take(chair) => take(vault, chair),
         Request::Fix(session, page) => fix(vault, session, page),
+        Request::Join(session, page) => join(vault, session, page),
         Request::Unfix(session, guard) => unfix(vault, session, guard),
+        Request::Scatter(session, guard) => scatter(vault, session, guard),
         Request::LatchShared(session, guard) => latch_shared(vault, session, guard),
         Request::LatchExclusive(session, guard) => latch_exclusive(vault, session, guard),
         Request::UnlatchShared(session, guard) => unlatch_shared(vault, session, guard),
@@ -30,6 +37,7 @@ pub(crate) fn ask(vault: &mut Vault, request: Request) -> Answer
         Request::End(leaver) => end(vault, leaver),
         Request::GiveBack(leaver, guard) => give_back(vault, leaver, guard),
         Request::Answer(returned) => answer(vault, returned),
+        Request::AnswerJoin(returned) => answer_join(vault, returned),
         Request::Flush(page) => flush(vault, page),
         Request::FlushNext(number) => flush_next(vault, number),
     }
@@ -107,8 +115,41 @@ fn fix(vault: &mut Vault, session: Session, page: u32) -> Answer
 {
     match vault.fix(session, page) {
         Fixed::Got(session, guard) => Answer::Pinned(session, guard),
+        Fixed::Opened(session, guard) => Answer::Opened(session, guard),
+        Fixed::Joined(session) => Answer::Joined(session),
         Fixed::Away(errand) => Answer::Away(errand),
         Fixed::No(session, refusal) => Answer::No(Request::Fix(session, page), refusal),
+    }
+}
+
+#[tactic(auto, using(crate::proofs::Noted::refused_does, crate::proofs::Tokens::sent_worker, crate::proofs::Joining::fix_joins, crate::proofs::Joining::fix_refused, crate::proofs::Joining::join_strange))]
+fn join(vault: &mut Vault, session: Session, page: u32) -> Answer
+    ensures comes { ComesTo vault.old (request.Join session page) result vault.new }
+    ensures does { DoesUnless vault.old (request.Join session page) result vault.new }
+    ensures tokens { TokensFit (request.Join session page) result }
+{
+    if !may_join(vault, &session) {
+        vault.refuse();
+        return Answer::No(Request::Join(session, page), Refusal::Stranger);
+    }
+    // There is a state that the vault stands for, and in it the bundle holds a page. So no guard comes.
+    vault.known();
+    match vault.fix(session, page) {
+        Fixed::Joined(session) => Answer::Joined(session),
+        Fixed::Away(errand) => Answer::Away(errand),
+        Fixed::No(session, refusal) => Answer::No(Request::Join(session, page), refusal),
+        _ => unreachable!(),
+    }
+}
+
+/// Whether the session's plan asks a gather, and its bundle holds a page.
+fn may_join(vault: &Vault, session: &Session) -> bool
+    ensures { (s : State) → StandsFor vault.now s
+        → result ≡ can_join s (bundle_asked session.now.worker session.now.ask) }
+{
+    match session.ask() {
+        Ask::Gather { slot, .. } => vault.has_bundle(session.worker(), u32::from(slot)),
+        _ => false,
     }
 }
 
@@ -121,6 +162,18 @@ fn unfix(vault: &mut Vault, session: Session, guard: PinGuard) -> Answer
     match vault.unfix(session, guard) {
         Ok(session) => Answer::Acts(session),
         Err((session, guard, refusal)) => Answer::No(Request::Unfix(session, guard), refusal),
+    }
+}
+
+#[tactic(auto, using(crate::proofs::Noted::refused_does))]
+fn scatter(vault: &mut Vault, session: Session, guard: BundleGuard) -> Answer
+    ensures comes { ComesTo vault.old (request.Scatter session guard) result vault.new }
+    ensures does { DoesUnless vault.old (request.Scatter session guard) result vault.new }
+    ensures tokens { TokensFit (request.Scatter session guard) result }
+{
+    match vault.scatter(session, guard) {
+        Ok(session) => Answer::Acts(session),
+        Err((session, guard, refusal)) => Answer::No(Request::Scatter(session, guard), refusal),
     }
 }
 
@@ -182,7 +235,7 @@ fn unlatch_exclusive(vault: &mut Vault, session: Session, guard: WriteGuard) -> 
 
 // ---- a device, and the flusher
 
-#[tactic(auto, using(crate::proofs::Noted::refused_does, crate::proofs::Tokens::got_worker, crate::proofs::Tokens::got_slot, crate::proofs::Tokens::away_worker, crate::proofs::Tokens::lost_worker, crate::proofs::Tokens::flushed_worker))]
+#[tactic(auto, using(crate::proofs::Noted::refused_does, crate::proofs::Tokens::got_worker, crate::proofs::Tokens::got_slot, crate::proofs::Tokens::opened_worker, crate::proofs::Tokens::opened_slot, crate::proofs::Tokens::joined_worker, crate::proofs::Tokens::away_worker, crate::proofs::Tokens::lost_worker, crate::proofs::Tokens::flushed_worker))]
 fn answer(vault: &mut Vault, returned: Returned) -> Answer
     ensures comes { ComesTo vault.old (request.Answer returned) result vault.new }
     ensures does { DoesUnless vault.old (request.Answer returned) result vault.new }
@@ -190,10 +243,42 @@ fn answer(vault: &mut Vault, returned: Returned) -> Answer
 {
     match vault.answer(returned) {
         Answered::Got(session, guard) => Answer::Pinned(session, guard),
+        Answered::Opened(session, guard) => Answer::Opened(session, guard),
+        Answered::Joined(session) => Answer::Joined(session),
         Answered::Away(errand) => Answer::Away(errand),
         Answered::Lost(leaver) => Answer::Leaves(leaver),
         Answered::Flushed(clean) => Answer::Flushed(clean),
         Answered::No(returned, refusal) => Answer::No(Request::Answer(returned), refusal),
+    }
+}
+
+#[tactic(auto, using(crate::proofs::Noted::refused_does, crate::proofs::Tokens::joined_worker, crate::proofs::Tokens::away_worker, crate::proofs::Tokens::lost_worker, crate::proofs::Joining::answer_joins, crate::proofs::Joining::answer_refused, crate::proofs::Joining::answer_strange))]
+fn answer_join(vault: &mut Vault, returned: Returned) -> Answer
+    ensures comes { ComesTo vault.old (request.AnswerJoin returned) result vault.new }
+    ensures does { DoesUnless vault.old (request.AnswerJoin returned) result vault.new }
+    ensures tokens { TokensFit (request.AnswerJoin returned) result }
+{
+    if !may_answer_join(vault, &returned) {
+        vault.refuse();
+        return Answer::No(Request::AnswerJoin(returned), Refusal::Stranger);
+    }
+    vault.known();
+    match vault.answer(returned) {
+        Answered::Joined(session) => Answer::Joined(session),
+        Answered::Away(errand) => Answer::Away(errand),
+        Answered::Lost(leaver) => Answer::Leaves(leaver),
+        Answered::No(returned, refusal) => Answer::No(Request::AnswerJoin(returned), refusal),
+        _ => unreachable!(),
+    }
+}
+
+/// Whether a device worked for a worker's slot that is a bundle and holds a page.
+fn may_answer_join(vault: &Vault, returned: &Returned) -> bool
+    ensures { (s : State) → StandsFor vault.now s → result ≡ can_join s (bundle_served returned.now.duty) }
+{
+    match (returned.worker(), returned.slot()) {
+        (Some(worker), Some(slot)) => vault.has_bundle(worker, slot),
+        _ => false,
     }
 }
 

@@ -2,7 +2,9 @@
 
 use crate::request::Request;
 use pp_model::Event;
-use pp_vault::{Chair, Errand, Leaver, PinGuard, ReadGuard, Refusal, Session, WriteGuard};
+use pp_vault::{
+    BundleGuard, Chair, Errand, Leaver, PinGuard, ReadGuard, Refusal, Session, WriteGuard,
+};
 
 /// What a request is answered: the tokens that come of it.
 ///
@@ -13,10 +15,14 @@ pub enum Answer {
     Acts(Session),
     /// The worker is idle.
     Idle(Chair),
-    /// The worker leaves its plan, since a fix failed.
+    /// The worker leaves its plan, since a fix or a gather failed.
     Leaves(Leaver),
     /// The worker acts, and a slot holds a page, not latched.
     Pinned(Session, PinGuard),
+    /// The worker acts, and a slot is a bundle, which has its first page.
+    Opened(Session, BundleGuard),
+    /// The worker acts, and a bundle that had pages has one more.
+    Joined(Session),
     /// The worker acts, and a slot has its page latched S.
     Shared(Session, ReadGuard),
     /// The worker acts, and a slot has its page latched X.

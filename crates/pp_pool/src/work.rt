@@ -10,19 +10,19 @@ ghost use Rattle.pp_device.specs.Image.{head_of};
 ///
 /// | Call | When |
 /// |---|---|
-/// | [`Work::page`] | each time the worker asks its site for a fix |
+/// | [`Work::page`] | each time the worker asks its site for a fix or a gather |
 /// | [`Work::branch`] | each time it asks for a choice |
 /// | [`Work::change`] | once after each latch X |
 /// | [`Work::see`] | once after each latch S |
 ///
 /// [`Work::reach`] is asked besides, just before each look at a page, and may answer another number each time.
 ///
-/// A fix may have to wait. A site of one's own refuses it then, and the worker's next turn asks `page` anew; a site
+/// A fix or a gather may have to wait. A site of one's own refuses it then, and the worker's next turn asks `page` anew; a site
 /// that is shared waits, and asks for the same page again. So let `page` only tell the page, and go on in `see` or in
 /// `change`.
 ///
 /// The page stays latched when `see` or `change` returns: a later turn takes the latch off, where the plan says so, or
-/// where a later fix fails. Until then nobody else changes the page, and one that is latched X nobody else sees.
+/// where a later fix or gather fails. Until then nobody else changes the page, and one that is latched X nobody else sees.
 ///
 /// An image has as many bytes as the settings give a page: a head of 12 bytes, the page's number and its mark, and then
 /// the body. A mark rises by one each time a latch X is taken off its page. `see` gets a copy of the image, or of as much
@@ -53,7 +53,7 @@ pub trait Work {
 
     ghost see_leaves: { Self → (page mark : ℕ) → (image : List ℕ) → Self → Type 0 } = { λ work page mark image after. Unit {0} };
 
-    /// The page to fix, of a region that has `count` pages from `first` on.
+    /// The page to fix or to gather, of a region that has `count` pages from `first` on.
     fn page(&mut self, region: u8, first: u32, count: u32) -> u32
         requires some { 1 ≤ count }
         requires ends { first + count ≤ 65536 }

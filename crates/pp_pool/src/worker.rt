@@ -105,8 +105,11 @@ impl<S: Site, D: Device> Worker<S, D> {
     ///
     /// An errand in hand never waits. Its call is made, and what came back is sent, also where the log gets no room; then the
     /// log lacks the event, and the answer is [`Turned::Broken`]. For that the place of the errand's slot has to be free
-    /// in the hand. It is so in an idle hand, as a vault gives it, and after each turn from there on; only a hand that was put
-    /// together otherwise can be another.
+    /// in the hand, or to have the guard of a bundle, which the page joins. It is so in an idle hand, as a vault gives it,
+    /// and after each turn from there on; only a hand that was put together otherwise can be another.
+    ///
+    /// Where the place of a slot has a bundle's guard, a page for it is asked and answered by [`Request::Join`] and
+    /// [`Request::AnswerJoin`], of which no guard comes.
     ///
     /// Where the hand can make no request, as a slot that the plan unfixes has no guard in it, or where no errand is in hand
     /// and the log gets no room, the answer is [`Turned::Broken`], and nothing was asked.

@@ -66,7 +66,9 @@ pub step_calls : (layout : Geometry) (x : Session) (asked : Request) (did : Move
     → IsMoveOf asked did → Calls did 0 0
 step_calls layout x (request.Take chair) did step is = absurd step
 step_calls layout x (request.Fix y page) did step is = no_calls did _ is refl refl
+step_calls layout x (request.Join y page) did step is = no_calls did _ is refl refl
 step_calls layout x (request.Unfix y g) did step is = no_calls did _ is refl refl
+step_calls layout x (request.Scatter y g) did step is = no_calls did _ is refl refl
 step_calls layout x (request.LatchShared y g) did step is = no_calls did _ is refl refl
 step_calls layout x (request.LatchExclusive y g) did step is = no_calls did _ is refl refl
 step_calls layout x (request.UnlatchShared y g) did step is = no_calls did _ is refl refl
@@ -76,6 +78,7 @@ step_calls layout x (request.Finish y) did step is = no_calls did _ is refl refl
 step_calls layout x (request.End y) did step is = absurd step
 step_calls layout x (request.GiveBack y g) did step is = absurd step
 step_calls layout x (request.Answer returned) did step is = absurd step
+step_calls layout x (request.AnswerJoin returned) did step is = absurd step
 step_calls layout x (request.Flush page) did step is = absurd step
 step_calls layout x (request.FlushNext number) did step is = absurd step
 
@@ -84,7 +87,9 @@ way_out_calls x (request.GiveBack y g) did out is = no_calls did _ is refl refl
 way_out_calls x (request.End y) did out is = no_calls did _ is refl refl
 way_out_calls x (request.Take chair) did out is = absurd out
 way_out_calls x (request.Fix y page) did out is = absurd out
+way_out_calls x (request.Join y page) did out is = absurd out
 way_out_calls x (request.Unfix y g) did out is = absurd out
+way_out_calls x (request.Scatter y g) did out is = absurd out
 way_out_calls x (request.LatchShared y g) did out is = absurd out
 way_out_calls x (request.LatchExclusive y g) did out is = absurd out
 way_out_calls x (request.UnlatchShared y g) did out is = absurd out
@@ -92,6 +97,7 @@ way_out_calls x (request.UnlatchExclusive y g) did out is = absurd out
 way_out_calls x (request.Choose y branch) did out is = absurd out
 way_out_calls x (request.Finish y) did out is = absurd out
 way_out_calls x (request.Answer returned) did out is = absurd out
+way_out_calls x (request.AnswerJoin returned) did out is = absurd out
 way_out_calls x (request.Flush page) did out is = absurd out
 way_out_calls x (request.FlushNext number) did out is = absurd out
 

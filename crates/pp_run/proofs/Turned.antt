@@ -4,12 +4,14 @@ use Rattle.std.proofs.Common.{refl, sym, ap, subst, arith}
 use Rattle.std.specs.Prelude.{is_ok, if◌then◌else◌}
 use Rattle.std.proofs.lemmas.Bool.{false≢true}
 use Rattle.pp_settings.specs.Layout.{Geometry}
+use Rattle.pp_model.specs.declared.moves.Move.{Move}
 use Rattle.pp_model.specs.declared.event.Event.{Event}
 use Rattle.pp_device.specs.declared.device.Device as Device
 use Rattle.pp_device.specs.Answers.{Answer as DeviceAnswer}
 use Rattle.pp_vault.specs.declared.refusal.Refusal.{Refusal}
 use Rattle.pp_vault.specs.declared.refusal.Refusal.TheVariants as refusal
 use Rattle.pp_model.specs.declared.refusals.Delay.TheVariants as delay
+use Rattle.pp_vault.specs.declared.tokens.Returned.{Returned}
 use Rattle.pp_vault.specs.declared.stage.Stage.{Stage}
 use Rattle.pp_vault.specs.declared.stage.Stage.TheVariants as stage
 use Rattle.pp_vault.specs.Duties.{duty_worker}
@@ -26,8 +28,8 @@ use Rattle.pp_pool.specs.declared.turned.Turned.TheVariants.{Done, Ended, NoMemo
 use Rattle.pp_pool.specs.declared.worker.Worker.{Worker}
 use Rattle.pp_pool.specs.Requests.{events_in}
 use Rattle.pp_pool.specs.Performing.{is_no}
-use Rattle.pp_pool.specs.Replies.{TokensFit}
-use Rattle.pp_pool.specs.Turns.{Asks, IsStep, IsWayOut, Uses, turned_by, stage_asked, stage_in, Turns}
+use Rattle.pp_pool.specs.Replies.{TokensFit, IsMoveOf, duty_move}
+use Rattle.pp_pool.specs.Turns.{Asks, IsStep, IsWayOut, IsTold, Uses, turned_by, stage_asked, stage_in, Turns}
 use Rattle.pp_pool.specs.Turns.{TurnIs}
 use Rattle.pp_run.specs.Calling.{calls_of, failed_calls_of, total}
 use Rattle.pp_run.specs.Counted.{IsAtWork}
@@ -78,6 +80,8 @@ module _ {S W : Type 0} (s : Site.Ghosts S) (k : Work.Ghosts W) (site : S) (room
   done_is_yes (answer.Idle x) after h = refl
   done_is_yes (answer.Leaves x) after h = refl
   done_is_yes (answer.Pinned x g) after h = refl
+  done_is_yes (answer.Opened x g) after h = refl
+  done_is_yes (answer.Joined x) after h = refl
   done_is_yes (answer.Shared x g) after h = refl
   done_is_yes (answer.Exclusive x g) after h = refl
   done_is_yes (answer.Away errand) after h = refl
@@ -90,6 +94,8 @@ module _ {S W : Type 0} (s : Site.Ghosts S) (k : Work.Ghosts W) (site : S) (room
   ended_is_no (answer.Idle x) after h = absurd (ended_not_done h.0)
   ended_is_no (answer.Leaves x) after h = absurd (ended_not_done h.0)
   ended_is_no (answer.Pinned x g) after h = absurd (ended_not_done h.0)
+  ended_is_no (answer.Opened x g) after h = absurd (ended_not_done h.0)
+  ended_is_no (answer.Joined x) after h = absurd (ended_not_done h.0)
   ended_is_no (answer.Away errand) after h = absurd (ended_not_done h.0)
   ended_is_no (answer.Flushed clean) after h = absurd (ended_not_done h.0)
   ended_is_no (answer.Shared x g) after h = absurd (ended_not_looked _ h.0.turned_is)
@@ -102,6 +108,8 @@ module _ {S W : Type 0} (s : Site.Ghosts S) (k : Work.Ghosts W) (site : S) (room
   never_no_memory (answer.Idle x) after h = no_memory_not_done h.0
   never_no_memory (answer.Leaves x) after h = no_memory_not_done h.0
   never_no_memory (answer.Pinned x g) after h = no_memory_not_done h.0
+  never_no_memory (answer.Opened x g) after h = no_memory_not_done h.0
+  never_no_memory (answer.Joined x) after h = no_memory_not_done h.0
   never_no_memory (answer.Away errand) after h = no_memory_not_done h.0
   never_no_memory (answer.Flushed clean) after h = no_memory_not_done h.0
   never_no_memory (answer.Shared x g) after h = no_memory_not_looked _ h.0.turned_is
@@ -113,6 +121,7 @@ module _ {S W : Type 0} (s : Site.Ghosts S) (k : Work.Ghosts W) (site : S) (room
 -- Where the request sends a device's answer, it is a worker's.
 abbrev IsOfWorker : Request → Type 0
 IsOfWorker (request.Answer returned) = duty_worker returned.duty ≢ None
+IsOfWorker (request.AnswerJoin returned) = duty_worker returned.duty ≢ None
 IsOfWorker (request.Flush page) = ⊥
 IsOfWorker (request.FlushNext number) = ⊥
 IsOfWorker _ = Unit {0}
@@ -120,7 +129,9 @@ IsOfWorker _ = Unit {0}
 step_of_worker : (layout : Geometry) (x : _) (asked : Request) → IsStep layout x asked → IsOfWorker asked
 step_of_worker layout x (request.Take chair) h = tt
 step_of_worker layout x (request.Fix y page) h = tt
+step_of_worker layout x (request.Join y page) h = tt
 step_of_worker layout x (request.Unfix y g) h = tt
+step_of_worker layout x (request.Scatter y g) h = tt
 step_of_worker layout x (request.LatchShared y g) h = tt
 step_of_worker layout x (request.LatchExclusive y g) h = tt
 step_of_worker layout x (request.UnlatchShared y g) h = tt
@@ -130,13 +141,16 @@ step_of_worker layout x (request.Finish y) h = tt
 step_of_worker layout x (request.End y) h = tt
 step_of_worker layout x (request.GiveBack y g) h = tt
 step_of_worker layout x (request.Answer returned) h = absurd h
+step_of_worker layout x (request.AnswerJoin returned) h = absurd h
 step_of_worker layout x (request.Flush page) h = absurd h
 step_of_worker layout x (request.FlushNext number) h = absurd h
 
 way_of_worker : (x : _) (asked : Request) → IsWayOut x asked → IsOfWorker asked
 way_of_worker x (request.Take chair) h = tt
 way_of_worker x (request.Fix y page) h = tt
+way_of_worker x (request.Join y page) h = tt
 way_of_worker x (request.Unfix y g) h = tt
+way_of_worker x (request.Scatter y g) h = tt
 way_of_worker x (request.LatchShared y g) h = tt
 way_of_worker x (request.LatchExclusive y g) h = tt
 way_of_worker x (request.UnlatchShared y g) h = tt
@@ -146,8 +160,26 @@ way_of_worker x (request.Finish y) h = tt
 way_of_worker x (request.End y) h = tt
 way_of_worker x (request.GiveBack y g) h = tt
 way_of_worker x (request.Answer returned) h = absurd h
+way_of_worker x (request.AnswerJoin returned) h = absurd h
 way_of_worker x (request.Flush page) h = absurd h
 way_of_worker x (request.FlushNext number) h = absurd h
+
+-- What is sent of a device is a worker's where the device worked for one; it is of the answer's move; and where it comes back,
+-- that is in hand again.
+told_of_worker : (returned : Returned) (asked : Request) → IsTold returned asked → duty_worker returned.duty ≢ None
+    → IsOfWorker asked
+told_of_worker returned asked (inl answer) of = subst (λ r. IsOfWorker r) (sym answer) of
+told_of_worker returned asked (inr join) of = subst (λ r. IsOfWorker r) (sym join) of
+
+told_move : (returned : Returned) (asked : Request) (did : Move) → IsTold returned asked → IsMoveOf asked did
+    → did ≡ duty_move returned.duty returned.image (is_ok returned.answer)
+told_move returned asked did (inl answer) of = subst (λ r. IsMoveOf r did) answer of
+told_move returned asked did (inr join) of = subst (λ r. IsMoveOf r did) join of
+
+told_stage : (returned : Returned) (asked : Request) → IsTold returned asked
+    → stage_asked asked ≡ Some (stage.Back returned)
+told_stage returned asked (inl answer) = ap stage_asked answer
+told_stage returned asked (inr join) = ap stage_asked join
 
 some_not_none : (w : ℕ) (o : Option ℕ) → o ≡ Some w → o ≢ None
 some_not_none w o is none = let h : ◌≡◌ {A = Option ℕ} None (Some w) = sym none ∙ is in absurd cc
@@ -155,11 +187,14 @@ some_not_none w o is none = let h : ◌≡◌ {A = Option ℕ} None (Some w) = s
 away_of_worker : (asked : Request) (errand : _) → IsOfWorker asked → TokensFit asked (answer.Away errand)
     → duty_worker errand.duty ≢ None
 away_of_worker (request.Fix x page) errand of fit = some_not_none x.worker _ fit
+away_of_worker (request.Join x page) errand of fit = some_not_none x.worker _ fit
 away_of_worker (request.Answer returned) errand of fit = λ none. of (sym fit ∙ none)
+away_of_worker (request.AnswerJoin returned) errand of fit = λ none. of (sym fit ∙ none)
 away_of_worker (request.Flush page) errand of fit = absurd of
 away_of_worker (request.FlushNext number) errand of fit = absurd of
 away_of_worker (request.Take chair) errand of fit = absurd fit
 away_of_worker (request.Unfix x g) errand of fit = absurd fit
+away_of_worker (request.Scatter x g) errand of fit = absurd fit
 away_of_worker (request.LatchShared x g) errand of fit = absurd fit
 away_of_worker (request.LatchExclusive x g) errand of fit = absurd fit
 away_of_worker (request.UnlatchShared x g) errand of fit = absurd fit
@@ -182,6 +217,10 @@ still_at_work own k site room old left turned asked (answer.Idle x) after s of f
 still_at_work own k site room old left turned asked (answer.Leaves x) after s of fit went works is =
     at_work (stage.Leaving x) s (sym (ap stage_in works.1) ∙ is) tt
 still_at_work own k site room old left turned asked (answer.Pinned x g) after s of fit went works is =
+    at_work (stage.In x) s (sym (ap stage_in works.1) ∙ is) tt
+still_at_work own k site room old left turned asked (answer.Opened x g) after s of fit went works is =
+    at_work (stage.In x) s (sym (ap stage_in works.1) ∙ is) tt
+still_at_work own k site room old left turned asked (answer.Joined x) after s of fit went works is =
     at_work (stage.In x) s (sym (ap stage_in works.1) ∙ is) tt
 still_at_work own k site room old left turned asked (answer.Shared x g) after s of fit went works is =
     at_work (stage.In x) s (sym (ap stage_in works.1) ∙ is) tt
@@ -218,7 +257,7 @@ module _ {D : Type 0} (reads : D → ℕ → List ℕ → DeviceAnswer → List 
       quiet old new asked t.did asks.1 (way_out_calls x asked t.did asks.0 t.of)
   asked_calls (stage.Back returned) old asked new event work asks t = absurd work
   asked_calls (stage.Out errand) old asked new event work asks t =
-      let is = subst (λ r. Rattle.pp_pool.specs.Replies.IsMoveOf r t.did) asks.sent t.of in
+      let is = told_move asks.returned asked t.did asks.sent t.of in
       let c = answer_calls asks.returned.duty asks.returned.image (is_ok asks.returned.answer) t.did
       (λ none. work (sym (ap duty_worker asks.duty) ∙ none)) is in
       let a = asks.called in let b = asks.failed in let n = c.called in let m = c.failed in
@@ -231,7 +270,7 @@ module _ {D : Type 0} (reads : D → ℕ → List ℕ → DeviceAnswer → List 
   asked_of_worker (stage.Leaving x) old asked new work asks = way_of_worker x asked asks.0
   asked_of_worker (stage.Back returned) old asked new work asks = absurd work
   asked_of_worker (stage.Out errand) old asked new work asks =
-      subst (λ r. IsOfWorker r) (sym asks.sent) (λ none. work (sym (ap duty_worker asks.duty) ∙ none))
+      told_of_worker asks.returned asked asks.sent (λ none. work (sym (ap duty_worker asks.duty) ∙ none))
 
   -- A worker whose request came back as that of a chair has called no device.
   chair_calls_none : (s : Stage) (old : D) (asked : Request) (new : D) (t : Stage) → is_chair t ≡ true
@@ -241,7 +280,7 @@ module _ {D : Type 0} (reads : D → ℕ → List ℕ → DeviceAnswer → List 
   chair_calls_none (stage.Leaving x) old asked new t chair_t is asks = asks.1
   chair_calls_none (stage.Back returned) old asked new t chair_t is asks = asks.1
   chair_calls_none (stage.Out errand) old asked new t chair_t is asks =
-      let h : ◌≡◌ {A = Option Stage} (Some (stage.Back asks.returned)) (Some t) = sym (ap stage_asked asks.sent) ∙ is in
+      let h : ◌≡◌ {A = Option Stage} (Some (stage.Back asks.returned)) (Some t) = sym (told_stage asks.returned asked asks.sent) ∙ is in
       let e : stage.Back asks.returned ≡ t = cc in absurd (false≢true (ap is_chair e ∙ chair_t))
 
 -- ---- a turn
@@ -300,6 +339,8 @@ module _ {S D W : Type 0} (s : Site.Ghosts S) (d : Device.Ghosts D) (k : Work.Gh
   back_stage site room work turned asked (answer.Idle x) after t is_back fit uses is = absurd (false≢true is_back)
   back_stage site room work turned asked (answer.Leaves x) after t is_back fit uses is = absurd (false≢true is_back)
   back_stage site room work turned asked (answer.Pinned x g) after t is_back fit uses is = absurd (false≢true is_back)
+  back_stage site room work turned asked (answer.Opened x g) after t is_back fit uses is = absurd (false≢true is_back)
+  back_stage site room work turned asked (answer.Joined x) after t is_back fit uses is = absurd (false≢true is_back)
   back_stage site room work turned asked (answer.Shared x g) after t is_back fit uses is = absurd (false≢true is_back)
   back_stage site room work turned asked (answer.Exclusive x g) after t is_back fit uses is = absurd (false≢true is_back)
   back_stage site room work turned asked (answer.Away errand) after t is_back fit uses is = absurd (false≢true is_back)

@@ -1,7 +1,6 @@
 -- A vault to which plans were submitted, and in which nothing else was done, agrees with any device.
-use Rattle.std.proofs.Common.{◌≡◌, ◌∙◌, ℕ, zero, suc, Option, Some, None, List, [], ◌∷◌, false, Ok, Err, refl, sym, ap, subst}
-use Rattle.std.specs.Prelude.{slice_get, replicate, Result, is_ok}
-use Rattle.std.proofs.lemmas.Bool.{false≢true}
+use Rattle.std.proofs.Common.{◌≡◌, ℕ, zero, suc, Option, Some, None, List, [], ◌∷◌, false, Ok, Err, refl, subst}
+use Rattle.std.specs.Prelude.{slice_get, replicate, Result}
 use Rattle.pp_text.specs.Steps.{◌>>=◌}
 use Rattle.pp_arc.specs.FourLists.{is_cached}
 use Rattle.pp_cert.specs.Accepted.{Acceptance}

@@ -11,7 +11,6 @@ use Rattle.pp_play.specs.ByStates.{ComeInTurn}
 use Rattle.pp_play.specs.Following.{AllOver}
 use Rattle.pp_play.specs.declared.line.Line.{Line}
 use Rattle.pp_script.specs.Scripts.{Scenario}
-use Rattle.pp_script.specs.declared.cue.Cue.{Cue}
 use Rattle.pp_settings.specs.Layout.{page_count}
 use Rattle.pp_settings.specs.Settings.{Configuration, geometry_of}
 use Rattle.pp_contents.specs.Agreeing.{Agrees}

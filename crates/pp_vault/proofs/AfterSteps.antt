@@ -1,5 +1,5 @@
 -- What is told after a step of the core.
-use Rattle.std.proofs.Common.{◌≡◌, ◌∙◌, ℕ, Option, Some, None, sym, ap, subst}
+use Rattle.std.proofs.Common.{◌≡◌, ◌∙◌, ℕ, Bool, Option, Some, None, List, length, nat_lt, sym, ap, subst}
 use Rattle.std.specs.Prelude.{IsSome}
 use Rattle.pp_cert.specs.declared.note.Held.{Held}
 use Rattle.pp_model.specs.declared.moves.Move.{Move}
@@ -11,10 +11,11 @@ use Rattle.pp_model.specs.WorkerParts.{worker_of}
 use Rattle.pp_model.proofs.Alone.{flush_stays, settings_stay}
 use Rattle.pp_core.specs.Queries.{ask_of, held_of}
 use Rattle.pp_core.specs.StandsFor as core
-use Rattle.pp_core.proofs.Alike.{same_ask, same_held, same_mark}
+use Rattle.pp_core.proofs.Alike.{same_ask, same_held, same_bundle, same_mark}
 use Rattle.pp_vault.specs.Parts.{Parts}
 use Rattle.pp_vault.specs.StandsFor.{StandsFor, ImagesFit, IsKept}
 use Rattle.pp_vault.specs.Steps.{Stepped}
+use Rattle.pp_vault.specs.Fits.{is_gathered}
 use Rattle.pp_vault.specs.Tokens.{ActsIn}
 use Rattle.pp_vault.proofs.FitTests.{acts_by}
 use Rattle.pp_vault.proofs.Images.{fit_stays}
@@ -38,6 +39,12 @@ module _ (old new : Parts) (m : Move) (r : Reply) (kept : IsKept old) (moves : c
   pub held_after : (w slot : ℕ) (o : Option (ℕ × Held)) → held_of (next_of kept.state m) w slot ≡ o
       → (s : State) → StandsFor new s → held_of s w slot ≡ o
   held_after w slot o e s st = sym (same_held new.core (next_of kept.state m) s after.core st.core w slot) ∙ e
+
+  pub gathered_after : (w slot : ℕ) (b : Bool) → is_gathered (next_of kept.state m) w slot ≡ b
+      → (s : State) → StandsFor new s → is_gathered s w slot ≡ b
+  gathered_after w slot b e s st =
+      ap (λ (ps : List ℕ). nat_lt 0 (length ps))
+      (sym (same_bundle new.core (next_of kept.state m) s after.core st.core w slot)) ∙ e
 
   pub mark_after : (page : ℕ) (o : Option ℕ) → known_mark (next_of kept.state m) page ≡ o
       → (s : State) → StandsFor new s → known_mark s page ≡ o

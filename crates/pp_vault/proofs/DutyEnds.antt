@@ -23,6 +23,8 @@ never_refused old (Flush page) image ok back refusal new h = h
 pub ends_come : (old : Parts) (returned : Returned) (out : Answered) (new : Parts)
     → DutyEnds old returned.duty returned.image (is_ok returned.answer) out new → AnswerComesTo old returned out new
 ends_come old x (answered.Got session guard) new h = h
+ends_come old x (answered.Opened session guard) new h = h
+ends_come old x (answered.Joined session) new h = h
 ends_come old x (answered.Away errand) new h = h
 ends_come old x (answered.Lost leaver) new h = h
 ends_come old x (answered.Flushed clean) new h = h
@@ -34,6 +36,8 @@ ends_come old x (answered.No back refusal) new h =
 module _ (old new : Parts) (k : IsKept old) where
   ends_keep : (duty : Duty) (image : List ℕ) (ok : Bool) (out : Answered) → DutyEnds old duty image ok out new → IsKept new
   ends_keep (Read w slot page) image ok (answered.Got session guard) h = done_keeps old new _ k h.0
+  ends_keep (Read w slot page) image ok (answered.Opened session guard) h = done_keeps old new _ k h.0
+  ends_keep (Read w slot page) image ok (answered.Joined session) h = done_keeps old new _ k h.0
   ends_keep (Read w slot page) image ok (answered.Lost leaver) h = done_keeps old new _ k h.0
   ends_keep (Write w slot page victim) image ok (answered.Away errand) h = done_keeps old new _ k h.1
   ends_keep (Write w slot page victim) image ok (answered.Lost leaver) h = done_keeps old new _ k h.1
@@ -42,9 +46,13 @@ module _ (old new : Parts) (k : IsKept old) where
   ends_keep (Read w slot page) image ok (answered.Flushed clean) h = absurd h
   ends_keep (Read w slot page) image ok (answered.No back refusal) h = absurd h
   ends_keep (Write w slot page victim) image ok (answered.Got session guard) h = absurd h
+  ends_keep (Write w slot page victim) image ok (answered.Opened session guard) h = absurd h
+  ends_keep (Write w slot page victim) image ok (answered.Joined session) h = absurd h
   ends_keep (Write w slot page victim) image ok (answered.Flushed clean) h = absurd h
   ends_keep (Write w slot page victim) image ok (answered.No back refusal) h = absurd h
   ends_keep (Flush page) image ok (answered.Got session guard) h = absurd h
+  ends_keep (Flush page) image ok (answered.Opened session guard) h = absurd h
+  ends_keep (Flush page) image ok (answered.Joined session) h = absurd h
   ends_keep (Flush page) image ok (answered.Away errand) h = absurd h
   ends_keep (Flush page) image ok (answered.Lost leaver) h = absurd h
   ends_keep (Flush page) image ok (answered.No back refusal) h = absurd h
@@ -52,6 +60,8 @@ module _ (old new : Parts) (k : IsKept old) where
 pub answer_keeps : (old new : Parts) (returned : Returned) (out : Answered) → IsKept old
     → AnswerComesTo old returned out new → IsKept new
 answer_keeps old new x (answered.Got session guard) k h = ends_keep old new k x.duty x.image (is_ok x.answer) _ h
+answer_keeps old new x (answered.Opened session guard) k h = ends_keep old new k x.duty x.image (is_ok x.answer) _ h
+answer_keeps old new x (answered.Joined session) k h = ends_keep old new k x.duty x.image (is_ok x.answer) _ h
 answer_keeps old new x (answered.Away errand) k h = ends_keep old new k x.duty x.image (is_ok x.answer) _ h
 answer_keeps old new x (answered.Lost leaver) k h = ends_keep old new k x.duty x.image (is_ok x.answer) _ h
 answer_keeps old new x (answered.Flushed clean) k h = ends_keep old new k x.duty x.image (is_ok x.answer) _ h

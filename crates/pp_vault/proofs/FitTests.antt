@@ -1,6 +1,7 @@
 -- What the tests of tokens tell.
-use Rattle.std.proofs.Common.{◌≡◌, ◌∙◌, ℕ, Bool, true, false, Option, Some, None, refl, sym, ap, arith}
-use Rattle.std.specs.Prelude.{◌&&◌, ◌==◌, IsSome, option_map, unwrap_or}
+use Rattle.std.proofs.Common.{◌≡◌, ◌∙◌, ℕ, ◌<◌, Bool, true, false, Option, Some, None, [], ◌∷◌, List, length, nat_lt}
+use Rattle.std.proofs.Common.{inl, inr, refl, sym, ap, arith}
+use Rattle.std.specs.Prelude.{◌&&◌, ◌==◌, IsSome, option_map, unwrap_or, if◌then◌else◌}
 use Rattle.std.proofs.lemmas.Bool.{false≢true}
 use Rattle.std.proofs.lemmas.Bool.Decides.{nat_tests}
 use Rattle.pp_plan.specs.declared.mode.Mode.{Mode}
@@ -13,11 +14,12 @@ use Rattle.pp_cert.specs.Held.{Holding, holding_at}
 use Rattle.pp_model.specs.Pool.{Stage, acting, writing, reading, leaving, Running, State}
 use Rattle.pp_model.specs.Holders.{holdings, page_in, held_in}
 use Rattle.pp_model.specs.Moves.{asked_by, seat_of}
-use Rattle.pp_core.specs.Queries.{own_of, ask_in, ask_by, ask_of, held_by, held_of}
-use Rattle.pp_core.proofs.PlainSlots.{own_told}
+use Rattle.pp_model.specs.Reached.{IsReached}
+use Rattle.pp_core.specs.Queries.{own_of, ask_in, ask_by, ask_of, held_by, held_of, bundle_of, gathered_of}
+use Rattle.pp_core.proofs.AfterMoves.{after_moves}
 use Rattle.pp_vault.specs.Calls.{Call}
-use Rattle.pp_vault.specs.Fits.{is_acting_by, is_acting, is_same_held, is_held_by, is_held_so, asks_unfix, is_same_mode}
-use Rattle.pp_vault.specs.Fits.{asks_latch, asks_unlatch, guard_call, fits_both}
+use Rattle.pp_vault.specs.Fits.{is_acting_by, is_acting, is_same_held, is_held_by, is_held_so, is_gathered, IsEmpty}
+use Rattle.pp_vault.specs.Fits.{is_same_mode, asks_unfix, asks_scatter, asks_latch, asks_unlatch, guard_call, fits_both, bundle_fits}
 
 -- ---- tests
 
@@ -64,6 +66,17 @@ unfix_asked slot (Some (ask.Scatter of)) e = absurd (false≢true e)
 unfix_asked slot (Some (ask.Choose count)) e = absurd (false≢true e)
 unfix_asked slot (Some ask.End) e = absurd (false≢true e)
 
+pub scatter_asked : (slot : ℕ) (o : Option Ask) → asks_scatter slot o ≡ true → o ≡ Some (ask.Scatter slot)
+scatter_asked slot None e = absurd (false≢true e)
+scatter_asked slot (Some (ask.Fix of region)) e = absurd (false≢true e)
+scatter_asked slot (Some (ask.Unfix of)) e = absurd (false≢true e)
+scatter_asked slot (Some (ask.Latch of m)) e = absurd (false≢true e)
+scatter_asked slot (Some (ask.Unlatch of)) e = absurd (false≢true e)
+scatter_asked slot (Some (ask.Gather of region)) e = absurd (false≢true e)
+scatter_asked slot (Some (ask.Scatter of)) e = ap (λ n. Some (ask.Scatter n)) (sym (nat_is slot of e))
+scatter_asked slot (Some (ask.Choose count)) e = absurd (false≢true e)
+scatter_asked slot (Some ask.End) e = absurd (false≢true e)
+
 pub latch_asked : (slot : ℕ) (m : Mode) (o : Option Ask) → asks_latch slot m o ≡ true → o ≡ Some (ask.Latch slot m)
 latch_asked slot m None e = absurd (false≢true e)
 latch_asked slot m (Some (ask.Fix of region)) e = absurd (false≢true e)
@@ -105,6 +118,10 @@ guard_held s w of slot page held e =
     slot_held s w slot page held
     (both_hold (is_acting s w && (of == w)) (is_held_so s w slot page held) e).1
 
+-- The slot of a bundle's guard that fits is a bundle.
+pub guard_gathered : (s : State) (w of slot : ℕ) → bundle_fits s w of slot ≡ true → is_gathered s w slot ≡ true
+guard_gathered s w of slot e = (both_hold (is_acting s w && (of == w)) (is_gathered s w slot) e).1
+
 -- A call whose tokens fit, and which the plan asks.
 pub guard_asks : (fits asked : Bool) (call : Call) → fits ≡ true → asked ≡ true → guard_call fits asked call ≡ call
 guard_asks true true call e f = refl
@@ -139,6 +156,21 @@ asking_by s w a (Some (Some r)) f e = record { run = r; seat = f; ask = asking_i
 pub asking : (s : State) (w : ℕ) (a : Ask) → ask_of s w ≡ Some a → Asking s w a
 asking s w a e = asking_by s w a (seat_of s w) refl e
 
+-- A page of the slot's own is told, and a bundle's isn't.
+abbrev own_unless : Bool → Holding → Option (ℕ × Held)
+own_unless b x = if b then None else Some (x.page, x.held)
+
+pub own_is : (x : Holding) → x.bundled ≡ false → own_of (Some x) ≡ Some (x.page, x.held)
+own_is x plain = ap (λ b. own_unless b x) plain
+
+pub own_told : (x : Holding) (page : ℕ) (how : Held) → own_of (Some x) ≡ Some (page, how)
+    → ◌≡◌ {A = ℕ × Held} (x.page, x.held) (page, how)
+own_told x page how told = go x.bundled told
+  where
+    go : (b : Bool) → own_unless b x ≡ Some (page, how) → ◌≡◌ {A = ℕ × Held} (x.page, x.held) (page, how)
+    go true e = absurd (none_some e)
+    go false e = some_some (page, how) (x.page, x.held) (page, how) e
+
 pub record Holds (r : Running) (slot page : ℕ) (held : Held) : Type 0 where
   pub page_is : page_in r slot ≡ page
   pub held_is : held_in r slot ≡ held
@@ -157,3 +189,43 @@ pub holds : (s : State) (w slot page : ℕ) (held : Held) (r : Running) → seat
     → held_of s w slot ≡ Some (page, held) → Holds r slot page held
 holds s w slot page held r seat e =
     holds_by r slot page held (holding_at (holdings r) slot) refl (sym (ap (λ o. held_by o slot) seat) ∙ e)
+
+-- ---- bundles
+
+-- A slot is a bundle where pages of one are in it.
+pub some_pins : (pins : ℕ) → 0 < pins → nat_lt 0 pins ≡ true
+some_pins pins some = grind (arith, nat_tests)
+
+pins_some : (pins : ℕ) → nat_lt 0 pins ≡ true → 0 < pins
+pins_some pins e = grind (arith, nat_tests)
+
+pub gathered_some : (s : State) (w slot : ℕ) → is_gathered s w slot ≡ true → 0 < gathered_of s w slot
+gathered_some s w slot e = pins_some (gathered_of s w slot) e
+
+pub none_gathered : (s : State) (w slot : ℕ) → bundle_of s w slot ≡ [] → is_gathered s w slot ≡ false
+none_gathered s w slot e = ap (λ (ps : List ℕ). nat_lt 0 (length ps)) e
+
+-- A slot that has no page of its own and no page of a bundle is empty.
+pub empty_by : (s : State) (w slot : ℕ) → held_of s w slot ≡ None → bundle_of s w slot ≡ [] → IsEmpty s w slot
+empty_by s w slot page bundle = record { no_page = page; no_bundle = none_gathered s w slot bundle }
+
+pub page_gathered : (s : State) (w slot page : ℕ) (ps : List ℕ) → bundle_of s w slot ≡ page ∷ ps
+    → is_gathered s w slot ≡ true
+page_gathered s w slot page ps e =
+    ap (λ (ps : List ℕ). nat_lt 0 (length ps)) e ∙ some_pins (length (page ∷ ps)) (omega arith)
+
+-- No slot has a page of its own and is a bundle.
+pub own_alone : (s : State) → IsReached s → (w slot : ℕ) (x : ℕ × Held) → held_of s w slot ≡ Some x
+    → is_gathered s w slot ≡ false
+own_alone s h w slot x held =
+    elim ((after_moves s h).one_kind w slot) [
+      | inl none ↦ absurd (none_some (sym none ∙ held))
+      | inr e ↦ none_gathered s w slot e
+    ]
+
+pub bundle_alone : (s : State) → IsReached s → (w slot : ℕ) → is_gathered s w slot ≡ true → held_of s w slot ≡ None
+bundle_alone s h w slot is =
+    elim ((after_moves s h).one_kind w slot) [
+      | inl none ↦ none
+      | inr e ↦ absurd (false≢true (sym (none_gathered s w slot e) ∙ is))
+    ]

@@ -3,7 +3,7 @@ use Rattle.std.proofs.Common.{◌≡◌, ℕ, sym, subst}
 use Rattle.pp_model.specs.Pool.{State}
 use Rattle.pp_vault.specs.declared.tokens.Session.{Session}
 use Rattle.pp_vault.specs.declared.fixing.Fixed.{Fixed}
-use Rattle.pp_vault.specs.declared.fixing.Fixed.TheVariants.{Got, Away, No}
+use Rattle.pp_vault.specs.declared.fixing.Fixed.TheVariants.{Got, Opened, Joined, Away, No}
 use Rattle.pp_vault.specs.Parts.{Parts}
 use Rattle.pp_vault.specs.StandsFor.{StandsFor, IsKept}
 use Rattle.pp_vault.specs.Calls.{Call, after_call}
@@ -22,5 +22,7 @@ untold_keeps old new k e =
 pub fix_keeps : (old new : Parts) (x : Session) (page : ℕ) (out : Fixed) → IsKept old
     → FixAnswers old x page out new → IsKept new
 fix_keeps old new x page (Got session guard) k h = done_keeps old new _ k h.0
+fix_keeps old new x page (Opened session guard) k h = done_keeps old new _ k h.0
+fix_keeps old new x page (Joined session) k h = done_keeps old new _ k h.0
 fix_keeps old new x page (Away errand) k h = done_keeps old new _ k h.0
 fix_keeps old new x page (No session refusal) k h = untold_keeps old new k h.2

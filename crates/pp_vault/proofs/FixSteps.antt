@@ -1,7 +1,7 @@
 -- A fix: what the core's step did, and what becomes of the images.
-use Rattle.std.proofs.Common.{◌≡◌, ◌≢◌, ◌∙◌, ℕ, ◌<◌, Bool, true, false, not, Option, Some, None, List, length}
-use Rattle.std.proofs.Common.{refl, sym, ap, subst}
-use Rattle.std.specs.Prelude.{option_and_then, slice_set, unwrap_or, option_map, IsSome, if◌then◌else◌, ◌||◌, IsTrue}
+use Rattle.std.proofs.Common.{◌≡◌, ◌≢◌, ◌∙◌, ◌⊎◌, inl, inr, ℕ, suc, ◌<◌, ◌≤◌, Bool, true, false, not, Option, Some, None, List}
+use Rattle.std.proofs.Common.{length, nat_lt, refl, sym, ap, subst, arith}
+use Rattle.std.specs.Prelude.{option_and_then, slice_set, unwrap_or, option_map, IsSome, if◌then◌else◌, ◌||◌, ◌==◌, IsTrue}
 use Rattle.std.specs.Option.{is_some}
 use Rattle.std.proofs.lemmas.Bool.{false≢true}
 use Rattle.pp_plan.specs.declared.action.Ask.{Ask}
@@ -11,7 +11,7 @@ use Rattle.pp_model.specs.declared.moves.Move.TheVariants.{Fix}
 use Rattle.pp_model.specs.declared.reply.Reply.{Reply}
 use Rattle.pp_model.specs.declared.reply.Reply.TheVariants as reply
 use Rattle.pp_model.specs.declared.reply.Reply.TheVariants.{Hit, MustRead, MustWrite}
-use Rattle.pp_model.specs.Pool.{State, known_mark, mark_at}
+use Rattle.pp_model.specs.Pool.{State, frame_of, known_mark, mark_at}
 use Rattle.pp_model.specs.Moves.{reply_of, next_of, is_refusal}
 use Rattle.pp_model.specs.Ready.{Standing, StandsIn, ready_at, is_away_at, is_still, ImageGoes, Leaves, Vacates}
 use Rattle.pp_model.specs.Ready.{empty, takes}
@@ -21,27 +21,27 @@ use Rattle.pp_model.proofs.Alone.{settings_stay, flush_stays}
 use Rattle.pp_model.proofs.ReadyLaws.{still_keeps, ready_are_apart, ready_stand, read_vacates, write_leaves}
 use Rattle.pp_model.proofs.Requests.{same, other, which}
 use Rattle.pp_core.specs.StandsFor as core
-use Rattle.pp_core.specs.Queries.{ask_of, held_of, errand_of}
-use Rattle.pp_core.specs.AfterMoves.{AfterMoves}
+use Rattle.pp_core.specs.Queries.{ask_of, held_of, bundle_of, gathered_of, errand_of}
+use Rattle.pp_core.specs.AfterMoves.{AfterMoves, HasFixed, HasGathered, wanted_of}
 use Rattle.pp_core.specs.Fixing.{wanted}
 use Rattle.pp_core.proofs.AfterMoves.{after_moves}
-use Rattle.pp_core.proofs.PlainSlots.{fix_found}
-use Rattle.pp_core.proofs.Alike.{same_ask, same_held, same_errand, same_mark}
+use Rattle.pp_core.proofs.Alike.{same_ask, same_held, same_bundle, same_errand, same_mark}
 use Rattle.pp_device.specs.Image.{head_of}
+use Rattle.pp_vault.specs.declared.refusal.Refusal.TheVariants.{Stranger}
 use Rattle.pp_vault.specs.declared.tokens.Session.{Session}
 use Rattle.pp_vault.specs.declared.tokens.Duty.TheVariants.{Read, Write}
 use Rattle.pp_vault.specs.Parts.{Parts}
 use Rattle.pp_vault.specs.StandsFor.{image_in, IsRight, ImagesFit, StandsFor, IsKept}
-use Rattle.pp_vault.specs.Calls.{asks, stranger}
-use Rattle.pp_vault.specs.Fits.{is_acting_by, names_slot, fix_call}
-use Rattle.pp_vault.specs.ImageMoves.{TakenOut}
+use Rattle.pp_vault.specs.Calls.{asks, stranger, refusal_of}
+use Rattle.pp_vault.specs.Fits.{is_acting_by, is_gathered, fix_slot, names_slot, asked_at, fix_call}
+use Rattle.pp_vault.specs.ImageMoves.{TakenOut, ImagesStay}
 use Rattle.pp_vault.specs.Steps.{Stepped}
-use Rattle.pp_vault.specs.Events.{Does}
+use Rattle.pp_vault.specs.Events.{Refuses, Does}
 use Rattle.pp_vault.specs.Tokens.{ActsIn, SessionFits, ErrandFits}
-use Rattle.pp_vault.specs.Fixes.{IsHit, IsSent}
+use Rattle.pp_vault.specs.Fixes.{Gathers, IsHit, OpensBundle, JoinsBundle, IsSent}
 use Rattle.pp_vault.proofs.Images.{fit_stays, fit_out}
 use Rattle.pp_vault.proofs.Done.{does}
-use Rattle.pp_vault.proofs.FitTests.{nat_is}
+use Rattle.pp_vault.proofs.FitTests.{nat_is, none_some, some_some, some_pins, empty_by, page_gathered}
 
 pub acts_by : (o : Option Ask) → IsSome o → is_acting_by o ≡ true
 acts_by None h = absurd (false≢true h)
@@ -107,14 +107,82 @@ other_fix w page (reply.Flushed clean) d h nh nr nw = false≢true h
 other_fix w page (reply.NotNow delay) d h nh nr nw = false≢true (sym d)
 other_fix w page (reply.OffPlan cause) d h nh nr nw = false≢true (sym d)
 
--- A plan asks this fix, and the session tells its slot.
-same_fix : (told slot region : ℕ) (o : Option Ask) → o ≡ Some (ask.Fix slot region) → names_slot told o ≡ true
-    → slot ≡ told
-same_fix told slot region o e names =
-    sym (nat_is told slot (ap (names_slot told) (sym e) ∙ names))
+-- ---- what the plan asks, of the slot that the session tells
 
-module _ (old mid : Parts) (w slot page : ℕ) (r : Reply) (did : Stepped old mid (Fix w page) r)
-    (names : (s : State) → StandsFor old s → names_slot slot (ask_of s w) ≡ true) where
+-- It is a fix or a gather into the slot.
+abbrev pub Wants : (slot : ℕ) → Ask → Type 0
+Wants slot a = ((region : ℕ) × (a ≡ ask.Fix slot region)) ⊎ ((region : ℕ) × (a ≡ ask.Gather slot region))
+
+wants_by : (slot : ℕ) (a : Ask) (f : ℕ × ℕ) → wanted a ≡ Some f → (slot == fix_slot a) ≡ true → Wants slot a
+wants_by slot (ask.Fix k region) f e is = inl (region, ap (λ n. ask.Fix n region) (sym (nat_is slot k is)))
+wants_by slot (ask.Gather k region) f e is = inr (region, ap (λ n. ask.Gather n region) (sym (nat_is slot k is)))
+wants_by slot (ask.Unfix k) f e is = absurd (none_some e)
+wants_by slot (ask.Latch k m) f e is = absurd (none_some e)
+wants_by slot (ask.Unlatch k) f e is = absurd (none_some e)
+wants_by slot (ask.Scatter k) f e is = absurd (none_some e)
+wants_by slot (ask.Choose count) f e is = absurd (none_some e)
+wants_by slot ask.End f e is = absurd (none_some e)
+
+wants_page : (slot : ℕ) (a : Ask) → Wants slot a → (region : ℕ) × (wanted a ≡ Some (slot, region))
+wants_page slot a h =
+    elim h [
+      | inl f ↦ (f.0, ap wanted f.1)
+      | inr f ↦ (f.0, ap wanted f.1)
+    ]
+
+abbrev gathers : Ask → Bool
+gathers (ask.Gather k region) = true
+gathers _ = false
+
+fix_is : (slot : ℕ) (a : Ask) → Wants slot a → ((k region : ℕ) → a ≡ ask.Gather k region → ⊥)
+    → (region : ℕ) × (a ≡ ask.Fix slot region)
+fix_is slot a h plain =
+    elim h [
+      | inl f ↦ f
+      | inr f ↦ absurd (plain slot f.0 f.1)
+    ]
+
+gather_is : (slot : ℕ) (a : Ask) → Wants slot a → (k region : ℕ) → a ≡ ask.Gather k region
+    → (region : ℕ) × (a ≡ ask.Gather slot region)
+gather_is slot a h k region is =
+    elim h [
+      | inl f ↦ absurd (false≢true (ap gathers (sym f.1 ∙ is)))
+      | inr f ↦ f
+    ]
+
+pub record AskedAt (slot : ℕ) (o : Option Ask) (a : Ask) : Type 0 where
+  pub is : o ≡ Some a
+  pub names : names_slot slot o ≡ true
+  pub named : (slot == fix_slot a) ≡ true
+
+asked_there : (slot : ℕ) (b a : Ask) (t : Bool) → (slot == fix_slot b) ≡ t
+    → ◌≡◌ {A = Option Ask} (if t then Some b else None) (Some a) → AskedAt slot (Some b) a
+asked_there slot b a true at e =
+    let same : b ≡ a = some_some a b a e in
+    record { is = e; names = at; named = ap (λ k. slot == fix_slot k) (sym same) ∙ at }
+asked_there slot b a false at e = absurd (none_some e)
+
+asked_so : (slot : ℕ) (o : Option Ask) (a : Ask) → asked_at slot o ≡ Some a → AskedAt slot o a
+asked_so slot None a e = absurd (none_some e)
+asked_so slot (Some b) a e = asked_there slot b a (slot == fix_slot b) refl e
+
+-- A session is a stranger's where the plan asks nothing of its slot.
+no_name : (slot : ℕ) (o : Option Ask) → asked_at slot o ≡ None → names_slot slot o ≡ false
+no_name slot None e = refl
+no_name slot (Some b) e = go (slot == fix_slot b) refl e
+  where
+    go : (t : Bool) → (slot == fix_slot b) ≡ t → ◌≡◌ {A = Option Ask} (if t then Some b else None) None
+        → (slot == fix_slot b) ≡ false
+    go true at e = absurd (none_some (sym e))
+    go false at e = at
+
+pub strange : (old : Parts) (w slot page : ℕ)
+    → ((s : State) → StandsFor old s → asked_at slot (ask_of s w) ≡ None) → Refuses old (fix_call w slot page) Stranger
+strange old w slot page none s st =
+    ap (λ b. refusal_of s (if b then asks (Fix w page) else stranger)) (no_name slot (ask_of s w) (none s st))
+
+module _ (old mid : Parts) (w slot page : ℕ) (r : Reply) (did : Stepped old mid (Fix w page) r) (asks_this : Ask)
+    (told : (s : State) → StandsFor old s → asked_at slot (ask_of s w) ≡ Some asks_this) where
   abbrev next : State → State
   next s = next_of s (Fix w page)
 
@@ -126,15 +194,23 @@ module _ (old mid : Parts) (w slot page : ℕ) (r : Reply) (did : Stepped old mi
   laws : (s : State) → StandsFor old s → AfterMoves s
   laws s st = after_moves s st.core.reached
 
-  found : (s : State) → StandsFor old s → (slot : ℕ) × (region : ℕ) × (ask_of s w ≡ Some (ask.Fix slot region))
-  found s st = fix_found s st.core.reached w page (ap is_refusal (answer s st) ∙ did.done)
+  there_asked : (s : State) → StandsFor old s → AskedAt slot (ask_of s w) asks_this
+  there_asked s st = asked_so slot (ask_of s w) asks_this (told s st)
+
+  names : (s : State) → StandsFor old s → names_slot slot (ask_of s w) ≡ true
+  names s st = (there_asked s st).names
+
+  wants : (s : State) → StandsFor old s → Wants slot asks_this
+  wants s st =
+      let f = (laws s st).found (Fix w page) (ap is_refusal (answer s st) ∙ did.done) in
+      wants_by slot asks_this (f.0, f.1) (ap (option_and_then wanted) (sym (there_asked s st).is) ∙ f.2)
+      (there_asked s st).named
 
   -- The slot that the plan names.
-  asked : (s : State) → StandsFor old s → (region : ℕ) × (ask_of s w ≡ Some (ask.Fix slot region))
+  asked : (s : State) → StandsFor old s → (region : ℕ) × (wanted_of s w ≡ Some (slot, region))
   asked s st =
-      let f = found s st in
-      let same = same_fix slot f.0 f.1 (ask_of s w) f.2 (names s st) in
-      (f.1, f.2 ∙ ap (λ n. Some (ask.Fix n f.1)) same)
+      let f = wants_page slot asks_this (wants s st) in
+      (f.0, ap (option_and_then wanted) (there_asked s st).is ∙ f.1)
 
   calls : (s : State) → StandsFor old s → fix_call w slot page s ≡ asks (Fix w page)
   calls s st = ap (λ b. if b then asks (Fix w page) else stranger) (names s st)
@@ -178,46 +254,122 @@ module _ (old mid : Parts) (w slot page : ℕ) (r : Reply) (did : Stepped old mi
 
     acting : (s : State) → StandsFor old s → IsSome (ask_of (next s) w)
     acting s st =
-        let f = found s st in
-        ((laws s st).hit w page f.0 f.1 frame mark (answer s st ∙ e) f.2).acts
+        elim (wants s st) [
+          | inl f ↦
+              ((laws s st).hit w page slot f.0 frame mark (answer s st ∙ e)
+              ((there_asked s st).is ∙ ap {B = Option Ask} Some f.1)).acts
+          | inr f ↦
+              ((laws s st).hit_gather w page slot f.0 frame mark (answer s st ∙ e)
+              ((there_asked s st).is ∙ ap {B = Option Ask} Some f.1)).acts
+        ]
 
     pub hit_acts : IsKept old → ActsIn mid w
     hit_acts k t b =
         ap is_acting_by (same_ask mid.core t (next k.state) b.core (did.moves.stands k.state k.stands.core) w)
         ∙ acts_by (ask_of (next k.state) w) (acting k.state k.stands)
 
+    replies : (s : State) → StandsFor old s
+        → (frame : ℕ) × (mark : ℕ) × (reply_of s (Fix w page) ≡ Hit frame mark)
+        × (frame_of (next s) page ≡ Some frame)
+    replies s st = (frame, mark, answer s st ∙ e, (laws s st).hit_frame w page frame mark (answer s st ∙ e))
+
+    stay : ImagesStay old mid
+    stay =
+        record {
+          images = ap (λ (p : Parts). p.images) did.rest;
+          spare = ap (λ (p : Parts). p.spare) did.rest;
+        }
+
     module _ (k : IsKept old) (x : Session) (fits : SessionFits mid w x) where
-      hit_held : (s : State) (st : StandsFor old s) → held_of (next s) w slot ≡ Some (page, Free)
-      hit_held s st =
-          let now = asked s st in
-          ((laws s st).hit w page slot now.0 frame mark (answer s st ∙ e) now.1).held
+      -- The slot holds the page.
+      module _ (plain : (n region : ℕ) → asks_this ≡ ask.Gather n region → ⊥) where
+        fix_asked : (s : State) → StandsFor old s → (region : ℕ) × (ask_of s w ≡ Some (ask.Fix slot region))
+        fix_asked s st =
+            let f = fix_is slot asks_this (wants s st) plain in
+            (f.0, (there_asked s st).is ∙ ap {B = Option Ask} Some f.1)
 
-      pub hit_is : IsHit old mid w page x (record { worker = w; slot = slot; page = page })
-      hit_is =
-          record {
-            replies = λ s st. (
-              frame,
-              mark,
-              answer s st ∙ e,
-              (laws s st).hit_frame w page frame mark (answer s st ∙ e),
-            );
-            asked = asked;
-            session = fits;
-            guard = record {
-              worker = refl;
-              held = λ t b.
-                  same_held mid.core t (next k.state) b.core (did.moves.stands k.state k.stands.core) w slot
-                  ∙ hit_held k.state k.stands;
-            };
-            of_page = refl;
-            images = record {
-              images = ap (λ (p : Parts). p.images) did.rest;
-              spare = ap (λ (p : Parts). p.spare) did.rest;
-            };
-          }
+        fixed : (s : State) (st : StandsFor old s) → HasFixed s (next s) w slot page mark
+        fixed s st =
+            let now = fix_asked s st in (laws s st).hit w page slot now.0 frame mark (answer s st ∙ e) now.1
 
-      pub hit_at : (n : ℕ) → n ≡ slot → IsHit old mid w page x (record { worker = w; slot = n; page = page })
-      hit_at n is = subst (λ k. IsHit old mid w page x (record { worker = w; slot = k; page = page })) (sym is) hit_is
+        pub hit_is : IsHit old mid w page x (record { worker = w; slot = slot; page = page })
+        hit_is =
+            record {
+              replies = replies;
+              asked = fix_asked;
+              was = λ s st. empty_by s w slot (fixed s st).empty (fixed s st).no_bundle;
+              session = fits;
+              guard = record {
+                worker = refl;
+                held = λ t b.
+                    same_held mid.core t (next k.state) b.core (did.moves.stands k.state k.stands.core) w slot
+                    ∙ (fixed k.state k.stands).held;
+              };
+              of_page = refl;
+              images = stay;
+            }
+
+        pub hit_at : (n : ℕ) → n ≡ slot → IsHit old mid w page x (record { worker = w; slot = n; page = page })
+        hit_at n is = subst (λ k. IsHit old mid w page x (record { worker = w; slot = k; page = page })) (sym is) hit_is
+
+      -- The page is in the slot's bundle, which has so many now.
+      module _ (n : ℕ) (is : n ≡ slot) (m region : ℕ) (by : asks_this ≡ ask.Gather m region) (pins : ℕ)
+          (count : (t : State) → core.StandsFor mid.core t → pins ≡ gathered_of t w n) where
+        gather_asked : (s : State) → StandsFor old s → (region : ℕ) × (ask_of s w ≡ Some (ask.Gather slot region))
+        gather_asked s st =
+            let f = gather_is slot asks_this (wants s st) m region by in
+            (f.0, (there_asked s st).is ∙ ap {B = Option Ask} Some f.1)
+
+        has : (s : State) → StandsFor old s → HasGathered s (next s) w slot page mark
+        has s st =
+            let now = gather_asked s st in
+            (laws s st).hit_gather w page slot now.0 frame mark (answer s st ∙ e) now.1
+
+        gathered_now : Gathers old mid w slot page
+        gathered_now s t st b =
+            same_bundle mid.core t (next s) b.core (did.moves.stands s st.core) w slot ∙ (has s st).more
+
+        pins_are : (s : State) → StandsFor old s → pins ≡ suc (gathered_of s w slot)
+        pins_are s st =
+            count (next s) (did.moves.stands s st.core) ∙ ap (gathered_of (next s) w) is
+            ∙ ap (λ (ps : List ℕ). length ps) (has s st).more
+
+        was_none : pins ≤ 1 → (s : State) → StandsFor old s → is_gathered s w slot ≡ false
+        was_none few s st =
+            let none : gathered_of s w slot ≡ 0 = omega (arith, few, pins_are s st) in ap (nat_lt 0) none
+
+        was_some : 1 < pins → (s : State) → StandsFor old s → is_gathered s w slot ≡ true
+        was_some more s st = some_pins (gathered_of s w slot) (omega (arith, more, pins_are s st))
+
+        opens : pins ≤ 1 → OpensBundle old mid w page x (record { worker = w; slot = slot })
+        opens few =
+            record {
+              replies = replies;
+              asked = gather_asked;
+              was = λ s st. record { no_page = (has s st).no_page; no_bundle = was_none few s st };
+              session = fits;
+              guard = record {
+                worker = refl;
+                gathered = λ t b.
+                    page_gathered t w slot page (bundle_of k.state w slot) (gathered_now k.state t k.stands b);
+              };
+              gathers = gathered_now;
+              images = stay;
+            }
+
+        pub opens_at : pins ≤ 1 → OpensBundle old mid w page x (record { worker = w; slot = n })
+        opens_at few = subst (λ i. OpensBundle old mid w page x (record { worker = w; slot = i })) (sym is) (opens few)
+
+        pub joins : 1 < pins → JoinsBundle old mid w slot page x
+        joins more =
+            record {
+              replies = replies;
+              asked = gather_asked;
+              was = was_some more;
+              session = fits;
+              gathers = gathered_now;
+              images = stay;
+            }
 
   -- ---- an image that leaves its frame
 
@@ -290,8 +442,7 @@ module _ (old mid : Parts) (w slot page : ℕ) (r : Reply) (did : Stepped old mi
       read_errand : errand_of (next k.state) w ≡ Some (slot, page, None)
       read_errand =
           let now = asked k.state k.stands in
-          ((laws k.state k.stands).sent w page slot now.0 frame (answer k.state k.stands ∙ e)
-          (ap (option_and_then wanted) now.1)).errand
+          ((laws k.state k.stands).sent w page slot now.0 frame (answer k.state k.stands ∙ e) now.1).errand
 
       pub read_answers : Does old (fix_call w slot page) new × IsSent old new w page image (Read w slot page)
           × ErrandFits new (record { duty = Read w slot page; image = image })
@@ -350,8 +501,7 @@ module _ (old mid : Parts) (w slot page : ℕ) (r : Reply) (did : Stepped old mi
       write_errand : errand_of (next k.state) w ≡ Some (slot, page, Some victim)
       write_errand =
           let now = asked k.state k.stands in
-          ((laws k.state k.stands).sent_victim w page slot now.0 frame victim (answer k.state k.stands ∙ e)
-          (ap (option_and_then wanted) now.1)).errand
+          ((laws k.state k.stands).sent_victim w page slot now.0 frame victim (answer k.state k.stands ∙ e) now.1).errand
 
       -- The victim's mark stays as its write begins.
       mark_next : known_mark (next k.state) victim ≡ Some (mark_at k.state victim)

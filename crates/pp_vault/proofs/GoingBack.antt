@@ -1,6 +1,6 @@
 -- A writer's image that comes back to its frame, as its latch X goes off the page.
 use Rattle.std.proofs.Common.{◌≡◌, ◌≢◌, ◌∙◌, ◌⊎◌, ℕ, ◌+◌, ◌<◌, Option, Some, None, List, length, refl, sym, ap, subst}
-use Rattle.std.specs.Prelude.{slice_set, unwrap_or, IsSome, option_map}
+use Rattle.std.specs.Prelude.{slice_set, unwrap_or, IsSome}
 use Rattle.pp_cert.specs.declared.note.Held.{Held}
 use Rattle.pp_cert.specs.declared.note.Held.TheVariants.{X}
 use Rattle.pp_cert.specs.Held.{Holding, holding_at}
@@ -16,7 +16,6 @@ use Rattle.pp_model.proofs.FrameLaws.{found_is_known}
 use Rattle.pp_model.proofs.ReadyLaws.{exclusive_are_away}
 use Rattle.pp_core.specs.StandsFor as core
 use Rattle.pp_core.specs.Queries.{own_of, held_by, held_of}
-use Rattle.pp_core.proofs.PlainSlots.{own_told}
 use Rattle.pp_device.specs.Image.{with_head, head_of}
 use Rattle.pp_vault.specs.Parts.{Parts}
 use Rattle.pp_vault.specs.StandsFor.{StandsFor, IsKept}
@@ -27,7 +26,7 @@ use Rattle.pp_vault.specs.ImageMoves.{PutIn}
 use Rattle.pp_vault.specs.Uses.{IsPutBack}
 use Rattle.pp_vault.proofs.BackSteps as back
 use Rattle.pp_vault.proofs.ErrandSteps.{entered}
-use Rattle.pp_vault.proofs.FitTests.{none_some, some_some}
+use Rattle.pp_vault.proofs.FitTests.{none_some, own_told}
 
 -- ---- the page of a slot that is latched X
 

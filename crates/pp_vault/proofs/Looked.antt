@@ -1,9 +1,8 @@
 -- A page that a slot has latched S has its image in its frame, which names the page and its mark.
 use Rattle.std.proofs.Common.{◌≡◌, ◌∙◌, ℕ, true, Option, Some, None, List, refl, sym, ap, subst}
-use Rattle.std.specs.Prelude.{option_map, unwrap_or, ◌==◌}
+use Rattle.std.specs.Prelude.{option_map, ◌==◌}
 use Rattle.std.specs.Option.{is_some}
 use Rattle.std.proofs.lemmas.Bool.{false≢true}
-use Rattle.pp_cert.specs.declared.note.Held.{Held}
 use Rattle.pp_cert.specs.declared.note.Held.TheVariants.{S}
 use Rattle.pp_cert.specs.Held.{Holding, holding_at}
 use Rattle.pp_model.specs.Pool.{Running, State, frame_of, frame_at}
@@ -13,14 +12,13 @@ use Rattle.pp_model.specs.Reached.{IsReached}
 use Rattle.pp_model.specs.Ready.{ready_at, standing_of}
 use Rattle.pp_model.proofs.ReadyLaws.{shared_are_ready, ready_stand}
 use Rattle.pp_core.specs.Queries.{own_of, held_by, held_of}
-use Rattle.pp_core.proofs.PlainSlots.{own_told}
 use Rattle.pp_device.specs.Image.{head_of, body_of}
 use Rattle.pp_vault.specs.declared.guards.ReadGuard.{ReadGuard}
 use Rattle.pp_vault.specs.Parts.{Parts}
 use Rattle.pp_vault.specs.StandsFor.{StandsFor, IsKept, IsRight, image_in}
 use Rattle.pp_vault.specs.Flushes.{IsImageOf}
 use Rattle.pp_vault.specs.Looks.{may_see, may_look, CanSee, Shows, ShowsBody}
-use Rattle.pp_vault.proofs.FitTests.{both_hold, nat_is, slot_held}
+use Rattle.pp_vault.proofs.FitTests.{both_hold, nat_is, slot_held, own_told}
 use Rattle.pp_vault.proofs.Flushed.{same_frame, same_image}
 
 -- ---- the page is ready

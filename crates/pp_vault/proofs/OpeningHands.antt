@@ -2,11 +2,12 @@
 use Rattle.std.proofs.Common.{◌≡◌, ◌∙◌, ℕ, zero, suc, ◌+◌, ◌<◌, Bool}
 use Rattle.std.proofs.Common.{true, false, Option, Some, None, List, [], ◌∷◌, ◌++◌, length, replicate, nat_lt}
 use Rattle.std.proofs.Common.{refl, sym, ap, subst, arith}
-use Rattle.std.specs.Prelude.{slice_get}
+use Rattle.std.specs.Prelude.{slice_get, unwrap_or}
 use Rattle.std.proofs.lemmas.Bool.Decides.{nat_tests}
 use Rattle.std.proofs.lemmas.List.{length-replicate, get_or_append_left, length-append}
 use Rattle.std.proofs.Math.Seq.{get_or-append_seam}
 use Rattle.pp_model.specs.Pool.{Settings, opening}
+use Rattle.pp_core.specs.Gathered.{bundle_in}
 use Rattle.pp_core.specs.Queries.{idle_by, held_by}
 use Rattle.pp_core.proofs.Alike.{same_flushed}
 use Rattle.pp_vault.specs.declared.hands.Hands.{Hands}
@@ -14,6 +15,7 @@ use Rattle.pp_vault.specs.declared.stage.Hand.{Hand}
 use Rattle.pp_vault.specs.declared.guards.Guard.{Guard}
 use Rattle.pp_vault.specs.Parts.{Parts}
 use Rattle.pp_vault.specs.StandsFor.{StandsFor}
+use Rattle.pp_vault.specs.Fits.{IsEmpty}
 use Rattle.pp_vault.specs.Holding.{placed}
 use Rattle.pp_vault.specs.Stages.{idle_hand, AllIdle}
 use Rattle.pp_vault.specs.Hands.{PlaceFits, HandFits, FlushingFits, HandsFit}
@@ -49,6 +51,14 @@ idle_seat zero w low = absurd (omega (arith, low))
 idle_seat (suc n) zero low = refl
 idle_seat (suc n) (suc w) low = idle_seat n w (omega (arith, low))
 
+-- An idle worker's slots are empty.
+opening_empty : (k : Settings) (w slot : ℕ) → slice_get (opening k).seats w ≡ Some None → IsEmpty (opening k) w slot
+opening_empty k w slot seat =
+    record {
+      no_page = ap (λ o. held_by o slot) seat;
+      no_bundle = ap (λ o. nat_lt 0 (length (bundle_in (unwrap_or o None) slot))) seat;
+    }
+
 opening_hand : (n : ℕ) (k : Settings) (w : ℕ) → w < k.workers → HandFits n (opening k) w (chair_of w)
 opening_hand n k w low =
     let seat : slice_get (opening k).seats w ≡ Some None = idle_seat k.workers w low in
@@ -57,7 +67,7 @@ opening_hand n k w low =
       places = length-replicate {A = Option Guard} 32 None;
       guards =
           λ slot.
-          subst (λ o. PlaceFits n (opening k) w slot o) (sym (none_there 32 slot)) (ap (λ o. held_by o slot) seat);
+          subst (λ o. PlaceFits n (opening k) w slot o) (sym (none_there 32 slot)) (opening_empty k w slot seat);
     }
 
 pub opening_hands : (v : Parts) (k : Settings) (hands : Hands) → StandsFor v (opening k)

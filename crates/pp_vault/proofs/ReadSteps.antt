@@ -1,8 +1,10 @@
 -- The answer of a read: the image comes back to its frame, with the page in it or without.
-use Rattle.std.proofs.Common.{◌≡◌, ◌≢◌, ◌∙◌, ◌⊎◌, ℕ, ◌<◌, Bool, true, false, Option, Some, None, List, length}
-use Rattle.std.proofs.Common.{refl, sym, ap, subst}
-use Rattle.std.specs.Prelude.{slice_set, ◌==◌, ◌&&◌, if◌then◌else◌}
+use Rattle.std.proofs.Common.{◌≡◌, ◌≢◌, ◌∙◌, ◌⊎◌, inl, inr, ℕ, suc, ◌<◌, Bool, true, false, Option, Some, None, List}
+use Rattle.std.proofs.Common.{length, nat_lt, refl, sym, ap, subst, arith}
+use Rattle.std.specs.Prelude.{slice_set, ◌==◌, ◌&&◌, if◌then◌else◌, option_and_then, IsSome}
 use Rattle.std.proofs.lemmas.Bool.{false≢true}
+use Rattle.pp_plan.specs.declared.action.Ask.{Ask}
+use Rattle.pp_plan.specs.declared.action.Ask.TheVariants as ask
 use Rattle.pp_model.specs.declared.moves.Came.{Came}
 use Rattle.pp_model.specs.declared.moves.Came.TheVariants.{Fault, Image}
 use Rattle.pp_model.specs.declared.moves.Move.{Move}
@@ -16,22 +18,25 @@ use Rattle.pp_model.specs.Moves.{reply_of, next_of}
 use Rattle.pp_model.specs.Ready.{Standing, ready_at, Enters, ReadyStay, ImageComes}
 use Rattle.pp_model.proofs.ReadyAnswers.{loaded_enters, unread_returns}
 use Rattle.pp_core.specs.StandsFor as core
-use Rattle.pp_core.specs.Queries.{ask_of, errand_of}
-use Rattle.pp_core.specs.AfterMoves.{AfterMoves}
+use Rattle.pp_core.specs.Fixing.{wanted}
+use Rattle.pp_core.specs.Queries.{ask_of, bundle_of, gathered_of, pending_of, errand_of}
+use Rattle.pp_core.specs.AfterMoves.{AfterMoves, HasFixed, HasGathered, HasLoaded}
 use Rattle.pp_core.proofs.AfterMoves.{after_moves}
-use Rattle.pp_core.proofs.PlainSlots.{PlainLoaded, loaded}
-use Rattle.pp_core.proofs.Alike.{same_ask, same_held, same_leaving}
+use Rattle.pp_core.proofs.Alike.{same_ask, same_held, same_bundle, same_leaving}
 use Rattle.pp_device.specs.Image.{head_of}
 use Rattle.pp_vault.specs.declared.tokens.Session.{Session}
 use Rattle.pp_vault.specs.Parts.{Parts}
 use Rattle.pp_vault.specs.StandsFor.{StandsFor, IsKept}
 use Rattle.pp_vault.specs.Calls.{Call, asks, stranger}
-use Rattle.pp_vault.specs.Fits.{is_acting_by}
+use Rattle.pp_vault.specs.Fits.{is_acting_by, is_gathered}
 use Rattle.pp_vault.specs.Steps.{Stepped}
+use Rattle.pp_vault.specs.ImageMoves.{PutIn}
 use Rattle.pp_vault.specs.Events.{Does}
 use Rattle.pp_vault.specs.Tokens.{ActsIn, SessionFits}
-use Rattle.pp_vault.specs.Answers.{came_of, is_of_read, is_read_out, read_call, IsRead, IsUnread}
+use Rattle.pp_vault.specs.Fixes.{Gathers}
+use Rattle.pp_vault.specs.Answers.{came_of, is_of_read, is_read_out, read_call, IsRead, IsReadFirst, IsReadFurther, IsUnread}
 use Rattle.pp_vault.proofs.ErrandSteps.{IsReading, is_reading, entered, returned}
+use Rattle.pp_vault.proofs.FitTests.{none_some, some_some, some_pins, empty_by, page_gathered}
 use Rattle.pp_vault.proofs.FixSteps.{acts_by}
 use Rattle.pp_vault.proofs.FixKept.{done_keeps}
 use Rattle.pp_vault.proofs.WriteSteps.{both, same_nat}
@@ -49,6 +54,49 @@ read_out slot page holds (Some (k, p, None)) e =
     let one : k ≡ slot = same_nat k slot b.0 in
     let two : p ≡ page = same_nat p page b.1 in
     (cc, a.1)
+
+-- ---- what the plan asks for which the page is read
+
+-- It is a fix, or a gather, and the slot has the page so.
+pub record ReadFix (s t : State) (w slot page mark : ℕ) : Type 0 where
+  pub region : ℕ
+  pub asked : pending_of s w ≡ Some (ask.Fix slot region)
+  pub has : HasFixed s t w slot page mark
+
+pub record ReadGather (s t : State) (w slot page mark : ℕ) : Type 0 where
+  pub region : ℕ
+  pub asked : pending_of s w ≡ Some (ask.Gather slot region)
+  pub has : HasGathered s t w slot page mark
+
+pending_is : (o : Option Ask) (slot region : ℕ) → option_and_then wanted o ≡ Some (slot, region)
+    → (o ≡ Some (ask.Fix slot region)) ⊎ (o ≡ Some (ask.Gather slot region))
+pending_is None slot region e = absurd (none_some e)
+pending_is (Some (ask.Fix k n)) slot region e =
+    inl (ap (λ (p : ℕ × ℕ). Some (ask.Fix p.0 p.1)) (some_some (slot, region) (k, n) (slot, region) e))
+pending_is (Some (ask.Gather k n)) slot region e =
+    inr (ap (λ (p : ℕ × ℕ). Some (ask.Gather p.0 p.1)) (some_some (slot, region) (k, n) (slot, region) e))
+pending_is (Some (ask.Unfix k)) slot region e = absurd (none_some e)
+pending_is (Some (ask.Latch k m)) slot region e = absurd (none_some e)
+pending_is (Some (ask.Unlatch k)) slot region e = absurd (none_some e)
+pending_is (Some (ask.Scatter k)) slot region e = absurd (none_some e)
+pending_is (Some (ask.Choose n)) slot region e = absurd (none_some e)
+pending_is (Some ask.End) slot region e = absurd (none_some e)
+
+loaded_by : (s t : State) (w slot page mark : ℕ) (came : Came) → HasLoaded s t w slot page mark came
+    → ReadFix s t w slot page mark ⊎ ReadGather s t w slot page mark
+loaded_by s t w slot page mark came h =
+    elim (pending_is (pending_of s w) slot h.asked.0 h.asked.1) [
+      | inl is ↦ inl (record { region = h.asked.0; asked = is; has = h.fixed h.asked.0 is })
+      | inr is ↦ inr (record { region = h.asked.0; asked = is; has = h.gathered h.asked.0 is })
+    ]
+
+-- The slot's bundle tells which it is: after a fix it has none, after a gather one more than before.
+pins_of_fix : (s t : State) (w slot page mark : ℕ) → HasFixed s t w slot page mark → gathered_of t w slot ≡ 0
+pins_of_fix s t w slot page mark h = ap (λ (ps : List ℕ). length ps) (h.bundles slot ∙ h.no_bundle)
+
+pins_of_gather : (s t : State) (w slot page mark : ℕ) → HasGathered s t w slot page mark
+    → gathered_of t w slot ≡ suc (gathered_of s w slot)
+pins_of_gather s t w slot page mark h = ap (λ (ps : List ℕ). length ps) h.more
 
 abbrev head_in : Came → ℕ × ℕ
 head_in (Image named stamp) = (named, stamp)
@@ -115,9 +163,20 @@ module _ (old : Parts) (w slot page : ℕ) (image : List ℕ)
 
         module _ (mark : ℕ) (e : r ≡ Loaded mark) where
           has : (s : State) → StandsFor old s
-              → PlainLoaded s (next s) w slot page mark (came_of ok (head_of image))
+              → HasLoaded s (next s) w slot page mark (came_of ok (head_of image))
           has s st =
-              loaded s st.core.reached w (came_of ok (head_of image)) slot page mark (answer s st ∙ e) (fits s st).0
+              (laws s st).loaded w (came_of ok (head_of image)) slot page mark (answer s st ∙ e) (fits s st).0
+
+          by : (s : State) → StandsFor old s
+              → ReadFix s (next s) w slot page mark ⊎ ReadGather s (next s) w slot page mark
+          by s st = loaded_by s (next s) w slot page mark (came_of ok (head_of image)) (has s st)
+
+          acting : (s : State) → StandsFor old s → IsSome (ask_of (next s) w)
+          acting s st =
+              elim (by s st) [
+                | inl f ↦ f.has.acts
+                | inr g ↦ g.has.acts
+              ]
 
           head : head_of image ≡ (page, mark)
           head = came_head ok (head_of image).0 (head_of image).1 page mark (has k.state k.stands).image
@@ -144,9 +203,24 @@ module _ (old : Parts) (w slot page : ℕ) (image : List ℕ)
           loaded_does =
               back.in_does old mid w m refl call r did calls frame of_page image long comes ready new rest
 
+          stands_in : (s : State) → StandsFor old s → core.StandsFor new.core (next s)
+          stands_in s st =
+              back.in_core old mid w m refl call r did calls frame of_page image long comes ready new rest s st
+
           stands_core : core.StandsFor new.core (next k.state)
-          stands_core =
-              back.in_core old mid w m refl call r did calls frame of_page image long comes ready new rest k.state k.stands
+          stands_core = stands_in k.state k.stands
+
+          replies : (s : State) → StandsFor old s
+              → (mark : ℕ) × (reply_of s m ≡ Loaded mark) × (head_of image ≡ (page, mark))
+          replies s st = (mark, answer s st ∙ e, head)
+
+          put : (s : State) → StandsFor old s
+              → (frame : ℕ) × (frame_of s page ≡ Some frame) × PutIn old new frame image
+          put s st = (
+            frame,
+            sym (told s st.core),
+            back.put_in old mid w m refl call r did calls frame of_page image long comes ready new rest s st,
+          )
 
           pub loaded_kept : IsKept new
           loaded_kept = done_keeps old new call k loaded_does
@@ -154,30 +228,107 @@ module _ (old : Parts) (w slot page : ℕ) (image : List ℕ)
           pub loaded_acts : ActsIn new w
           loaded_acts t b =
               ap is_acting_by (same_ask new.core t (next k.state) b.core stands_core w)
-              ∙ acts_by (ask_of (next k.state) w) (has k.state k.stands).fixed.acts
+              ∙ acts_by (ask_of (next k.state) w) (acting k.state k.stands)
 
-          pub loaded_is : (x : Session) → SessionFits new w x
-              → Does old call new
-              × IsRead old w slot page image ok x (record { worker = w; slot = slot; page = page }) new
-          loaded_is x session = (
-            loaded_does,
-            record {
-              replies = λ s st. (mark, answer s st ∙ e, head);
-              session = session;
-              guard = record {
-                worker = refl;
-                held = λ t b.
-                    same_held new.core t (next k.state) b.core stands_core w slot ∙ (has k.state k.stands).fixed.held;
-              };
-              of_slot = refl;
-              of_page = refl;
-              images = λ s st. (
-                frame,
-                sym (told s st.core),
-                back.put_in old mid w m refl call r did calls frame of_page image long comes ready new rest s st,
-              );
-            },
-          )
+          module _ (x : Session) (session : SessionFits new w x) (pins : ℕ)
+              (count : (t : State) → core.StandsFor new.core t → pins ≡ gathered_of t w slot) where
+            none_of_fix : (s : State) → StandsFor old s → HasFixed s (next s) w slot page mark → pins ≡ 0
+            none_of_fix s st h = count (next s) (stands_in s st) ∙ pins_of_fix s (next s) w slot page mark h
+
+            more_of_gather : (s : State) → StandsFor old s → HasGathered s (next s) w slot page mark
+                → pins ≡ suc (gathered_of s w slot)
+            more_of_gather s st h = count (next s) (stands_in s st) ∙ pins_of_gather s (next s) w slot page mark h
+
+            -- For a fix.
+            fixed_by : pins ≡ 0 → (s : State) → StandsFor old s → ReadFix s (next s) w slot page mark
+            fixed_by none s st =
+                elim (by s st) [
+                  | inl f ↦ f
+                  | inr g ↦ absurd (omega (arith, none, more_of_gather s st g.has))
+                ]
+
+            pub loaded_is : pins ≡ 0 → Does old call new
+                × IsRead old w slot page image ok x (record { worker = w; slot = slot; page = page }) new
+            loaded_is none = (
+              loaded_does,
+              record {
+                replies = replies;
+                asked = λ s st. let f = fixed_by none s st in (f.region, f.asked);
+                was = λ s st.
+                    empty_by s w slot (fixed_by none s st).has.empty (fixed_by none s st).has.no_bundle;
+                session = session;
+                guard = record {
+                  worker = refl;
+                  held = λ t b.
+                      same_held new.core t (next k.state) b.core stands_core w slot
+                      ∙ (fixed_by none k.state k.stands).has.held;
+                };
+                of_slot = refl;
+                of_page = refl;
+                images = put;
+              },
+            )
+
+            -- For a gather.
+            module _ (some : 0 < pins) where
+              gathered_by : (s : State) → StandsFor old s → ReadGather s (next s) w slot page mark
+              gathered_by s st =
+                  elim (by s st) [
+                    | inl f ↦ absurd (omega (arith, some, none_of_fix s st f.has))
+                    | inr g ↦ g
+                  ]
+
+              gather_asked : (s : State) → StandsFor old s
+                  → (region : ℕ) × (pending_of s w ≡ Some (ask.Gather slot region))
+              gather_asked s st = let g = gathered_by s st in (g.region, g.asked)
+
+              gathered_now : Gathers old new w slot page
+              gathered_now s t st b =
+                  same_bundle new.core t (next s) b.core (stands_in s st) w slot ∙ (gathered_by s st).has.more
+
+              was_none : pins ≡ 1 → (s : State) → StandsFor old s → is_gathered s w slot ≡ false
+              was_none one s st =
+                  let none : gathered_of s w slot ≡ 0 =
+                  omega (arith, one, more_of_gather s st (gathered_by s st).has) in
+                  ap (nat_lt 0) none
+
+              was_some : 1 < pins → (s : State) → StandsFor old s → is_gathered s w slot ≡ true
+              was_some more s st =
+                  some_pins (gathered_of s w slot) (omega (arith, more, more_of_gather s st (gathered_by s st).has))
+
+              pub first_is : pins ≡ 1 → Does old call new
+                  × IsReadFirst old w slot page image ok x (record { worker = w; slot = slot }) new
+              first_is one = (
+                loaded_does,
+                record {
+                  replies = replies;
+                  asked = gather_asked;
+                  was = λ s st.
+                      record { no_page = (gathered_by s st).has.no_page; no_bundle = was_none one s st };
+                  session = session;
+                  guard = record {
+                    worker = refl;
+                    gathered = λ t b.
+                        page_gathered t w slot page (bundle_of k.state w slot) (gathered_now k.state t k.stands b);
+                  };
+                  of_slot = refl;
+                  gathers = gathered_now;
+                  images = put;
+                },
+              )
+
+              pub further_is : 1 < pins → Does old call new × IsReadFurther old w slot page image ok x new
+              further_is more = (
+                loaded_does,
+                record {
+                  replies = replies;
+                  asked = gather_asked;
+                  was = was_some more;
+                  session = session;
+                  gathers = gathered_now;
+                  images = put;
+                },
+              )
 
         -- ---- not read
 

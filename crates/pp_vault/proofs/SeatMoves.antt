@@ -27,6 +27,7 @@ use Rattle.pp_vault.specs.ImageMoves.{ImagesStay}
 use Rattle.pp_vault.specs.Tokens.{ActsIn, HoldsNothing}
 use Rattle.pp_vault.proofs.Actors.{acts_in_each}
 use Rattle.pp_vault.proofs.Done.{refuses}
+use Rattle.pp_vault.proofs.FitTests.{none_gathered}
 use Rattle.pp_vault.proofs.Plain.{answered, taken, chosen, finished, plain}
 
 -- ---- calls of a worker that has to be idle, or to leave, or to act
@@ -142,6 +143,7 @@ module _ (old new : Parts) (w : ℕ) (r : Reply) (kept : IsKept old) where
 
     -- It held nothing, in each state that is stood for.
     pub finish_empty : HoldsNothing old w
-    finish_empty s st =
+    finish_empty s st slot =
         let is = sym (step.moves.replies s st.core) ∙ has_finished.1 in
-        ((after_moves s st.core.reached).finished w has_finished.0 is).empty
+        let after = (after_moves s st.core.reached).finished w has_finished.0 is in
+        record { no_page = after.empty slot; no_bundle = none_gathered s w slot (after.no_bundle slot) }

@@ -1,5 +1,5 @@
 -- The hand of a worker that makes no move still fits.
-use Rattle.std.proofs.Common.{◌≡◌, ◌≢◌, ◌∙◌, ℕ, Option, Some, None, List, refl, sym, ap, subst}
+use Rattle.std.proofs.Common.{◌≡◌, ◌≢◌, ◌∙◌, ℕ, Option, Some, None, List, length, nat_lt, refl, sym, ap, subst}
 use Rattle.std.specs.Prelude.{unwrap_or, option_map, is_some}
 use Rattle.std.proofs.lemmas.Bool.{false≢true}
 use Rattle.pp_cert.specs.declared.note.Held.TheVariants.{S, X}
@@ -18,7 +18,7 @@ use Rattle.pp_core.proofs.Alike.{same_idle, same_leaving, same_ask, same_held, s
 use Rattle.pp_vault.specs.declared.tokens.Duty.{Duty}
 use Rattle.pp_vault.specs.declared.tokens.Duty.TheVariants as duty
 use Rattle.pp_vault.specs.declared.guards.Guard.{Guard}
-use Rattle.pp_vault.specs.declared.guards.Guard.TheVariants.{Pin, Read, Write}
+use Rattle.pp_vault.specs.declared.guards.Guard.TheVariants.{Pin, Read, Write, Bundle}
 use Rattle.pp_vault.specs.declared.stage.Stage.{Stage}
 use Rattle.pp_vault.specs.declared.stage.Stage.TheVariants.{Idle, In, Out, Back, Leaving}
 use Rattle.pp_vault.specs.declared.stage.Hand.{Hand}
@@ -28,6 +28,7 @@ use Rattle.pp_vault.specs.Parts.{Parts}
 use Rattle.pp_vault.specs.StandsFor.{StandsFor, IsKept}
 use Rattle.pp_vault.specs.Calls.{Call, stranger, refused, asks, after_call}
 use Rattle.pp_vault.specs.Events.{Does}
+use Rattle.pp_vault.specs.Fits.{is_gathered}
 use Rattle.pp_vault.specs.Hands.{IsAway, StageFits, PlaceFits, HandFits, IsFlushAway, FlushingFits}
 use Rattle.pp_vault.specs.HandLaws.{caller, FitsIn, LeavesSlot}
 use Rattle.pp_vault.specs.Holding.{placed}
@@ -42,15 +43,19 @@ pub record Same (s t : State) (v : ℕ) : Type 0 where
 
 -- ---- one slot
 
--- What a slot holds in t is as in s, and so is the mark of a page that it has latched.
+-- What a slot holds in t is as in s, and so is the mark of a page that it has latched; it is a bundle in t where it is in s.
 pub record SameSlot (s t : State) (v slot : ℕ) : Type 0 where
   pub held : held_of t v slot ≡ held_of s v slot
+  pub gathered : is_gathered t v slot ≡ is_gathered s v slot
   pub shared : (page : ℕ) → held_of s v slot ≡ Some (page, S) → known_mark t page ≡ known_mark s page
   pub exclusive : (page : ℕ) → held_of s v slot ≡ Some (page, X) → known_mark t page ≡ known_mark s page
 
 place_kept : (n : ℕ) (s t : State) (v slot : ℕ) → SameSlot s t v slot → (o : Option Guard) → PlaceFits n s v slot o
     → PlaceFits n t v slot o
-place_kept n s t v slot same None fits = same.held ∙ fits
+place_kept n s t v slot same None fits =
+    record { no_page = same.held ∙ fits.no_page; no_bundle = same.gathered ∙ fits.no_bundle }
+place_kept n s t v slot same (Some (Bundle g)) fits =
+    record { worker = fits.worker; of_slot = fits.of_slot; gathered = same.gathered ∙ fits.gathered }
 place_kept n s t v slot same (Some (Pin g)) fits =
     record { worker = fits.worker; of_slot = fits.of_slot; held = same.held ∙ fits.held }
 place_kept n s t v slot same (Some (Read g)) fits =
@@ -77,6 +82,7 @@ module _ (n : ℕ) (s t : State) (v : ℕ) (same : Same s t v) where
   slot_still slot =
       record {
         held = same.stays.held slot;
+        gathered = ap (λ (ps : List ℕ). nat_lt 0 (length ps)) (same.stays.bundles slot);
         shared = λ page held. same.shared slot page held;
         exclusive = λ page held. same.exclusive slot page held;
       }
@@ -214,15 +220,16 @@ still_fits old new call k does w apart hand fits =
 slot_after : (s : State) (c : Call) (w slot : ℕ) → IsReached s → LeavesSlot s c w slot
     → SameSlot s (after_call s c) w slot
 slot_after s stranger w slot reached leaves =
-    record { held = refl; shared = λ page held. refl; exclusive = λ page held. refl }
+    record { held = refl; gathered = refl; shared = λ page held. refl; exclusive = λ page held. refl }
 slot_after s (refused why) w slot reached leaves =
-    record { held = refl; shared = λ page held. refl; exclusive = λ page held. refl }
+    record { held = refl; gathered = refl; shared = λ page held. refl; exclusive = λ page held. refl }
 slot_after s (asks m) w slot reached leaves =
     let laws = after_moves s reached in
     record {
       held = leaves.0;
+      gathered = leaves.1;
       shared = λ page held. laws.shared_mark m w slot page held;
-      exclusive = λ page held. laws.exclusive_mark m w slot page held leaves.1;
+      exclusive = λ page held. laws.exclusive_mark m w slot page held leaves.2;
     }
 
 pub slot_still_fits : (old new : Parts) (call : State → Call) → IsKept old → Does old call new → (w slot : ℕ)

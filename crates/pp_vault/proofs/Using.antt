@@ -1,5 +1,5 @@
--- Unfix, latch S and unlatch S.
-use Rattle.std.proofs.Common.{◌≡◌, ◌∙◌, ℕ, true, Some, None, refl, sym, ap, subst}
+-- Unfix, scatter, latch S and unlatch S.
+use Rattle.std.proofs.Common.{◌≡◌, ◌∙◌, ℕ, true, false, Some, None, List, length, nat_lt, refl, sym, ap, subst}
 use Rattle.std.specs.Prelude.{IsTrue}
 use Rattle.pp_plan.specs.declared.mode.Mode.TheVariants as mode
 use Rattle.pp_plan.specs.declared.action.Ask.TheVariants as ask
@@ -14,11 +14,12 @@ use Rattle.pp_model.specs.Ready.{is_still, Keeps}
 use Rattle.pp_model.proofs.ReadyLaws.{still_keeps}
 use Rattle.pp_model.proofs.ReadyAnswers.{shared_stays, shared_goes}
 use Rattle.pp_core.specs.Queries.{ask_of, held_of}
-use Rattle.pp_core.specs.AfterMoves.{HasUnfixed, HasLatched, NowHeld}
+use Rattle.pp_core.specs.AfterMoves.{HasUnfixed, HasScattered, HasLatched, NowHeld}
 use Rattle.pp_core.proofs.AfterMoves.{after_moves}
 use Rattle.pp_vault.specs.declared.tokens.Session.{Session}
 use Rattle.pp_vault.specs.declared.guards.PinGuard.{PinGuard}
 use Rattle.pp_vault.specs.declared.guards.ReadGuard.{ReadGuard}
+use Rattle.pp_vault.specs.declared.guards.BundleGuard.{BundleGuard}
 use Rattle.pp_vault.specs.Parts.{Parts}
 use Rattle.pp_vault.specs.StandsFor.{StandsFor, ImagesFit, IsKept}
 use Rattle.pp_vault.specs.Calls.{asks}
@@ -26,15 +27,16 @@ use Rattle.pp_vault.specs.Steps.{Stepped, Refused, told_mark}
 use Rattle.pp_vault.specs.Events.{Refuses}
 use Rattle.pp_vault.specs.declared.refusal.Refusal.{Refusal}
 use Rattle.pp_plan.specs.declared.mode.Mode.{Mode}
-use Rattle.pp_vault.specs.Fits.{fits_both, asks_unfix, asks_latch, asks_unlatch, unfix_call, latch_call, unlatch_call}
+use Rattle.pp_vault.specs.Fits.{is_gathered, IsEmpty, fits_both, bundle_fits, asks_unfix, asks_scatter, asks_latch}
+use Rattle.pp_vault.specs.Fits.{asks_unlatch, unfix_call, scatter_call, latch_call, unlatch_call}
 use Rattle.pp_vault.specs.ImageMoves.{ImagesStay}
 use Rattle.pp_vault.specs.Tokens.{ActsIn, SessionFits}
-use Rattle.pp_vault.specs.Uses.{Unfixes, LatchesShared, UnlatchesShared}
+use Rattle.pp_vault.specs.Uses.{Unfixes, Scatters, LatchesShared, UnlatchesShared}
 use Rattle.pp_vault.proofs.UseReplies.{is_did, is_latched, is_unlatched}
-use Rattle.pp_vault.proofs.AfterSteps.{kept_after, acts_after, held_after, mark_after, images_stay}
+use Rattle.pp_vault.proofs.AfterSteps.{kept_after, acts_after, held_after, gathered_after, mark_after, images_stay}
 use Rattle.pp_vault.proofs.Done.{does, refuses}
-use Rattle.pp_vault.proofs.FitTests.{guard_held, guard_asks, unfix_asked, latch_asked, unlatch_asked, Asking, asking}
-use Rattle.pp_vault.proofs.FitTests.{Holds, holds}
+use Rattle.pp_vault.proofs.FitTests.{guard_held, guard_gathered, guard_asks, unfix_asked, scatter_asked, latch_asked}
+use Rattle.pp_vault.proofs.FitTests.{unlatch_asked, Asking, asking, Holds, holds, own_alone, bundle_alone, none_gathered}
 
 -- A step leaves the images and the bytes of a page, and is told.
 pub stays : (old new : Parts) (m : Move) (r : Reply) → Stepped old new m r → ImagesStay old new
@@ -72,9 +74,20 @@ module _ (old new : Parts) (x : Session) (g : PinGuard) (r : Reply) (kept : IsKe
   pub unfix_acts : ActsIn new x.worker
   unfix_acts = acts_after old new (move.Unfix x.worker) r kept h.moves unfix_images x.worker has_unfixed.acts
 
-  pub unfix_empty : (s : State) → StandsFor new s → held_of s x.worker g.slot ≡ None
-  unfix_empty =
-      held_after old new (move.Unfix x.worker) r kept h.moves unfix_images x.worker g.slot None has_unfixed.empty
+  no_bundle : is_gathered (next_of kept.state (move.Unfix x.worker)) x.worker g.slot ≡ false
+  no_bundle =
+      ap (λ (ps : List ℕ). nat_lt 0 (length ps)) (has_unfixed.bundles g.slot)
+      ∙ own_alone kept.state kept.stands.core.reached x.worker g.slot (g.page, Free)
+      (guard_held kept.state x.worker g.worker g.slot g.page Free (fit kept.state kept.stands))
+
+  pub unfix_empty : (s : State) → StandsFor new s → IsEmpty s x.worker g.slot
+  unfix_empty s st =
+      record {
+        no_page = held_after old new (move.Unfix x.worker) r kept h.moves unfix_images x.worker g.slot None has_unfixed.empty
+            s st;
+        no_bundle = gathered_after old new (move.Unfix x.worker) r kept h.moves unfix_images x.worker g.slot false no_bundle
+            s st;
+      }
 
   pub unfixes : (y : Session) → SessionFits new x.worker y → Unfixes old x g new y
   unfixes y session =
@@ -84,6 +97,60 @@ module _ (old new : Parts) (x : Session) (g : PinGuard) (r : Reply) (kept : IsKe
             (λ s st. guard_asks (fits_both s x.worker g.worker g.slot g.page Free)
             (asks_unfix g.slot (ask_of s x.worker)) (asks (move.Unfix x.worker)) (fit s st) (wanted s st))
             unfix_images;
+        session = session;
+        images = stays old new (move.Unfix x.worker) r h;
+      }
+
+-- ---- scatter
+
+module _ (old new : Parts) (x : Session) (g : BundleGuard) (r : Reply) (kept : IsKept old)
+    (h : Stepped old new (move.Unfix x.worker) r)
+    (fit : (s : State) → StandsFor old s → bundle_fits s x.worker g.worker g.slot ≡ true)
+    (wanted : (s : State) → StandsFor old s → asks_scatter g.slot (ask_of s x.worker) ≡ true) where
+  scattered : (s : State) → StandsFor old s → reply_of s (move.Unfix x.worker) ≡ reply.Did
+  scattered s st = sym (h.moves.replies s st.core) ∙ is_did old new x.worker r h s st
+
+  scatter_keeps : (s : State) → StandsFor old s → Keeps s (next_of s (move.Unfix x.worker))
+  scatter_keeps s st =
+      still_keeps s st.core.reached (move.Unfix x.worker) (subst (λ a. IsTrue (is_still a)) (sym (scattered s st)) refl)
+
+  scatter_images : (s : State) → StandsFor old s
+      → ImagesFit new.page_bytes new.images new.spare (next_of s (move.Unfix x.worker))
+  scatter_images = images_stay old new (move.Unfix x.worker) r h x.worker refl scatter_keeps
+
+  pub scatter_kept : IsKept new
+  scatter_kept = kept_after old new (move.Unfix x.worker) r kept h.moves scatter_images
+
+  has_scattered : HasScattered kept.state (next_of kept.state (move.Unfix x.worker)) x.worker g.slot
+  has_scattered =
+      (after_moves kept.state kept.stands.core.reached).scattered x.worker g.slot (scattered kept.state kept.stands)
+      (scatter_asked g.slot (ask_of kept.state x.worker) (wanted kept.state kept.stands))
+
+  pub scatter_acts : ActsIn new x.worker
+  scatter_acts = acts_after old new (move.Unfix x.worker) r kept h.moves scatter_images x.worker has_scattered.acts
+
+  no_page : held_of (next_of kept.state (move.Unfix x.worker)) x.worker g.slot ≡ None
+  no_page =
+      has_scattered.slots g.slot
+      ∙ bundle_alone kept.state kept.stands.core.reached x.worker g.slot
+      (guard_gathered kept.state x.worker g.worker g.slot (fit kept.state kept.stands))
+
+  pub scatter_empty : (s : State) → StandsFor new s → IsEmpty s x.worker g.slot
+  scatter_empty s st =
+      record {
+        no_page = held_after old new (move.Unfix x.worker) r kept h.moves scatter_images x.worker g.slot None no_page s st;
+        no_bundle = gathered_after old new (move.Unfix x.worker) r kept h.moves scatter_images x.worker g.slot false
+            (none_gathered (next_of kept.state (move.Unfix x.worker)) x.worker g.slot has_scattered.none) s st;
+      }
+
+  pub scatters : (y : Session) → SessionFits new x.worker y → Scatters old x g new y
+  scatters y session =
+      record {
+        does = does old new (scatter_call x.worker g.worker g.slot) (move.Unfix x.worker) r h.moves h.done
+            (ap (λ (v : Parts). v.last) h.rest) (ap (λ (v : Parts). v.page_bytes) h.rest)
+            (λ s st. guard_asks (bundle_fits s x.worker g.worker g.slot)
+            (asks_scatter g.slot (ask_of s x.worker)) (asks (move.Unfix x.worker)) (fit s st) (wanted s st))
+            scatter_images;
         session = session;
         images = stays old new (move.Unfix x.worker) r h;
       }

@@ -1,6 +1,7 @@
 -- What the answer of a device comes to.
 use Rattle.std.specs.Prelude.{◌≡◌, ℕ, Bool, true, false, ◌&&◌, ◌==◌, Option, None, Some, List, length, if◌then◌else◌}
 use Rattle.std.specs.Prelude.{Result, Ok, Err, is_ok}
+use Rattle.pp_plan.specs.declared.action.Ask.TheVariants as ask
 use Rattle.pp_model.specs.declared.moves.Came.{Came}
 use Rattle.pp_model.specs.declared.moves.Came.TheVariants.{Fault, Image}
 use Rattle.pp_model.specs.declared.moves.Move.TheVariants.{WriteDone, ReadDone, FlushDone}
@@ -9,7 +10,7 @@ use Rattle.pp_model.specs.declared.reply.Failure.TheVariants.{WriteFault}
 use Rattle.pp_model.specs.declared.reply.Reply.TheVariants.{MustRead, Failed, Loaded, Flushed}
 use Rattle.pp_model.specs.Pool.{State, frame_of, known_mark}
 use Rattle.pp_model.specs.Moves.{reply_of, next_of}
-use Rattle.pp_core.specs.Queries.{errand_of, flushed_page, is_leaving}
+use Rattle.pp_core.specs.Queries.{pending_of, errand_of, flushed_page, is_leaving}
 use Rattle.pp_device.specs.Image.{head_of}
 use Rattle.pp_vault.specs.declared.tokens.Duty.{Duty}
 use Rattle.pp_vault.specs.declared.tokens.Duty.TheVariants.{Read, Write, Flush}
@@ -18,6 +19,7 @@ use Rattle.pp_vault.specs.declared.tokens.Leaver.{Leaver}
 use Rattle.pp_vault.specs.declared.tokens.Returned.{Returned}
 use Rattle.pp_vault.specs.declared.tokens.Session.{Session}
 use Rattle.pp_vault.specs.declared.guards.PinGuard.{PinGuard}
+use Rattle.pp_vault.specs.declared.guards.BundleGuard.{BundleGuard}
 use Rattle.pp_vault.specs.declared.answering.Answered.{Answered}
 use Rattle.pp_vault.specs.declared.answering.Answered.TheVariants as answered
 use Rattle.pp_vault.specs.Parts.{Parts}
@@ -25,7 +27,9 @@ use Rattle.pp_vault.specs.StandsFor.{StandsFor}
 use Rattle.pp_vault.specs.Calls.{Call, asks, stranger}
 use Rattle.pp_vault.specs.Events.{Refuses, Does, untold}
 use Rattle.pp_vault.specs.ImageMoves.{PutIn, ImagesStay}
-use Rattle.pp_vault.specs.Tokens.{ErrandFits, SessionFits, PinFits}
+use Rattle.pp_vault.specs.Fits.{is_gathered, IsEmpty}
+use Rattle.pp_vault.specs.Tokens.{ErrandFits, SessionFits, PinFits, BundleFits}
+use Rattle.pp_vault.specs.Fixes.{Gathers}
 
 -- ---- a flush
 
@@ -128,17 +132,45 @@ abbrev pub read_call : (page_bytes w slot page : ℕ) → (image : List ℕ) →
 read_call page_bytes w slot page image ok s =
     if is_read_out page_bytes w slot page image s then asks (ReadDone w (came_of ok (head_of image))) else stranger
 
--- The page is read: the image that came names it and the mark that is told, and stands in the page's frame. The slot
--- holds the page.
+-- The page is read for a fix: the image that came names it and the mark that is told, and stands in the page's frame. The
+-- slot holds the page.
 pub record IsRead (old : Parts) (w slot page : ℕ) (image : List ℕ) (ok : Bool) (x : Session) (g : PinGuard)
     (new : Parts) : Type 0 where
   pub replies : (s : State) → StandsFor old s
       → (mark : ℕ) × (reply_of s (ReadDone w (came_of ok (head_of image))) ≡ Loaded mark)
       × (head_of image ≡ (page, mark))
+  pub asked : (s : State) → StandsFor old s → (region : ℕ) × (pending_of s w ≡ Some (ask.Fix slot region))
+  pub was : (s : State) → StandsFor old s → IsEmpty s w slot
   pub session : SessionFits new w x
   pub guard : PinFits new w g
   pub of_slot : g.slot ≡ slot
   pub of_page : g.page ≡ page
+  pub images : (s : State) → StandsFor old s → (frame : ℕ) × (frame_of s page ≡ Some frame) × PutIn old new frame image
+
+-- The page is read for a gather: it is the first of the slot's bundle, which held nothing.
+pub record IsReadFirst (old : Parts) (w slot page : ℕ) (image : List ℕ) (ok : Bool) (x : Session) (g : BundleGuard)
+    (new : Parts) : Type 0 where
+  pub replies : (s : State) → StandsFor old s
+      → (mark : ℕ) × (reply_of s (ReadDone w (came_of ok (head_of image))) ≡ Loaded mark)
+      × (head_of image ≡ (page, mark))
+  pub asked : (s : State) → StandsFor old s → (region : ℕ) × (pending_of s w ≡ Some (ask.Gather slot region))
+  pub was : (s : State) → StandsFor old s → IsEmpty s w slot
+  pub session : SessionFits new w x
+  pub guard : BundleFits new w g
+  pub of_slot : g.slot ≡ slot
+  pub gathers : Gathers old new w slot page
+  pub images : (s : State) → StandsFor old s → (frame : ℕ) × (frame_of s page ≡ Some frame) × PutIn old new frame image
+
+-- The page is read for a gather: it is one more of the slot's bundle, which held a page.
+pub record IsReadFurther (old : Parts) (w slot page : ℕ) (image : List ℕ) (ok : Bool) (x : Session)
+    (new : Parts) : Type 0 where
+  pub replies : (s : State) → StandsFor old s
+      → (mark : ℕ) × (reply_of s (ReadDone w (came_of ok (head_of image))) ≡ Loaded mark)
+      × (head_of image ≡ (page, mark))
+  pub asked : (s : State) → StandsFor old s → (region : ℕ) × (pending_of s w ≡ Some (ask.Gather slot region))
+  pub was : (s : State) → StandsFor old s → is_gathered s w slot ≡ true
+  pub session : SessionFits new w x
+  pub gathers : Gathers old new w slot page
   pub images : (s : State) → StandsFor old s → (frame : ℕ) × (frame_of s page ≡ Some frame) × PutIn old new frame image
 
 -- The page isn't read. The image is back in the frame that the page had, and the worker leaves its plan.
@@ -150,14 +182,21 @@ pub record IsUnread (old : Parts) (w page : ℕ) (image : List ℕ) (ok : Bool) 
   pub leaves : (s : State) → StandsFor new s → is_leaving s w ≡ true
   pub images : (s : State) → StandsFor old s → (frame : ℕ) × (frame_of s page ≡ Some frame) × PutIn old new frame image
 
--- What the answer of a read comes to, where it isn't refused.
-abbrev pub ReadEnds : (old : Parts) → (w slot page : ℕ) → (image : List ℕ) → (ok : Bool)
-    → Result (Session × PinGuard) Leaver → (new : Parts) → Type 0
-ReadEnds old w slot page image ok (Ok got) new =
+-- What the answer of a read comes to, where it isn't refused: the page is the slot's own, or in its bundle, as the plan asks
+-- it; or it isn't read.
+abbrev pub ReadEnds : (old : Parts) → (w slot page : ℕ) → (image : List ℕ) → (ok : Bool) → Answered → (new : Parts) → Type 0
+ReadEnds old w slot page image ok (answered.Got session guard) new =
     Does old (read_call old.page_bytes w slot page image ok) new
-    × IsRead old w slot page image ok got.0 got.1 new
-ReadEnds old w slot page image ok (Err leaver) new =
+    × IsRead old w slot page image ok session guard new
+ReadEnds old w slot page image ok (answered.Opened session guard) new =
+    Does old (read_call old.page_bytes w slot page image ok) new
+    × IsReadFirst old w slot page image ok session guard new
+ReadEnds old w slot page image ok (answered.Joined session) new =
+    Does old (read_call old.page_bytes w slot page image ok) new
+    × IsReadFurther old w slot page image ok session new
+ReadEnds old w slot page image ok (answered.Lost leaver) new =
     Does old (read_call old.page_bytes w slot page image ok) new × IsUnread old w page image ok leaver new
+ReadEnds old w slot page image ok out new = ⊥
 
 -- ---- of any duty
 
@@ -174,10 +213,7 @@ answer_call page_bytes returned s = duty_call page_bytes returned.duty returned.
 -- What it comes to, by the duty, where it isn't refused: a read brings the page or is lost, a victim's write goes on
 -- with the read or is lost, and a flush tells whether the page is clean.
 abbrev pub DutyEnds : (old : Parts) → Duty → (image : List ℕ) → (ok : Bool) → Answered → (new : Parts) → Type 0
-DutyEnds old (Read w slot page) image ok (answered.Got session guard) new =
-    ReadEnds old w slot page image ok (Ok (session, guard)) new
-DutyEnds old (Read w slot page) image ok (answered.Lost leaver) new =
-    ReadEnds old w slot page image ok (Err leaver) new
+DutyEnds old (Read w slot page) image ok out new = ReadEnds old w slot page image ok out new
 DutyEnds old (Write w slot page victim) image ok (answered.Away errand) new =
     WriteEnds old w slot page victim image ok (Ok errand) new
 DutyEnds old (Write w slot page victim) image ok (answered.Lost leaver) new =

@@ -13,6 +13,7 @@ use Rattle.pp_vault.specs.declared.hands.Hands.{Hands}
 use Rattle.pp_vault.specs.Parts.{Parts}
 use Rattle.pp_vault.specs.StandsFor.{StandsFor, IsKept}
 use Rattle.pp_vault.specs.Calls.{Call, stranger, refused, asks}
+use Rattle.pp_vault.specs.Fits.{is_gathered}
 use Rattle.pp_vault.specs.Events.{Does}
 use Rattle.pp_vault.specs.Submits.{TakesIn}
 use Rattle.pp_vault.specs.Hands.{PlaceFits, HandFits, FlushingFits, HandsFit}
@@ -41,11 +42,13 @@ FlushingStillFits =
     → ((s : State) → StandsFor old s → FlushingFits old.page_bytes s flushing)
     → (s : State) → StandsFor new s → FlushingFits new.page_bytes s flushing
 
--- The call leaves what this slot of worker w holds, and takes no latch off it.
+-- The call leaves what this slot of worker w holds, a bundle a bundle, and takes no latch off it.
 abbrev pub LeavesSlot : State → Call → (w slot : ℕ) → Type 0
 LeavesSlot s stranger w slot = Unit {0}
 LeavesSlot s (refused why) w slot = Unit {0}
-LeavesSlot s (asks m) w slot = (held_of (next_of s m) w slot ≡ held_of s w slot) × ¬ Releases s m w slot
+LeavesSlot s (asks m) w slot =
+    (held_of (next_of s m) w slot ≡ held_of s w slot) × (is_gathered (next_of s m) w slot ≡ is_gathered s w slot)
+    × ¬ Releases s m w slot
 
 -- The place of a slot, where it fits, still does after a call that leaves the slot, whoever makes it.
 abbrev pub SlotsStillFit : Type 0

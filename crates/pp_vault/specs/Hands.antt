@@ -9,8 +9,9 @@ use Rattle.pp_vault.specs.declared.tokens.Duty.TheVariants as duty
 use Rattle.pp_vault.specs.declared.guards.ReadGuard.{ReadGuard}
 use Rattle.pp_vault.specs.declared.guards.WriteGuard.{WriteGuard}
 use Rattle.pp_vault.specs.declared.guards.PinGuard.{PinGuard}
+use Rattle.pp_vault.specs.declared.guards.BundleGuard.{BundleGuard}
 use Rattle.pp_vault.specs.declared.guards.Guard.{Guard}
-use Rattle.pp_vault.specs.declared.guards.Guard.TheVariants.{Pin, Read, Write}
+use Rattle.pp_vault.specs.declared.guards.Guard.TheVariants.{Pin, Read, Write, Bundle}
 use Rattle.pp_vault.specs.declared.stage.Stage.{Stage}
 use Rattle.pp_vault.specs.declared.stage.Stage.TheVariants.{Idle, In, Out, Back, Leaving}
 use Rattle.pp_vault.specs.declared.stage.Hand.{Hand}
@@ -19,6 +20,7 @@ use Rattle.pp_vault.specs.declared.hands.Flushing.TheVariants as flushing
 use Rattle.pp_vault.specs.declared.hands.Hands.{Hands}
 use Rattle.pp_vault.specs.Parts.{Parts}
 use Rattle.pp_vault.specs.StandsFor.{StandsFor}
+use Rattle.pp_vault.specs.Fits.{is_gathered, IsEmpty}
 use Rattle.pp_vault.specs.Tokens.{IsOut, IsHeaded}
 use Rattle.pp_vault.specs.Duties.{duty_worker}
 use Rattle.pp_vault.specs.Holding.{placed}
@@ -66,15 +68,23 @@ pub record IsWrite (page_bytes : ℕ) (s : State) (w slot : ℕ) (guard : WriteG
   pub head : head_of guard.image ≡ (guard.page, guard.mark)
   pub long : length guard.image ≡ page_bytes
 
--- The guard is one of worker w and this slot, as the slot holds its page: not latched, latched S, or latched X.
+-- The guard is of worker w and this slot, which is a bundle that holds a page.
+pub record IsBundle (s : State) (w slot : ℕ) (guard : BundleGuard) : Type 0 where
+  pub worker : guard.worker ≡ w
+  pub of_slot : guard.slot ≡ slot
+  pub gathered : is_gathered s w slot ≡ true
+
+-- The guard is one of worker w and this slot, as the slot holds its page: not latched, latched S, or latched X; or it is a
+-- bundle's, and the slot is one.
 abbrev pub GuardFits : (page_bytes : ℕ) → State → (w slot : ℕ) → Guard → Type 0
 GuardFits page_bytes s w slot (Pin guard) = IsPin s w slot guard
 GuardFits page_bytes s w slot (Read guard) = IsRead s w slot guard
 GuardFits page_bytes s w slot (Write guard) = IsWrite page_bytes s w slot guard
+GuardFits page_bytes s w slot (Bundle guard) = IsBundle s w slot guard
 
--- There is a guard, which fits, exactly where the slot of worker w holds a page.
+-- There is a guard, which fits, exactly where the slot of worker w holds a page, its own or as a bundle.
 abbrev pub PlaceFits : (page_bytes : ℕ) → State → (w slot : ℕ) → Option Guard → Type 0
-PlaceFits page_bytes s w slot None = held_of s w slot ≡ None
+PlaceFits page_bytes s w slot None = IsEmpty s w slot
 PlaceFits page_bytes s w slot (Some guard) = GuardFits page_bytes s w slot guard
 
 -- ---- all tokens of a worker, and of a vault

@@ -1,11 +1,11 @@
 -- What clauses say of guards and hands in their places.
-use Rattle.std.specs.Prelude.{◌≡◌, ℕ, Bool, ◌&&◌, Option, None, is_none, IfSome, List, length, replicate, ltb}
-use Rattle.std.specs.Prelude.{slice_index_or}
+use Rattle.std.specs.Prelude.{◌≡◌, ℕ, Bool, true, false, ◌&&◌, Option, None, Some, is_none, IfSome, List, length, replicate}
+use Rattle.std.specs.Prelude.{slice_index_or, ltb}
 use Rattle.std.specs.List.{list_all}
 use Rattle.pp_cert.specs.declared.note.Held.{Held}
 use Rattle.pp_cert.specs.declared.note.Held.TheVariants.{Free, S, X}
 use Rattle.pp_vault.specs.declared.guards.Guard.{Guard}
-use Rattle.pp_vault.specs.declared.guards.Guard.TheVariants.{Pin, Read, Write}
+use Rattle.pp_vault.specs.declared.guards.Guard.TheVariants.{Pin, Read, Write, Bundle}
 
 -- ---- a guard
 
@@ -14,12 +14,26 @@ abbrev pub slot_by : Guard → ℕ
 slot_by (Pin g) = g.slot
 slot_by (Read g) = g.slot
 slot_by (Write g) = g.slot
+slot_by (Bundle g) = g.slot
 
--- Its page, and how it is held.
-abbrev pub held_by : Guard → ℕ × Held
-held_by (Pin g) = (g.page, Free)
-held_by (Read g) = (g.page, S)
-held_by (Write g) = (g.page, X)
+-- Its page, and how it is held; None of a bundle's.
+abbrev pub held_by : Guard → Option (ℕ × Held)
+held_by (Pin g) = Some (g.page, Free)
+held_by (Read g) = Some (g.page, S)
+held_by (Write g) = Some (g.page, X)
+held_by (Bundle g) = None
+
+-- Whether it is a bundle's.
+abbrev pub is_bundle : Guard → Bool
+is_bundle (Pin g) = false
+is_bundle (Read g) = false
+is_bundle (Write g) = false
+is_bundle (Bundle g) = true
+
+-- Whether there is a guard, and it is a bundle's.
+abbrev pub has_bundle : Option Guard → Bool
+has_bundle None = false
+has_bundle (Some g) = is_bundle g
 
 -- ---- places
 

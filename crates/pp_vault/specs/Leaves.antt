@@ -7,11 +7,11 @@ use Rattle.pp_core.specs.Queries.{is_leaving}
 use Rattle.pp_vault.specs.declared.tokens.Leaver.{Leaver}
 use Rattle.pp_vault.specs.declared.guards.WriteGuard.{WriteGuard}
 use Rattle.pp_vault.specs.declared.guards.Guard.{Guard}
-use Rattle.pp_vault.specs.declared.guards.Guard.TheVariants.{Pin, Read, Write}
+use Rattle.pp_vault.specs.declared.guards.Guard.TheVariants.{Pin, Read, Write, Bundle}
 use Rattle.pp_vault.specs.Parts.{Parts}
 use Rattle.pp_vault.specs.StandsFor.{StandsFor}
 use Rattle.pp_vault.specs.Calls.{Call}
-use Rattle.pp_vault.specs.Fits.{unwind_call}
+use Rattle.pp_vault.specs.Fits.{unwind_call, unwind_bundle_call}
 use Rattle.pp_vault.specs.Events.{Does}
 use Rattle.pp_vault.specs.ImageMoves.{ImagesStay}
 use Rattle.pp_vault.specs.Tokens.{is_long}
@@ -34,14 +34,21 @@ pub record GivesImage (old : Parts) (x : Leaver) (g : WriteGuard) (new : Parts) 
   pub still : StillLeaves old (unwind_call (is_long old g.image) X x.worker g.worker g.slot g.page) x new y
   pub image : IsPutBack old new g.page g.image
 
+-- The slot is a bundle: all its pages are given back, and all images stay.
+pub record GivesBundle (old : Parts) (x : Leaver) (of slot : ℕ) (new : Parts) (y : Leaver) : Type 0 where
+  pub still : StillLeaves old (unwind_bundle_call x.worker of slot) x new y
+  pub images : ImagesStay old new
+
 -- What the call comes to, by the guard.
 abbrev pub give_back_call : Parts → Leaver → Guard → State → Call
 give_back_call v x (Pin g) = unwind_call true Free x.worker g.worker g.slot g.page
 give_back_call v x (Read g) = unwind_call true S x.worker g.worker g.slot g.page
 give_back_call v x (Write g) = unwind_call (is_long v g.image) X x.worker g.worker g.slot g.page
+give_back_call v x (Bundle g) = unwind_bundle_call x.worker g.worker g.slot
 
 -- What it does, by the guard: one of a page that is latched X has its image put back, and else all images stay.
 abbrev pub GivesBack : (old : Parts) → Leaver → Guard → (new : Parts) → Leaver → Type 0
 GivesBack old x (Pin g) new y = GivesSlot old x g.worker g.slot g.page Free new y
 GivesBack old x (Read g) new y = GivesSlot old x g.worker g.slot g.page S new y
 GivesBack old x (Write g) new y = GivesImage old x g new y
+GivesBack old x (Bundle g) new y = GivesBundle old x g.worker g.slot new y

@@ -11,9 +11,10 @@ use Rattle.pp_vault.specs.declared.tokens.Errand.{Errand}
 use Rattle.pp_vault.specs.declared.guards.PinGuard.{PinGuard}
 use Rattle.pp_vault.specs.declared.guards.ReadGuard.{ReadGuard}
 use Rattle.pp_vault.specs.declared.guards.WriteGuard.{WriteGuard}
+use Rattle.pp_vault.specs.declared.guards.BundleGuard.{BundleGuard}
 use Rattle.pp_vault.specs.Parts.{Parts}
 use Rattle.pp_vault.specs.StandsFor.{StandsFor}
-use Rattle.pp_vault.specs.Fits.{is_acting}
+use Rattle.pp_vault.specs.Fits.{is_acting, is_gathered, IsEmpty}
 
 -- Whether an image has as many bytes as a page.
 abbrev pub is_long : Parts → (image : List ℕ) → Bool
@@ -23,9 +24,9 @@ is_long v image = length image == v.page_bytes
 abbrev pub ActsIn : Parts → (w : ℕ) → Type 0
 ActsIn v w = (s : State) → StandsFor v s → is_acting s w ≡ true
 
--- No slot of worker w holds a page.
+-- No slot of worker w holds a page, its own or as a bundle.
 abbrev pub HoldsNothing : Parts → (w : ℕ) → Type 0
-HoldsNothing v w = (s : State) → StandsFor v s → (slot : ℕ) → held_of s w slot ≡ None
+HoldsNothing v w = (s : State) → StandsFor v s → (slot : ℕ) → IsEmpty s w slot
 
 -- The session is of worker w, which acts, and it tells what the worker's plan asks.
 pub record SessionFits (v : Parts) (w : ℕ) (session : Session) : Type 0 where
@@ -51,6 +52,11 @@ pub record WriteFits (v : Parts) (w : ℕ) (guard : WriteGuard) : Type 0 where
   pub mark : (s : State) → StandsFor v s → known_mark s guard.page ≡ Some guard.mark
   pub head : head_of guard.image ≡ (guard.page, guard.mark)
   pub long : length guard.image ≡ v.page_bytes
+
+-- The guard is of worker w, and its slot is a bundle that holds a page.
+pub record BundleFits (v : Parts) (w : ℕ) (guard : BundleGuard) : Type 0 where
+  pub worker : guard.worker ≡ w
+  pub gathered : (s : State) → StandsFor v s → is_gathered s w guard.slot ≡ true
 
 -- What the duty is about is out, as the core tells it.
 abbrev pub IsOut : State → Duty → Type 0

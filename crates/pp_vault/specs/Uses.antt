@@ -1,4 +1,4 @@
--- What unfix, latch, unlatch and giving a slot back come to.
+-- What unfix, scatter, latch, unlatch and giving a slot back come to.
 use Rattle.std.specs.Prelude.{◌≡◌, ℕ, ◌+◌, Some, List}
 use Rattle.pp_cert.specs.declared.note.Held.TheVariants.{S}
 use Rattle.pp_plan.specs.declared.mode.Mode.TheVariants as mode
@@ -8,9 +8,10 @@ use Rattle.pp_vault.specs.declared.tokens.Session.{Session}
 use Rattle.pp_vault.specs.declared.guards.PinGuard.{PinGuard}
 use Rattle.pp_vault.specs.declared.guards.ReadGuard.{ReadGuard}
 use Rattle.pp_vault.specs.declared.guards.WriteGuard.{WriteGuard}
+use Rattle.pp_vault.specs.declared.guards.BundleGuard.{BundleGuard}
 use Rattle.pp_vault.specs.Parts.{Parts}
 use Rattle.pp_vault.specs.StandsFor.{StandsFor}
-use Rattle.pp_vault.specs.Fits.{unfix_call, latch_call, unlatch_call, put_back_call}
+use Rattle.pp_vault.specs.Fits.{unfix_call, scatter_call, latch_call, unlatch_call, put_back_call}
 use Rattle.pp_vault.specs.Events.{Does}
 use Rattle.pp_vault.specs.ImageMoves.{TakenOut, PutIn, ImagesStay}
 use Rattle.pp_vault.specs.Tokens.{is_long, SessionFits, PinFits, ReadFits, WriteFits}
@@ -28,6 +29,12 @@ IsPutBack old new page image =
 -- The guard is spent.
 pub record Unfixes (old : Parts) (x : Session) (g : PinGuard) (new : Parts) (y : Session) : Type 0 where
   pub does : Does old (unfix_call x.worker g.worker g.slot g.page) new
+  pub session : SessionFits new x.worker y
+  pub images : ImagesStay old new
+
+-- All pages of the bundle are unfixed, and its guard is spent.
+pub record Scatters (old : Parts) (x : Session) (g : BundleGuard) (new : Parts) (y : Session) : Type 0 where
+  pub does : Does old (scatter_call x.worker g.worker g.slot) new
   pub session : SessionFits new x.worker y
   pub images : ImagesStay old new
 

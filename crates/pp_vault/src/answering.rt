@@ -12,7 +12,7 @@ ghost use Rattle.pp_vault.specs.Answers.{duty_call, DutyEnds, AnswerComesTo};
 ghost use Rattle.pp_model.specs.Pool.{known_mark};
 ghost use Rattle.pp_device.specs.Image.{head_of};
 
-use crate::guards::PinGuard;
+use crate::guards::{BundleGuard, PinGuard};
 use crate::image::Image;
 use crate::refusal::Refusal;
 use crate::store::Store;
@@ -22,8 +22,12 @@ use pp_core::{Came, Move, Reply};
 /// What the answer of a device comes to.
 #[derive(Debug)]
 pub enum Answered {
-    /// The page was read. Its image stands in its frame, and the slot holds it.
+    /// The page was read for a fix. Its image stands in its frame, and the slot holds it.
     Got(Session, PinGuard),
+    /// The page was read for a gather. Its image stands in its frame, and it is the first page of the bundle.
+    Opened(Session, BundleGuard),
+    /// The page was read for a gather. Its image stands in its frame, and it is one more page of a bundle that holds some.
+    Joined(Session),
     /// The victim was written. Its image goes on with an errand to read the page into it.
     Away(Errand),
     /// The worker leaves its plan, and the image that came is back in the frame that the page had. Either the device
@@ -178,9 +182,9 @@ impl Store {
         page: u32,
         image: Image,
         ok: bool,
-    ) -> Result<Result<(Session, PinGuard), Leaver>, (Image, Refusal)>
+    ) -> Result<Answered, (Image, Refusal)>
         requires { IsKept (parts_of self.old) }
-        ensures ok { IfOk result (λ ends. ReadEnds (parts_of self.old) worker slot page image ok ends
+        ensures ok { IfOk result (λ out. ReadEnds (parts_of self.old) worker slot page image ok out
             (parts_of self.new)) }
         ensures err { IfErr result (λ e. Refuses (parts_of self.old)
             (read_call (parts_of self.old).page_bytes worker slot page image ok) e.1) }
@@ -201,8 +205,15 @@ impl Store {
         };
         self.put(frame, image);
         match reply {
-            Reply::Loaded { .. } => Ok(Ok((self.session(worker), PinGuard { worker, slot, page }))),
-            Reply::Failed { .. } => Ok(Err(Leaver { worker })),
+            Reply::Loaded { .. } => {
+                let session = self.session(worker);
+                match self.core.gathered(worker, slot) {
+                    0 => Ok(Answered::Got(session, PinGuard { worker, slot, page })),
+                    1 => Ok(Answered::Opened(session, BundleGuard { worker, slot })),
+                    _ => Ok(Answered::Joined(session)),
+                }
+            }
+            Reply::Failed { .. } => Ok(Answered::Lost(Leaver { worker })),
             _ => unreachable!(),
         }
     }
@@ -217,12 +228,7 @@ impl Store {
         ensures unchanged { OnErr result (parts_of self.new ≡ untold (parts_of self.old)) }
     {
         match duty {
-            Duty::Read { worker, slot, page } => {
-                match self.read(worker, slot, page, image, ok)? {
-                    Ok((session, guard)) => Ok(Answered::Got(session, guard)),
-                    Err(leaver) => Ok(Answered::Lost(leaver)),
-                }
-            }
+            Duty::Read { worker, slot, page } => self.read(worker, slot, page, image, ok),
             Duty::Write {
                 worker,
                 slot,

@@ -1,14 +1,14 @@
-//! Fix, and the answer of a device: an image leaves its frame with an errand, and comes back.
+//! Fix: a page comes into a slot, or an image leaves its frame with an errand.
 
 ghost use Rattle.std.specs.Prelude.{◌≡◌};
 ghost use Rattle.pp_vault.specs.Parts.{parts_of};
 ghost use Rattle.pp_vault.specs.Fixes.{FixAnswers};
-ghost use Rattle.pp_vault.specs.Fits.{fix_slot, names_slot as slot_is_named};
+ghost use Rattle.pp_vault.specs.Fits.{fix_slot, asked_at};
 ghost use Rattle.pp_vault.specs.StandsFor.{StandsFor, IsKept};
 ghost use Rattle.pp_model.specs.Pool.{State};
 ghost use Rattle.pp_core.specs.Queries.{ask_of};
 
-use crate::guards::PinGuard;
+use crate::guards::{BundleGuard, PinGuard};
 use crate::refusal::Refusal;
 use crate::store::Store;
 use crate::tokens::{Duty, Errand, Session};
@@ -19,43 +19,47 @@ use pp_core::{Ask, Reply};
 pub enum Fixed {
     /// The page was cached, and the slot holds it.
     Got(Session, PinGuard),
+    /// The page was cached. The plan asks a gather, and it is the first page of the bundle.
+    Opened(Session, BundleGuard),
+    /// The page was cached. The plan asks a gather, and it is one more page of a bundle that holds some.
+    Joined(Session),
     /// A device has to work first. The page has a frame, and the errand has the image that was in it.
     Away(Errand),
     /// It is refused, and nothing has changed.
     No(Session, Refusal),
 }
 
-/// The slot of a plan that asks a fix; zero where it asks something else.
+/// The slot of a plan that asks a fix or a gather; zero where it asks something else.
 fn slot_of(ask: Ask) -> u32
     ensures { result ≡ fix_slot ask }
 {
     match ask {
-        Ask::Fix { slot, .. } => u32::from(slot),
+        Ask::Fix { slot, .. } | Ask::Gather { slot, .. } => u32::from(slot),
         _ => 0,
     }
 }
 
 impl Store {
-    /// Whether the session's worker acts, and the session tells the slot of the fix that the plan asks.
-    fn names_slot(&self, session: &Session) -> bool
+    /// What the plan of the session's worker asks, where the worker acts and the session tells the slot of it.
+    fn asked_slot(&self, session: &Session) -> Option<Ask>
         ensures { (s : State) → StandsFor (parts_of self.now) s
-            → result ≡ slot_is_named (fix_slot session.now.ask) (ask_of s session.now.worker) }
+            → result ≡ asked_at (fix_slot session.now.ask) (ask_of s session.now.worker) }
     {
         match self.core.ask(session.worker) {
-            Some(ask) => slot_of(session.ask) == slot_of(ask),
-            None => false,
+            Some(ask) if slot_of(session.ask) == slot_of(ask) => Some(ask),
+            _ => None,
         }
     }
 
-    /// A worker fixes a page into the slot that its plan names.
+    /// A worker fixes or gathers a page into the slot that its plan names.
     pub(crate) fn fix(&mut self, session: Session, page: u32) -> Fixed
         requires { IsKept (parts_of self.old) }
         ensures { FixAnswers (parts_of self.old) session page result (parts_of self.new) }
     {
-        if !self.names_slot(&session) {
+        let Some(asked) = self.asked_slot(&session) else {
             self.refuse();
             return Fixed::No(session, Refusal::Stranger);
-        }
+        };
         let worker = session.worker;
         let slot = slot_of(session.ask);
         let reply = match self.step_fix(worker, page) {
@@ -64,7 +68,16 @@ impl Store {
         };
         let Session { worker, ask: _ } = session;
         match reply {
-            Reply::Hit { .. } => Fixed::Got(self.session(worker), PinGuard { worker, slot, page }),
+            Reply::Hit { .. } => {
+                let session = self.session(worker);
+                let Ask::Gather { .. } = asked else {
+                    return Fixed::Got(session, PinGuard { worker, slot, page });
+                };
+                if self.core.gathered(worker, slot) > 1 {
+                    return Fixed::Joined(session);
+                }
+                Fixed::Opened(session, BundleGuard { worker, slot })
+            }
             Reply::MustRead { frame } => {
                 let image = self.take_out(frame);
                 let duty = Duty::Read { worker, slot, page };

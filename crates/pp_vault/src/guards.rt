@@ -41,12 +41,23 @@ pub struct WriteGuard {
     pub(crate) image: Image,
 }
 
+/// A slot that is a bundle: it pins each page that was gathered into it. They aren't latched through it.
+///
+/// There is one for the bundle, however many pages it holds. It is spent by scattering the bundle, or by giving it back on
+/// the way out of a plan; the compiler refuses code that lets it fall.
+#[derive(Debug)]
+pub struct BundleGuard {
+    pub(crate) worker: u32,
+    pub(crate) slot: u32,
+}
+
 /// Any guard of a slot.
 #[derive(Debug)]
 pub enum Guard {
     Pin(PinGuard),
     Read(ReadGuard),
     Write(WriteGuard),
+    Bundle(BundleGuard),
 }
 
 impl Guard {
@@ -58,7 +69,17 @@ impl Guard {
             Guard::Pin(guard) => guard.slot,
             Guard::Read(guard) => guard.slot,
             Guard::Write(guard) => guard.slot,
+            Guard::Bundle(guard) => guard.slot,
         }
+    }
+}
+
+impl BundleGuard {
+    /// The slot's number.
+    pub fn slot(&self) -> u32
+        ensures { result ≡ self.now.slot }
+    {
+        self.slot
     }
 }
 

@@ -1,23 +1,24 @@
-//! Unfix, latch and unlatch: guards that turn into one another.
+//! Unfix, scatter, latch and unlatch: guards that are spent, or turn into one another.
 
-ghost use Rattle.std.specs.Prelude.{◌≡◌, ◌<◌, ◌&&◌, true, None, Some, IfOk, IfErr, IfSome, IfNone, OnErr, length, slice_set};
+ghost use Rattle.std.specs.Prelude.{◌≡◌, ◌<◌, ◌&&◌, true, Some, IfOk, IfErr, IfSome, IfNone, OnErr, length, slice_set};
 ghost use Rattle.pp_device.specs.Image.{with_head};
 ghost use Rattle.pp_model.specs.Pool.{State};
 ghost use Rattle.pp_cert.specs.declared.note.Held.TheVariants.{S, X};
 ghost use Rattle.pp_plan.specs.declared.mode.Mode.TheVariants as mode;
-ghost use Rattle.pp_core.specs.Queries.{ask_of, held_of};
+ghost use Rattle.pp_core.specs.Queries.{ask_of};
 ghost use Rattle.pp_vault.specs.Calls.{Call, refusal_of};
 ghost use Rattle.pp_vault.specs.Parts.{parts_of};
 ghost use Rattle.pp_vault.specs.StandsFor.{StandsFor, IsKept};
-ghost use Rattle.pp_vault.specs.Fits.{unfix_call, latch_call, unlatch_call, put_back_call, is_held_so, guard_call};
-ghost use Rattle.pp_vault.specs.Fits.{fits_both as both_fit, asks_unfix as unfix_is_asked};
+ghost use Rattle.pp_vault.specs.Fits.{unfix_call, scatter_call, latch_call, unlatch_call, put_back_call, is_held_so};
+ghost use Rattle.pp_vault.specs.Fits.{is_gathered, bundle_fits, IsEmpty, guard_call};
+ghost use Rattle.pp_vault.specs.Fits.{fits_both as both_fit, asks_unfix as unfix_is_asked, asks_scatter as scatter_is_asked};
 ghost use Rattle.pp_vault.specs.Fits.{asks_latch as latch_is_asked, asks_unlatch as unlatch_is_asked};
 ghost use Rattle.pp_vault.specs.Steps.{told_mark};
 ghost use Rattle.pp_vault.specs.Events.{Refuses, untold};
-ghost use Rattle.pp_vault.specs.Uses.{Unfixes, LatchesShared, LatchesExclusive, UnlatchesShared, UnlatchesExclusive};
+ghost use Rattle.pp_vault.specs.Uses.{Unfixes, Scatters, LatchesShared, LatchesExclusive, UnlatchesShared, UnlatchesExclusive};
 ghost use Rattle.pp_vault.specs.Tokens.{is_long};
 
-use crate::guards::{PinGuard, ReadGuard, WriteGuard};
+use crate::guards::{BundleGuard, PinGuard, ReadGuard, WriteGuard};
 use crate::refusal::Refusal;
 use crate::store::Store;
 use crate::tokens::Session;
@@ -61,6 +62,20 @@ impl Store {
         }
     }
 
+    /// Whether the worker's slot is a bundle that holds a page.
+    pub(crate) fn has_gathered(&self, worker: u32, slot: u32) -> bool
+        ensures { (s : State) → StandsFor (parts_of self.now) s → result ≡ is_gathered s worker slot }
+    {
+        self.core.gathered(worker, slot) > 0
+    }
+
+    /// Whether a session and a bundle's guard fit: the worker acts, the guard is that worker's, and its slot is a bundle.
+    fn fits_bundle(&self, worker: u32, of: u32, slot: u32) -> bool
+        ensures { (s : State) → StandsFor (parts_of self.now) s → result ≡ bundle_fits s worker of slot }
+    {
+        self.core.ask(worker).is_some() && of == worker && self.has_gathered(worker, slot)
+    }
+
     /// Whether a session and a guard fit: the worker acts, the guard is that worker's, and its slot holds its page so.
     fn fits_both(&self, worker: u32, of: u32, slot: u32, page: u32, held: Held) -> bool
         ensures { (s : State) → StandsFor (parts_of self.now) s → result ≡ both_fit s worker of slot page held }
@@ -85,6 +100,16 @@ impl Store {
     {
         match self.core.ask(worker) {
             Some(Ask::Unfix { slot: of }) => slot == u32::from(of),
+            _ => false,
+        }
+    }
+
+    /// Whether the worker's plan asks a scatter of the slot.
+    fn asks_scatter(&self, worker: u32, slot: u32) -> bool
+        ensures { (s : State) → StandsFor (parts_of self.now) s → result ≡ scatter_is_asked slot (ask_of s worker) }
+    {
+        match self.core.ask(worker) {
+            Some(Ask::Scatter { slot: of }) => slot == u32::from(of),
             _ => false,
         }
     }
@@ -123,7 +148,7 @@ impl Store {
         requires { IsKept (parts_of self.old) }
         ensures ok { IfOk result (λ after. Unfixes (parts_of self.old) session guard (parts_of self.new) after) }
         ensures empty { IfOk result (λ _. (s : State) → StandsFor (parts_of self.new) s
-            → held_of s session.worker guard.slot ≡ None) }
+            → IsEmpty s session.worker guard.slot) }
         ensures err { IfErr result (λ e. Refuses (parts_of self.old)
             (unfix_call session.worker guard.worker guard.slot guard.page) e.2) }
         ensures back { IfErr result (λ e. (e.0 ≡ session) × (e.1 ≡ guard)) }
@@ -143,6 +168,37 @@ impl Store {
                     slot: _,
                     page: _,
                 } = guard;
+                Ok(self.session(worker))
+            }
+            Err(refusal) => Err((session, guard, refusal)),
+        }
+    }
+
+    /// A worker gives back all pages of a bundle.
+    pub(crate) fn scatter(
+        &mut self,
+        session: Session,
+        guard: BundleGuard,
+    ) -> Result<Session, (Session, BundleGuard, Refusal)>
+        requires { IsKept (parts_of self.old) }
+        ensures ok { IfOk result (λ after. Scatters (parts_of self.old) session guard (parts_of self.new) after) }
+        ensures empty { IfOk result (λ _. (s : State) → StandsFor (parts_of self.new) s
+            → IsEmpty s session.worker guard.slot) }
+        ensures err { IfErr result (λ e. Refuses (parts_of self.old)
+            (scatter_call session.worker guard.worker guard.slot) e.2) }
+        ensures back { IfErr result (λ e. (e.0 ≡ session) × (e.1 ≡ guard)) }
+        ensures unchanged { OnErr result (parts_of self.new ≡ untold (parts_of self.old)) }
+    {
+        let worker = session.worker;
+        let fits = self.fits_bundle(worker, guard.worker, guard.slot);
+        if let Some(refusal) = objection(fits, self.asks_scatter(worker, guard.slot)) {
+            self.refuse();
+            return Err((session, guard, refusal));
+        }
+        match self.step_unfix(worker) {
+            Ok(_) => {
+                let Session { worker, ask: _ } = session;
+                let BundleGuard { worker: _, slot: _ } = guard;
                 Ok(self.session(worker))
             }
             Err(refusal) => Err((session, guard, refusal)),

@@ -1,18 +1,18 @@
 //! Giving slots back: what a worker that leaves its plan does with its guards.
 
-ghost use Rattle.std.specs.Prelude.{◌≡◌, ◌≢◌, ◌&&◌, true, None, IfOk, IfErr, OnErr};
+ghost use Rattle.std.specs.Prelude.{◌≡◌, ◌≢◌, ◌&&◌, true, IfOk, IfErr, OnErr};
 ghost use Rattle.pp_model.specs.Pool.{State};
 ghost use Rattle.pp_cert.specs.declared.note.Held.TheVariants.{X};
-ghost use Rattle.pp_core.specs.Queries.{held_of};
 ghost use Rattle.pp_vault.specs.Holding.{slot_by};
 ghost use Rattle.pp_vault.specs.Parts.{parts_of};
 ghost use Rattle.pp_vault.specs.StandsFor.{StandsFor, IsKept};
-ghost use Rattle.pp_vault.specs.Fits.{leaver_fits as fits_leaving, unwind_call};
+ghost use Rattle.pp_vault.specs.Fits.{leaver_fits as fits_leaving, leaver_fits_bundle, IsEmpty, unwind_call};
+ghost use Rattle.pp_vault.specs.Fits.{unwind_bundle_call};
 ghost use Rattle.pp_vault.specs.Events.{Refuses, untold};
 ghost use Rattle.pp_vault.specs.Tokens.{is_long};
-ghost use Rattle.pp_vault.specs.Leaves.{give_back_call, GivesSlot, GivesImage, GivesBack};
+ghost use Rattle.pp_vault.specs.Leaves.{give_back_call, GivesSlot, GivesImage, GivesBundle, GivesBack};
 
-use crate::guards::{Guard, PinGuard, ReadGuard, WriteGuard};
+use crate::guards::{BundleGuard, Guard, PinGuard, ReadGuard, WriteGuard};
 use crate::latching::mark_in;
 use crate::refusal::Refusal;
 use crate::store::Store;
@@ -38,6 +38,13 @@ impl Store {
             && guard.image.len() == self.page_bytes
     }
 
+    /// Whether a leaving worker and a bundle's guard fit: the guard is the worker's, and its slot is a bundle.
+    fn fits_leaver_bundle(&self, worker: u32, of: u32, slot: u32) -> bool
+        ensures { (s : State) → StandsFor (parts_of self.now) s → result ≡ leaver_fits_bundle s worker of slot }
+    {
+        self.core.is_leaving(worker) && of == worker && self.has_gathered(worker, slot)
+    }
+
     /// A worker that leaves gives back a slot that isn't latched X. All images stay.
     fn give_slot(
         &mut self,
@@ -52,7 +59,7 @@ impl Store {
         ensures ok { IfOk result
             (λ after. GivesSlot (parts_of self.old) leaver of slot page held (parts_of self.new) after) }
         ensures empty { IfOk result (λ _. (s : State) → StandsFor (parts_of self.new) s
-            → held_of s leaver.worker slot ≡ None) }
+            → IsEmpty s leaver.worker slot) }
         ensures err { IfErr result (λ e. Refuses (parts_of self.old)
             (unwind_call true held leaver.worker of slot page) e.1) }
         ensures back { IfErr result (λ e. e.0 ≡ leaver) }
@@ -79,7 +86,7 @@ impl Store {
         requires { IsKept (parts_of self.old) }
         ensures ok { IfOk result (λ after. GivesImage (parts_of self.old) leaver guard (parts_of self.new) after) }
         ensures empty { IfOk result (λ _. (s : State) → StandsFor (parts_of self.new) s
-            → held_of s leaver.worker guard.slot ≡ None) }
+            → IsEmpty s leaver.worker guard.slot) }
         ensures err { IfErr result (λ e. Refuses (parts_of self.old) (unwind_call
             (is_long (parts_of self.old) guard.image) X leaver.worker guard.worker guard.slot guard.page) e.2) }
         ensures back { IfErr result (λ e. (e.0 ≡ leaver) × (e.1 ≡ guard)) }
@@ -111,6 +118,37 @@ impl Store {
         }
     }
 
+    /// A worker that leaves gives a bundle back, all its pages at once. All images stay.
+    fn give_bundle(
+        &mut self,
+        leaver: Leaver,
+        guard: BundleGuard,
+    ) -> Result<Leaver, (Leaver, BundleGuard, Refusal)>
+        requires { IsKept (parts_of self.old) }
+        ensures ok { IfOk result
+            (λ after. GivesBundle (parts_of self.old) leaver guard.worker guard.slot (parts_of self.new) after) }
+        ensures empty { IfOk result (λ _. (s : State) → StandsFor (parts_of self.new) s
+            → IsEmpty s leaver.worker guard.slot) }
+        ensures err { IfErr result (λ e. Refuses (parts_of self.old)
+            (unwind_bundle_call leaver.worker guard.worker guard.slot) e.2) }
+        ensures back { IfErr result (λ e. (e.0 ≡ leaver) × (e.1 ≡ guard)) }
+        ensures unchanged { OnErr result (parts_of self.new ≡ untold (parts_of self.old)) }
+    {
+        let worker = leaver.worker;
+        let slot = guard.slot;
+        if !self.fits_leaver_bundle(worker, guard.worker, slot) {
+            self.refuse();
+            return Err((leaver, guard, Refusal::Stranger));
+        }
+        match self.step(Move::Unwind { worker, slot }) {
+            Ok(_) => {
+                let BundleGuard { worker: _, slot: _ } = guard;
+                Ok(leaver)
+            }
+            Err(refusal) => Err((leaver, guard, refusal)),
+        }
+    }
+
     /// A worker that leaves gives a slot back.
     pub(crate) fn give_back(
         &mut self,
@@ -120,7 +158,7 @@ impl Store {
         requires { IsKept (parts_of self.old) }
         ensures ok { IfOk result (λ after. GivesBack (parts_of self.old) leaver guard (parts_of self.new) after) }
         ensures empty { IfOk result (λ _. (s : State) → StandsFor (parts_of self.new) s
-            → held_of s leaver.worker (slot_by guard) ≡ None) }
+            → IsEmpty s leaver.worker (slot_by guard)) }
         ensures err { IfErr result
             (λ e. Refuses (parts_of self.old) (give_back_call (parts_of self.old) leaver guard) e.2) }
         ensures back { IfErr result (λ e. (e.0 ≡ leaver) × (e.1 ≡ guard)) }
@@ -158,6 +196,10 @@ impl Store {
             Guard::Write(guard) => match self.give_image(leaver, guard) {
                 Ok(leaver) => Ok(leaver),
                 Err((leaver, guard, refusal)) => Err((leaver, Guard::Write(guard), refusal)),
+            },
+            Guard::Bundle(guard) => match self.give_bundle(leaver, guard) {
+                Ok(leaver) => Ok(leaver),
+                Err((leaver, guard, refusal)) => Err((leaver, Guard::Bundle(guard), refusal)),
             },
         }
     }

@@ -6,7 +6,7 @@
 
 pub use answering::Answered;
 pub use fixing::Fixed;
-pub use guards::{Guard, PinGuard, ReadGuard, WriteGuard};
+pub use guards::{BundleGuard, Guard, PinGuard, ReadGuard, WriteGuard};
 pub use hands::{Flushing, Hands, Workers};
 pub use places::Guards;
 pub use pp_core::{

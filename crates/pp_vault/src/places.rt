@@ -1,8 +1,8 @@
 //! The guards of a worker, each in the place of its slot.
 
 ghost use Rattle.std.specs.Prelude.{◌≡◌, true, false, None, Some, OnOk, IfErr};
-ghost use Rattle.std.specs.Prelude.{OnErr, IfSome, IfNone, slice_set, option_map, length};
-ghost use Rattle.pp_vault.specs.Holding.{slot_by, held_by, placed, is_free, all_free, no_guards};
+ghost use Rattle.std.specs.Prelude.{OnErr, IfSome, IfNone, slice_set, option_and_then, length};
+ghost use Rattle.pp_vault.specs.Holding.{slot_by, held_by, has_bundle, placed, is_free, all_free, no_guards};
 
 use crate::guards::Guard;
 use crate::stored::StoredGuard;
@@ -83,14 +83,24 @@ impl Guards {
         }
     }
 
-    /// The page that the guard of a slot is of, and how it is held.
+    /// The page that the guard of a slot is of, and how it is held. None also where the guard is a bundle's.
     pub fn held(&self, slot: u32) -> Option<(u32, Held)>
-        ensures held { result ≡ option_map held_by (placed self.now slot) }
+        ensures held { result ≡ option_and_then held_by (placed self.now slot) }
         ensures long { length self.now ≡ 32 }
     {
         match self.places.get(slot as usize) {
-            Some(Some(stored)) => Some(stored.held()),
+            Some(Some(stored)) => stored.held(),
             _ => None,
+        }
+    }
+
+    /// Whether there is a guard of the slot, and it is a bundle's.
+    pub fn has_bundle(&self, slot: u32) -> bool
+        ensures { result ≡ has_bundle (placed self.now slot) }
+    {
+        match self.places.get(slot as usize) {
+            Some(Some(stored)) => stored.is_bundle(),
+            _ => false,
         }
     }
 

@@ -1,9 +1,9 @@
 //! Guards and a worker's tokens as plain data: what the places of the hands keep.
 
 ghost use Rattle.std.specs.Prelude.{◌≡◌};
-ghost use Rattle.pp_vault.specs.Holding.{held_by};
+ghost use Rattle.pp_vault.specs.Holding.{held_by, is_bundle};
 
-use crate::guards::{Guard, PinGuard, ReadGuard, WriteGuard};
+use crate::guards::{BundleGuard, Guard, PinGuard, ReadGuard, WriteGuard};
 use crate::image::Image;
 use crate::places::{Guards, SLOTS};
 use crate::stage::{Hand, Stage};
@@ -13,7 +13,7 @@ use pp_device::Fault;
 use pp_plan::Ask;
 use std::marker::Model;
 
-/// What a guard has beside its worker, slot and page.
+/// What a guard has beside its worker and slot, and the page that a guard of one has.
 #[derive(Drop)]
 pub(crate) enum StoredLatch {
     /// Not latched.
@@ -22,6 +22,8 @@ pub(crate) enum StoredLatch {
     Shared(u64),
     /// Latched X, with the mark and the image.
     Exclusive(u64, Image),
+    /// A bundle's, which has no page.
+    Bundle,
 }
 
 /// A guard as plain data. Contracts see it as the guard.
@@ -85,6 +87,12 @@ impl StoredGuard {
                 page,
                 latch: StoredLatch::Exclusive(mark, image),
             },
+            Guard::Bundle(BundleGuard { worker, slot }) => StoredGuard {
+                worker,
+                slot,
+                page: 0,
+                latch: StoredLatch::Bundle,
+            },
         }
     }
 
@@ -113,19 +121,32 @@ impl StoredGuard {
                 mark,
                 image,
             }),
+            StoredLatch::Bundle => Guard::Bundle(BundleGuard { worker, slot }),
         }
     }
 
-    /// The page that the guard is of, and how it is held.
-    pub(crate) fn held(&self) -> (u32, Held)
+    /// The page that the guard is of, and how it is held. None of a bundle's.
+    pub(crate) fn held(&self) -> Option<(u32, Held)>
         ensures { result ≡ held_by self.now }
     {
-        let held = match &self.latch {
-            StoredLatch::Free => Held::Free,
-            StoredLatch::Shared(_) => Held::S,
-            StoredLatch::Exclusive(_, _) => Held::X,
-        };
-        (self.page, held)
+        match &self.latch {
+            StoredLatch::Free => Some((self.page, Held::Free)),
+            StoredLatch::Shared(_) => Some((self.page, Held::S)),
+            StoredLatch::Exclusive(_, _) => Some((self.page, Held::X)),
+            StoredLatch::Bundle => None,
+        }
+    }
+
+    /// Whether the guard is a bundle's.
+    pub(crate) fn is_bundle(&self) -> bool
+        ensures { result ≡ is_bundle self.now }
+    {
+        match &self.latch {
+            StoredLatch::Free => false,
+            StoredLatch::Shared(_) => false,
+            StoredLatch::Exclusive(_, _) => false,
+            StoredLatch::Bundle => true,
+        }
     }
 }
 

@@ -9,7 +9,7 @@ ghost use Rattle.pp_model.specs.Submitting.{submit_error};
 ghost use Rattle.pp_vault.specs.Submits.{TakesIn};
 ghost use Rattle.pp_model.specs.Turns.{next_turn, IsOpen, IsUnderWay};
 ghost use Rattle.pp_core.specs.Opening.{kept_of};
-ghost use Rattle.pp_core.specs.Queries.{is_idle, ask_of, held_of, errand_of};
+ghost use Rattle.pp_core.specs.Queries.{is_idle, ask_of, errand_of};
 ghost use Rattle.pp_vault.specs.Stages.{AllIdle};
 ghost use Rattle.pp_vault.specs.Hands.{HandsFit};
 ghost use Rattle.pp_vault.specs.Holding.{slot_by};
@@ -18,8 +18,8 @@ ghost use Rattle.pp_vault.specs.StandsFor.{StandsFor, IsKept};
 ghost use Rattle.pp_vault.specs.Calls.{refusal_in};
 ghost use Rattle.pp_vault.specs.Headline.{HeadlineHolds};
 ghost use Rattle.pp_vault.specs.Events.{Refuses, Does, untold};
-ghost use Rattle.pp_vault.specs.Fits.{take_call, choose_call, finish_call, end_call, unfix_call, latch_call};
-ghost use Rattle.pp_vault.specs.Fits.{unlatch_call, put_back_call};
+ghost use Rattle.pp_vault.specs.Fits.{is_gathered, IsEmpty, take_call, choose_call, finish_call, end_call, unfix_call};
+ghost use Rattle.pp_vault.specs.Fits.{scatter_call, latch_call, unlatch_call, put_back_call};
 ghost use Rattle.pp_vault.specs.ImageMoves.{ImagesStay};
 ghost use Rattle.pp_vault.specs.Tokens.{is_long, SessionFits, HoldsNothing, ErrandFits};
 ghost use Rattle.pp_vault.specs.Flushes.{flush_call, next_call, CopiesOut, CopiesNext};
@@ -28,11 +28,11 @@ ghost use Rattle.pp_vault.specs.Looks.{may_see, may_look, Shows, ShowsBody};
 ghost use Rattle.pp_vault.specs.Answers.{AnswerComesTo};
 ghost use Rattle.pp_cert.specs.declared.note.Held.TheVariants.{S};
 ghost use Rattle.pp_plan.specs.declared.mode.Mode.TheVariants as mode;
-ghost use Rattle.pp_vault.specs.Uses.{Unfixes, LatchesShared, LatchesExclusive, UnlatchesShared, UnlatchesExclusive};
+ghost use Rattle.pp_vault.specs.Uses.{Unfixes, Scatters, LatchesShared, LatchesExclusive, UnlatchesShared, UnlatchesExclusive};
 
 use crate::answering::Answered;
 use crate::fixing::Fixed;
-use crate::guards::{Guard, PinGuard, ReadGuard, WriteGuard};
+use crate::guards::{BundleGuard, Guard, PinGuard, ReadGuard, WriteGuard};
 use crate::hands::Hands;
 use crate::refusal::{Refusal, refusal_by};
 use crate::stopped::Stopped;
@@ -288,6 +288,22 @@ impl Vault {
         self.store.core.errand(worker)
     }
 
+    /// Whether the worker's slot is a bundle that holds a page.
+    pub fn has_bundle(&self, worker: u32, slot: u32) -> bool
+        ensures { (s : State) → StandsFor self.now s → result ≡ is_gathered s worker slot }
+    {
+        self.store.has_gathered(worker, slot)
+    }
+
+    /// Does nothing but that no move is told of the last call, as of one that was refused.
+    pub fn refuse(&mut self)
+        ensures unchanged { self.new ≡ untold self.old }
+        ensures kept { IsKept self.new }
+        ensures headline { HeadlineHolds self.new }
+    {
+        self.store.refuse();
+    }
+
     /// The move and the reply of the last call that was a move; none before the first, and where it was refused.
     pub fn done(&self) -> Option<(Move, Reply)>
         ensures { result ≡ self.now.last }
@@ -307,11 +323,12 @@ impl Vault {
         stopped.scrap();
     }
 
-    /// A worker fixes a page into the slot that its plan names.
+    /// A worker fixes a page into the slot that its plan names, or gathers it there where the plan asks that.
     ///
-    /// Where the page is cached, the slot holds it, and no image moves. Where it isn't, it gets a frame, and the image in
-    /// that frame goes with an errand: to have the page read into it, or first to be written back, where it is of a
-    /// victim that is newer than the device's.
+    /// Where the page is cached, the slot holds it, and no image moves. A gather gives the bundle's guard with the first
+    /// page that the bundle holds; a further page joins those, and no guard comes. Where the page isn't cached, it gets a
+    /// frame, and the image in that frame goes with an errand: to have the page read into it, or first to be written back,
+    /// where it is of a victim that is newer than the device's.
     ///
     /// It is refused as [`Refusal::Stranger`] where the session's worker doesn't act, or the session tells another slot than
     /// the plan, and else as the core refuses it.
@@ -352,7 +369,7 @@ impl Vault {
     ) -> Result<Session, (Session, PinGuard, Refusal)>
         ensures ok { IfOk result (λ after. Unfixes self.old session guard self.new after) }
         ensures empty { IfOk result (λ _. (s : State) → StandsFor self.new s
-            → held_of s session.worker guard.slot ≡ None) }
+            → IsEmpty s session.worker guard.slot) }
         ensures err { IfErr result (λ e. Refuses self.old
             (unfix_call session.worker guard.worker guard.slot guard.page) e.2) }
         ensures back { IfErr result (λ e. (e.0 ≡ session) × (e.1 ≡ guard)) }
@@ -361,6 +378,29 @@ impl Vault {
         ensures headline { HeadlineHolds self.new }
     {
         self.store.unfix(session, guard)
+    }
+
+    /// A worker gives back all pages of a bundle, in one event. The guard is spent.
+    ///
+    /// # Errors
+    ///
+    /// As in [`Vault::unfix`].
+    pub fn scatter(
+        &mut self,
+        session: Session,
+        guard: BundleGuard,
+    ) -> Result<Session, (Session, BundleGuard, Refusal)>
+        ensures ok { IfOk result (λ after. Scatters self.old session guard self.new after) }
+        ensures empty { IfOk result (λ _. (s : State) → StandsFor self.new s
+            → IsEmpty s session.worker guard.slot) }
+        ensures err { IfErr result (λ e. Refuses self.old
+            (scatter_call session.worker guard.worker guard.slot) e.2) }
+        ensures back { IfErr result (λ e. (e.0 ≡ session) × (e.1 ≡ guard)) }
+        ensures unchanged { OnErr result (self.new ≡ untold self.old) }
+        ensures kept { IsKept self.new }
+        ensures headline { HeadlineHolds self.new }
+    {
+        self.store.scatter(session, guard)
     }
 
     /// A worker latches the page of a slot S. Its image may be looked at then.
@@ -468,8 +508,8 @@ impl Vault {
         self.store.unlatch_exclusive(session, guard)
     }
 
-    /// A worker that leaves its plan gives a slot back, latch and pin together. Where it has the page latched X, the
-    /// guard's image goes back into its frame, as in [`Vault::unlatch_exclusive`].
+    /// A worker that leaves its plan gives a slot back, latch and pin together, or all pages of a bundle. Where it has the
+    /// page latched X, the guard's image goes back into its frame, as in [`Vault::unlatch_exclusive`].
     ///
     /// # Errors
     ///
@@ -482,7 +522,7 @@ impl Vault {
     ) -> Result<Leaver, (Leaver, Guard, Refusal)>
         ensures ok { IfOk result (λ after. GivesBack self.old leaver guard self.new after) }
         ensures empty { IfOk result (λ _. (s : State) → StandsFor self.new s
-            → held_of s leaver.worker (slot_by guard) ≡ None) }
+            → IsEmpty s leaver.worker (slot_by guard)) }
         ensures err { IfErr result (λ e. Refuses self.old (give_back_call self.old leaver guard) e.2) }
         ensures back { IfErr result (λ e. (e.0 ≡ leaver) × (e.1 ≡ guard)) }
         ensures unchanged { OnErr result (self.new ≡ untold self.old) }

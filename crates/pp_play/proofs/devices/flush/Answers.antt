@@ -5,7 +5,7 @@ use Rattle.pp_play.proofs.Done.{done_comes}
 use Rattle.pp_play.proofs.Asked.{flush_done as begun}
 use Rattle.pp_play.proofs.Others.{still_fits}
 use Rattle.pp_play.proofs.FlushHands.{flush_plays, flush_refused}
-use Rattle.std.proofs.Common.{◌≡◌, ℕ, None, List, refl, sym, subst, rules}
+use Rattle.std.proofs.Common.{◌≡◌, None, refl, sym, subst, rules}
 use Rattle.pp_model.specs.Pool.{State}
 use Rattle.pp_vault.specs.StandsFor.{StandsFor}
 use Rattle.pp_contents.specs.ContentLaws.{KeepsContents}

@@ -16,6 +16,12 @@ use Rattle.pp_play.proofs.Answers.{worked, none_at}
 use Rattle.pp_play.proofs.Moved.{refused_moves}
 use Rattle.pp_play.proofs.devices.work.Goals as goal
 
+pub answer-stage-requires-clause-place : goal.answer-stage-requires-clause-place
+answer-stage-requires-clause-place g c = c.errand_has_place-has_place.ensures.free c.if-not-has_place.false
+
+pub answer-stage-requires-in-Back-clause-place : goal.answer-stage-requires-in-Back-clause-place
+answer-stage-requires-in-Back-clause-place g c = c.errand_has_place-has_place.ensures.free c.if-not-has_place-2.false
+
 pub returns-then-not-has_place-clause-plays : goal.returns-then-not-has_place-clause-plays
 returns-then-not-has_place-clause-plays g c fits =
     absurd (c.errand_has_place-has_place.ensures.taken c.if-not-has_place.true c.known.ensures.kept

@@ -6,6 +6,9 @@ use Rattle.pp_play.proofs.OffPlan.{fix_inactive}
 use Rattle.pp_play.proofs.Moved.{moves_of, refused_moves}
 use Rattle.pp_play.proofs.guards.fix.Goals as goal
 
+pub fix_in-stage-requires-clause-place : goal.fix_in-stage-requires-clause-place
+fix_in-stage-requires-clause-place c = c.fix_has_place.ensures.free (search rules)
+
 pub returns-then-not-fix_has_place-clause-plays : goal.returns-then-not-fix_has_place-clause-plays
 returns-then-not-fix_has_place-clause-plays c =
     λ fits.

@@ -13,6 +13,13 @@ returns-in-Unfix-clause-plays c =
     (λ t. PlaysHand c.args.vault.now c.args.worker (hand_of t c.args.hand.guards) (cue.Unfix c.args.worker) s.result.1
     s.new.vault (hand_of s.result.0 s.new.guards)) (sym c.in-In.is) s.ensures.plays
 
+pub returns-in-Scatter-clause-plays : goal.returns-in-Scatter-clause-plays
+returns-in-Scatter-clause-plays c =
+    let s = c.scatter_slot-stage in
+    subst
+    (λ t. PlaysHand c.args.vault.now c.args.worker (hand_of t c.args.hand.guards) (cue.Unfix c.args.worker) s.result.1
+    s.new.vault (hand_of s.result.0 s.new.guards)) (sym c.in-In.is) s.ensures.plays
+
 pub returns-in_default-ask-clause-plays : goal.returns-in_default-ask-clause-plays
 returns-in_default-ask-clause-plays c =
     let v = c.args.vault.now in
@@ -21,7 +28,7 @@ returns-in_default-ask-clause-plays c =
     λ fits.
     subst (λ t. HandPlays v w hand (cue.Unfix w) c.off_plan.result v (hand_of t hand.guards)) c.in-In.is
     (unfix_other v w hand c.off_plan.result c.in-In.session c.ask.result c.in-In.is c.ask.ensures fits
-    c.in_default-ask.not-Unfix c.off_plan.ensures)
+    c.in_default-ask.not-Unfix c.in_default-ask.not-Scatter c.off_plan.ensures)
 
 pub returns-in_default-clause-plays : goal.returns-in_default-clause-plays
 returns-in_default-clause-plays c =
@@ -32,6 +39,12 @@ returns-in_default-clause-plays c =
 pub returns-in-Unfix-clause-moves : goal.returns-in-Unfix-clause-moves
 returns-in-Unfix-clause-moves c =
     let s = c.unfix_slot-stage in
+    moves_of c.args.vault.now s.new.vault c.args.hand s.result.1 (hand_of s.result.0 s.new.guards) _ c.in-In.is
+    s.ensures.moves
+
+pub returns-in-Scatter-clause-moves : goal.returns-in-Scatter-clause-moves
+returns-in-Scatter-clause-moves c =
+    let s = c.scatter_slot-stage in
     moves_of c.args.vault.now s.new.vault c.args.hand s.result.1 (hand_of s.result.0 s.new.guards) _ c.in-In.is
     s.ensures.moves
 

@@ -48,7 +48,7 @@ returns-in-Ok-clause-plays c =
     (hand_of (In c.in-Ok.session) (slice_set places c.args.slot None))) c.requires.of
     (λ fits.
     unfix_plays old new c.requires.kept x places fits c.args.slot c.requires.asks g at laws c.in-Ok.session
-    c.in-Ok.ensures.ok c.did.result
+    c.in-Ok.ensures.ok c.in-Ok.ensures.empty c.did.result
     (unfix_done old new c.requires.kept x.worker x.worker refl _ _ _ c.in-Ok.ensures.ok.does) c.did.ensures))
 
 pub returns-in-Err-clause-plays : goal.returns-in-Err-clause-plays

@@ -1,7 +1,7 @@
 use Rattle.std.proofs.Common.{refl, sym, ap, subst}
 use Rattle.pp_cert.specs.declared.note.Held.TheVariants.{S}
 use Rattle.pp_vault.specs.declared.refusal.Refusal.TheVariants.{Stranger}
-use Rattle.pp_vault.specs.declared.guards.Guard.TheVariants.{Pin, Read, Write}
+use Rattle.pp_vault.specs.declared.guards.Guard.TheVariants.{Pin, Read, Write, Bundle}
 use Rattle.pp_vault.specs.Holding.{slot_by}
 use Rattle.pp_play.specs.Guarding.{unlatch_with, ChangesGuard, KeepsGuard}
 use Rattle.pp_play.proofs.Asked.{unlatch_done, put_back_done}
@@ -25,6 +25,14 @@ returns-in-Pin-clause-keeps c =
     let x = c.args.session in
     subst
     (λ a. KeepsGuard old (unlatch_with old x a) x a Stranger old x (Pin c.in-Pin.guard)) (sym c.in-Pin.is)
+    (record { refuses = λ s st. refl; same_session = refl; same_guard = refl; unchanged = refl })
+
+pub returns-in-Bundle-clause-keeps : goal.returns-in-Bundle-clause-keeps
+returns-in-Bundle-clause-keeps c =
+    let old = c.args.vault.now in
+    let x = c.args.session in
+    subst
+    (λ a. KeepsGuard old (unlatch_with old x a) x a Stranger old x (Bundle c.in-Bundle.guard)) (sym c.in-Bundle.is)
     (record { refuses = λ s st. refl; same_session = refl; same_guard = refl; unchanged = refl })
 
 pub returns-in-Ok-clause-changes : goal.returns-in-Ok-clause-changes

@@ -59,7 +59,8 @@ returns-in-Ok-clause-plays c =
     } in
     let mine : PlaysHand old x.worker (hand_of (Leaving x) places) (cue.Unwind x.worker slot) line new left =
     λ fits.
-    unwind_plays old new k x places fits slot g at laws y (still_leaves old new x y g c.in-Ok.ensures.ok) line
+    unwind_plays old new k x places fits slot g at laws y (still_leaves old new x y g c.in-Ok.ensures.ok)
+    c.in-Ok.ensures.empty line
     (given_back old new k x.worker slot x y refl g c.in-Some.ensures.slot c.in-Ok.ensures.ok) c.did.ensures in
     rw c.in-Some.ensures.taken
     (subst (λ t. PlaysHand old c.args.worker (hand_of t places) (cue.Unwind c.args.worker slot) line new left)

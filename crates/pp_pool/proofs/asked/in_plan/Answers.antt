@@ -20,6 +20,10 @@ pub returns-in-Unlatch-clause-step : goal.returns-in-Unlatch-clause-step
 returns-in-Unlatch-clause-step g c =
     step_at c.with_slot-in-Unlatch.result c.args.layout.now c.args.session c.with_slot-in-Unlatch.ensures.step
 
+pub returns-in-Scatter-clause-step : goal.returns-in-Scatter-clause-step
+returns-in-Scatter-clause-step g c =
+    step_at c.with_slot-in-Scatter.result c.args.layout.now c.args.session c.with_slot-in-Scatter.ensures.step
+
 pub returns-in-Choose-clause-consults : goal.returns-in-Choose-clause-consults
 returns-in-Choose-clause-consults g c =
     consults_at g.W.Work c.args.layout.now _ _ c.choose.result c.choose.ensures.consults
@@ -38,3 +42,8 @@ pub returns-in-Unlatch-clause-consults : goal.returns-in-Unlatch-clause-consults
 returns-in-Unlatch-clause-consults g c =
     slot_consults_at g.W.Work c.args.layout.now _ c.args.session c.in-Unlatch.slot c.with_slot-in-Unlatch.result (search rules)
     c.with_slot-in-Unlatch.ensures.step
+
+pub returns-in-Scatter-clause-consults : goal.returns-in-Scatter-clause-consults
+returns-in-Scatter-clause-consults g c =
+    slot_consults_at g.W.Work c.args.layout.now _ c.args.session c.in-Scatter.slot c.with_slot-in-Scatter.result (search rules)
+    c.with_slot-in-Scatter.ensures.step

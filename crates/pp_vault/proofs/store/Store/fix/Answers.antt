@@ -1,63 +1,109 @@
-use Rattle.std.proofs.Common.{◌∙◌, sym}
+use Rattle.std.proofs.Common.{◌∙◌, refl, sym}
 use Rattle.pp_vault.specs.Parts.{parts_of}
 use Rattle.pp_vault.specs.Fits.{fix_slot}
-use Rattle.pp_vault.proofs.FixSteps.{no_other, hit_does, hit_kept, hit_acts, hit_at, read_there, read_at}
-use Rattle.pp_vault.proofs.FixSteps.{write_there, write_at}
+use Rattle.pp_vault.proofs.FixSteps.{strange, no_other, hit_does, hit_kept, hit_acts, hit_at, opens_at, joins}
+use Rattle.pp_vault.proofs.FixSteps.{read_there, read_at, write_there, write_at}
 use Rattle.pp_vault.proofs.store.Store.fix.Goals as goal
 
-pub session-requires-clause-kept : goal.session-requires-clause-kept
-session-requires-clause-kept c =
-    hit_kept (parts_of c.args.self.now) (parts_of c.step_fix.new.self) c.args.session.worker (fix_slot c.args.session.ask) c.args.page c.in-Ok.reply
-    c.in-Ok.ensures.done (λ s st. sym (c.names_slot.ensures s st) ∙ c.if-not-names_slot.false)
+pub returns-in_default : goal.returns-in_default
+returns-in_default c = (
+  refl,
+  strange (parts_of c.args.self.now) c.args.session.worker (fix_slot c.args.session.ask) c.args.page
+      (λ s st. sym (c.asked_slot.ensures s st) ∙ c.in_default.is),
+  c.refuse.ensures,
+)
+
+pub session-session-requires-clause-kept : goal.session-session-requires-clause-kept
+session-session-requires-clause-kept c =
+    hit_kept (parts_of c.args.self.now) (parts_of c.step_fix.new.self) c.args.session.worker (fix_slot c.args.session.ask)
+    c.args.page c.in-Ok.reply c.in-Ok.ensures.done c.in-Some.asked
+    (λ s st. sym (c.asked_slot.ensures s st) ∙ c.in-Some.is)
     c.in-Hit.frame c.in-Hit.mark c.in-Hit.is c.requires
 
-pub session-requires-clause-acts : goal.session-requires-clause-acts
-session-requires-clause-acts c =
-    hit_acts (parts_of c.args.self.now) (parts_of c.step_fix.new.self) c.args.session.worker (fix_slot c.args.session.ask) c.args.page c.in-Ok.reply
-    c.in-Ok.ensures.done (λ s st. sym (c.names_slot.ensures s st) ∙ c.if-not-names_slot.false)
+pub session-session-requires-clause-acts : goal.session-session-requires-clause-acts
+session-session-requires-clause-acts c =
+    hit_acts (parts_of c.args.self.now) (parts_of c.step_fix.new.self) c.args.session.worker (fix_slot c.args.session.ask)
+    c.args.page c.in-Ok.reply c.in-Ok.ensures.done c.in-Some.asked
+    (λ s st. sym (c.asked_slot.ensures s st) ∙ c.in-Some.is)
     c.in-Hit.frame c.in-Hit.mark c.in-Hit.is c.requires
 
 pub take_out-image-requires : goal.take_out-image-requires
 take_out-image-requires c =
-    read_there (parts_of c.args.self.now) (parts_of c.step_fix.new.self) c.args.session.worker (fix_slot c.args.session.ask) c.args.page c.in-Ok.reply
-    c.in-Ok.ensures.done (λ s st. sym (c.names_slot.ensures s st) ∙ c.if-not-names_slot.false)
+    read_there (parts_of c.args.self.now) (parts_of c.step_fix.new.self) c.args.session.worker (fix_slot c.args.session.ask)
+    c.args.page c.in-Ok.reply c.in-Ok.ensures.done c.in-Some.asked
+    (λ s st. sym (c.asked_slot.ensures s st) ∙ c.in-Some.is)
     c.in-MustRead.frame c.in-MustRead.is c.requires
 
 pub take_out-image-requires-in-MustWrite : goal.take_out-image-requires-in-MustWrite
 take_out-image-requires-in-MustWrite c =
-    write_there (parts_of c.args.self.now) (parts_of c.step_fix.new.self) c.args.session.worker (fix_slot c.args.session.ask) c.args.page c.in-Ok.reply
-    c.in-Ok.ensures.done (λ s st. sym (c.names_slot.ensures s st) ∙ c.if-not-names_slot.false)
+    write_there (parts_of c.args.self.now) (parts_of c.step_fix.new.self) c.args.session.worker (fix_slot c.args.session.ask)
+    c.args.page c.in-Ok.reply c.in-Ok.ensures.done c.in-Some.asked
+    (λ s st. sym (c.asked_slot.ensures s st) ∙ c.in-Some.is)
     c.in-MustWrite.frame c.in-MustWrite.victim c.in-MustWrite.is c.requires
 
 pub unreachable-requires : goal.unreachable-requires
 unreachable-requires c =
-    no_other (parts_of c.args.self.now) (parts_of c.step_fix.new.self) c.args.session.worker (fix_slot c.args.session.ask) c.args.page c.in-Ok.reply
-    c.in-Ok.ensures.done (λ s st. sym (c.names_slot.ensures s st) ∙ c.if-not-names_slot.false)
-    c.requires c.in_default.not-Hit c.in_default.not-MustRead
-    c.in_default.not-MustWrite
+    no_other (parts_of c.args.self.now) (parts_of c.step_fix.new.self) c.args.session.worker (fix_slot c.args.session.ask)
+    c.args.page c.in-Ok.reply c.in-Ok.ensures.done c.in-Some.asked
+    (λ s st. sym (c.asked_slot.ensures s st) ∙ c.in-Some.is)
+    c.requires c.in_default-reply.not-Hit c.in_default-reply.not-MustRead c.in_default-reply.not-MustWrite
 
-pub returns-in-Hit : goal.returns-in-Hit
-returns-in-Hit c = (
-  hit_does (parts_of c.args.self.now) (parts_of c.step_fix.new.self) c.args.session.worker (fix_slot c.args.session.ask) c.args.page c.in-Ok.reply
-      c.in-Ok.ensures.done (λ s st. sym (c.names_slot.ensures s st) ∙ c.if-not-names_slot.false)
+pub returns-in_default-asked : goal.returns-in_default-asked
+returns-in_default-asked c = (
+  hit_does (parts_of c.args.self.now) (parts_of c.step_fix.new.self) c.args.session.worker (fix_slot c.args.session.ask)
+      c.args.page c.in-Ok.reply c.in-Ok.ensures.done c.in-Some.asked
+      (λ s st. sym (c.asked_slot.ensures s st) ∙ c.in-Some.is)
       c.in-Hit.frame c.in-Hit.mark c.in-Hit.is,
-  hit_at (parts_of c.args.self.now) (parts_of c.step_fix.new.self) c.args.session.worker (fix_slot c.args.session.ask) c.args.page c.in-Ok.reply
-      c.in-Ok.ensures.done (λ s st. sym (c.names_slot.ensures s st) ∙ c.if-not-names_slot.false)
-      c.in-Hit.frame c.in-Hit.mark c.in-Hit.is c.requires c.session.result c.session.ensures c.slot_of-slot.result c.slot_of-slot.ensures,
+  hit_at (parts_of c.args.self.now) (parts_of c.step_fix.new.self) c.args.session.worker (fix_slot c.args.session.ask)
+      c.args.page c.in-Ok.reply c.in-Ok.ensures.done c.in-Some.asked
+      (λ s st. sym (c.asked_slot.ensures s st) ∙ c.in-Some.is)
+      c.in-Hit.frame c.in-Hit.mark c.in-Hit.is c.requires c.session-session.result
+      c.session-session.ensures c.in_default-asked.not-Gather c.slot_of-slot.result c.slot_of-slot.ensures,
   c.slot_of-slot.ensures,
+)
+
+pub returns-else-gathered-gt1 : goal.returns-else-gathered-gt1
+returns-else-gathered-gt1 c = (
+  hit_does (parts_of c.args.self.now) (parts_of c.step_fix.new.self) c.args.session.worker (fix_slot c.args.session.ask)
+      c.args.page c.in-Ok.reply c.in-Ok.ensures.done c.in-Some.asked
+      (λ s st. sym (c.asked_slot.ensures s st) ∙ c.in-Some.is)
+      c.in-Hit.frame c.in-Hit.mark c.in-Hit.is,
+  opens_at (parts_of c.args.self.now) (parts_of c.step_fix.new.self) c.args.session.worker (fix_slot c.args.session.ask)
+      c.args.page c.in-Ok.reply c.in-Ok.ensures.done c.in-Some.asked
+      (λ s st. sym (c.asked_slot.ensures s st) ∙ c.in-Some.is)
+      c.in-Hit.frame c.in-Hit.mark c.in-Hit.is c.requires c.session-session.result
+      c.session-session.ensures c.slot_of-slot.result c.slot_of-slot.ensures c.in-Gather.slot c.in-Gather.region
+      c.in-Gather.is c.gathered.result c.gathered.ensures c.if-gathered-gt1.false,
+  c.slot_of-slot.ensures,
+)
+
+pub returns-then-gathered-gt1 : goal.returns-then-gathered-gt1
+returns-then-gathered-gt1 c = (
+  hit_does (parts_of c.args.self.now) (parts_of c.step_fix.new.self) c.args.session.worker (fix_slot c.args.session.ask)
+      c.args.page c.in-Ok.reply c.in-Ok.ensures.done c.in-Some.asked
+      (λ s st. sym (c.asked_slot.ensures s st) ∙ c.in-Some.is)
+      c.in-Hit.frame c.in-Hit.mark c.in-Hit.is,
+  joins (parts_of c.args.self.now) (parts_of c.step_fix.new.self) c.args.session.worker (fix_slot c.args.session.ask)
+      c.args.page c.in-Ok.reply c.in-Ok.ensures.done c.in-Some.asked
+      (λ s st. sym (c.asked_slot.ensures s st) ∙ c.in-Some.is)
+      c.in-Hit.frame c.in-Hit.mark c.in-Hit.is c.requires c.session-session.result
+      c.session-session.ensures c.slot_of-slot.result c.slot_of-slot.ensures c.in-Gather.slot c.in-Gather.region
+      c.in-Gather.is c.gathered.result c.gathered.ensures c.if-gathered-gt1.true,
 )
 
 pub returns-in-MustRead : goal.returns-in-MustRead
 returns-in-MustRead c =
-    read_at (parts_of c.args.self.now) (parts_of c.step_fix.new.self) c.args.session.worker (fix_slot c.args.session.ask) c.args.page c.in-Ok.reply
-    c.in-Ok.ensures.done (λ s st. sym (c.names_slot.ensures s st) ∙ c.if-not-names_slot.false)
+    read_at (parts_of c.args.self.now) (parts_of c.step_fix.new.self) c.args.session.worker (fix_slot c.args.session.ask)
+    c.args.page c.in-Ok.reply c.in-Ok.ensures.done c.in-Some.asked
+    (λ s st. sym (c.asked_slot.ensures s st) ∙ c.in-Some.is)
     c.in-MustRead.frame c.in-MustRead.is c.requires (parts_of c.take_out-image.new.self) c.take_out-image.result
     c.take_out-image.ensures.image c.take_out-image.ensures.rest c.slot_of-slot.result c.slot_of-slot.ensures
 
 pub returns-in-MustWrite : goal.returns-in-MustWrite
 returns-in-MustWrite c =
-    write_at (parts_of c.args.self.now) (parts_of c.step_fix.new.self) c.args.session.worker (fix_slot c.args.session.ask) c.args.page c.in-Ok.reply
-    c.in-Ok.ensures.done (λ s st. sym (c.names_slot.ensures s st) ∙ c.if-not-names_slot.false)
+    write_at (parts_of c.args.self.now) (parts_of c.step_fix.new.self) c.args.session.worker (fix_slot c.args.session.ask)
+    c.args.page c.in-Ok.reply c.in-Ok.ensures.done c.in-Some.asked
+    (λ s st. sym (c.asked_slot.ensures s st) ∙ c.in-Some.is)
     c.in-MustWrite.frame c.in-MustWrite.victim c.in-MustWrite.is c.requires
     (parts_of c.take_out-image-in-MustWrite.new.self) c.take_out-image-in-MustWrite.result
     c.take_out-image-in-MustWrite.ensures.image c.take_out-image-in-MustWrite.ensures.rest c.slot_of-slot.result

@@ -1,7 +1,7 @@
-use Rattle.std.proofs.Common.{◌∙◌, sym}
+use Rattle.std.proofs.Common.{◌∙◌, sym, arith}
 use Rattle.pp_vault.specs.Parts.{parts_of}
 use Rattle.pp_vault.proofs.BackSteps.{none_some}
-use Rattle.pp_vault.proofs.ReadSteps.{framed, low, loaded_kept, loaded_acts, loaded_is, lost_is}
+use Rattle.pp_vault.proofs.ReadSteps.{framed, low, loaded_kept, loaded_acts, loaded_is, first_is, further_is, lost_is}
 use Rattle.pp_vault.proofs.store.Store.read.Goals as goal
 
 pub unreachable-requires : goal.unreachable-requires
@@ -14,35 +14,68 @@ unreachable-requires c =
 pub put-requires : goal.put-requires
 put-requires c =
     low (parts_of c.args.self.now) c.args.worker c.args.slot c.args.page c.args.image
-    (λ s st. sym (c.is_read_out.ensures s st) ∙ c.if-not-is_read_out.false) c.requires (parts_of c.step_read_done.new.self) c.args.ok
+    (λ s st. sym (c.is_read_out.ensures s st) ∙ c.if-not-is_read_out.false) c.requires
+    (parts_of c.step_read_done.new.self) c.args.ok
     c.came_of-came.result c.came_of-came.ensures c.in-Ok.reply c.in-Ok.ensures.done c.in-Some.frame
     (λ s st. sym c.in-Some.is ∙ c.frame_of.ensures s st)
 
-pub session-requires-clause-kept : goal.session-requires-clause-kept
-session-requires-clause-kept c =
+pub session-session-requires-clause-kept : goal.session-session-requires-clause-kept
+session-session-requires-clause-kept c =
     loaded_kept (parts_of c.args.self.now) c.args.worker c.args.slot c.args.page c.args.image
-    (λ s st. sym (c.is_read_out.ensures s st) ∙ c.if-not-is_read_out.false) c.requires (parts_of c.step_read_done.new.self) c.args.ok
+    (λ s st. sym (c.is_read_out.ensures s st) ∙ c.if-not-is_read_out.false) c.requires
+    (parts_of c.step_read_done.new.self) c.args.ok
     c.came_of-came.result c.came_of-came.ensures c.in-Ok.reply c.in-Ok.ensures.done c.in-Some.frame
-    (λ s st. sym c.in-Some.is ∙ c.frame_of.ensures s st) (parts_of c.put.new.self) c.put.ensures c.in-Loaded.mark c.in-Loaded.is
+    (λ s st. sym c.in-Some.is ∙ c.frame_of.ensures s st)
+    (parts_of c.put.new.self) c.put.ensures c.in-Loaded.mark
+    c.in-Loaded.is
 
-pub session-requires-clause-acts : goal.session-requires-clause-acts
-session-requires-clause-acts c =
+pub session-session-requires-clause-acts : goal.session-session-requires-clause-acts
+session-session-requires-clause-acts c =
     loaded_acts (parts_of c.args.self.now) c.args.worker c.args.slot c.args.page c.args.image
-    (λ s st. sym (c.is_read_out.ensures s st) ∙ c.if-not-is_read_out.false) c.requires (parts_of c.step_read_done.new.self) c.args.ok
+    (λ s st. sym (c.is_read_out.ensures s st) ∙ c.if-not-is_read_out.false) c.requires
+    (parts_of c.step_read_done.new.self) c.args.ok
     c.came_of-came.result c.came_of-came.ensures c.in-Ok.reply c.in-Ok.ensures.done c.in-Some.frame
-    (λ s st. sym c.in-Some.is ∙ c.frame_of.ensures s st) (parts_of c.put.new.self) c.put.ensures c.in-Loaded.mark c.in-Loaded.is
+    (λ s st. sym c.in-Some.is ∙ c.frame_of.ensures s st)
+    (parts_of c.put.new.self) c.put.ensures c.in-Loaded.mark
+    c.in-Loaded.is
 
-pub returns-in-Loaded-clause-ok : goal.returns-in-Loaded-clause-ok
-returns-in-Loaded-clause-ok c =
+pub returns-in-0-clause-ok : goal.returns-in-0-clause-ok
+returns-in-0-clause-ok c =
     loaded_is (parts_of c.args.self.now) c.args.worker c.args.slot c.args.page c.args.image
-    (λ s st. sym (c.is_read_out.ensures s st) ∙ c.if-not-is_read_out.false) c.requires (parts_of c.step_read_done.new.self) c.args.ok
+    (λ s st. sym (c.is_read_out.ensures s st) ∙ c.if-not-is_read_out.false) c.requires
+    (parts_of c.step_read_done.new.self) c.args.ok
     c.came_of-came.result c.came_of-came.ensures c.in-Ok.reply c.in-Ok.ensures.done c.in-Some.frame
-    (λ s st. sym c.in-Some.is ∙ c.frame_of.ensures s st) (parts_of c.put.new.self) c.put.ensures c.in-Loaded.mark c.in-Loaded.is c.session.result
-    c.session.ensures
+    (λ s st. sym c.in-Some.is ∙ c.frame_of.ensures s st)
+    (parts_of c.put.new.self) c.put.ensures c.in-Loaded.mark
+    c.in-Loaded.is c.session-session.result c.session-session.ensures c.gathered.result c.gathered.ensures (omega arith)
+
+pub returns-in-1-clause-ok : goal.returns-in-1-clause-ok
+returns-in-1-clause-ok c =
+    first_is (parts_of c.args.self.now) c.args.worker c.args.slot c.args.page c.args.image
+    (λ s st. sym (c.is_read_out.ensures s st) ∙ c.if-not-is_read_out.false) c.requires
+    (parts_of c.step_read_done.new.self) c.args.ok
+    c.came_of-came.result c.came_of-came.ensures c.in-Ok.reply c.in-Ok.ensures.done c.in-Some.frame
+    (λ s st. sym c.in-Some.is ∙ c.frame_of.ensures s st)
+    (parts_of c.put.new.self) c.put.ensures c.in-Loaded.mark
+    c.in-Loaded.is c.session-session.result c.session-session.ensures c.gathered.result c.gathered.ensures (omega arith)
+    (omega arith)
+
+pub returns-in_default-gathered-clause-ok : goal.returns-in_default-gathered-clause-ok
+returns-in_default-gathered-clause-ok c =
+    further_is (parts_of c.args.self.now) c.args.worker c.args.slot c.args.page c.args.image
+    (λ s st. sym (c.is_read_out.ensures s st) ∙ c.if-not-is_read_out.false) c.requires
+    (parts_of c.step_read_done.new.self) c.args.ok
+    c.came_of-came.result c.came_of-came.ensures c.in-Ok.reply c.in-Ok.ensures.done c.in-Some.frame
+    (λ s st. sym c.in-Some.is ∙ c.frame_of.ensures s st)
+    (parts_of c.put.new.self) c.put.ensures c.in-Loaded.mark
+    c.in-Loaded.is c.session-session.result c.session-session.ensures c.gathered.result c.gathered.ensures (omega arith)
+    (omega arith)
 
 pub returns-in-Failed-clause-ok : goal.returns-in-Failed-clause-ok
 returns-in-Failed-clause-ok c =
     lost_is (parts_of c.args.self.now) c.args.worker c.args.slot c.args.page c.args.image
-    (λ s st. sym (c.is_read_out.ensures s st) ∙ c.if-not-is_read_out.false) c.requires (parts_of c.step_read_done.new.self) c.args.ok
+    (λ s st. sym (c.is_read_out.ensures s st) ∙ c.if-not-is_read_out.false) c.requires
+    (parts_of c.step_read_done.new.self) c.args.ok
     c.came_of-came.result c.came_of-came.ensures c.in-Ok.reply c.in-Ok.ensures.done c.in-Some.frame
-    (λ s st. sym c.in-Some.is ∙ c.frame_of.ensures s st) (parts_of c.put.new.self) c.put.ensures c.in-Failed.field-0 c.in-Failed.is
+    (λ s st. sym c.in-Some.is ∙ c.frame_of.ensures s st)
+    (parts_of c.put.new.self) c.put.ensures c.in-Failed.field-0 c.in-Failed.is
