@@ -5,7 +5,7 @@ ghost use Rattle.std.specs.Prelude.{◌≡◌, ◌≤◌, ◌<◌, false};
 use crate::trouble::Trouble;
 use crate::watch::{self, Watch};
 use pp_arc::{Answer, Busy, Directory};
-use pp_traces::{Kind, PAGES, Trace};
+use pp_bench_traces::{Kind, PAGES, Trace};
 
 /// No page is busy.
 struct NoneBusy;

@@ -9,10 +9,10 @@ ghost use Rattle.pp_model.specs.declared.event.Event.TheVariants.{Step};
 use crate::trouble::Trouble;
 use crate::watch::{self, Watch};
 use crate::words;
+use pp_bench_traces::{Kind, Trace};
 use pp_core::{Accepted, Came, Core, Event, Move, Reply};
 use pp_report::journal_text;
 use pp_settings::Settings;
-use pp_traces::{Kind, Trace};
 use std::alloc::{AllocError, Global};
 use std::io::{Read, Write};
 
@@ -43,8 +43,8 @@ pub fn audit(rt: &HostRuntime, words: &[String]) -> Result<(), Trouble> {
 
 /// The settings of one worker, and its plan of so many operations.
 fn setting(alloc: Global, ops: u64) -> Result<(Settings, Accepted), Trouble> {
-    let settings = pp_traces::settings(alloc, 1)?;
-    let accepted = pp_traces::accepted(alloc, &settings, ops)?;
+    let settings = pp_bench_traces::settings(alloc, 1)?;
+    let accepted = pp_bench_traces::accepted(alloc, &settings, ops)?;
     Ok((settings, accepted))
 }
 

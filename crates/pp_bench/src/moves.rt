@@ -5,8 +5,8 @@ ghost use Rattle.std.specs.Prelude.{◌≤◌};
 use crate::trouble::Trouble;
 use crate::watch::{self, Watch};
 use crate::words;
+use pp_bench_traces::Trace;
 use pp_core::{Came, Core, Move, Reply};
-use pp_traces::Trace;
 use std::alloc::Global;
 
 /// Plays the trace of the kind that the first word names, as many operations long as the second says, to a core of
@@ -23,8 +23,8 @@ pub fn play(rt: &HostRuntime, words: &[String]) -> Result<(), Trouble> {
 
 /// A core whose worker has taken a plan of so many operations.
 fn running(alloc: Global, ops: u64) -> Result<Core, Trouble> {
-    let settings = pp_traces::settings(alloc, 1)?;
-    let accepted = pp_traces::accepted(alloc, &settings, ops)?;
+    let settings = pp_bench_traces::settings(alloc, 1)?;
+    let accepted = pp_bench_traces::accepted(alloc, &settings, ops)?;
     let mut core = Core::new(alloc, &settings).map_err(|_| Trouble::Memory)?;
     if core.submit(accepted).is_err() {
         return Err(Trouble::Refused);

@@ -7,8 +7,8 @@ ghost use Rattle.pp_vault.specs.Stages.{is_idle_hand};
 use crate::trouble::Trouble;
 use crate::watch::{self, Watch};
 use crate::words;
+use pp_bench_traces::{Kind, PAGES, Trace};
 use pp_device::{Device, SoloDevice, image};
-use pp_traces::{Kind, PAGES, Trace};
 use pp_vault::{
     Accepted, Answered, Chair, Errand, Fixed, Guard, Hand, PinGuard, Session, Stage, Stopped, Vault,
 };
@@ -39,8 +39,8 @@ pub fn play(rt: &HostRuntime, words: &[String]) -> Result<(), Trouble> {
 /// How many pages are read in so many operations of a trace of this kind, and how many nanoseconds the operations took.
 fn run(rt: &HostRuntime, kind: Kind, ops: u64) -> Result<(u64, Option<u128>), Trouble> {
     let alloc = rt.alloc();
-    let settings = pp_traces::settings(alloc, 1)?;
-    let accepted = pp_traces::accepted(alloc, &settings, ops)?;
+    let settings = pp_bench_traces::settings(alloc, 1)?;
+    let accepted = pp_bench_traces::accepted(alloc, &settings, ops)?;
     let device = numbered(alloc)?;
     let (vault, mut hands) = Vault::new(alloc, &settings).map_err(|_| Trouble::Memory)?;
     let mut pool = Pool { vault, device };
@@ -136,7 +136,10 @@ impl Pool {
     fn fix(&mut self, session: Session, page: u32) -> Result<(Session, PinGuard, bool), Stopped> {
         match self.vault.fix(session, page) {
             Fixed::Got(session, guard) => Ok((session, guard, true)),
-            Fixed::Opened(session, guard) => Err(Stopped::holding(Stage::In(session), Guard::Bundle(guard))),
+            Fixed::Opened(session, guard) => Err(Stopped::holding(
+                Stage::In(session),
+                Guard::Bundle(guard),
+            )),
             Fixed::Joined(session) => Err(Stopped::at(Stage::In(session))),
             Fixed::Away(errand) => {
                 let (session, guard) = self.load(errand)?;
@@ -150,7 +153,10 @@ impl Pool {
     fn load(&mut self, errand: Errand) -> Result<(Session, PinGuard), Stopped> {
         match self.vault.answer(errand.carry_out(&mut self.device)) {
             Answered::Got(session, guard) => Ok((session, guard)),
-            Answered::Opened(session, guard) => Err(Stopped::holding(Stage::In(session), Guard::Bundle(guard))),
+            Answered::Opened(session, guard) => Err(Stopped::holding(
+                Stage::In(session),
+                Guard::Bundle(guard),
+            )),
             Answered::Joined(session) => Err(Stopped::at(Stage::In(session))),
             Answered::Away(errand) => Err(Stopped::at(Stage::Out(errand))),
             Answered::Lost(leaver) => Err(Stopped::at(Stage::Leaving(leaver))),

@@ -1,7 +1,7 @@
 //! Why a run gave no count.
 
+use pp_bench_traces::PlanError;
 use pp_report::AuditError;
-use pp_traces::PlanError;
 use std::alloc::AllocError;
 use std::fmt::{self, Display, Formatter, Write};
 use std::io;

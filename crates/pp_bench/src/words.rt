@@ -1,7 +1,7 @@
 //! What the words of the command line ask for.
 
 use crate::trouble::Trouble;
-use pp_traces::{Kind, MOST_OPS};
+use pp_bench_traces::{Kind, MOST_OPS};
 
 /// The kind of a trace, and how many operations one plan has.
 pub fn kind_and_ops(words: &[String]) -> Result<(Kind, u64), Trouble> {

@@ -2,9 +2,9 @@
 
 ghost use Rattle.std.specs.Prelude.{◌≡◌, ◌+◌, ◌<◌};
 
+use pp_bench_traces::Trace;
 use pp_device::image::HEAD;
 use pp_pool::Work;
-use pp_traces::Trace;
 use std::io;
 use std::sync::atomic::{AtomicU64, Ordering};
 use std::time::{Clock, Instant};

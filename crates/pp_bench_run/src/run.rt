@@ -5,12 +5,12 @@ ghost use Rattle.std.specs.Prelude.{◌≡◌, ◌≤◌, IfOk, length, vec_len}
 use crate::clocked::{Clocked, Span};
 use crate::trouble::Trouble;
 use crate::words::Asked;
+use pp_bench_traces::{PAGES, Trace};
 use pp_cert::Accepted;
 use pp_model::{Event, Reply};
 use pp_run::Pool;
 use pp_settings::Settings;
 use pp_shared::SharedDevice;
-use pp_traces::{PAGES, Trace};
 use std::alloc::{AllocError, Global};
 use std::sync::Wait;
 use std::thread::Threads;
@@ -37,7 +37,7 @@ pub fn run<R: AllocGlobal + Threads + Wait + Clock + Copy + Drop + Sync + Send>(
     requires { asked.ops ≤ 250000 }
 {
     let alloc = rt.alloc();
-    let settings = pp_traces::settings(alloc, asked.workers)?;
+    let settings = pp_bench_traces::settings(alloc, asked.workers)?;
     let workers = settings.workers();
     let span = Span::new(&rt)?;
     let plans = plans(alloc, &settings, asked.ops)?;
@@ -58,7 +58,7 @@ pub fn run<R: AllocGlobal + Threads + Wait + Clock + Copy + Drop + Sync + Send>(
 fn plans(alloc: Global, settings: &Settings, ops: u64) -> Result<Vec<Accepted>, Trouble> {
     let mut plans = Vec::new(alloc);
     for _worker in 0..settings.workers() {
-        let accepted = pp_traces::accepted(alloc, settings, ops)?;
+        let accepted = pp_bench_traces::accepted(alloc, settings, ops)?;
         plans.push(accepted).map_err(|_| Trouble::Memory)?;
     }
     Ok(plans)

@@ -1,7 +1,7 @@
 //! Why a run gave no times.
 
+use pp_bench_traces::PlanError;
 use pp_run::RunError;
-use pp_traces::PlanError;
 use std::alloc::AllocError;
 use std::fmt::{self, Display, Formatter, Write};
 use std::io;

@@ -3,7 +3,7 @@
 ghost use Rattle.std.specs.Prelude.{◌<◌, ◌≤◌, IfOk};
 
 use crate::trouble::Trouble;
-use pp_traces::{Kind, MOST_OPS};
+use pp_bench_traces::{Kind, MOST_OPS};
 
 /// A run that is asked for.
 #[derive(Clone, Copy)]

@@ -17,13 +17,13 @@ pub struct Locked<B: Desk> {
 }
 
 /// What a request that was refused waits for.
-pub(crate) enum Line {
+pub(crate) enum WaitsFor {
     /// For nothing: the refusal goes back.
     Nothing,
     /// Until a move was done.
-    Moved,
+    Move,
     /// Until a page can be flushed, or the run is closing.
-    Changed,
+    Change,
 }
 
 impl<B: Desk> Locked<B> {
@@ -44,13 +44,13 @@ impl<B: Desk> Locked<B> {
     }
 
     /// What a request waits for that was refused so. Where nothing can be flushed it waits until the run is closing.
-    pub(crate) fn line(&self, refusal: Refusal) -> Line {
+    pub(crate) fn waits_for(&self, refusal: Refusal) -> WaitsFor {
         match refusal {
-            Refusal::NotNow(Delay::NothingWaiting) => Line::Nothing,
-            Refusal::NotNow(_) => Line::Moved,
+            Refusal::NotNow(Delay::NothingWaiting) => WaitsFor::Nothing,
+            Refusal::NotNow(_) => WaitsFor::Move,
             Refusal::OffPlan(Cause::NotDirty | Cause::NoFlushLeft) if !self.closing =>
-                Line::Changed,
-            _ => Line::Nothing,
+                WaitsFor::Change,
+            _ => WaitsFor::Nothing,
         }
     }
 

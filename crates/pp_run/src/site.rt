@@ -6,7 +6,7 @@ ghost use Rattle.pp_vault.specs.Stages.{stage_worker};
 ghost use Rattle.pp_pool.specs.Replies.{Replies};
 
 use crate::desk::Desk;
-use crate::locked::{Line, Locked};
+use crate::locked::{Locked, WaitsFor};
 use pp_model::{Event, Failure, Reply};
 use pp_pool::{Answer, Outcome, Request, Site};
 use pp_settings::Layout;
@@ -71,18 +71,18 @@ impl<'a, B: Desk, R: Wait> LockedSite<'a, B, R> {
             let takes_writer_off = takes_writer_off(&request);
             let Outcome { event, answer } = locked.desk.perform(request);
             match answer {
-                Answer::No(back, refusal) => match locked.line(refusal) {
-                    Line::Nothing => {
+                Answer::No(back, refusal) => match locked.waits_for(refusal) {
+                    WaitsFor::Nothing => {
                         let answer = Answer::No(back, refusal);
                         return Outcome { event, answer };
                     }
-                    Line::Moved => {
+                    WaitsFor::Move => {
                         request = back;
                         locked.wait_for_move();
                         locked = self.moved.wait(self.rt, locked);
                         locked.moved();
                     }
-                    Line::Changed => {
+                    WaitsFor::Change => {
                         request = back;
                         locked.wait_for_change();
                         locked = self.changed.wait(self.rt, locked);

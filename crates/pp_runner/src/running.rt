@@ -9,7 +9,7 @@ ghost use Rattle.pp_runner.specs.Runs.{IsRunnerError};
 use crate::error::RunnerError;
 use crate::progress::{Counted, Progress};
 use crate::rounds::Rounds;
-use crate::watching::{Ending, watch};
+use crate::watching::{Completion, watch};
 use pp_cert::Accepted;
 use pp_device::Device;
 use pp_judge::Workload;
@@ -86,11 +86,11 @@ fn run_shown<
     ensures error { IfErr result (IsRunError (kept_of settings.now) plans.items) }
 {
     let all = plans.len();
-    let (progress, ending) = (Progress::new(), Ending::new());
+    let (progress, completion) = (Progress::new(), Completion::new());
     let ends = counted(alloc, ends, &progress)?;
     let (_watched, done) = thread::join(
         rt,
-        || watch(rt, alloc, &progress, all, &ending, terminal),
+        || watch(rt, alloc, &progress, all, &completion, terminal),
         || -> Result<RunRecord, RunError>
             requires ends { vec_len ends ≡ settings.now.workers + 1 }
             requires works { vec_len works ≡ settings.now.workers }
@@ -98,7 +98,7 @@ fn run_shown<
             ensures error { IfErr result (IsRunError (kept_of settings.entry.now) plans.items) }
         {
             let ran = Pool::run_watched(rt, alloc, settings, plans, ends, works, &progress.plans);
-            ending.tell(rt);
+            completion.signal(rt);
             let (done, _ends) = ran?;
             Ok(done)
         },

@@ -15,22 +15,22 @@ const PAUSE: u64 = 500;
 
 /// Whether a run is over, for another thread that waits for it.
 #[derive(Drop)]
-pub struct Ending {
+pub struct Completion {
     is_over: Mutex<bool>,
     changed: Condvar,
 }
 
-impl Ending {
+impl Completion {
     /// The run isn't over.
-    pub fn new() -> Ending {
-        Ending {
+    pub fn new() -> Completion {
+        Completion {
             is_over: Mutex::new(false),
             changed: Condvar::new(),
         }
     }
 
     /// Tells that the run is over. Who waits for it is woken.
-    pub fn tell<R: Wait>(&self, rt: &R) {
+    pub fn signal<R: Wait>(&self, rt: &R) {
         *self.is_over.lock(rt) = true;
         self.changed.notify_all();
     }
@@ -55,15 +55,15 @@ pub fn watch<R: Wait + Clock, T: Write>(
     alloc: Global,
     progress: &Progress,
     all: usize,
-    ending: &Ending,
+    completion: &Completion,
     terminal: &mut T,
 ) {
-    if ending.comes_within(rt, QUIET) || Instant::now(rt).is_err() {
+    if completion.comes_within(rt, QUIET) || Instant::now(rt).is_err() {
         return;
     }
     for _ in rt.forever() {
         show(alloc, progress, all, terminal);
-        if ending.comes_within(rt, PAUSE) {
+        if completion.comes_within(rt, PAUSE) {
             break;
         }
     }

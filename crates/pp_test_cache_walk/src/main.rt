@@ -1,0 +1,173 @@
+//! Makes calls that look like chance on a page cache, and compares each answer with that of a plain program.
+//!
+//! After each call the frame of every key is compared as well, so a page that leaves otherwise shows at once. A host keeps
+//! a number in the place of the bytes of each frame, and finds it again at each hit.
+#![tactic(auto)]
+
+mod plain;
+
+use crate::plain::{Plain, Want};
+use pp_cache::{Cache, Create, Fetched};
+use pp_test_plain::Chance;
+use std::alloc::{AllocError, Global};
+
+/// How many calls are made.
+const CALLS: u32 = 1_000_000;
+
+/// How many keys are asked for, and how far apart they are.
+const KEYS: u32 = 40;
+
+const APART: u32 = 7;
+
+/// What both caches are asked, and what the host keeps.
+#[derive(Drop)]
+struct Walk {
+    chance: Chance,
+    cache: Cache,
+    plain: Plain,
+    /// The key whose bytes each frame has.
+    bytes: Vec<u32>,
+    /// How often each kind of call and answer came.
+    counts: Vec<u32>,
+}
+
+impl Walk {
+    fn key(&mut self) -> u32 {
+        let most = self.chance.below(KEYS).saturating_add(1);
+        self.chance.below(most).saturating_mul(APART)
+    }
+
+    fn count(&mut self, kind: usize) {
+        if let Some(count) = self.counts.get_mut(kind) {
+            *count = count.saturating_add(1);
+        }
+    }
+
+    /// The host fills a frame.
+    fn fill(&mut self, frame: u32, key: u32) -> Result<(), AllocError> {
+        if frame as usize >= self.bytes.len() {
+            self.bytes.resize((frame as usize).saturating_add(1), 0)?;
+        }
+        if let Some(bytes) = self.bytes.get_mut(frame as usize) {
+            *bytes = key;
+        }
+        Ok(())
+    }
+
+    fn fetch(&mut self, alloc: Global) -> anyhow::Result<bool> {
+        let key = self.key();
+        let create = match self.chance.below(8) {
+            0 => Create::Never,
+            1 | 2 | 3 => Create::IfRoom,
+            _ => Create::Always,
+        };
+        let want = self.plain.fetch(alloc, key, create)?;
+        match (self.cache.fetch(alloc, key, create), want) {
+            (Fetched::Hit(frame), Want::Hit(plainly)) => {
+                self.count(0);
+                Ok(frame == plainly && self.bytes.get(frame as usize).copied() == Some(key))
+            }
+            (Fetched::New(frame), Want::New) => {
+                self.count(1);
+                self.fill(frame, key)?;
+                Ok(self.plain.admit(key, frame)?)
+            }
+            (Fetched::Nothing, Want::Nothing) => {
+                self.count(2);
+                Ok(true)
+            }
+            _ => Ok(false),
+        }
+    }
+
+    fn unpin(&mut self) {
+        let key = self.key();
+        let discard = self.chance.below(8) == 0;
+        self.count(if discard { 3 } else { 4 });
+        self.cache.unpin(key, discard);
+        self.plain.unpin(key, discard);
+    }
+
+    fn rekey(&mut self, alloc: Global) -> anyhow::Result<()> {
+        let old = self.key();
+        let new = self.key();
+        self.count(5);
+        if let Some(frame) = self.cache.frame(old) {
+            self.fill(frame, new)?;
+        }
+        self.cache.reserve(alloc, new)?;
+        self.cache.rekey(old, new);
+        self.plain.rekey(old, new)?;
+        Ok(())
+    }
+
+    /// Makes one call on both, and says whether they answer the same.
+    fn turn(&mut self, alloc: Global) -> anyhow::Result<bool> {
+        let kind = self.chance.below(100);
+        if kind < 35 {
+            return self.fetch(alloc);
+        }
+        if kind < 90 {
+            self.unpin();
+        } else if kind < 94 {
+            self.rekey(alloc)?;
+        } else if kind < 95 {
+            let limit = self.key().saturating_add(100);
+            self.count(6);
+            self.cache.truncate(limit);
+            self.plain.truncate(alloc, limit)?;
+        } else if kind < 96 {
+            self.count(7);
+            self.cache.shrink();
+            self.plain.shrink(alloc)?;
+        } else {
+            let size = self.chance.below(24).saturating_add(1);
+            self.count(8);
+            self.cache.resize(size);
+            self.plain.resize(alloc, size)?;
+        }
+        Ok(true)
+    }
+
+    /// Whether each key has the same frame in both.
+    fn agrees(&self) -> bool {
+        for i in 0..KEYS {
+            let key = i.saturating_mul(APART);
+            if self.cache.frame(key) != self.plain.frame(key) {
+                return false;
+            }
+        }
+        self.cache.pages() as usize == self.plain.count()
+    }
+
+    /// How many kinds came a thousand times or more.
+    fn kinds(&self) -> u32 {
+        let mut kinds: u32 = 0;
+        for count in &self.counts {
+            if *count >= 1000 {
+                kinds = kinds.saturating_add(1);
+            }
+        }
+        kinds
+    }
+}
+
+fn main(rt: HostRuntime) -> anyhow::Result<()> {
+    let alloc = rt.alloc();
+    let mut walk = Walk {
+        chance: Chance::new(),
+        cache: Cache::new(alloc, 12)?,
+        plain: Plain::new(alloc, 12),
+        bytes: Vec::new(alloc),
+        counts: vec![in alloc; 0u32; 9]?,
+    };
+    for made in 0..CALLS {
+        if !walk.turn(alloc)? || !walk.agrees() {
+            anyhow::bail!("call {made} is answered otherwise");
+        }
+    }
+    println!(rt; "{CALLS} calls, all answers agree")?;
+    let kinds = walk.kinds();
+    println!(rt; "each of {kinds} kinds of calls and answers came a thousand times or more")?;
+    Ok(())
+}

@@ -1,0 +1,190 @@
+//! A page cache as a plain program keeps it: a vector of pages beside four vectors of keys.
+
+use pp_cache::Create;
+use pp_test_plain::{Answer, Lists};
+use std::alloc::{AllocError, Global};
+
+/// A page that stands in a frame.
+#[derive(Clone, Copy)]
+struct Page {
+    key: u32,
+    frame: u32,
+    is_pinned: bool,
+}
+
+/// What a fetch is to be answered.
+#[derive(Clone, Copy)]
+pub enum Want {
+    Hit(u32),
+    New,
+    Nothing,
+}
+
+#[derive(Drop)]
+pub struct Plain {
+    size: u32,
+    lists: Lists,
+    pages: Vec<Page>,
+}
+
+impl Plain {
+    pub fn new(alloc: Global, size: u32) -> Plain {
+        Plain {
+            size,
+            lists: Lists::new(alloc, size),
+            pages: Vec::new(alloc),
+        }
+    }
+
+    fn page(&self, key: u32) -> Option<Page> {
+        for page in &self.pages {
+            if page.key == key {
+                return Some(*page);
+            }
+        }
+        None
+    }
+
+    pub fn frame(&self, key: u32) -> Option<u32> {
+        let page = self.page(key)?;
+        Some(page.frame)
+    }
+
+    pub fn count(&self) -> usize {
+        self.pages.len()
+    }
+
+    /// The keys of the pinned pages.
+    fn pinned(&self, alloc: Global) -> Result<Vec<u32>, AllocError> {
+        let mut keys = Vec::new(alloc);
+        for page in &self.pages {
+            if page.is_pinned {
+                keys.push(page.key)?;
+            }
+        }
+        Ok(keys)
+    }
+
+    fn set_pinned(&mut self, key: u32, is_pinned: bool) {
+        for page in self.pages.iter_mut() {
+            if page.key == key {
+                page.is_pinned = is_pinned;
+            }
+        }
+    }
+
+    fn remove(&mut self, key: u32) {
+        if let Some(i) = self.pages.iter().position(|page| page.key == key) {
+            let _ = self.pages.remove(i);
+        }
+    }
+
+    fn may_bring_in(&self, pinned: usize, create: Create) -> bool {
+        match create {
+            Create::Never => false,
+            Create::IfRoom => pinned.saturating_mul(10) < (self.size as usize).saturating_mul(9),
+            Create::Always => true,
+        }
+    }
+
+    /// What a fetch is to be answered. A page that is brought in is put into its frame by [`Plain::admit`].
+    pub fn fetch(&mut self, alloc: Global, key: u32, create: Create) -> Result<Want, AllocError> {
+        let pinned = self.pinned(alloc)?;
+        if let Some(page) = self.page(key) {
+            if !page.is_pinned {
+                let _answer = self.lists.request(key, &pinned)?;
+                self.set_pinned(key, true);
+            }
+            return Ok(Want::Hit(page.frame));
+        }
+        if !self.may_bring_in(pinned.len(), create) {
+            return Ok(Want::Nothing);
+        }
+        if let Answer::Evict(victim) = self.lists.request(key, &pinned)? {
+            self.remove(victim);
+        }
+        Ok(Want::New)
+    }
+
+    /// Puts a new page into this frame. False where another page has it.
+    pub fn admit(&mut self, key: u32, frame: u32) -> Result<bool, AllocError> {
+        if self.pages.iter().any(|page| page.frame == frame) {
+            return Ok(false);
+        }
+        self.pages.push(Page {
+            key,
+            frame,
+            is_pinned: true,
+        })?;
+        Ok(true)
+    }
+
+    pub fn unpin(&mut self, key: u32, discard: bool) {
+        let Some(page) = self.page(key) else {
+            return;
+        };
+        if !page.is_pinned {
+            return;
+        }
+        if discard {
+            self.lists.forget(key);
+            self.remove(key);
+        } else if self.lists.is_cached(key) {
+            self.set_pinned(key, false);
+        } else {
+            self.remove(key);
+        }
+    }
+
+    pub fn rekey(&mut self, old: u32, new: u32) -> Result<(), AllocError> {
+        if old == new || self.page(old).is_none() {
+            return Ok(());
+        }
+        self.remove(new);
+        for page in self.pages.iter_mut() {
+            if page.key == old {
+                page.key = new;
+            }
+        }
+        self.lists.rename(old, new)
+    }
+
+    /// Drops each page and each name from the limit on.
+    pub fn truncate(&mut self, alloc: Global, limit: u32) -> Result<(), AllocError> {
+        let mut kept = Vec::new(alloc);
+        for page in &self.pages {
+            if page.key < limit {
+                kept.push(*page)?;
+            }
+        }
+        self.pages = kept;
+        self.lists.truncate(alloc, limit)
+    }
+
+    /// Drops each page that isn't pinned.
+    pub fn shrink(&mut self, alloc: Global) -> Result<(), AllocError> {
+        let mut kept = Vec::new(alloc);
+        for page in &self.pages {
+            if page.is_pinned {
+                kept.push(*page)?;
+            } else {
+                self.lists.forget(page.key);
+            }
+        }
+        self.pages = kept;
+        Ok(())
+    }
+
+    pub fn resize(&mut self, alloc: Global, size: u32) -> Result<(), AllocError> {
+        let pinned = self.pinned(alloc)?;
+        for _ in size as usize..self.lists.cached() {
+            match self.lists.give_up(&pinned)? {
+                Some(victim) => self.remove(victim),
+                None => self.lists.forget_last(),
+            }
+        }
+        self.lists.cut(size);
+        self.size = size;
+        Ok(())
+    }
+}

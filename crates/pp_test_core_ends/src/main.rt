@@ -1,0 +1,114 @@
+//! Drives 200 cores to their end, of twelve plans each under three frames, by the turns that the core names, with
+//! decisions that look like chance and a device that fails and lies.
+//!
+//! Every other core is driven by `drain`; of the others one move of each turn is made, and now and then a flush begins.
+#![tactic(auto)]
+
+mod ends;
+
+use crate::ends::{drain_to_the_end, step_to_the_end};
+use pp_annotate::annotate;
+use pp_cert::{Accepted, check};
+use pp_core::Core;
+use pp_plan::Plan;
+use pp_settings::Settings;
+use pp_test_plain::Chance;
+use std::alloc::Global;
+
+/// How many cores are driven to their end, and how many plans each has.
+const CORES: u32 = 200;
+
+const PLANS: u32 = 12;
+
+/// Two regions of eight pages, with a gap between them, and before the first.
+const SETTINGS: &str = "
+frames = 3
+page_bytes = 64
+workers = 3
+flushes = 60
+
+[[region]]
+name = \"root\"
+first = 1
+count = 3
+class = 1
+
+[[region]]
+name = \"leaf\"
+first = 5
+count = 5
+class = 2
+";
+
+/// From a root to a leaf, which is written.
+const DESCENT: &str =
+    "{\"body\":[{\"fix\":\"a\",\"region\":\"root\"},{\"latch\":\"a\",\"mode\":\"S\"},\
+{\"fix\":\"b\",\"region\":\"leaf\"},{\"latch\":\"b\",\"mode\":\"X\"},{\"unlatch\":\"b\"},{\"unlatch\":\"a\"},\
+{\"unfix\":\"b\"},{\"unfix\":\"a\"}],\"version\":1}";
+
+/// Three leaves, each written, read twice, or let be.
+const SCAN: &str = "{\"body\":[{\"body\":[{\"fix\":\"a\",\"region\":\"leaf\"},{\"choice\":[\
+[{\"latch\":\"a\",\"mode\":\"X\"},{\"unlatch\":\"a\"}],\
+[{\"body\":[{\"latch\":\"a\",\"mode\":\"S\"},{\"unlatch\":\"a\"}],\"loop\":2}],[]]},\
+{\"unfix\":\"a\"}],\"loop\":3}],\"version\":1}";
+
+/// Three pages, two of them latched as the third is fixed.
+const SPLIT: &str =
+    "{\"body\":[{\"fix\":\"a\",\"region\":\"root\"},{\"latch\":\"a\",\"mode\":\"X\"},\
+{\"fix\":\"b\",\"region\":\"leaf\"},{\"latch\":\"b\",\"mode\":\"X\"},{\"fix\":\"c\",\"region\":\"leaf\"},\
+{\"unlatch\":\"b\"},{\"unfix\":\"b\"},{\"unfix\":\"c\"},{\"unlatch\":\"a\"},{\"unfix\":\"a\"}],\"version\":1}";
+
+/// A root is written, and then two leaves are held at once, or none.
+const EITHER: &str =
+    "{\"body\":[{\"fix\":\"a\",\"region\":\"root\"},{\"latch\":\"a\",\"mode\":\"X\"},{\"unlatch\":\"a\"},\
+{\"unfix\":\"a\"},{\"choice\":[[],[{\"fix\":\"b\",\"region\":\"leaf\"},{\"fix\":\"c\",\"region\":\"leaf\"},\
+{\"unfix\":\"b\"},{\"unfix\":\"c\"}]]}],\"version\":1}";
+
+/// One of the plans, with its certificate accepted.
+fn some_plan(alloc: Global, settings: &Settings, chance: &mut Chance) -> anyhow::Result<Accepted> {
+    let text = match chance.below(4) {
+        0 => DESCENT,
+        1 => SCAN,
+        2 => SPLIT,
+        _ => EITHER,
+    };
+    let plan = Plan::from_text(alloc, settings, text)?;
+    let certificate = annotate(alloc, settings, &plan)?;
+    match check(settings, plan, &certificate) {
+        Ok(accepted) => Ok(accepted),
+        Err((_plan, error)) => Err(anyhow::Error::from(error)),
+    }
+}
+
+/// A new core in which plans wait.
+fn filled(alloc: Global, settings: &Settings, chance: &mut Chance) -> anyhow::Result<Core> {
+    let mut core = Core::new(alloc, settings)?;
+    for _ in 0..PLANS {
+        let accepted = some_plan(alloc, settings, chance)?;
+        if core.submit(accepted).is_err() {
+            anyhow::bail!("a plan isn't taken in");
+        }
+    }
+    Ok(core)
+}
+
+/// Drives the cores to their end.
+fn main(rt: HostRuntime) -> anyhow::Result<()> {
+    let settings = Settings::from_text(rt.alloc(), SETTINGS)?;
+    let mut chance = Chance::new();
+    for number in 0..CORES {
+        let mut core = filled(rt.alloc(), &settings, &mut chance)?;
+        let is_ended = if number % 2 == 0 {
+            drain_to_the_end(&mut core, &mut chance)
+        } else {
+            step_to_the_end(&mut core, &mut chance) == Some(PLANS)
+        };
+        if !is_ended {
+            anyhow::bail!("core {number} doesn't end as it should");
+        }
+    }
+    println!(rt;
+        "{CORES} cores of {PLANS} plans each end within their bounds, with every plan finished"
+    )?;
+    Ok(())
+}

@@ -1,0 +1,124 @@
+//! Makes 20,000 moves that look like chance on cores of three frames, three workers and eight pages, and compares each
+//! reply with that of a plain program.
+//!
+//! The plain program keeps lists of what is held, cached, changed and known, and goes through them for each answer. It
+//! shares nothing with the core but the moves and the replies. A core is used until its 256 plans are, and then another
+//! is made.
+#![tactic(auto)]
+
+mod counts;
+mod plain;
+mod plans;
+
+use crate::counts::Counts;
+use crate::plain::Plain;
+use crate::plans::{KINDS, PLANS, Shape};
+use pp_annotate::annotate;
+use pp_cert::{Accepted, check};
+use pp_core::{Core, SubmitError};
+use pp_plan::Plan;
+use pp_settings::Settings;
+use pp_test_plain::Chance;
+use std::alloc::Global;
+
+/// How many moves are made.
+const MOVES: u32 = 20_000;
+
+/// Two regions of eight pages, with a gap between them, and before the first.
+const SETTINGS: &str = "
+frames = 3
+page_bytes = 64
+workers = 3
+flushes = 60
+
+[[region]]
+name = \"root\"
+first = 1
+count = 3
+class = 1
+
+[[region]]
+name = \"leaf\"
+first = 5
+count = 5
+class = 2
+";
+
+/// The plan of this text, with its certificate accepted.
+fn accepted(alloc: Global, settings: &Settings, text: &str) -> anyhow::Result<Accepted> {
+    let plan = Plan::from_text(alloc, settings, text)?;
+    let certificate = annotate(alloc, settings, &plan)?;
+    match check(settings, plan, &certificate) {
+        Ok(accepted) => Ok(accepted),
+        Err((_plan, error)) => Err(anyhow::Error::from(error)),
+    }
+}
+
+/// Submits a plan to both, and says whether they answer the same.
+fn submit(
+    alloc: Global,
+    settings: &Settings,
+    core: &mut Core,
+    plain: &mut Plain,
+    shape: &'static Shape,
+) -> anyhow::Result<bool> {
+    let accepted = accepted(alloc, settings, shape.text)?;
+    let want = plain.submit(shape)?;
+    let got = match core.submit(accepted) {
+        Ok(id) => Some(id.number()),
+        Err((_plan, SubmitError::TooManyPlans)) => None,
+        Err(_) => return Ok(false),
+    };
+    Ok(got == want)
+}
+
+/// Makes moves on a new core until its plans are used up, at most so many, and says how many were made.
+fn walk(
+    alloc: Global,
+    settings: &Settings,
+    chance: &mut Chance,
+    counts: &mut Counts,
+    most: u32,
+) -> anyhow::Result<u32> {
+    let mut core = Core::new(alloc, settings)?;
+    let mut plain = Plain::new(alloc, 3, 3, 60)?;
+    for made in 0..most {
+        if plain.is_used_up() {
+            return Ok(made);
+        }
+        if plain.wants_plans() {
+            let shape = &PLANS[chance.below(KINDS as u32) as usize % KINDS];
+            if !submit(alloc, settings, &mut core, &mut plain, shape)? {
+                anyhow::bail!("a submit is answered otherwise");
+            }
+        }
+        let asked = plain.pick(chance);
+        let want = plain.step(asked)?;
+        let got = core.step(&asked);
+        if got != want {
+            anyhow::bail!("{asked:?} is answered {got:?}, and plainly {want:?}");
+        }
+        counts.count(got);
+    }
+    Ok(most)
+}
+
+/// Walks until all moves are made, and prints that all replies agreed.
+fn main(rt: HostRuntime) -> anyhow::Result<()> {
+    let settings = Settings::from_text(rt.alloc(), SETTINGS)?;
+    let mut chance = Chance::new();
+    let mut counts = Counts::new(rt.alloc())?;
+    let mut left = MOVES;
+    for _ in 0..MOVES {
+        if left == 0 {
+            break;
+        }
+        let made = walk(rt.alloc(), &settings, &mut chance, &mut counts, left)?;
+        left = left.saturating_sub(made);
+    }
+    let made = counts.all();
+    println!(rt; "{made} moves, all replies agree")?;
+    let kinds = counts.kinds();
+    println!(rt; "each of {kinds} kinds of replies and refusals came ten times or more")?;
+    Ok(())
+}

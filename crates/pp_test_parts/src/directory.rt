@@ -1,0 +1,354 @@
+//! Tests of ARC's directory: worked rows, traces beside a plain program, and its memory.
+
+ghost use Rattle.std.specs.Prelude.{◌≡◌, ◌≤◌, ◌==◌, ℕ, Bool};
+ghost use Rattle.std.specs.List.{list_any};
+ghost use Rattle.pp_arc.specs.FourLists.{is_cached};
+
+use pp_arc::{Answer, Busy, Directory, List};
+use pp_test_plain::Lists;
+use std::alloc::{AllocError, Global};
+use std::process::Abort;
+use std::test::Fail;
+
+/// The pages of a slice are busy.
+#[derive(Drop)]
+struct Among<'a>(&'a [u32]);
+
+impl Busy for Among<'_> {
+    ghost busy = { λ s page. list_any (λ y. y == page) s.0.now };
+
+    fn is_busy(&self, page: u32) -> bool {
+        self.0.contains(&page)
+    }
+}
+
+/// Whether the directory has these four lists, in the order of their names, and this target.
+fn has(directory: &Directory, lists: [&[u32]; 4], target: u32) -> bool {
+    directory.target() == target
+        && is_list(directory, List::T1, lists[0])
+        && is_list(directory, List::T2, lists[1])
+        && is_list(directory, List::B1, lists[2])
+        && is_list(directory, List::B2, lists[3])
+}
+
+/// Whether the list, read from its front on, has these pages.
+fn is_list(directory: &Directory, list: List, pages: &[u32]) -> bool {
+    let mut next = directory.front(list);
+    for page in pages {
+        if next != Some(*page) || directory.place(*page) != Some(list) {
+            return false;
+        }
+        next = directory.after(*page);
+    }
+    next.is_none() && directory.len(list) == pages.len()
+}
+
+/// A request, the busy pages, what it answers, and the four lists and the target after it.
+struct Row(u32, &'static [u32], Answer, [&'static [u32]; 4], u32);
+
+/// Asks for the pages in turn, and compares each answer and the lists after it.
+fn follow(rt: &impl Abort, directory: &mut Directory, rows: &[Row])
+    requires { 64 ≤ directory.old.pages }
+    ensures { directory.new.pages ≡ directory.old.pages }
+{
+    for row in rows {
+        let page = row.0;
+        let answer = directory.request(page % 64, &Among(row.1));
+        assert!(rt;
+            answer == row.2 && has(directory, row.3, row.4),
+            "at page {page}"
+        );
+    }
+}
+
+/// The lists and the target after six requests.
+static SIX_REQUESTS: [Row; 6] = [
+    Row(1, &[], Answer::Free, [&[1], &[], &[], &[]], 0),
+    Row(2, &[], Answer::Free, [&[2, 1], &[], &[], &[]], 0),
+    Row(1, &[], Answer::Hit, [&[2], &[1], &[], &[]], 0),
+    Row(3, &[], Answer::Evict(2), [&[3], &[1], &[2], &[]], 0),
+    Row(2, &[], Answer::Evict(1), [&[3], &[2], &[], &[1]], 1),
+    Row(1, &[], Answer::Evict(3), [&[], &[1, 2], &[3], &[]], 0),
+];
+
+/// Busy pages are passed over. The second AllBusy is of a page of B1, which would raise the target.
+static WITH_BUSY_PAGES: [Row; 7] = [
+    Row(1, &[], Answer::Free, [&[1], &[], &[], &[]], 0),
+    Row(2, &[], Answer::Free, [&[2, 1], &[], &[], &[]], 0),
+    Row(1, &[], Answer::Hit, [&[2], &[1], &[], &[]], 0),
+    Row(3, &[], Answer::Evict(2), [&[3], &[1], &[2], &[]], 0),
+    Row(4, &[1, 3], Answer::AllBusy, [&[3], &[1], &[2], &[]], 0),
+    Row(2, &[1, 3], Answer::AllBusy, [&[3], &[1], &[2], &[]], 0),
+    Row(4, &[3], Answer::Evict(1), [&[4, 3], &[], &[], &[1]], 0),
+];
+
+#[test]
+fn lists_and_target_after_each_request(rt: HostRuntime) -> Result<(), Fail> {
+    let mut directory = Directory::new(rt.alloc(), 2, 64)?;
+    follow(&rt, &mut directory, &SIX_REQUESTS);
+    Ok(())
+}
+
+#[test]
+fn busy_pages_are_passed_over(rt: HostRuntime) -> Result<(), Fail> {
+    let mut directory = Directory::new(rt.alloc(), 2, 64)?;
+    follow(&rt, &mut directory, &WITH_BUSY_PAGES);
+    Ok(())
+}
+
+static ONE_PAGE: [Row; 3] = [
+    Row(5, &[], Answer::Free, [&[5], &[], &[], &[]], 0),
+    Row(6, &[5], Answer::AllBusy, [&[5], &[], &[], &[]], 0),
+    Row(6, &[], Answer::Evict(5), [&[6], &[], &[], &[]], 0),
+];
+
+#[test]
+fn a_victim_is_brought_back(rt: HostRuntime) -> Result<(), Fail> {
+    let mut directory = Directory::new(rt.alloc(), 1, 64)?;
+    follow(&rt, &mut directory, &ONE_PAGE);
+    assert!(rt; bring_back(&mut directory, 6, 5));
+    assert!(rt; has(&directory, [&[], &[5], &[], &[]], 0));
+    Ok(())
+}
+
+/// The quotients 3 / 2 are rounded down, at page 7 of B1 and at page 4 of B2. From page 11 to 13 each
+/// page of T2 is busy, so that T1 gives the victim though T2 is chosen.
+static QUOTIENTS: [Row; 23] = [
+    Row(1, &[], Answer::Free, [&[1], &[], &[], &[]], 0),
+    Row(1, &[], Answer::Hit, [&[], &[1], &[], &[]], 0),
+    Row(2, &[], Answer::Free, [&[2], &[1], &[], &[]], 0),
+    Row(2, &[], Answer::Hit, [&[], &[2, 1], &[], &[]], 0),
+    Row(3, &[], Answer::Free, [&[3], &[2, 1], &[], &[]], 0),
+    Row(3, &[], Answer::Hit, [&[], &[3, 2, 1], &[], &[]], 0),
+    Row(4, &[], Answer::Free, [&[4], &[3, 2, 1], &[], &[]], 0),
+    Row(4, &[], Answer::Hit, [&[], &[4, 3, 2, 1], &[], &[]], 0),
+    Row(5, &[], Answer::Free, [&[5], &[4, 3, 2, 1], &[], &[]], 0),
+    Row(5, &[], Answer::Hit, [&[], &[5, 4, 3, 2, 1], &[], &[]], 0),
+    Row(
+        6,
+        &[],
+        Answer::Evict(1),
+        [&[6], &[5, 4, 3, 2], &[], &[1]],
+        0,
+    ),
+    Row(6, &[], Answer::Hit, [&[], &[6, 5, 4, 3, 2], &[], &[1]], 0),
+    Row(
+        7,
+        &[],
+        Answer::Evict(2),
+        [&[7], &[6, 5, 4, 3], &[], &[2, 1]],
+        0,
+    ),
+    Row(
+        8,
+        &[],
+        Answer::Evict(7),
+        [&[8], &[6, 5, 4, 3], &[7], &[2, 1]],
+        0,
+    ),
+    Row(
+        9,
+        &[],
+        Answer::Evict(8),
+        [&[9], &[6, 5, 4, 3], &[8, 7], &[2, 1]],
+        0,
+    ),
+    Row(
+        10,
+        &[],
+        Answer::Evict(9),
+        [&[10], &[6, 5, 4, 3], &[9, 8, 7], &[2, 1]],
+        0,
+    ),
+    Row(
+        8,
+        &[],
+        Answer::Evict(3),
+        [&[10], &[8, 6, 5, 4], &[9, 7], &[3, 2, 1]],
+        1,
+    ),
+    Row(
+        7,
+        &[],
+        Answer::Evict(4),
+        [&[10], &[7, 8, 6, 5], &[9], &[4, 3, 2, 1]],
+        2,
+    ),
+    Row(
+        9,
+        &[],
+        Answer::Evict(5),
+        [&[10], &[9, 7, 8, 6], &[], &[5, 4, 3, 2, 1]],
+        5,
+    ),
+    Row(
+        11,
+        &[9, 7, 8, 6],
+        Answer::Evict(10),
+        [&[11], &[9, 7, 8, 6], &[10], &[5, 4, 3, 2]],
+        5,
+    ),
+    Row(
+        12,
+        &[9, 7, 8, 6],
+        Answer::Evict(11),
+        [&[12], &[9, 7, 8, 6], &[11, 10], &[5, 4, 3]],
+        5,
+    ),
+    Row(
+        13,
+        &[9, 7, 8, 6],
+        Answer::Evict(12),
+        [&[13], &[9, 7, 8, 6], &[12, 11, 10], &[5, 4]],
+        5,
+    ),
+    Row(
+        4,
+        &[],
+        Answer::Evict(6),
+        [&[13], &[4, 9, 7, 8], &[12, 11, 10], &[6, 5]],
+        4,
+    ),
+];
+
+#[test]
+fn quotients_are_rounded_down(rt: HostRuntime) -> Result<(), Fail> {
+    let mut directory = Directory::new(rt.alloc(), 5, 64)?;
+    follow(&rt, &mut directory, &QUOTIENTS);
+    Ok(())
+}
+
+/// Brings the victim back where that may be asked, and says whether it may.
+fn bring_back(directory: &mut Directory, page: u32, victim: u32) -> bool
+    requires { 16 ≤ directory.old.pages }
+    ensures { directory.new.pages ≡ directory.old.pages }
+{
+    let victim = victim % 16;
+    if !is_cached(directory, page) || is_cached(directory, victim) {
+        return false;
+    }
+    directory.bring_back(page, victim);
+    true
+}
+
+fn is_cached(directory: &Directory, page: u32) -> bool
+    ensures { result ≡ is_cached directory.now page }
+{
+    matches!(directory.place(page), Some(List::T1) | Some(List::T2))
+}
+
+/// A directory of 16 pages and the plain program.
+#[derive(Drop)]
+struct Pair {
+    directory: Directory,
+    plain: Lists,
+    ghost wide: { 16 ≤ directory.pages },
+}
+
+impl Pair {
+    fn new(alloc: Global, c: u32) -> Result<Self, AllocError> {
+        let directory = Directory::new(alloc, c.max(1), 16)?;
+        let plain = Lists::new(alloc, c.max(1));
+        Ok(Pair { directory, plain })
+    }
+
+    /// Asks both for the page, and says what they answer if it is the same.
+    fn ask(&mut self, page: u32, busy: &[u32]) -> Result<Option<Answer>, AllocError> {
+        let answer = self.directory.request(page % 16, &Among(busy));
+        let other = self.plain.request(page % 16, busy)?;
+        Ok(if answer == other { Some(answer) } else { None })
+    }
+
+    fn forget(&mut self, page: u32) {
+        self.directory.forget(page);
+        self.plain.forget(page);
+    }
+
+    fn bring_back(&mut self, page: u32, victim: u32) -> Result<bool, AllocError> {
+        self.plain.bring_back(page, victim)?;
+        Ok(bring_back(&mut self.directory, page, victim))
+    }
+
+    /// Whether both have the same lists and the same target.
+    fn agrees(&self) -> bool {
+        let plain = &self.plain;
+        let lists = [
+            plain.t1.as_slice(),
+            plain.t2.as_slice(),
+            plain.b1.as_slice(),
+            plain.b2.as_slice(),
+        ];
+        has(&self.directory, lists, plain.target)
+    }
+
+    /// Which of the lists were met: those that were met before, and those that have a page now.
+    fn met(&self, before: [bool; 4]) -> [bool; 4] {
+        let directory = &self.directory;
+        [
+            before[0] || directory.len(List::T1) > 0,
+            before[1] || directory.len(List::T2) > 0,
+            before[2] || directory.len(List::B1) > 0,
+            before[3] || directory.len(List::B2) > 0,
+        ]
+    }
+}
+
+/// Each request is of page `s % 7`. At the first one `s` is 0, and then it is `(5 * s + 3) % 16` each time. The requests
+/// meet all four lists.
+#[test]
+fn a_thousand_requests_while_a_page_is_busy(rt: HostRuntime) -> Result<(), Fail> {
+    let mut pair = Pair::new(rt.alloc(), 3)?;
+    let mut met = [false; 4];
+    let mut s: u32 = 0;
+    for count in 0..1000u32 {
+        let answer = pair.ask(s % 7, &[3])?;
+        assert!(rt; answer.is_some() && pair.agrees(), "request {count}");
+        met = pair.met(met);
+        s = (s % 16 * 5 + 3) % 16;
+    }
+    assert!(rt; met == [true; 4], "a list was never met: {met:?}");
+    Ok(())
+}
+
+/// All pages below 16 are busy but those that leave this remainder by 4.
+static ALL_BUT: [[u32; 12]; 4] = [
+    [1, 2, 3, 5, 6, 7, 9, 10, 11, 13, 14, 15],
+    [0, 2, 3, 4, 6, 7, 8, 10, 11, 12, 14, 15],
+    [0, 1, 3, 4, 5, 7, 8, 9, 11, 12, 13, 15],
+    [0, 1, 2, 4, 5, 6, 8, 9, 10, 12, 13, 14],
+];
+
+/// One request to both programs, and now and then a page forgotten, or a victim brought back.
+fn turn(pair: &mut Pair, seed: u32) -> Result<bool, AllocError> {
+    let page = (seed >> 16) % 16;
+    let busy = &ALL_BUT[(seed >> 24) as usize % 4];
+    match pair.ask(page, busy)? {
+        Some(Answer::Evict(victim)) if seed >> 30 == 0 => pair.bring_back(page, victim),
+        Some(Answer::Hit) if seed >> 30 == 1 => {
+            pair.forget(page);
+            Ok(true)
+        }
+        answer => Ok(answer.is_some()),
+    }
+}
+
+#[test]
+fn most_pages_are_busy_and_some_come_back(rt: HostRuntime) -> Result<(), Fail> {
+    let mut pair = Pair::new(rt.alloc(), 5)?;
+    let mut seed: u32 = 1;
+    for count in 0..4000u32 {
+        seed = seed.wrapping_mul(1_664_525).wrapping_add(1_013_904_223);
+        assert!(rt; turn(&mut pair, seed)? && pair.agrees(), "request {count}");
+    }
+    Ok(())
+}
+
+/// A directory of the largest pool is made, and answers.
+#[test]
+fn memory_is_there(rt: HostRuntime) -> Result<(), Fail> {
+    let mut directory = Directory::new(rt.alloc(), 4096, 65536)?;
+    assert!(rt; directory.request(65535, &Among(&[])) == Answer::Free);
+    directory.forget(65535);
+    assert!(rt; directory.place(65535).is_none() && directory.after(65536).is_none());
+    Ok(())
+}

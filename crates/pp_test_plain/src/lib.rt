@@ -1,0 +1,12 @@
+//! What tests compare with: ARC as a plain program, and numbers that look like chance.
+//!
+//! It is written apart from the crates that are tested, for a reader who wants to see what they do, and costs a walk over its
+//! lists at each call.
+#![tactic(auto)]
+
+pub use chance::Chance;
+pub use lists::Lists;
+pub use pp_arc::Answer;
+
+mod chance;
+mod lists;

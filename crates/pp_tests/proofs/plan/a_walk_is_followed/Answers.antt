@@ -1,5 +1,0 @@
-use Rattle.std.proofs.Common.{[]}
-use Rattle.pp_tests.proofs.plan.a_walk_is_followed.Goals as goal
-
-pub walk-requires : goal.walk-requires
-walk-requires g c = ([], c.new-cursor.ensures)

@@ -1,5 +1,0 @@
-use Rattle.pp_plan.specs.Cursor.{IsCursorOf}
-use Rattle.pp_tests.proofs.plan.walk.Given as goal
-
-abbrev pub invariant-loop-ask : goal.invariant-loop-ask
-invariant-loop-ask g l = IsCursorOf l.plan l.cursor
