@@ -44,9 +44,9 @@ impl<'a> Statement<'a> {
     }
 }
 
-/// The name of the slot that the statement has.
+/// The name of the slot that the statement has, be it a page's or a bundle's.
 pub fn slot_in(value: &Value) -> &str {
-    for key in ["fix", "unfix", "latch", "unlatch"] {
+    for key in ["fix", "unfix", "latch", "unlatch", "gather", "scatter"] {
         if let Some(slot) = value.get(key).and_then(Value::as_str) {
             return slot;
         }

@@ -7,7 +7,8 @@ use Rattle.std.proofs.lemmas.List.{append-nil}
 use Rattle.std.specs.Prelude.{◌↔◌, option_map, slice_get, nat_lt}
 use Rattle.pp_settings.specs.declared.extent.Extent.{Extent}
 use Rattle.pp_settings.specs.Layout.{Geometry, HasPage, IsLayout}
-use Rattle.pp_plan.specs.Tree.{Step, fix, unfix, latch, unlatch, step, loop, choice, Sequence, skip, andthen}
+use Rattle.pp_plan.specs.Tree.{Step, fix, unfix, latch, unlatch, gather, scatter, step, loop, choice}
+use Rattle.pp_plan.specs.Tree.{Sequence, skip, andthen}
 use Rattle.pp_plan.specs.Tree.{Alternatives, none, either, branch_count}
 use Rattle.pp_plan.specs.Rules.{IsSome, IsStep, IsSequence, AreAlternatives}
 use Rattle.pp_plan.specs.declared.mode.Mode.{Mode}
@@ -57,6 +58,9 @@ does_found g (unfix s) (Unfix t) h = grind (arith, nat_tests)
 does_found g (latch s m) (Latch t n) h = let found = mode_found m n in
     (grind (arith, nat_tests), found (grind (arith, nat_tests)))
 does_found g (unlatch s) (Unlatch t) h = grind (arith, nat_tests)
+does_found g (gather s r) (Gather t page) h = let found = region_found g r page in
+    (grind (arith, nat_tests), found (grind (arith, nat_tests)))
+does_found g (scatter s) (Scatter t) h = grind (arith, nat_tests)
 does_found g _ _ h = cc
 
 does_is : (g : Geometry) (s : Step) (a : Action) → Does g s a → does g s a ≡ true
@@ -65,6 +69,8 @@ does_is g (unfix s) (Unfix t) h = grind (arith, nat_tests)
 does_is g (latch s m) (Latch t n) h = let has : same_mode m n ≡ true =
     subst (λ x. same_mode m x ≡ true) h.1 (mode_is m) in let same = h.0 in grind (arith, nat_tests)
 does_is g (unlatch s) (Unlatch t) h = grind (arith, nat_tests)
+does_is g (gather s r) (Gather t page) h = let has = region_is g r page h.1 in let same = h.0 in grind (arith, nat_tests)
+does_is g (scatter s) (Scatter t) h = grind (arith, nat_tests)
 does_is g _ _ h = absurd h
 
 -- ---- bodies that a plan can have left: as the rules say, but for loops with no turn left
@@ -301,6 +307,8 @@ ends g slots regions (andthen (step (fix s r)) k) h e = cc
 ends g slots regions (andthen (step (unfix s)) k) h e = cc
 ends g slots regions (andthen (step (latch s m)) k) h e = cc
 ends g slots regions (andthen (step (unlatch s)) k) h e = cc
+ends g slots regions (andthen (step (gather s r)) k) h e = cc
+ends g slots regions (andthen (step (scatter s)) k) h e = cc
 ends g slots regions (andthen (loop zero b) k) h e = (loop_over g b k).from [] (ends g slots regions k h.2 e)
 ends g slots regions (andthen (loop (suc n) b) k) h e =
     absurd (full g slots regions b h.0 h.1 (ends g slots regions b (can_run slots regions b h.1) e))
@@ -405,6 +413,8 @@ within_by slots regions (andthen (step (fix s r)) k) h = h.0
 within_by slots regions (andthen (step (unfix s)) k) h = h.0
 within_by slots regions (andthen (step (latch s m)) k) h = h.0
 within_by slots regions (andthen (step (unlatch s)) k) h = h.0
+within_by slots regions (andthen (step (gather s r)) k) h = h.0
+within_by slots regions (andthen (step (scatter s)) k) h = h.0
 within_by slots regions (andthen (loop zero b) k) h = within_by slots regions k h.2
 within_by slots regions (andthen (loop (suc n) b) k) h = within_by slots regions b (can_run slots regions b h.1)
 within_by slots regions (andthen (choice bs) k) h = (h.0, h.1)

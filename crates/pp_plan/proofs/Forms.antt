@@ -1,5 +1,5 @@
 -- The form of a statement, as it is read and as it is spelled.
-use Rattle.std.proofs.Common.{◌≡◌, ℕ, Bool, true, false, List, get_or, Option, Some, None, Ok, Ordering}
+use Rattle.std.proofs.Common.{◌≡◌, ◌⊎◌, inl, inr, ℕ, Bool, true, false, List, get_or, Option, Some, None, Ok, Ordering}
 use Rattle.std.proofs.Common.{nat_cmp, codes, refl, sym, ap, subst, ◌∙◌}
 use Rattle.std.specs.Option.{ok_or, option_and_then}
 use Rattle.std.specs.Str.{bytes_eq}
@@ -14,20 +14,22 @@ use Rattle.serde_json.specs.Find.{get, get_member, as_array, as_str, as_number, 
 use Rattle.pp_plan.specs.declared.mode.Mode.{Mode}
 use Rattle.pp_plan.specs.declared.mode.Mode.TheVariants.{S, X}
 use Rattle.pp_plan.specs.declared.kind.Kind.{Kind}
-use Rattle.pp_plan.specs.declared.kind.Kind.TheVariants.{Fix, Unfix, Latch, Unlatch, Loop, Choice}
+use Rattle.pp_plan.specs.declared.kind.Kind.TheVariants.{Fix, Unfix, Latch, Unlatch, Gather, Scatter, Loop, Choice}
 use Rattle.pp_plan.specs.declared.error.PlanError.TheVariants.{NoSuchStatement, WrongField}
 use Rattle.pp_text.specs.Steps.{must}
 use Rattle.pp_text.specs.Objects.{is_one_of, has_only_keys, AreAmong, HasOnly, Holds}
 use Rattle.pp_text.proofs.Steps.{bind_ok, must_ok, ok_or_ok, ok_is}
 use Rattle.pp_text.proofs.Keys.{only_found, only_again}
 use Rattle.pp_text.proofs.Values.{array_is, string_is, number_is}
-use Rattle.pp_plan.specs.Keys.{keys_of}
-use Rattle.pp_plan.specs.Shapes.{Shape, fix_shape, unfix_shape, latch_shape, unlatch_shape, loop_shape, choice_shape}
+use Rattle.pp_plan.specs.Keys.{keys_of, first_key, IsKindOf}
+use Rattle.pp_plan.specs.Shapes.{Shape, fix_shape, unfix_shape, latch_shape, unlatch_shape, gather_shape}
+use Rattle.pp_plan.specs.Shapes.{scatter_shape, loop_shape, choice_shape}
 use Rattle.pp_plan.specs.Shapes.{kind_of, value_at, text_at, number_at, list_at, mode_named, mode_at, are_lists}
 use Rattle.pp_plan.specs.Shapes.{shape_at, shape_of}
 use Rattle.pp_plan.specs.Spelling.{letter_of}
 use Rattle.pp_plan.specs.Faults.{SpellsShape}
 use Rattle.pp_plan.proofs.Order.{equal_is}
+use Rattle.pp_plan.proofs.OneKind.{kind_found, kind_again}
 
 -- ---- keys
 
@@ -55,6 +57,13 @@ absent_in keys k other (member l d ms) h =
 pub absent : (keys : List (List ℕ)) (k : List ℕ) → is_one_of keys k ≡ false → (d : Data) → HasOnly keys d
     → get k d ≡ None
 absent keys k other d (ms, e, h) = ap (get k) e ∙ absent_in keys k other ms h
+
+pub none_some : {A : Type 0} (o : Option A) (x : A) → o ≡ None → o ≡ Some x → ⊥
+none_some o x a b = absurd cc
+
+pub no_key : (keys : List (List ℕ)) (k : List ℕ) → is_one_of keys k ≡ false → (d : Data) → HasOnly keys d → (v : Data)
+    → Holds d k v → ⊥
+no_key keys k other d only v held = none_some (get k d) v (absent keys k other d only) held
 
 -- ---- the values of the keys
 
@@ -129,148 +138,122 @@ mode_at_again key n d m held = rw (text_again key n d (letter_of m) held, mode_a
 
 -- ---- the whole form
 
-kind_found : (kind : Kind) (n : ℕ) (d : Data) (shape : Shape) → has_only_keys (keys_of kind) d ≡ true
-    → shape_at kind n d ≡ Ok shape → SpellsShape d shape
+form_found : (version : ℕ) (kind : Kind) (n : ℕ) (d : Data) (shape : Shape) → IsKindOf version kind
+    → has_only_keys (keys_of kind) d ≡ true → shape_at kind n d ≡ Ok shape → SpellsShape version d shape
 unfolding shape_at
-kind_found Fix n d shape only e =
+form_found version Fix n d shape of only e =
     let (slot, a, e1) = bind_ok (text_at (codes "fix") n d) _ shape e in
     let (region, b, e2) = bind_ok (text_at (codes "region") n d) _ shape e1 in
-    subst (λ (x : Shape). SpellsShape d x) (ok_is (fix_shape slot region) shape e2)
+    subst (λ (x : Shape). SpellsShape version d x) (ok_is (fix_shape slot region) shape e2)
     (only_found (keys_of Fix) d only, text_found (codes "fix") n d slot a, text_found (codes "region") n d region b)
-kind_found Unfix n d shape only e =
+form_found version Unfix n d shape of only e =
     let (slot, a, e1) = bind_ok (text_at (codes "unfix") n d) _ shape e in
-    subst (λ (x : Shape). SpellsShape d x) (ok_is (unfix_shape slot) shape e1)
+    subst (λ (x : Shape). SpellsShape version d x) (ok_is (unfix_shape slot) shape e1)
     (only_found (keys_of Unfix) d only, text_found (codes "unfix") n d slot a)
-kind_found Latch n d shape only e =
+form_found version Latch n d shape of only e =
     let (slot, a, e1) = bind_ok (text_at (codes "latch") n d) _ shape e in
     let (mode, b, e2) = bind_ok (mode_at (codes "mode") n d) _ shape e1 in
-    subst (λ (x : Shape). SpellsShape d x) (ok_is (latch_shape slot mode) shape e2)
+    subst (λ (x : Shape). SpellsShape version d x) (ok_is (latch_shape slot mode) shape e2)
     (only_found (keys_of Latch) d only, text_found (codes "latch") n d slot a, mode_found (codes "mode") n d mode b)
-kind_found Unlatch n d shape only e =
+form_found version Unlatch n d shape of only e =
     let (slot, a, e1) = bind_ok (text_at (codes "unlatch") n d) _ shape e in
-    subst (λ (x : Shape). SpellsShape d x) (ok_is (unlatch_shape slot) shape e1)
+    subst (λ (x : Shape). SpellsShape version d x) (ok_is (unlatch_shape slot) shape e1)
     (only_found (keys_of Unlatch) d only, text_found (codes "unlatch") n d slot a)
-kind_found Loop n d shape only e =
+form_found version Gather n d shape of only e =
+    let (slot, a, e1) = bind_ok (text_at (codes "gather") n d) _ shape e in
+    let (region, b, e2) = bind_ok (text_at (codes "region") n d) _ shape e1 in
+    subst (λ (x : Shape). SpellsShape version d x) (ok_is (gather_shape slot region) shape e2) (
+      only_found (keys_of Gather) d only,
+      text_found (codes "gather") n d slot a,
+      text_found (codes "region") n d region b,
+      of,
+    )
+form_found version Scatter n d shape of only e =
+    let (slot, a, e1) = bind_ok (text_at (codes "scatter") n d) _ shape e in
+    subst (λ (x : Shape). SpellsShape version d x) (ok_is (scatter_shape slot) shape e1)
+    (only_found (keys_of Scatter) d only, text_found (codes "scatter") n d slot a, of)
+form_found version Loop n d shape of only e =
     let (count, a, e1) = bind_ok (number_at (codes "loop") n d) _ shape e in
     let (body, b, e2) = bind_ok (list_at (codes "body") n d) _ shape e1 in
-    subst (λ (x : Shape). SpellsShape d x) (ok_is (loop_shape count body) shape e2) (
+    subst (λ (x : Shape). SpellsShape version d x) (ok_is (loop_shape count body) shape e2) (
       only_found (keys_of Loop) d only,
       number_found (codes "loop") n d count a,
       list_found (codes "body") n d body b,
     )
-kind_found Choice n d shape only e =
+form_found version Choice n d shape of only e =
     let (branches, a, e1) = bind_ok (list_at (codes "choice") n d) _ shape e in
     let (x, lists, e2) = bind_ok (must (are_lists branches) (WrongField n)) _ shape e1 in
-    subst (λ (x : Shape). SpellsShape d x) (ok_is (choice_shape branches) shape e2) (
+    subst (λ (x : Shape). SpellsShape version d x) (ok_is (choice_shape branches) shape e2) (
       only_found (keys_of Choice) d only,
       list_found (codes "choice") n d branches a,
       must_ok (are_lists branches) (WrongField n) x lists,
     )
 
-pub shape_found : (n : ℕ) (d : Data) (shape : Shape) → shape_of n d ≡ Ok shape → SpellsShape d shape
+pub shape_found : (version n : ℕ) (d : Data) (shape : Shape) → shape_of version n d ≡ Ok shape
+    → SpellsShape version d shape
 unfolding shape_of
-shape_found n d shape e =
-    let (kind, _, e1) = bind_ok (ok_or (kind_of d) (NoSuchStatement n)) _ shape e in
+shape_found version n d shape e =
+    let (kind, is, e1) = bind_ok (ok_or (kind_of version d) (NoSuchStatement n)) _ shape e in
     let (x, only, e2) = bind_ok (must (has_only_keys (keys_of kind) d) (WrongField n)) _ shape e1 in
-    kind_found kind n d shape (must_ok (has_only_keys (keys_of kind) d) (WrongField n) x only) e2
+    let of = (kind_found version d kind (ok_or_ok (kind_of version d) (NoSuchStatement n) kind is)).0 in
+    form_found version kind n d shape of (must_ok (has_only_keys (keys_of kind) d) (WrongField n) x only) e2
 
 -- ---- a form that is spelled is read
 
-fix_kind : (d v : Data) → HasOnly (keys_of Fix) d → Holds d (codes "fix") v → kind_of d ≡ Some Fix
-fix_kind d v keys held =
-    let among : List (List ℕ) = keys_of Fix in
-    rw (
-      held,
-      absent among (codes "unfix") refl d keys,
-      absent among (codes "latch") refl d keys,
-      absent among (codes "unlatch") refl d keys,
-      absent among (codes "loop") refl d keys,
-      absent among (codes "choice") refl d keys,
-    ) refl
+-- the first key of another kind is not among a kind's keys
+pub foreign : (k j : Kind) → (j ≡ k) ⊎ (is_one_of (keys_of k) (first_key j) ≡ false)
+foreign Fix Fix = inl refl
+foreign Unfix Unfix = inl refl
+foreign Latch Latch = inl refl
+foreign Unlatch Unlatch = inl refl
+foreign Gather Gather = inl refl
+foreign Scatter Scatter = inl refl
+foreign Loop Loop = inl refl
+foreign Choice Choice = inl refl
+foreign _ _ = inr refl
 
-unfix_kind : (d v : Data) → HasOnly (keys_of Unfix) d → Holds d (codes "unfix") v → kind_of d ≡ Some Unfix
-unfix_kind d v keys held =
-    let among : List (List ℕ) = keys_of Unfix in
-    rw (
-      held,
-      absent among (codes "fix") refl d keys,
-      absent among (codes "latch") refl d keys,
-      absent among (codes "unlatch") refl d keys,
-      absent among (codes "loop") refl d keys,
-      absent among (codes "choice") refl d keys,
-    ) refl
+-- a value of a kind's keys has the first key of no other kind
+pub only_kind : (k j : Kind) (d v : Data) → HasOnly (keys_of k) d → Holds d (first_key j) v → j ≡ k
+only_kind k j d v keys held =
+    elim (foreign k j) as (λ _. j ≡ k)
+    [ inl same ↦ same | inr other ↦ absurd (no_key (keys_of k) (first_key j) other d keys v held) ]
 
-latch_kind : (d v : Data) → HasOnly (keys_of Latch) d → Holds d (codes "latch") v → kind_of d ≡ Some Latch
-latch_kind d v keys held =
-    let among : List (List ℕ) = keys_of Latch in
-    rw (
-      held,
-      absent among (codes "fix") refl d keys,
-      absent among (codes "unfix") refl d keys,
-      absent among (codes "unlatch") refl d keys,
-      absent among (codes "loop") refl d keys,
-      absent among (codes "choice") refl d keys,
-    ) refl
+form_kind : (version : ℕ) (k : Kind) (d v : Data) → IsKindOf version k → HasOnly (keys_of k) d → Holds d (first_key k) v
+    → kind_of version d ≡ Some k
+form_kind version k d v of keys held =
+    kind_again version d k (of, (v, held), λ j w is there. only_kind k j d w keys there)
 
-unlatch_kind : (d v : Data) → HasOnly (keys_of Unlatch) d → Holds d (codes "unlatch") v → kind_of d ≡ Some Unlatch
-unlatch_kind d v keys held =
-    let among : List (List ℕ) = keys_of Unlatch in
-    rw (
-      held,
-      absent among (codes "fix") refl d keys,
-      absent among (codes "unfix") refl d keys,
-      absent among (codes "latch") refl d keys,
-      absent among (codes "loop") refl d keys,
-      absent among (codes "choice") refl d keys,
-    ) refl
-
-loop_kind : (d v : Data) → HasOnly (keys_of Loop) d → Holds d (codes "loop") v → kind_of d ≡ Some Loop
-loop_kind d v keys held =
-    let among : List (List ℕ) = keys_of Loop in
-    rw (
-      held,
-      absent among (codes "fix") refl d keys,
-      absent among (codes "unfix") refl d keys,
-      absent among (codes "latch") refl d keys,
-      absent among (codes "unlatch") refl d keys,
-      absent among (codes "choice") refl d keys,
-    ) refl
-
-choice_kind : (d v : Data) → HasOnly (keys_of Choice) d → Holds d (codes "choice") v → kind_of d ≡ Some Choice
-choice_kind d v keys held =
-    let among : List (List ℕ) = keys_of Choice in
-    rw (
-      held,
-      absent among (codes "fix") refl d keys,
-      absent among (codes "unfix") refl d keys,
-      absent among (codes "latch") refl d keys,
-      absent among (codes "unlatch") refl d keys,
-      absent among (codes "loop") refl d keys,
-    ) refl
-
-shape_when : (kind : Kind) (n : ℕ) (d : Data) (shape : Shape) → kind_of d ≡ Some kind
-    → has_only_keys (keys_of kind) d ≡ true → shape_at kind n d ≡ Ok shape → shape_of n d ≡ Ok shape
+shape_when : (version : ℕ) (kind : Kind) (n : ℕ) (d v : Data) (shape : Shape) → IsKindOf version kind
+    → HasOnly (keys_of kind) d → Holds d (first_key kind) v → shape_at kind n d ≡ Ok shape
+    → shape_of version n d ≡ Ok shape
 unfolding shape_of
-shape_when kind n d shape k only at = rw (k, only) at
+shape_when version kind n d v shape of keys held at =
+    rw (form_kind version kind d v of keys held, only_again (keys_of kind) d keys) at
 
-pub shape_again : (n : ℕ) (d : Data) (shape : Shape) → SpellsShape d shape → shape_of n d ≡ Ok shape
+pub shape_again : (version n : ℕ) (d : Data) (shape : Shape) → SpellsShape version d shape
+    → shape_of version n d ≡ Ok shape
 unfolding shape_at
-shape_again n d (fix_shape slot region) (keys, a, b) =
-    shape_when Fix n d (fix_shape slot region) (fix_kind d (string slot) keys a) (only_again (keys_of Fix) d keys)
+shape_again version n d (fix_shape slot region) (keys, a, b) =
+    shape_when version Fix n d (string slot) (fix_shape slot region) tt keys a
     (rw (text_again (codes "fix") n d slot a, text_again (codes "region") n d region b) refl)
-shape_again n d (unfix_shape slot) (keys, a) =
-    shape_when Unfix n d (unfix_shape slot) (unfix_kind d (string slot) keys a) (only_again (keys_of Unfix) d keys)
+shape_again version n d (unfix_shape slot) (keys, a) =
+    shape_when version Unfix n d (string slot) (unfix_shape slot) tt keys a
     (rw (text_again (codes "unfix") n d slot a) refl)
-shape_again n d (latch_shape slot mode) (keys, a, b) =
-    shape_when Latch n d (latch_shape slot mode) (latch_kind d (string slot) keys a) (only_again (keys_of Latch) d keys)
+shape_again version n d (latch_shape slot mode) (keys, a, b) =
+    shape_when version Latch n d (string slot) (latch_shape slot mode) tt keys a
     (rw (text_again (codes "latch") n d slot a, mode_at_again (codes "mode") n d mode b) refl)
-shape_again n d (unlatch_shape slot) (keys, a) =
-    shape_when Unlatch n d (unlatch_shape slot) (unlatch_kind d (string slot) keys a)
-    (only_again (keys_of Unlatch) d keys) (rw (text_again (codes "unlatch") n d slot a) refl)
-shape_again n d (loop_shape count ds) (keys, a, b) =
-    shape_when Loop n d (loop_shape count ds) (loop_kind d (number (unsigned count)) keys a)
-    (only_again (keys_of Loop) d keys)
+shape_again version n d (unlatch_shape slot) (keys, a) =
+    shape_when version Unlatch n d (string slot) (unlatch_shape slot) tt keys a
+    (rw (text_again (codes "unlatch") n d slot a) refl)
+shape_again version n d (gather_shape slot region) (keys, a, b, of) =
+    shape_when version Gather n d (string slot) (gather_shape slot region) of keys a
+    (rw (text_again (codes "gather") n d slot a, text_again (codes "region") n d region b) refl)
+shape_again version n d (scatter_shape slot) (keys, a, of) =
+    shape_when version Scatter n d (string slot) (scatter_shape slot) of keys a
+    (rw (text_again (codes "scatter") n d slot a) refl)
+shape_again version n d (loop_shape count ds) (keys, a, b) =
+    shape_when version Loop n d (number (unsigned count)) (loop_shape count ds) tt keys a
     (rw (number_again (codes "loop") n d count a, list_again (codes "body") n d ds b) refl)
-shape_again n d (choice_shape ds) (keys, a, b) =
-    shape_when Choice n d (choice_shape ds) (choice_kind d (array ds) keys a) (only_again (keys_of Choice) d keys)
+shape_again version n d (choice_shape ds) (keys, a, b) =
+    shape_when version Choice n d (array ds) (choice_shape ds) tt keys a
     (rw (list_again (codes "choice") n d ds a, b) refl)

@@ -5,11 +5,12 @@ use Rattle.std.specs.Prelude.{IsTrue, slice_get, Some}
 use Rattle.std.proofs.lemmas.Bool.{le-leb, lt-ltb}
 use Rattle.pp_settings.specs.declared.extent.Extent.{Extent}
 use Rattle.pp_settings.specs.Layout.{Geometry, has_page, HasPage, IsExtent, IsLayout}
-use Rattle.pp_plan.specs.Tree.{Step, fix, unfix, latch, unlatch, Statement, step, loop, choice, Sequence, skip, andthen}
+use Rattle.pp_plan.specs.Tree.{Step, fix, unfix, latch, unlatch, gather, scatter, Statement, step, loop, choice}
+use Rattle.pp_plan.specs.Tree.{Sequence, skip, andthen}
 use Rattle.pp_plan.specs.Tree.{Alternatives, none, either, branch_count}
 use Rattle.pp_plan.specs.Rules.{IsStep, IsStatement, IsSequence, AreAlternatives}
 use Rattle.pp_plan.specs.declared.action.Action.{Action}
-use Rattle.pp_plan.specs.declared.action.Action.TheVariants.{Fix, Unfix, Latch, Unlatch, Choose}
+use Rattle.pp_plan.specs.declared.action.Action.TheVariants.{Fix, Unfix, Latch, Unlatch, Gather, Scatter, Choose}
 use Rattle.pp_plan.specs.declared.cursor.Entry.{Entry}
 use Rattle.pp_plan.specs.Traces.{Does, Repeats, IsStatementTrace, IsTrace, IsBranchTrace}
 use Rattle.pp_plan.specs.Left.{◌then◌, sequence_drop, first_rest_of, Place, body_at, outside, left}
@@ -39,6 +40,8 @@ step_lasts g slots (fix s r) l h = let p = region_has g r l h.1 in (Fix s p.0, (
 step_lasts g slots (unfix s) l h = (Unfix s, refl)
 step_lasts g slots (latch s m) l h = (Latch s m, (refl, refl))
 step_lasts g slots (unlatch s) l h = (Unlatch s, refl)
+step_lasts g slots (gather s r) l h = let p = region_has g r l h.1 in (Gather s p.0, (refl, p.1))
+step_lasts g slots (scatter s) l h = (Scatter s, refl)
 
 repeats_last : (P : List Action → Type 0) (n : ℕ) → (t : List Action) × P t → (t : List Action) × Repeats n P t
 repeats_last P zero h = ([], refl)

@@ -5,7 +5,9 @@ pub mod Places
 pub mod Order
 pub mod Sorted
 pub mod OnlyKind
+pub mod OneKind
 pub mod Forms
+pub mod Bundles
 pub mod Found
 pub mod Numbered
 pub mod Plans
@@ -13,6 +15,8 @@ pub mod Accepting
 pub mod Again
 pub mod Only
 pub mod Causes
+pub mod Naming
+pub mod Told
 pub mod First
 pub mod Joined
 pub mod Sequences
@@ -25,7 +29,6 @@ pub mod Passing
 pub mod Standing
 pub mod Asking
 pub mod OneAsk
-pub mod NoBundle
 pub mod PrefixFree
 pub mod Values
 pub mod Written

@@ -6,7 +6,8 @@ use Rattle.std.proofs.lemmas.List.{get_or-map}
 use Rattle.std.proofs.lemmas.Option.{slice_get_within, get_or_from_slice_get}
 use Rattle.serde_json.specs.Data.{Data, Items, no_items, item}
 use Rattle.pp_settings.specs.Settings.{Configuration}
-use Rattle.pp_plan.specs.Tree.{Step, fix, unfix, latch, unlatch, Statement, step, loop, choice, Sequence, skip, andthen}
+use Rattle.pp_plan.specs.Tree.{Step, fix, unfix, latch, unlatch, gather, scatter, Statement, step, loop, choice}
+use Rattle.pp_plan.specs.Tree.{Sequence, skip, andthen}
 use Rattle.pp_plan.specs.Tree.{Alternatives, none, either, statement_count, sequence_count, alternatives_count}
 use Rattle.pp_plan.specs.Tree.{statement_depth, sequence_depth, alternatives_depth, branch_count}
 use Rattle.pp_plan.specs.Rules.{IsSome, IsStep, IsStatement, IsSequence, AreAlternatives}
@@ -63,6 +64,8 @@ step_parts f m n r h (fix k i) (a, b) = (h k a, b)
 step_parts f m n r h (unfix k) a = h k a
 step_parts f m n r h (latch k o) a = h k a
 step_parts f m n r h (unlatch k) a = h k a
+step_parts f m n r h (gather k i) (a, b) = (h k a, b)
+step_parts f m n r h (scatter k) a = h k a
 
 mutual
   statement_parts : (f : ℕ → ℕ) (m n r : ℕ) → ((k : ℕ) → k < m → f k < n) → (s : Statement) → IsStatement m r s
@@ -98,6 +101,8 @@ moved_step settings f xs ys h d (fix k r) (a, b, c) = (a, moved_slot f xs ys h d
 moved_step settings f xs ys h d (unfix k) (a, b) = (a, moved_slot f xs ys h d (codes "unfix") k b)
 moved_step settings f xs ys h d (latch k m) (a, b, c) = (a, moved_slot f xs ys h d (codes "latch") k b, c)
 moved_step settings f xs ys h d (unlatch k) (a, b) = (a, moved_slot f xs ys h d (codes "unlatch") k b)
+moved_step settings f xs ys h d (gather k r) (a, b, c) = (a, moved_slot f xs ys h d (codes "gather") k b, c)
+moved_step settings f xs ys h d (scatter k) (a, b) = (a, moved_slot f xs ys h d (codes "scatter") k b)
 
 mutual
   moved_statement : (settings : Configuration) (f : ℕ → ℕ) (xs ys : List (List ℕ)) → Moves f xs ys
@@ -133,6 +138,8 @@ step_used f (fix j r) k e = ap f e
 step_used f (unfix j) k e = ap f e
 step_used f (latch j m) k e = ap f e
 step_used f (unlatch j) k e = ap f e
+step_used f (gather j r) k e = ap f e
+step_used f (scatter j) k e = ap f e
 
 mutual
   statement_used : (f : ℕ → ℕ) (s : Statement) (k : ℕ) → IsUsedBy s k → IsUsedBy (numbered_statement f s) (f k)
@@ -157,6 +164,8 @@ step_from f (fix k r) j e = (k, refl, e)
 step_from f (unfix k) j e = (k, refl, e)
 step_from f (latch k m) j e = (k, refl, e)
 step_from f (unlatch k) j e = (k, refl, e)
+step_from f (gather k r) j e = (k, refl, e)
+step_from f (scatter k) j e = (k, refl, e)
 
 mutual
   statement_from : (f : ℕ → ℕ) (s : Statement) (j : ℕ) → IsUsedBy (numbered_statement f s) j
@@ -181,6 +190,8 @@ step_within m r (fix j i) k h e = omega (arith, h.0, e)
 step_within m r (unfix j) k h e = omega (arith, h, e)
 step_within m r (latch j o) k h e = omega (arith, h, e)
 step_within m r (unlatch j) k h e = omega (arith, h, e)
+step_within m r (gather j i) k h e = omega (arith, h.0, e)
+step_within m r (scatter j) k h e = omega (arith, h, e)
 
 mutual
   statement_within : (m r : ℕ) (s : Statement) (k : ℕ) → IsStatement m r s → IsUsedBy s k → k < m

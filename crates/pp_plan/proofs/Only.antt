@@ -1,5 +1,6 @@
 -- What is spelled by the text is read.
-use Rattle.std.proofs.Common.{◌≡◌, ℕ, ◌<◌, IsTrue, List, [], length, Result, Ok, codes, refl, sym, ap, subst, ◌∙◌}
+use Rattle.std.proofs.Common.{◌≡◌, ◌⊎◌, inl, inr, ℕ, ◌<◌, Bool, IsTrue, List, [], length, Some, Result, Ok, codes}
+use Rattle.std.proofs.Common.{refl, sym, ap, subst, ◌∙◌}
 use Rattle.std.proofs.Common.{arith}
 use Rattle.std.specs.List.{slice_get}
 use Rattle.std.proofs.lemmas.List.{length-map}
@@ -13,12 +14,11 @@ use Rattle.pp_plan.specs.Names.{is_slot_name}
 use Rattle.pp_plan.specs.Rules.{IsSequence}
 use Rattle.pp_plan.specs.Progress.{Progress}
 use Rattle.pp_plan.specs.Terms.{Terms, IsPlan}
-use Rattle.pp_text.specs.Objects.{Holds}
 use Rattle.pp_text.specs.Steps.{Gives}
 use Rattle.pp_plan.specs.Numbering.{in_byte_order, place_in, numbered}
-use Rattle.pp_plan.specs.Reading.{start, sequence_from, statement_at, statements_at, plan_of, reading}
+use Rattle.pp_plan.specs.Reading.{start, sequence_from, statement_at, as_version, statements_at, plan_of, reading}
 use Rattle.pp_plan.specs.Spelling.{Spells, IsText}
-use Rattle.pp_plan.specs.Rules.{IsUsed}
+use Rattle.pp_plan.specs.Rules.{IsUsed, uses_bundle}
 use Rattle.pp_plan.proofs.Places.{Has, has_at, at_has, filled}
 use Rattle.pp_plan.proofs.Order.{Rises, rises_apart, pairs_rise, rises_same, order_rises, order_from, order_has}
 use Rattle.pp_text.proofs.Keys.{only_again}
@@ -27,17 +27,23 @@ use Rattle.pp_plan.specs.Refusals.{is_plan_memory}
 use Rattle.pp_plan.proofs.Forms.{list_again, value_again}
 use Rattle.pp_plan.proofs.Found.{AreNames}
 use Rattle.pp_plan.proofs.Numbered.{used_from, used_within, placed}
-use Rattle.pp_plan.proofs.Plans.{start_names, body_found}
+use Rattle.pp_plan.proofs.Bundles.{plan_ways}
+use Rattle.pp_plan.proofs.Plans.{start_slots, body_found}
 use Rattle.pp_plan.proofs.Accepting.{IsTop}
-use Rattle.pp_plan.proofs.Again.{sequence_again}
+use Rattle.pp_plan.proofs.Again.{AreKnown, sequence_again}
 
-top_again : (d : Data) (items : Items) → IsTop d items → statements_at d ≡ Ok items
+version_again : (v : ℕ) → (v ≡ 1) ⊎ (v ≡ 2) → as_version (number (unsigned v)) ≡ Some v
+version_again v (inl e) = rw e refl
+version_again v (inr e) = rw e refl
+
+top_again : (d : Data) (version : ℕ) (items : Items) → IsTop d version items → statements_at d ≡ Ok (version, items)
 unfolding statements_at
-top_again d items top =
+top_again d version items top =
     rw (
       only_again top_keys d top.keys,
       list_again (codes "body") 0 d items top.body,
-      value_again (codes "version") 0 d (number (unsigned 1)) top.version,
+      value_again (codes "version") 0 d (number (unsigned version)) top.version,
+      version_again version top.known,
     ) refl
 
 -- the slot names of a plan
@@ -70,20 +76,23 @@ name_read t names read_body regions is within parts same used n h =
     subst (λ (x : List ℕ). Has names x) (sym named) (at_has names j m there)
 
 -- two plans are the same by their parts
-same_plan : (settings : Configuration) (r : Progress × Sequence) (t : Terms) → t.version ≡ 1
-    → t.layout ≡ geometry_of settings → in_byte_order r.0.names ≡ t.slots → numbered (λ k. place_in t.slots r.0.names k) r.1 ≡ t.body
-    → plan_of settings r ≡ t
-same_plan settings r t version layout slots body =
+same_plan : (settings : Configuration) (r : Progress × Sequence) (t : Terms) → t.layout ≡ geometry_of settings
+    → in_byte_order r.0.names ≡ t.slots → numbered (λ k. place_in t.slots r.0.names k) r.1 ≡ t.body
+    → plan_of settings t.version r ≡ t
+same_plan settings r t layout slots body =
     let whole : numbered (λ k. place_in (in_byte_order r.0.names) r.0.names k) r.1 ≡ t.body =
     ap (λ (xs : List (List ℕ)). numbered (λ k. place_in xs r.0.names k) r.1) slots ∙ body in
     let back : geometry_of settings ≡ t.layout = sym layout in
-    let one : 1 ≡ t.version = sym version in
-    λ i. record { version = one i; layout = back i; slots = slots i; body = whole i }
+    λ i. record { version = t.version; layout = back i; slots = slots i; body = whole i }
+
+start_known : (slots : List (List ℕ)) (kind : ℕ → Bool) → AreKnown slots kind start
+start_known slots kind = record { within = λ n h. absurd h; kinds = λ k j n at there. absurd cc }
 
 pub body_again : (settings : Configuration) (d : Data) (t : Terms) → Spells settings d t → IsPlan t
-    → (items : Items) × IsTop d items
-    × ((r : Progress × Sequence) × (sequence_from (statement_at (region_named settings) 16) skip start items ≡ Ok r)
-    × (plan_of settings r ≡ t))
+    → (items : Items) × IsTop d t.version items
+    × ((r : Progress × Sequence)
+    × (sequence_from (statement_at t.version (region_named settings) 16) skip start items ≡ Ok r)
+    × (plan_of settings t.version r ≡ t))
 body_again settings d t s is =
     let (ds, held, spelled) = s.body in
     let regions : length t.layout.extents ≡ length settings.regions = ap (λ (g : Geometry). length g.extents) s.layout
@@ -92,18 +101,18 @@ body_again settings d t s is =
     subst (λ (m : ℕ). IsSequence (length t.slots) m t.body) regions is.body.parts in
     let up : Rises t.slots = pairs_rise t.slots is.order in
     let (r, e, a) =
-    sequence_again settings t.slots up (slots_of t is) t.body 16 ds skip start start_names (λ n h. absurd h)
-    (omega (arith, is.body.count)) parts is.body.depth spelled in
-    let found = body_found settings ds r e in
+    sequence_again settings t.version t.slots (uses_bundle t.body) up (slots_of t is) t.body 16 ds skip start
+    start_slots (start_known t.slots (uses_bundle t.body)) (omega (arith, is.body.count)) parts is.body.depth spelled
+    (plan_ways t.version t.body is.version is.unmixed is.plain) in
+    let found = body_found settings t.version ds r e in
     let same : numbered (λ k. place_in t.slots r.0.names k) r.1 ≡ t.body = a.same r.0.names (λ j n w. w) in
-    let back = name_read t r.0.names r.1 (length settings.regions) is a.within found.parts same is.used in
+    let within = a.known.within in
+    let back = name_read t r.0.names r.1 (length settings.regions) is within found.parts same is.used in
     let slots : in_byte_order r.0.names ≡ t.slots =
-    rises_same (in_byte_order r.0.names) t.slots (order_rises r.0.names a.names.apart) up
-    (λ n h. a.within n (order_from r.0.names n h)) (λ n h. order_has r.0.names n (back n h)) in
-    let one : Holds d (codes "version") (number (unsigned 1)) =
-    subst (λ (n : ℕ). Holds d (codes "version") (number (unsigned n))) is.version s.version in
-    let whole = same_plan settings r t is.version s.layout slots same in
-    (ds, record { keys = s.keys; version = one; body = held }, (r, e, whole))
+    rises_same (in_byte_order r.0.names) t.slots (order_rises r.0.names a.read.names.apart) up
+    (λ n h. within n (order_from r.0.names n h)) (λ n h. order_has r.0.names n (back n h)) in
+    let whole = same_plan settings r t s.layout slots same in
+    (ds, record { keys = s.keys; version = s.version; known = is.version; body = held }, (r, e, whole))
 
 -- What is spelled so, and keeps the rules, is read.
 pub reading_only : (settings : Configuration) (text : List ℕ) (t : Terms) → IsText settings text t
@@ -111,7 +120,7 @@ pub reading_only : (settings : Configuration) (text : List ℕ) (t : Terms) → 
 unfolding reading
 reading_only settings text t (d, parsed, s, is) =
     let (items, top, (r, e, same)) = body_again settings d t s is in
-    rw (parsed, top_again d items top, e) (ap (λ (u : Terms). Ok u) same)
+    rw (parsed, top_again d t.version items top, e) (ap (λ (u : Terms). Ok u) same)
 
 pub is_only : (settings : Configuration) (text : List ℕ) (r : Result Terms PlanError) (t : Terms)
     → Gives is_plan_memory (λ (u : Terms). u) r (reading settings text) → IsText settings text t

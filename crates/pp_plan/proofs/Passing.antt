@@ -1,7 +1,8 @@
 -- Which actions go on from a place, and where they lead.
 use Rattle.std.proofs.Common.{◌≡◌, ℕ, ◌+◌, ◌^◌, ◌<◌, List, ◌∷◌, refl, sym, ap, subst}
 use Rattle.pp_settings.specs.Layout.{Geometry}
-use Rattle.pp_plan.specs.Tree.{Step, fix, unfix, latch, unlatch, step, loop, choice, Sequence, skip, andthen}
+use Rattle.pp_plan.specs.Tree.{Step, fix, unfix, latch, unlatch, gather, scatter, step, loop, choice}
+use Rattle.pp_plan.specs.Tree.{Sequence, skip, andthen}
 use Rattle.pp_plan.specs.Tree.{Alternatives, branch_count}
 use Rattle.pp_plan.specs.Rules.{IsBody}
 use Rattle.pp_plan.specs.declared.action.Action.{Action}
@@ -42,12 +43,16 @@ named_does g (fix s r) a h = h
 named_does g (unfix s) a h = h
 named_does g (latch s m) a h = h
 named_does g (unlatch s) a h = h
+named_does g (gather s r) a h = h
+named_does g (scatter s) a h = h
 
 pub does_named : (g : Geometry) (s : Step) (a : Action) → Does g s a → NamesAction g (statement_ask (step s)) a
 does_named g (fix s r) a h = h
 does_named g (unfix s) a h = h
 does_named g (latch s m) a h = h
 does_named g (unlatch s) a h = h
+does_named g (gather s r) a h = h
+does_named g (scatter s) a h = h
 
 -- A step isn't made by a choice.
 skips : (g : Geometry) (s : Step) (a : Action) (p : Place) → Does g s a → moved_by a p ≡ skipped p
@@ -61,6 +66,8 @@ skips g (fix s r) (Choose i) p h = absurd h
 skips g (unfix s) (Choose i) p h = absurd h
 skips g (latch s m) (Choose i) p h = absurd h
 skips g (unlatch s) (Choose i) p h = absurd h
+skips g (gather s r) (Choose i) p h = absurd h
+skips g (scatter s) (Choose i) p h = absurd h
 
 can_skip : (g : Geometry) (s : Step) (a : Action) (p : Place) → Does g s a → p.index + 1 < 2 ^ 64 → CanPass a p
 can_skip g s (Fix t page) p h lt = lt
@@ -73,6 +80,8 @@ can_skip g (fix s r) (Choose i) p h lt = absurd h
 can_skip g (unfix s) (Choose i) p h lt = absurd h
 can_skip g (latch s m) (Choose i) p h lt = absurd h
 can_skip g (unlatch s) (Choose i) p h lt = absurd h
+can_skip g (gather s r) (Choose i) p h lt = absurd h
+can_skip g (scatter s) (Choose i) p h lt = absurd h
 
 -- ---- choices
 

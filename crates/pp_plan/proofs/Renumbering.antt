@@ -1,7 +1,7 @@
 -- Slots that get their new numbers in place.
 use Rattle.std.proofs.Common.{◌≡◌, ◌<◌, ◌≤◌, ◌+◌, ◌-◌, ℕ, zero, suc, List, [], ◌∷◌, ◌++◌, length, take, map, get_or}
 use Rattle.std.proofs.Common.{replicate, slice_set}
-use Rattle.std.proofs.Common.{subst, String, Global, string_bytes, refl, ap, sym, ◌∙◌, append_assoc, arith}
+use Rattle.std.proofs.Common.{String, Global, string_bytes, refl, ap, sym, ◌∙◌, append_assoc, arith}
 use Rattle.std.specs.List.{slice_index_or}
 use Rattle.std.proofs.lemmas.List.{length-map, length-take-le, map_more}
 use Rattle.pp_plan.specs.Numbering.{in_byte_order, new_number, place_in, numbered, numbered_statement}
@@ -12,7 +12,7 @@ use Rattle.pp_plan.specs.View.{statement_of, sequence_of, alternatives_of}
 use Rattle.pp_settings.specs.Layout.{Geometry}
 use Rattle.pp_settings.specs.Settings.{Configuration, geometry_of}
 use Rattle.pp_plan.specs.Progress.{Progress}
-use Rattle.pp_plan.specs.Terms.{Terms, IsPlan}
+use Rattle.pp_plan.specs.Terms.{Terms}
 use Rattle.pp_plan.specs.Reading.{plan_of}
 
 -- ---- the table of new numbers
@@ -95,20 +95,20 @@ branches_made new (s ∷ ss) (t ∷ ts) long each =
 
 -- ---- the plan that is made of these parts
 
-pub plan_made : (settings : Configuration) (p : Progress) (draft made : Sequence) (g : Geometry)
+pub plan_made : (settings : Configuration) (version : ℕ) (p : Progress) (draft made : Sequence) (g : Geometry)
     (slots names : List (List ℕ)) → g ≡ geometry_of settings → names ≡ p.names → slots ≡ in_byte_order names
-    → made ≡ numbered (place_in slots names) draft → IsPlan (plan_of settings (p, draft))
-    → IsPlan (record { version = 1; layout = g; slots = slots; body = made })
-plan_made settings p draft made g slots names eg en es em is =
+    → made ≡ numbered (place_in slots names) draft
+    → plan_of settings version (p, draft) ≡ record { version = version; layout = g; slots = slots; body = made }
+plan_made settings version p draft made g slots names eg en es em =
     let s : slots ≡ in_byte_order p.names = es ∙ ap in_byte_order en in
     let b : made ≡ numbered (place_in (in_byte_order p.names) p.names) draft =
     em ∙ ap (λ (xs : List (List ℕ)). numbered (place_in xs names) draft) s
     ∙ ap (λ (ns : List (List ℕ)). numbered (place_in (in_byte_order p.names) ns) draft) en in
-    let whole : Terms = record { version = 1; layout = g; slots = slots; body = made } in
-    let same : whole ≡ plan_of settings (p, draft) = λ i. record {
-      version = 1;
+    let whole : Terms = record { version = version; layout = g; slots = slots; body = made } in
+    let same : whole ≡ plan_of settings version (p, draft) = λ i. record {
+      version = version;
       layout = eg i;
       slots = s i;
       body = b i;
     } in
-    subst (λ (t : Terms). IsPlan t) (sym same) is
+    sym same

@@ -12,7 +12,8 @@ use Rattle.serde_json.specs.View.{items_of}
 use Rattle.pp_text.proofs.Positions.{position_only, same_text}
 use Rattle.pp_settings.specs.Layout.{Geometry}
 use Rattle.pp_settings.specs.Settings.{NamedRegion, Configuration, IsConfiguration, region_named, geometry_of}
-use Rattle.pp_plan.specs.Tree.{Step, fix, unfix, latch, unlatch, Statement, step, loop, choice, Sequence, skip, andthen}
+use Rattle.pp_plan.specs.Tree.{Step, fix, unfix, latch, unlatch, gather, scatter, Statement, step, loop, choice}
+use Rattle.pp_plan.specs.Tree.{Sequence, skip, andthen}
 use Rattle.pp_plan.specs.Tree.{Alternatives, none, either}
 use Rattle.pp_plan.specs.Rules.{IsStep, IsStatement, IsSequence, AreAlternatives}
 use Rattle.pp_plan.specs.Terms.{Terms, IsPlan}
@@ -39,7 +40,7 @@ region_named_again c settings r within =
     (λ k below same. settings.regions.names k r nameless below within
     (same_text (get_or c.regions k nameless).name (region_name c r) same ∙ at))
 
--- ---- the value
+-- ---- the value of each statement
 
 step_spelled : (c : Configuration) (ss : List (List ℕ)) → IsConfiguration c → (s : Step)
     → IsStep (length ss) (length c.regions) s → SpellsStep c ss (step_value c ss s) s
@@ -56,6 +57,13 @@ step_spelled c ss settings (latch k m) within = (
   refl,
 )
 step_spelled c ss settings (unlatch k) within =
+    ((_, refl, ((0, omega arith, refl), tt)), (slot_name ss k, refl, slot_at ss k within))
+step_spelled c ss settings (gather k r) (within, there) = (
+  (_, refl, ((0, omega arith, refl), ((1, omega arith, refl), tt))),
+  (slot_name ss k, refl, slot_at ss k within),
+  (region_name c r, refl, region_named_again c settings r there),
+)
+step_spelled c ss settings (scatter k) within =
     ((_, refl, ((0, omega arith, refl), tt)), (slot_name ss k, refl, slot_at ss k within))
 
 mutual

@@ -3,7 +3,8 @@ use Rattle.std.proofs.Common.{◌≡◌, ℕ, List, [], ◌∷◌, ◌++◌, len
 use Rattle.std.specs.Prelude.{◌↔◌}
 use Rattle.std.proofs.lemmas.List.{append-nil}
 use Rattle.pp_settings.specs.Layout.{Geometry}
-use Rattle.pp_plan.specs.Tree.{fix, unfix, latch, unlatch, Statement, step, loop, choice, Sequence, skip, andthen}
+use Rattle.pp_plan.specs.Tree.{fix, unfix, latch, unlatch, gather, scatter, Statement, step, loop, choice}
+use Rattle.pp_plan.specs.Tree.{Sequence, skip, andthen}
 use Rattle.pp_plan.specs.Rules.{IsStatement, IsSequence}
 use Rattle.pp_plan.specs.Terms.{Terms, IsPlan}
 use Rattle.pp_plan.specs.declared.action.Action.{Action}
@@ -57,6 +58,10 @@ ended_by g (andthen (step (latch s m)) k) o es ready out =
     ((λ e. cc), (λ h. absurd (step_acts g (latch s m) (k then o) h)))
 ended_by g (andthen (step (unlatch s)) k) o es ready out =
     ((λ e. cc), (λ h. absurd (step_acts g (unlatch s) (k then o) h)))
+ended_by g (andthen (step (gather s r)) k) o es ready out =
+    ((λ e. cc), (λ h. absurd (step_acts g (gather s r) (k then o) h)))
+ended_by g (andthen (step (scatter s)) k) o es ready out =
+    ((λ e. cc), (λ h. absurd (step_acts g (scatter s) (k then o) h)))
 ended_by g (andthen (loop n c) k) o es ready out = absurd ready
 ended_by g (andthen (choice bs) k) o es ready out = ((λ e. cc), (λ h. absurd (choice_acts g bs (k then o) h)))
 
@@ -97,6 +102,8 @@ known_by slots regions (andthen (step (fix s r)) k) h = h.0
 known_by slots regions (andthen (step (unfix s)) k) h = h.0
 known_by slots regions (andthen (step (latch s m)) k) h = h.0
 known_by slots regions (andthen (step (unlatch s)) k) h = h.0
+known_by slots regions (andthen (step (gather s r)) k) h = h.0
+known_by slots regions (andthen (step (scatter s)) k) h = h.0
 known_by slots regions (andthen (loop n b) k) h = tt
 known_by slots regions (andthen (choice bs) k) h = (h.0.0, h.0.1)
 

@@ -56,10 +56,11 @@ alternatives_turn f all e p q vs i v b is h one walk =
     (items_view (drop (i + 1) vs))) one) ∙ walk
 
 -- the statement of a value whose form is known
-pub statement_when : (region : List ℕ → Option ℕ) (levels n : ℕ) (p q : Progress) (d : Data) (shape : Shape)
-    → begun p ≡ Ok q → n ≡ p.count → shape_of n d ≡ Ok shape → 0 < levels
-    → statement_at region levels p d ≡ statement_by region (statement_at region (levels - 1)) n q shape
-statement_when region zero n p q d shape begins number forms some = absurd (omega (arith, some))
-statement_when region (suc levels) n p q d shape begins number forms some =
+pub statement_when : (version : ℕ) (region : List ℕ → Option ℕ) (levels n : ℕ) (p q : Progress) (d : Data)
+    (shape : Shape) → begun p ≡ Ok q → n ≡ p.count → shape_of version n d ≡ Ok shape → 0 < levels
+    → statement_at version region levels p d
+    ≡ statement_by region (statement_at version region (levels - 1)) n q shape
+statement_when version region zero n p q d shape begins number forms some = absurd (omega (arith, some))
+statement_when version region (suc levels) n p q d shape begins number forms some =
     let fewer : suc levels - 1 ≡ levels = omega arith in
     rw (begins, ← number, forms, fewer) refl

@@ -13,7 +13,8 @@ use Rattle.pp_settings.specs.Settings.{NamedRegion, Configuration, IsConfigurati
 use Rattle.pp_plan.specs.Limits.{longest_name}
 use Rattle.pp_plan.specs.declared.mode.Mode.{Mode}
 use Rattle.pp_plan.specs.declared.mode.Mode.TheVariants.{S, X}
-use Rattle.pp_plan.specs.Tree.{Step, fix, unfix, latch, unlatch, Statement, step, loop, choice, Sequence, skip, andthen}
+use Rattle.pp_plan.specs.Tree.{Step, fix, unfix, latch, unlatch, gather, scatter, Statement, step, loop, choice}
+use Rattle.pp_plan.specs.Tree.{Sequence, skip, andthen}
 use Rattle.pp_plan.specs.Tree.{Alternatives, none, either, statement_depth, sequence_depth, alternatives_depth}
 use Rattle.pp_plan.specs.Rules.{IsStep, IsStatement, IsSequence, AreAlternatives}
 use Rattle.pp_plan.specs.Terms.{Terms, IsPlan}
@@ -29,6 +30,8 @@ step_plain c ss (fix k r) = refl
 step_plain c ss (unfix k) = refl
 step_plain c ss (latch k m) = refl
 step_plain c ss (unlatch k) = refl
+step_plain c ss (gather k r) = refl
+step_plain c ss (scatter k) = refl
 
 mutual
   statement_plain : (c : Configuration) (ss : List (List ℕ)) (s : Statement)
@@ -63,6 +66,8 @@ step_levels c ss (fix k r) = omega arith
 step_levels c ss (unfix k) = omega arith
 step_levels c ss (latch k m) = omega arith
 step_levels c ss (unlatch k) = omega arith
+step_levels c ss (gather k r) = omega arith
+step_levels c ss (scatter k) = omega arith
 
 mutual
   -- A statement takes three levels at most: an object, a list, and a list of lists.
@@ -136,6 +141,10 @@ step_bytes c t settings plan (unfix k) within = one_word (codes "{\"unfix\":") _
 step_bytes c t settings plan (latch k m) within =
     two_words (codes "{\"latch\":") (codes ",\"mode\":") _ _ _ _ (slot_quoted t plan k within) (quoted_letter m)
 step_bytes c t settings plan (unlatch k) within = one_word (codes "{\"unlatch\":") _ _ (slot_quoted t plan k within)
+step_bytes c t settings plan (gather k r) (within, there) =
+    two_words (codes "{\"gather\":") (codes ",\"region\":") _ _ _ _ (slot_quoted t plan k within)
+    (region_quoted c settings r there)
+step_bytes c t settings plan (scatter k) within = one_word (codes "{\"scatter\":") _ _ (slot_quoted t plan k within)
 
 loop_bytes : (x q n : List ℕ) → x ≡ q
     → codes "{\"body\":" ++ (x ++ (codes ",\"loop\":" ++ (n ++ codes "}"))) ≡ codes "{\"body\":" ++ q

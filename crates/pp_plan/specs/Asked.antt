@@ -6,10 +6,10 @@ use Rattle.pp_settings.specs.Layout.{Geometry, has_page}
 use Rattle.pp_plan.specs.declared.mode.Mode.{Mode}
 use Rattle.pp_plan.specs.declared.mode.Mode.TheVariants as mode
 use Rattle.pp_plan.specs.declared.action.Action.{Action}
-use Rattle.pp_plan.specs.declared.action.Action.TheVariants.{Fix, Unfix, Latch, Unlatch, Choose}
+use Rattle.pp_plan.specs.declared.action.Action.TheVariants.{Fix, Unfix, Latch, Unlatch, Gather, Scatter, Choose}
 use Rattle.pp_plan.specs.declared.action.Ask.{Ask}
 use Rattle.pp_plan.specs.declared.action.Ask.TheVariants as ask
-use Rattle.pp_plan.specs.Tree.{Step, fix, unfix, latch, unlatch, Statement, step, loop, choice}
+use Rattle.pp_plan.specs.Tree.{Step, fix, unfix, latch, unlatch, gather, scatter, Statement, step, loop, choice}
 use Rattle.pp_plan.specs.Tree.{Sequence, skip, andthen, Alternatives, branch_count}
 use Rattle.pp_plan.specs.Left.{◌then◌, branch_at}
 use Rattle.pp_plan.specs.Terms.{Terms}
@@ -35,6 +35,8 @@ does g (fix s r) (Fix t page) = (s == t) && region_has g r page
 does g (unfix s) (Unfix t) = s == t
 does g (latch s m) (Latch t n) = (s == t) && same_mode m n
 does g (unlatch s) (Unlatch t) = s == t
+does g (gather s r) (Gather t page) = (s == t) && region_has g r page
+does g (scatter s) (Scatter t) = s == t
 does g _ _ = false
 
 -- What is left of a choice and of what follows it, once a branch is chosen.
@@ -64,6 +66,8 @@ statement_ask (step (fix s r)) = ask.Fix s r
 statement_ask (step (unfix s)) = ask.Unfix s
 statement_ask (step (latch s m)) = ask.Latch s m
 statement_ask (step (unlatch s)) = ask.Unlatch s
+statement_ask (step (gather s r)) = ask.Gather s r
+statement_ask (step (scatter s)) = ask.Scatter s
 statement_ask (loop n b) = ask.End
 statement_ask (choice bs) = ask.Choose (branch_count bs)
 

@@ -6,7 +6,8 @@ use base.Stored.{Gv, gnil, gnum, gcons}
 use denote.Struct.Codes.{itself}
 use Rattle.pp_plan.specs.declared.mode.Mode.{Mode}
 use Rattle.pp_plan.specs.declared.mode.Mode.TheVariants.{S, X}
-use Rattle.pp_plan.specs.Tree.{Step, fix, unfix, latch, unlatch, Statement, step, loop, choice, Sequence, skip, andthen}
+use Rattle.pp_plan.specs.Tree.{Step, fix, unfix, latch, unlatch, gather, scatter, Statement, step, loop, choice}
+use Rattle.pp_plan.specs.Tree.{Sequence, skip, andthen}
 use Rattle.pp_plan.specs.Tree.{Alternatives, none, either}
 
 abbrev mode_to : Mode → Gv
@@ -23,12 +24,16 @@ step_to (fix s r) = gcons (gnum s) (gnum r)
 step_to (unfix s) = gnum s
 step_to (latch s m) = gcons gnil (gcons (gnum s) (mode_to m))
 step_to (unlatch s) = gcons gnil (gnum s)
+step_to (gather s r) = gcons (gcons gnil (gnum s)) (gnum r)
+step_to (scatter s) = gcons (gcons gnil gnil) (gnum s)
 
 abbrev step_from : Gv → Step
 step_from (gcons (gnum s) (gnum r)) = fix s r
 step_from (gnum s) = unfix s
 step_from (gcons gnil (gcons (gnum s) m)) = latch s (mode_from m)
 step_from (gcons gnil (gnum s)) = unlatch s
+step_from (gcons (gcons gnil (gnum s)) (gnum r)) = gather s r
+step_from (gcons (gcons gnil gnil) (gnum s)) = scatter s
 step_from _ = unfix 0
 
 step_back : (s : Step) → step_from (step_to s) ≡ s
@@ -37,6 +42,8 @@ step_back (unfix s) = refl
 step_back (latch s S) = refl
 step_back (latch s X) = refl
 step_back (unlatch s) = refl
+step_back (gather s r) = refl
+step_back (scatter s) = refl
 
 abbrev mutual
   statement_to : Statement → Gv

@@ -1,8 +1,9 @@
 -- What a cursor stands for, and what it may ask.
 use Rattle.std.specs.Prelude.{◌≡◌, ◌<◌, ◌≤◌, ℕ, List, [], ◌∷◌, ◌++◌}
-use Rattle.pp_settings.specs.Layout.{Geometry, HasPage}
+use Rattle.pp_settings.specs.Layout.{Geometry}
 use Rattle.pp_plan.specs.Limits.{most_branches}
-use Rattle.pp_plan.specs.Tree.{fix, unfix, latch, unlatch, Statement, step, loop, choice, Sequence, skip, andthen}
+use Rattle.pp_plan.specs.Tree.{fix, unfix, latch, unlatch, gather, scatter, Statement, step, loop, choice}
+use Rattle.pp_plan.specs.Tree.{Sequence, skip, andthen}
 use Rattle.pp_plan.specs.Tree.{branch_count}
 use Rattle.pp_plan.specs.Terms.{Terms}
 use Rattle.pp_plan.specs.Traces.{Does, IsTrace, Begins}
@@ -10,7 +11,7 @@ use Rattle.pp_plan.specs.PlanTraces.{PlanAsks}
 use Rattle.pp_plan.specs.Left.{sequence_drop, Place, body_at, left}
 use Rattle.pp_plan.specs.declared.cursor.Entry.{Entry}
 use Rattle.pp_plan.specs.declared.action.Action.{Action}
-use Rattle.pp_plan.specs.declared.action.Action.TheVariants.{Gather, Scatter, Choose}
+use Rattle.pp_plan.specs.declared.action.Action.TheVariants.{Choose}
 use Rattle.pp_plan.specs.declared.action.Ask.{Ask}
 use Rattle.pp_plan.specs.declared.action.Ask.TheVariants as ask
 
@@ -72,17 +73,14 @@ IsAsked plan cursor a = (before : List Action) × (StandsFor plan cursor before 
 -- ---- what is asked
 
 -- The action is one that the ask names: for a step each action that makes this step, so for a fix each fix of the
--- slot with a page of the region, and for a gather so; for a scatter the slot's; for a choice each branch below their number;
--- for the end none.
+-- slot with a page of the region, and for a gather likewise; for a choice each branch below their number; for the end none.
 abbrev pub NamesAction : Geometry → Ask → Action → Type 0
 NamesAction g (ask.Fix s r) a = Does g (fix s r) a
 NamesAction g (ask.Unfix s) a = Does g (unfix s) a
 NamesAction g (ask.Latch s m) a = Does g (latch s m) a
 NamesAction g (ask.Unlatch s) a = Does g (unlatch s) a
-NamesAction g (ask.Gather s r) (Gather t page) = (s ≡ t) × HasPage g r page
-NamesAction g (ask.Gather s r) _ = ⊥
-NamesAction g (ask.Scatter s) (Scatter t) = s ≡ t
-NamesAction g (ask.Scatter s) _ = ⊥
+NamesAction g (ask.Gather s r) a = Does g (gather s r) a
+NamesAction g (ask.Scatter s) a = Does g (scatter s) a
 NamesAction g (ask.Choose n) (Choose i) = i < n
 NamesAction g (ask.Choose n) _ = ⊥
 NamesAction g ask.End a = ⊥

@@ -2,7 +2,8 @@
 use Rattle.std.specs.Prelude.{ℕ, List, [], map, insert, fold, position, unwrap_or, Option, slice_index_or}
 use Rattle.std.specs.List.{position_or_len}
 use Rattle.std.specs.Str.{bytes_eq}
-use Rattle.pp_plan.specs.Tree.{Step, fix, unfix, latch, unlatch, Statement, step, loop, choice, Sequence, skip, andthen}
+use Rattle.pp_plan.specs.Tree.{Step, fix, unfix, latch, unlatch, gather, scatter, Statement, step, loop, choice}
+use Rattle.pp_plan.specs.Tree.{Sequence, skip, andthen}
 use Rattle.pp_plan.specs.Tree.{Alternatives, none, either}
 use Rattle.pp_plan.specs.Names.{comes_before}
 
@@ -31,6 +32,8 @@ numbered_step new (fix s r) = fix (new s) r
 numbered_step new (unfix s) = unfix (new s)
 numbered_step new (latch s m) = latch (new s) m
 numbered_step new (unlatch s) = unlatch (new s)
+numbered_step new (gather s r) = gather (new s) r
+numbered_step new (scatter s) = scatter (new s)
 
 -- The body with its slots numbered anew.
 abbrev mutual

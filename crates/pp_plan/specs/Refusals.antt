@@ -4,6 +4,7 @@ use Rattle.pp_text.specs.Refusals.{Matter, nothing, key, region_key, top, region
 use Rattle.pp_plan.specs.declared.error.PlanError.{PlanError}
 use Rattle.pp_plan.specs.declared.error.PlanError.TheVariants.{NotJson, NoSuchStatement, WrongField, BadName}
 use Rattle.pp_plan.specs.declared.error.PlanError.TheVariants.{NoSuchRegion, Range, TooDeep, TooMany, OutOfMemory}
+use Rattle.pp_plan.specs.declared.error.PlanError.TheVariants.{MixedSlot}
 
 -- The number, the name as a program prints it, and the statement, where one is at fault.
 abbrev pub plan_error_row : PlanError → Row
@@ -16,6 +17,7 @@ plan_error_row (Range n) = row 16 (codes "Range") (at n)
 plan_error_row (TooDeep n) = row 17 (codes "TooDeep") (at n)
 plan_error_row (TooMany n) = row 18 (codes "TooMany") (at n)
 plan_error_row OutOfMemory = row 19 (codes "OutOfMemory") nothing
+plan_error_row (MixedSlot n) = row 20 (codes "MixedSlot") (at n)
 
 abbrev pub plan_error_number : PlanError → ℕ
 plan_error_number e = (plan_error_row e).number

@@ -1,4 +1,4 @@
--- The form of a statement in a text: which of the six it is, and the values of its keys.
+-- The form of a statement in a text: of which kind it is, and the values of its keys.
 use Rattle.std.specs.Prelude.{ℕ, List, [], ◌∷◌, Bool, true, ◌&&◌, is_some, filter, if◌then◌else◌}
 use Rattle.std.specs.Prelude.{Option, Some, None, option_and_then, codes, Result, Ok}
 use Rattle.std.specs.Option.{ok_or}
@@ -10,26 +10,26 @@ use Rattle.pp_text.specs.Objects.{has_only_keys}
 use Rattle.pp_plan.specs.declared.mode.Mode.{Mode}
 use Rattle.pp_plan.specs.declared.mode.Mode.TheVariants.{S, X}
 use Rattle.pp_plan.specs.declared.kind.Kind.{Kind}
-use Rattle.pp_plan.specs.declared.kind.Kind.TheVariants.{Fix, Unfix, Latch, Unlatch, Loop, Choice}
+use Rattle.pp_plan.specs.declared.kind.Kind.TheVariants.{Fix, Unfix, Latch, Unlatch, Gather, Scatter, Loop, Choice}
 use Rattle.pp_plan.specs.declared.error.PlanError.{PlanError}
 use Rattle.pp_plan.specs.declared.error.PlanError.TheVariants.{NoSuchStatement, WrongField}
-use Rattle.pp_plan.specs.Keys.{keys_of, first_key}
+use Rattle.pp_plan.specs.Keys.{keys_of, first_key, is_kind_of}
 
 abbrev pub kinds : List Kind
-kinds = Fix ∷ Unfix ∷ Latch ∷ Unlatch ∷ Loop ∷ Choice ∷ []
+kinds = Fix ∷ Unfix ∷ Latch ∷ Unlatch ∷ Gather ∷ Scatter ∷ Loop ∷ Choice ∷ []
 
--- The value has the key of this kind.
-abbrev pub has_kind : Data → Kind → Bool
-has_kind d k = is_some (get (first_key k) d)
+-- The version has this kind, and the value has its key.
+abbrev pub has_kind : (version : ℕ) → Data → Kind → Bool
+has_kind version d k = is_kind_of version k && is_some (get (first_key k) d)
 
 -- The one of a list that has one.
 abbrev pub only_one : List Kind → Option Kind
 only_one (k ∷ []) = Some k
 only_one _ = None
 
--- The statement's kind: of the six first keys the value has exactly one.
-abbrev pub kind_of : Data → Option Kind
-kind_of d = only_one (filter (has_kind d) kinds)
+-- The statement's kind: of the first keys of the version's kinds the value has exactly one.
+abbrev pub kind_of : (version : ℕ) → Data → Option Kind
+kind_of version d = only_one (filter (has_kind version d) kinds)
 
 -- ---- the values of the keys, in the statement with this number
 
@@ -64,6 +64,8 @@ pub data Shape : Type 0 where
   unfix_shape : (slot : List ℕ) → Shape
   latch_shape : (slot : List ℕ) (mode : Mode) → Shape
   unlatch_shape : (slot : List ℕ) → Shape
+  gather_shape : (slot region : List ℕ) → Shape
+  scatter_shape : (slot : List ℕ) → Shape
   loop_shape : (count : ℕ) (body : Items) → Shape
   choice_shape : (branches : Items) → Shape
 
@@ -82,6 +84,13 @@ shape_at Latch n d = do
 shape_at Unlatch n d = do
   slot ← text_at (codes "unlatch") n d
   Ok (unlatch_shape slot)
+shape_at Gather n d = do
+  slot ← text_at (codes "gather") n d
+  region ← text_at (codes "region") n d
+  Ok (gather_shape slot region)
+shape_at Scatter n d = do
+  slot ← text_at (codes "scatter") n d
+  Ok (scatter_shape slot)
 shape_at Loop n d = do
   count ← number_at (codes "loop") n d
   body ← list_at (codes "body") n d
@@ -91,9 +100,10 @@ shape_at Choice n d = do
   lists ← must (are_lists branches) (WrongField n)
   Ok (choice_shape branches)
 
--- The form of the statement with this number: one of the six kinds, with exactly its keys, each of its kind of value.
-unfoldable pub shape_of : ℕ → Data → Result Shape PlanError
-shape_of n d = do
-  kind ← ok_or (kind_of d) (NoSuchStatement n)
+-- The form of the statement with this number: one of the version's kinds, with exactly its keys, each of its kind of
+-- value.
+unfoldable pub shape_of : (version : ℕ) → ℕ → Data → Result Shape PlanError
+shape_of version n d = do
+  kind ← ok_or (kind_of version d) (NoSuchStatement n)
   only ← must (has_only_keys (keys_of kind) d) (WrongField n)
   shape_at kind n d

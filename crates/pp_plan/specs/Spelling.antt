@@ -8,7 +8,8 @@ use Rattle.pp_plan.specs.declared.mode.Mode.{Mode}
 use Rattle.pp_plan.specs.declared.mode.Mode.TheVariants.{S, X}
 use Rattle.pp_plan.specs.declared.kind.Kind.TheVariants as kind
 use Rattle.pp_plan.specs.Keys.{top_keys, keys_of}
-use Rattle.pp_plan.specs.Tree.{Step, fix, unfix, latch, unlatch, Statement, step, loop, choice, Sequence, skip, andthen}
+use Rattle.pp_plan.specs.Tree.{Step, fix, unfix, latch, unlatch, gather, scatter, Statement, step, loop, choice}
+use Rattle.pp_plan.specs.Tree.{Sequence, skip, andthen}
 use Rattle.pp_plan.specs.Tree.{Alternatives, none, either}
 use Rattle.pp_plan.specs.Terms.{Terms, IsPlan}
 
@@ -29,7 +30,8 @@ letter_of X = codes "X"
 
 -- ---- statements
 
--- The value spells the step, and nothing else stands in it.
+-- The value spells the step, and nothing else stands in it. That version 1 has neither a gather nor a scatter is a rule of
+-- plans.
 abbrev pub SpellsStep : Configuration → (slots : List (List ℕ)) → Data → Step → Type 0
 SpellsStep settings slots d (fix k r) =
     HasOnly (keys_of kind.Fix) d × HoldsSlot slots d (codes "fix") k × HoldsRegion settings d (codes "region") r
@@ -37,6 +39,9 @@ SpellsStep settings slots d (unfix k) = HasOnly (keys_of kind.Unfix) d × HoldsS
 SpellsStep settings slots d (latch k m) =
     HasOnly (keys_of kind.Latch) d × HoldsSlot slots d (codes "latch") k × Holds d (codes "mode") (string (letter_of m))
 SpellsStep settings slots d (unlatch k) = HasOnly (keys_of kind.Unlatch) d × HoldsSlot slots d (codes "unlatch") k
+SpellsStep settings slots d (gather k r) =
+    HasOnly (keys_of kind.Gather) d × HoldsSlot slots d (codes "gather") k × HoldsRegion settings d (codes "region") r
+SpellsStep settings slots d (scatter k) = HasOnly (keys_of kind.Scatter) d × HoldsSlot slots d (codes "scatter") k
 
 abbrev mutual
   -- The value spells the statement, and nothing else stands in it.
@@ -65,8 +70,8 @@ abbrev mutual
 
 -- ---- the whole
 
--- The value is an object of a `body` and a `version`, and spells the plan: its version, its body, its slot names and
--- the layout of the settings.
+-- The value is an object of a `body` and a `version`, and spells the plan: its version, its body, its slot names and the
+-- layout of the settings.
 pub record Spells (settings : Configuration) (d : Data) (t : Terms) : Type 0 where
   pub keys : HasOnly top_keys d
   pub version : Holds d (codes "version") (number (unsigned t.version))

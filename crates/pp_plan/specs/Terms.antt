@@ -1,5 +1,5 @@
 -- What a plan is: the version of its form, the layout it was read for, its slot names and its body.
-use Rattle.std.specs.Prelude.{◌≡◌, ◌<◌, ◌≤◌, ℕ, List, length, AllPairs, All, IsTrue, refl}
+use Rattle.std.specs.Prelude.{◌≡◌, ◌⊎◌, ◌<◌, ◌≤◌, ℕ, List, length, AllPairs, All, IsTrue, refl}
 use Rattle.std.specs.Coded.{Coded, code_by, coded×, coded_ℕ, coded_list}
 use Rattle.pp_settings.specs.declared.extent.Extent.{Extent}
 use Rattle.pp_settings.specs.Layout.{Geometry, IsLayout}
@@ -7,24 +7,26 @@ use Rattle.pp_plan.specs.Limits.{most_slots}
 use Rattle.pp_plan.specs.Tree.{Sequence}
 use Rattle.pp_plan.specs.Coding.{coded_sequence}
 use Rattle.pp_plan.specs.Names.{is_slot_name, comes_before}
-use Rattle.pp_plan.specs.Rules.{IsUsed, IsBody}
+use Rattle.pp_plan.specs.Rules.{IsUsed, IsUnmixed, HasNoBundle, IsBody}
 
--- A slot's number is the place of its name in the list of slot names.
+-- A slot's number is the place of its name in the list of slot names, in which bundles and plain slots stand together.
 pub record Terms : Type 0 where
   pub version : ℕ
   pub layout : Geometry
   pub slots : List (List ℕ)
   pub body : Sequence
 
--- What holds of every plan: it is of version 1, and has at most 32 slot names, in byte order, each of which is used, and
--- a body that keeps the rules.
+-- What holds of every plan: it is of version 1 or 2, and has at most 32 slot names, in byte order, each of which is used,
+-- and a body that keeps the rules. A slot is a bundle or a plain one and never both, and version 1 has no bundles.
 pub record IsPlan (p : Terms) : Type 0 where
-  pub version : p.version ≡ 1
+  pub version : (p.version ≡ 1) ⊎ (p.version ≡ 2)
   pub layout : IsLayout p.layout
   pub count : length p.slots ≤ most_slots
   pub names : All (λ n. IsTrue (is_slot_name n)) p.slots
   pub order : AllPairs (λ a b. IsTrue (comes_before a b)) p.slots
   pub used : (k : ℕ) → k < length p.slots → IsUsed p.body k
+  pub unmixed : IsUnmixed p.body
+  pub plain : p.version ≡ 1 → HasNoBundle p.body
   pub body : IsBody (length p.slots) (length p.layout.extents) p.body
 
 abbrev coded_extent : Coded Extent

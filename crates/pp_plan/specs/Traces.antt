@@ -1,17 +1,21 @@
 -- What a plan does: the lists of actions that are its traces, and what it asks after a list.
 use Rattle.std.specs.Prelude.{◌≡◌, ℕ, zero, suc, List, [], ◌∷◌, ◌++◌}
 use Rattle.pp_settings.specs.Layout.{Geometry, HasPage}
-use Rattle.pp_plan.specs.Tree.{Step, fix, unfix, latch, unlatch, Statement, step, loop, choice, Sequence, skip, andthen}
+use Rattle.pp_plan.specs.Tree.{Step, fix, unfix, latch, unlatch, gather, scatter, Statement, step, loop, choice}
+use Rattle.pp_plan.specs.Tree.{Sequence, skip, andthen}
 use Rattle.pp_plan.specs.Tree.{Alternatives, none, either}
 use Rattle.pp_plan.specs.declared.action.Action.{Action}
-use Rattle.pp_plan.specs.declared.action.Action.TheVariants.{Fix, Unfix, Latch, Unlatch, Choose}
+use Rattle.pp_plan.specs.declared.action.Action.TheVariants.{Fix, Unfix, Latch, Unlatch, Gather, Scatter, Choose}
 
--- The step makes the action: a fix in a region is made by fixing any page of the region, each other step by itself.
+-- The step makes the action: a fix or a gather in a region is made by fixing any page of the region, each other step by
+-- itself. A gather may fix a page that the bundle has already.
 abbrev pub Does : Geometry → Step → Action → Type 0
 Does g (fix s r) (Fix t page) = (s ≡ t) × HasPage g r page
 Does g (unfix s) (Unfix t) = s ≡ t
 Does g (latch s m) (Latch t n) = (s ≡ t) × (m ≡ n)
 Does g (unlatch s) (Unlatch t) = s ≡ t
+Does g (gather s r) (Gather t page) = (s ≡ t) × HasPage g r page
+Does g (scatter s) (Scatter t) = s ≡ t
 Does g _ _ = ⊥
 
 -- A list of P, and then one of Q.

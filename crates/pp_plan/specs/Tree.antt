@@ -1,13 +1,16 @@
 -- A plan's statements as plain trees: what a body says, apart from where it lies in memory.
-use Rattle.std.specs.Prelude.{ℕ, suc, ◌+◌, max}
+use Rattle.std.specs.Prelude.{ℕ, suc, ◌+◌, ◌==◌, ◌||◌, Bool, false, max}
 use Rattle.pp_plan.specs.declared.mode.Mode.{Mode}
 
--- A statement that makes one action. Slots and regions are numbers.
+-- A statement that makes one action. Slots and regions are numbers. A bundle is a slot that pins several pages: a gather
+-- fixes one page more into it, and a scatter gives the whole bundle back.
 pub data Step : Type 0 where
   fix : (slot region : ℕ) → Step
   unfix : (slot : ℕ) → Step
   latch : (slot : ℕ) (mode : Mode) → Step
   unlatch : (slot : ℕ) → Step
+  gather : (slot region : ℕ) → Step
+  scatter : (slot : ℕ) → Step
 
 mutual
   -- A single step, a number of turns of a body, or a choice among bodies.
@@ -70,6 +73,29 @@ abbrev mutual
   pub alternatives_depth : Alternatives → ℕ
   alternatives_depth none = 0
   alternatives_depth (either b bs) = max (sequence_depth b) (alternatives_depth bs)
+
+-- Whether the body scatters the slot, itself or in a body inside it.
+abbrev pub step_scatters : Step → ℕ → Bool
+step_scatters (fix s r) k = false
+step_scatters (unfix s) k = false
+step_scatters (latch s m) k = false
+step_scatters (unlatch s) k = false
+step_scatters (gather s r) k = false
+step_scatters (scatter s) k = s == k
+
+abbrev mutual
+  pub statement_scatters : Statement → ℕ → Bool
+  statement_scatters (step s) k = step_scatters s k
+  statement_scatters (loop n b) k = scatters b k
+  statement_scatters (choice bs) k = branches_scatter bs k
+
+  pub scatters : Sequence → ℕ → Bool
+  scatters skip k = false
+  scatters (andthen s b) k = statement_scatters s k || scatters b k
+
+  pub branches_scatter : Alternatives → ℕ → Bool
+  branches_scatter none k = false
+  branches_scatter (either b bs) k = scatters b k || branches_scatter bs k
 
 -- How many branches.
 abbrev pub branch_count : Alternatives → ℕ

@@ -3,7 +3,8 @@ use Rattle.std.specs.Prelude.{ℕ, List, [], ◌∷◌, codes}
 use Rattle.serde_json.specs.Data.{unsigned, Data, number, string, array, object, Members, no_members, member}
 use Rattle.serde_json.specs.View.{items_of}
 use Rattle.pp_settings.specs.Settings.{Configuration}
-use Rattle.pp_plan.specs.Tree.{Step, fix, unfix, latch, unlatch, Statement, step, loop, choice, Sequence, skip, andthen}
+use Rattle.pp_plan.specs.Tree.{Step, fix, unfix, latch, unlatch, gather, scatter, Statement, step, loop, choice}
+use Rattle.pp_plan.specs.Tree.{Sequence, skip, andthen}
 use Rattle.pp_plan.specs.Tree.{Alternatives, none, either}
 use Rattle.pp_plan.specs.Terms.{Terms}
 use Rattle.pp_plan.specs.Spelling.{letter_of}
@@ -18,6 +19,10 @@ step_value settings slots (latch k m) =
     object (member (codes "latch") (string (slot_name slots k))
     (member (codes "mode") (string (letter_of m)) no_members))
 step_value settings slots (unlatch k) = object (member (codes "unlatch") (string (slot_name slots k)) no_members)
+step_value settings slots (gather k r) =
+    object (member (codes "gather") (string (slot_name slots k))
+    (member (codes "region") (string (region_name settings r)) no_members))
+step_value settings slots (scatter k) = object (member (codes "scatter") (string (slot_name slots k)) no_members)
 
 abbrev mutual
   pub statement_value : Configuration → (slots : List (List ℕ)) → Statement → Data

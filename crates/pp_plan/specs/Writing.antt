@@ -3,7 +3,8 @@ use Rattle.std.specs.Prelude.{ℕ, List, [], ◌∷◌, ◌++◌, codes, slice_g
 use Rattle.std.specs.Fmt.{decimal}
 use Rattle.pp_text.specs.Words.{in_quotes, in_brackets}
 use Rattle.pp_settings.specs.Settings.{Configuration, name_of}
-use Rattle.pp_plan.specs.Tree.{Step, fix, unfix, latch, unlatch, Statement, step, loop, choice, Sequence, skip, andthen}
+use Rattle.pp_plan.specs.Tree.{Step, fix, unfix, latch, unlatch, gather, scatter, Statement, step, loop, choice}
+use Rattle.pp_plan.specs.Tree.{Sequence, skip, andthen}
 use Rattle.pp_plan.specs.Tree.{Alternatives, none, either}
 use Rattle.pp_plan.specs.Terms.{Terms}
 use Rattle.pp_plan.specs.Spelling.{letter_of}
@@ -16,7 +17,7 @@ slot_name slots k = unwrap_or (slice_get slots k) []
 abbrev pub region_name : Configuration → ℕ → List ℕ
 region_name settings r = unwrap_or (name_of settings r) []
 
--- A step, as in `{"fix":"a","region":"root"}` and `{"latch":"a","mode":"S"}`.
+-- A step, as in `{"fix":"a","region":"root"}`, `{"latch":"a","mode":"S"}` and `{"gather":"g","region":"leaf"}`.
 abbrev pub step_text : Configuration → (slots : List (List ℕ)) → Step → List ℕ
 step_text settings slots (fix k r) =
     codes "{\"fix\":" ++ in_quotes (slot_name slots k) ++ codes ",\"region\":" ++ in_quotes (region_name settings r)
@@ -25,6 +26,10 @@ step_text settings slots (unfix k) = codes "{\"unfix\":" ++ in_quotes (slot_name
 step_text settings slots (latch k m) =
     codes "{\"latch\":" ++ in_quotes (slot_name slots k) ++ codes ",\"mode\":" ++ in_quotes (letter_of m) ++ codes "}"
 step_text settings slots (unlatch k) = codes "{\"unlatch\":" ++ in_quotes (slot_name slots k) ++ codes "}"
+step_text settings slots (gather k r) =
+    codes "{\"gather\":" ++ in_quotes (slot_name slots k) ++ codes ",\"region\":" ++ in_quotes (region_name settings r)
+    ++ codes "}"
+step_text settings slots (scatter k) = codes "{\"scatter\":" ++ in_quotes (slot_name slots k) ++ codes "}"
 
 abbrev mutual
   -- A statement; a loop as in `{"body":[{"unfix":"a"}],"loop":2}`, a choice as in `{"choice":[[],[{"unfix":"a"}]]}`.

@@ -298,7 +298,12 @@ fn stmts_of<'p>(stmt: &'p Stmt, branch: u16) -> &'p [Stmt]
             Some(body) => body.stmts(),
             None => &[],
         },
-        Stmt::Fix { .. } | Stmt::Unfix { .. } | Stmt::Latch { .. } | Stmt::Unlatch { .. } => &[],
+        Stmt::Fix { .. }
+        | Stmt::Unfix { .. }
+        | Stmt::Latch { .. }
+        | Stmt::Unlatch { .. }
+        | Stmt::Gather { .. }
+        | Stmt::Scatter { .. } => &[],
     }
 }
 
@@ -318,6 +323,11 @@ fn next_of(stmt: &Stmt) -> Next
             mode: *mode,
         }),
         Stmt::Unlatch { slot } => Next::Asks(Ask::Unlatch { slot: *slot }),
+        Stmt::Gather { slot, region } => Next::Asks(Ask::Gather {
+            slot: *slot,
+            region: *region,
+        }),
+        Stmt::Scatter { slot } => Next::Asks(Ask::Scatter { slot: *slot }),
         Stmt::Loop { count, .. } => Next::Enter(*count),
         Stmt::Choice { branches } => Next::Asks(Ask::Choose {
             branches: branches.bodies().len() as u16,

@@ -14,15 +14,16 @@ use thiserror::Error;
 ///
 /// First comes the whole text: `NotJson`, `WrongField(0)`, `Range(0)`. Then come the statements, one after another.
 /// Of one statement the order is: `TooMany` for the 4,097th, `TooDeep`, `NoSuchStatement`, `WrongField`, `BadName`,
-/// `NoSuchRegion`, `Range`, `TooMany` for the 33rd slot name. Statements are numbered from 0 in the order in which they
-/// begin in the text.
+/// `NoSuchRegion`, `Range`, `TooMany` for the 33rd slot name, `MixedSlot`. Statements are numbered from 0 in the order in
+/// which they begin in the text.
 #[derive(Clone, Copy, Debug, PartialEq, Eq, Error)]
 pub enum PlanError {
     /// The text is no JSON.
     #[error("the text is not JSON")]
     NotJson,
-    /// The statement isn't an object with exactly one of the six first keys.
-    #[error("statement {0} is none of fix, unfix, latch, unlatch, loop and choice")]
+    /// The statement isn't an object with exactly one of the first keys of its version: in version 1 the six of fix,
+    /// unfix, latch, unlatch, loop and choice, in version 2 also those of gather and scatter.
+    #[error("statement {0} is none of fix, unfix, latch, unlatch, loop and choice, nor gather or scatter in version 2")]
     NoSuchStatement(u32),
     /// The statement has other keys or other kinds of values than its kind wants.
     #[error("statement {0} has a wrong key or value")]
@@ -34,7 +35,7 @@ pub enum PlanError {
     #[error("statement {0} names a region that the settings don't have")]
     NoSuchRegion(u32),
     /// A loop doesn't run 1 to 65,535 times, its body is empty, a choice doesn't have 1 to 16 branches, or the version
-    /// isn't 1.
+    /// is neither 1 nor 2.
     #[error("statement {0} is out of range")]
     Range(u32),
     /// The statement stands more than 16 deep.
@@ -46,6 +47,9 @@ pub enum PlanError {
     /// Memory ran out. It says nothing of the text.
     #[error("out of memory")]
     OutOfMemory,
+    /// The statement uses a bundle as a plain slot, or a plain slot as a bundle. An earlier one uses it as what it is.
+    #[error("statement {0} uses one slot as a bundle and as a plain slot")]
+    MixedSlot(u32),
 }
 
 impl PlanError {
@@ -63,10 +67,11 @@ impl PlanError {
             PlanError::TooDeep(n) => at(17, "TooDeep", n),
             PlanError::TooMany(n) => at(18, "TooMany", n),
             PlanError::OutOfMemory => Refusal::new(19, "OutOfMemory", About::Nothing),
+            PlanError::MixedSlot(n) => at(20, "MixedSlot", n),
         }
     }
 
-    /// The number of the refusal, 11 to 19.
+    /// The number of the refusal, 11 to 20.
     pub fn number(self) -> u8
         ensures { result ≡ plan_error_number self }
     {
@@ -91,6 +96,7 @@ impl PlanError {
             | PlanError::NoSuchRegion(n)
             | PlanError::Range(n)
             | PlanError::TooDeep(n)
+            | PlanError::MixedSlot(n)
             | PlanError::TooMany(n) => Some(n),
             PlanError::NotJson | PlanError::OutOfMemory => None,
         }

@@ -1,11 +1,11 @@
 //! Numbers slots by the byte order of their names.
 
-ghost use Rattle.std.specs.Prelude.{◌≡◌, ◌≤◌, IfOk, length, map, string_bytes, ℕ, slice_index_or};
+ghost use Rattle.std.specs.Prelude.{◌≡◌, ◌≤◌, ◌<◌, IfOk, false, length, map, string_bytes, ℕ, slice_index_or};
 ghost use Rattle.pp_plan.specs.Numbering.{in_byte_order, place_in, numbered, numbered_statement, numbered_branches};
 ghost use Rattle.pp_plan.specs.View.{statement_of};
 
 use crate::limits::MOST_SLOTS;
-use crate::progress::position_of;
+use crate::progress::{is_marked, position_of};
 use crate::stmt::{Body, Branches, Stmt};
 use std::alloc::AllocError;
 
@@ -43,6 +43,24 @@ fn new_number(numbers: &[u8; MOST_SLOTS], slot: u8) -> u8
     }
 }
 
+/// For each of so many slots by its new number, whether it is a bundle; `old` has the number by which the table knows it.
+pub(crate) fn new_bundles(
+    bundles: &[bool; MOST_SLOTS],
+    old: &[u8; MOST_SLOTS],
+    count: usize,
+) -> [bool; MOST_SLOTS]
+    requires { count ≤ MOST_SLOTS }
+    ensures slots { (k : ℕ) → k < count → slice_index_or result k false
+        ≡ slice_index_or bundles.now (slice_index_or old.now k 0) false }
+    ensures past { (k : ℕ) → count ≤ k → slice_index_or result k false ≡ false }
+{
+    let mut table = [false; MOST_SLOTS];
+    for slot in 0..count {
+        table[slot] = is_marked(bundles, old[slot]);
+    }
+    table
+}
+
 /// Gives each slot of the body its new number.
 #[cycle(numbering)]
 pub(crate) fn renumber(body: &mut Body, numbers: &[u8; MOST_SLOTS])
@@ -64,6 +82,8 @@ fn renumber_statement(stmt: &mut Stmt, numbers: &[u8; MOST_SLOTS])
         Stmt::Unfix { slot } => *slot = new_number(numbers, *slot),
         Stmt::Latch { slot, .. } => *slot = new_number(numbers, *slot),
         Stmt::Unlatch { slot } => *slot = new_number(numbers, *slot),
+        Stmt::Gather { slot, .. } => *slot = new_number(numbers, *slot),
+        Stmt::Scatter { slot } => *slot = new_number(numbers, *slot),
         Stmt::Loop { body, .. } => renumber(body, numbers),
         Stmt::Choice { branches } => renumber_branches(branches, numbers),
     }

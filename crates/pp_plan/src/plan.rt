@@ -8,6 +8,7 @@ ghost use Rattle.serde_json.specs.View.{view};
 ghost use Rattle.pp_settings.specs.Settings.{IsConfiguration, geometry_of};
 ghost use Rattle.pp_plan.specs.declared.error.PlanError.TheVariants.{NotJson, OutOfMemory};
 ghost use Rattle.pp_plan.specs.Terms.{Terms, IsPlan};
+ghost use Rattle.pp_plan.specs.Rules.{uses_bundle};
 ghost use Rattle.pp_plan.specs.Slots.{slot_named};
 ghost use Rattle.pp_plan.specs.Spelling.{IsText};
 ghost use Rattle.pp_plan.specs.Faults.{Fault, HasFault, TellsFirst};
@@ -20,9 +21,9 @@ ghost use Rattle.pp_plan.specs.Reading.{reading};
 ghost use Rattle.pp_plan.specs.Writing.{plan_text};
 
 use crate::error::PlanError;
-use crate::limits::MOST_DEPTH;
-use crate::numbering::{in_byte_order, new_numbers, renumber};
-use crate::progress::{Progress, position_of};
+use crate::limits::{MOST_DEPTH, MOST_SLOTS};
+use crate::numbering::{in_byte_order, new_bundles, new_numbers, renumber};
+use crate::progress::{Progress, is_marked, position_of};
 use crate::reading::read_body;
 use crate::shape::statements_at;
 use crate::stmt::{Body, Stmt};
@@ -34,13 +35,16 @@ use std::marker::Model;
 
 /// What a worker does with pages: statements over slots, read for the layout of some settings.
 ///
-/// A plan has at most 4,096 statements, at most 16 inside each other, and at most 32 slots.
+/// A plan has at most 4,096 statements, at most 16 inside each other, and at most 32 slots. Bundles count among the
+/// slots, and no slot is a bundle and a plain one.
 #[derive(Debug, Drop)]
 pub struct Plan {
     pub(crate) version: u8,
     pub(crate) layout: Layout,
     pub(crate) slots: Vec<String>,
     pub(crate) body: Body,
+    /// Which slots are bundles.
+    bundles: [bool; MOST_SLOTS],
 }
 
 impl Model for Plan {
@@ -50,12 +54,11 @@ impl Model for Plan {
 
     ghost coded = { coded_terms };
 
-    ghost use Rattle.pp_plan.specs.Fields.{terms_of};
-    ghost use Rattle.pp_plan.specs.Terms.{IsPlan};
+    ghost use Rattle.pp_plan.specs.Fields.{terms_of, AreFields};
 
     ghost view = { terms_of };
 
-    ghost invariant = { λ p. IsPlan (terms_of p) };
+    ghost invariant = { AreFields };
 }
 
 /// The JSON value that the text is.
@@ -77,22 +80,27 @@ fn read_plan(alloc: Global, settings: &Settings, text: &str) -> Result<Plan, Pla
     ensures settings { IfOk result (λ _. IsConfiguration settings.now) }
 {
     let value = value_of(alloc, text)?;
-    let items = statements_at(&value)?;
+    let (version, items) = statements_at(&value)?;
     let mut progress = Progress::new(alloc);
-    let mut body = read_body(alloc, settings, MOST_DEPTH, &mut progress, items)?;
+    let mut body = read_body(alloc, settings, version, MOST_DEPTH, &mut progress, items)?;
+    let bundles = progress.bundles();
     let names = progress.into_names();
     let slots = in_byte_order(&names)?;
     renumber(&mut body, &new_numbers(&slots, &names));
+    let bundles = new_bundles(&bundles, &new_numbers(&names, &slots), slots.len());
     Ok(Plan {
-        version: 1,
+        version,
         layout: settings.layout(),
         slots,
         body,
+        bundles,
     })
 }
 
 impl Plan {
     /// The plan that the text spells under the settings, or the first refusal in a fixed order.
+    ///
+    /// A text is of version 1 or 2. Version 2 also has gathers and scatters; in version 1 their keys are like any others.
     ///
     /// A text is accepted if and only if it spells a plan that keeps the limits, unless memory runs out. A key that
     /// stands twice counts where it stands last.
@@ -116,8 +124,8 @@ impl Plan {
 
     /// The text of the plan, as in `{"body":[{"fix":"a","region":"root"},{"unfix":"a"}],"version":1}`.
     ///
-    /// It has no white space, and its keys are in byte order. The settings must have the plan's layout. Their names of
-    /// regions are written.
+    /// It has the version that was read, no white space, and its keys are in byte order. The settings must have the
+    /// plan's layout. Their names of regions are written.
     pub fn to_text(&self, alloc: Global, settings: &Settings) -> Result<String, PlanError>
         requires { self.now.layout ≡ geometry_of settings.now }
         ensures text { IfOk result (λ s. string_bytes s ≡ plan_text settings.now self.now) }
@@ -129,6 +137,13 @@ impl Plan {
         prove!(settings.layout().frames() == self.layout.frames());
         let value = plan_value(alloc, settings, self)?;
         Ok(value.to_string(alloc)?)
+    }
+
+    /// The version of the plan's form: 1, or 2, which has bundles.
+    pub fn version(&self) -> u8
+        ensures { result ≡ self.now.version }
+    {
+        self.version
     }
 
     /// The layout of the settings that the plan was read for.
@@ -164,6 +179,13 @@ impl Plan {
         ensures { slice_get self.now.slots slot ≡ Some result.now }
     {
         self.slots[usize::from(slot)].as_str()
+    }
+
+    /// Whether the slot with this number is a bundle: the plan gathers into it or scatters it.
+    pub fn is_bundle(&self, slot: u8) -> bool
+        ensures { result ≡ uses_bundle self.now.body slot }
+    {
+        is_marked(&self.bundles, slot)
     }
 
     /// The number of the slot with this name, if the plan has one.

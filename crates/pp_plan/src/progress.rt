@@ -1,6 +1,6 @@
 //! How far the reading of a plan is.
 
-ghost use Rattle.std.specs.Prelude.{◌≡◌, ◌≤◌, IfOk, length, map, string_bytes, ℕ};
+ghost use Rattle.std.specs.Prelude.{◌≡◌, ◌≤◌, IfOk, false, length, map, string_bytes, slice_index_or, ℕ};
 ghost use Rattle.pp_plan.specs.Refusals.{is_plan_memory};
 ghost use Rattle.pp_text.specs.Steps.{Gives, Reads};
 ghost use Rattle.pp_plan.specs.Numbering.{position_of};
@@ -13,10 +13,11 @@ use crate::names::is_slot_name;
 use std::alloc::Global;
 use std::marker::Model;
 
-/// The slot names in the order of their first use, and how many statements have begun.
+/// The slot names in the order of their first use, which of them are bundles, and how many statements have begun.
 #[derive(Drop)]
 pub(crate) struct Progress {
     names: Vec<String>,
+    bundles: [bool; MOST_SLOTS],
     count: u32,
 }
 
@@ -26,9 +27,20 @@ impl Model for Progress {
 
     ghost Value = { Progress };
 
-    ghost view = { λ p. record { names = map string_bytes p.names.items; count = p.count } };
+    ghost view = { λ p. record { names = map string_bytes p.names.items; bundles = p.bundles; count = p.count } };
 
-    ghost invariant = { λ p. IsProgress (record { names = map string_bytes p.names.items; count = p.count }) };
+    ghost invariant = { λ p. IsProgress
+        (record { names = map string_bytes p.names.items; bundles = p.bundles; count = p.count }) };
+}
+
+/// The table marks the slot with this number.
+pub(crate) fn is_marked(table: &[bool; MOST_SLOTS], slot: u8) -> bool
+    ensures { result ≡ slice_index_or table.now slot false }
+{
+    match table.get(usize::from(slot)) {
+        Some(mark) => *mark,
+        None => false,
+    }
 }
 
 /// The place of the name among the names.
@@ -49,6 +61,7 @@ impl Progress {
     {
         Progress {
             names: Vec::new(alloc),
+            bundles: [false; MOST_SLOTS],
             count: 0,
         }
     }
@@ -67,17 +80,21 @@ impl Progress {
         Ok(number)
     }
 
-    /// The number of a slot that the statement uses, by the first use of its name.
+    /// The number of a slot that the statement uses, as a bundle or as a plain slot, by the first use of its name.
     #[tactic(auto, unfolding(crate::specs::Reading::used))]
     pub(crate) fn use_slot(
         &mut self,
         alloc: Global,
         number: u32,
+        bundle: bool,
         name: &str,
     ) -> Result<u8, PlanError>
-        ensures { Gives is_plan_memory (λ k. (self.new, k)) result (used number self.old name.now) }
+        ensures { Gives is_plan_memory (λ k. (self.new, k)) result (used number bundle self.old name.now) }
     {
         if let Some(place) = position_of(&self.names, name) {
+            if is_marked(&self.bundles, place) != bundle {
+                return Err(PlanError::MixedSlot(number));
+            }
             return Ok(place);
         }
         let place = self.names.len();
@@ -86,18 +103,32 @@ impl Progress {
         }
         let name = String::from_str(alloc, name)?;
         self.names.push(name)?;
+        self.bundles[place] = bundle;
         Ok(place as u8)
     }
 
     /// The same of a name that has to be in form.
     #[tactic(auto, unfolding(crate::specs::Reading::slot_of))]
-    pub(crate) fn slot(&mut self, alloc: Global, number: u32, name: &str) -> Result<u8, PlanError>
-        ensures { Gives is_plan_memory (λ k. (self.new, k)) result (slot_of number self.old name.now) }
+    pub(crate) fn slot(
+        &mut self,
+        alloc: Global,
+        number: u32,
+        bundle: bool,
+        name: &str,
+    ) -> Result<u8, PlanError>
+        ensures { Gives is_plan_memory (λ k. (self.new, k)) result (slot_of number bundle self.old name.now) }
     {
         if !is_slot_name(name) {
             return Err(PlanError::BadName(number));
         }
-        self.use_slot(alloc, number, name)
+        self.use_slot(alloc, number, bundle, name)
+    }
+
+    /// The table of bundles: for each slot by its first use, whether it is one.
+    pub(crate) fn bundles(&self) -> [bool; MOST_SLOTS]
+        ensures { result ≡ self.now.bundles }
+    {
+        self.bundles
     }
 
     /// The names so far, in the order of their first use.

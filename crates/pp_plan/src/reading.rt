@@ -53,16 +53,17 @@ fn items_in(value: &Value) -> &[Value]
 pub(crate) fn read_body(
     alloc: Global,
     settings: &Settings,
+    version: u8,
     levels: u8,
     progress: &mut Progress,
     items: &[Value],
 ) -> Result<Body, PlanError>
     ensures { Gives is_plan_memory (λ b. (progress.new, b)) result
-        (sequence_from (statement_at (region_named settings.now) levels) skip progress.old (items_view items.now)) }
+        (sequence_from (statement_at version (region_named settings.now) levels) skip progress.old (items_view items.now)) }
 {
     let mut stmts = Vec::new(alloc);
     for value in items {
-        let stmt = read_statement(alloc, settings, levels, progress, value)?;
+        let stmt = read_statement(alloc, settings, version, levels, progress, value)?;
         stmts.push(stmt)?;
     }
     Ok(Body { stmts })
@@ -74,53 +75,64 @@ pub(crate) fn read_body(
 fn read_branches(
     alloc: Global,
     settings: &Settings,
+    version: u8,
     levels: u8,
     progress: &mut Progress,
     lists: &[Value],
 ) -> Result<Branches, PlanError>
     ensures { Gives is_plan_memory (λ b. (progress.new, b)) result
-        (alternatives_from (statement_at (region_named settings.now) levels) none progress.old (items_view lists.now)) }
+        (alternatives_from (statement_at version (region_named settings.now) levels) none progress.old (items_view lists.now)) }
 {
     let mut bodies = Vec::new(alloc);
     for list in lists {
-        let body = read_body(alloc, settings, levels, progress, items_in(list))?;
+        let body = read_body(alloc, settings, version, levels, progress, items_in(list))?;
         bodies.push(body)?;
     }
     Ok(Branches { bodies })
 }
 
-/// The statement of the value, where so many levels of statements may stand from here on.
+/// The statement of the value in a plan of this version, where so many levels of statements may stand from here on.
 #[cycle(reading)]
 fn read_statement(
     alloc: Global,
     settings: &Settings,
+    version: u8,
     levels: u8,
     progress: &mut Progress,
     value: &Value,
 ) -> Result<Stmt, PlanError>
     ensures { Gives is_plan_memory (λ s. (progress.new, statement_of s)) result
-        (statement_at (region_named settings.now) levels progress.old (view value.now)) }
+        (statement_at version (region_named settings.now) levels progress.old (view value.now)) }
 {
     let number = progress.begin()?;
     if levels == 0 {
         return Err(PlanError::TooDeep(number));
     }
-    let shape = shape_of(number, value)?;
-    read_shape(alloc, settings, levels - 1, progress, number, shape)
+    let shape = shape_of(version, number, value)?;
+    read_shape(
+        alloc,
+        settings,
+        version,
+        levels - 1,
+        progress,
+        number,
+        shape,
+    )
 }
 
-/// A fix of a page of the region into the slot.
+/// The slot and the region of a fix, or of a gather where the slot is a bundle.
 #[tactic(auto, unfolding(crate::specs::Reading::fix_by))]
 fn read_fix(
     alloc: Global,
     settings: &Settings,
     progress: &mut Progress,
     number: u32,
+    bundle: bool,
     slot: &str,
     region: &str,
-) -> Result<Stmt, PlanError>
-    ensures { Gives is_plan_memory (λ s. (progress.new, statement_of s)) result
-        (fix_by (region_named settings.now) number progress.old slot.now region.now) }
+) -> Result<(u8, u8), PlanError>
+    ensures { Gives is_plan_memory (λ s. (progress.new, s)) result
+        (fix_by (region_named settings.now) number bundle progress.old slot.now region.now) }
 {
     if !is_slot_name(slot) {
         return Err(PlanError::BadName(number));
@@ -128,8 +140,8 @@ fn read_fix(
     let region = settings
         .region(region)
         .ok_or(PlanError::NoSuchRegion(number))?;
-    let slot = progress.use_slot(alloc, number, slot)?;
-    Ok(Stmt::Fix { slot, region })
+    let slot = progress.use_slot(alloc, number, bundle, slot)?;
+    Ok((slot, region))
 }
 
 /// The statement of this form and number.
@@ -138,34 +150,46 @@ fn read_fix(
 fn read_shape(
     alloc: Global,
     settings: &Settings,
+    version: u8,
     levels: u8,
     progress: &mut Progress,
     number: u32,
     shape: Shape<'_>,
 ) -> Result<Stmt, PlanError>
     ensures { Gives is_plan_memory (λ s. (progress.new, statement_of s)) result
-        (statement_by (region_named settings.now) (statement_at (region_named settings.now) levels) number progress.old
+        (statement_by (region_named settings.now) (statement_at version (region_named settings.now) levels) number progress.old
         (shape_view shape.entry)) }
 {
     match shape {
-        Shape::Fix { slot, region } => { read_fix(alloc, settings, progress, number, slot, region) }
+        Shape::Fix { slot, region } => {
+            let (slot, region) = read_fix(alloc, settings, progress, number, false, slot, region)?;
+            Ok(Stmt::Fix { slot, region })
+        }
         Shape::Unfix { slot } => {
-            let slot = progress.slot(alloc, number, slot)?;
+            let slot = progress.slot(alloc, number, false, slot)?;
             Ok(Stmt::Unfix { slot })
         }
         Shape::Latch { slot, mode } => {
-            let slot = progress.slot(alloc, number, slot)?;
+            let slot = progress.slot(alloc, number, false, slot)?;
             Ok(Stmt::Latch { slot, mode })
         }
         Shape::Unlatch { slot } => {
-            let slot = progress.slot(alloc, number, slot)?;
+            let slot = progress.slot(alloc, number, false, slot)?;
             Ok(Stmt::Unlatch { slot })
+        }
+        Shape::Gather { slot, region } => {
+            let (slot, region) = read_fix(alloc, settings, progress, number, true, slot, region)?;
+            Ok(Stmt::Gather { slot, region })
+        }
+        Shape::Scatter { slot } => {
+            let slot = progress.slot(alloc, number, true, slot)?;
+            Ok(Stmt::Scatter { slot })
         }
         Shape::Loop { count, body } => {
             if !is_loop(count, body) {
                 return Err(PlanError::Range(number));
             }
-            let body = read_body(alloc, settings, levels, progress, body)?;
+            let body = read_body(alloc, settings, version, levels, progress, body)?;
             Ok(Stmt::Loop {
                 count: count as u16,
                 body,
@@ -175,7 +199,7 @@ fn read_shape(
             if !is_choice(branches) {
                 return Err(PlanError::Range(number));
             }
-            let branches = read_branches(alloc, settings, levels, progress, branches)?;
+            let branches = read_branches(alloc, settings, version, levels, progress, branches)?;
             Ok(Stmt::Choice { branches })
         }
     }

@@ -4,11 +4,11 @@ ghost use Rattle.std.specs.Prelude.{◌≡◌, ◌<◌, length};
 ghost use Rattle.serde_json.specs.View.{view, items_view};
 ghost use Rattle.pp_text.specs.Steps.{Reads};
 ghost use Rattle.pp_text.specs.Views.{texts};
-ghost use Rattle.pp_plan.specs.Keys.{keys_of, first_key};
+ghost use Rattle.pp_plan.specs.Keys.{keys_of, first_key, is_kind_of};
 ghost use Rattle.pp_plan.specs.Shapes.{has_kind, kind_of, value_at, text_at, number_at, list_at, mode_named, mode_at};
 ghost use Rattle.pp_plan.specs.Shapes.{are_lists, shape_at, shape_of};
 ghost use Rattle.pp_plan.specs.ShapeView.{shape_view};
-ghost use Rattle.pp_plan.specs.Reading.{is_one, statements_at};
+ghost use Rattle.pp_plan.specs.Reading.{known_version, as_version, statements_at};
 
 use crate::error::PlanError;
 use crate::kind::Kind;
@@ -23,6 +23,8 @@ pub(crate) enum Shape<'v> {
     Unfix { slot: &'v str },
     Latch { slot: &'v str, mode: Mode },
     Unlatch { slot: &'v str },
+    Gather { slot: &'v str, region: &'v str },
+    Scatter { slot: &'v str },
     Loop { count: u64, body: &'v [Value] },
     Choice { branches: &'v [Value] },
 }
@@ -30,12 +32,14 @@ pub(crate) enum Shape<'v> {
 /// The keys of the whole text.
 const TOP_KEYS: [&str; 2] = ["body", "version"];
 
-/// The six kinds.
-const KINDS: [Kind; 6] = [
+/// The kinds of all versions.
+const KINDS: [Kind; 8] = [
     Kind::Fix,
     Kind::Unfix,
     Kind::Latch,
     Kind::Unlatch,
+    Kind::Gather,
+    Kind::Scatter,
     Kind::Loop,
     Kind::Choice,
 ];
@@ -50,26 +54,38 @@ fn keys_of(kind: Kind) -> &'static [&'static str]
         Kind::Unfix => &["unfix"],
         Kind::Latch => &["latch", "mode"],
         Kind::Unlatch => &["unlatch"],
+        Kind::Gather => &["gather", "region"],
+        Kind::Scatter => &["scatter"],
         Kind::Loop => &["loop", "body"],
         Kind::Choice => &["choice"],
     }
 }
 
-/// The value has the first key of this kind.
-fn has_kind(value: &Value, kind: Kind) -> bool
-    ensures { result ≡ has_kind (view value.now) kind }
+/// Plans of this version have statements of this kind. Those of bundles are version 2's.
+fn is_kind_of(version: u8, kind: Kind) -> bool
+    ensures { result ≡ is_kind_of version kind }
 {
-    let keys = keys_of(kind);
-    value.get(keys[0]).is_some()
+    match kind {
+        Kind::Gather | Kind::Scatter => version == 2,
+        Kind::Fix | Kind::Unfix | Kind::Latch | Kind::Unlatch | Kind::Loop | Kind::Choice => true,
+    }
 }
 
-/// The one kind whose first key the value has.
-fn kind_of(value: &Value) -> Option<Kind>
-    ensures { result ≡ kind_of (view value.now) }
+/// The version has this kind, and the value has its first key.
+fn has_kind(version: u8, value: &Value, kind: Kind) -> bool
+    ensures { result ≡ has_kind version (view value.now) kind }
+{
+    let keys = keys_of(kind);
+    is_kind_of(version, kind) && value.get(keys[0]).is_some()
+}
+
+/// The one kind of the version whose first key the value has.
+fn kind_of(version: u8, value: &Value) -> Option<Kind>
+    ensures { result ≡ kind_of version (view value.now) }
 {
     let mut found = None;
     for kind in &KINDS {
-        if has_kind(value, *kind) {
+        if has_kind(version, value, *kind) {
             if found.is_some() {
                 return None;
             }
@@ -170,6 +186,15 @@ fn shape_at<'v>(kind: Kind, number: u32, value: &'v Value) -> Result<Shape<'v>, 
             let slot = text_at("unlatch", number, value)?;
             Ok(Shape::Unlatch { slot })
         }
+        Kind::Gather => {
+            let slot = text_at("gather", number, value)?;
+            let region = text_at("region", number, value)?;
+            Ok(Shape::Gather { slot, region })
+        }
+        Kind::Scatter => {
+            let slot = text_at("scatter", number, value)?;
+            Ok(Shape::Scatter { slot })
+        }
         Kind::Loop => {
             let count = number_at("loop", number, value)?;
             let body = list_at("body", number, value)?;
@@ -185,39 +210,48 @@ fn shape_at<'v>(kind: Kind, number: u32, value: &'v Value) -> Result<Shape<'v>, 
     }
 }
 
-/// The form of the statement with this number.
+/// The form of the statement with this number, in a plan of this version.
 #[tactic(auto, unfolding(crate::specs::Shapes::shape_of))]
-pub(crate) fn shape_of(number: u32, value: &Value) -> Result<Shape<'_>, PlanError>
-    ensures { Reads shape_view result (shape_of number (view value.now)) }
+pub(crate) fn shape_of(version: u8, number: u32, value: &Value) -> Result<Shape<'_>, PlanError>
+    ensures { Reads shape_view result (shape_of version number (view value.now)) }
 {
-    let kind = kind_of(value).ok_or(PlanError::NoSuchStatement(number))?;
+    let kind = kind_of(version, value).ok_or(PlanError::NoSuchStatement(number))?;
     if !has_only_keys(keys_of(kind), value) {
         return Err(PlanError::WrongField(number));
     }
     shape_at(kind, number, value)
 }
 
-/// The value is the number 1.
-fn is_one(value: &Value) -> bool
-    ensures { result ≡ is_one (view value.now) }
+/// The version of this number, 1 or 2.
+fn known_version(number: u64) -> Option<u8>
+    ensures { result ≡ known_version number }
 {
-    match value.as_u64() {
-        Some(number) => number == 1,
-        None => false,
+    if number == 1 || number == 2 {
+        Some(number as u8)
+    } else {
+        None
     }
 }
 
-/// The statements of a plan's object.
+/// The version that the value is.
+fn as_version(value: &Value) -> Option<u8>
+    ensures { result ≡ as_version (view value.now) }
+{
+    match value.as_u64() {
+        Some(number) => known_version(number),
+        None => None,
+    }
+}
+
+/// The version of a plan's object, and its statements.
 #[tactic(auto, unfolding(crate::specs::Reading::statements_at))]
-pub(crate) fn statements_at(value: &Value) -> Result<&[Value], PlanError>
-    ensures { Reads (λ s. items_view s.now) result (statements_at (view value.now)) }
+pub(crate) fn statements_at(value: &Value) -> Result<(u8, &[Value]), PlanError>
+    ensures { Reads (λ s. (s.0, items_view s.1.now)) result (statements_at (view value.now)) }
 {
     if !has_only_keys(&TOP_KEYS, value) {
         return Err(PlanError::WrongField(0));
     }
     let items = list_at("body", 0, value)?;
-    if !is_one(value_at("version", 0, value)?) {
-        return Err(PlanError::Range(0));
-    }
-    Ok(items)
+    let version = as_version(value_at("version", 0, value)?).ok_or(PlanError::Range(0))?;
+    Ok((version, items))
 }

@@ -18,6 +18,10 @@ pub enum Stmt {
     Latch { slot: u8, mode: Mode },
     /// Takes the latch off the slot's page.
     Unlatch { slot: u8 },
+    /// Fixes one more page of the region into the bundle, a slot that pins several pages.
+    Gather { slot: u8, region: u8 },
+    /// Gives all pages of the bundle back.
+    Scatter { slot: u8 },
     /// Does the body `count` times, 1 to 65,535.
     Loop { count: u16, body: Body },
     /// Does one of the branches, which the worker chooses.

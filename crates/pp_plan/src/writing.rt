@@ -47,6 +47,10 @@ fn statement_value(
             json!(in alloc; {"latch": plan.slot_name(*slot), "mode": letter_of(*mode)})
         }
         Stmt::Unlatch { slot } => json!(in alloc; {"unlatch": plan.slot_name(*slot)}),
+        Stmt::Gather { slot, region } => {
+            json!(in alloc; {"gather": plan.slot_name(*slot), "region": settings.name(*region)})
+        }
+        Stmt::Scatter { slot } => json!(in alloc; {"scatter": plan.slot_name(*slot)}),
         Stmt::Loop { count, body } => {
             let body = body_value(alloc, settings, plan, body)?;
             json!(in alloc; {"body": body, "loop": *count})

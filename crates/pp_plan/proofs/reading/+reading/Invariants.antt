@@ -20,13 +20,13 @@ decreases-read_shape l = 4 * l.levels + 3
 
 abbrev pub invariant-read_body-loop-value : goal.invariant-read_body-loop-value
 invariant-read_body-loop-value l =
-    sequence_from (statement_at (region_named l.settings) l.levels) (sequence_of l.stmts.items) l.progress
+    sequence_from (statement_at l.version (region_named l.settings) l.levels) (sequence_of l.stmts.items) l.progress
     (items_view (drop l.value-index l.items))
-    ≡ sequence_from (statement_at (region_named l.settings) l.levels) skip l.initial.progress (items_view l.items)
+    ≡ sequence_from (statement_at l.version (region_named l.settings) l.levels) skip l.initial.progress (items_view l.items)
 
 abbrev pub invariant-read_branches-loop-list : goal.invariant-read_branches-loop-list
 invariant-read_branches-loop-list l =
-    alternatives_from (statement_at (region_named l.settings) l.levels) (alternatives_of l.bodies.items) l.progress
+    alternatives_from (statement_at l.version (region_named l.settings) l.levels) (alternatives_of l.bodies.items) l.progress
     (items_view (drop l.list-index l.lists))
-    ≡ alternatives_from (statement_at (region_named l.settings) l.levels) none l.initial.progress
+    ≡ alternatives_from (statement_at l.version (region_named l.settings) l.levels) none l.initial.progress
     (items_view l.lists)

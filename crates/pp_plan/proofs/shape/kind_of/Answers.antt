@@ -6,7 +6,7 @@ use Rattle.pp_plan.proofs.shape.kind_of.Goals.{then-has_kind+else-is_some, else-
 
 pub loop-kind-preserved : goal.loop-kind-preserved
 loop-kind-preserved c =
-    let p = has_kind (view c.args.value.now) in
+    let p = has_kind c.args.version (view c.args.value.now) in
     elim c.if-has_kind.branch [
       | then-has_kind+else-is_some w ↦
           kind_kept p kinds c.loop-kind.kind-index _ c.loop-kind.found c.if-has_kind.found _ c.loop-kind-test.true

@@ -7,5 +7,5 @@ use Rattle.pp_plan.proofs.shape.kind_of.Given as goal
 
 abbrev pub invariant-loop-kind : goal.invariant-loop-kind
 invariant-loop-kind l =
-    only_one (option_to_list l.found ++ filter (has_kind (view l.value)) (drop l.kind-index kinds))
-    ≡ kind_of (view l.value)
+    only_one (option_to_list l.found ++ filter (has_kind l.version (view l.value)) (drop l.kind-index kinds))
+    ≡ kind_of l.version (view l.value)

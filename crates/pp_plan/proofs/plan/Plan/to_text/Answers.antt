@@ -14,5 +14,5 @@ returns-clause-text c =
 pub returns-clause-reads_back : goal.returns-clause-reads_back
 returns-clause-reads_back c =
     reads_as c.args.settings.now c.args.self.now c.layout.ensures.settings c.in_ok-value.ensures.facts c.requires
-    (view c.in_ok-value.value) (string_bytes c.in_ok-to_string.field-0) c.in_ok-value.ensures.value
-    c.in_ok-to_string.ensures.reads_back
+    (view c.in_ok-value.value) (string_bytes c.in_ok-to_string.field-0)
+    c.in_ok-value.ensures.value c.in_ok-to_string.ensures.reads_back
