@@ -1,25 +1,27 @@
 -- Where some certificate of a plan is accepted, the one that is made is accepted, and is the least.
-use Rattle.std.proofs.Common.{◌≡◌, ℕ, zero, suc, ◌+◌, ◌≤◌, min, true, Some, None, List, [], ◌∷◌, ◌++◌, length, refl}
+use Rattle.std.proofs.Common.{◌≡◌, ℕ, zero, suc, ◌+◌, ◌≤◌, min, true, false, Some, None, List, [], ◌∷◌, ◌++◌, length, refl}
 use Rattle.std.proofs.Common.{sym, ap, subst, ◌∙◌, arith}
 use Rattle.std.specs.Prelude.{slice_get, unwrap_or, if◌then◌else◌}
 use Rattle.std.proofs.lemmas.Bool.{leb-true, le-leb}
 use Rattle.pp_settings.specs.Layout.{Geometry}
-use Rattle.pp_plan.specs.Tree.{Step, fix, unfix, latch, unlatch, Statement, step, loop, choice, Sequence, skip, andthen}
-use Rattle.pp_plan.specs.Tree.{Alternatives, none, either}
-use Rattle.pp_plan.specs.Terms.{Terms}
+use Rattle.pp_plan.specs.Tree.{Step, fix, unfix, latch, unlatch, gather, scatter, Statement, step, loop, choice}
+use Rattle.pp_plan.specs.Tree.{Sequence, skip, andthen, Alternatives, none, either}
+use Rattle.pp_plan.specs.Terms.{Terms, IsPlan}
 use Rattle.pp_cert.specs.declared.check_error.CheckError.{CheckError}
 use Rattle.pp_cert.specs.Notes.{Entries, note_pins}
 use Rattle.pp_cert.specs.Longest.{sequence_longest}
-use Rattle.pp_cert.specs.Walk.{Claims, note_at, outcome, Test, same_settings, there, as_expected, within_peak}
-use Rattle.pp_cert.specs.Walk.{slot_unused, slot_fixed, slot_unlatched, slot_latched, slot_in_order, loop_keeps}
-use Rattle.pp_cert.specs.Walk.{branch_agrees, holds_nothing, no_more_notes, steps_allowed, steps_enough, peak_allowed}
+use Rattle.pp_cert.specs.Walk.{Claims, note_at, outcome, Test, same_settings, there, as_expected, may_begin, within_peak}
+use Rattle.pp_cert.specs.Walk.{slot_unused, slot_fixed, slot_unlatched, slot_latched, slot_in_order, bundle_gathered}
+use Rattle.pp_cert.specs.Walk.{loop_keeps, loop_grows, branch_agrees, holds_nothing, no_more_notes, steps_allowed}
+use Rattle.pp_cert.specs.Walk.{steps_enough, peak_allowed}
 use Rattle.pp_cert.specs.Walk.{Certifies, passes, fault_of, first_fault, note_tests, step_tests, statement_tests}
-use Rattle.pp_cert.specs.Walk.{sequence_tests, later_tests, tests, statement_end, sequence_end, most_steps}
+use Rattle.pp_cert.specs.Walk.{sequence_tests, later_tests, tests, tests_with, statement_end, sequence_end, most_steps}
 use Rattle.pp_cert.specs.Limits.{counted}
 use Rattle.pp_cert.proofs.Passing.{first_passes, all_pass}
 use Rattle.pp_annotate.specs.Made.{made_notes, greatest, made}
 use Rattle.pp_annotate.specs.Annotation.{IsLeast, HasNone}
 use Rattle.pp_annotate.proofs.Written.{notes_are}
+use Rattle.pp_annotate.proofs.Told.{within_greatest, made_untold}
 
 -- ---- a test of the steps asks for so many at most
 
@@ -40,9 +42,11 @@ step_asks m k (fix s r) = (tt, tt)
 step_asks m k (unfix s) = (tt, (tt, tt))
 step_asks m k (latch s o) = (tt, (tt, (tt, tt)))
 step_asks m k (unlatch s) = (tt, (tt, tt))
+step_asks m k (gather s r) = tt
+step_asks m k (scatter s) = (tt, tt)
 
 mutual
-  statement_asks : (m k : ℕ) (s : Statement) → AllAsk m (statement_tests k s)
+  statement_asks : (m k : ℕ) (s : Statement) → AllAsk m (statement_tests true k s)
   statement_asks m k (step s) = step_asks m k s
   statement_asks m k (loop c b) = (
     tt,
@@ -50,8 +54,9 @@ mutual
       tt,
       (
         tt,
-        ask_both m (sequence_tests (k + 1) b) (loop_keeps (sequence_end (k + 1) b) k ∷ [])
-            (sequence_asks m (k + 1) b) (tt, tt),
+        ask_both m (sequence_tests true (k + 1) b)
+            (loop_keeps (sequence_end (k + 1) b) k b ∷ loop_grows (sequence_end (k + 1) b) k (k + 1) c b ∷ [])
+            (sequence_asks m (k + 1) b) (tt, (tt, tt)),
       ),
     ),
   )
@@ -63,21 +68,21 @@ mutual
           tt,
           (
             tt,
-            ask_both m (sequence_tests (k + 1) b) (later_tests k end (end + 1) bs) (sequence_asks m (k + 1) b)
+            ask_both m (sequence_tests true (k + 1) b) (later_tests true k end (end + 1) bs) (sequence_asks m (k + 1) b)
                 (later_asks m k end (end + 1) bs),
           ),
         ),
       )
 
-  sequence_asks : (m k : ℕ) (b : Sequence) → AllAsk m (sequence_tests k b)
+  sequence_asks : (m k : ℕ) (b : Sequence) → AllAsk m (sequence_tests true k b)
   sequence_asks m k skip = tt
   sequence_asks m k (andthen s b) =
       let next : ℕ = statement_end k s in
-      ask_both m (statement_tests k s ++ note_tests next (outcome k s)) (sequence_tests next b)
-      (ask_both m (statement_tests k s) (note_tests next (outcome k s)) (statement_asks m k s) (tt, (tt, (tt, tt))))
+      ask_both m (statement_tests true k s ++ note_tests next (outcome true k s)) (sequence_tests true next b)
+      (ask_both m (statement_tests true k s) (note_tests next (outcome true k s)) (statement_asks m k s) (tt, (tt, (tt, tt))))
       (sequence_asks m next b)
 
-  later_asks : (m before first k : ℕ) (bs : Alternatives) → AllAsk m (later_tests before first k bs)
+  later_asks : (m before first k : ℕ) (bs : Alternatives) → AllAsk m (later_tests true before first k bs)
   later_asks m before first k none = tt
   later_asks m before first k (either b bs) =
       let end : ℕ = sequence_end k b in (
@@ -86,7 +91,7 @@ mutual
           tt,
           (
             tt,
-            ask_both m (sequence_tests k b) (branch_agrees end first ∷ later_tests before first (end + 1) bs)
+            ask_both m (sequence_tests true k b) (branch_agrees end first ∷ later_tests true before first (end + 1) bs)
                 (sequence_asks m k b) (tt, later_asks m before first (end + 1) bs),
           ),
         ),
@@ -101,7 +106,7 @@ tests_ask m p h = (
       tt,
       (
         tt,
-        ask_both m (sequence_tests 0 p.body)
+        ask_both m (sequence_tests true 0 p.body)
             (holds_nothing (sequence_end 0 p.body) ∷ no_more_notes (sequence_end 0 p.body + 1) ∷ steps_allowed ∷
             steps_enough (sequence_longest p.body) ∷ peak_allowed ∷ []) (sequence_asks m 0 p.body)
             (tt, (tt, (tt, (h, (tt, tt))))),
@@ -111,11 +116,6 @@ tests_ask m p h = (
 )
 
 -- ---- the same notes with a smaller peak and fewer steps
-
-pub within_greatest : (ns : List Entries) (k : ℕ) → note_pins (unwrap_or (slice_get ns k) []) ≤ greatest ns
-within_greatest [] k = omega arith
-within_greatest (n ∷ ns) zero = omega arith
-within_greatest (n ∷ ns) (suc k) = omega (arith, within_greatest ns k)
 
 module _ (g : Geometry) (ns : List Entries) (peak steps most count : ℕ) (small : greatest ns ≤ peak)
     (smaller : peak ≤ most) (fewer : steps ≤ count) where
@@ -129,13 +129,16 @@ module _ (g : Geometry) (ns : List Entries) (peak steps most count : ℕ) (small
   keeps (same_settings h) a e = e
   keeps (there k) a e = e
   keeps (as_expected k x) a e = e
+  keeps (may_begin k before b) a e = e
   keeps (within_peak k) a e = le-leb (note_pins (note_at this k)) peak (omega (arith, within_greatest ns k, small))
   keeps (slot_unused k s) a e = e
   keeps (slot_fixed k s) a e = e
   keeps (slot_unlatched k s) a e = e
   keeps (slot_latched k s) a e = e
   keeps (slot_in_order k s) a e = e
-  keeps (loop_keeps k b) a e = e
+  keeps (bundle_gathered k s) a e = e
+  keeps (loop_keeps k before b) a e = e
+  keeps (loop_grows k before first turns b) a e = e
   keeps (branch_agrees k f) a e = e
   keeps (holds_nothing k) a e = e
   keeps (no_more_notes n) a e = e
@@ -156,10 +159,10 @@ pub counted_whole : (longest : ℕ) → longest ≤ most_steps → min longest c
 counted_whole longest h = omega (arith, h)
 
 -- where some certificate is accepted, the one made is
-pub made_accepted : (g : Geometry) (p : Terms) (d : Claims) → Certifies g p d → Certifies g p (made p)
-made_accepted g p d h =
+made_accepted : (g : Geometry) (p : Terms) (d : Claims) → IsPlan p → Certifies g p d → Certifies g p (made p)
+made_accepted g p d plan h =
     let is = all_pass g p d h in
-    let notes = notes_are g p d is in
+    let notes = notes_are g p d plan is in
     let longest : ℕ = sequence_longest p.body in
     let all : longest ≡ min longest counted = sym (counted_whole longest (omega (arith, is.limit, is.enough))) in
     let moved : first_fault g (record { notes = made_notes p; peak = d.peak; steps = d.steps }) (tests p) ≡ None =
@@ -169,12 +172,13 @@ made_accepted g p d h =
     (omega (arith, is.enough)) (tests p) (tests_ask (min longest counted) p (omega (arith, all))) moved
 
 -- it is the least one
-pub made_least : (g : Geometry) (p : Terms) → IsLeast g p (made p)
-made_least g p d h =
+pub made_least : (g : Geometry) (p : Terms) → IsPlan p → IsLeast g p (made p)
+made_least g p plan d h =
     let is = all_pass g p d h in
-    ((notes_are g p d is).peak, omega (arith, is.enough))
+    ((notes_are g p d plan is).peak, omega (arith, is.enough))
 
 -- where it has a fault, no certificate is accepted
-pub none_accepted : (g : Geometry) (p : Terms) (fault : CheckError) → first_fault g (made p) (tests p) ≡ Some fault
-    → HasNone g p
-none_accepted g p fault e d h = absurd (let ok = made_accepted g p d h in cc)
+pub none_accepted : (g : Geometry) (p : Terms) → IsPlan p → (fault : CheckError)
+    → first_fault g (made p) (tests_with false p) ≡ Some fault → HasNone g p
+none_accepted g p plan fault e d h =
+    absurd (let ok = made_untold g p plan (made_accepted g p d plan h) in cc)

@@ -1,30 +1,26 @@
--- No note of a plan pins more pages than the plan has statements.
-use Rattle.std.proofs.Common.{◌≡◌, ℕ, ◌+◌, ◌≤◌, ◌<◌, ◌^◌, true, false, [], ◌∷◌, ◌++◌, List, refl, arith}
-use Rattle.std.specs.Prelude.{nat_lt, if◌then◌else◌}
-use Rattle.pp_plan.specs.Tree.{Step, fix, unfix, latch, unlatch, Statement, step, loop, choice, Sequence, skip, andthen}
-use Rattle.pp_plan.specs.Tree.{Alternatives, none, either, statement_count, sequence_count, alternatives_count}
+-- The notes that are made of a plan pin few pages: a step adds one at most, and a loop 4,097 for each slot and what its body
+-- adds.
+use Rattle.std.proofs.Common.{◌≡◌, ℕ, ◌+◌, ◌*◌, ◌≤◌, ◌<◌, ◌^◌, Bool, true, false, [], ◌∷◌, ◌++◌, List, refl, arith}
+use Rattle.std.specs.Prelude.{if◌then◌else◌}
+use Rattle.pp_plan.specs.Tree.{Step, fix, unfix, latch, unlatch, gather, scatter, Statement, step, loop, choice}
+use Rattle.pp_plan.specs.Tree.{Sequence, skip, andthen, Alternatives, none, either, statement_count, sequence_count}
+use Rattle.pp_plan.specs.Tree.{alternatives_count}
+use Rattle.pp_plan.specs.Rules.{uses_bundle}
 use Rattle.pp_plan.specs.Terms.{Terms, IsPlan}
 use Rattle.pp_cert.specs.declared.note.Entry.{Entry}
 use Rattle.pp_cert.specs.declared.note.Entry.TheVariants.{Slot, Bundle}
 use Rattle.pp_cert.specs.declared.note.Held.{Held}
 use Rattle.pp_cert.specs.declared.note.Held.TheVariants.{Free}
-use Rattle.pp_cert.specs.Slots.{slot_insert}
 use Rattle.pp_cert.specs.Held.{held_in}
 use Rattle.pp_cert.specs.Notes.{Entries, entry_slot, entry_pins, note_pins, is_slot, entry_as, noted_as, without_page}
-use Rattle.pp_cert.specs.Notes.{noted_after}
+use Rattle.pp_cert.specs.Notes.{bound_at, one_more as one_page_more, noted_with}
+use Rattle.pp_annotate.specs.Growth.{first_note}
 use Rattle.pp_annotate.specs.Made.{after_statement, after_sequence, after_first, statement_notes, sequence_notes}
 use Rattle.pp_annotate.specs.Made.{branches_notes, made_notes, greatest}
+use Rattle.pp_annotate.proofs.Pins.{one_more, others_pins, bounded_pins}
+use Rattle.pp_annotate.proofs.Rises.{first_pins}
 
 -- ---- one step
-
-one_more : (e : Entry) (n : Entries) → note_pins (slot_insert entry_slot e n) ≡ entry_pins e + note_pins n
-one_more e [] = refl
-one_more e (y ∷ n) =
-    elim (nat_lt (entry_slot e) (entry_slot y))
-    as (λ b. note_pins (if b then e ∷ y ∷ n else y ∷ slot_insert entry_slot e n) ≡ entry_pins e + note_pins (y ∷ n)) [
-      | true ↦ refl
-      | false ↦ omega (arith, one_more e n)
-    ]
 
 no_more : (s : ℕ) (n : Entries) → note_pins (without_page s n) ≤ note_pins n
 no_more s [] = omega arith
@@ -47,11 +43,13 @@ as_many held s (y ∷ n) =
       | false ↦ omega (arith, as_many held s n)
     ]
 
-step_small : (s : Step) (n : Entries) → note_pins (noted_after s n) ≤ note_pins n + 1
+step_small : (s : Step) (n : Entries) → note_pins (noted_with false s n) ≤ note_pins n + 1
 step_small (fix s r) n = omega (arith, one_more (Slot s r Free) n)
 step_small (unfix s) n = omega (arith, no_more s n)
 step_small (latch s m) n = omega (arith, as_many (held_in m) s n)
 step_small (unlatch s) n = omega (arith, as_many Free s n)
+step_small (gather s r) n = omega (arith, bounded_pins s (one_page_more false (bound_at n s)) n)
+step_small (scatter s) n = omega (arith, others_pins s n)
 
 -- ---- notes
 
@@ -61,40 +59,51 @@ greatest_both (x ∷ ms) ns m a b =
     let rest = greatest_both ms ns m (omega (arith, a)) b in
     omega (arith, a, rest)
 
-mutual
-  statement_small : (s : Statement) (n : Entries) (m : ℕ) → note_pins n + statement_count s ≤ m
-      → (greatest (statement_notes s n) ≤ m)
-      × (note_pins (after_statement s n) ≤ note_pins n + statement_count s)
-  statement_small (step s) n m h = (omega arith, omega (arith, step_small s n))
-  statement_small (loop c b) n m h =
-      let body = sequence_small b n m (omega (arith, h)) in
-      (omega (arith, h, body.0), omega (arith, body.1))
-  statement_small (choice bs) n m h =
-      let all = branches_small bs n m (omega (arith, h)) in
-      (all.0, omega (arith, all.1))
+-- so many pins for each statement
+abbrev each : ℕ
+each = 131105
 
-  sequence_small : (b : Sequence) (n : Entries) (m : ℕ) → note_pins n + sequence_count b ≤ m
-      → (greatest (sequence_notes b n) ≤ m)
-      × (note_pins (after_sequence b n) ≤ note_pins n + sequence_count b)
-  sequence_small skip n m h = (omega arith, omega arith)
-  sequence_small (andthen s b) n m h =
-      let next : Entries = after_statement s n in
-      let first = statement_small s n m (omega (arith, h)) in
-      let rest = sequence_small b next m (omega (arith, h, first.1)) in
-      let later : greatest (next ∷ sequence_notes b next) ≤ m = omega (arith, h, first.1, rest.0) in
-      (greatest_both (statement_notes s n) (next ∷ sequence_notes b next) m first.0 later, omega (arith, first.1, rest.1))
+module _ (kind : ℕ → Bool) where
+  mutual
+    statement_small : (s : Statement) (n : Entries) (m : ℕ) → note_pins n + each * statement_count s ≤ m
+        → (greatest (statement_notes kind s n) ≤ m)
+        × (note_pins (after_statement kind s n) ≤ note_pins n + each * statement_count s)
+    statement_small (step s) n m h = (omega arith, omega (arith, step_small s n))
+    statement_small (loop c b) n m h =
+        let first : Entries = first_note kind c b n in
+        let at_first = first_pins kind c b n in
+        let body = sequence_small b first m (omega (arith, h, at_first)) in
+        (omega (arith, h, at_first, body.0), omega (arith, at_first, body.1))
+    statement_small (choice bs) n m h =
+        let all = branches_small bs n m (omega (arith, h)) in
+        (all.0, omega (arith, all.1))
 
-  branches_small : (bs : Alternatives) (n : Entries) (m : ℕ) → note_pins n + alternatives_count bs ≤ m
-      → (greatest (branches_notes bs n) ≤ m)
-      × (note_pins (after_first bs n) ≤ note_pins n + alternatives_count bs)
-  branches_small none n m h = (omega arith, omega arith)
-  branches_small (either b bs) n m h =
-      let first = sequence_small b n m (omega (arith, h)) in
-      let later = branches_small bs n m (omega (arith, h)) in
-      let here : greatest (n ∷ sequence_notes b n) ≤ m = omega (arith, h, first.0) in
-      (greatest_both (n ∷ sequence_notes b n) (branches_notes bs n) m here later.0, omega (arith, first.1))
+    sequence_small : (b : Sequence) (n : Entries) (m : ℕ) → note_pins n + each * sequence_count b ≤ m
+        → (greatest (sequence_notes kind b n) ≤ m)
+        × (note_pins (after_sequence kind b n) ≤ note_pins n + each * sequence_count b)
+    sequence_small skip n m h = (omega arith, omega arith)
+    sequence_small (andthen s b) n m h =
+        let next : Entries = after_statement kind s n in
+        let first = statement_small s n m (omega (arith, h)) in
+        let rest = sequence_small b next m (omega (arith, h, first.1)) in
+        let later : greatest (next ∷ sequence_notes kind b next) ≤ m = omega (arith, h, first.1, rest.0) in (
+          greatest_both (statement_notes kind s n) (next ∷ sequence_notes kind b next) m first.0 later,
+          omega (arith, first.1, rest.1),
+        )
+
+    branches_small : (bs : Alternatives) (n : Entries) (m : ℕ) → note_pins n + each * alternatives_count bs ≤ m
+        → (greatest (branches_notes kind bs n) ≤ m)
+        × (note_pins (after_first kind bs n) ≤ note_pins n + each * alternatives_count bs)
+    branches_small none n m h = (omega arith, omega arith)
+    branches_small (either b bs) n m h =
+        let first = sequence_small b n m (omega (arith, h)) in
+        let later = branches_small bs n m (omega (arith, h)) in
+        let here : greatest (n ∷ sequence_notes kind b n) ≤ m = omega (arith, h, first.0) in (
+          greatest_both (n ∷ sequence_notes kind b n) (branches_notes kind bs n) m here later.0,
+          omega (arith, first.1),
+        )
 
 pub made_small : (p : Terms) → IsPlan p → greatest (made_notes p) < 2 ^ 64
 made_small p plan =
-    let all = sequence_small p.body [] (sequence_count p.body) (omega arith) in
+    let all = sequence_small (uses_bundle p.body) p.body [] (each * sequence_count p.body) (omega arith) in
     omega (arith, all.0, plan.body.count)

@@ -7,7 +7,8 @@ use Rattle.std.specs.List.{filter}
 use Rattle.pp_cert.specs.declared.note.Entry.{Entry}
 use Rattle.pp_cert.specs.declared.note.Held.{Held}
 use Rattle.pp_cert.specs.Slots.{slot_insert}
-use Rattle.pp_cert.specs.Notes.{Entries, entry_slot, is_slot, entry_as, noted_as, without_page}
+use Rattle.pp_cert.specs.Notes.{Entries, entry_slot, is_slot, is_bundle_of, entry_as, noted_as, without_page}
+use Rattle.pp_cert.specs.Notes.{without_bundle}
 use Rattle.pp_cert.proofs.Splices.{insert_at, insert_last, insert_within, slot_within, update_at, update_absent}
 
 pub inserted_at : (e : Entry) (ys : Entries) (i : ℕ)
@@ -34,6 +35,17 @@ filter_is s (y ∷ n) =
     ≡ (if b then without_page s n else y ∷ without_page s n)) [
       | true ↦ filter_is s n
       | false ↦ ap (λ xs. y ∷ xs) (filter_is s n)
+    ]
+
+-- what is kept is all but the bundle
+pub filter_scattered : (s : ℕ) (n : Entries) → filter (λ e. not (is_bundle_of s e)) n ≡ without_bundle s n
+filter_scattered s [] = refl
+filter_scattered s (y ∷ n) =
+    elim (is_bundle_of s y)
+    as (λ b. cond (not b) (y ∷ filter (λ e. not (is_bundle_of s e)) n) (filter (λ e. not (is_bundle_of s e)) n)
+    ≡ (if b then without_bundle s n else y ∷ without_bundle s n)) [
+      | true ↦ filter_scattered s n
+      | false ↦ ap (λ xs. y ∷ xs) (filter_scattered s n)
     ]
 
 pub updated_at : (held : Held) (s : ℕ) (ys : Entries) (i : ℕ) (d : Entry) → position (is_slot s) ys ≡ Some i

@@ -1,12 +1,14 @@
 -- Notes that stand in a list from some place on, each of which is within the peak; and how many notes a part of a plan
 -- has.
-use Rattle.std.proofs.Common.{◌≡◌, ℕ, suc, ◌+◌, ◌≤◌, Some, List, [], ◌∷◌, ◌++◌, length, refl, ap, subst, arith}
+use Rattle.std.proofs.Common.{◌≡◌, ℕ, suc, ◌+◌, ◌≤◌, Bool, Some, List, [], ◌∷◌, ◌++◌, length, refl, ap, subst, arith}
 use Rattle.std.proofs.Common.{length-append}
-use Rattle.std.specs.Prelude.{slice_get}
+use Rattle.std.specs.Prelude.{slice_get, unwrap_or}
 use Rattle.pp_plan.specs.Tree.{Statement, step, loop, choice, Sequence, skip, andthen, Alternatives, none, either}
 use Rattle.pp_cert.specs.Notes.{Entries, note_pins}
-use Rattle.pp_cert.specs.Walk.{statement_end, sequence_end, alternatives_end}
-use Rattle.pp_annotate.specs.Made.{after_statement, statement_notes, sequence_notes, branches_notes, greatest}
+use Rattle.pp_cert.specs.Walk.{Claims, note_at, statement_end, sequence_end, alternatives_end}
+use Rattle.pp_annotate.specs.Growth.{first_note}
+use Rattle.pp_annotate.specs.Made.{after_statement, after_sequence, statement_notes, sequence_notes, branches_notes}
+use Rattle.pp_annotate.specs.Made.{greatest}
 
 abbrev pub Stand : (peak : ℕ) → List Entries → ℕ → List Entries → Type 0
 Stand peak all k [] = Unit {0}
@@ -76,30 +78,49 @@ stand_itself ns = stand_behind (greatest ns) [] ns (omega arith)
 
 -- ---- how many there are
 
-mutual
-  pub statement_places : (k : ℕ) (s : Statement) (n : Entries)
-      → k + 1 + length (statement_notes s n) ≡ statement_end k s
-  statement_places k (step s) n = omega arith
-  statement_places k (loop c b) n = omega (arith, sequence_places (k + 1) b n)
-  statement_places k (choice bs) n = branches_places (k + 1) bs n
+module _ (kind : ℕ → Bool) where
+  mutual
+    pub statement_places : (k : ℕ) (s : Statement) (n : Entries)
+        → k + 1 + length (statement_notes kind s n) ≡ statement_end k s
+    statement_places k (step s) n = omega arith
+    statement_places k (loop c b) n = omega (arith, sequence_places (k + 1) b (first_note kind c b n))
+    statement_places k (choice bs) n = branches_places (k + 1) bs n
 
-  pub sequence_places : (k : ℕ) (b : Sequence) (n : Entries) → k + length (sequence_notes b n) ≡ sequence_end k b
-  sequence_places k skip n = omega arith
-  sequence_places k (andthen s b) n =
-      omega (
-        arith,
-        length-append (statement_notes s n) (after_statement s n ∷ sequence_notes b (after_statement s n)),
-        statement_places k s n,
-        sequence_places (statement_end k s) b (after_statement s n),
-      )
+    pub sequence_places : (k : ℕ) (b : Sequence) (n : Entries)
+        → k + length (sequence_notes kind b n) ≡ sequence_end k b
+    sequence_places k skip n = omega arith
+    sequence_places k (andthen s b) n =
+        let m : Entries = after_statement kind s n in
+        omega (
+          arith,
+          length-append (statement_notes kind s n) (m ∷ sequence_notes kind b m),
+          statement_places k s n,
+          sequence_places (statement_end k s) b m,
+        )
 
-  pub branches_places : (k : ℕ) (bs : Alternatives) (n : Entries)
-      → k + length (branches_notes bs n) ≡ alternatives_end k bs
-  branches_places k none n = omega arith
-  branches_places k (either b bs) n =
-      omega (
-        arith,
-        length-append (n ∷ sequence_notes b n) (branches_notes bs n),
-        sequence_places k b n,
-        branches_places (sequence_end k b + 1) bs n,
-      )
+    pub branches_places : (k : ℕ) (bs : Alternatives) (n : Entries)
+        → k + length (branches_notes kind bs n) ≡ alternatives_end k bs
+    branches_places k none n = omega arith
+    branches_places k (either b bs) n =
+        omega (
+          arith,
+          length-append (n ∷ sequence_notes kind b n) (branches_notes kind bs n),
+          sequence_places k b n,
+          branches_places (sequence_end k b + 1) bs n,
+        )
+
+-- ---- the note at a body's end
+
+pub is_at : (c : Claims) (k : ℕ) (n : Entries) → slice_get c.notes k ≡ Some n → note_at c k ≡ n
+is_at c k n s = ap (λ o. unwrap_or o []) s
+
+pub ends_at : (c : Claims) (kind : ℕ → Bool) (k : ℕ) (b : Sequence) (n : Entries) → note_at c k ≡ n
+    → Stand c.peak c.notes (k + 1) (sequence_notes kind b n) → note_at c (sequence_end k b) ≡ after_sequence kind b n
+ends_at c kind k skip n e h = e
+ends_at c kind k (andthen s b) n e h =
+    let next : ℕ = statement_end k s in
+    let m : Entries = after_statement kind s n in
+    let p =
+    stand_split c.peak c.notes (k + 1) next (statement_notes kind s n) (m ∷ sequence_notes kind b m)
+    (statement_places kind k s n) h in
+    ends_at c kind next b m (is_at c next m p.1.0) p.1.2

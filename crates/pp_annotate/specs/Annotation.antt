@@ -1,5 +1,5 @@
 -- What the maker of certificates answers, and what holds of it.
-use Rattle.std.specs.Prelude.{◌≡◌, ◌≤◌, Result, Ok, Err, List, length}
+use Rattle.std.specs.Prelude.{◌≡◌, ◌≤◌, false, Result, Ok, Err, List, length, All}
 use Rattle.pp_settings.specs.Layout.{Geometry}
 use Rattle.pp_plan.specs.Terms.{Terms}
 use Rattle.pp_plan.specs.Traces.{Begins}
@@ -13,14 +13,16 @@ use Rattle.pp_cert.specs.declared.check_error.CheckError.TheVariants.{OverPeak, 
 use Rattle.pp_cert.specs.declared.check_error.CheckError.TheVariants.{StepsTooFew, StepsTooMany, PeakTooBig}
 use Rattle.pp_cert.specs.declared.check_error.CheckError.TheVariants.{OtherSettings}
 use Rattle.pp_cert.specs.Held.{pins}
-use Rattle.pp_cert.specs.Walk.{Claims, claims_of, Certifies, tests, first_fault, unless_fault}
+use Rattle.pp_cert.specs.Notes.{is_bundle}
+use Rattle.pp_cert.specs.Walk.{Claims, claims_of, Certifies, tests_with, first_fault, unless_fault}
 use Rattle.pp_annotate.specs.declared.error.AnnotateError.{AnnotateError}
 use Rattle.pp_annotate.specs.declared.error.AnnotateError.TheVariants.{Fault, OutOfMemory}
 use Rattle.pp_annotate.specs.Made.{made}
 
--- What is made of the plan where no test of it fails, else the first fault.
+-- What is made of the plan where no test of it fails, else the first fault. That bounds grow in a loop as its turns want it
+-- isn't tested: they do where they are counted in full, and a bound that isn't is more than the frames.
 abbrev pub annotation : Geometry → Terms → Result Claims CheckError
-annotation g p = unless_fault (first_fault g (made p) (tests p)) (made p)
+annotation g p = unless_fault (first_fault g (made p) (tests_with false p)) (made p)
 
 -- What the code returned is this; want of memory says nothing of the plan.
 abbrev pub AnswersAs : Result Certificate AnnotateError → Result Claims CheckError → Type 0
@@ -61,8 +63,8 @@ IsBeforeLimits StepsTooMany = ⊥
 IsBeforeLimits PeakTooBig = ⊥
 IsBeforeLimits fault = IsPlansFault fault
 
--- Peak and steps are tight: some beginning of a trace holds exactly as many slots as the peak says, and some trace has
--- exactly as many actions as the steps say.
+-- Peak and steps are tight: some beginning of a trace has exactly as many pins as the peak says, and some trace has exactly as
+-- many actions as the steps say.
 pub record IsTight (p : Terms) (c : Claims) : Type 0 where
   pub peak : (t : List Action) × (pins t ≡ c.peak) × Begins p.layout p.body t
   pub steps : (t : List Action) × (length t ≡ c.steps) × IsTraceOf p t
@@ -74,3 +76,7 @@ IsLeast g p c = (d : Claims) → Certifies g p d → (c.peak ≤ d.peak) × (c.s
 -- No certificate of the plan is accepted.
 abbrev pub HasNone : Geometry → Terms → Type 0
 HasNone g p = (d : Claims) → ¬ (Certifies g p d)
+
+-- No entry of a note is a bundle's.
+abbrev pub HasPagesAlone : Claims → Type 0
+HasPagesAlone d = All (λ note. All (λ e. is_bundle e ≡ false) note) d.notes

@@ -1,3 +1,4 @@
+pub mod Growth
 pub mod Made
 pub mod Annotation
 pub mod Refusals

@@ -1,52 +1,59 @@
 -- The certificate that is made of a plan: what is held at each place, noted statement by statement. Nothing is tested
--- here: a statement that may not happen is noted as if it did.
-use Rattle.std.specs.Prelude.{ℕ, min, max, List, [], ◌∷◌, ◌++◌}
+-- here: a statement that may not happen is noted as if it did. `is_bundle` tells which slots are bundles.
+use Rattle.std.specs.Prelude.{ℕ, min, max, Bool, false, List, [], ◌∷◌, ◌++◌}
 use Rattle.pp_plan.specs.Tree.{Statement, step, loop, choice, Sequence, skip, andthen, Alternatives, none, either}
+use Rattle.pp_plan.specs.Rules.{uses_bundle}
 use Rattle.pp_plan.specs.Terms.{Terms}
 use Rattle.pp_cert.specs.Limits.{counted}
 use Rattle.pp_cert.specs.Claims.{Claims}
-use Rattle.pp_cert.specs.Notes.{Entries, note_pins, noted_after}
+use Rattle.pp_cert.specs.Notes.{Entries, note_pins, noted_with}
 use Rattle.pp_cert.specs.Longest.{sequence_longest}
+use Rattle.pp_annotate.specs.Growth.{first_note}
 
 -- ---- what is noted after a part of a plan, where `n` is noted before it
 
 abbrev mutual
-  -- After a loop what is noted at the end of its body; after a choice what is noted at the end of its first branch.
-  pub after_statement : Statement → Entries → Entries
-  after_statement (step s) n = noted_after s n
-  after_statement (loop c b) n = after_sequence b n
-  after_statement (choice bs) n = after_first bs n
+  -- After a step what the check expects, with bounds that are counted no further than to the first that is too large. After
+  -- a loop what is noted at the end of its body; after a choice what is noted at the end of its first branch.
+  pub after_statement : (is_bundle : ℕ → Bool) → Statement → Entries → Entries
+  after_statement is_bundle (step s) n = noted_with false s n
+  after_statement is_bundle (loop c b) n = after_sequence is_bundle b (first_note is_bundle c b n)
+  after_statement is_bundle (choice bs) n = after_first is_bundle bs n
 
-  pub after_sequence : Sequence → Entries → Entries
-  after_sequence skip n = n
-  after_sequence (andthen s b) n = after_sequence b (after_statement s n)
+  pub after_sequence : (is_bundle : ℕ → Bool) → Sequence → Entries → Entries
+  after_sequence is_bundle skip n = n
+  after_sequence is_bundle (andthen s b) n = after_sequence is_bundle b (after_statement is_bundle s n)
 
   -- At the end of the first branch; the same as before where there is none.
-  pub after_first : Alternatives → Entries → Entries
-  after_first none n = n
-  after_first (either b bs) n = after_sequence b n
+  pub after_first : (is_bundle : ℕ → Bool) → Alternatives → Entries → Entries
+  after_first is_bundle none n = n
+  after_first is_bundle (either b bs) n = after_sequence is_bundle b n
 
 -- ---- the notes, in the order of their places
 
 abbrev mutual
-  -- Those inside a statement: of its bodies, each of which begins with what is noted before the statement.
-  pub statement_notes : Statement → Entries → List Entries
-  statement_notes (step s) n = []
-  statement_notes (loop c b) n = n ∷ sequence_notes b n
-  statement_notes (choice bs) n = branches_notes bs n
+  -- Those inside a statement: of its bodies. A loop's begins with what is noted before its last turn, and a branch with what
+  -- is noted before the choice.
+  pub statement_notes : (is_bundle : ℕ → Bool) → Statement → Entries → List Entries
+  statement_notes is_bundle (step s) n = []
+  statement_notes is_bundle (loop c b) n =
+      first_note is_bundle c b n ∷ sequence_notes is_bundle b (first_note is_bundle c b n)
+  statement_notes is_bundle (choice bs) n = branches_notes is_bundle bs n
 
   -- Those of a body after its first one: for each statement the ones inside it, and then the one after it.
-  pub sequence_notes : Sequence → Entries → List Entries
-  sequence_notes skip n = []
-  sequence_notes (andthen s b) n = statement_notes s n ++ after_statement s n ∷ sequence_notes b (after_statement s n)
+  pub sequence_notes : (is_bundle : ℕ → Bool) → Sequence → Entries → List Entries
+  sequence_notes is_bundle skip n = []
+  sequence_notes is_bundle (andthen s b) n =
+      statement_notes is_bundle s n ++ after_statement is_bundle s n
+      ∷ sequence_notes is_bundle b (after_statement is_bundle s n)
 
-  pub branches_notes : Alternatives → Entries → List Entries
-  branches_notes none n = []
-  branches_notes (either b bs) n = (n ∷ sequence_notes b n) ++ branches_notes bs n
+  pub branches_notes : (is_bundle : ℕ → Bool) → Alternatives → Entries → List Entries
+  branches_notes is_bundle none n = []
+  branches_notes is_bundle (either b bs) n = (n ∷ sequence_notes is_bundle b n) ++ branches_notes is_bundle bs n
 
 -- All notes of a plan; the first one is empty.
 abbrev pub made_notes : Terms → List Entries
-made_notes p = [] ∷ sequence_notes p.body []
+made_notes p = [] ∷ sequence_notes (uses_bundle p.body) p.body []
 
 -- The most pages that a note pins.
 abbrev pub greatest : List Entries → ℕ

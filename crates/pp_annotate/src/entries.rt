@@ -1,10 +1,11 @@
 //! What is held after a step, from what is held before it.
 
-ghost use Rattle.std.specs.Prelude.{◌≡◌, IfOk, nat_lt, position};
-ghost use Rattle.pp_cert.specs.Notes.{entry_slot, is_slot, noted_as, without_page};
+ghost use Rattle.std.specs.Prelude.{◌≡◌, false, IfOk, nat_lt, position};
+ghost use Rattle.pp_cert.specs.Notes.{entry_slot, is_slot, noted_as, without_page, bound_at, one_more, without_bundle};
+ghost use Rattle.pp_cert.specs.Notes.{with_bound};
 ghost use Rattle.pp_cert.specs.Slots.{slot_insert};
 
-use pp_cert::{Entry, Held};
+use pp_cert::{Entry, Held, MOST_COUNTED};
 use std::alloc::{AllocError, Global};
 
 /// The place of the slot's entry, if it has one.
@@ -58,4 +59,46 @@ pub fn held_as(
         after[place] = before[place].held_as(held);
     }
     Ok(after)
+}
+
+/// The most pages that the bundle pins, as the note says; 0 without an entry.
+pub(crate) fn bound_at(note: &[Entry], slot: u8) -> u16
+    ensures { result ≡ bound_at note.now slot }
+{
+    match note.iter().find(|entry| entry.is_bundle_of(slot)) {
+        Some(entry) => entry.pins(),
+        None => 0,
+    }
+}
+
+/// What is held without the bundle. `AllocError` where memory runs out.
+pub(crate) fn scattered(alloc: Global, before: &[Entry], slot: u8) -> Result<Vec<Entry>, AllocError>
+    ensures { IfOk result (λ after. after.items ≡ without_bundle slot before.now) }
+{
+    let mut after = Vec::from_slice(alloc, before)?;
+    after.retain(|entry| !entry.is_bundle_of(slot));
+    Ok(after)
+}
+
+/// What is held with this bound for the bundle, at its place by rising slot. `AllocError` where memory runs out.
+pub(crate) fn bounded(
+    alloc: Global,
+    before: &[Entry],
+    slot: u8,
+    bound: u16,
+) -> Result<Vec<Entry>, AllocError>
+    ensures { IfOk result (λ after. after.items ≡ with_bound slot bound before.now) }
+{
+    let others = scattered(alloc, before, slot)?;
+    inserted(alloc, &others, Entry::Bundle { slot, bound })
+}
+
+/// What is held with one more page in the bundle, whose bound counts no further than to the first that is too large.
+/// `AllocError` where memory runs out.
+pub(crate) fn gathered(alloc: Global, before: &[Entry], slot: u8) -> Result<Vec<Entry>, AllocError>
+    ensures { IfOk result (λ after. after.items
+        ≡ with_bound slot (one_more false (bound_at before.now slot)) before.now) }
+{
+    let bound = bound_at(before, slot).saturating_add(1).min(MOST_COUNTED);
+    bounded(alloc, before, slot, bound)
 }

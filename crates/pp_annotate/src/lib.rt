@@ -3,6 +3,7 @@
 
 mod entries;
 mod error;
+mod growth;
 mod maker;
 mod writing;
 

@@ -3,17 +3,19 @@
 ghost use Rattle.std.specs.Prelude.{◌≡◌, IfOk, Err, Some, [], ◌∷◌};
 ghost use Rattle.pp_settings.specs.Settings.{geometry_of};
 ghost use Rattle.pp_plan.specs.View.{sequence_of};
+ghost use Rattle.pp_plan.specs.Rules.{uses_bundle};
+ghost use Rattle.pp_plan.specs.Terms.{IsPlan};
 ghost use Rattle.pp_cert.specs.declared.check_error.CheckError.{CheckError};
 ghost use Rattle.pp_cert.specs.Claims.{Claims, claims_of, AreClaims};
 ghost use Rattle.pp_cert.specs.Walk.{Certifies, first_fault, tests};
 ghost use Rattle.pp_cert.specs.Longest.{sequence_longest, IsLongest};
 ghost use Rattle.pp_annotate.specs.Made.{greatest, made, sequence_notes};
 ghost use Rattle.pp_annotate.specs.Annotation.{annotation, AnswersAs, IfFault, IsPlansFault, IsBeforeLimits, IsTight};
-ghost use Rattle.pp_annotate.specs.Annotation.{IsLeast, HasNone};
+ghost use Rattle.pp_annotate.specs.Annotation.{IsLeast, HasNone, HasPagesAlone};
 
 use crate::error::AnnotateError;
 use crate::writing::Draft;
-use pp_cert::{Certificate, Note, fault_under, longest_trace};
+use pp_cert::{Certificate, Note, fault_apart_from_growth, longest_trace};
 use pp_plan::{Plan, Stmt};
 use pp_settings::Settings;
 use std::alloc::{AllocError, Global};
@@ -21,7 +23,8 @@ use std::alloc::{AllocError, Global};
 /// Makes the least certificate of the plan: what is held at each place, the pins of the note with most as peak, and
 /// the length of the longest trace as steps.
 ///
-/// What it does grows with the statements of the plan and the entries of the notes that it writes.
+/// What it does grows with the statements of the plan and the entries of the notes that it writes, and with the bundles and
+/// the loops around each statement.
 ///
 /// # Errors
 ///
@@ -36,7 +39,7 @@ pub fn annotate(
     ensures exact { AnswersAs result (annotation (geometry_of settings.now) plan.now) }
     // What is made is accepted.
     ensures accepted { IfOk result (λ c. Certifies (geometry_of settings.now) plan.now (claims_of c)) }
-    // Some beginning of a trace holds exactly `peak` slots, and some trace has exactly `steps` actions.
+    // Some beginning of a trace has exactly `peak` pins, and some trace has exactly `steps` actions.
     ensures tight { IfOk result (λ c. IsTight plan.now (claims_of c)) }
     // No accepted certificate has a smaller peak or fewer steps.
     ensures least { IfOk result (λ c. IsLeast (geometry_of settings.now) plan.now (claims_of c)) }
@@ -46,16 +49,16 @@ pub fn annotate(
     ensures only { IfFault result (λ fault. HasNone (geometry_of settings.now) plan.now) }
     // And it is never one of how a certificate was written.
     ensures faults { IfFault result IsPlansFault }
-    // Where the check refuses some certificate for such a fault of the plan, before it comes to the limits, that is the
-    // answer, at the same place.
-    ensures same { (d : Claims) (fault : CheckError)
+    // Where the check refuses some certificate without bundles of a plan of version 1 for such a fault of the plan, before it
+    // comes to the limits, that is the answer, at the same place.
+    ensures same { plan.now.version ≡ 1 → (d : Claims) (fault : CheckError) → HasPagesAlone d
         → first_fault (geometry_of settings.now) d (tests plan.now) ≡ Some fault
         → IsBeforeLimits fault
         → AnswersAs result (Err fault) }
 {
     let layout = settings.layout();
     let certificate = made(alloc, plan)?;
-    match fault_under(&layout, plan, &certificate) {
+    match fault_apart_from_growth(&layout, plan, &certificate) {
         Some(fault) => Err(AnnotateError::Fault(fault)),
         None => Ok(certificate),
     }
@@ -66,20 +69,24 @@ fn made(alloc: Global, plan: &Plan) -> Result<Certificate, AllocError>
     ensures is { IfOk result (λ c. claims_of c ≡ made plan.now) }
     // The length that the steps are counted from is that of the longest trace.
     ensures longest { IsLongest plan.now.layout plan.now.body (sequence_longest plan.now.body) }
+    // What holds of every plan.
+    ensures facts { IsPlan plan.now }
 {
     let steps = longest_trace(plan);
-    let notes = notes_of(alloc, plan.body())?;
+    let stmts = plan.body();
+    let notes = notes_of(alloc, plan, stmts)?;
     let peak = greatest(&notes) as u64;
     Ok(Certificate { peak, steps, notes })
 }
 
-/// The notes of statements, the first of which is empty.
-fn notes_of(alloc: Global, stmts: &[Stmt]) -> Result<Vec<Note>, AllocError>
-    ensures { IfOk result (λ notes. notes.items ≡ [] ∷ sequence_notes (sequence_of stmts.now) []) }
+/// The notes of the plan's statements, the first of which is empty.
+fn notes_of(alloc: Global, plan: &Plan, stmts: &[Stmt]) -> Result<Vec<Note>, AllocError>
+    ensures { IfOk result (λ notes. notes.items
+        ≡ [] ∷ sequence_notes (uses_bundle plan.now.body) (sequence_of stmts.now) []) }
 {
     let mut draft = Draft::new(alloc);
     draft.write(alloc, &[])?;
-    draft.sequence(alloc, &[], stmts)?;
+    draft.sequence(alloc, plan, &[], stmts)?;
     Ok(draft.into_notes())
 }
 

@@ -1,11 +1,12 @@
 -- What follows where every test of a certificate passes.
-use Rattle.std.proofs.Common.{◌≡◌, ◌≤◌, Some, None, List, [], ◌∷◌, ◌++◌, length, refl, sym, ap, subst, ◌∙◌, arith}
+use Rattle.std.proofs.Common.{◌≡◌, ℕ, ◌≤◌, Bool, Some, None, List, [], ◌∷◌, ◌++◌, length, refl, sym, ap, subst, ◌∙◌, arith}
 use Rattle.std.proofs.Common.{length-append}
 use Rattle.std.specs.Prelude.{is_some}
 use Rattle.pp_settings.specs.Layout.{Geometry}
 use Rattle.pp_plan.specs.declared.action.Action.{Action}
 use Rattle.pp_plan.specs.declared.action.Action.TheVariants.{Latch}
 use Rattle.pp_plan.specs.Traces.{IsTrace, Begins}
+use Rattle.pp_plan.specs.Rules.{uses_bundle}
 use Rattle.pp_plan.specs.Terms.{Terms, IsPlan}
 use Rattle.pp_cert.specs.Held.{Holdings, size_of, IsOrderly, IsAboveLatched}
 use Rattle.pp_cert.specs.Notes.{Entries}
@@ -14,6 +15,7 @@ use Rattle.pp_cert.specs.Accepted.{IsAccepted}
 use Rattle.pp_cert.proofs.Passing.{AllPass, all_pass}
 use Rattle.pp_cert.proofs.Fits.{Fits, fits_nothing, fits_empty}
 use Rattle.pp_cert.proofs.Goes.{Goes, goes_end_small, goes_split, goes_held}
+use Rattle.pp_cert.proofs.SlotKinds.{keeps_own_kinds}
 use Rattle.pp_cert.proofs.Sound.{sequence_goes}
 use Rattle.pp_cert.proofs.Lengths.{sequence_bound}
 
@@ -30,11 +32,14 @@ module _ (c : Claims) (p : Terms) (is : IsPlan p) (h : first_fault p.layout c (t
   -- a whole trace goes from nothing to nothing
   trace_goes : (t : List Action) → IsTrace p.layout p.body t → Goes p.layout c.peak [] t []
   trace_goes t r =
-      let start : Fits p.layout (note_at c 0) [] =
-      subst (λ n. Fits p.layout n []) (sym all.first.1) (fits_nothing p.layout) in
-      let to = sequence_goes p.layout is.layout c 0 p.body all.first.2 all.walk [] start t r in
+      let kind : ℕ → Bool = uses_bundle p.body in
+      let kinds = keeps_own_kinds (length p.slots) (length p.layout.extents) p.body is.body.parts is.unmixed in
+      let start : Fits p.layout kind (λ s. 0) (note_at c 0) [] =
+      subst (λ n. Fits p.layout kind (λ s. 0) n []) (sym all.first.1) (fits_nothing p.layout kind) in
+      let to =
+      sequence_goes p.layout is.layout kind c 0 p.body kinds all.first.2 all.walk (λ s. 0) (λ s e. refl) [] start t r in
       let last : note_at c (sequence_end 0 p.body) ≡ [] = length_zero (note_at c (sequence_end 0 p.body)) all.last in
-      let none = fits_empty p.layout to.0 (subst (λ n. Fits p.layout n to.0) last to.2) in
+      let none = fits_empty p.layout kind (λ s. 0) to.0 (subst (λ n. Fits p.layout kind (λ s. 0) n to.0) last to.2) in
       subst (λ m. Goes p.layout c.peak [] t m) none to.1
 
   -- a beginning of a trace goes somewhere

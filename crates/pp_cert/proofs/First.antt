@@ -2,11 +2,11 @@
 use Rattle.std.proofs.Common.{◌≡◌, ◌≢◌, inl, inr, ℕ, zero, suc, ◌≤◌, ◌<◌, Bool, true, false, nat_le, List, [], ◌∷◌}
 use Rattle.std.proofs.Common.{◌++◌, length, Option, Some, None, option_and_then, Result, Ok, Err, codes, refl, sym, ap}
 use Rattle.std.proofs.Common.{subst, ◌∙◌, arith}
-use Rattle.std.specs.Prelude.{IfOk, IfErr, slice_get}
+use Rattle.std.specs.Prelude.{not, IfOk, IfErr, slice_get}
 use Rattle.std.specs.Option.{ok_or, option_map_or}
-use Rattle.std.proofs.lemmas.Bool.{leb-true, leb-false, false≢true}
-use Rattle.serde_json.specs.Data.{unsigned, Data, number, string, array, object, Items, no_items, item, Members}
-use Rattle.serde_json.specs.Data.{no_members, member}
+use Rattle.std.proofs.lemmas.Bool.{not-false, leb-true, leb-false, false≢true}
+use Rattle.serde_json.specs.Data.{unsigned, Num, Data, null, boolean, number, string, array, object, Items, no_items, item}
+use Rattle.serde_json.specs.Data.{Members, no_members, member}
 use Rattle.serde_json.specs.Events.{items_len, members_len}
 use Rattle.serde_json.specs.Find.{as_array, as_object, as_str, as_number, as_u64, get}
 use Rattle.serde_json.specs.Read.{read}
@@ -18,26 +18,27 @@ use Rattle.pp_text.proofs.Values.{array_is, object_is, string_is, number_is, lis
 use Rattle.pp_settings.specs.Settings.{Configuration, region_named}
 use Rattle.pp_plan.specs.Terms.{Terms}
 use Rattle.pp_plan.specs.Slots.{slot_named}
+use Rattle.pp_plan.specs.Rules.{uses_bundle}
 use Rattle.pp_cert.specs.declared.certificate.Certificate.{Certificate}
 use Rattle.pp_cert.specs.declared.note.Entry.{Entry}
 use Rattle.pp_cert.specs.declared.note.Entry.TheVariants.{Slot, Bundle}
-use Rattle.pp_cert.specs.declared.note.Held.{Held}
 use Rattle.pp_cert.specs.declared.error.CertError.{CertError}
-use Rattle.pp_cert.specs.declared.error.CertError.TheVariants.{NotJson, WrongField, UnknownName, TooMany, OutOfMemory}
+use Rattle.pp_cert.specs.declared.error.CertError.TheVariants.{NotJson, WrongField, UnknownName, TooMany, WrongKind}
+use Rattle.pp_cert.specs.declared.error.CertError.TheVariants.{OutOfMemory}
 use Rattle.pp_cert.specs.CertErrors.{is_certificate_memory}
 use Rattle.pp_cert.specs.Limits.{most_notes, most_entries}
 use Rattle.pp_cert.specs.Claims.{Claims, claims_of}
 use Rattle.pp_cert.specs.Words.{held_text, held_of, certificate_keys}
-use Rattle.pp_cert.specs.Reading.{as_two, read_entry, entries_from, read_note, notes_from, list_at, number_at}
-use Rattle.pp_cert.specs.Reading.{claims_at, reading}
+use Rattle.pp_cert.specs.Reading.{as_two, read_page, read_bundle, read_entry, entries_from, read_note, notes_from}
+use Rattle.pp_cert.specs.Reading.{list_at, number_at, claims_at, reading}
 use Rattle.pp_cert.specs.Spelling.{SpellsEntry}
 use Rattle.pp_text.specs.First.{IsFirstBy}
 use Rattle.pp_text.specs.Objects.{elements}
-use Rattle.pp_cert.specs.Faults.{notes_in, Written, entries_in, EntryFault, other_form, no_slot, no_region}
-use Rattle.pp_cert.specs.Faults.{HasEntryFault, EntryBefore, NoteFault, no_object, many_entries, in_entry, HasNoteFault}
-use Rattle.pp_cert.specs.Faults.{NoteBefore, Fault, not_json, other_top, many_notes, in_note, IsTopForm, HasFault}
-use Rattle.pp_cert.specs.Faults.{IsBefore, entry_error, note_error, TellsFirst}
-use Rattle.pp_cert.proofs.Values.{two_is, held_is, held_again}
+use Rattle.pp_cert.specs.Faults.{notes_in, Written, entries_in, IsPageForm, IsBundleForm, EntryFault, other_form, no_slot}
+use Rattle.pp_cert.specs.Faults.{no_region, other_kind, HasEntryFault, EntryBefore, NoteFault, no_object, many_entries}
+use Rattle.pp_cert.specs.Faults.{in_entry, HasNoteFault, NoteBefore, Fault, not_json, other_top, many_notes, in_note}
+use Rattle.pp_cert.specs.Faults.{IsTopForm, HasFault, IsBefore, entry_error, note_error, TellsFirst}
+use Rattle.pp_cert.proofs.Values.{two_is, held_is, held_again, bound_of, bound_is, bound_again}
 use Rattle.pp_cert.proofs.Laws.{entry_found}
 
 -- ---- steps that fail
@@ -64,10 +65,6 @@ some_is x y e = cc
 
 -- ---- one entry
 
--- The value is a list of a text and of how a page is held.
-abbrev Form : Data → Type 0
-Form d = (name : List ℕ) × (h : Held) × (d ≡ array (item (string name) (item (string (held_text h)) no_items)))
-
 abbrev EntryTold : Configuration → Terms → Written → CertError → Type 0
 EntryTold c p w e = (f : EntryFault) × (entry_error f ≡ e) × IsFirstBy (HasEntryFault c p w) EntryBefore f
 
@@ -75,10 +72,18 @@ before_form : (g : EntryFault) → EntryBefore g other_form → ⊥
 before_form other_form b = b
 before_form no_slot b = b
 before_form no_region b = b
+before_form other_kind b = b
 
-form_told : (c : Configuration) (p : Terms) (w : Written) (e : CertError) → WrongField ≡ e → ¬ Form w.value
-    → EntryTold c p w e
-form_told c p w e is missing = (other_form, is, (missing, λ g b. absurd (before_form g b)))
+form_told : (c : Configuration) (p : Terms) (w : Written) (e : CertError) → WrongField ≡ e → ¬ IsPageForm w.value
+    → ¬ IsBundleForm w.value → EntryTold c p w e
+form_told c p w e is no_page no_bundle = (other_form, is, ((no_page, no_bundle), λ g b. absurd (before_form g b)))
+
+-- a number is no list, and only a number is a bundle's entry
+page_is_list : (d : Data) (name : List ℕ) (rest : Items) → d ≡ array (item (string name) rest) → as_number d ≡ None
+page_is_list d name rest is = ap as_number is
+
+bundle_is_number : (d : Data) → as_number d ≡ None → ¬ IsBundleForm d
+bundle_is_number d none has = none_some (as_number d) (unsigned has.0) none (ap as_number has.2)
 
 parts_are : (x y a b : Data) (d : Data) → d ≡ array (item x (item y no_items)) → d ≡ array (item a (item b no_items))
     → (a ≡ x) × (b ≡ y)
@@ -95,40 +100,41 @@ text_is : (x y : List ℕ) → ◌≡◌ {A = Data} (string x) (string y) → x 
 text_is x y e = cc
 
 module _ (c : Configuration) (p : Terms) where
-  entry_first : (key : List ℕ) (d : Data) (e : CertError) → read_entry c p key d ≡ Err e
+  page_first : (key : List ℕ) (d : Data) (e : CertError) → as_number d ≡ None → read_page c p key d ≡ Err e
       → EntryTold c p (record { name = key; value = d }) e
-  unfolding read_entry
-  entry_first key d e h =
+  unfolding read_page
+  page_first key d e other h =
       let w : Written = record { name = key; value = d } in
+      let told = λ (is : WrongField ≡ e) (no : ¬ IsPageForm d). form_told c p w e is no (bundle_is_number d other) in
       step (ok_or (as_array d) WrongField) _ e h
       (λ bad.
       let (none, is) = ok_or_err (as_array d) WrongField e bad in
-      form_told c p w e is (λ f. none_some (as_array d) _ none (ap as_array f.2)))
+      told is (λ f. none_some (as_array d) _ none (ap as_array f.2)))
       (λ items a h1.
       let list = array_is d items (ok_or_ok _ _ items a) in
       step (ok_or (as_two items) WrongField) _ e h1
       (λ bad.
       let (none, is) = ok_or_err (as_two items) WrongField e bad in
-      form_told c p w e is (λ f. none_some (as_two items) (string f.0, string (held_text f.1)) none
+      told is (λ f. none_some (as_two items) (string f.0, string (held_text f.1)) none
       (ap as_two (list_parts d items _ list f.2))))
       (λ two b h2.
       let tree = array_parts d items two.0 two.1 list (two_is items two (ok_or_ok _ _ two b)) in
       step (ok_or (as_str two.0) WrongField) _ e h2
       (λ bad.
       let (none, is) = ok_or_err (as_str two.0) WrongField e bad in
-      form_told c p w e is (λ f. none_some (as_str two.0) f.0 none
+      told is (λ f. none_some (as_str two.0) f.0 none
       (ap as_str (sym (parts_are two.0 two.1 _ _ d tree f.2).0))))
       (λ name n h3.
       step (ok_or (option_and_then held_of (as_str two.1)) WrongField) _ e h3
       (λ bad.
       let (none, is) = ok_or_err (option_and_then held_of (as_str two.1)) WrongField e bad in
-      form_told c p w e is (λ f. none_some (option_and_then held_of (as_str two.1)) f.1 none
+      told is (λ f. none_some (option_and_then held_of (as_str two.1)) f.1 none
       (ap (λ (x : Data). option_and_then held_of (as_str x)) (sym (parts_are two.0 two.1 _ _ d tree f.2).1)
       ∙ held_again f.1)))
       (λ held g h4.
       let first = string_is two.0 name (ok_or_ok _ _ name n) in
       let second = held_is two.1 held (ok_or_ok _ _ held g) in
-      let form : Form d = (name, held, tree ∙ (λ i. array (item (first i) (item (second i) no_items)))) in
+      let form : IsPageForm d = (name, held, tree ∙ (λ i. array (item (first i) (item (second i) no_items)))) in
       step (ok_or (slot_named p key) UnknownName) _ e h4
       (λ bad.
       let (none, is) = ok_or_err (slot_named p key) UnknownName e bad in
@@ -139,35 +145,137 @@ module _ (c : Configuration) (p : Terms) where
       (λ bad.
       let (none, is) = ok_or_err (region_named c name) UnknownName e bad in
       (no_region, is, ((name, _, form.2, none), region_before w form slot known)))
-      (λ region r h6. absurd cc))))))
+      (λ region r h6.
+      let there = ok_or_ok _ _ region r in
+      step (must (not (uses_bundle p.body slot)) WrongKind) _ e h6
+      (λ bad.
+      let (kind, is) = must_err (not (uses_bundle p.body slot)) WrongKind e bad in (
+        other_kind,
+        is,
+        (
+          (slot, known, inr (form, not-false (uses_bundle p.body slot) kind)),
+          kind_before w form slot region known there,
+        ),
+      ))
+      (λ x k h7. absurd cc)))))))
     where
       list_parts : (d : Data) (ds es : Items) → d ≡ array ds → d ≡ array es → ds ≡ es
       list_parts d ds es is also = cc
 
-      slot_before : (w : Written) → Form w.value → (g : EntryFault) → EntryBefore g no_slot → ¬ HasEntryFault c p w g
-      slot_before w form other_form b has = has form
+      slot_before : (w : Written) → IsPageForm w.value → (g : EntryFault) → EntryBefore g no_slot
+          → ¬ HasEntryFault c p w g
+      slot_before w form other_form b has = has.0 form
       slot_before w form no_slot b has = b
       slot_before w form no_region b has = b
+      slot_before w form other_kind b has = b
 
-      region_before : (w : Written) → Form w.value → (slot : ℕ) → slot_named p w.name ≡ Some slot
+      region_before : (w : Written) → IsPageForm w.value → (slot : ℕ) → slot_named p w.name ≡ Some slot
           → (g : EntryFault) → EntryBefore g no_region → ¬ HasEntryFault c p w g
-      region_before w form slot known other_form b has = has form
+      region_before w form slot known other_form b has = has.0 form
       region_before w form slot known no_slot b has = none_some (slot_named p w.name) slot has known
       region_before w form slot known no_region b has = b
+      region_before w form slot known other_kind b has = b
+
+      kind_before : (w : Written) (form : IsPageForm w.value) (slot region : ℕ) → slot_named p w.name ≡ Some slot
+          → region_named c form.0 ≡ Some region → (g : EntryFault) → EntryBefore g other_kind → ¬ HasEntryFault c p w g
+      kind_before w form slot region known there other_form b has = has.0 form
+      kind_before w form slot region known there no_slot b has = none_some (slot_named p w.name) slot has known
+      kind_before w form slot region known there no_region b has =
+          let same : has.0 ≡ form.0 = text_is has.0 form.0 (first_is _ _ _ _ w.value form.2 has.2) in
+          none_some (region_named c form.0) region (ap (region_named c) (sym same) ∙ has.3) there
+      kind_before w form slot region known there other_kind b has = b
+
+  bundle_first : (key : List ℕ) (n : Num) (e : CertError) → read_bundle p key (number n) ≡ Err e
+      → EntryTold c p (record { name = key; value = number n }) e
+  unfolding read_bundle
+  bundle_first key n e h =
+      let d : Data = number n in
+      let w : Written = record { name = key; value = d } in
+      step (ok_or (bound_of d) WrongField) _ e h
+      (λ bad.
+      let (none, is) = ok_or_err (bound_of d) WrongField e bad in
+      form_told c p w e is (λ f. no_list n f.0 _ f.2)
+      (λ f. none_some (bound_of d) f.0 none (ap bound_of f.2 ∙ bound_again f.0 f.1)))
+      (λ bound k h1.
+      let (value, within) = bound_is d bound (ok_or_ok _ _ bound k) in
+      let form : IsBundleForm d = (bound, within, value) in
+      step (ok_or (slot_named p key) UnknownName) _ e h1
+      (λ bad.
+      let (none, is) = ok_or_err (slot_named p key) UnknownName e bad in
+      (no_slot, is, (none, slot_before form)))
+      (λ slot s h2.
+      let known = ok_or_ok _ _ slot s in
+      step (must (uses_bundle p.body slot) WrongKind) _ e h2
+      (λ bad.
+      let (kind, is) = must_err (uses_bundle p.body slot) WrongKind e bad in
+      (other_kind, is, ((slot, known, inl (form, kind)), kind_before form slot known)))
+      (λ x b h3. absurd cc)))
+    where
+      no_list : (n : Num) (name : List ℕ) (rest : Items) → number n ≡ array (item (string name) rest) → ⊥
+      no_list n name rest is = none_some (as_number (number n)) n (page_is_list (number n) name rest is) refl
+
+      slot_before : IsBundleForm (number n) → (g : EntryFault) → EntryBefore g no_slot
+          → ¬ HasEntryFault c p (record { name = key; value = number n }) g
+      slot_before form other_form b has = has.1 form
+      slot_before form no_slot b has = b
+      slot_before form no_region b has = b
+      slot_before form other_kind b has = b
+
+      kind_before : IsBundleForm (number n) → (slot : ℕ) → slot_named p key ≡ Some slot
+          → (g : EntryFault) → EntryBefore g other_kind
+          → ¬ HasEntryFault c p (record { name = key; value = number n }) g
+      kind_before form slot known other_form b has = has.1 form
+      kind_before form slot known no_slot b has = none_some (slot_named p key) slot has known
+      kind_before form slot known no_region b has = no_list n has.0 has.1 has.2
+      kind_before form slot known other_kind b has = b
+
+  entry_first : (key : List ℕ) (d : Data) (e : CertError) → read_entry c p key d ≡ Err e
+      → EntryTold c p (record { name = key; value = d }) e
+  unfolding read_entry
+  entry_first key (number n) e h = bundle_first key n e h
+  entry_first key null e h = page_first key null e refl h
+  entry_first key (boolean b) e h = page_first key (boolean b) e refl h
+  entry_first key (string text) e h = page_first key (string text) e refl h
+  entry_first key (array ds) e h = page_first key (array ds) e refl h
+  entry_first key (object ms) e h = page_first key (object ms) e refl h
 
   -- an entry that was read has no fault
   entry_clear : (key : List ℕ) (d : Data) (x : Entry) → read_entry c p key d ≡ Ok x
       → (f : EntryFault) → ¬ HasEntryFault c p (record { name = key; value = d }) f
   entry_clear key d x h f has = spelled_clear key d x (entry_found c p key d x h) f has
     where
+      same_slot : (key : List ℕ) (s t : ℕ) → slot_named p key ≡ Some s → slot_named p key ≡ Some t → s ≡ t
+      same_slot key s t at_s at_t = cc
+
+      two_kinds : (key : List ℕ) (s t : ℕ) → slot_named p key ≡ Some s → slot_named p key ≡ Some t
+          → uses_bundle p.body s ≡ false → uses_bundle p.body t ≡ true → ⊥
+      two_kinds key s t at_s at_t plain bundle =
+          let same = same_slot key s t at_s at_t in
+          false≢true (sym plain ∙ ap (uses_bundle p.body) same ∙ bundle)
+
+      two_forms : (d : Data) (name : List ℕ) (rest : Items) (k : ℕ) → d ≡ array (item (string name) rest)
+          → d ≡ number (unsigned k) → ⊥
+      two_forms d name rest k list bound =
+          none_some (as_number d) (unsigned k) (page_is_list d name rest list) (ap as_number bound)
+
       spelled_clear : (key : List ℕ) (d : Data) (x : Entry) → SpellsEntry c p key d x
           → (f : EntryFault) → ¬ HasEntryFault c p (record { name = key; value = d }) f
-      spelled_clear key d (Bundle t k) s f has = s
-      spelled_clear key d (Slot t r h) s other_form has = has (s.name, h, s.value)
+      spelled_clear key d (Bundle t k) s other_form has = has.1 (k, s.bound, s.value)
+      spelled_clear key d (Bundle t k) s no_slot has = none_some (slot_named p key) t has s.slot
+      spelled_clear key d (Bundle t k) s no_region has = two_forms d has.0 has.1 k has.2 s.value
+      spelled_clear key d (Bundle t k) s other_kind (slot, at, inl (form, plain)) =
+          two_kinds key slot t at s.slot plain s.bundle
+      spelled_clear key d (Bundle t k) s other_kind (slot, at, inr (form, bundle)) =
+          two_forms d form.0 _ k form.2 s.value
+      spelled_clear key d (Slot t r h) s other_form has = has.0 (s.name, h, s.value)
       spelled_clear key d (Slot t r h) s no_slot has = none_some (slot_named p key) t has s.slot
       spelled_clear key d (Slot t r h) s no_region has =
           let same : has.0 ≡ s.name = text_is has.0 s.name (first_is _ _ _ _ d s.value has.2) in
           none_some (region_named c s.name) r (ap (region_named c) (sym same) ∙ has.3) s.region
+      spelled_clear key d (Slot t r h) s other_kind (slot, at, inl (form, plain)) =
+          two_forms d s.name _ form.0 s.value form.2
+      spelled_clear key d (Slot t r h) s other_kind (slot, at, inr (form, bundle)) =
+          two_kinds key t slot s.slot at s.plain bundle
 
   -- ---- the entries of a note
 

@@ -1,12 +1,13 @@
 -- What is read is spelled so, and what is spelled so is read.
 use Rattle.std.proofs.Common.{◌≡◌, ℕ, suc, ◌≤◌, nat_le, List, [], ◌∷◌, ◌++◌, length, Result, Ok, Err, codes, refl, sym}
+use Rattle.std.specs.Prelude.{not}
 use Rattle.std.proofs.Common.{ap, subst, ◌∙◌, append_assoc, arith}
 use Rattle.std.specs.Prelude.{All, IfOk, option_and_then}
 use Rattle.std.specs.Option.{ok_or}
-use Rattle.std.proofs.lemmas.Bool.{leb-true, le-leb}
+use Rattle.std.proofs.lemmas.Bool.{not-true, leb-true, le-leb}
 use Rattle.std.proofs.lemmas.List.{append-nil}
 use Rattle.std.proofs.lemmas.List.Elements.{All-nil, All-cons, All-head, All-tail}
-use Rattle.serde_json.specs.Data.{Data, string, array, object, Items, no_items, item, Members, no_members, member}
+use Rattle.serde_json.specs.Data.{Data, number, string, array, object, Items, no_items, item, Members, no_members, member}
 use Rattle.serde_json.specs.Events.{items_len, members_len}
 use Rattle.serde_json.specs.Find.{as_array, as_object, as_str}
 use Rattle.serde_json.specs.Read.{read}
@@ -18,19 +19,20 @@ use Rattle.pp_text.proofs.Values.{array_is, object_is, string_is, number_is, lis
 use Rattle.pp_settings.specs.Settings.{Configuration, region_named}
 use Rattle.pp_plan.specs.Terms.{Terms}
 use Rattle.pp_plan.specs.Slots.{slot_named}
+use Rattle.pp_plan.specs.Rules.{uses_bundle}
 use Rattle.pp_cert.specs.declared.certificate.Certificate.{Certificate}
 use Rattle.pp_cert.specs.declared.note.Entry.{Entry}
 use Rattle.pp_cert.specs.declared.note.Entry.TheVariants.{Slot, Bundle}
 use Rattle.pp_cert.specs.declared.error.CertError.{CertError}
-use Rattle.pp_cert.specs.declared.error.CertError.TheVariants.{NotJson, WrongField, UnknownName, TooMany}
+use Rattle.pp_cert.specs.declared.error.CertError.TheVariants.{NotJson, WrongField, UnknownName, TooMany, WrongKind}
 use Rattle.pp_cert.specs.CertErrors.{is_certificate_memory}
 use Rattle.pp_cert.specs.Limits.{most_notes, most_entries}
 use Rattle.pp_cert.specs.Claims.{Claims, claims_of, AreFew}
 use Rattle.pp_cert.specs.Words.{held_text, held_of, certificate_keys}
-use Rattle.pp_cert.specs.Reading.{as_two, read_entry, entries_from, read_note, notes_from, list_at, number_at}
-use Rattle.pp_cert.specs.Reading.{claims_at, reading}
+use Rattle.pp_cert.specs.Reading.{as_two, read_page, read_bundle, read_entry, entries_from, read_note, notes_from}
+use Rattle.pp_cert.specs.Reading.{list_at, number_at, claims_at, reading}
 use Rattle.pp_cert.specs.Spelling.{SpellsEntry, SpellsEntries, SpellsNotes, Spells, IsText}
-use Rattle.pp_cert.proofs.Values.{two_is, held_is, held_again}
+use Rattle.pp_cert.proofs.Values.{two_is, held_is, held_again, bound_of, bound_is, bound_again}
 
 -- ---- entries
 
@@ -38,29 +40,53 @@ pair_is : (d : Data) (ds : Items) (a b x y : Data) → d ≡ array ds → ds ≡
     → d ≡ array (item x (item y no_items))
 pair_is d ds a b x y is are first second = cc
 
-pub entry_found : (c : Configuration) (p : Terms) (key : List ℕ) (d : Data) (e : Entry) → read_entry c p key d ≡ Ok e
+page_found : (c : Configuration) (p : Terms) (key : List ℕ) (d : Data) (e : Entry) → read_page c p key d ≡ Ok e
     → SpellsEntry c p key d e
-unfolding read_entry
-entry_found c p key d e h =
+unfolding read_page
+page_found c p key d e h =
     let (items, a, h1) = bind_ok (ok_or (as_array d) WrongField) _ e h in
     let (two, b, h2) = bind_ok (ok_or (as_two items) WrongField) _ e h1 in
     let (name, n, h3) = bind_ok (ok_or (as_str two.0) WrongField) _ e h2 in
     let (held, g, h4) = bind_ok (ok_or (option_and_then held_of (as_str two.1)) WrongField) _ e h3 in
     let (slot, s, h5) = bind_ok (ok_or (slot_named p key) UnknownName) _ e h4 in
     let (region, r, h6) = bind_ok (ok_or (region_named c name) UnknownName) _ e h5 in
+    let (x, plain, h7) = bind_ok (must (not (uses_bundle p.body slot)) WrongKind) _ e h6 in
     let made : Entry = Slot slot region held in
     let is =
     pair_is d items two.0 two.1 (string name) (string (held_text held)) (array_is d items (ok_or_ok _ _ items a))
     (two_is items two (ok_or_ok _ _ two b)) (string_is two.0 name (ok_or_ok _ _ name n))
     (held_is two.1 held (ok_or_ok _ _ held g)) in
-    subst (λ (x : Entry). SpellsEntry c p key d x) (ok_is made e h6)
-    (record { slot = ok_or_ok _ _ slot s; name = name; region = ok_or_ok _ _ region r; value = is })
+    subst (λ (x : Entry). SpellsEntry c p key d x) (ok_is made e h7) (record {
+      slot = ok_or_ok _ _ slot s;
+      plain = not-true (uses_bundle p.body slot) (must_ok _ _ x plain);
+      name = name;
+      region = ok_or_ok _ _ region r;
+      value = is;
+    })
+
+bundle_found : (c : Configuration) (p : Terms) (key : List ℕ) (d : Data) (e : Entry) → read_bundle p key d ≡ Ok e
+    → SpellsEntry c p key d e
+unfolding read_bundle
+bundle_found c p key d e h =
+    let (bound, k, h1) = bind_ok (ok_or (bound_of d) WrongField) _ e h in
+    let (slot, s, h2) = bind_ok (ok_or (slot_named p key) UnknownName) _ e h1 in
+    let (x, bundle, h3) = bind_ok (must (uses_bundle p.body slot) WrongKind) _ e h2 in
+    let made : Entry = Bundle slot bound in
+    let (is, within) = bound_is d bound (ok_or_ok _ _ bound k) in
+    subst (λ (x : Entry). SpellsEntry c p key d x) (ok_is made e h3)
+    (record { slot = ok_or_ok _ _ slot s; bundle = must_ok _ _ x bundle; bound = within; value = is })
+
+pub entry_found : (c : Configuration) (p : Terms) (key : List ℕ) (d : Data) (e : Entry) → read_entry c p key d ≡ Ok e
+    → SpellsEntry c p key d e
+unfolding read_entry
+entry_found c p key (number n) e h = bundle_found c p key (number n) e h
+entry_found c p key d e h = page_found c p key d e h
 
 pub entry_again : (c : Configuration) (p : Terms) (key : List ℕ) (d : Data) (e : Entry) → SpellsEntry c p key d e
     → read_entry c p key d ≡ Ok e
-unfolding read_entry
-entry_again c p key d (Slot t r h) s = rw (s.value, held_again h, s.slot, s.region) refl
-entry_again c p key d (Bundle t k) s = absurd s
+unfolding read_entry read_page read_bundle
+entry_again c p key d (Slot t r h) s = rw (s.value, held_again h, s.slot, s.region, s.plain) refl
+entry_again c p key d (Bundle t k) s = rw (s.value, bound_again k s.bound, s.slot, s.bundle) refl
 
 pub entries_found : (c : Configuration) (p : Terms) (earlier : List Entry) (ms : Members) (all : List Entry)
     → entries_from c p earlier ms ≡ Ok all → (es : List Entry) × (all ≡ earlier ++ es) × SpellsEntries c p ms es

@@ -8,9 +8,9 @@ use Rattle.std.proofs.lemmas.Option.{slice_get-get_or}
 use Rattle.pp_settings.specs.declared.extent.Extent.{Extent}
 use Rattle.pp_settings.specs.Layout.{Geometry, HasPage, IsLayout, IsExtent, has_page}
 use Rattle.pp_plan.specs.declared.action.Action.{Action}
-use Rattle.pp_plan.specs.declared.action.Action.TheVariants.{Fix, Unfix, Latch, Unlatch, Choose}
-use Rattle.pp_plan.specs.Tree.{Step, fix, unfix, latch, unlatch, Statement, step, loop, choice, Sequence, skip, andthen}
-use Rattle.pp_plan.specs.Tree.{Alternatives, none, either, branch_count}
+use Rattle.pp_plan.specs.declared.action.Action.TheVariants.{Fix, Unfix, Latch, Unlatch, Gather, Scatter, Choose}
+use Rattle.pp_plan.specs.Tree.{Step, fix, unfix, latch, unlatch, gather, scatter, Statement, step, loop, choice}
+use Rattle.pp_plan.specs.Tree.{Sequence, skip, andthen, Alternatives, none, either, branch_count}
 use Rattle.pp_plan.specs.Traces.{Repeats, IsStatementTrace, IsTrace, IsBranchTrace}
 use Rattle.pp_plan.specs.Rules.{IsStatement, IsSequence, AreAlternatives}
 use Rattle.pp_cert.specs.Longest.{statement_longest, sequence_longest, alternatives_longest, IsLongest}
@@ -73,6 +73,10 @@ module _ (g : Geometry) (l : IsLayout g) (slots : ℕ) where
   step_reached (unfix s) h = (Unfix s ∷ [], refl, (Unfix s, refl, refl))
   step_reached (latch s m) h = (Latch s m ∷ [], refl, (Latch s m, refl, (refl, refl)))
   step_reached (unlatch s) h = (Unlatch s ∷ [], refl, (Unlatch s, refl, refl))
+  step_reached (gather s r) h =
+      let p = page_of g r l h.1 in
+      (Gather s p.0 ∷ [], refl, (Gather s p.0, refl, (refl, p.1)))
+  step_reached (scatter s) h = (Scatter s ∷ [], refl, (Scatter s, refl, refl))
 
   mutual
     pub statement_reached : (s : Statement) → IsStatement slots (length g.extents) s → (t : List Action)

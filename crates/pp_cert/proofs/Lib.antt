@@ -5,10 +5,12 @@ pub mod Steps
 pub mod Places
 pub mod Rules
 pub mod Pins
+pub mod Bounds
 pub mod Slots
 pub mod Pages
 pub mod Sums
 pub mod Fits
+pub mod SlotKinds
 pub mod Goes
 pub mod Sound
 pub mod Lengths

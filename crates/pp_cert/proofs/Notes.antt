@@ -1,6 +1,6 @@
 -- The notes that a text spells have entries of the plan and the settings, by rising slot.
 use Rattle.std.proofs.Common.{◌≡◌, ℕ, ◌<◌, Bool, false, cond, nat_lt, List, [], ◌∷◌, length, get_or, Option, Some, None}
-use Rattle.std.proofs.Common.{Ordering, Less, Equal, Greater, codes, nat_cmp, refl, sym, ap, subst, ◌∙◌, arith}
+use Rattle.std.proofs.Common.{Ordering, Less, Equal, Greater, codes, nat_cmp, sym, ap, subst, ◌∙◌, arith}
 use Rattle.std.specs.Prelude.{All, AllPairs, IsTrue, IfOk, Result, Ok, Err}
 use Rattle.std.specs.List.{position, position_or_len}
 use Rattle.std.specs.Str.{bytes_eq}
@@ -81,16 +81,22 @@ AllPairs-nil R i j d l within = absurd (omega arith)
 spelled_slot : (c : Configuration) (p : Terms) (key : List ℕ) (d : Data) (e : Entry) → SpellsEntry c p key d e
     → slot_named p key ≡ Some (entry_slot e)
 spelled_slot c p key d (Slot t r h) s = s.slot
-spelled_slot c p key d (Bundle t k) s = absurd s
+spelled_slot c p key d (Bundle t k) s = s.slot
 
 spelled_entry : (c : Configuration) (p : Terms) (key : List ℕ) (d : Data) (e : Entry) → SpellsEntry c p key d e
     → IsEntry c p e
 spelled_entry c p key d (Slot t r h) s = record {
   slot = position_below (λ n. bytes_eq n key) p.slots t s.slot;
+  kind = s.plain;
   region = position_below (λ r. bytes_eq r.name s.name) c.regions r s.region;
-  plain = refl;
+  bound = tt;
 }
-spelled_entry c p key d (Bundle t k) s = absurd s
+spelled_entry c p key d (Bundle t k) s = record {
+  slot = position_below (λ n. bytes_eq n key) p.slots t s.slot;
+  kind = s.bundle;
+  region = tt;
+  bound = s.bound;
+}
 
 entries_above : (c : Configuration) (p : Terms) → IsPlan p → (j : List ℕ) (a : ℕ) (ms : Members) (es : List Entry)
     → slot_named p j ≡ Some a → IsBeforeAll j ms → SpellsEntries c p ms es → All (λ e. a < entry_slot e) es

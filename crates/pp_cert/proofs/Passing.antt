@@ -1,24 +1,28 @@
 -- Tests that pass, and notes and layouts that are the same.
-use Rattle.std.proofs.Common.{◌≡◌, ℕ, ◌+◌, ◌≤◌, Bool, true, false, Option, Some, None, List, [], ◌∷◌, ◌++◌, length}
-use Rattle.std.proofs.Common.{refl, ap, ◌∙◌}
-use Rattle.std.specs.Prelude.{◌&&◌, ◌==◌, is_some, if◌then◌else◌, slice_get, unwrap_or}
+use Rattle.std.proofs.Common.{◌≡◌, ℕ, ◌+◌, ◌-◌, ◌*◌, ◌≤◌, Bool, true, false, cond, Option, Some, None, List, [], ◌∷◌}
+use Rattle.std.proofs.Common.{◌++◌, length, refl, sym, ap, ◌∙◌, arith, inl, inr}
+use Rattle.std.specs.Prelude.{◌⊎◌, ◌&&◌, ◌||◌, ◌==◌, not, nat_le, is_some, if◌then◌else◌, slice_get, unwrap_or}
 use Rattle.std.specs.Cmp.Lexicographic.{pointwise}
 use Rattle.std.proofs.lemmas.Bool.{and_parts, leb-true, eqb-true}
 use Rattle.pp_settings.specs.declared.extent.Extent.{Extent}
 use Rattle.pp_settings.specs.Layout.{Geometry}
+use Rattle.pp_plan.specs.Tree.{Step, fix, unfix, latch, unlatch, gather, scatter, Sequence, scatters}
 use Rattle.pp_plan.specs.Terms.{Terms}
 use Rattle.pp_cert.specs.declared.note.Held.{Held}
 use Rattle.pp_cert.specs.declared.note.Held.TheVariants.{Free, S, X}
 use Rattle.pp_cert.specs.declared.note.Entry.{Entry}
 use Rattle.pp_cert.specs.declared.note.Entry.TheVariants.{Slot, Bundle}
 use Rattle.pp_cert.specs.declared.check_error.CheckError.{CheckError}
-use Rattle.pp_cert.specs.Notes.{Entries, note_pins, same_held, same_entry, same_note}
+use Rattle.pp_cert.specs.Notes.{Entries, note_pins, entry_slot, is_bundle, is_bundle_of, entry_at, bundle_at, bound_at}
+use Rattle.pp_cert.specs.Notes.{plain_part, same_held, same_entry, same_note, is_in_form, is_begun, is_back, has_grown}
+use Rattle.pp_cert.specs.Notes.{all_bundles, begins_turns, ends_as_begun, grows_by_turns, noted_after, noted_with}
 use Rattle.pp_cert.specs.Longest.{sequence_longest}
 use Rattle.pp_cert.specs.Walk.{Claims, note_at, Expectation, empty, expected_note, Test, same_settings, there}
-use Rattle.pp_cert.specs.Walk.{as_expected, within_peak, holds_nothing, no_more_notes, steps_allowed, steps_enough}
+use Rattle.pp_cert.specs.Walk.{as_expected, may_begin, turn_tests, within_peak, holds_nothing, no_more_notes, steps_allowed, steps_enough}
 use Rattle.pp_cert.specs.Walk.{peak_allowed, passes, fault_of, first_fault, note_tests, sequence_tests, sequence_end}
 use Rattle.pp_cert.specs.Walk.{tests, same_extent, same_layout, most_steps}
 use Rattle.pp_cert.proofs.Slots.{same_number}
+use Rattle.pp_cert.proofs.Pages.{bound_on, page_of_part}
 
 -- ---- tests that pass
 
@@ -136,13 +140,136 @@ note_passes g c k e h =
       leb-true (note_pins (note_at c k)) c.peak r.0,
     )
 
+-- ---- a loop
+
+-- what is tested of each bundle of a note holds of each slot that has a bound in it
+by_entries : (P : ℕ → Bool) (n : Entries) (s : ℕ) → all_bundles P n ≡ true → (P s ≡ true) ⊎ (bound_at n s ≡ 0)
+by_entries P [] s h = inr refl
+by_entries P (y ∷ n) s h =
+    let p = and_parts (not (is_bundle y) || P (entry_slot y)) (all_bundles P n) h in
+    elim (is_bundle_of s y) as (λ b. is_bundle_of s y ≡ b
+    → (P s ≡ true) ⊎ (bound_on (cond b (Some y) (bundle_at n s)) ≡ 0)) [
+      | true ↦ λ e. inl (here y e p.0)
+      | false ↦ λ e. by_entries P n s p.1
+    ] refl
+  where
+    here : (y : Entry) → is_bundle_of s y ≡ true → (not (is_bundle y) || P (entry_slot y)) ≡ true → P s ≡ true
+    here (Slot t r k) e t_ = absurd (cc)
+    here (Bundle t k) e t_ = ap P (sym (eqb-true t s e)) ∙ t_
+
+begun_zero : (sc : Bool) (b f : ℕ) → b ≡ 0 → f ≡ 0 → is_begun sc b f ≡ true
+begun_zero sc b f h k =
+    (λ i. is_begun sc (h i) (k i)) ∙ elim sc as (λ x. is_begun x 0 0 ≡ true) [ true ↦ refl | false ↦ refl ]
+
+back_zero : (sc : Bool) (b l : ℕ) → b ≡ 0 → l ≡ 0 → is_back sc b l ≡ true
+back_zero sc b l h k =
+    (λ i. is_back sc (h i) (k i)) ∙ elim sc as (λ x. is_back x 0 0 ≡ true) [ true ↦ refl | false ↦ refl ]
+
+times_zero : (m : ℕ) → m * 0 ≡ 0
+times_zero m = omega arith
+
+grown_zero : (turns : ℕ) (sc : Bool) (b f l : ℕ) → b ≡ 0 → f ≡ 0 → l ≡ 0 → has_grown turns sc b f l ≡ true
+grown_zero turns sc b f l h k j =
+    (λ i. has_grown turns sc (h i) (k i) (j i)) ∙ elim sc as (λ x. has_grown turns x 0 0 0 ≡ true) [
+      | true ↦ refl
+      | false ↦ ap (λ x. 0 == x) (let z : 0 + (turns - 1) * (0 - 0) ≡ 0 = omega (arith, times_zero (turns - 1)) in z)
+    ]
+
+-- what is tested of the bundles of two notes, or of three, holds at each slot
+at_two : (P : ℕ → Bool) (m n : Entries) (s : ℕ) → all_bundles P m ≡ true → all_bundles P n ≡ true
+    → (bound_at m s ≡ 0 → bound_at n s ≡ 0 → P s ≡ true) → P s ≡ true
+at_two P m n s h k none =
+    elim (by_entries P m s h) [
+      | inl a ↦ a
+      | inr a ↦ elim (by_entries P n s k) [ inl b ↦ b | inr b ↦ none a b ]
+    ]
+
+at_three : (P : ℕ → Bool) (m n o : Entries) (s : ℕ) → all_bundles P m ≡ true → all_bundles P n ≡ true
+    → all_bundles P o ≡ true → (bound_at m s ≡ 0 → bound_at n s ≡ 0 → bound_at o s ≡ 0 → P s ≡ true) → P s ≡ true
+at_three P m n o s h k j none =
+    elim (by_entries P o s j) [ inl a ↦ a | inr a ↦ at_two P m n s h k (λ b d. none b d a) ]
+
+-- What holds of a slot in a loop whose tests pass: the bound at the body's end is that at its first place or more, the bound
+-- at the first place is that of the last turn, and a bundle that is scattered has one bound.
+pub record TurnsFit (turns : ℕ) (scattered : Bool) (before first last : ℕ) : Type 0 where
+  pub rises : first ≤ last
+  pub starts : first ≡ before + (turns - 1) * (last - first)
+  pub stays : scattered ≡ true → (first ≡ before) × (last ≡ before)
+
+turns_fit : (turns : ℕ) (sc : Bool) (b f l : ℕ) → is_begun sc b f ≡ true → is_back sc b l ≡ true
+    → has_grown turns sc b f l ≡ true → TurnsFit turns sc b f l
+turns_fit turns true b f l h k g =
+    let e : f ≡ b = eqb-true f b h in
+    let d : l ≡ b = eqb-true l b k in
+    let z : l - f ≡ 0 = omega (arith, e, d) in
+    record {
+      rises = omega (arith, e, d);
+      starts = e ∙ omega (arith, ap (λ x. (turns - 1) * x) z, times_zero (turns - 1));
+      stays = λ t. (e, d);
+    }
+turns_fit turns false b f l h k g =
+    let p = and_parts (nat_le f l) (f == b + (turns - 1) * (l - f)) g in
+    record {
+      rises = leb-true f l p.0;
+      starts = eqb-true f (b + (turns - 1) * (l - f)) p.1;
+      stays = λ t. absurd (cc);
+    }
+
+pages_same : (a b : Entries) → same_note (plain_part a) (plain_part b) ≡ true → (s : ℕ) → entry_at a s ≡ entry_at b s
+pages_same a b h s =
+    sym (page_of_part a s) ∙ ap (λ n. entry_at n s) (note_same (plain_part a) (plain_part b) h) ∙ page_of_part b s
+
+-- The notes at a loop's place, at its body's first place and at its body's end.
+pub record LoopFits (turns : ℕ) (b : Sequence) (before first last : Entries) : Type 0 where
+  pub first_pages : (s : ℕ) → entry_at first s ≡ entry_at before s
+  pub last_pages : (s : ℕ) → entry_at last s ≡ entry_at before s
+  pub bounds : (s : ℕ) → TurnsFit turns (scatters b s) (bound_at before s) (bound_at first s) (bound_at last s)
+
+pub loop_fits : (turns : ℕ) (b : Sequence) (before first last : Entries)
+    → begins_turns (scatters b) before first ≡ true → ends_as_begun (scatters b) before last ≡ true
+    → grows_by_turns turns (scatters b) before first last ≡ true → LoopFits turns b before first last
+loop_fits turns b before first last h k g =
+    let P : ℕ → Bool = λ s. is_begun (scatters b s) (bound_at before s) (bound_at first s) in
+    let Q : ℕ → Bool = λ s. is_back (scatters b s) (bound_at before s) (bound_at last s) in
+    let R : ℕ → Bool = λ s. has_grown turns (scatters b s) (bound_at before s) (bound_at first s) (bound_at last s) in
+    let p =
+    and_parts (is_in_form first)
+    (same_note (plain_part first) (plain_part before) && (all_bundles P before && all_bundles P first)) h in
+    let q = and_parts (same_note (plain_part first) (plain_part before)) (all_bundles P before && all_bundles P first) p.1 in
+    let r = and_parts (all_bundles P before) (all_bundles P first) q.1 in
+    let t = and_parts (same_note (plain_part last) (plain_part before)) (all_bundles Q before && all_bundles Q last) k in
+    let u = and_parts (all_bundles Q before) (all_bundles Q last) t.1 in
+    let v = and_parts (all_bundles R before) (all_bundles R first && all_bundles R last) g in
+    let w = and_parts (all_bundles R first) (all_bundles R last) v.1 in
+    record {
+      first_pages = pages_same first before q.0;
+      last_pages = pages_same last before t.0;
+      bounds = λ s. turns_fit turns (scatters b s) (bound_at before s) (bound_at first s) (bound_at last s)
+          (at_two P before first s r.0 r.1
+          (begun_zero (scatters b s) (bound_at before s) (bound_at first s)))
+          (at_two Q before last s u.0 u.1 (back_zero (scatters b s) (bound_at before s) (bound_at last s)))
+          (at_three R before first last s v.0 w.0 w.1
+          (grown_zero turns (scatters b s) (bound_at before s) (bound_at first s) (bound_at last s)));
+    }
+
+-- The first note of a loop's body that passes its tests stands at its place, may begin the turns, and is small.
+pub turn_passes : (g : Geometry) (c : Claims) (k before : ℕ) (b : Sequence)
+    → first_fault g c (turn_tests k before b) ≡ None
+    → (slice_get c.notes k ≡ Some (note_at c k)) × (begins_turns (scatters b) (note_at c before) (note_at c k) ≡ true)
+    × (note_pins (note_at c k) ≤ c.peak)
+turn_passes g c k before b h =
+    let p = first_passes g c (there k) (may_begin k before b ∷ within_peak k ∷ []) h in
+    let q = first_passes g c (may_begin k before b) (within_peak k ∷ []) p.1 in
+    let r = first_passes g c (within_peak k) [] q.1 in
+    (some_of (slice_get c.notes k) p.0, q.0, leb-true (note_pins (note_at c k)) c.peak r.0)
+
 -- ---- all tests of a plan
 
 -- What holds where every test of the claims passes.
 pub record AllPass (g : Geometry) (p : Terms) (c : Claims) : Type 0 where
   pub settings : g ≡ p.layout
   pub first : (slice_get c.notes 0 ≡ Some (note_at c 0)) × (note_at c 0 ≡ []) × (note_pins (note_at c 0) ≤ c.peak)
-  pub walk : first_fault g c (sequence_tests 0 p.body) ≡ None
+  pub walk : first_fault g c (sequence_tests true 0 p.body) ≡ None
   pub last : length (note_at c (sequence_end 0 p.body)) ≡ 0
   pub few : length c.notes ≤ sequence_end 0 p.body + 1
   pub limit : c.steps ≤ most_steps
@@ -155,8 +282,8 @@ all_pass g p c h =
     let longest : ℕ = sequence_longest p.body in
     let finals : List Test = steps_allowed ∷ steps_enough longest ∷ peak_allowed ∷ [] in
     let lasts : List Test = holds_nothing k ∷ no_more_notes (k + 1) ∷ finals in
-    let a = both_pass g c (same_settings p.layout ∷ note_tests 0 empty ++ sequence_tests 0 p.body) lasts h in
-    let b = both_pass g c (same_settings p.layout ∷ note_tests 0 empty) (sequence_tests 0 p.body) a.0 in
+    let a = both_pass g c (same_settings p.layout ∷ note_tests 0 empty ++ sequence_tests true 0 p.body) lasts h in
+    let b = both_pass g c (same_settings p.layout ∷ note_tests 0 empty) (sequence_tests true 0 p.body) a.0 in
     let d = first_passes g c (same_settings p.layout) (note_tests 0 empty) b.0 in
     let e1 = first_passes g c (holds_nothing k) (no_more_notes (k + 1) ∷ finals) a.1 in
     let e2 = first_passes g c (no_more_notes (k + 1)) finals e1.1 in
@@ -173,3 +300,12 @@ all_pass g p c h =
       enough = leb-true longest c.steps e4.0;
       peak = leb-true c.peak g.frames e5.0;
     }
+
+-- bounds that are told in full are those of the step
+pub noted_told : (s : Step) (n : Entries) → noted_with true s n ≡ noted_after s n
+noted_told (fix s r) n = refl
+noted_told (unfix s) n = refl
+noted_told (latch s m) n = refl
+noted_told (unlatch s) n = refl
+noted_told (gather s r) n = refl
+noted_told (scatter s) n = refl

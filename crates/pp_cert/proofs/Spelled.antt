@@ -46,11 +46,13 @@ entry_spelled : (c : Configuration) (p : Terms) → IsConfiguration c → IsPlan
     → SpellsEntry c p (slot_name p.slots (entry_slot e)) (entry_tree c e) e
 entry_spelled c p settings plan (Slot s r h) is = record {
   slot = slot_again p plan s is.slot;
+  plain = is.kind;
   name = region_name c r;
   region = region_named_again c settings r is.region;
   value = refl;
 }
-entry_spelled c p settings plan (Bundle s k) is = let no = is.plain in absurd (cc)
+entry_spelled c p settings plan (Bundle s k) is =
+    record { slot = slot_again p plan s is.slot; bundle = is.kind; bound = is.bound; value = refl }
 
 entries_spelled : (c : Configuration) (p : Terms) → IsConfiguration c → IsPlan p → (es : List Entry)
     → All (IsEntry c p) es → SpellsEntries c p (entry_members c p es) es

@@ -117,14 +117,18 @@ weighed m (e ∷ n) l =
 abbrev above_both : Entries → Holdings → ℕ
 above_both n hs = max (above_entries n) (above hs)
 
--- Where each slot holds as many pages as the note has pins for it, as many are held as the note has pins.
-pub all_pins : (n : Entries) (hs : Holdings) → ((s : ℕ) → length (slot_all holding_slot s hs) ≡ weight n s)
-    → length hs ≡ note_pins n
-all_pins n hs h =
+sum_mono : (m : ℕ) (f g : ℕ → ℕ) → ((s : ℕ) → f s ≤ g s) → sum_to m f ≤ sum_to m g
+sum_mono zero f g h = omega arith
+sum_mono (suc m) f g h = omega (arith, h m, sum_mono m f g h)
+
+-- Where no slot holds more pages than the note has pins for it, no more are held than the note has pins.
+pub few : (n : Entries) (hs : Holdings) → ((s : ℕ) → length (slot_all holding_slot s hs) ≤ weight n s)
+    → length hs ≤ note_pins n
+few n hs h =
     let m : ℕ = above_both n hs in
     omega (
       arith,
       counted m hs (omega arith),
       weighed m n (omega arith),
-      sum_same m (count_in hs) (weight n) h,
+      sum_mono m (count_in hs) (weight n) h,
     )

@@ -1,14 +1,19 @@
 -- What the parts of an entry are, where a reading of them found something.
-use Rattle.std.proofs.Common.{◌≡◌, ℕ, Bool, true, false, if◌then◌else◌, List, Option, Some, None, option_and_then}
-use Rattle.std.proofs.Common.{codes, refl, sym, ap, ◌∙◌}
+use Rattle.std.proofs.Common.{◌≡◌, ℕ, ◌≤◌, Bool, true, false, nat_le, if◌then◌else◌, List, Option, Some, None}
+use Rattle.std.proofs.Common.{option_and_then, codes, refl, sym, ap, ◌∙◌, arith}
+use Rattle.std.specs.Prelude.{◌&&◌}
 use Rattle.std.specs.Str.{bytes_eq}
+use Rattle.std.proofs.lemmas.Bool.{leb-true, le-leb}
 use Rattle.std.proofs.lemmas.Slice.Eq.{bytes_eq-Decides}
-use Rattle.serde_json.specs.Data.{Data, null, boolean, number, string, array, object, Items, no_items, item}
-use Rattle.serde_json.specs.Find.{as_str}
+use Rattle.serde_json.specs.Data.{unsigned, negative, float, Data, null, boolean, number, string, array, object, Items}
+use Rattle.serde_json.specs.Data.{no_items, item}
+use Rattle.serde_json.specs.Find.{as_str, as_number, as_u64}
 use Rattle.pp_cert.specs.declared.note.Held.{Held}
 use Rattle.pp_cert.specs.declared.note.Held.TheVariants.{Free, S, X}
 use Rattle.pp_cert.specs.Words.{held_text, held_of}
-use Rattle.pp_cert.specs.Reading.{as_two}
+use Rattle.pp_cert.specs.Limits.{most_bound}
+use Rattle.pp_cert.specs.Claims.{IsBound}
+use Rattle.pp_cert.specs.Reading.{as_two, bound_in}
 
 pub two_is : (ds : Items) (two : Data × Data) → as_two ds ≡ Some two → ds ≡ item two.0 (item two.1 no_items)
 two_is (item a (item b no_items)) two e = cc
@@ -42,3 +47,34 @@ pub held_again : (h : Held) → held_of (held_text h) ≡ Some h
 held_again Free = refl
 held_again S = refl
 held_again X = refl
+
+-- ---- a bundle's bound
+
+-- The bound that a value spells, if it spells one.
+abbrev pub bound_of : Data → Option ℕ
+bound_of d = option_and_then bound_in (option_and_then as_u64 (as_number d))
+
+bound_by_tests : (n k : ℕ) (x y : Bool) → nat_le 1 n ≡ x → nat_le n most_bound ≡ y
+    → ◌≡◌ {A = Option ℕ} (if x && y then Some n else None) (Some k) → (n ≡ k) × IsBound k
+bound_by_tests n k true true a b e =
+    let same : n ≡ k = cc in
+    let some : 1 ≤ n = leb-true 1 n a in
+    let few : n ≤ most_bound = leb-true n most_bound b in
+    (same, (omega (arith, same, some), omega (arith, same, few)))
+bound_by_tests n k true false a b e = absurd cc
+bound_by_tests n k false y a b e = absurd cc
+
+pub bound_is : (d : Data) (k : ℕ) → bound_of d ≡ Some k → (d ≡ number (unsigned k)) × IsBound k
+bound_is (number (unsigned n)) k e =
+    let (same, is) = bound_by_tests n k _ _ refl refl e in
+    (ap (λ (m : ℕ). number (unsigned m)) same, is)
+bound_is (number (negative z)) k e = absurd cc
+bound_is (number (float x)) k e = absurd cc
+bound_is null k e = absurd cc
+bound_is (boolean b) k e = absurd cc
+bound_is (string text) k e = absurd cc
+bound_is (array es) k e = absurd cc
+bound_is (object ns) k e = absurd cc
+
+pub bound_again : (k : ℕ) → IsBound k → bound_in k ≡ Some k
+bound_again k is = rw (le-leb 1 k is.0, le-leb k most_bound is.1) refl

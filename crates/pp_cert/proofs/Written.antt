@@ -76,7 +76,9 @@ quoted_held X = refl
 
 entry_bytes : (c : Configuration) (p : Terms) → IsConfiguration c → IsPlan p → (e : Entry) → IsEntry c p e
     → quoted (slot_name p.slots (entry_slot e)) ++ 58 ∷ compact_text (entry_tree c e) ≡ entry_text c p e
-entry_bytes c p settings plan (Bundle s k) is = let no = is.plain in absurd (cc)
+entry_bytes c p settings plan (Bundle s k) is =
+    ap (λ z. z ++ 58 ∷ compact_text (entry_tree c (Bundle s k))) (slot_quoted p plan s is.slot)
+    ∙ sym (append_assoc (in_quotes (slot_name p.slots s)) (58 ∷ []) (decimal k))
 entry_bytes c p settings plan (Slot s r h) is =
     let words : List Data = string (region_name c r) ∷ string (held_text h) ∷ [] in
     let name = region_quoted c settings r is.region in

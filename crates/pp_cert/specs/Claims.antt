@@ -1,8 +1,9 @@
 -- What a certificate claims, apart from where it lies in memory.
-use Rattle.std.specs.Prelude.{◌≡◌, ℕ, false, List, ◌<◌, ◌≤◌, length, All, AllPairs}
+use Rattle.std.specs.Prelude.{◌≡◌, ℕ, List, ◌<◌, ◌≤◌, length, All, AllPairs}
 use Rattle.pp_settings.specs.Settings.{Configuration}
 use Rattle.pp_plan.specs.Terms.{Terms}
-use Rattle.pp_cert.specs.Limits.{most_notes, most_entries}
+use Rattle.pp_plan.specs.Rules.{uses_bundle}
+use Rattle.pp_cert.specs.Limits.{most_notes, most_entries, most_bound}
 use Rattle.pp_cert.specs.declared.note.Entry.{Entry}
 use Rattle.pp_cert.specs.declared.note.Entry.TheVariants.{Slot, Bundle}
 use Rattle.pp_cert.specs.declared.certificate.Certificate.{Certificate}
@@ -28,11 +29,22 @@ abbrev pub HasRegion : Configuration → Entry → Type 0
 HasRegion c (Slot s r h) = r < length c.regions
 HasRegion c (Bundle s k) = Unit {0}
 
--- The entry's slot is one of the plan's, and its region one of the settings'. It is no bundle, since no plan has one.
+-- A bound that a bundle's entry can have: from 1 to 4,096, since no entry means 0.
+abbrev pub IsBound : ℕ → Type 0
+IsBound k = (1 ≤ k) × (k ≤ most_bound)
+
+-- A bundle's entry has such a bound; a page's has none.
+abbrev pub HasBound : Entry → Type 0
+HasBound (Slot s r h) = Unit {0}
+HasBound (Bundle s k) = IsBound k
+
+-- The entry's slot is one of the plan's. The entry is a bundle's where the plan uses the slot as a bundle, with a bound from
+-- 1 to 4,096; else it is a page's, with a region of the settings.
 pub record IsEntry (c : Configuration) (p : Terms) (e : Entry) : Type 0 where
   pub slot : entry_slot e < length p.slots
+  pub kind : uses_bundle p.body (entry_slot e) ≡ is_bundle e
   pub region : HasRegion c e
-  pub plain : is_bundle e ≡ false
+  pub bound : HasBound e
 
 -- The entries are the plan's and the settings', and stand by rising slot.
 pub record IsNote (c : Configuration) (p : Terms) (note : List Entry) : Type 0 where

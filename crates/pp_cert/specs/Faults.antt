@@ -1,6 +1,6 @@
 -- The faults of a certificate's text, each said by itself, and the order in which they are told: a refusal tells the
 -- first.
-use Rattle.std.specs.Prelude.{◌≡◌, ◌⊎◌, ℕ, ◌<◌, List, [], ◌∷◌, length, slice_get, Option, None, Some}
+use Rattle.std.specs.Prelude.{◌≡◌, ◌⊎◌, ℕ, ◌<◌, true, false, List, [], ◌∷◌, length, slice_get, Option, None, Some}
 use Rattle.std.specs.Prelude.{option_and_then, codes}
 use Rattle.std.specs.Option.{option_map_or}
 use Rattle.serde_json.specs.Data.{Data, number, unsigned, string, array, object, Items, no_items, item, Members}
@@ -11,10 +11,12 @@ use Rattle.pp_text.specs.Objects.{HasOnly, Holds, elements}
 use Rattle.pp_settings.specs.Settings.{Configuration, region_named}
 use Rattle.pp_plan.specs.Terms.{Terms}
 use Rattle.pp_plan.specs.Slots.{slot_named}
+use Rattle.pp_plan.specs.Rules.{uses_bundle}
 use Rattle.pp_cert.specs.declared.error.CertError.{CertError}
-use Rattle.pp_cert.specs.declared.error.CertError.TheVariants.{NotJson, WrongField, UnknownName, TooMany}
+use Rattle.pp_cert.specs.declared.error.CertError.TheVariants.{NotJson, WrongField, UnknownName, TooMany, WrongKind}
 use Rattle.pp_cert.specs.declared.note.Held.{Held}
 use Rattle.pp_cert.specs.Limits.{most_notes, most_entries}
+use Rattle.pp_cert.specs.Claims.{IsBound}
 use Rattle.pp_cert.specs.Words.{held_text, certificate_keys}
 
 -- ---- where notes and entries stand
@@ -35,25 +37,39 @@ entries_in (member key d ms) = (record { name = key; value = d }) ∷ entries_in
 
 -- ---- faults of one entry
 
--- The value is no list of a text and of how a page is held; the plan has no slot of this name; the settings have no
--- region of that name.
+-- The form of a page's entry: a list of a text and of how the page is held.
+abbrev pub IsPageForm : Data → Type 0
+IsPageForm d = (name : List ℕ) × (h : Held) × (d ≡ array (item (string name) (item (string (held_text h)) no_items)))
+
+-- The form of a bundle's entry: a whole number from 1 to 4,096.
+abbrev pub IsBundleForm : Data → Type 0
+IsBundleForm d = (k : ℕ) × IsBound k × (d ≡ number (unsigned k))
+
+-- The value has neither form; the plan has no slot of this name; the settings have no region of that name; the value has the
+-- form of the other kind of slot.
 pub data EntryFault : Type 0 where
   other_form : EntryFault
   no_slot : EntryFault
   no_region : EntryFault
+  other_kind : EntryFault
 
 abbrev pub HasEntryFault : Configuration → Terms → Written → EntryFault → Type 0
-HasEntryFault c p e other_form =
-    ¬ ((name : List ℕ) × (h : Held) × (e.value ≡ array (item (string name) (item (string (held_text h)) no_items))))
+HasEntryFault c p e other_form = ¬ IsPageForm e.value × ¬ IsBundleForm e.value
 HasEntryFault c p e no_slot = slot_named p e.name ≡ None
 HasEntryFault c p e no_region =
     (name : List ℕ) × (rest : Items) × (e.value ≡ array (item (string name) rest)) × (region_named c name ≡ None)
+HasEntryFault c p e other_kind =
+    (slot : ℕ) × (slot_named p e.name ≡ Some slot)
+    × ((IsBundleForm e.value × (uses_bundle p.body slot ≡ false))
+    ⊎ (IsPageForm e.value × (uses_bundle p.body slot ≡ true)))
 
 -- The first is told before the second.
 abbrev pub EntryBefore : EntryFault → EntryFault → Type 0
 EntryBefore other_form other_form = ⊥
 EntryBefore other_form _ = Unit {0}
 EntryBefore no_slot no_region = Unit {0}
+EntryBefore no_slot other_kind = Unit {0}
+EntryBefore no_region other_kind = Unit {0}
 EntryBefore _ _ = ⊥
 
 -- ---- faults of one note
@@ -121,6 +137,7 @@ abbrev pub entry_error : EntryFault → CertError
 entry_error other_form = WrongField
 entry_error no_slot = UnknownName
 entry_error no_region = UnknownName
+entry_error other_kind = WrongKind
 
 abbrev pub note_error : NoteFault → CertError
 note_error no_object = WrongField

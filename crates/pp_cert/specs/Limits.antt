@@ -8,6 +8,14 @@ most_notes = 70000
 abbrev pub most_entries : ℕ
 most_entries = 32
 
+-- The greatest bound of a bundle. The least is 1, since no entry means 0.
+abbrev pub most_bound : ℕ
+most_bound = 4096
+
+-- Where counting the pages of a bundle stops: one more than the frames of any pool.
+abbrev pub most_counted : ℕ
+most_counted = most_bound + 1
+
 -- The most steps that a certificate may claim.
 abbrev pub most_steps : ℕ
 most_steps = 1000000

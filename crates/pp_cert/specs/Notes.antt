@@ -1,14 +1,15 @@
 -- Notes: what a certificate says is held at a place, and what is held there after one more statement.
-use Rattle.std.specs.Prelude.{ℕ, ◌+◌, Bool, true, false, ◌==◌, ◌&&◌, ◌||◌, not, nat_lt, if◌then◌else◌, find, Option}
-use Rattle.std.specs.Prelude.{option_map, List, [], ◌∷◌, slice_get, unwrap_or}
+use Rattle.std.specs.Prelude.{ℕ, ◌+◌, ◌-◌, ◌*◌, min, Bool, true, false, ◌==◌, ◌&&◌, ◌||◌, not, nat_lt, nat_le, if◌then◌else◌}
+use Rattle.std.specs.Prelude.{find, Option, option_map, List, [], ◌∷◌, slice_get, unwrap_or}
 use Rattle.std.specs.List.{list_all}
 use Rattle.std.specs.Cmp.Lexicographic.{pointwise}
 use Rattle.pp_settings.specs.Layout.{Geometry}
-use Rattle.pp_plan.specs.Tree.{Step, fix, unfix, latch, unlatch}
+use Rattle.pp_plan.specs.Tree.{Step, fix, unfix, latch, unlatch, gather, scatter}
 use Rattle.pp_cert.specs.declared.note.Entry.{Entry}
 use Rattle.pp_cert.specs.declared.note.Entry.TheVariants.{Slot, Bundle}
 use Rattle.pp_cert.specs.declared.note.Held.{Held}
 use Rattle.pp_cert.specs.declared.note.Held.TheVariants.{Free, S, X}
+use Rattle.pp_cert.specs.Limits.{most_counted}
 use Rattle.pp_cert.specs.Slots.{slot_insert}
 use Rattle.pp_cert.specs.Held.{held_in, is_latched}
 
@@ -34,6 +35,11 @@ is_slot s (Bundle t k) = false
 abbrev pub is_bundle : Entry → Bool
 is_bundle (Slot s r h) = false
 is_bundle (Bundle s k) = true
+
+-- Whether it is the bundle s.
+abbrev pub is_bundle_of : ℕ → Entry → Bool
+is_bundle_of s (Slot t r h) = false
+is_bundle_of s (Bundle t k) = t == s
 
 -- ---- pins
 
@@ -74,6 +80,24 @@ entry_at n s = find (is_slot s) n
 abbrev pub noted_at : Entries → ℕ → Option Held
 noted_at n s = option_map entry_held (entry_at n s)
 
+-- The bundle's entry, if it has one.
+abbrev pub bundle_at : Entries → ℕ → Option Entry
+bundle_at n s = find (is_bundle_of s) n
+
+-- The most pages that the bundle pins; no entry means 0.
+abbrev pub bound_at : Entries → ℕ → ℕ
+bound_at n s = unwrap_or (option_map entry_pins (bundle_at n s)) 0
+
+-- The entries of slots' pages alone.
+abbrev pub plain_part : Entries → Entries
+plain_part [] = []
+plain_part (e ∷ n) = if is_bundle e then plain_part n else e ∷ plain_part n
+
+-- The note without the bundles at its front. For private clauses.
+abbrev pub skipped : Entries → Entries
+skipped [] = []
+skipped (e ∷ n) = if is_bundle e then skipped n else e ∷ n
+
 -- The class of a region's pages; 0 for a number that no region has.
 abbrev pub region_class : Geometry → ℕ → ℕ
 region_class g r = unwrap_or (option_map (λ e. e.class) (slice_get g.extents r)) 0
@@ -109,9 +133,88 @@ abbrev pub without_page : ℕ → Entries → Entries
 without_page s [] = []
 without_page s (e ∷ n) = if is_slot s e then without_page s n else e ∷ without_page s n
 
--- What is noted after the step, where this is noted before it. No step makes a bundle.
+-- Without the bundle.
+abbrev pub without_bundle : ℕ → Entries → Entries
+without_bundle s [] = []
+without_bundle s (e ∷ n) = if is_bundle_of s e then without_bundle s n else e ∷ without_bundle s n
+
+-- With this bound for the bundle, at its place by rising slot.
+abbrev pub with_bound : (slot bound : ℕ) → Entries → Entries
+with_bound s k n = slot_insert entry_slot (Bundle s k) (without_bundle s n)
+
+-- What is noted after the step, where this is noted before it. A gather adds 1 to the bundle's bound, and a scatter makes it
+-- 0, which is no entry.
 abbrev pub noted_after : Step → Entries → Entries
 noted_after (fix s r) n = slot_insert entry_slot (Slot s r Free) n
 noted_after (unfix s) n = without_page s n
 noted_after (latch s m) n = noted_as (held_in m) s n
 noted_after (unlatch s) n = noted_as Free s n
+noted_after (gather s r) n = with_bound s (bound_at n s + 1) n
+noted_after (scatter s) n = without_bundle s n
+
+-- The bound with one page more: exactly, or counted up to 4,097, which is more than the frames of any pool.
+abbrev pub one_more : (told : Bool) → (bound : ℕ) → ℕ
+one_more true bound = bound + 1
+one_more false bound = min (bound + 1) most_counted
+
+-- What is noted after the step, with bounds that are told exactly or counted so.
+abbrev pub noted_with : (told : Bool) → Step → Entries → Entries
+noted_with told (gather s r) n = with_bound s (one_more told (bound_at n s)) n
+noted_with told s n = noted_after s n
+
+-- ---- the notes of a loop's body
+
+-- The entries stand by rising slot, from this one on, and no bound is 0.
+abbrev pub is_rising : ℕ → Entries → Bool
+is_rising s [] = true
+is_rising s (e ∷ n) = nat_le s (entry_slot e) && (nat_lt 0 (entry_pins e) && is_rising (entry_slot e + 1) n)
+
+-- The note has no entry twice, none out of order, and no bound of 0.
+abbrev pub is_in_form : Entries → Bool
+is_in_form n = is_rising 0 n
+
+-- Whether `first` may be a bundle's bound at a body's first place, where it is `before` just before the loop: it may be
+-- greater for a bundle that the body nowhere scatters, and is `before` for another.
+abbrev pub is_begun : (scattered : Bool) → (before first : ℕ) → Bool
+is_begun true before first = first == before
+is_begun false before first = nat_le before first
+
+-- Whether `last` may be the bound at the body's end of a bundle that the body scatters.
+abbrev pub is_back : (scattered : Bool) → (before last : ℕ) → Bool
+is_back true before last = last == before
+is_back false before last = true
+
+-- Whether `last` may be the bound at the body's end of a bundle that the body nowhere scatters: each of so many turns adds
+-- `last - first`, and `first` is the bound before the last turn.
+abbrev pub has_grown : (turns : ℕ) → (scattered : Bool) → (before first last : ℕ) → Bool
+has_grown turns true before first last = true
+has_grown turns false before first last = nat_le first last && first == before + (turns - 1) * (last - first)
+
+-- Whether the test holds of each slot that is a bundle in the note.
+abbrev pub all_bundles : (ℕ → Bool) → Entries → Bool
+all_bundles test n = list_all (λ e. not (is_bundle e) || test (entry_slot e)) n
+
+-- The note `first` may stand at the first place of a loop's body, where `before` stands just before the loop: it is in form,
+-- has the same entries of slots' pages, the same bounds of the bundles that the body scatters, and at least those of others.
+abbrev pub begins_turns : (scattered : ℕ → Bool) → (before first : Entries) → Bool
+begins_turns scattered before first =
+    is_in_form first
+    && (same_note (plain_part first) (plain_part before)
+    && (all_bundles (λ s. is_begun (scattered s) (bound_at before s) (bound_at first s)) before
+    && all_bundles (λ s. is_begun (scattered s) (bound_at before s) (bound_at first s)) first))
+
+-- The note `last` has the entries of slots' pages that the one before the loop has, and the bounds of the bundles that the
+-- body scatters.
+abbrev pub ends_as_begun : (scattered : ℕ → Bool) → (before last : Entries) → Bool
+ends_as_begun scattered before last =
+    same_note (plain_part last) (plain_part before)
+    && (all_bundles (λ s. is_back (scattered s) (bound_at before s) (bound_at last s)) before
+    && all_bundles (λ s. is_back (scattered s) (bound_at before s) (bound_at last s)) last)
+
+-- From the note `first` at the body's first place to `last` at its end, the bounds of the other bundles grow as so many turns
+-- want it.
+abbrev pub grows_by_turns : (turns : ℕ) → (scattered : ℕ → Bool) → (before first last : Entries) → Bool
+grows_by_turns turns scattered before first last =
+    all_bundles (λ s. has_grown turns (scattered s) (bound_at before s) (bound_at first s) (bound_at last s)) before
+    && (all_bundles (λ s. has_grown turns (scattered s) (bound_at before s) (bound_at first s) (bound_at last s)) first
+    && all_bundles (λ s. has_grown turns (scattered s) (bound_at before s) (bound_at first s) (bound_at last s)) last)

@@ -1,5 +1,6 @@
 -- What a certificate's text gives under settings and a plan: its claims, or the first refusal in the fixed order.
-use Rattle.std.specs.Prelude.{ℕ, List, [], ◌∷◌, ◌++◌, nat_le, Option, Some, None, option_and_then, codes, Result, Ok}
+use Rattle.std.specs.Prelude.{ℕ, List, [], ◌∷◌, ◌++◌, ◌&&◌, not, nat_le, if◌then◌else◌, Option, Some, None, is_some}
+use Rattle.std.specs.Prelude.{option_and_then, codes, Result, Ok}
 use Rattle.std.specs.Option.{ok_or}
 use Rattle.serde_json.specs.Data.{Data, Items, no_items, item, Members, no_members, member}
 use Rattle.serde_json.specs.Events.{items_len, members_len}
@@ -10,11 +11,12 @@ use Rattle.pp_text.specs.Objects.{has_only_keys}
 use Rattle.pp_settings.specs.Settings.{Configuration, region_named}
 use Rattle.pp_plan.specs.Terms.{Terms}
 use Rattle.pp_plan.specs.Slots.{slot_named}
+use Rattle.pp_plan.specs.Rules.{uses_bundle}
 use Rattle.pp_cert.specs.declared.note.Entry.{Entry}
-use Rattle.pp_cert.specs.declared.note.Entry.TheVariants.{Slot}
+use Rattle.pp_cert.specs.declared.note.Entry.TheVariants.{Slot, Bundle}
 use Rattle.pp_cert.specs.declared.error.CertError.{CertError}
-use Rattle.pp_cert.specs.declared.error.CertError.TheVariants.{NotJson, WrongField, UnknownName, TooMany}
-use Rattle.pp_cert.specs.Limits.{most_notes, most_entries}
+use Rattle.pp_cert.specs.declared.error.CertError.TheVariants.{NotJson, WrongField, UnknownName, TooMany, WrongKind}
+use Rattle.pp_cert.specs.Limits.{most_notes, most_entries, most_bound}
 use Rattle.pp_cert.specs.Claims.{Claims}
 use Rattle.pp_cert.specs.Words.{held_of, certificate_keys}
 
@@ -25,16 +27,33 @@ abbrev pub as_two : Items → Option (Data × Data)
 as_two (item a (item b no_items)) = Some (a, b)
 as_two _ = None
 
--- The entry of one slot: its form first, then the slot's name, then the region's.
-unfoldable pub read_entry : Configuration → Terms → List ℕ → Data → Result Entry CertError
-read_entry c p key d = do
+-- The bound that a number is, if it is from 1 to 4,096.
+abbrev pub bound_in : ℕ → Option ℕ
+bound_in n = if nat_le 1 n && nat_le n most_bound then Some n else None
+
+-- A page: its form first, then the slot's name, then the region's, then that the slot is no bundle.
+unfoldable pub read_page : Configuration → Terms → List ℕ → Data → Result Entry CertError
+read_page c p key d = do
   items ← ok_or (as_array d) WrongField
   two ← ok_or (as_two items) WrongField
   region_name ← ok_or (as_str two.0) WrongField
   held ← ok_or (option_and_then held_of (as_str two.1)) WrongField
   slot ← ok_or (slot_named p key) UnknownName
   region ← ok_or (region_named c region_name) UnknownName
+  plain ← must (not (uses_bundle p.body slot)) WrongKind
   Ok (Slot slot region held)
+
+-- A bundle: its bound first, then the slot's name, then that the slot is a bundle.
+unfoldable pub read_bundle : Terms → List ℕ → Data → Result Entry CertError
+read_bundle p key d = do
+  bound ← ok_or (option_and_then bound_in (option_and_then as_u64 (as_number d))) WrongField
+  slot ← ok_or (slot_named p key) UnknownName
+  bundle ← must (uses_bundle p.body slot) WrongKind
+  Ok (Bundle slot bound)
+
+-- The entry of one slot: a bundle's where the value is a number, and else a page's.
+unfoldable pub read_entry : Configuration → Terms → List ℕ → Data → Result Entry CertError
+read_entry c p key d = if is_some (as_number d) then read_bundle p key d else read_page c p key d
 
 -- ---- notes
 

@@ -1,5 +1,5 @@
 -- Which JSON value spells which claims, said apart from any order of reading.
-use Rattle.std.specs.Prelude.{◌≡◌, ℕ, List, [], ◌∷◌, Some, codes}
+use Rattle.std.specs.Prelude.{◌≡◌, ℕ, true, false, List, [], ◌∷◌, Some, codes}
 use Rattle.serde_json.specs.Data.{unsigned, Data, number, string, array, object, Items, no_items, item, Members}
 use Rattle.serde_json.specs.Data.{no_members, member}
 use Rattle.serde_json.specs.Read.{read}
@@ -7,23 +7,33 @@ use Rattle.pp_text.specs.Objects.{HasOnly, Holds}
 use Rattle.pp_settings.specs.Settings.{Configuration, region_named}
 use Rattle.pp_plan.specs.Terms.{Terms}
 use Rattle.pp_plan.specs.Slots.{slot_named}
+use Rattle.pp_plan.specs.Rules.{uses_bundle}
 use Rattle.pp_cert.specs.declared.note.Entry.{Entry}
 use Rattle.pp_cert.specs.declared.note.Entry.TheVariants.{Slot, Bundle}
 use Rattle.pp_cert.specs.declared.note.Held.{Held}
-use Rattle.pp_cert.specs.Claims.{Claims, AreFew}
+use Rattle.pp_cert.specs.Claims.{Claims, IsBound, AreFew}
 use Rattle.pp_cert.specs.Words.{held_text, certificate_keys}
 
--- The key names the slot, and the value is the list of the region's name and of how the page is held.
+-- The key names the slot, which the plan doesn't use as a bundle, and the value is the list of the region's name and of how
+-- the page is held.
 pub record SpellsPage (c : Configuration) (p : Terms) (key : List ℕ) (d : Data) (s r : ℕ) (h : Held) : Type 0 where
   pub slot : slot_named p key ≡ Some s
+  pub plain : uses_bundle p.body s ≡ false
   pub name : List ℕ
   pub region : region_named c name ≡ Some r
   pub value : d ≡ array (item (string name) (item (string (held_text h)) no_items))
 
--- The key and its value spell the entry; nothing spells a bundle, since no plan has one.
+-- The key names the slot, which the plan uses as a bundle, and the value is its bound: a number from 1 to 4,096.
+pub record SpellsBundle (p : Terms) (key : List ℕ) (d : Data) (s k : ℕ) : Type 0 where
+  pub slot : slot_named p key ≡ Some s
+  pub bundle : uses_bundle p.body s ≡ true
+  pub bound : IsBound k
+  pub value : d ≡ number (unsigned k)
+
+-- The key and its value spell the entry: a page of a plain slot, or a bundle.
 abbrev pub SpellsEntry : Configuration → Terms → List ℕ → Data → Entry → Type 0
 SpellsEntry c p key d (Slot s r h) = SpellsPage c p key d s r h
-SpellsEntry c p key d (Bundle s k) = ⊥
+SpellsEntry c p key d (Bundle s k) = SpellsBundle p key d s k
 
 -- There is one member for each entry, in the same order.
 abbrev pub SpellsEntries : Configuration → Terms → Members → List Entry → Type 0

@@ -10,9 +10,9 @@ use std::marker::Model;
 
 /// A plan whose certificate was accepted. Only `check` makes one.
 ///
-/// Every beginning of every trace of the plan fixes, unfixes, latches and unlatches in a legal way, takes latches in
-/// rising classes, has at most `peak` pins and has at most `steps` actions; every whole trace ends holding nothing.
-/// The peak is at most the number of frames, and the steps are at most 1,000,000.
+/// Every beginning of every trace of the plan fixes, unfixes, latches, unlatches, gathers and scatters in a legal way,
+/// takes latches in rising classes, has at most `peak` pins and has at most `steps` actions; every whole trace ends
+/// holding nothing. The peak is at most the number of frames, and the steps are at most 1,000,000.
 #[derive(Debug, Drop)]
 pub struct Accepted {
     plan: Plan,

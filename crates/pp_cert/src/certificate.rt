@@ -70,7 +70,7 @@ impl Certificate {
     }
 
     /// The text of the certificate, which has no white space and its keys in byte order, as in
-    /// `{"notes":[{"a":["root","-"]},{}],"peak":2,"steps":8}`.
+    /// `{"notes":[{"a":["root","-"]},{}],"peak":2,"steps":8}`. A bundle's entry is its bound, as in `"g":3`.
     ///
     /// # Errors
     ///
@@ -81,7 +81,8 @@ impl Certificate {
         settings: &Settings,
         plan: &Plan,
     ) -> Result<String, CertError>
-        // Slots rise in each note and are the plan's, regions are the settings', and notes and entries are few enough.
+        // Slots rise in each note and are the plan's, those of bundles are its bundles, with bounds from 1 to 4,096, regions
+        // are the settings', and notes and entries are few enough.
         requires { AreClaims settings.now plan.now (claims_of self.now) }
         ensures text { IfOk result (λ s. string_bytes s
             ≡ certificate_text settings.now plan.now (claims_of self.now)) }

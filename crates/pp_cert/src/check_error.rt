@@ -25,13 +25,14 @@ pub enum CheckError {
     #[error("from place {place} on, notes are left over")]
     NotesLong { place: u32 },
     /// The note isn't the expected one. Expected is the empty note at the plan's beginning, the note before a loop or a
-    /// choice at the beginning of a body in it, and else what is held after the statement before it.
+    /// choice at the beginning of a body in it, and else what is held after the statement before it. At the beginning of
+    /// a loop's body, a bundle that the body nowhere scatters may have a greater bound than before the loop.
     #[error("the note at place {place} isn't what is held there")]
     NoteDiffers { place: u32 },
-    /// A page is fixed into a slot that holds one.
+    /// A page is fixed into a slot that holds something.
     #[error("at place {place} a page is fixed into a slot that is in use")]
     SlotInUse { place: u32 },
-    /// A slot that holds nothing is unfixed, latched or unlatched.
+    /// A slot that holds no page of its own is unfixed, latched or unlatched, or a bundle without a page is scattered.
     #[error("at place {place} a statement uses a slot that holds no page")]
     NotFixed { place: u32 },
     /// A slot is unfixed or latched while its page is latched.
@@ -44,10 +45,11 @@ pub enum CheckError {
     #[error("at place {place} a latch is asked against the order of classes")]
     AgainstOrder { place: u32 },
     /// The note pins more pages than the declared peak.
-    #[error("the note at place {place} holds more slots than the peak")]
+    #[error("the note at place {place} pins more pages than the peak")]
     OverPeak { place: u32 },
-    /// The end of a loop's body doesn't hold what was held before the loop.
-    #[error("at place {place} the loop's body ends holding something else than it began with")]
+    /// The end of a loop's body doesn't hold what was held before the loop: other pages, another bound of a bundle that
+    /// the body scatters, or a bound of another bundle that hasn't grown as the turns want it.
+    #[error("at place {place} the loop's body ends holding something else than its turns want")]
     LoopChanges { place: u32 },
     /// The end of a branch doesn't hold what the end of the first branch holds.
     #[error("at place {place} the branch ends holding something else than the first branch")]

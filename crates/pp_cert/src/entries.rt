@@ -2,7 +2,8 @@
 
 ghost use Rattle.std.specs.Prelude.{◌≡◌, ◌++◌, nat_lt, position};
 ghost use Rattle.pp_cert.specs.Notes.{same_note, region_class, entry_class, noted_at, slot_class, is_above_latched};
-ghost use Rattle.pp_cert.specs.Notes.{entry_slot, is_slot, noted_as, without_page};
+ghost use Rattle.pp_cert.specs.Notes.{entry_slot, is_slot, noted_as, without_page, bound_at, without_bundle, with_bound};
+ghost use Rattle.pp_cert.specs.Notes.{plain_part, skipped, is_in_form, same_entry};
 ghost use Rattle.pp_cert.specs.Slots.{slot_insert};
 
 use crate::note::{Entry, Held};
@@ -16,12 +17,29 @@ pub(crate) fn is_same(left: &[Entry], right: &[Entry]) -> bool
     left == right
 }
 
+/// Whether two entries are the same.
+fn is_same_entry(left: &Entry, right: &Entry) -> bool
+    ensures { result ≡ same_entry left.now right.now }
+{
+    left == right
+}
+
 /// How the slot holds its page, if the note says that it holds one.
 pub(crate) fn noted_at(note: &[Entry], slot: u8) -> Option<Held>
     ensures { result ≡ noted_at note.now slot }
 {
     let entry = note.iter().find(|entry| entry.is_slot(slot))?;
     Some(entry.held())
+}
+
+/// The most pages that the bundle pins, as the note says; 0 without an entry.
+pub(crate) fn bound_at(note: &[Entry], slot: u8) -> u16
+    ensures { result ≡ bound_at note.now slot }
+{
+    match note.iter().find(|entry| entry.is_bundle_of(slot)) {
+        Some(entry) => entry.pins(),
+        None => 0,
+    }
 }
 
 /// The class of a region's pages.
@@ -130,4 +148,99 @@ pub(crate) fn is_held_as(before: &[Entry], held: Held, slot: u8, after: &[Entry]
         }
         None => is_same(after, before),
     }
+}
+
+/// Whether `after` is `before` without the bundle.
+#[tactic(auto, using(crate::proofs::Pins::scatters))]
+pub(crate) fn is_scattered(before: &[Entry], slot: u8, after: &[Entry]) -> bool
+    ensures { result ≡ same_note after.now (without_bundle slot before.now) }
+{
+    let mut left = after;
+    for entry in before {
+        if !entry.is_bundle_of(slot) {
+            match left.split_first() {
+                Some((first, rest)) if first == entry => left = rest,
+                _ => return false,
+            }
+        }
+    }
+    left.is_empty()
+}
+
+/// Whether `after` is `before` with this bound for the bundle, at its place by rising slot.
+#[tactic(auto, using(crate::proofs::Pins::gathers))]
+pub(crate) fn is_gathered(before: &[Entry], slot: u8, bound: u32, after: &[Entry]) -> bool
+    ensures { result ≡ same_note after.now (with_bound slot bound before.now) }
+{
+    let mut left = after;
+    let mut is_past = false;
+    for entry in before {
+        if !is_past && slot < entry.slot() {
+            match left.split_first() {
+                Some((first, rest)) if first.is_bounded(slot, bound) => left = rest,
+                _ => return false,
+            }
+            is_past = true;
+        }
+        if !entry.is_bundle_of(slot) {
+            match left.split_first() {
+                Some((first, rest)) if first == entry => left = rest,
+                _ => return false,
+            }
+        }
+    }
+    match left.split_first() {
+        Some((first, rest)) if !is_past => first.is_bounded(slot, bound) && rest.is_empty(),
+        Some(_) => false,
+        None => is_past,
+    }
+}
+
+/// Without the bundles at its front.
+fn skip_bundles(note: &[Entry]) -> &[Entry]
+    ensures { result.now ≡ skipped note.now }
+{
+    let mut left = note;
+    while let Some((first, rest)) = left.split_first() {
+        if !first.is_bundle() {
+            break;
+        }
+        left = rest;
+    }
+    left
+}
+
+/// Whether two notes have the same entries of slots' pages.
+pub(crate) fn has_same_pages(left: &[Entry], right: &[Entry]) -> bool
+    ensures { result ≡ same_note (plain_part left.now) (plain_part right.now) }
+{
+    let mut rest = right;
+    for entry in left {
+        if !entry.is_bundle() {
+            let Some((first, after)) = skip_bundles(rest).split_first() else {
+                return false;
+            };
+            if !is_same_entry(entry, first) {
+                return false;
+            }
+            rest = after;
+        }
+    }
+    skip_bundles(rest).is_empty()
+}
+
+/// Whether the entries rise by slot and no bound is 0.
+#[tactic(auto, using(crate::proofs::Pins::forms))]
+pub(crate) fn is_in_form(note: &[Entry]) -> bool
+    ensures { result ≡ is_in_form note.now }
+{
+    let mut least = 0;
+    for entry in note {
+        let slot = u16::from(entry.slot());
+        if slot < least || entry.pins() == 0 {
+            return false;
+        }
+        least = slot + 1;
+    }
+    true
 }

@@ -6,6 +6,12 @@ pub const MOST_NOTES: usize = 70_000;
 /// The most entries of a note.
 pub const MOST_ENTRIES: usize = 32;
 
+/// The greatest bound of a bundle in a text. The least is 1, since no entry means 0.
+pub const MOST_BOUND: u16 = 4_096;
+
+/// Where counting the pages of a bundle stops: one more than the frames of any pool.
+pub const MOST_COUNTED: u16 = MOST_BOUND + 1;
+
 /// The most steps that a certificate may claim.
 pub const MOST_STEPS: u64 = 1_000_000;
 

@@ -39,7 +39,12 @@ fn longest_of_stmt(stmt: &Stmt) -> u64
     ensures { result ≡ min (statement_longest (statement_of stmt.now)) counted }
 {
     match stmt {
-        Stmt::Fix { .. } | Stmt::Unfix { .. } | Stmt::Latch { .. } | Stmt::Unlatch { .. } => 1,
+        Stmt::Fix { .. }
+        | Stmt::Unfix { .. }
+        | Stmt::Latch { .. }
+        | Stmt::Unlatch { .. }
+        | Stmt::Gather { .. }
+        | Stmt::Scatter { .. } => 1,
         Stmt::Loop { count, body } => (u64::from(*count) * longest_of_body(body)).min(COUNTED),
         Stmt::Choice { branches } => (1 + longest_of_branches(branches)).min(COUNTED),
     }

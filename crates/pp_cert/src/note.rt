@@ -57,7 +57,7 @@ pub enum Entry {
         /// How the page is held.
         held: Held,
     },
-    /// The slot is a bundle of pages. No plan has one, so no certificate with such an entry is accepted.
+    /// The slot is a bundle of pages.
     Bundle {
         /// The slot's number in the plan.
         slot: u8,
@@ -67,7 +67,9 @@ pub enum Entry {
 }
 
 impl Entry {
-    ghost use Rattle.pp_cert.specs.Notes.{entry_slot, entry_pins, entry_held, entry_as, is_slot};
+    ghost use Rattle.pp_cert.specs.Notes.{entry_slot, entry_pins, entry_held, entry_as, is_slot, is_bundle};
+    ghost use Rattle.pp_cert.specs.Notes.{is_bundle_of, same_entry};
+    ghost use Rattle.pp_cert.specs.declared.note.Entry.TheVariants.{Bundle};
 
     /// The slot's number in the plan.
     pub fn slot(&self) -> u8
@@ -105,6 +107,36 @@ impl Entry {
         match *self {
             Entry::Slot { slot, .. } => slot == number,
             Entry::Bundle { .. } => false,
+        }
+    }
+
+    /// Whether the slot is a bundle.
+    pub fn is_bundle(&self) -> bool
+        ensures { result ≡ is_bundle self.now }
+    {
+        match *self {
+            Entry::Slot { .. } => false,
+            Entry::Bundle { .. } => true,
+        }
+    }
+
+    /// Whether the bundle is this slot.
+    pub fn is_bundle_of(&self, number: u8) -> bool
+        ensures { result ≡ is_bundle_of number self.now }
+    {
+        match *self {
+            Entry::Slot { .. } => false,
+            Entry::Bundle { slot, .. } => slot == number,
+        }
+    }
+
+    /// Whether the bundle is this slot, with this bound, which may be one that no entry can say.
+    pub(crate) fn is_bounded(&self, number: u8, most: u32) -> bool
+        ensures { result ≡ same_entry self.now (Bundle number most) }
+    {
+        match *self {
+            Entry::Slot { .. } => false,
+            Entry::Bundle { slot, bound } => slot == number && u32::from(bound) == most,
         }
     }
 

@@ -9,12 +9,12 @@ ghost use Rattle.pp_cert.specs.CertErrors.{is_certificate_memory};
 ghost use Rattle.pp_cert.specs.declared.error.CertError.TheVariants.{NotJson, OutOfMemory};
 ghost use Rattle.pp_cert.specs.Claims.{claims_of};
 ghost use Rattle.pp_cert.specs.Words.{held_of};
-ghost use Rattle.pp_cert.specs.Reading.{as_two, read_entry, entries_from, read_note, notes_from, list_at, number_at};
-ghost use Rattle.pp_cert.specs.Reading.{claims_at, reading};
+ghost use Rattle.pp_cert.specs.Reading.{as_two, bound_in, read_page, read_bundle, read_entry, entries_from, read_note};
+ghost use Rattle.pp_cert.specs.Reading.{notes_from, list_at, number_at, claims_at, reading};
 
 use crate::certificate::Certificate;
 use crate::error::CertError;
-use crate::limits::{MOST_ENTRIES, MOST_NOTES};
+use crate::limits::{MOST_BOUND, MOST_ENTRIES, MOST_NOTES};
 use crate::note::{Entry, Held, Note};
 use pp_plan::Plan;
 use pp_settings::Settings;
@@ -48,15 +48,21 @@ fn as_two(items: &[Value]) -> Option<(&Value, &Value)>
     }
 }
 
-/// The entry of one slot: its form first, then the slot's name, then the region's.
-#[tactic(auto, unfolding(crate::specs::Reading::read_entry))]
-fn read_entry(
-    settings: &Settings,
-    plan: &Plan,
-    key: &str,
-    value: &Value,
-) -> Result<Entry, CertError>
-    ensures { Reads (λ e. e) result (read_entry settings.now plan.now key.now (view value.now)) }
+/// The bound that the number is, if it is from 1 to 4,096.
+fn bound_in(number: u64) -> Option<u16>
+    ensures { result ≡ bound_in number }
+{
+    if 1 <= number && number <= u64::from(MOST_BOUND) {
+        Some(number as u16)
+    } else {
+        None
+    }
+}
+
+/// A page: its form first, then the slot's name, then the region's, then that the slot is no bundle.
+#[tactic(auto, unfolding(crate::specs::Reading::read_page))]
+fn read_page(settings: &Settings, plan: &Plan, key: &str, value: &Value) -> Result<Entry, CertError>
+    ensures { Reads (λ e. e) result (read_page settings.now plan.now key.now (view value.now)) }
 {
     let items = value.as_array().ok_or(CertError::WrongField)?;
     let (region, held) = as_two(items).ok_or(CertError::WrongField)?;
@@ -67,7 +73,43 @@ fn read_entry(
         .ok_or(CertError::WrongField)?;
     let slot = plan.slot(key).ok_or(CertError::UnknownName)?;
     let region = settings.region(region).ok_or(CertError::UnknownName)?;
+    if plan.is_bundle(slot) {
+        return Err(CertError::WrongKind);
+    }
     Ok(Entry::Slot { slot, region, held })
+}
+
+/// A bundle: its bound first, then the slot's name, then that the slot is a bundle.
+#[tactic(auto, unfolding(crate::specs::Reading::read_bundle))]
+fn read_bundle(plan: &Plan, key: &str, value: &Value) -> Result<Entry, CertError>
+    ensures { Reads (λ e. e) result (read_bundle plan.now key.now (view value.now)) }
+{
+    let bound = value
+        .as_u64()
+        .and_then(bound_in)
+        .ok_or(CertError::WrongField)?;
+    let slot = plan.slot(key).ok_or(CertError::UnknownName)?;
+    if !plan.is_bundle(slot) {
+        return Err(CertError::WrongKind);
+    }
+    Ok(Entry::Bundle { slot, bound })
+}
+
+/// The entry of one slot: a bundle's where the value is a number, and else a page's.
+#[tactic(auto, unfolding(crate::specs::Reading::read_entry))]
+fn read_entry(
+    settings: &Settings,
+    plan: &Plan,
+    key: &str,
+    value: &Value,
+) -> Result<Entry, CertError>
+    ensures { Reads (λ e. e) result (read_entry settings.now plan.now key.now (view value.now)) }
+{
+    if value.is_number() {
+        read_bundle(plan, key, value)
+    } else {
+        read_page(settings, plan, key, value)
+    }
 }
 
 /// The entries of a note, in the byte order of slot names.

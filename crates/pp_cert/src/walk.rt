@@ -1,13 +1,18 @@
 //! The walk over a plan beside the notes of its certificate.
 
 ghost use Rattle.std.specs.Prelude.{◌≡◌, ◌<◌, ◌+◌, ◌^◌, ◌++◌, [], ◌∷◌};
-ghost use Rattle.pp_plan.specs.Tree.{fix, unfix, latch, unlatch, choice, loop};
+ghost use Rattle.pp_plan.specs.Tree.{fix, unfix, latch, unlatch, gather, scatter, choice, loop};
 ghost use Rattle.pp_plan.specs.View.{statement_of, sequence_of, alternatives_of};
 
 use crate::certificate::Certificate;
 use crate::check_error::CheckError;
-use crate::entries::{is_above_latched, is_held_as, is_inserted, is_removed, is_same, noted_at};
+use crate::entries::{
+    bound_at, is_above_latched, is_gathered, is_held_as, is_inserted, is_removed, is_same,
+    is_scattered, noted_at,
+};
+use crate::limits::MOST_COUNTED;
 use crate::note::{Entry, Held};
+use crate::turns::{begins_turns, ends_as_begun, grows_by_turns};
 use pp_plan::{Body, Branches, Mode, Stmt};
 use pp_settings::Layout;
 
@@ -21,13 +26,17 @@ pub(crate) struct Walk<'a> {
     pub(crate) layout: &'a Layout,
     /// The certificate.
     pub(crate) certificate: &'a Certificate,
+    /// Whether the bounds of bundles are told exactly, and so have to grow in a loop as its turns want it. Otherwise they
+    /// are counted up to 4,097.
+    pub(crate) told: bool,
 }
 
 impl Walk<'_> {
     ghost use Rattle.pp_cert.specs.Walk.{Test, empty, same, after, slot_fixed, slot_unlatched, claims_of, note_at};
     ghost use Rattle.pp_cert.specs.Walk.{walked, note_fault, first_fault, unless_fault, note_tests, step_tests};
     ghost use Rattle.pp_cert.specs.Walk.{statement_tests, sequence_tests, later_tests, outcome, statement_end};
-    ghost use Rattle.pp_cert.specs.Walk.{sequence_end, alternatives_end};
+    ghost use Rattle.pp_cert.specs.Walk.{sequence_end, alternatives_end, turn_tests, loop_keeps, grow_tests};
+    ghost use Rattle.pp_cert.specs.Notes.{one_more};
 
     /// The note at a place; the empty one where none is left.
     pub(crate) fn entries(&self, place: u32) -> &[Entry]
@@ -88,10 +97,10 @@ impl Walk<'_> {
         requires { at + 1 < 2 ^ 32 }
         ensures { result
             ≡ walked self.now.layout.now self.now.certificate.now
-            (step_tests at (fix slot region) ++ note_tests (at + 1) (after (fix slot region) at)) (at + 1) }
+            (step_tests at (fix slot region) ++ note_tests (at + 1) (after self.now.told (fix slot region) at)) (at + 1) }
     {
         let before = self.entries(at);
-        if noted_at(before, slot).is_some() {
+        if noted_at(before, slot).is_some() || bound_at(before, slot) != 0 {
             return Err(CheckError::SlotInUse { place: at });
         }
         let entry = Entry::Slot {
@@ -107,7 +116,7 @@ impl Walk<'_> {
         requires { at + 1 < 2 ^ 32 }
         ensures { result
             ≡ walked self.now.layout.now self.now.certificate.now
-            (step_tests at (unfix slot) ++ note_tests (at + 1) (after (unfix slot) at)) (at + 1) }
+            (step_tests at (unfix slot) ++ note_tests (at + 1) (after self.now.told (unfix slot) at)) (at + 1) }
     {
         if let Some(fault) = self.unlatched_fault(at, slot) {
             return Err(fault);
@@ -121,7 +130,7 @@ impl Walk<'_> {
         requires { at + 1 < 2 ^ 32 }
         ensures { result
             ≡ walked self.now.layout.now self.now.certificate.now
-            (step_tests at (latch slot mode) ++ note_tests (at + 1) (after (latch slot mode) at)) (at + 1) }
+            (step_tests at (latch slot mode) ++ note_tests (at + 1) (after self.now.told (latch slot mode) at)) (at + 1) }
     {
         if let Some(fault) = self.unlatched_fault(at, slot) {
             return Err(fault);
@@ -139,7 +148,7 @@ impl Walk<'_> {
         requires { at + 1 < 2 ^ 32 }
         ensures { result
             ≡ walked self.now.layout.now self.now.certificate.now
-            (step_tests at (unlatch slot) ++ note_tests (at + 1) (after (unlatch slot) at)) (at + 1) }
+            (step_tests at (unlatch slot) ++ note_tests (at + 1) (after self.now.told (unlatch slot) at)) (at + 1) }
     {
         let before = self.entries(at);
         match noted_at(before, slot) {
@@ -152,13 +161,54 @@ impl Walk<'_> {
         }
     }
 
+    /// The bound with one page more, told exactly or counted up to 4,097.
+    fn one_more(&self, bound: u16) -> u32
+        ensures { result ≡ one_more self.now.told bound }
+    {
+        let more = u32::from(bound) + 1;
+        if self.told {
+            more
+        } else {
+            more.min(u32::from(MOST_COUNTED))
+        }
+    }
+
+    /// Walks over a gather.
+    fn gather(&self, at: u32, slot: u8) -> Result<u32, CheckError>
+        requires { at + 1 < 2 ^ 32 }
+        ensures { result
+            ≡ walked self.now.layout.now self.now.certificate.now
+            (note_tests (at + 1) (after self.now.told (gather slot 0) at)) (at + 1) }
+    {
+        let before = self.entries(at);
+        let bound = self.one_more(bound_at(before, slot));
+        self.settle(
+            at + 1,
+            is_gathered(before, slot, bound, self.entries(at + 1)),
+        )
+    }
+
+    /// Walks over a scatter.
+    fn scatter(&self, at: u32, slot: u8) -> Result<u32, CheckError>
+        requires { at + 1 < 2 ^ 32 }
+        ensures { result
+            ≡ walked self.now.layout.now self.now.certificate.now
+            (step_tests at (scatter slot) ++ note_tests (at + 1) (after self.now.told (scatter slot) at)) (at + 1) }
+    {
+        let before = self.entries(at);
+        if bound_at(before, slot) == 0 {
+            return Err(CheckError::NotFixed { place: at });
+        }
+        self.settle(at + 1, is_scattered(before, slot, self.entries(at + 1)))
+    }
+
     /// Walks over statements, from the note before the first to the one after the last.
     #[cycle(walk)]
     #[tactic(auto, using(crate::proofs::Rules::walks))]
     pub(crate) fn sequence(&self, first: u32, stmts: &[Stmt]) -> Result<u32, CheckError>
         requires { sequence_end first (sequence_of stmts.now) < 2 ^ 32 }
         ensures { result
-            ≡ walked self.now.layout.now self.now.certificate.now (sequence_tests first (sequence_of stmts.now))
+            ≡ walked self.now.layout.now self.now.certificate.now (sequence_tests self.now.told first (sequence_of stmts.now))
             (sequence_end first (sequence_of stmts.now)) }
     {
         let mut place = first;
@@ -175,8 +225,8 @@ impl Walk<'_> {
         requires { statement_end at (statement_of stmt.now) < 2 ^ 32 }
         ensures { result
             ≡ walked self.now.layout.now self.now.certificate.now
-            (statement_tests at (statement_of stmt.now)
-            ++ note_tests (statement_end at (statement_of stmt.now)) (outcome at (statement_of stmt.now)))
+            (statement_tests self.now.told at (statement_of stmt.now)
+            ++ note_tests (statement_end at (statement_of stmt.now)) (outcome self.now.told at (statement_of stmt.now)))
             (statement_end at (statement_of stmt.now)) }
     {
         match stmt {
@@ -184,7 +234,9 @@ impl Walk<'_> {
             Stmt::Unfix { slot } => self.unfix(at, *slot),
             Stmt::Latch { slot, mode } => self.latch(at, *slot, *mode),
             Stmt::Unlatch { slot } => self.unlatch(at, *slot),
-            Stmt::Loop { body, .. } => self.turns(at, body),
+            Stmt::Gather { slot, .. } => self.gather(at, *slot),
+            Stmt::Scatter { slot } => self.scatter(at, *slot),
+            Stmt::Loop { count, body } => self.turns(at, *count, body),
             Stmt::Choice { branches } => self.choice(at, branches),
         }
     }
@@ -196,28 +248,100 @@ impl Walk<'_> {
         requires { sequence_end first body.now < 2 ^ 32 }
         ensures { result
             ≡ walked self.now.layout.now self.now.certificate.now
-            (note_tests first (same before) ++ sequence_tests first body.now) (sequence_end first body.now) }
+            (note_tests first (same before) ++ sequence_tests self.now.told first body.now) (sequence_end first body.now) }
     {
         self.keep(first, before)?;
+        self.sequence(first, body.stmts())
+    }
+
+    /// Tests the first note of a loop's body, where the loop stands at the place `before`.
+    fn begin_turns(&self, place: u32, before: u32, body: &Body) -> Result<u32, CheckError>
+        ensures { result
+            ≡ walked self.now.layout.now self.now.certificate.now (turn_tests place before body.now) place }
+    {
+        self.settle(
+            place,
+            begins_turns(body, self.entries(before), self.entries(place)),
+        )
+    }
+
+    /// The fault of the bounds at the end of a loop's body, where they are told and haven't grown as so many turns want it.
+    fn growth_fault(
+        &self,
+        end: u32,
+        before: u32,
+        first: u32,
+        turns: u16,
+        body: &Body,
+    ) -> Option<CheckError>
+        ensures { result
+            ≡ first_fault self.now.layout.now (claims_of self.now.certificate.now)
+            (grow_tests self.now.told end before first turns body.now) }
+    {
+        if !self.told {
+            return None;
+        }
+        if grows_by_turns(
+            turns,
+            body,
+            self.entries(before),
+            self.entries(first),
+            self.entries(end),
+        ) {
+            return None;
+        }
+        Some(CheckError::LoopChanges { place: end })
+    }
+
+    /// The fault of the last note of the body of a loop at the place `before`, if it has one.
+    fn end_fault(
+        &self,
+        end: u32,
+        before: u32,
+        first: u32,
+        turns: u16,
+        body: &Body,
+    ) -> Option<CheckError>
+        ensures { result
+            ≡ first_fault self.now.layout.now (claims_of self.now.certificate.now)
+            (loop_keeps end before body.now ∷ grow_tests self.now.told end before first turns body.now) }
+    {
+        if !ends_as_begun(body, self.entries(before), self.entries(end)) {
+            return Some(CheckError::LoopChanges { place: end });
+        }
+        self.growth_fault(end, before, first, turns, body)
+    }
+
+    /// Walks over the body of the loop at the place `before`.
+    #[cycle(walk)]
+    #[tactic(auto, using(crate::proofs::Rules::walks))]
+    fn turn(&self, before: u32, first: u32, body: &Body) -> Result<u32, CheckError>
+        requires { sequence_end first body.now < 2 ^ 32 }
+        ensures { result
+            ≡ walked self.now.layout.now self.now.certificate.now
+            (turn_tests first before body.now ++ sequence_tests self.now.told first body.now)
+            (sequence_end first body.now) }
+    {
+        self.begin_turns(first, before, body)?;
         self.sequence(first, body.stmts())
     }
 
     /// Walks over a loop and the note after it.
     #[cycle(walk)]
     #[tactic(auto, using(crate::proofs::Rules::walks))]
-    fn turns(&self, at: u32, body: &Body) -> Result<u32, CheckError>
+    fn turns(&self, at: u32, count: u16, body: &Body) -> Result<u32, CheckError>
         requires { sequence_end (at + 1) body.now + 1 < 2 ^ 32 }
         ensures { result
             ≡ walked self.now.layout.now self.now.certificate.now
-            (statement_tests at (loop 1 body.now)
+            (statement_tests self.now.told at (loop count body.now)
             ++ note_tests (sequence_end (at + 1) body.now + 1) (same (sequence_end (at + 1) body.now)))
             (sequence_end (at + 1) body.now + 1) }
     {
-        let end = self.inside(at, at + 1, body)?;
-        if !is_same(self.entries(end), self.entries(at)) {
-            return Err(CheckError::LoopChanges { place: end });
+        let end = self.turn(at, at + 1, body)?;
+        match self.end_fault(end, at, at + 1, count, body) {
+            Some(fault) => Err(fault),
+            None => self.keep(end + 1, end),
         }
-        self.keep(end + 1, end)
     }
 
     /// Walks over a choice and the note after it.
@@ -227,8 +351,8 @@ impl Walk<'_> {
         requires { alternatives_end (at + 1) branches.now < 2 ^ 32 }
         ensures { result
             ≡ walked self.now.layout.now self.now.certificate.now
-            (statement_tests at (choice branches.now)
-            ++ note_tests (alternatives_end (at + 1) branches.now) (outcome at (choice branches.now)))
+            (statement_tests self.now.told at (choice branches.now)
+            ++ note_tests (alternatives_end (at + 1) branches.now) (outcome self.now.told at (choice branches.now)))
             (alternatives_end (at + 1) branches.now) }
     {
         let Some((body, later)) = branches.bodies().split_first() else {
@@ -246,7 +370,7 @@ impl Walk<'_> {
         requires { alternatives_end (first + 1) (alternatives_of bodies.now) < 2 ^ 32 }
         ensures { result
             ≡ walked self.now.layout.now self.now.certificate.now
-            (later_tests before first (first + 1) (alternatives_of bodies.now))
+            (later_tests self.now.told before first (first + 1) (alternatives_of bodies.now))
             (alternatives_end (first + 1) (alternatives_of bodies.now)) }
     {
         let mut next = first + 1;

@@ -36,4 +36,3 @@ mod AfterActs
 mod AfterOthers
 mod AfterFlushes
 pub mod AfterMoves
-pub mod PlainSlots

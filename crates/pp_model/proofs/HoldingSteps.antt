@@ -55,7 +55,7 @@ filter_le f p (y ∷ ys) = go (p y) (filter_le f p ys)
     go false le = omega (arith, sum_by-cons f y ys, le)
 
 -- What a worker holds is a part of what is held after the actions that it has done.
-pub held_part : (g : Geometry) (r : Running) (h : IsSeat g r) (f : Holding → ℕ)
+held_part : (g : Geometry) (r : Running) (h : IsSeat g r) (f : Holding → ℕ)
     → sum_by f (holdings r) ≤ sum_by f (has_held g r h).0
 held_part g r h f =
     let before = has_held g r h in

@@ -25,7 +25,6 @@ pub mod Falls
 pub mod BoundLaws
 pub mod MarkParts
 pub mod HoldingSteps
-pub mod NoBundles
 pub mod Counts
 pub mod BoundSteps
 pub mod FlightSteps

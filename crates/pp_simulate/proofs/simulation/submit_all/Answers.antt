@@ -1,8 +1,9 @@
-use Rattle.std.proofs.Common.{sym, ap, subst, ◌∙◌}
+use Rattle.std.proofs.Common.{Err, refl, sym, ap, subst, ◌∙◌}
 use Rattle.pp_model.specs.Submitting.{after_submit, after_submits}
 use Rattle.pp_vault.specs.Hands.{HandsFit}
 use Rattle.pp_vault.specs.Parts.{Parts}
-use Rattle.pp_simulate.proofs.Submits.{last_first, taken_next}
+use Rattle.pp_simulate.specs.Simulating.{TakesAll}
+use Rattle.pp_simulate.proofs.Submits.{last_first, taken_next, refused_next}
 use Rattle.pp_simulate.proofs.simulation.submit_all.Goals as goal
 
 pub loop-plan-preserved : goal.loop-plan-preserved
@@ -28,3 +29,13 @@ loop-plan-preserved c =
 pub returns-in-Err-clause-fit : goal.returns-in-Err-clause-fit
 returns-in-Err-clause-fit c h fits =
     subst (λ v. HandsFit v h) (sym c.in-Err.ensures.unchanged) (c.loop-plan.invariant.fit h fits)
+
+pub returns-in-Err-clause-takes : goal.returns-in-Err-clause-takes
+returns-in-Err-clause-takes c s stands =
+    let now = c.loop-plan.invariant.takes s stands in
+    let refused = c.in-Err.ensures.error now.0 now.1 in
+    let is = now.2
+    ∙ ap (after_submits now.0) (last_first c.loop-plan.waiting.items c.pop.new.self.items c.in-Some.plan
+    c.in-Some.ensures.items)
+    ∙ refused_next now.0 c.in-Some.plan _ c.in-Err.error refused in
+    subst (λ r. TakesAll r c.submit.new.self (Err c.in-Err.error)) (sym is) refl

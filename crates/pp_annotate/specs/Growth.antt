@@ -1,0 +1,61 @@
+-- By how much a plan's statements raise the bound of a bundle, and the bounds at the first place of a loop's body.
+use Rattle.std.specs.Prelude.{ℕ, zero, suc, ◌+◌, ◌-◌, ◌*◌, ◌==◌, Bool, min, if◌then◌else◌}
+use Rattle.pp_plan.specs.Limits.{most_slots}
+use Rattle.pp_plan.specs.Tree.{Step, fix, unfix, latch, unlatch, gather, scatter, Statement, step, loop, choice}
+use Rattle.pp_plan.specs.Tree.{Sequence, skip, andthen, Alternatives, none, either, scatters}
+use Rattle.pp_cert.specs.Limits.{most_counted}
+use Rattle.pp_cert.specs.Notes.{Entries, bound_at, with_bound}
+
+-- ---- growth
+
+-- How many pages the step adds to the bundle.
+abbrev pub step_growth : Step → ℕ → ℕ
+step_growth (fix s r) k = 0
+step_growth (unfix s) k = 0
+step_growth (latch s m) k = 0
+step_growth (unlatch s) k = 0
+step_growth (gather s r) k = if s == k then 1 else 0
+step_growth (scatter s) k = 0
+
+abbrev mutual
+  -- How many pages the statement adds to a bundle that it nowhere scatters: a loop as many in each turn, a choice as many
+  -- as its first branch.
+  pub statement_growth : Statement → ℕ → ℕ
+  statement_growth (step s) k = step_growth s k
+  statement_growth (loop n b) k = n * growth b k
+  statement_growth (choice bs) k = first_growth bs k
+
+  pub growth : Sequence → ℕ → ℕ
+  growth skip k = 0
+  growth (andthen s b) k = statement_growth s k + growth b k
+
+  pub first_growth : Alternatives → ℕ → ℕ
+  first_growth none k = 0
+  first_growth (either b bs) k = growth b k
+
+-- ---- the first place of a loop's body
+
+-- By how much the bundle's bound at the first place of a loop's body is above the one just before the loop. What is noted
+-- there is the bound before the last turn, so it is the growth in all turns but one. A bundle that the body scatters has the
+-- same bound before each turn.
+abbrev pub rise : (turns : ℕ) → Sequence → ℕ → ℕ
+rise turns b k = if scatters b k then 0 else (turns - 1) * growth b k
+
+-- The bound `before` after such a rise, counted no further than to the first that is too large.
+abbrev pub risen : (before rise : ℕ) → ℕ
+risen before rise = min (before + rise) most_counted
+
+-- The note with this bound for the bundle; the same note where that is its bound.
+abbrev pub with_rise : (slot bound : ℕ) → Entries → Entries
+with_rise s k n = if k == bound_at n s then n else with_bound s k n
+
+-- The note with the bounds of the bundles among so many slots as they are at the first place of the body.
+unfoldable pub risen_below : ℕ → (is_bundle : ℕ → Bool) → (turns : ℕ) → Sequence → Entries → Entries
+risen_below zero is_bundle turns b n = n
+risen_below (suc k) is_bundle turns b n =
+    if is_bundle k then with_rise k (risen (bound_at (risen_below k is_bundle turns b n) k) (rise turns b k))
+    (risen_below k is_bundle turns b n) else risen_below k is_bundle turns b n
+
+-- What is noted at the first place of the body of a loop of so many turns, where `n` is noted just before the loop.
+unfoldable pub first_note : (is_bundle : ℕ → Bool) → (turns : ℕ) → Sequence → Entries → Entries
+first_note is_bundle turns b n = risen_below most_slots is_bundle turns b n
