@@ -1,8 +1,9 @@
 //! Refusals of a certificate by the check.
 
 use crate::entries::note_text;
-use crate::fault::place_text;
-use crate::places::{place_of, size_of};
+use crate::fault::{held_text, place_text};
+use crate::places::{other_note, place_of, size_of};
+use crate::plans::fault_of;
 use crate::reading::{certificate_in, plan_in};
 use pp_cert::{Certificate, CheckError, MOST_STEPS, longest_trace};
 use pp_locate::{Said, Step, said_at, text_of};
@@ -11,14 +12,27 @@ use pp_settings::Settings;
 use std::alloc::{AllocError, Global};
 
 /// Whether the refusal is of the plan itself, so that no certificate would be accepted.
-pub(crate) fn is_of_plan(error: CheckError) -> bool {
+pub(crate) fn is_of_plan(
+    alloc: Global,
+    settings: &Settings,
+    bytes: &[u8],
+    error: CheckError,
+) -> Result<bool, AllocError> {
+    match error {
+        // A loop's notes may have other bounds than its turns want, or its turns may end otherwise than they begin.
+        CheckError::LoopChanges { .. } => Ok(fault_of(alloc, settings, bytes)? == Some(error)),
+        _ => Ok(is_never_of_notes(error)),
+    }
+}
+
+/// Whether no certificate is refused so for how it was written.
+fn is_never_of_notes(error: CheckError) -> bool {
     match error {
         CheckError::SlotInUse { .. }
         | CheckError::NotFixed { .. }
         | CheckError::StillLatched { .. }
         | CheckError::NotLatched { .. }
         | CheckError::AgainstOrder { .. }
-        | CheckError::LoopChanges { .. }
         | CheckError::BranchDiffers { .. }
         | CheckError::EndsHolding { .. }
         | CheckError::OtherSettings => true,
@@ -26,6 +40,7 @@ pub(crate) fn is_of_plan(error: CheckError) -> bool {
         | CheckError::NotesLong { .. }
         | CheckError::NoteDiffers { .. }
         | CheckError::OverPeak { .. }
+        | CheckError::LoopChanges { .. }
         | CheckError::StepsTooFew
         | CheckError::StepsTooMany
         | CheckError::PeakTooBig => false,
@@ -77,6 +92,7 @@ impl Matter<'_> {
             CheckError::NotesLong { place } => self.long(alloc, place),
             CheckError::NoteDiffers { place } => self.differs(alloc, place),
             CheckError::OverPeak { place } => self.over_peak(alloc, place),
+            CheckError::LoopChanges { place } => self.turns(alloc, place),
             CheckError::StepsTooFew => self.too_few(alloc),
             CheckError::StepsTooMany => self.too_many(alloc),
             CheckError::PeakTooBig => self.too_big(alloc),
@@ -84,11 +100,11 @@ impl Matter<'_> {
         }
     }
 
-    /// What is held at the place, as a note, and where the place lies.
+    /// What is held at the place, and where the place lies.
     fn place(&self, alloc: Global, place: u32) -> Result<(String, String), AllocError> {
         match place_of(alloc, self.plan, place)? {
             Some(found) => {
-                let held = note_text(alloc, self.settings, self.plan, &found.held)?;
+                let held = held_text(alloc, self.settings, self.plan, &found)?;
                 let lies = place_text(alloc, self.bytes, &found)?;
                 Ok((held, lies))
             }
@@ -117,7 +133,7 @@ impl Matter<'_> {
         let notes = self.certificate.notes.len();
         let what = format!(in alloc;
             "note {place} is missing, {lies}: the certificate has notes for {notes} of the plan's {places} places; \
-            held there is {held}"
+            {held}"
         )?;
         said_at(alloc, self.text, &[Step::Key("notes")], what)
     }
@@ -134,10 +150,43 @@ impl Matter<'_> {
 
     /// A note isn't the expected one.
     fn differs(&self, alloc: Global, place: u32) -> Result<Said, AllocError> {
+        if let Some(other) = other_note(alloc, self.plan, &self.certificate.notes, place)? {
+            let why = "which doesn't follow from the notes before it";
+            return self.differs_behind(alloc, place, why, other);
+        }
         let (held, lies) = self.place(alloc, place)?;
         let note = self.note(alloc, place)?;
+        let what = format!(in alloc; "note {place}, {lies}: it is {note}, and {held}")?;
+        self.said_of_note(alloc, place, what)
+    }
+
+    /// The bounds of bundles at the end of a loop's body aren't those that its turns come to.
+    fn turns(&self, alloc: Global, place: u32) -> Result<Said, AllocError> {
+        match other_note(alloc, self.plan, &self.certificate.notes, place)? {
+            Some(other) => {
+                let why = "which the turns don't come to from the notes before it";
+                self.differs_behind(alloc, place, why, other)
+            }
+            None => self.differs(alloc, place),
+        }
+    }
+
+    /// A note is refused for this reason behind another one that isn't what is held there. That one says too much or too
+    /// little of a bundle at the beginning of a loop's body, which is found at the body's end alone.
+    fn differs_behind(
+        &self,
+        alloc: Global,
+        place: u32,
+        why: &str,
+        other: u32,
+    ) -> Result<Said, AllocError> {
+        let (_, lies) = self.place(alloc, place)?;
+        let (held, _) = self.place(alloc, other)?;
+        let note = self.note(alloc, place)?;
+        let first = self.note(alloc, other)?;
         let what = format!(in alloc;
-            "note {place}, {lies}: it is {note}, and held there is {held}"
+            "note {place}, {lies}: it is {note}, {why}; of these note {other} is {first}, and {held}: a loop's body has the \
+            notes of its last turn"
         )?;
         self.said_of_note(alloc, place, what)
     }

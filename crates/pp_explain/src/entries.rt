@@ -1,18 +1,51 @@
 //! What is held at a place of a plan.
 
 use pp_annotate::{held_as, inserted, removed};
-use pp_cert::{Entry, Held};
+use pp_cert::{Entry, Held, MOST_COUNTED};
 use pp_explain_text::{region_name, slot_name};
 use pp_plan::{Plan, Stmt};
 use pp_settings::Settings;
 use std::alloc::{AllocError, Global};
 
-/// The entry of the slot, if it holds a page.
+/// The entry of the slot, if it has one.
 pub(crate) fn entry_of(entries: &[Entry], slot: u8) -> Option<Entry> {
     entries.iter().find(|entry| entry.slot() == slot).copied()
 }
 
-/// What is held after a fix, an unfix, a latch or an unlatch, where this is held before it.
+/// The most pages that the bundle pins; 0 without an entry.
+pub(crate) fn bound_of(entries: &[Entry], slot: u8) -> u16 {
+    match entries.iter().find(|entry| entry.is_bundle_of(slot)) {
+        Some(entry) => entry.pins(),
+        None => 0,
+    }
+}
+
+/// The most pages that all entries together pin.
+pub(crate) fn pins_of(entries: &[Entry]) -> u32 {
+    let mut pins = 0u32;
+    for entry in entries {
+        pins = pins.saturating_add(u32::from(entry.pins()));
+    }
+    pins
+}
+
+/// What is held with this bound for the bundle, where 0 is no entry.
+pub(crate) fn bounded(
+    alloc: Global,
+    before: &[Entry],
+    slot: u8,
+    bound: u16,
+) -> Result<Vec<Entry>, AllocError> {
+    let mut others = Vec::from_slice(alloc, before)?;
+    others.retain(|entry| !entry.is_bundle_of(slot));
+    if bound == 0 {
+        return Ok(others);
+    }
+    inserted(alloc, &others, Entry::Bundle { slot, bound })
+}
+
+/// What is held after a statement that is neither a loop nor a choice, where this is held before it. Bounds count no further
+/// than to the first that is too large for any pool.
 pub(crate) fn after(
     alloc: Global,
     before: &[Entry],
@@ -30,11 +63,17 @@ pub(crate) fn after(
         Stmt::Unfix { slot } => removed(alloc, before, *slot),
         Stmt::Latch { slot, mode } => held_as(alloc, before, Held::from(*mode), *slot),
         Stmt::Unlatch { slot } => held_as(alloc, before, Held::Free, *slot),
+        Stmt::Gather { slot, .. } => {
+            let bound = bound_of(before, *slot).saturating_add(1).min(MOST_COUNTED);
+            bounded(alloc, before, *slot, bound)
+        }
+        Stmt::Scatter { slot } => bounded(alloc, before, *slot, 0),
         Stmt::Loop { .. } | Stmt::Choice { .. } => Vec::from_slice(alloc, before),
     }
 }
 
-/// The entries as a certificate writes them, as in `{"a":["root","-"]}`.
+/// The entries as a certificate writes them, as in `{"a":["root","-"],"g":3}`; of a bound that is too large for any pool it is
+/// said that it may be more.
 pub(crate) fn note_text(
     alloc: Global,
     settings: &Settings,
@@ -53,7 +92,11 @@ pub(crate) fn note_text(
                 let held = held.text();
                 write!(text, "{slot:?}:[{region:?},{held:?}]")?;
             }
-            Entry::Bundle { bound, .. } => write!(text, "{slot:?}:{bound}")?,
+            Entry::Bundle { bound, .. } if bound < MOST_COUNTED => write!(
+                text,
+                "{slot:?}:{bound}"
+            )?,
+            Entry::Bundle { bound, .. } => write!(text, "{slot:?}:{bound} or more")?,
         }
     }
     text.push_str("}")?;

@@ -206,11 +206,11 @@ fn finding_beside(
     refused: Refused,
 ) -> Result<Option<Finding>, AllocError> {
     match refused {
-        Refused::Check(error) if is_of_plan(error) => {
-            let said = fault_said(alloc, settings, plan, error)?;
-            Ok(Finding::of(Which::Plan(0), said))
-        }
         Refused::Check(error) => {
+            if is_of_plan(alloc, settings, plan, error)? {
+                let said = fault_said(alloc, settings, plan, error)?;
+                return Ok(Finding::of(Which::Plan(0), said));
+            }
             let said = check_said(alloc, settings, plan, certificate, error)?;
             Ok(Finding::of(Which::Other, said))
         }

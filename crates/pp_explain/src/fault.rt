@@ -3,7 +3,7 @@
 use crate::entries::{entry_of, note_text};
 use crate::places::{Place, Role, Size, place_of, size_of};
 use crate::reading::plan_in;
-use pp_cert::{CheckError, Entry, Held, MOST_STEPS};
+use pp_cert::{CheckError, Entry, Held, MOST_COUNTED, MOST_STEPS};
 use pp_explain_text::{region_name, slot_name};
 use pp_locate::{Said, Statement, slot_in, steps_text, text_of, value_of};
 use pp_plan::Plan;
@@ -44,6 +44,16 @@ pub(crate) fn fault_said(
     Ok(Said::of(format!(in alloc; "{error}")?))
 }
 
+/// Whether one of these is a bundle.
+fn has_bundle(entries: &[Entry]) -> bool {
+    entries.iter().any(Entry::is_bundle)
+}
+
+/// Whether the bound of a bundle may be more than it says.
+fn is_counted_out(entries: &[Entry]) -> bool {
+    entries.iter().any(|entry| entry.pins() >= MOST_COUNTED)
+}
+
 /// Where a place of the plan of these bytes lies, as in `before statement 1 at body[1]`.
 pub(crate) fn place_text(alloc: Global, bytes: &[u8], place: &Place) -> Result<String, AllocError> {
     let (number, steps) = (place.number, steps_text(alloc, &place.steps)?);
@@ -60,6 +70,20 @@ pub(crate) fn place_text(alloc: Global, bytes: &[u8], place: &Place) -> Result<S
         }
         Role::End => String::from_str(alloc, "at the end of the plan"),
     }
+}
+
+/// What is held at the place, as in `held there is {"a":["root","-"]}`.
+pub(crate) fn held_text(
+    alloc: Global,
+    settings: &Settings,
+    plan: &Plan,
+    place: &Place,
+) -> Result<String, AllocError> {
+    let held = note_text(alloc, settings, plan, &place.held)?;
+    if place.grows {
+        return format!(in alloc; "held there in the last turn is {held}");
+    }
+    format!(in alloc; "held there is {held}")
 }
 
 /// The statement of the place, with its text where that can be read.
@@ -95,18 +119,30 @@ impl Matter<'_> {
         )?;
         match place_of(alloc, self.plan, most_at)? {
             Some(place) => {
-                let held = self.note(alloc, &place.held)?;
-                let beside = match place.role {
-                    Role::Before => "before it",
-                    Role::LoopEnd => "at the end of its body",
-                    Role::BranchEnd(_) => "at the end of a branch",
-                    Role::End => "there",
-                };
-                let what = format!(in alloc; "{most} pages are held {beside}, {held}, {rule}")?;
+                let most = self.most_text(alloc, &place, most)?;
+                let what = format!(in alloc; "{most}, {rule}")?;
                 self.said_there(alloc, most_at, &place, &what)
             }
             None => Ok(Said::of(format!(in alloc; "{most} pages are held at once, {rule}")?)),
         }
+    }
+
+    /// That so many pages are held at the place.
+    fn most_text(&self, alloc: Global, place: &Place, most: u32) -> Result<String, AllocError> {
+        let held = self.note(alloc, &place.held)?;
+        let least = if is_counted_out(&place.held) {
+            "at least "
+        } else {
+            ""
+        };
+        let beside = match place.role {
+            Role::Before => "before it",
+            Role::LoopEnd => "at the end of its body",
+            Role::BranchEnd(_) => "at the end of a branch",
+            Role::End => "there",
+        };
+        let turn = if place.grows { " in the last turn" } else { "" };
+        format!(in alloc; "{least}{most} pages are held {beside}{turn}, {held}")
     }
 
     /// What is said of the place that the error names.
@@ -144,29 +180,48 @@ impl Matter<'_> {
 
     /// What is wrong at the place, and the rule.
     fn rule(&self, alloc: Global, place: &Place, error: CheckError) -> Result<String, AllocError> {
-        let held = self.note(alloc, &place.held)?;
-        let slot = self.slot(place);
-        let slot = slot_name(self.plan, slot);
+        match error {
+            CheckError::AgainstOrder { .. } => self.order(alloc, place),
+            CheckError::LoopChanges { .. } => self.turns(alloc, place),
+            CheckError::BranchDiffers { .. } => self.branch(alloc, place),
+            CheckError::EndsHolding { .. } => {
+                let held = self.note(alloc, &place.held)?;
+                format!(in alloc; "{held} is held still, and a plan ends holding nothing")
+            }
+            _ => {
+                let slot = self.slot_rule(alloc, place, error)?;
+                let held = held_text(alloc, self.settings, self.plan, place)?;
+                format!(in alloc; "{slot}; {held}")
+            }
+        }
+    }
+
+    /// What is wrong with the slot of the place's statement.
+    fn slot_rule(
+        &self,
+        alloc: Global,
+        place: &Place,
+        error: CheckError,
+    ) -> Result<String, AllocError> {
+        let number = self.slot(place);
+        let slot = slot_name(self.plan, number);
+        let kind = if self.plan.is_bundle(number) {
+            "bundle"
+        } else {
+            "slot"
+        };
         match error {
             CheckError::SlotInUse { .. } => {
-                format!(in alloc; "slot {slot} holds a page already; held there is {held}")
+                format!(in alloc; "{kind} {slot} holds a page already")
             }
-            CheckError::NotFixed { .. } => {
-                format!(in alloc; "slot {slot} holds no page; held there is {held}")
-            }
+            CheckError::NotFixed { .. } => { format!(in alloc; "{kind} {slot} holds no page") }
             CheckError::StillLatched { .. } => {
                 format!(in alloc;
-                    "the page of slot {slot} is latched already, and is to be unlatched first; held there is {held}"
+                    "the page of {kind} {slot} is latched already, and is to be unlatched first"
                 )
             }
             CheckError::NotLatched { .. } => {
-                format!(in alloc; "the page of slot {slot} isn't latched; held there is {held}")
-            }
-            CheckError::AgainstOrder { .. } => self.order(alloc, place),
-            CheckError::LoopChanges { .. } => self.turns(alloc, place, &held),
-            CheckError::BranchDiffers { .. } => self.branch(alloc, place, &held),
-            CheckError::EndsHolding { .. } => {
-                format!(in alloc; "{held} is held still, and a plan ends holding nothing")
+                format!(in alloc; "the page of {kind} {slot} isn't latched")
             }
             _ => format!(in alloc; "{error}"),
         }
@@ -237,15 +292,27 @@ impl Matter<'_> {
     }
 
     /// A loop's body that ends otherwise than it begins.
-    fn turns(&self, alloc: Global, place: &Place, held: &str) -> Result<String, AllocError> {
+    fn turns(&self, alloc: Global, place: &Place) -> Result<String, AllocError> {
+        let held = self.note(alloc, &place.held)?;
         let due = self.note(alloc, &place.due)?;
+        let turn = if place.grows {
+            "its last turn"
+        } else {
+            "its body"
+        };
+        let apart = if has_bundle(&place.due) || has_bundle(&place.held) {
+            ", but for bundles that it doesn't scatter"
+        } else {
+            ""
+        };
         format!(in alloc;
-            "its body begins with {due} and ends with {held}: each turn of a loop ends as it begins"
+            "{turn} begins with {due} and ends with {held}: each turn of a loop ends as it begins{apart}"
         )
     }
 
     /// A branch that ends otherwise than the first.
-    fn branch(&self, alloc: Global, place: &Place, held: &str) -> Result<String, AllocError> {
+    fn branch(&self, alloc: Global, place: &Place) -> Result<String, AllocError> {
+        let held = self.note(alloc, &place.held)?;
         let due = self.note(alloc, &place.due)?;
         let branch = match place.role {
             Role::BranchEnd(branch) => branch,

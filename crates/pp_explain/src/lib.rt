@@ -8,6 +8,7 @@ mod check;
 mod entries;
 mod explaining;
 mod fault;
+mod growth;
 mod journal;
 mod paragraph;
 mod places;

@@ -1,7 +1,8 @@
 //! The places of a plan, and what is held at them.
 
-use crate::entries::after;
-use pp_cert::Entry;
+use crate::entries::{after, pins_of};
+use crate::growth::begun;
+use pp_cert::{Entry, Note};
 use pp_locate::Step;
 use pp_plan::{Body, Branches, Plan, Stmt};
 use std::alloc::{AllocError, Global};
@@ -33,7 +34,9 @@ pub(crate) struct Place {
     pub(crate) steps: Vec<Step<'static>>,
     /// What is held there.
     pub(crate) held: Vec<Entry>,
-    /// At the end of a body, what is to be held there: what its loop begins with, or what the first branch ends with.
+    /// Whether it stands in a loop in which a bundle grows, so that only the last turn holds so much there.
+    pub(crate) grows: bool,
+    /// At the end of a loop's body, what its last turn begins with; at that of a branch, what the first branch ends with.
     pub(crate) due: Vec<Entry>,
 }
 
@@ -44,7 +47,7 @@ pub(crate) fn place_of(
     plan: &Plan,
     number: u32,
 ) -> Result<Option<Place>, AllocError> {
-    let mut walk = Walk::to(alloc, number);
+    let mut walk = Walk::to(alloc, &[], number);
     let held = walk.statements(alloc, DEEPEST, Step::Key("body"), &[], plan.body())?;
     if let Some(held) = held {
         let number = walk.number;
@@ -53,20 +56,32 @@ pub(crate) fn place_of(
     Ok(walk.found)
 }
 
+/// The first place before the one of this number whose note isn't what is held there, if there is one.
+pub(crate) fn other_note(
+    alloc: Global,
+    plan: &Plan,
+    notes: &[Note],
+    number: u32,
+) -> Result<Option<u32>, AllocError> {
+    let mut walk = Walk::to(alloc, notes, number);
+    walk.statements(alloc, DEEPEST, Step::Key("body"), &[], plan.body())?;
+    Ok(walk.other)
+}
+
 /// How large a plan is.
 #[derive(Clone, Copy)]
 pub(crate) struct Size {
     /// How many places it has.
     pub(crate) places: u32,
-    /// The most slots that are held at one of them.
-    pub(crate) most: usize,
+    /// The most pages that are held at one of them.
+    pub(crate) most: u32,
     /// The first place where so many are held.
     pub(crate) most_at: u32,
 }
 
 /// How large the plan is.
 pub(crate) fn size_of(alloc: Global, plan: &Plan) -> Result<Size, AllocError> {
-    let mut walk = Walk::to(alloc, u32::MAX);
+    let mut walk = Walk::to(alloc, &[], u32::MAX);
     walk.statements(alloc, DEEPEST, Step::Key("body"), &[], plan.body())?;
     Ok(Size {
         places: walk.place.saturating_add(1),
@@ -77,31 +92,48 @@ pub(crate) fn size_of(alloc: Global, plan: &Plan) -> Result<Size, AllocError> {
 
 /// A walk over a plan that looks for a place.
 #[derive(Drop)]
-struct Walk {
+struct Walk<'n> {
     wanted: u32,
+    /// Notes that what is held is compared with.
+    notes: &'n [Note],
+    /// The first place that the walk has passed and whose note is another one.
+    other: Option<u32>,
     /// The number of the next place.
     place: u32,
     /// The number of the next statement.
     number: u32,
     /// The way to where the walk stands.
     steps: Vec<Step<'static>>,
-    /// The most slots that were held at a place, and the first place where they were.
-    most: usize,
+    /// Whether it stands in a loop in which a bundle grows.
+    grows: bool,
+    /// The most pages that were held at a place, and the first place where they were.
+    most: u32,
     most_at: u32,
     found: Option<Place>,
 }
 
-impl Walk {
-    /// A walk to the place of this number, at its beginning.
-    fn to(alloc: Global, wanted: u32) -> Walk {
+impl<'n> Walk<'n> {
+    /// A walk beside these notes to the place of this number, at its beginning.
+    fn to(alloc: Global, notes: &'n [Note], wanted: u32) -> Walk<'n> {
         Walk {
             wanted,
+            notes,
+            other: None,
             place: 0,
             number: 0,
             steps: Vec::new(alloc),
+            grows: false,
             most: 0,
             most_at: 0,
             found: None,
+        }
+    }
+
+    /// Whether this is noted at the place where the walk stands. Where no note is left, none differs.
+    fn is_noted(&self, held: &[Entry]) -> bool {
+        match self.notes.get(self.place as usize) {
+            Some(note) => note.entries() == held,
+            None => true,
         }
     }
 
@@ -114,11 +146,15 @@ impl Walk {
         held: &[Entry],
         due: &[Entry],
     ) -> Result<bool, AllocError> {
-        if held.len() > self.most {
-            self.most = held.len();
+        let pins = pins_of(held);
+        if pins > self.most {
+            self.most = pins;
             self.most_at = self.place;
         }
         if self.place != self.wanted {
+            if self.other.is_none() && !self.is_noted(held) {
+                self.other = Some(self.place);
+            }
             self.place = self.place.saturating_add(1);
             return Ok(false);
         }
@@ -127,6 +163,7 @@ impl Walk {
             number,
             steps: Vec::from_slice(alloc, &self.steps)?,
             held: Vec::from_slice(alloc, held)?,
+            grows: self.grows,
             due: Vec::from_slice(alloc, due)?,
         });
         Ok(true)
@@ -172,13 +209,15 @@ impl Walk {
         }
         self.number = number.saturating_add(1);
         match stmt {
-            Stmt::Loop { body, .. } => self.turns(alloc, levels - 1, number, before, body),
+            Stmt::Loop { count, body } => {
+                self.turns(alloc, levels - 1, number, before, *count, body)
+            }
             Stmt::Choice { branches } => self.choice(alloc, levels - 1, number, before, branches),
             _ => Ok(Some(after(alloc, before, stmt)?)),
         }
     }
 
-    /// Walks over the body of a loop.
+    /// Walks over the body of a loop of so many turns, in its last turn.
     #[cycle(walk)]
     fn turns(
         &mut self,
@@ -186,15 +225,20 @@ impl Walk {
         levels: u8,
         number: u32,
         before: &[Entry],
+        count: u16,
         body: &Body,
     ) -> Result<Option<Vec<Entry>>, AllocError> {
-        let held = self.statements(alloc, levels, Step::Key("body"), before, body.stmts())?;
+        let first = begun(alloc, levels, before, count, body)?;
+        let outer = self.grows;
+        self.grows = outer || pins_of(&first) > pins_of(before);
+        let held = self.statements(alloc, levels, Step::Key("body"), &first, body.stmts())?;
         let Some(held) = held else {
             return Ok(None);
         };
-        if self.arrive(alloc, Role::LoopEnd, number, &held, before)? {
+        if self.arrive(alloc, Role::LoopEnd, number, &held, &first)? {
             return Ok(None);
         }
+        self.grows = outer;
         Ok(Some(held))
     }
 

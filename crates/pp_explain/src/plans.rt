@@ -3,7 +3,7 @@
 use crate::reading::plan_in;
 use crate::source::Source;
 use pp_annotate::{AnnotateError, annotate};
-use pp_cert::Certificate;
+use pp_cert::{Certificate, CheckError};
 use pp_settings::Settings;
 use std::alloc::{AllocError, Global};
 
@@ -33,6 +33,22 @@ pub(crate) fn certificate_of(
     match annotate(alloc, settings, &plan) {
         Ok(certificate) => Ok(Some(certificate)),
         Err(AnnotateError::Fault(_)) => Ok(None),
+        Err(AnnotateError::OutOfMemory) => Err(AllocError),
+    }
+}
+
+/// Why the plan that the bytes spell has no certificate, if it has none.
+pub(crate) fn fault_of(
+    alloc: Global,
+    settings: &Settings,
+    bytes: &[u8],
+) -> Result<Option<CheckError>, AllocError> {
+    let Some(plan) = plan_in(alloc, settings, bytes)? else {
+        return Ok(None);
+    };
+    match annotate(alloc, settings, &plan) {
+        Ok(_) => Ok(None),
+        Err(AnnotateError::Fault(fault)) => Ok(Some(fault)),
         Err(AnnotateError::OutOfMemory) => Err(AllocError),
     }
 }

@@ -1,7 +1,7 @@
 //! Refusals of a certificate's text.
 
-use crate::names::{region_names, slot_names};
-use pp_cert::{CertError, MOST_ENTRIES, MOST_NOTES};
+use crate::names::{region_names, slot_name, slot_names};
+use pp_cert::{CertError, MOST_BOUND, MOST_ENTRIES, MOST_NOTES};
 use pp_locate::{Said, Step, hint, listed, no_text, said_at, shown, steps_text, text_of, value_of};
 use pp_plan::Plan;
 use pp_settings::Settings;
@@ -14,8 +14,8 @@ const TOP_KEYS: [&str; 3] = ["notes", "peak", "steps"];
 /// The form of a certificate.
 const FORM: &str = "a certificate is {\"notes\":[..],\"peak\":N,\"steps\":N}";
 
-/// The form of an entry.
-const ENTRY: &str = "an entry is [REGION,\"-\"], [REGION,\"S\"] or [REGION,\"X\"]";
+/// The form of a plain slot's entry.
+const PAGE: &str = "[REGION,\"-\"], [REGION,\"S\"] or [REGION,\"X\"]";
 
 /// What is said of the bytes of a certificate whose text is refused so for the plan under these settings.
 pub fn certificate_said(
@@ -147,7 +147,8 @@ fn note_fault<'v>(
     let Some(members) = note.as_object() else {
         let note = shown(alloc, note)?;
         let what = format!(in alloc;
-            "{note}: a note is {{SLOT:[REGION,\"-\"],..}}, with \"S\" or \"X\" where the page is latched"
+            "{note}: a note is {{SLOT:[REGION,\"-\"],..}}, with \"S\" or \"X\" where the page is latched, and with a number \
+            for the list where the slot is a bundle"
         )?;
         return Ok(Some(Fault { key: None, what }));
     };
@@ -165,7 +166,7 @@ fn note_fault<'v>(
     Ok(None)
 }
 
-/// The fault of an entry: its form first, then the slot's name, then the region's.
+/// The fault of an entry: its form first, then the slot's name, then the region's, then that the slot is of another kind.
 fn entry_fault(
     alloc: Global,
     settings: &Settings,
@@ -173,30 +174,67 @@ fn entry_fault(
     key: &str,
     value: &Value,
 ) -> Result<Option<String>, AllocError> {
-    let Some(region) = region_in(value) else {
+    let region = region_in(value);
+    if region.is_none() && !is_bound(value) {
         let value = shown(alloc, value)?;
-        return Ok(Some(format!(in alloc; "{value}: {ENTRY}")?));
-    };
-    if plan.slot(key).is_none() {
+        return Ok(Some(format!(in alloc;
+            "{value}: an entry is {PAGE}, or of a bundle a whole number from 1 to {MOST_BOUND}"
+        )?));
+    }
+    let Some(slot) = plan.slot(key) else {
         let names = slot_names(alloc, plan)?;
         let hint = hint(alloc, key, &names)?;
         let names = listed(alloc, &names)?;
         return Ok(Some(format!(in alloc;
             "{key:?}: the plan has no such slot; its slots are {names}{hint}"
         )?));
+    };
+    if let Some(region) = region {
+        if settings.region(region).is_none() {
+            return Ok(Some(no_region_text(alloc, settings, region)?));
+        }
     }
-    if settings.region(region).is_none() {
-        let names = region_names(alloc, settings)?;
-        let hint = hint(alloc, region, &names)?;
-        let names = listed(alloc, &names)?;
-        return Ok(Some(format!(in alloc;
-            "{region:?}: there is no such region; the regions are {names}{hint}"
-        )?));
+    if region.is_some() == plan.is_bundle(slot) {
+        return Ok(Some(other_kind_text(alloc, plan, slot, value)?));
     }
     Ok(None)
 }
 
-/// The region of an entry that is in form.
+/// A region that the settings don't have.
+fn no_region_text(alloc: Global, settings: &Settings, region: &str) -> Result<String, AllocError> {
+    let names = region_names(alloc, settings)?;
+    let hint = hint(alloc, region, &names)?;
+    let names = listed(alloc, &names)?;
+    format!(in alloc; "{region:?}: there is no such region; the regions are {names}{hint}")
+}
+
+/// An entry in the form of the other kind of slots.
+fn other_kind_text(
+    alloc: Global,
+    plan: &Plan,
+    slot: u8,
+    value: &Value,
+) -> Result<String, AllocError> {
+    let name = slot_name(plan, slot);
+    let value = shown(alloc, value)?;
+    if plan.is_bundle(slot) {
+        return format!(in alloc;
+            "{value}: {name} is a bundle of the plan, so its entry is a whole number from 1 to {MOST_BOUND}, the most pages \
+            that it pins there"
+        );
+    }
+    format!(in alloc; "{value}: {name} is a plain slot of the plan, so its entry is {PAGE}")
+}
+
+/// Whether the value is a number of pages that a bundle's entry may say.
+fn is_bound(value: &Value) -> bool {
+    match value.as_u64() {
+        Some(number) => 1 <= number && number <= u64::from(MOST_BOUND),
+        None => false,
+    }
+}
+
+/// The region of a plain slot's entry that is in form.
 fn region_in(value: &Value) -> Option<&str> {
     let [region, held] = value.as_array()?.as_slice() else {
         return None;

@@ -1,5 +1,6 @@
 //! Refusals of a plan's text.
 
+use crate::first_use::first_use;
 use crate::names::region_names;
 use pp_locate::{
     Said, Statement, Step, hint, listed, no_text, said_at, shown, slot_in, steps_to, text_of,
@@ -13,8 +14,13 @@ use std::alloc::{AllocError, Global};
 /// The keys of a plan's text.
 const TOP_KEYS: [&str; 2] = ["body", "version"];
 
-/// The first keys of the six kinds of statements.
+/// The first keys of the kinds of statements of version 1.
 const KINDS: [&str; 6] = ["fix", "unfix", "latch", "unlatch", "loop", "choice"];
+
+/// Those of version 2.
+const KINDS_WITH_BUNDLES: [&str; 8] = [
+    "fix", "unfix", "latch", "unlatch", "loop", "choice", "gather", "scatter",
+];
 
 /// How many statements a plan has at most.
 const MOST_STATEMENTS: u32 = 4_096;
@@ -53,6 +59,11 @@ fn top_said(alloc: Global, text: &str, value: &Value) -> Result<Option<Said>, Al
     body_said(alloc, text, value)
 }
 
+/// Whether a plan's value is of version 2, which has bundles.
+fn has_bundles(plan: &Value) -> bool {
+    plan.get("version").and_then(Value::as_u64) == Some(2)
+}
+
 /// The rule of the whole text behind this.
 fn top_said_of(
     alloc: Global,
@@ -60,7 +71,7 @@ fn top_said_of(
     steps: &[Step<'static>],
     what: &str,
 ) -> Result<Option<Said>, AllocError> {
-    let what = format!(in alloc; "{what}: a plan is {{\"body\":[..],\"version\":1}}")?;
+    let what = format!(in alloc; "{what}: a plan is {{\"body\":[..],\"version\":1 or 2}}")?;
     Ok(Some(said_at(alloc, text, steps, what)?))
 }
 
@@ -68,7 +79,7 @@ fn top_said_of(
 fn stranger_said(alloc: Global, text: &str, key: &str) -> Result<Option<Said>, AllocError> {
     let hint = hint(alloc, key, &TOP_KEYS)?;
     let what = format!(in alloc;
-        "the key {key:?} isn't known: a plan is {{\"body\":[..],\"version\":1}}{hint}"
+        "the key {key:?} isn't known: a plan is {{\"body\":[..],\"version\":1 or 2}}{hint}"
     )?;
     Ok(Some(said_at(alloc, text, &[Step::Key(key)], what)?))
 }
@@ -85,11 +96,11 @@ fn body_said(alloc: Global, text: &str, value: &Value) -> Result<Option<Said>, A
     let Some(version) = value.get("version") else {
         return top_said_of(alloc, text, &[], "the key version is missing");
     };
-    if version.as_u64() == Some(1) {
+    if let Some(1 | 2) = version.as_u64() {
         return Ok(None);
     }
     let version = shown(alloc, version)?;
-    let what = format!(in alloc; "version is {version}, and not the number 1")?;
+    let what = format!(in alloc; "version is {version}, and not the number 1 or 2")?;
     top_said_of(alloc, text, &[Step::Key("version")], &what)
 }
 
@@ -106,7 +117,7 @@ fn statement_said(
     let number = error.statement().unwrap_or(0);
     if let Some(steps) = steps_to(alloc, plan, number)? {
         if let Some(statement) = Statement::at(plan, number, &steps) {
-            let rule = rule_of(alloc, settings, statement, error)?;
+            let rule = rule_of(alloc, settings, plan, statement, error)?;
             return statement.said(alloc, text, &rule);
         }
     }
@@ -117,12 +128,13 @@ fn statement_said(
 fn rule_of(
     alloc: Global,
     settings: &Settings,
+    plan: &Value,
     statement: Statement<'_>,
     error: PlanError,
 ) -> Result<String, AllocError> {
     let value = statement.value;
     match error {
-        PlanError::NoSuchStatement(_) => no_such_text(alloc, value),
+        PlanError::NoSuchStatement(_) => no_such_text(alloc, plan, value),
         PlanError::WrongField(_) => wrong_field_text(alloc, value),
         PlanError::BadName(_) => bad_name_text(alloc, value),
         PlanError::NoSuchRegion(_) => no_region_text(alloc, settings, value),
@@ -134,38 +146,63 @@ fn rule_of(
             )
         }
         PlanError::TooMany(number) => too_many_text(alloc, number, value),
+        PlanError::MixedSlot(_) => mixed_text(alloc, plan, value),
         PlanError::NotJson | PlanError::OutOfMemory => format!(in alloc; "{error}"),
     }
 }
 
-/// A value that is none of the six statements.
-fn no_such_text(alloc: Global, value: &Value) -> Result<String, AllocError> {
-    let kinds = listed(alloc, &KINDS)?;
+/// The first keys of the kinds of statements that the plan may have.
+fn kinds_of(plan: &Value) -> &'static [&'static str] {
+    if has_bundles(plan) {
+        &KINDS_WITH_BUNDLES
+    } else {
+        &KINDS
+    }
+}
+
+/// Whether the value is a statement of a bundle.
+fn is_of_bundle(value: &Value) -> bool {
+    value.get("gather").is_some() || value.get("scatter").is_some()
+}
+
+/// A value that is none of the statements of the plan's version.
+fn no_such_text(alloc: Global, plan: &Value, value: &Value) -> Result<String, AllocError> {
+    let known = kinds_of(plan);
+    let kinds = listed(alloc, known)?;
     let Some(members) = value.as_object() else {
         return format!(in alloc;
             "it is no object: a statement has exactly one of the keys {kinds}"
         );
     };
+    let found = found_kinds(alloc, known, value)?;
+    if !found.is_empty() {
+        let found = listed(alloc, &found)?;
+        return format!(in alloc; "it has the keys {found}: a statement has exactly one of {kinds}");
+    }
     let mut hints = String::new(alloc);
     for key in members.keys() {
         if hints.is_empty() {
-            hints = hint(alloc, key.as_str(), &KINDS)?;
+            hints = hint(alloc, key.as_str(), known)?;
         }
     }
-    let found = found_kinds(alloc, value)?;
-    if found.is_empty() {
-        return format!(in alloc;
-            "it has none of the keys {kinds}, and a statement has exactly one{hints}"
-        );
-    }
-    let found = listed(alloc, &found)?;
-    format!(in alloc; "it has the keys {found}: a statement has exactly one of {kinds}")
+    let later = if is_of_bundle(value) {
+        "; gather and scatter are statements of version 2, and version is 1"
+    } else {
+        ""
+    };
+    format!(in alloc;
+        "it has none of the keys {kinds}, and a statement has exactly one{later}{hints}"
+    )
 }
 
-/// The kinds whose first keys the value has.
-fn found_kinds(alloc: Global, value: &Value) -> Result<Vec<&'static str>, AllocError> {
+/// The known kinds whose first keys the value has.
+fn found_kinds(
+    alloc: Global,
+    known: &[&'static str],
+    value: &Value,
+) -> Result<Vec<&'static str>, AllocError> {
     let mut found = Vec::new(alloc);
-    for kind in &KINDS {
+    for kind in known {
         if value.get(*kind).is_some() {
             found.push(*kind)?;
         }
@@ -201,8 +238,23 @@ fn form_of(value: &Value) -> Form {
         form_as("an unlatch", "{\"unlatch\":SLOT}", &["unlatch"])
     } else if value.get("loop").is_some() {
         form_as("a loop", "{\"body\":[..],\"loop\":N}", &["body", "loop"])
-    } else {
+    } else if value.get("choice").is_some() {
         form_as("a choice", "{\"choice\":[[..],..]}", &["choice"])
+    } else {
+        form_of_bundle(value)
+    }
+}
+
+/// The same of a statement of a bundle.
+fn form_of_bundle(value: &Value) -> Form {
+    if value.get("gather").is_some() {
+        form_as(
+            "a gather",
+            "{\"gather\":SLOT,\"region\":REGION}",
+            &["gather", "region"],
+        )
+    } else {
+        form_as("a scatter", "{\"scatter\":SLOT}", &["scatter"])
     }
 }
 
@@ -313,4 +365,30 @@ fn too_many_text(alloc: Global, number: u32, value: &Value) -> Result<String, Al
     }
     let slot = slot_in(value);
     format!(in alloc; "{slot:?} is the 33rd name of a slot: a plan has at most 32")
+}
+
+/// A slot that an earlier statement uses as another kind.
+fn mixed_text(alloc: Global, plan: &Value, value: &Value) -> Result<String, AllocError> {
+    let slot = slot_in(value);
+    let (kind, other) = if is_of_bundle(value) {
+        ("a bundle", "a plain slot")
+    } else {
+        ("a plain slot", "a bundle")
+    };
+    let first = first_text(alloc, plan, slot)?;
+    format!(in alloc;
+        "{slot:?} is {kind} here, and {other} in {first}: in the whole plan a slot is the one or the other"
+    )
+}
+
+/// The first statement that uses the slot.
+fn first_text(alloc: Global, plan: &Value, slot: &str) -> Result<String, AllocError> {
+    if let Some(number) = first_use(plan, slot) {
+        if let Some(steps) = steps_to(alloc, plan, number)? {
+            if let Some(first) = Statement::at(plan, number, &steps) {
+                return first.named(alloc);
+            }
+        }
+    }
+    String::from_str(alloc, "an earlier statement")
 }

@@ -1,7 +1,8 @@
 //! Explains the refusal of each row of `rows.txt`, and prints the row, the refusal and the explanation.
 //!
 //! A row is a line: a command, and the files that it is given. In the place of the last file its text may stand, behind
-//! ` = `; of a run that stops that is the number of a worker, and the explanation is printed alone. Empty lines and lines that begin with `#` are passed over.
+//! ` = `; of a run that stops that is the number of a worker, and the explanation is printed alone. Empty lines and lines
+//! that begin with `#` are passed over.
 #![tactic(auto)]
 
 mod answer;
