@@ -1,25 +1,40 @@
-//! How often each kind of reply came.
+//! How often each kind of reply came, and each way of using a bundle.
 
-use pp_core::{Cause, Delay, Ending, Failure, Reply};
+use crate::plain::Bundle;
+use pp_core::{Cause, Delay, Ending, Failure, Move, Reply};
 use std::alloc::{AllocError, Global};
 
 /// How many kinds there are.
 const KINDS: usize = 32;
 
+/// How many ways of using a bundle there are.
+const WAYS: usize = 8;
+
 #[derive(Drop)]
 pub struct Counts {
     counts: Vec<u32>,
+    ways: Vec<u32>,
 }
 
 impl Counts {
     pub fn new(alloc: Global) -> Result<Counts, AllocError> {
         let counts = vec![in alloc; 0u32; KINDS]?;
-        Ok(Counts { counts })
+        let ways = vec![in alloc; 0u32; WAYS]?;
+        Ok(Counts { counts, ways })
     }
 
     pub fn count(&mut self, reply: Reply) {
         if let Some(count) = self.counts.get_mut(kind(reply)) {
             *count = count.saturating_add(1);
+        }
+    }
+
+    /// Counts the reply to a move that is about the bundle, as it was before.
+    pub fn count_way(&mut self, asked: Move, reply: Reply, bundle: Bundle) {
+        if let Some(way) = way(asked, reply, bundle) {
+            if let Some(count) = self.ways.get_mut(way) {
+                *count = count.saturating_add(1);
+            }
         }
     }
 
@@ -34,13 +49,39 @@ impl Counts {
 
     /// How many kinds came ten times or more.
     pub fn kinds(&self) -> u32 {
-        let mut kinds: u32 = 0;
-        for count in &self.counts {
-            if *count >= 10 {
-                kinds = kinds.saturating_add(1);
-            }
+        often(&self.counts)
+    }
+
+    /// How many ways of using a bundle came ten times or more.
+    pub fn ways(&self) -> u32 {
+        often(&self.ways)
+    }
+}
+
+/// How many of the counts are ten or more.
+fn often(counts: &[u32]) -> u32 {
+    let mut kinds: u32 = 0;
+    for count in counts {
+        if *count >= 10 {
+            kinds = kinds.saturating_add(1);
         }
-        kinds
+    }
+    kinds
+}
+
+/// The number of the way in which the bundle is used, if it is: a page that it has is gathered again, a first page or a
+/// further one is gathered, a gather fails while it has pins, it is scattered or unwound with one pin or with several.
+fn way(asked: Move, reply: Reply, bundle: Bundle) -> Option<usize> {
+    match (asked, reply) {
+        (_, Reply::Hit { .. }) if bundle.has_page => Some(0),
+        (_, Reply::Hit { .. } | Reply::Loaded { .. }) if bundle.pins == 0 => Some(1),
+        (_, Reply::Hit { .. } | Reply::Loaded { .. }) => Some(2),
+        (_, Reply::Failed(_)) if bundle.pins > 0 => Some(3),
+        (Move::Unfix { .. }, Reply::Did) if bundle.pins == 1 => Some(4),
+        (Move::Unfix { .. }, Reply::Did) => Some(5),
+        (Move::Unwind { .. }, Reply::Did) if bundle.pins == 1 => Some(6),
+        (Move::Unwind { .. }, Reply::Did) if bundle.pins > 1 => Some(7),
+        _ => None,
     }
 }
 

@@ -1,5 +1,5 @@
 //! Makes 20,000 moves that look like chance on cores of three frames, three workers and eight pages, and compares each
-//! reply with that of a plain program.
+//! reply with that of a plain program, and then what each slot holds.
 //!
 //! The plain program keeps lists of what is held, cached, changed and known, and goes through them for each answer. It
 //! shares nothing with the core but the moves and the replies. A core is used until its 256 plans are, and then another
@@ -29,7 +29,7 @@ const SETTINGS: &str = "
 frames = 3
 page_bytes = 64
 workers = 3
-flushes = 60
+flushes = 40
 
 [[region]]
 name = \"root\"
@@ -72,6 +72,23 @@ fn submit(
     Ok(got == want)
 }
 
+/// Sees that each slot has what it has plainly, also where there is no such worker or slot.
+fn see_slots(core: &Core, plain: &Plain) -> anyhow::Result<()> {
+    for worker in 0..4 {
+        for slot in 0..5 {
+            let (got, want) = (core.held(worker, slot), plain.held(worker, slot));
+            if got != want {
+                anyhow::bail!("slot {slot} of {worker} holds {got:?}, and plainly {want:?}");
+            }
+            let (got, want) = (core.gathered(worker, slot), plain.gathered(worker, slot));
+            if got != want {
+                anyhow::bail!("slot {slot} of {worker} has {got} pins, and plainly {want}");
+            }
+        }
+    }
+    Ok(())
+}
+
 /// Makes moves on a new core until its plans are used up, at most so many, and says how many were made.
 fn walk(
     alloc: Global,
@@ -81,7 +98,7 @@ fn walk(
     most: u32,
 ) -> anyhow::Result<u32> {
     let mut core = Core::new(alloc, settings)?;
-    let mut plain = Plain::new(alloc, 3, 3, 60)?;
+    let mut plain = Plain::new(alloc, 3, 3, 40)?;
     for made in 0..most {
         if plain.is_used_up() {
             return Ok(made);
@@ -93,12 +110,17 @@ fn walk(
             }
         }
         let asked = plain.pick(chance);
+        let bundle = plain.bundle_for(asked);
         let want = plain.step(asked)?;
         let got = core.step(&asked);
         if got != want {
             anyhow::bail!("{asked:?} is answered {got:?}, and plainly {want:?}");
         }
+        see_slots(&core, &plain)?;
         counts.count(got);
+        if let Some(bundle) = bundle {
+            counts.count_way(asked, got, bundle);
+        }
     }
     Ok(most)
 }
@@ -120,5 +142,7 @@ fn main(rt: HostRuntime) -> anyhow::Result<()> {
     println!(rt; "{made} moves, all replies agree")?;
     let kinds = counts.kinds();
     println!(rt; "each of {kinds} kinds of replies and refusals came ten times or more")?;
+    let ways = counts.ways();
+    println!(rt; "each of {ways} ways of using a bundle came ten times or more")?;
     Ok(())
 }

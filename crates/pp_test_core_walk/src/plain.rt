@@ -1,7 +1,7 @@
 //! The pool as a plain program keeps it: lists of what is held, cached, changed and known.
 
 use crate::plans::{Region, Shape, Word};
-use pp_core::{Came, Cause, Delay, Ending, Failure, Move, Reply};
+use pp_core::{Came, Cause, Delay, Ending, Failure, Held, Move, Reply};
 use pp_test_plain::{Answer, Chance, Lists};
 use std::alloc::{AllocError, Global};
 
@@ -23,21 +23,22 @@ struct Worker {
     left: Vec<Word>,
 }
 
-/// How a slot holds its page.
-#[derive(Clone, Copy, PartialEq, Eq)]
-enum Held {
-    Free,
-    S,
-    X,
-}
-
-/// A slot of a worker holds a page.
+/// A pin: a slot of a worker holds a page. A bundle has several, and one page maybe twice.
 #[derive(Clone, Copy)]
 struct Holding {
     worker: u32,
     slot: u32,
     page: u32,
     held: Held,
+    /// Whether the slot is a bundle.
+    bundled: bool,
+}
+
+/// A bundle that a move is about: how many pins it has, and whether one of them is of the page that is asked for.
+#[derive(Clone, Copy)]
+pub struct Bundle {
+    pub pins: u32,
+    pub has_page: bool,
 }
 
 #[derive(Drop)]
@@ -198,7 +199,7 @@ impl Plain {
         Ok(())
     }
 
-    /// The page that the slot holds, and how.
+    /// The page that the slot holds, and how; of a bundle the first one.
     fn holding(&self, worker: u32, slot: u32) -> Option<Holding> {
         for holding in &self.holdings {
             if holding.worker == worker && holding.slot == slot {
@@ -208,6 +209,53 @@ impl Plain {
         None
     }
 
+    /// The page that the slot holds, and how, where it is no bundle.
+    pub fn held(&self, worker: u32, slot: u32) -> Option<(u32, Held)> {
+        match self.holding(worker, slot) {
+            Some(holding) if !holding.bundled => Some((holding.page, holding.held)),
+            _ => None,
+        }
+    }
+
+    /// How many pins the slot has as a bundle.
+    pub fn gathered(&self, worker: u32, slot: u32) -> u32 {
+        let mut pins: u32 = 0;
+        for holding in &self.holdings {
+            if holding.worker == worker && holding.slot == slot && holding.bundled {
+                pins = pins.saturating_add(1);
+            }
+        }
+        pins
+    }
+
+    /// The bundle that the move is about, if it is about one.
+    pub fn bundle_for(&self, asked: Move) -> Option<Bundle> {
+        let (worker, slot) = match asked {
+            Move::Unwind { worker, slot } => (worker, slot),
+            Move::Fix { worker, .. }
+            | Move::WriteDone { worker, .. }
+            | Move::ReadDone { worker, .. }
+            | Move::Unfix { worker } => match self.word(worker) {
+                Some(Word::Gather(slot, _) | Word::Scatter(slot)) => (worker, slot),
+                _ => return None,
+            },
+            _ => return None,
+        };
+        let has_page = match asked {
+            Move::Fix { page, .. } => self.has_pin(worker, slot, page),
+            _ => false,
+        };
+        let pins = self.gathered(worker, slot);
+        Some(Bundle { pins, has_page })
+    }
+
+    /// Whether the slot holds the page.
+    fn has_pin(&self, worker: u32, slot: u32, page: u32) -> bool {
+        self.holdings.iter().any(|holding| {
+            holding.worker == worker && holding.slot == slot && holding.page == page
+        })
+    }
+
     /// Whether somebody holds the page so.
     fn is_held(&self, page: u32, held: Held) -> bool {
         self.holdings
@@ -215,6 +263,7 @@ impl Plain {
             .any(|holding| holding.page == page && holding.held == held)
     }
 
+    /// The slot has no pin any more.
     fn take_off(&mut self, worker: u32, slot: u32) {
         self.holdings
             .retain(|holding| holding.worker != worker || holding.slot != slot);
@@ -353,7 +402,7 @@ impl Plain {
             return Ok(refusal);
         }
         let slot = match self.word(worker) {
-            Some(Word::Fix(slot, region)) if has(region, page) => slot,
+            Some(Word::Fix(slot, region) | Word::Gather(slot, region)) if has(region, page) => slot,
             _ => return Ok(Reply::OffPlan(Cause::NotAsked)),
         };
         if self.is_in_flight(page) {
@@ -373,14 +422,15 @@ impl Plain {
         }
     }
 
-    /// The slot holds the page, and the fix is done.
+    /// The slot has one pin more, of this page, and the fix or the gather is done.
     fn fixed(&mut self, worker: u32, slot: u32, page: u32) -> Result<(), AllocError> {
-        let held = Held::Free;
+        let bundled = matches!(self.word(worker), Some(Word::Gather(_, _)));
         self.holdings.push(Holding {
             worker,
             slot,
             page,
-            held,
+            held: Held::Free,
+            bundled,
         })?;
         self.go_on(worker, &[])
     }
@@ -465,7 +515,7 @@ impl Plain {
         if let Some(refusal) = self.not_acting(worker) {
             return Ok(refusal);
         }
-        let Some(Word::Unfix(slot)) = self.word(worker) else {
+        let Some(Word::Unfix(slot) | Word::Scatter(slot)) = self.word(worker) else {
             return Ok(Reply::OffPlan(Cause::NotAsked));
         };
         self.take_off(worker, slot);
@@ -609,7 +659,7 @@ impl Plain {
 
     /// A move that chance picks: mostly one that a worker, a device or the flusher might ask here, and at times any.
     pub fn pick(&self, chance: &mut Chance) -> Move {
-        let worker = chance.below(3);
+        let worker = self.pick_worker(chance);
         match chance.below(16) {
             0 => any_move(chance),
             1 => Move::FlushBegin {
@@ -626,19 +676,28 @@ impl Plain {
         }
     }
 
+    /// A worker that chance picks: mostly one that is in a plan.
+    fn pick_worker(&self, chance: &mut Chance) -> u32 {
+        let worker = chance.below(3);
+        if self.stage(worker) == Some(Stage::Idle) {
+            return chance.below(3);
+        }
+        worker
+    }
+
     /// A move that may well be possible for the worker.
     fn pick_for(&self, chance: &mut Chance, worker: u32) -> Move {
         match self.stage(worker) {
             Some(Stage::Acting) => match self.word(worker) {
-                Some(Word::Fix(_, Region::Root)) => Move::Fix {
+                Some(Word::Fix(_, Region::Root) | Word::Gather(_, Region::Root)) => Move::Fix {
                     worker,
                     page: chance.below(3).saturating_add(1),
                 },
-                Some(Word::Fix(_, Region::Leaf)) => Move::Fix {
+                Some(Word::Fix(_, Region::Leaf) | Word::Gather(_, Region::Leaf)) => Move::Fix {
                     worker,
                     page: chance.below(5).saturating_add(5),
                 },
-                Some(Word::Unfix(_)) => Move::Unfix { worker },
+                Some(Word::Unfix(_) | Word::Scatter(_)) => Move::Unfix { worker },
                 Some(Word::LatchS(_)) | Some(Word::LatchX(_)) => Move::Latch { worker },
                 Some(Word::Unlatch(_)) => Move::Unlatch { worker },
                 Some(Word::Choice(_)) => Move::Choose {

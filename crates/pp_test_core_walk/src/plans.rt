@@ -8,18 +8,20 @@ pub enum Word {
     LatchS(u32),
     LatchX(u32),
     Unlatch(u32),
+    Gather(u32, Region),
+    Scatter(u32),
     Loop(u32, &'static [Word]),
     Choice(&'static [&'static [Word]]),
 }
 
-/// The region of a fix.
+/// The region of a fix or a gather.
 #[derive(Clone, Copy, PartialEq, Eq)]
 pub enum Region {
     Root,
     Leaf,
 }
 
-/// A plan's text, its greatest number of pages held at once, and its statements.
+/// A plan's text, its greatest number of pins at once, and its statements.
 pub struct Shape {
     pub text: &'static str,
     pub peak: u32,
@@ -27,10 +29,10 @@ pub struct Shape {
 }
 
 use Region::{Leaf, Root};
-use Word::{Choice, Fix, LatchS, LatchX, Loop, Unfix, Unlatch};
+use Word::{Choice, Fix, Gather, LatchS, LatchX, Loop, Scatter, Unfix, Unlatch};
 
 /// How many plans there are.
-pub const KINDS: usize = 7;
+pub const KINDS: usize = 13;
 
 pub static PLANS: [Shape; KINDS] = [
     // From a root to a leaf, which is written.
@@ -128,5 +130,78 @@ pub static PLANS: [Shape; KINDS] = [
         text: "{\"body\":[],\"version\":1}",
         peak: 0,
         words: &[],
+    },
+    // A bundle of three leaves.
+    Shape {
+        text: "{\"body\":[{\"body\":[{\"gather\":\"a\",\"region\":\"leaf\"}],\"loop\":3},{\"scatter\":\"a\"}],\"version\":2}",
+        peak: 3,
+        words: &[Loop(3, &[Gather(0, Leaf)]), Scatter(0)],
+    },
+    // A leaf is gathered under a root that is written, and another once the root is given back.
+    Shape {
+        text: "{\"body\":[{\"fix\":\"a\",\"region\":\"root\"},{\"latch\":\"a\",\"mode\":\"X\"},\
+{\"gather\":\"b\",\"region\":\"leaf\"},{\"unlatch\":\"a\"},{\"unfix\":\"a\"},{\"gather\":\"b\",\"region\":\"leaf\"},\
+{\"scatter\":\"b\"}],\"version\":2}",
+        peak: 2,
+        words: &[
+            Fix(0, Root),
+            LatchX(0),
+            Gather(1, Leaf),
+            Unlatch(0),
+            Unfix(0),
+            Gather(1, Leaf),
+            Scatter(1),
+        ],
+    },
+    // Each turn adds a leaf to a bundle, and gives another one of a root back for the next root.
+    Shape {
+        text: "{\"body\":[{\"gather\":\"a\",\"region\":\"root\"},{\"body\":[{\"gather\":\"b\",\"region\":\"leaf\"},\
+{\"scatter\":\"a\"},{\"gather\":\"a\",\"region\":\"root\"}],\"loop\":2},{\"scatter\":\"b\"},\
+{\"scatter\":\"a\"}],\"version\":2}",
+        peak: 3,
+        words: &[
+            Gather(0, Root),
+            Loop(2, &[Gather(1, Leaf), Scatter(0), Gather(0, Root)]),
+            Scatter(1),
+            Scatter(0),
+        ],
+    },
+    // Two leaves, or two roots.
+    Shape {
+        text: "{\"body\":[{\"choice\":[[{\"gather\":\"a\",\"region\":\"leaf\"},{\"gather\":\"a\",\"region\":\"leaf\"}],\
+[{\"body\":[{\"gather\":\"a\",\"region\":\"root\"}],\"loop\":2}]]},{\"scatter\":\"a\"}],\"version\":2}",
+        peak: 2,
+        words: &[
+            Choice(&[
+                &[Gather(0, Leaf), Gather(0, Leaf)],
+                &[Loop(2, &[Gather(0, Root)])],
+            ]),
+            Scatter(0),
+        ],
+    },
+    // Leaves are written beside a bundle that grows with them.
+    Shape {
+        text: "{\"body\":[{\"body\":[{\"gather\":\"b\",\"region\":\"leaf\"},{\"fix\":\"a\",\"region\":\"leaf\"},\
+{\"latch\":\"a\",\"mode\":\"X\"},{\"unlatch\":\"a\"},{\"unfix\":\"a\"}],\"loop\":2},{\"scatter\":\"b\"}],\"version\":2}",
+        peak: 3,
+        words: &[
+            Loop(
+                2,
+                &[
+                    Gather(1, Leaf),
+                    Fix(0, Leaf),
+                    LatchX(0),
+                    Unlatch(0),
+                    Unfix(0),
+                ],
+            ),
+            Scatter(1),
+        ],
+    },
+    // Three leaves, one after another, each a bundle.
+    Shape {
+        text: "{\"body\":[{\"body\":[{\"gather\":\"a\",\"region\":\"leaf\"},{\"scatter\":\"a\"}],\"loop\":3}],\"version\":2}",
+        peak: 1,
+        words: &[Loop(3, &[Gather(0, Leaf), Scatter(0)])],
     },
 ];

@@ -10,9 +10,9 @@ use std::alloc::{AllocError, Global};
 /// Sees that the headline holds, and that the tokens in the hands are those that the plain program has.
 pub fn see(alloc: Global, vault: &Vault, hands: &mut Hands, plain: &Plain) -> anyhow::Result<()> {
     see_turn(vault, hands, plain)?;
-    let holdings = holdings_in(alloc, hands, plain.crew)?;
+    let holdings = holdings_in(alloc, hands, plain)?;
     for holding in &holdings {
-        if plain.holding(holding.worker, holding.slot) != Some(*holding) {
+        if !plain.holdings.contains(holding) {
             anyhow::bail!("{holding:?} isn't held plainly");
         }
     }
@@ -21,6 +21,7 @@ pub fn see(alloc: Global, vault: &Vault, hands: &mut Hands, plain: &Plain) -> an
     }
     for worker in 0..plain.crew {
         see_ask(vault, plain, &holdings, worker)?;
+        see_bundles(vault, plain, worker)?;
     }
     for holding in &holdings {
         see_image(alloc, vault, hands, plain, holding)?;
@@ -56,10 +57,10 @@ fn is_possible(vault: &Vault, hands: &Hands, cue: Cue) -> bool {
 }
 
 /// What the guards in the hands hold.
-fn holdings_in(alloc: Global, hands: &mut Hands, workers: u32) -> Result<Vec<Holding>, AllocError> {
+fn holdings_in(alloc: Global, hands: &mut Hands, plain: &Plain) -> anyhow::Result<Vec<Holding>> {
     let mut holdings = Vec::new(alloc);
-    for worker in 0..workers {
-        push_hand(hands, worker, &mut holdings)?;
+    for worker in 0..plain.crew {
+        push_hand(hands, plain, worker, &mut holdings)?;
     }
     Ok(holdings)
 }
@@ -67,25 +68,27 @@ fn holdings_in(alloc: Global, hands: &mut Hands, workers: u32) -> Result<Vec<Hol
 /// Adds what the guards in the worker's hand hold.
 fn push_hand(
     hands: &mut Hands,
+    plain: &Plain,
     worker: u32,
     holdings: &mut Vec<Holding>,
-) -> Result<(), AllocError> {
+) -> anyhow::Result<()> {
     let Some(hand) = hands.part(worker) else {
         return Ok(());
     };
-    let pushed = push_guards(&hand.guards, worker, holdings);
+    let pushed = push_guards(&hand.guards, plain, worker, holdings);
     match hands.join(hand) {
         Ok(()) => pushed,
         Err(_) => unreachable!(),
     }
 }
 
-/// Adds what these guards hold.
+/// Adds what these guards hold. A bundle's guard tells no pages: it holds those that it holds plainly.
 fn push_guards(
     guards: &Guards,
+    plain: &Plain,
     worker: u32,
     holdings: &mut Vec<Holding>,
-) -> Result<(), AllocError> {
+) -> anyhow::Result<()> {
     for slot in 0..32 {
         if let Some((page, held)) = guards.held(slot) {
             holdings.push(Holding {
@@ -93,7 +96,37 @@ fn push_guards(
                 slot,
                 page,
                 held,
+                bundled: false,
             })?;
+        }
+        if guards.has_bundle(slot) != plain.is_bundle(worker, slot) {
+            anyhow::bail!("the guard of slot {slot} of worker {worker} isn't as it is plainly");
+        }
+        push_bundle(plain, worker, slot, holdings)?;
+    }
+    Ok(())
+}
+
+/// Adds the pins that the slot has plainly, where it is a bundle.
+fn push_bundle(
+    plain: &Plain,
+    worker: u32,
+    slot: u32,
+    holdings: &mut Vec<Holding>,
+) -> Result<(), AllocError> {
+    for holding in &plain.holdings {
+        if holding.worker == worker && holding.slot == slot && holding.bundled {
+            holdings.push(*holding)?;
+        }
+    }
+    Ok(())
+}
+
+/// Sees that those slots of the worker are bundles in the vault that are plainly.
+fn see_bundles(vault: &Vault, plain: &Plain, worker: u32) -> anyhow::Result<()> {
+    for slot in 0..32 {
+        if vault.has_bundle(worker, slot) != plain.is_bundle(worker, slot) {
+            anyhow::bail!("slot {slot} of worker {worker} isn't the bundle that it is plainly");
         }
     }
     Ok(())

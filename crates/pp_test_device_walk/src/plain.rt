@@ -52,13 +52,15 @@ pub struct Worker {
     pub done: usize,
 }
 
-/// A slot of a worker holds a page.
+/// A pin: a slot of a worker holds a page. A bundle has several, and one page maybe twice.
 #[derive(Clone, Copy, Debug, PartialEq, Eq)]
 pub struct Holding {
     pub worker: u32,
     pub slot: u32,
     pub page: u32,
     pub held: Held,
+    /// Whether the slot is a bundle.
+    pub bundled: bool,
 }
 
 /// A call of the device: the page, and the stamp that the device has for it.
@@ -163,7 +165,7 @@ impl<'a> Plain<'a> {
         }
     }
 
-    /// The slot's page, and how it is held.
+    /// The slot's page, and how it is held; of a bundle the first page.
     pub fn holding(&self, worker: u32, slot: u32) -> Option<Holding> {
         for holding in &self.holdings {
             if holding.worker == worker && holding.slot == slot {
@@ -173,6 +175,15 @@ impl<'a> Plain<'a> {
         None
     }
 
+    /// Whether the slot is a bundle that holds a page.
+    pub fn is_bundle(&self, worker: u32, slot: u32) -> bool {
+        match self.holding(worker, slot) {
+            Some(holding) => holding.bundled,
+            None => false,
+        }
+    }
+
+    /// The slot has no pin any more.
     fn take_off(&mut self, worker: u32, slot: u32) {
         self.holdings
             .retain(|holding| holding.worker != worker || holding.slot != slot);
@@ -183,6 +194,20 @@ impl<'a> Plain<'a> {
         self.take_off(holding.worker, holding.slot);
         self.holdings.push(holding)?;
         self.go_on(holding.worker);
+        Ok(())
+    }
+
+    /// The slot has one pin more, of this page, and the worker goes on.
+    fn pin(&mut self, worker: u32, slot: u32, page: u32) -> Result<(), AllocError> {
+        let bundled = matches!(self.word(worker), Some(Word::Gather(_, _)));
+        self.holdings.push(Holding {
+            worker,
+            slot,
+            page,
+            held: Held::Free,
+            bundled,
+        })?;
+        self.go_on(worker);
         Ok(())
     }
 
@@ -350,7 +375,8 @@ impl<'a> Plain<'a> {
             return Ok(refusal);
         }
         let slot = match self.word(worker) {
-            Some(Word::Fix(slot, region)) if self.has(region, page) => slot,
+            Some(Word::Fix(slot, region) | Word::Gather(slot, region)) if self.has(region, page) =>
+                { slot }
             _ => return Ok(Reply::OffPlan(Cause::NotAsked)),
         };
         if self.is_in_flight(page) {
@@ -371,12 +397,7 @@ impl<'a> Plain<'a> {
     }
 
     fn hit(&mut self, worker: u32, slot: u32, page: u32) -> Result<Reply, AllocError> {
-        self.hold(Holding {
-            worker,
-            slot,
-            page,
-            held: Held::Free,
-        })?;
+        self.pin(worker, slot, page)?;
         let frame = self.frame(page).unwrap_or(self.frames);
         let mark = self.mark_or_zero(page);
         Ok(Reply::Hit { frame, mark })
@@ -399,7 +420,7 @@ impl<'a> Plain<'a> {
         if let Some(refusal) = self.not_acting(worker) {
             return refusal;
         }
-        let Some(Word::Unfix(slot)) = self.word(worker) else {
+        let Some(Word::Unfix(slot) | Word::Scatter(slot)) = self.word(worker) else {
             return Reply::OffPlan(Cause::NotAsked);
         };
         self.take_off(worker, slot);
@@ -603,13 +624,7 @@ impl<'a> Plain<'a> {
             Came::Image(_, mark) => {
                 self.load(page, mark, byte, trouble.is_some());
                 self.set_stage(worker, Stage::Acting);
-                let held = Held::Free;
-                self.hold(Holding {
-                    worker,
-                    slot,
-                    page,
-                    held,
-                })?;
+                self.pin(worker, slot, page)?;
                 return Ok((asked, Reply::Loaded { mark }));
             }
         };

@@ -151,12 +151,12 @@ impl<'a> Plain<'a> {
     /// The worker does what its plan asks, and fixes first pages.
     fn act(&self, worker: u32) -> Cue {
         match self.word(worker) {
-            Some(Word::Fix(_, region)) => {
+            Some(Word::Fix(_, region) | Word::Gather(_, region)) => {
                 let extent = self.regions.get(usize::from(region));
                 let page = extent.map_or(0, |extent| extent.first);
                 Cue::Fix { worker, page }
             }
-            Some(Word::Unfix(_)) => Cue::Unfix { worker },
+            Some(Word::Unfix(_) | Word::Scatter(_)) => Cue::Unfix { worker },
             Some(Word::Latch(_, _)) => Cue::Latch { worker },
             Some(Word::Unlatch(_)) => Cue::Unlatch { worker },
             None => Cue::Finish { worker },
@@ -182,8 +182,8 @@ impl<'a> Plain<'a> {
 
     /// Three moves for each statement of the plan that isn't done, and so many more.
     fn left(&self, plan: usize, done: usize, more: u64) -> u64 {
-        let steps = self.shapes.get(plan).map_or(0, |shape| shape.steps);
-        let left = steps.saturating_sub(done as u64);
+        let words = self.shapes.get(plan).map_or(0, |shape| shape.words.len());
+        let left = words.saturating_sub(done) as u64;
         left.saturating_mul(3).saturating_add(more)
     }
 
@@ -197,14 +197,18 @@ impl<'a> Plain<'a> {
             Stage::Acting => self.left(worker.plan, worker.done, 33),
             Stage::Writing { .. } => self.left(worker.plan, worker.done, 32),
             Stage::Reading { .. } => self.left(worker.plan, worker.done, 31),
-            Stage::Leaving => {
-                let held = self
-                    .holdings
-                    .iter()
-                    .filter(|holding| holding.worker == number)
-                    .count();
-                (held as u64).saturating_add(1)
+            Stage::Leaving => self.slots_held(number).saturating_add(1),
+        }
+    }
+
+    /// How many of the worker's slots hold something. A bundle counts once, however many pins it has.
+    fn slots_held(&self, worker: u32) -> u64 {
+        let mut held = 0u64;
+        for slot in 0..32 {
+            if self.holding(worker, slot).is_some() {
+                held = held.saturating_add(1);
             }
         }
+        held
     }
 }

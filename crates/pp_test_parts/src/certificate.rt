@@ -66,6 +66,7 @@ fn refusals_of_texts_are_printed(rt: HostRuntime) -> Result<(), Fail> {
         (CertError::WrongField, "22 WrongField"),
         (CertError::UnknownName, "23 UnknownName"),
         (CertError::TooMany, "24 TooMany"),
+        (CertError::WrongKind, "25 WrongKind"),
         (CertError::OutOfMemory, "19 OutOfMemory"),
     ] {
         let refusal = error.refusal();
@@ -81,7 +82,7 @@ fn refusals_of_texts_are_printed(rt: HostRuntime) -> Result<(), Fail> {
 #[test]
 fn refusals_are_told_to_people(rt: HostRuntime) -> Result<(), Fail> {
     let fault = CheckError::OverPeak { place: 3 };
-    let want = "the note at place 3 holds more slots than the peak";
+    let want = "the note at place 3 pins more pages than the peak";
     let got = format!(in rt.alloc(); "{fault}")?;
     same_text(&rt, &got, want);
     let made = AnnotateError::Fault(fault);

@@ -146,7 +146,7 @@ fn refusals_have_rows_and_words(rt: HostRuntime) -> Result<(), Fail> {
             12,
             "NoSuchStatement",
             Some(3u32),
-            "statement 3 is none of fix, unfix, latch, unlatch, loop and choice",
+            "statement 3 is none of fix, unfix, latch, unlatch, loop and choice, nor gather or scatter in version 2",
         ),
         (
             PlanError::WrongField(0),
@@ -196,6 +196,13 @@ fn refusals_have_rows_and_words(rt: HostRuntime) -> Result<(), Fail> {
             "OutOfMemory",
             None,
             "out of memory",
+        ),
+        (
+            PlanError::MixedSlot(5),
+            20,
+            "MixedSlot",
+            Some(5),
+            "statement 5 uses one slot as a bundle and as a plain slot",
         ),
     ] {
         let got = (error.number(), error.statement());
