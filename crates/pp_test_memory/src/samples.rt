@@ -56,6 +56,22 @@ pub const EMPTY: &str = "{\"body\":[],\"version\":1}";
 pub const EVERY: &str = "{\"body\":[{\"body\":[{\"choice\":[[{\"fix\":\"a\",\"region\":\"leaf\"},\
     {\"latch\":\"a\",\"mode\":\"X\"},{\"unlatch\":\"a\"},{\"unfix\":\"a\"}],[]]}],\"loop\":3}],\"version\":1}";
 
+/// Gathers three leaves into a bundle.
+pub const BUNDLE: &str =
+    "{\"body\":[{\"body\":[{\"gather\":\"g\",\"region\":\"leaf\"}],\"loop\":3},\
+    {\"scatter\":\"g\"}],\"version\":2}";
+
+/// Its certificate.
+pub const BUNDLE_NOTES: &str =
+    "{\"notes\":[{},{\"g\":2},{\"g\":3},{\"g\":3},{}],\"peak\":3,\"steps\":4}";
+
+/// The same with an entry of a page where the bundle is.
+pub const PAGE_NOTES: &str = "{\"notes\":[{},{\"g\":[\"leaf\",\"-\"]}],\"peak\":3,\"steps\":4}";
+
+/// A slot that is a bundle, and then a page's.
+pub const MIXED: &str =
+    "{\"body\":[{\"gather\":\"g\",\"region\":\"leaf\"},{\"unfix\":\"g\"}],\"version\":2}";
+
 /// Branches that end holding something else.
 pub const BRANCHES: &str =
     "{\"body\":[{\"choice\":[[{\"fix\":\"a\",\"region\":\"root\"}],[]]}],\"version\":1}";

@@ -4,7 +4,8 @@ ghost use Rattle.std.specs.Prelude.{◌≡◌};
 ghost use Rattle.pp_settings.specs.Settings.{geometry_of};
 
 use crate::samples::{
-    BRANCHES, CUT_OFF, EMPTY, EVERY, NO_CUE, NO_FRAMES, OTHER_NOTES, PIN, PIN_NOTES, SCRIPT, SET1,
+    BRANCHES, BUNDLE, BUNDLE_NOTES, CUT_OFF, EMPTY, EVERY, MIXED, NO_CUE, NO_FRAMES, OTHER_NOTES,
+    PAGE_NOTES, PIN, PIN_NOTES, SCRIPT, SET1,
 };
 use crate::stand::{answer, call};
 use pp_annotate::annotate;
@@ -31,12 +32,19 @@ fn under_settings<R: AllocGlobal + Print>(rt: &R, call: &str, row: &str) -> anyh
         ("Plan::from_text", "pin") => plan_from(rt, &settings, PIN),
         ("Plan::from_text", "every") => plan_from(rt, &settings, EVERY),
         ("Plan::from_text", "cut_off") => plan_from(rt, &settings, CUT_OFF),
-        ("Certificate::from_text", "pin") => certificate_from(rt, &settings, PIN_NOTES),
-        ("Certificate::from_text", "other") => certificate_from(rt, &settings, OTHER_NOTES),
+        ("Plan::from_text", "bundle") => plan_from(rt, &settings, BUNDLE),
+        ("Plan::from_text", "mixed") => plan_from(rt, &settings, MIXED),
+        ("Certificate::from_text", "pin") => certificate_from(rt, &settings, PIN, PIN_NOTES),
+        ("Certificate::from_text", "other") => certificate_from(rt, &settings, PIN, OTHER_NOTES),
+        ("Certificate::from_text", "bundle") => {
+            certificate_from(rt, &settings, BUNDLE, BUNDLE_NOTES)
+        }
+        ("Certificate::from_text", "page") => certificate_from(rt, &settings, BUNDLE, PAGE_NOTES),
         (call, "pin") => with_plan(rt, &settings, call, PIN),
         (call, "every") => with_plan(rt, &settings, call, EVERY),
         (call, "empty") => with_plan(rt, &settings, call, EMPTY),
         (call, "branches") => with_plan(rt, &settings, call, BRANCHES),
+        (call, "bundle") => with_plan(rt, &settings, call, BUNDLE),
         _ => anyhow::bail!("there is no such case"),
     }
 }
@@ -131,9 +139,10 @@ fn plan_to<R: AllocGlobal + Print>(rt: &R, settings: &Settings, plan: &Plan) -> 
 fn certificate_from<R: AllocGlobal + Print>(
     rt: &R,
     settings: &Settings,
+    plan: &str,
     text: &str,
 ) -> anyhow::Result<()> {
-    let plan = Plan::from_text(rt.alloc(), settings, PIN)?;
+    let plan = Plan::from_text(rt.alloc(), settings, plan)?;
     for _time in 0..2 {
         call(rt)?;
         let read = Certificate::from_text(rt.alloc(), settings, &plan, text);

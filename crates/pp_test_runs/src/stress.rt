@@ -42,6 +42,14 @@ const DESCENT: &str = "{\"body\":[{\"body\":[{\"choice\":[\
 [{\"fix\":\"a\",\"region\":\"leaf\"},{\"latch\":\"a\",\"mode\":\"S\"},{\"unlatch\":\"a\"},{\"unfix\":\"a\"}]\
 ]}],\"loop\":5}],\"version\":1}";
 
+/// Five times: a leaf is written beside one that a bundle keeps, or leaves are gathered below a root that is read, and behind it.
+const KEEPING: &str = "{\"body\":[{\"body\":[{\"choice\":[\
+[{\"gather\":\"g\",\"region\":\"leaf\"},{\"fix\":\"a\",\"region\":\"leaf\"},{\"latch\":\"a\",\"mode\":\"X\"},\
+{\"unlatch\":\"a\"},{\"unfix\":\"a\"},{\"gather\":\"g\",\"region\":\"leaf\"},{\"scatter\":\"g\"}],\
+[{\"fix\":\"a\",\"region\":\"root\"},{\"latch\":\"a\",\"mode\":\"S\"},{\"gather\":\"g\",\"region\":\"leaf\"},\
+{\"unlatch\":\"a\"},{\"unfix\":\"a\"},{\"gather\":\"g\",\"region\":\"leaf\"},{\"scatter\":\"g\"}]\
+]}],\"loop\":5}],\"version\":2}";
+
 /// Picks pages and branches by a running number, adds 1 to the first byte of a body, and compares what it sees with the
 /// mark.
 #[derive(Drop)]
@@ -108,14 +116,15 @@ fn ended(events: &[Event]) -> usize {
     events.iter().filter(is_end).count()
 }
 
-/// Runs 200 plans by 8 workers, and gives the record and an end of the device.
+/// Runs this plan 200 times by 8 workers, and gives the record and an end of the device.
 fn run_many<R: AllocGlobal + Abort + Threads + Wait + Clock + Copy + Drop + Sync + Send>(
     rt: &R,
+    text: &str,
     seen: &Seen,
 ) -> Result<(RunRecord, SharedDevice<R>), Fail> {
     let alloc = rt.alloc();
     let settings = Settings::from_text(alloc, SETTINGS)?;
-    let plans = all_accepted(rt, alloc, &settings, &[DESCENT; 200])?;
+    let plans = all_accepted(rt, alloc, &settings, &[text; 200])?;
     let mut devices = Vec::new(alloc);
     for end in SharedDevice::over_memory(*rt, alloc, 24, 64, 9)? {
         devices.push(troubled(alloc, end)?)?;
@@ -134,12 +143,12 @@ fn run_many<R: AllocGlobal + Abort + Threads + Wait + Clock + Copy + Drop + Sync
 }
 
 /// The journal is audited: each event is possible at its point, with the reply that is told, and nothing is left.
-fn is_audited<R: AllocGlobal + Abort>(rt: &R, events: &[Event]) -> Result<(), Fail> {
+fn is_audited<R: AllocGlobal + Abort>(rt: &R, text: &str, events: &[Event]) -> Result<(), Fail> {
     let alloc = rt.alloc();
     let settings = Settings::from_text(alloc, SETTINGS)?;
-    let plans = all_accepted(rt, alloc, &settings, &[DESCENT; 200])?;
-    let text = journal_text(alloc, events)?;
-    match audit(alloc, &settings, plans, text.as_bytes()) {
+    let plans = all_accepted(rt, alloc, &settings, &[text; 200])?;
+    let journal = journal_text(alloc, events)?;
+    match audit(alloc, &settings, plans, journal.as_bytes()) {
         Ok(audited) => assert!(rt; audited.lines == events.len() as u64, "other lines"),
         Err(error) => panic!(rt; "not audited: {error}"),
     }
@@ -148,13 +157,15 @@ fn is_audited<R: AllocGlobal + Abort>(rt: &R, events: &[Event]) -> Result<(), Fa
 
 /// Every plan ends, the journal is true, and the bytes of each page are those of its stamp. There are flushes enough to
 /// write every page back, so that no change is lost.
-#[test]
-fn many_workers_lose_no_change(rt: HostRuntime) -> Result<(), Fail> {
+fn loses_no_change<R: AllocGlobal + Abort + Threads + Wait + Clock + Copy + Drop + Sync + Send>(
+    rt: &R,
+    text: &str,
+) -> Result<(), Fail> {
     let seen = Seen::new();
-    let (record, mut device) = run_many(&rt, &seen)?;
+    let (record, mut device) = run_many(rt, text, &seen)?;
     assert!(rt; record.plans == 200, "other plans");
     assert!(rt; ended(&record.events) == 200, "a plan did not end");
-    is_audited(&rt, &record.events)?;
+    is_audited(rt, text, &record.events)?;
     assert!(rt;
         seen.bad.load(Ordering::SeqCst) == 0,
         "a bad image was seen"
@@ -178,4 +189,14 @@ fn many_workers_lose_no_change(rt: HostRuntime) -> Result<(), Fail> {
         "a change is lost"
     );
     Ok(())
+}
+
+#[test]
+fn many_workers_lose_no_change(rt: HostRuntime) -> Result<(), Fail> {
+    loses_no_change(&rt, DESCENT)
+}
+
+#[test]
+fn many_workers_keep_their_bundles(rt: HostRuntime) -> Result<(), Fail> {
+    loses_no_change(&rt, KEEPING)
 }
