@@ -62,7 +62,7 @@ pub fn held_as(
 }
 
 /// The most pages that the bundle pins, as the note says; 0 without an entry.
-pub(crate) fn bound_at(note: &[Entry], slot: u8) -> u16
+pub fn bound_at(note: &[Entry], slot: u8) -> u16
     ensures { result ≡ bound_at note.now slot }
 {
     match note.iter().find(|entry| entry.is_bundle_of(slot)) {
@@ -72,7 +72,7 @@ pub(crate) fn bound_at(note: &[Entry], slot: u8) -> u16
 }
 
 /// What is held without the bundle. `AllocError` where memory runs out.
-pub(crate) fn scattered(alloc: Global, before: &[Entry], slot: u8) -> Result<Vec<Entry>, AllocError>
+pub fn scattered(alloc: Global, before: &[Entry], slot: u8) -> Result<Vec<Entry>, AllocError>
     ensures { IfOk result (λ after. after.items ≡ without_bundle slot before.now) }
 {
     let mut after = Vec::from_slice(alloc, before)?;
@@ -95,7 +95,7 @@ pub(crate) fn bounded(
 
 /// What is held with one more page in the bundle, whose bound counts no further than to the first that is too large.
 /// `AllocError` where memory runs out.
-pub(crate) fn gathered(alloc: Global, before: &[Entry], slot: u8) -> Result<Vec<Entry>, AllocError>
+pub fn gathered(alloc: Global, before: &[Entry], slot: u8) -> Result<Vec<Entry>, AllocError>
     ensures { IfOk result (λ after. after.items
         ≡ with_bound slot (one_more false (bound_at before.now slot)) before.now) }
 {

@@ -7,6 +7,7 @@ mod growth;
 mod maker;
 mod writing;
 
-pub use entries::{held_as, inserted, removed};
+pub use entries::{bound_at, gathered, held_as, inserted, removed, scattered};
 pub use error::AnnotateError;
 pub use maker::annotate;
+pub use writing::first_note;

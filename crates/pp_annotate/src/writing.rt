@@ -21,7 +21,7 @@ const SLOTS: u8 = 32;
 /// What is noted at the first place of the body of a loop of so many turns, where this is noted just before the loop.
 /// `AllocError` where memory runs out.
 #[tactic(auto, using(crate::proofs::Rises::rises))]
-fn first_note(
+pub fn first_note(
     alloc: Global,
     plan: &Plan,
     turns: u16,

@@ -1,6 +1,6 @@
 //! What is held at a place of a plan.
 
-use pp_annotate::{held_as, inserted, removed};
+use pp_annotate::{gathered, held_as, inserted, removed, scattered};
 use pp_cert::{Entry, Held, MOST_COUNTED};
 use pp_explain_text::{region_name, slot_name};
 use pp_plan::{Plan, Stmt};
@@ -12,14 +12,6 @@ pub(crate) fn entry_of(entries: &[Entry], slot: u8) -> Option<Entry> {
     entries.iter().find(|entry| entry.slot() == slot).copied()
 }
 
-/// The most pages that the bundle pins; 0 without an entry.
-pub(crate) fn bound_of(entries: &[Entry], slot: u8) -> u16 {
-    match entries.iter().find(|entry| entry.is_bundle_of(slot)) {
-        Some(entry) => entry.pins(),
-        None => 0,
-    }
-}
-
 /// The most pages that all entries together pin.
 pub(crate) fn pins_of(entries: &[Entry]) -> u32 {
     let mut pins = 0u32;
@@ -27,21 +19,6 @@ pub(crate) fn pins_of(entries: &[Entry]) -> u32 {
         pins = pins.saturating_add(u32::from(entry.pins()));
     }
     pins
-}
-
-/// What is held with this bound for the bundle, where 0 is no entry.
-pub(crate) fn bounded(
-    alloc: Global,
-    before: &[Entry],
-    slot: u8,
-    bound: u16,
-) -> Result<Vec<Entry>, AllocError> {
-    let mut others = Vec::from_slice(alloc, before)?;
-    others.retain(|entry| !entry.is_bundle_of(slot));
-    if bound == 0 {
-        return Ok(others);
-    }
-    inserted(alloc, &others, Entry::Bundle { slot, bound })
 }
 
 /// What is held after a statement that is neither a loop nor a choice, where this is held before it. Bounds count no further
@@ -63,11 +40,8 @@ pub(crate) fn after(
         Stmt::Unfix { slot } => removed(alloc, before, *slot),
         Stmt::Latch { slot, mode } => held_as(alloc, before, Held::from(*mode), *slot),
         Stmt::Unlatch { slot } => held_as(alloc, before, Held::Free, *slot),
-        Stmt::Gather { slot, .. } => {
-            let bound = bound_of(before, *slot).saturating_add(1).min(MOST_COUNTED);
-            bounded(alloc, before, *slot, bound)
-        }
-        Stmt::Scatter { slot } => bounded(alloc, before, *slot, 0),
+        Stmt::Gather { slot, .. } => gathered(alloc, before, *slot),
+        Stmt::Scatter { slot } => scattered(alloc, before, *slot),
         Stmt::Loop { .. } | Stmt::Choice { .. } => Vec::from_slice(alloc, before),
     }
 }

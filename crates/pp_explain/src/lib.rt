@@ -8,7 +8,6 @@ mod check;
 mod entries;
 mod explaining;
 mod fault;
-mod growth;
 mod journal;
 mod paragraph;
 mod places;

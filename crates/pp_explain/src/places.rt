@@ -1,7 +1,7 @@
 //! The places of a plan, and what is held at them.
 
 use crate::entries::{after, pins_of};
-use crate::growth::begun;
+use pp_annotate::first_note;
 use pp_cert::{Entry, Note};
 use pp_locate::Step;
 use pp_plan::{Body, Branches, Plan, Stmt};
@@ -47,7 +47,7 @@ pub(crate) fn place_of(
     plan: &Plan,
     number: u32,
 ) -> Result<Option<Place>, AllocError> {
-    let mut walk = Walk::to(alloc, &[], number);
+    let mut walk = Walk::to(alloc, plan, &[], number);
     let held = walk.statements(alloc, DEEPEST, Step::Key("body"), &[], plan.body())?;
     if let Some(held) = held {
         let number = walk.number;
@@ -63,7 +63,7 @@ pub(crate) fn other_note(
     notes: &[Note],
     number: u32,
 ) -> Result<Option<u32>, AllocError> {
-    let mut walk = Walk::to(alloc, notes, number);
+    let mut walk = Walk::to(alloc, plan, notes, number);
     walk.statements(alloc, DEEPEST, Step::Key("body"), &[], plan.body())?;
     Ok(walk.other)
 }
@@ -81,7 +81,7 @@ pub(crate) struct Size {
 
 /// How large the plan is.
 pub(crate) fn size_of(alloc: Global, plan: &Plan) -> Result<Size, AllocError> {
-    let mut walk = Walk::to(alloc, &[], u32::MAX);
+    let mut walk = Walk::to(alloc, plan, &[], u32::MAX);
     walk.statements(alloc, DEEPEST, Step::Key("body"), &[], plan.body())?;
     Ok(Size {
         places: walk.place.saturating_add(1),
@@ -93,6 +93,7 @@ pub(crate) fn size_of(alloc: Global, plan: &Plan) -> Result<Size, AllocError> {
 /// A walk over a plan that looks for a place.
 #[derive(Drop)]
 struct Walk<'n> {
+    plan: &'n Plan,
     wanted: u32,
     /// Notes that what is held is compared with.
     notes: &'n [Note],
@@ -113,9 +114,10 @@ struct Walk<'n> {
 }
 
 impl<'n> Walk<'n> {
-    /// A walk beside these notes to the place of this number, at its beginning.
-    fn to(alloc: Global, notes: &'n [Note], wanted: u32) -> Walk<'n> {
+    /// A walk over the plan, beside these notes, to the place of this number, at its beginning.
+    fn to(alloc: Global, plan: &'n Plan, notes: &'n [Note], wanted: u32) -> Walk<'n> {
         Walk {
+            plan,
             wanted,
             notes,
             other: None,
@@ -228,7 +230,7 @@ impl<'n> Walk<'n> {
         count: u16,
         body: &Body,
     ) -> Result<Option<Vec<Entry>>, AllocError> {
-        let first = begun(alloc, levels, before, count, body)?;
+        let first = first_note(alloc, self.plan, count, body, before)?;
         let outer = self.grows;
         self.grows = outer || pins_of(&first) > pins_of(before);
         let held = self.statements(alloc, levels, Step::Key("body"), &first, body.stmts())?;
