@@ -10,7 +10,7 @@ use Rattle.pp_plan.specs.declared.action.Action.TheVariants as action
 use Rattle.pp_plan.specs.Limits.{most_slots}
 use Rattle.pp_plan.specs.Terms.{Terms}
 use Rattle.pp_plan.specs.PlanTraces.{PlanAsks}
-use Rattle.pp_plan.specs.Left.{Place}
+use Rattle.pp_plan.specs.FlatList.{Spot}
 use Rattle.pp_plan.specs.Cursor.{StandsFor as CursorStandsFor}
 use Rattle.pp_cert.specs.Accepted.{Acceptance}
 use Rattle.pp_cert.specs.Held.{Holding, holding_at}
@@ -84,9 +84,9 @@ one_seat f w x y e f' = same_seat (slice_get f.seats w) x y e f'
 -- ---- cursors
 
 -- Where a cursor stands for two lists, the plan asks the same after both.
-asks_same : (p : Terms) (c : Place) (t u : List Action) (a : Action) → CursorStandsFor p c t → CursorStandsFor p c u
+asks_same : (p : Terms) (c : Spot) (t u : List Action) (a : Action) → CursorStandsFor p c t → CursorStandsFor p c u
     → PlanAsks p t a → PlanAsks p u a
-asks_same p c t u a h k asks = (asks.0, k.from (a ∷ asks.0) (h.to (a ∷ asks.0) asks.1))
+asks_same p c t u a h k asks = (asks.0, k.stands.from (a ∷ asks.0) (h.stands.to (a ∷ asks.0) asks.1))
 
 -- A worker at this stage follows its plan.
 abbrev pub IsOnPlan : Stage → Type 0

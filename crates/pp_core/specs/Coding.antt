@@ -9,6 +9,7 @@ use Rattle.pp_plan.specs.declared.action.Ask.{Ask}
 use Rattle.pp_plan.specs.declared.action.Ask.TheVariants as ask
 use Rattle.pp_plan.specs.declared.cursor.Entry.{Entry}
 use Rattle.pp_plan.specs.Left.{Place}
+use Rattle.pp_plan.specs.FlatList.{Spot}
 use Rattle.pp_cert.specs.declared.note.Held.{Held}
 use Rattle.pp_cert.specs.declared.note.Held.TheVariants.{Free, S, X}
 use Rattle.pp_cert.specs.Accepted.{Acceptance, coded_acceptance}
@@ -45,6 +46,11 @@ abbrev coded_place : Coded Place
 coded_place =
     code_by (List Entry × ℕ) (coded× (coded_list coded_entry) coded_ℕ) (λ p. (p.entries, p.index))
     (λ p. record { entries = p.0; index = p.1 }) (λ _. refl)
+
+abbrev coded_spot : Coded Spot
+coded_spot =
+    code_by (Place × ℕ) (coded× coded_place coded_ℕ) (λ c. (c.place, c.at)) (λ p. record { place = p.0; at = p.1 })
+    (λ _. refl)
 
 -- Nothing for the end; else which pair of kinds it is of, its slot or number, and what else it has.
 abbrev AskParts : Type 0
@@ -146,8 +152,8 @@ coded_phase =
 
 abbrev coded_seat : Coded Seat
 coded_seat =
-    code_by (ℕ × (Place × (Ask × (ℕ × (ℕ × (List (Option Hold) × Phase))))))
-    (coded× coded_ℕ (coded× coded_place (coded× coded_ask (coded× coded_ℕ (coded× coded_ℕ
+    code_by (ℕ × (Spot × (Ask × (ℕ × (ℕ × (List (Option Hold) × Phase))))))
+    (coded× coded_ℕ (coded× coded_spot (coded× coded_ask (coded× coded_ℕ (coded× coded_ℕ
     (coded× (coded_list (coded_option coded_hold)) coded_phase))))))
     (λ x. (x.plan, (x.cursor, (x.ask, (x.actions, (x.holds, (x.slots, x.phase)))))))
     (λ p. record {

@@ -7,7 +7,7 @@ use Rattle.pp_plan.specs.Rules.{IsSome, IsSequence, IsBody}
 use Rattle.pp_plan.specs.declared.action.Ask.{Ask}
 use Rattle.pp_plan.specs.declared.action.Ask.TheVariants.{End}
 use Rattle.pp_plan.specs.declared.cursor.Entry.{Entry}
-use Rattle.pp_plan.specs.declared.cursor.Next.TheVariants.{Enter, Leave, Asks}
+use Rattle.pp_plan.specs.declared.flat.Next.TheVariants.{Enter, Leave, Asks}
 use Rattle.pp_plan.specs.Left.{◌then◌, sequence_drop, first_body_of, first_rest_of, Place, body_at, outside, left}
 use Rattle.pp_plan.specs.Cursor.{CanBeIn, CanEnter, IsPath, IsReady}
 use Rattle.pp_plan.specs.CursorMoves.{entered, left_to, left_by, HasNext, Same, first_ask, next_by, next_at}
@@ -136,7 +136,7 @@ leave_path b p path = leave_path_of b p p.entries path path
 
 -- ---- what is next
 
-loop_of : (d : Sequence) (es : List Entry) (n : ℕ) → next_by d es ≡ Enter n
+pub loop_of : (d : Sequence) (es : List Entry) (n : ℕ) → next_by d es ≡ Enter n
     → (c : Sequence) × ((k : Sequence) × (d ≡ andthen (loop n c) k))
 loop_of skip [] n h = absurd cc
 loop_of skip (e ∷ es) n h = absurd cc
@@ -147,7 +147,7 @@ loop_of (andthen (loop m c) k) es n h = (c, (k, ap (λ x. andthen (loop x c) k) 
     same_turns h = cc
 loop_of (andthen (choice bs) k) es n h = absurd cc
 
-end_of : (d : Sequence) (es : List Entry) → next_by d es ≡ Leave → (d ≡ skip) × (0 < length es)
+pub end_of : (d : Sequence) (es : List Entry) → next_by d es ≡ Leave → (d ≡ skip) × (0 < length es)
 end_of skip [] h = absurd cc
 end_of skip (e ∷ es) h = (refl, omega arith)
 end_of (andthen (step s) k) es h = absurd cc

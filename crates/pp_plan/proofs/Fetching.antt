@@ -8,7 +8,7 @@ use Rattle.pp_plan.specs.View.{statement_of, sequence_of, alternatives_of}
 use Rattle.pp_plan.specs.declared.stmt.Stmt.{Stmt}
 use Rattle.pp_plan.specs.declared.stmt.Stmt.TheVariants.{Choice}
 use Rattle.pp_plan.specs.declared.action.Ask.TheVariants.{Choose}
-use Rattle.pp_plan.specs.declared.cursor.Next.TheVariants.{Asks}
+use Rattle.pp_plan.specs.declared.flat.Next.TheVariants.{Asks}
 use Rattle.pp_plan.specs.CursorMoves.{statement_next, HasFewBranches}
 use Rattle.pp_plan.specs.Left.{sequence_drop, branch_at}
 

@@ -24,6 +24,8 @@ pub mod Stack
 pub mod Fetching
 pub mod Paths
 pub mod CursorMoves
+pub mod Flattening
+pub mod Rows
 pub mod Lasting
 pub mod Passing
 pub mod Standing

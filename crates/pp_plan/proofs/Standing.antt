@@ -14,7 +14,7 @@ use Rattle.pp_plan.specs.declared.cursor.Entry.{Entry}
 use Rattle.pp_plan.specs.Traces.{IsTrace}
 use Rattle.pp_plan.specs.Left.{◌then◌, sequence_drop, Place, body_at, outside, left}
 use Rattle.pp_plan.specs.PlanTraces.{IsTraceOf, PlanAsks}
-use Rattle.pp_plan.specs.Cursor.{IsReady, IsAt, StandsFor, NamesAction, IsAskOf}
+use Rattle.pp_plan.specs.Cursor.{IsReady, IsAt, StandsAt, NamesAction, IsAskOf}
 use Rattle.pp_plan.specs.CursorMoves.{moved_by, Same, first_ask, ask_at, HasFewBranches}
 use Rattle.pp_plan.specs.Asked.{statement_ask, asked}
 use Rattle.pp_plan.proofs.Sequences.{then-skip, step_does, choice_does, step_acts, choice_acts}
@@ -67,7 +67,7 @@ ended_by g (andthen (choice bs) k) o es ready out = ((λ e. cc), (λ h. absurd (
 
 -- ---- what the answers of a cursor say of the lists that it stands for
 
-pub asks_end : (plan : Terms) (p : Place) (before : List Action) → StandsFor plan p before
+pub asks_end : (plan : Terms) (p : Place) (before : List Action) → StandsAt plan p before
     → (ask_at plan.body p ≡ ask.End) ↔ IsTraceOf plan before
 asks_end plan p before s =
     let g = plan.layout in
@@ -79,7 +79,7 @@ asks_end plan p before s =
       (λ h. e.1 (s.to [] (subst (IsTrace g b) (sym (append-nil before)) h))),
     )
 
-pub asks_named : (plan : Terms) (p : Place) (before : List Action) (a : Action) → IsPlan plan → StandsFor plan p before
+pub asks_named : (plan : Terms) (p : Place) (before : List Action) (a : Action) → IsPlan plan → StandsAt plan p before
     → PlanAsks plan before a ↔ NamesAction plan.layout (ask_at plan.body p) a
 asks_named plan p before a facts s = (
   (λ h. goes_named plan.layout plan.body p a h.0 s.at (s.to (a ∷ h.0) h.1)),
@@ -92,7 +92,7 @@ asks_named plan p before a facts s = (
 
 -- The same of an answer that is the ask at the place.
 pub answers_named : (plan : Terms) (p : Place) (x : Ask) (before : List Action) (a : Action) → IsPlan plan
-    → x ≡ ask_at plan.body p → StandsFor plan p before → PlanAsks plan before a ↔ NamesAction plan.layout x a
+    → x ≡ ask_at plan.body p → StandsAt plan p before → PlanAsks plan before a ↔ NamesAction plan.layout x a
 answers_named plan p x before a facts is s =
     subst (λ y. PlanAsks plan before a ↔ NamesAction plan.layout y a) (sym is) (asks_named plan p before a facts s)
 
@@ -116,7 +116,7 @@ asks_known plan p facts =
 -- ---- moves
 
 pub stands_at_start : (plan : Terms) (q : Place) → IsPlan plan → IsAt plan.body q
-    → Same plan.layout (left plan.body (record { entries = []; index = 0 })) (left plan.body q) → StandsFor plan q []
+    → Same plan.layout (left plan.body (record { entries = []; index = 0 })) (left plan.body q) → StandsAt plan q []
 stands_at_start plan q facts at same =
     let e : left plan.body (record { entries = []; index = 0 }) ≡ plan.body = then-skip plan.body in
     record {
@@ -128,7 +128,7 @@ stands_at_start plan q facts at same =
 
 stands_after : (plan : Terms) (p r : Place) (a : Action) → IsPlan plan → Passes plan.layout plan.body p a
     → Same plan.layout (left plan.body (moved_by a p)) (left plan.body r) → IsAt plan.body r → (before : List Action)
-    → StandsFor plan p before → StandsFor plan r (before ++ a ∷ [])
+    → StandsAt plan p before → StandsAt plan r (before ++ a ∷ [])
 stands_after plan p r a facts f same at before s =
     let g = plan.layout in
     let b = plan.body in
@@ -145,9 +145,9 @@ stands_after plan p r a facts f same at before s =
 
 -- An action that is asked is gone past, and then the place is settled.
 pub stands_passed : (plan : Terms) (p q r : Place) (a : Action) (after : List Action) → IsPlan plan
-    → StandsFor plan p after → PlanAsks plan after a → q ≡ moved_by a p
+    → StandsAt plan p after → PlanAsks plan after a → q ≡ moved_by a p
     → Same plan.layout (left plan.body q) (left plan.body r) → IsAt plan.body r → (before : List Action)
-    → StandsFor plan p before → StandsFor plan r (before ++ a ∷ [])
+    → StandsAt plan p before → StandsAt plan r (before ++ a ∷ [])
 stands_passed plan p q r a after facts t asks moved same at before s =
     let f =
     passes plan.layout (length plan.slots) (length plan.layout.extents) plan.body p a facts.body s.at.path
@@ -157,7 +157,7 @@ stands_passed plan p q r a after facts t asks moved same at before s =
 
 -- What is asked after a named action, at the place that is settled.
 pub asked_after : (plan : Terms) (r : Place) (x : Ask) (after : List Action) → IsPlan plan → x ≡ ask_at plan.body r
-    → StandsFor plan r after → x ≡ asked plan after
+    → StandsAt plan r after → x ≡ asked plan after
 asked_after plan r x after facts is s =
     let within =
     subst (λ y. IsAskOf (length plan.slots) (length plan.layout.extents) y) (sym is) (asks_known plan r facts) in

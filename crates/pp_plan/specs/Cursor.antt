@@ -9,6 +9,7 @@ use Rattle.pp_plan.specs.Terms.{Terms}
 use Rattle.pp_plan.specs.Traces.{Does, IsTrace, Begins}
 use Rattle.pp_plan.specs.PlanTraces.{PlanAsks}
 use Rattle.pp_plan.specs.Left.{sequence_drop, Place, body_at, left}
+use Rattle.pp_plan.specs.FlatList.{Spot, position}
 use Rattle.pp_plan.specs.declared.cursor.Entry.{Entry}
 use Rattle.pp_plan.specs.declared.action.Action.{Action}
 use Rattle.pp_plan.specs.declared.action.Action.TheVariants.{Choose}
@@ -52,22 +53,27 @@ pub record IsAt (b : Sequence) (p : Place) : Type 0 where
 
 -- ---- what a cursor stands for
 
--- A cursor of the plan stands for a list of done actions: the list begins a trace of the plan, and what may follow
--- it in the plan's traces is what the cursor has left. The list isn't stored.
-pub record StandsFor (plan : Terms) (cursor : Place) (before : List Action) : Type 0 where
-  pub at : IsAt plan.body cursor
+-- A place of the plan stands for a list of done actions: the list begins a trace of the plan, and what may follow
+-- it in the plan's traces is what is left at the place. The list isn't stored.
+pub record StandsAt (plan : Terms) (place : Place) (before : List Action) : Type 0 where
+  pub at : IsAt plan.body place
   pub begins : Begins plan.layout plan.body before
   pub to : (rest : List Action) → IsTrace plan.layout plan.body (before ++ rest)
-      → IsTrace plan.layout (left plan.body cursor) rest
-  pub from : (rest : List Action) → IsTrace plan.layout (left plan.body cursor) rest
+      → IsTrace plan.layout (left plan.body place) rest
+  pub from : (rest : List Action) → IsTrace plan.layout (left plan.body place) rest
       → IsTrace plan.layout plan.body (before ++ rest)
 
+-- A cursor of the plan stands for the list of its place, and the number that it has is that of the place's step.
+pub record StandsFor (plan : Terms) (cursor : Spot) (before : List Action) : Type 0 where
+  pub stands : StandsAt plan cursor.place before
+  pub on : cursor.at ≡ position plan.body cursor.place
+
 -- The cursor is one of this plan: it stands for some list.
-abbrev pub IsCursorOf : Terms → Place → Type 0
+abbrev pub IsCursorOf : Terms → Spot → Type 0
 IsCursorOf plan cursor = (before : List Action) × StandsFor plan cursor before
 
 -- The plan asks the action after a list that the cursor stands for.
-abbrev pub IsAsked : Terms → Place → Action → Type 0
+abbrev pub IsAsked : Terms → Spot → Action → Type 0
 IsAsked plan cursor a = (before : List Action) × (StandsFor plan cursor before × PlanAsks plan before a)
 
 -- ---- what is asked

@@ -1,5 +1,5 @@
 -- How a cursor moves: the words of its private parts.
-use Rattle.std.specs.Prelude.{◌<◌, ◌^◌, ℕ, zero, suc, ◌+◌, List, [], ◌∷◌, length, slice_index_or}
+use Rattle.std.specs.Prelude.{◌≡◌, ◌<◌, ◌^◌, ℕ, zero, suc, ◌+◌, List, [], ◌∷◌, length, slice_index_or}
 use Rattle.pp_settings.specs.Layout.{Geometry}
 use Rattle.pp_plan.specs.Limits.{most_depth}
 use Rattle.pp_plan.specs.Tree.{Statement, step, loop, choice, Sequence, skip, andthen}
@@ -7,9 +7,11 @@ use Rattle.pp_plan.specs.Tree.{branch_count}
 use Rattle.pp_plan.specs.Traces.{IsTrace}
 use Rattle.pp_plan.specs.Asked.{statement_ask}
 use Rattle.pp_plan.specs.Left.{sequence_drop, Place, body_at}
+use Rattle.pp_plan.specs.Cursor.{IsPath}
+use Rattle.pp_plan.specs.FlatList.{Spot, position}
 use Rattle.pp_plan.specs.declared.cursor.Entry.{Entry}
-use Rattle.pp_plan.specs.declared.cursor.Next.{Next}
-use Rattle.pp_plan.specs.declared.cursor.Next.TheVariants.{Enter, Leave, Asks}
+use Rattle.pp_plan.specs.declared.flat.Next.{Next}
+use Rattle.pp_plan.specs.declared.flat.Next.TheVariants.{Enter, Leave, Asks}
 use Rattle.pp_plan.specs.declared.action.Action.{Action}
 use Rattle.pp_plan.specs.declared.action.Action.TheVariants.{Choose}
 use Rattle.pp_plan.specs.declared.action.Ask.{Ask}
@@ -96,3 +98,24 @@ abbrev pub HasFewBranches : Statement → Type 0
 HasFewBranches (step s) = Unit {0}
 HasFewBranches (loop n b) = Unit {0}
 HasFewBranches (choice bs) = branch_count bs < 2 ^ 16
+
+-- ---- the number of the step
+
+-- A cursor inside the body, with the number of its place's step.
+pub record IsOn (b : Sequence) (c : Spot) : Type 0 where
+  pub path : IsPath b c.place.entries
+  pub on : c.at ≡ position b c.place
+
+-- Out of a body, where the statement around it is the step of this number and comes to so many.
+abbrev pub out_to : (turns : ℕ) → Entry → List Entry → (around whole : ℕ) → Spot
+out_to zero e es around whole = record { place = left_to zero e es; at = around + whole }
+out_to (suc n) e es around whole = record { place = left_to (suc n) e es; at = around + 1 }
+
+abbrev pub out_by : List Entry → (around whole : ℕ) → Spot → Spot
+out_by [] around whole c = c
+out_by (e ∷ es) around whole c = out_to e.turns e es around whole
+
+-- The action is made by a step, and not by a choice.
+abbrev pub IsOfStep : Action → Type 0
+IsOfStep (Choose i) = ⊥
+IsOfStep _ = Unit {0}

@@ -12,6 +12,7 @@ pub mod Slots
 pub mod PlanTraces
 pub mod Left
 pub mod Asked
+pub mod FlatList
 pub mod Cursor
 pub mod CursorMoves
 pub mod Refusals

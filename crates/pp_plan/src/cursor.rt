@@ -1,23 +1,25 @@
 //! Where a worker is in its plan.
 
-ghost use Rattle.std.specs.Prelude.{◌≡◌, ◌+◌, ◌<◌, ◌^◌, List, [], ◌∷◌, ◌++◌, length, true, false, ◌↔◌, IsTrue, IfSome};
-ghost use Rattle.std.specs.Prelude.{IfNone, OnOk, OnErr};
+ghost use Rattle.std.specs.Prelude.{◌≡◌, ◌+◌, ◌<◌, ◌^◌, List, [], ◌∷◌, ◌++◌, length, false, ◌↔◌, IsTrue};
+ghost use Rattle.std.specs.Prelude.{OnOk, OnErr, slice_get, Some};
 ghost use Rattle.pp_settings.specs.Layout.{HasPage};
 ghost use Rattle.pp_plan.specs.declared.action.Action.{Action};
-ghost use Rattle.pp_plan.specs.View.{sequence_of, statement_of};
 ghost use Rattle.pp_plan.specs.Terms.{IsPlan};
-ghost use Rattle.pp_plan.specs.Left.{body_at, body_of, first_body_of, sequence_drop, left};
+ghost use Rattle.pp_plan.specs.Left.{left};
 ghost use Rattle.pp_plan.specs.PlanTraces.{IsTraceOf, PlanAsks};
-ghost use Rattle.pp_plan.specs.Cursor.{IsPath, IsAt, StandsFor, IsCursorOf, IsAsked, NamesAction, IsAskOf};
+ghost use Rattle.pp_plan.specs.Cursor.{IsAt, StandsFor, IsCursorOf, IsAsked, NamesAction, IsAskOf};
 ghost use Rattle.pp_plan.specs.CursorMoves.{HasNext, entered, skipped, left_by, moved_by, CanPass, Same, ask_at};
-ghost use Rattle.pp_plan.specs.CursorMoves.{statement_next, next_at, HasFewBranches};
+ghost use Rattle.pp_plan.specs.CursorMoves.{next_at, out_by, IsOn, IsOfStep};
+ghost use Rattle.pp_plan.specs.FlatList.{flat_body, position};
+ghost use Rattle.pp_plan.specs.declared.flat.Next.TheVariants.{Leave};
+ghost use Rattle.pp_plan.specs.declared.flat.FlatStep.{FlatStep};
 ghost use Rattle.pp_plan.specs.Asked.{asked};
 
 use crate::action::{Action, Ask, OffPlan};
+use crate::flat::{FlatStep, Next};
 use crate::limits::MOST_DEPTH;
 use crate::mode::Mode;
 use crate::plan::Plan;
-use crate::stmt::Stmt;
 use std::marker::Model;
 
 /// How many loops and choices a place may be inside.
@@ -32,37 +34,28 @@ struct Entry {
     branch: u16,
 }
 
-/// What is next at a place.
-#[derive(Clone, Copy, Debug)]
-enum Next {
-    /// A loop of so many turns, which is entered.
-    Enter(u16),
-    /// The end of a body inside another, which is left.
-    Leave,
-    /// What the plan asks: an action, or the end.
-    Asks(Ask),
-}
-
 /// Where a worker is in its plan: between two actions, before the first, or after the last.
 ///
 /// A cursor stores no history. `follow(a)` succeeds if and only if the plan allows `a` next. A cursor takes no memory.
-/// What a call costs depends on how deep the plan's statements stand inside each other, which is at most 16. It doesn't
-/// depend on the plan's length or on the turns of its loops.
+/// What a call costs depends on how many bodies begin or end between two actions, at most 16 of each. It doesn't depend
+/// on the plan's length or on the turns of its loops.
 #[derive(Debug, Drop)]
 pub struct Cursor {
     entries: [Entry; MOST_ENTRIES],
     depth: usize,
     index: usize,
+    /// The number of the next step in the plan's list.
+    at: usize,
 }
 
 impl Model for Cursor {
     ghost use Rattle.std.specs.Prelude.{◌≤◌};
-    ghost use Rattle.pp_plan.specs.Left.{Place};
+    ghost use Rattle.pp_plan.specs.FlatList.{Spot};
     ghost use Rattle.pp_plan.specs.CursorMoves.{stack};
 
-    ghost Value = { Place };
+    ghost Value = { Spot };
 
-    ghost view = { λ c. record { entries = stack c.entries c.depth; index = c.index } };
+    ghost view = { λ c. record { place = record { entries = stack c.entries c.depth; index = c.index }; at = c.at } };
 
     ghost invariant = { λ c. c.depth ≤ 16 };
 }
@@ -130,17 +123,18 @@ impl Cursor {
     {
         // What holds of every plan leaves room to go past the action.
         let _ = plan.body();
-        self.go_past(action);
+        self.go_past(plan, action);
         self.settle(plan)
     }
 
     /// What the statement at the place asks.
     fn next_ask(&self, plan: &Plan) -> Ask
-        requires { IsAt plan.now.body self.now }
-        ensures is { result ≡ ask_at plan.now.body self.now }
+        requires at { IsAt plan.now.body self.now.place }
+        requires on { IsOn plan.now.body self.now }
+        ensures is { result ≡ ask_at plan.now.body self.now.place }
         ensures facts { IsPlan plan.now }
     {
-        match self.next(plan) {
+        match self.step(plan).next {
             Next::Asks(ask) => ask,
             Next::Enter(_) | Next::Leave => unreachable!(),
         }
@@ -149,63 +143,46 @@ impl Cursor {
     /// Goes to where the next action is made, or to the end, and tells what is asked there.
     #[inline(always)]
     fn settle(&mut self, plan: &Plan) -> Ask
-        requires { IsPath plan.now.body self.old.entries }
-        ensures at { IsAt plan.now.body self.new }
-        ensures same { Same plan.now.layout (left plan.now.body self.old) (left plan.now.body self.new) }
-        ensures ask { result ≡ ask_at plan.now.body self.new }
+        requires { IsOn plan.now.body self.old }
+        ensures at { IsAt plan.now.body self.new.place }
+        ensures on { IsOn plan.now.body self.new }
+        ensures same { Same plan.now.layout (left plan.now.body self.old.place) (left plan.now.body self.new.place) }
+        ensures ask { result ≡ ask_at plan.now.body self.new.place }
         ensures facts { IsPlan plan.now }
     {
         loop {
-            match self.next(plan) {
-                Next::Enter(count) => self.enter(count - 1, 0),
-                Next::Leave => self.leave(),
+            let step = self.step(plan);
+            match step.next {
+                Next::Enter(count) => self.enter(count - 1, 0, 1),
+                Next::Leave => self.leave(plan, step.reach),
                 Next::Asks(ask) => return ask,
             }
         }
     }
 
-    /// What is next at the place.
-    fn next(&self, plan: &Plan) -> Next
-        ensures is { result ≡ next_at plan.now.body self.now }
+    /// The step that is next.
+    #[inline(always)]
+    fn step(&self, plan: &Plan) -> FlatStep
+        requires { IsOn plan.now.body self.now }
+        ensures is { result.next ≡ next_at plan.now.body self.now.place }
+        ensures there { slice_get (flat_body plan.now.body) self.now.at ≡ Some result }
         ensures facts { IsPlan plan.now }
     {
-        match self.stmts(plan).get(self.index()) {
-            Some(stmt) => next_of(stmt),
-            None if self.depth() > 0 => Next::Leave,
-            None => Next::Asks(Ask::End),
-        }
+        // What holds of every plan bounds the number of the step.
+        let _ = plan.body();
+        plan.step(self.at())
     }
 
-    /// The statements of the innermost body.
-    fn stmts<'p>(&self, plan: &'p Plan) -> &'p [Stmt]
-        ensures are { sequence_of result.now ≡ body_at plan.now.body self.now.entries }
-        ensures facts { IsPlan plan.now }
+    /// The number of the next step.
+    fn at(&self) -> usize
+        ensures { result ≡ self.now.at }
     {
-        let mut stmts = plan.body();
-        for level in 0..self.depth {
-            stmts = stmts_inside(stmts, self.entries[level]);
-        }
-        stmts
-    }
-
-    /// How many statements the worker is inside.
-    #[tactic(auto, using(crate::proofs::Stack::on_stack))]
-    fn depth(&self) -> usize
-        ensures { result ≡ length self.now.entries }
-    {
-        self.depth
-    }
-
-    /// The number of the next statement in the innermost body.
-    fn index(&self) -> usize
-        ensures { result ≡ self.now.index }
-    {
-        self.index
+        self.at
     }
 
     /// At the plan's first statement.
     fn start() -> Cursor
-        ensures { result ≡ record { entries = []; index = 0 } }
+        ensures { result ≡ record { place = record { entries = []; index = 0 }; at = 0 } }
     {
         let unused = Entry {
             index: 0,
@@ -216,16 +193,28 @@ impl Cursor {
             entries: [unused; MOST_ENTRIES],
             depth: 0,
             index: 0,
+            at: 0,
         }
     }
 
     /// Goes past the action.
-    fn go_past(&mut self, action: Action)
-        requires { CanPass action self.old }
-        ensures { self.new ≡ moved_by action self.old }
+    #[inline(always)]
+    fn go_past(&mut self, plan: &Plan, action: Action)
+        requires room { CanPass action self.old.place }
+        requires on { IsOn plan.now.body self.old }
+        requires named { NamesAction plan.now.layout (ask_at plan.now.body self.old.place) action }
+        requires facts { IsPlan plan.now }
+        requires fits { self.old.at + 1 < 2 ^ 64 }
+        requires stepped { IsOfStep action → position plan.now.body (skipped self.old.place) ≡ self.old.at + 1 }
+        ensures is { self.new.place ≡ moved_by action self.old.place }
+        ensures on { self.new.at ≡ position plan.now.body self.new.place }
     {
         match action {
-            Action::Choose { branch } => self.enter(0, branch),
+            Action::Choose { branch } => {
+                let start = 1 + usize::from(branch);
+                let ahead = plan.step(self.at() + start);
+                self.enter(0, branch, start + ahead.reach as usize);
+            }
             Action::Fix { .. }
             | Action::Unfix { .. }
             | Action::Latch { .. }
@@ -235,11 +224,12 @@ impl Cursor {
         }
     }
 
-    /// Goes to the start of a body inside the next statement.
+    /// Goes to the start of a body inside the next statement, which begins so many steps on.
     #[tactic(auto, using(crate::proofs::Stack::on_stack))]
-    fn enter(&mut self, turns: u16, branch: u16)
-        requires { length self.old.entries < 16 }
-        ensures { self.new ≡ entered self.old turns branch }
+    fn enter(&mut self, turns: u16, branch: u16, on: usize)
+        requires room { length self.old.place.entries < 16 }
+        requires fits { self.old.at + on < 2 ^ 64 }
+        ensures { self.new ≡ record { place = entered self.old.place turns branch; at = self.old.at + on } }
     {
         self.entries[self.depth] = Entry {
             index: self.index,
@@ -248,90 +238,55 @@ impl Cursor {
         };
         self.depth += 1;
         self.index = 0;
+        self.at += on;
     }
 
-    /// Goes past the next statement.
+    /// Goes past the next statement, which makes one action.
     fn skip(&mut self)
-        requires { self.old.index + 1 < 2 ^ 64 }
-        ensures { self.new ≡ skipped self.old }
+        requires room { self.old.place.index + 1 < 2 ^ 64 }
+        requires fits { self.old.at + 1 < 2 ^ 64 }
+        ensures { self.new ≡ record { place = skipped self.old.place; at = self.old.at + 1 } }
     {
         self.index += 1;
+        self.at += 1;
     }
 
-    /// Goes from the end of a body to its next turn, or past the statement around it.
+    /// Goes from the end of a body to its next turn, or past the statement around it, which begins so many steps back.
+    #[inline(always)]
+    fn leave(&mut self, plan: &Plan, back: u32)
+        requires has { HasNext self.old.place.entries }
+        requires on { IsOn plan.now.body self.old }
+        requires ends { next_at plan.now.body self.old.place ≡ Leave }
+        requires back { (step : FlatStep) × ((slice_get (flat_body plan.now.body) self.old.at ≡ Some step)
+            × (back ≡ step.reach)) }
+        requires facts { IsPlan plan.now }
+        ensures is { self.new.place ≡ left_by self.old.place self.old.place.entries }
+        ensures on { self.new.at ≡ position plan.now.body self.new.place }
+    {
+        let around = self.at() - back as usize;
+        let whole = plan.step(around).reach as usize;
+        self.go_out(around, whole);
+    }
+
+    /// The same where the statement around the body is the step of this number and comes to so many.
     #[tactic(auto, using(crate::proofs::Stack::on_stack))]
-    fn leave(&mut self)
-        requires { HasNext self.old.entries }
-        ensures { self.new ≡ left_by self.old self.old.entries }
+    fn go_out(&mut self, around: usize, whole: usize)
+        requires has { HasNext self.old.place.entries }
+        requires fits { around + whole < 2 ^ 64 }
+        requires some { around + 1 < 2 ^ 64 }
+        ensures { self.new ≡ out_by self.old.place.entries around whole self.old }
     {
         let top = self.depth - 1;
         let entry = self.entries[top];
         if entry.turns > 0 {
             self.entries[top].turns = entry.turns - 1;
             self.index = 0;
+            self.at = around + 1;
         } else {
             self.depth = top;
             self.index = entry.index + 1;
+            self.at = around + whole;
         }
-    }
-}
-
-/// The statements of the body that an entry leads into.
-#[tactic(auto, using(crate::proofs::Fetching::on_reads))]
-fn stmts_inside<'p>(stmts: &'p [Stmt], entry: Entry) -> &'p [Stmt]
-    ensures { sequence_of result.now ≡ first_body_of (sequence_drop entry.index (sequence_of stmts.now)) entry.branch }
-{
-    match stmts.get(entry.index) {
-        Some(stmt) => stmts_of(stmt, entry.branch),
-        None => &[],
-    }
-}
-
-/// The statements of the body that is done inside a statement.
-#[tactic(auto, using(crate::proofs::Fetching::on_reads))]
-fn stmts_of<'p>(stmt: &'p Stmt, branch: u16) -> &'p [Stmt]
-    ensures { sequence_of result.now ≡ body_of (statement_of stmt.now) branch }
-{
-    match stmt {
-        Stmt::Loop { body, .. } => body.stmts(),
-        Stmt::Choice { branches } => match branches.bodies().get(usize::from(branch)) {
-            Some(body) => body.stmts(),
-            None => &[],
-        },
-        Stmt::Fix { .. }
-        | Stmt::Unfix { .. }
-        | Stmt::Latch { .. }
-        | Stmt::Unlatch { .. }
-        | Stmt::Gather { .. }
-        | Stmt::Scatter { .. } => &[],
-    }
-}
-
-/// What is next where this is the statement.
-fn next_of(stmt: &Stmt) -> Next
-    requires { HasFewBranches (statement_of stmt.now) }
-    ensures { result ≡ statement_next (statement_of stmt.now) }
-{
-    match stmt {
-        Stmt::Fix { slot, region } => Next::Asks(Ask::Fix {
-            slot: *slot,
-            region: *region,
-        }),
-        Stmt::Unfix { slot } => Next::Asks(Ask::Unfix { slot: *slot }),
-        Stmt::Latch { slot, mode } => Next::Asks(Ask::Latch {
-            slot: *slot,
-            mode: *mode,
-        }),
-        Stmt::Unlatch { slot } => Next::Asks(Ask::Unlatch { slot: *slot }),
-        Stmt::Gather { slot, region } => Next::Asks(Ask::Gather {
-            slot: *slot,
-            region: *region,
-        }),
-        Stmt::Scatter { slot } => Next::Asks(Ask::Scatter { slot: *slot }),
-        Stmt::Loop { count, .. } => Next::Enter(*count),
-        Stmt::Choice { branches } => Next::Asks(Ask::Choose {
-            branches: branches.bodies().len() as u16,
-        }),
     }
 }
 

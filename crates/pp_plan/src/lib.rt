@@ -4,6 +4,7 @@
 mod action;
 mod cursor;
 mod error;
+mod flat;
 mod kind;
 pub mod laws;
 mod limits;

@@ -19,8 +19,10 @@ ghost use Rattle.pp_plan.specs.Refusals.{is_plan_memory};
 ghost use Rattle.pp_text.specs.Steps.{Gives};
 ghost use Rattle.pp_plan.specs.Reading.{reading};
 ghost use Rattle.pp_plan.specs.Writing.{plan_text};
+ghost use Rattle.pp_plan.specs.FlatList.{flat_body};
 
 use crate::error::PlanError;
+use crate::flat::{FlatStep, flat_body};
 use crate::limits::{MOST_DEPTH, MOST_SLOTS};
 use crate::numbering::{in_byte_order, new_bundles, new_numbers, renumber};
 use crate::progress::{Progress, is_marked, position_of};
@@ -45,6 +47,8 @@ pub struct Plan {
     pub(crate) body: Body,
     /// Which slots are bundles.
     bundles: [bool; MOST_SLOTS],
+    /// The body as one list.
+    steps: Vec<FlatStep>,
 }
 
 impl Model for Plan {
@@ -88,12 +92,14 @@ fn read_plan(alloc: Global, settings: &Settings, text: &str) -> Result<Plan, Pla
     let slots = in_byte_order(&names)?;
     renumber(&mut body, &new_numbers(&slots, &names));
     let bundles = new_bundles(&bundles, &new_numbers(&names, &slots), slots.len());
+    let steps = flat_body(alloc, &body)?;
     Ok(Plan {
         version,
         layout: settings.layout(),
         slots,
         body,
         bundles,
+        steps,
     })
 }
 
@@ -164,6 +170,16 @@ impl Plan {
             → rest ≡ [] }
     {
         self.body.stmts()
+    }
+
+    /// The step of this number of the body as one list.
+    #[inline(always)]
+    pub(crate) fn step(&self, at: usize) -> FlatStep
+        requires { at < length (flat_body self.now.body) }
+        ensures is { slice_get (flat_body self.now.body) at ≡ Some result }
+        ensures facts { IsPlan self.now }
+    {
+        self.steps[at]
     }
 
     /// How many slot names.

@@ -18,6 +18,8 @@ use Rattle.pp_core.proofs.seat.Seat.TheSendSync as seat
 use Rattle.pp_vault.proofs.hands.Hands.TheSendSync as hands
 use Rattle.pp_core.proofs.table.Flush.TheSendSync as flush
 use Rattle.pp_frames.specs.contracts.marks.Marks.{the_row as marks_row}
+use Rattle.pp_plan.specs.contracts.flat.FlatStep.{the_row as step_row}
+use Rattle.pp_plan.specs.contracts.plan.Plan.{the_row as plan_row}
 use Rattle.pp_cert.specs.contracts.accepted.Accepted.{the_row as accepted_row}
 use Rattle.pp_core.specs.contracts.machine.Core.TheInside.{the_row as core_inside}
 use Rattle.pp_core.specs.contracts.machine.Core.{the_row as core_row}
@@ -42,8 +44,14 @@ event_send = search sendable depth 40 fits 50000
 pub marks_send : IsSend marks_row
 marks_send = search (page.the_send, numbers.send-NumberSet, sendable, crosses) depth 24 fits 5000
 
+pub step_send : IsSend step_row
+step_send = search sendable depth 40 fits 50000
+
+pub plan_send : IsSend plan_row
+plan_send = search (layout.the_send, body.send-Body, step_send, sendable, crosses, maps) depth 24 fits 5000
+
 pub accepted_send : IsSend accepted_row
-accepted_send = search (layout.the_send, body.send-Body, sendable, crosses, maps) depth 24 fits 5000
+accepted_send = search (plan_send, sendable, crosses) depth 24 fits 5000
 
 pub core_inside_send : IsSend core_inside
 core_inside_send = search (marks_send, accepted_send, layout.the_send, directory.the_send, bundles.the_send, seat.the_send, flush.the_send, sendable, crosses) depth 24 fits 5000

@@ -57,4 +57,5 @@ invariant_of-result c =
       plan = subst (λ (t : Terms). IsPlan t) same
           (sequence_is_plan settings version items (progress, draft) within known read);
       bundles = λ k. table k ∙ ap (λ (t : Terms). uses_bundle t.body k) same;
+      steps = c.in_ok-steps.ensures;
     }

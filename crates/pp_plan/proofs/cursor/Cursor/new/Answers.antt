@@ -7,6 +7,9 @@ use Rattle.pp_plan.proofs.cursor.Cursor.new.Goals as goal
 pub returns : goal.returns
 returns c =
     let plan = c.args.plan.now in
-    stands_at_start plan c.settle.new.self c.settle.ensures.facts c.settle.ensures.at
-    (subst (λ p. Same plan.layout (left plan.body p) (left plan.body c.settle.new.self)) c.start-cursor.ensures
-    c.settle.ensures.same)
+    record {
+      stands = stands_at_start plan c.settle.new.self.place c.settle.ensures.facts c.settle.ensures.at
+          (subst (λ p. Same plan.layout (left plan.body p.place) (left plan.body c.settle.new.self.place))
+          c.start-cursor.ensures c.settle.ensures.same);
+      on = c.settle.ensures.on.on;
+    }

@@ -1,14 +1,13 @@
 use Rattle.pp_plan.specs.Left.{left}
-use Rattle.pp_plan.specs.Cursor.{IsPath}
-use Rattle.pp_plan.specs.CursorMoves.{Same}
+use Rattle.pp_plan.specs.CursorMoves.{Same, IsOn}
 use Rattle.pp_plan.proofs.CursorMoves.{moves_left}
 use Rattle.pp_plan.proofs.cursor.Cursor.settle.Given as goal
 
 abbrev pub invariant-loop-count : goal.invariant-loop-count
 invariant-loop-count l = record {
-  path : IsPath l.plan.body l.self.entries;
-  same : Same l.plan.layout (left l.plan.body l.initial.self) (left l.plan.body l.self);
+  on : IsOn l.plan.body l.self;
+  same : Same l.plan.layout (left l.plan.body l.initial.self.place) (left l.plan.body l.self.place);
 }
 
 abbrev pub decreases-loop-count : goal.decreases-loop-count
-decreases-loop-count l = moves_left l.plan.body l.self
+decreases-loop-count l = moves_left l.plan.body l.self.place
