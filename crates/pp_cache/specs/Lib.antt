@@ -3,3 +3,4 @@ pub mod Frames
 pub mod Kept
 pub mod KeptInside
 pub mod Cache
+pub mod Names
