@@ -65,8 +65,9 @@ uint32_t pinpool_cache_unpin(pinpool_cache *handle, uint32_t key, uint32_t disca
 uint32_t pinpool_cache_rekey(pinpool_cache *handle, uint32_t from, uint32_t to);
 
 /* Drops each page whose key is at least limit, pinned or not, and forgets such keys. It takes a step for each key from the
-** limit on that there is room for, up to twice the greatest key that ever came, whether a page has it or not. So a host that
-** truncates often asks only where it may have such a page. DONE; NO_CACHE. */
+** limit on that there is room for, up to twice the greatest key that ever came, whether a page has it or not; or, where these
+** are fewer, one for each key that the cache knows: twice its size at most. Where pages stand beyond the size, it goes over
+** the keys. A host that truncates often asks only where it may have such a page. DONE; NO_CACHE. */
 uint32_t pinpool_cache_truncate(pinpool_cache *handle, uint32_t limit);
 
 /* Drops each page that isn't pinned. It takes a step for each key that there is room for, whether a page has it or not.

@@ -122,7 +122,7 @@ or_assoc : (a b c : Bool) → (a || (b || c)) ≡ ((a || b) || c)
 or_assoc true b c = refl
 or_assoc false b c = refl
 
-contains-append : (xs ys : List ℕ) (k : ℕ) → contains (xs ++ ys) k ≡ (contains xs k || contains ys k)
+pub contains-append : (xs ys : List ℕ) (k : ℕ) → contains (xs ++ ys) k ≡ (contains xs k || contains ys k)
 contains-append [] ys k = refl
 contains-append (x ∷ xs) ys k = ap (λ b. eqb x k || b) (contains-append xs ys k)
     ∙ or_assoc (eqb x k) (contains xs k) (contains ys k)

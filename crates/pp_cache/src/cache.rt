@@ -1,8 +1,9 @@
 //! The cache.
 
 ghost use Rattle.std.specs.Prelude.{◌≡◌, ◌≢◌, ℕ, ◌+◌, ◌*◌, ◌<◌, ◌≤◌, ◌↔◌, Bool, true, false, not, nat_lt, is_some, length, ◌&&◌, ◌==◌};
-ghost use Rattle.std.specs.Prelude.{None, Some, IsSome, IsTrue, IsFalse, IfOk, IsOk, IsErr, if◌then◌else◌};
-ghost use Rattle.pp_arc.specs.FourLists.{is_cached, cached_count};
+ghost use Rattle.std.specs.Prelude.{◌||◌, None, Some, IsSome, IsTrue, IsFalse, IfOk, IsOk, IsErr, if◌then◌else◌};
+ghost use Rattle.pp_arc.specs.Pages.{contains};
+ghost use Rattle.pp_arc.specs.FourLists.{list_of, is_cached, cached_count};
 ghost use Rattle.pp_arc.specs.Laws.{AllCachedAreBusy};
 ghost use Rattle.pp_cache.specs.Frames.{page_of, frame_of, is_pinned, resident_count, pinned_count, IsFree, with_page};
 ghost use Rattle.pp_cache.specs.Frames.{with_pinned};
@@ -401,12 +402,77 @@ impl Cache {
 
     /// Drops each page whose key is at least `limit`, pinned or not, and forgets such names.
     ///
-    /// It takes a step for each key from the limit on that there is room for.
+    /// It takes a step for each key from the limit on that there is room for, or for each name in the four lists where
+    /// these are fewer: `2c` at most. Where pages stand beyond the size of the cache, it goes over the keys.
     pub fn truncate(&mut self, limit: u32)
         ensures exact { KeepsOnly (λ key. nat_lt key limit) self.old self.new }
         ensures sound { IsSound self.new }
     {
+        if self.names_are_fewer(limit) {
+            self.truncate_lists(limit);
+        } else {
+            self.truncate_keys(limit);
+        }
+    }
+
+    /// Whether the four lists have fewer names than there is room for keys from the limit on, and each page that stands in
+    /// a frame is one of `T1` or `T2`.
+    fn names_are_fewer(&self, limit: u32) -> bool
+        ensures cached { IsTrue result → resident_count self.now.table ≡ cached_count self.now.lists }
+        ensures sound { IsSound self.now }
+    {
+        let _size = self.directory.size();
+        let keys = self.frames.keys().saturating_sub(limit);
+        let cached = self.cached();
+        let remembered = self.directory.len(List::B1) + self.directory.len(List::B2);
+        self.frames.resident() as usize == cached && cached + remembered < keys as usize
+    }
+
+    /// The same, key by key.
+    fn truncate_keys(&mut self, limit: u32)
+        ensures exact { KeepsOnly (λ key. nat_lt key limit) self.old self.new }
+        ensures sound { IsSound self.new }
+    {
         for key in limit..self.frames.keys() {
+            self.drop_page(key);
+        }
+    }
+
+    /// The same, list by list.
+    fn truncate_lists(&mut self, limit: u32)
+        requires cached { resident_count self.old.table ≡ cached_count self.old.lists }
+        ensures exact { KeepsOnly (λ key. nat_lt key limit) self.old self.new }
+        ensures sound { IsSound self.new }
+    {
+        self.truncate_list(List::T1, limit);
+        self.truncate_list(List::T2, limit);
+        self.truncate_list(List::B1, limit);
+        self.truncate_list(List::B2, limit);
+    }
+
+    /// Drops each page of this list whose key is at least `limit`.
+    fn truncate_list(&mut self, list: List, limit: u32)
+        ensures exact { KeepsOnly (λ key. nat_lt key limit || not (contains (list_of self.old.lists list) key))
+            self.old self.new }
+        ensures were_sound { IsSound self.old }
+        ensures sound { IsSound self.new }
+    {
+        let mut at = self.directory.front(list);
+        for _ in 0..self.directory.len(list) {
+            if let Some(key) = at {
+                at = self.directory.after(key);
+                self.drop_from(key, limit);
+            }
+        }
+    }
+
+    /// Drops the page of the key where it is at least `limit`.
+    fn drop_from(&mut self, key: u32, limit: u32)
+        ensures exact { self.new ≡ (if nat_lt key limit then self.old else dropped self.old key) }
+        ensures sound { IsSound self.new }
+    {
+        let _ = &self.directory;
+        if limit <= key {
             self.drop_page(key);
         }
     }

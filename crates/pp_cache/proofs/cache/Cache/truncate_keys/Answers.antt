@@ -1,10 +1,10 @@
--- What is left to show of Cache::truncate: each key from the limit on is dropped in turn.
+-- What is left to show of Cache::truncate_keys: each key from the limit on is dropped in turn.
 use Rattle.std.proofs.Common.{◌≡◌, ◌+◌, ◌≤◌, ltb, leb, length, subst, ap, arith}
 use Rattle.std.specs.Prelude.{◌||◌}
 use Rattle.std.proofs.lemmas.Bool.{le-ltb}
 use Rattle.pp_cache.specs.Cache.{PageCache, IsSound}
 use Rattle.pp_cache.proofs.CacheLemmas.{keeps_all, keeps_fewer, keeps_same, test_start, test_dropped, test_end}
-use Rattle.pp_cache.proofs.cache.Cache.truncate.Goals as goal
+use Rattle.pp_cache.proofs.cache.Cache.truncate_keys.Goals as goal
 
 pub loop-key-init : goal.loop-key-init
 loop-key-init c = record {
