@@ -181,9 +181,8 @@ impl Table {
         } }
         ensures frame { result ≡ frame_at self.old.marks victim }
     {
-        let frame = self.frame_at(victim);
-        self.marks.clear(victim);
-        self.place(page, frame);
+        let frame = self.marks.hand_on(victim, page);
+        self.marks.pin(page);
         frame
     }
 }

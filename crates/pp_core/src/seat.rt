@@ -96,6 +96,7 @@ impl Seat {
     }
 
     /// The action is counted, and its slot is filled, emptied or held in another way.
+    #[inline(always)]
     fn count(&mut self, action: Action)
         requires actions { self.old.actions + 1 < 2 ^ 32 }
         requires slots { FitsSlots action self.old.holds (length self.old.slots) }

@@ -1,6 +1,7 @@
 -- The lemmas of this crate.
 mod Bits
 mod Firsts
+mod HandedOn
 mod Moves
 mod Narrow
 mod Opening

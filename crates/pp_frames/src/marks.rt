@@ -225,6 +225,40 @@ impl Marks {
         }
     }
 
+    /// Gives the frame of a page to another page, and tells which it is: the first page stands in none then. Neither has pins.
+    ///
+    /// The frame is free at no time, so the set of the free frames stays as it is where the second page was in none.
+    #[inline(always)]
+    pub fn hand_on(&mut self, from: u32, to: u32) -> u32
+        requires placed { IsSome (frame_of self.old from) }
+        requires unpinned { pins_of self.old from ≡ 0 }
+        requires page { to < page_count (with_frame self.old from None) }
+        requires to_unpinned { pins_of (with_frame self.old from None) to ≡ 0 }
+        ensures frame { frame_of self.old from ≡ Some result }
+        ensures exact { self.new ≡ with_frame (with_frame self.old from None) to (frame_of self.old from) }
+        ensures sound { IsSound self.new }
+    {
+        let left = self.pages[from as usize];
+        self.pages[from as usize].is_placed = false;
+        let was = self.pages[to as usize];
+        let now = &mut self.pages[to as usize];
+        now.frame = left.frame;
+        now.is_placed = true;
+        exchange(&mut self.free, was.frame(), None);
+        keep(&mut self.flushable, from, left.is_flushable(), false);
+        let placed = Page {
+            is_placed: true,
+            ..was
+        };
+        keep(
+            &mut self.flushable,
+            to,
+            was.is_flushable(),
+            placed.is_flushable(),
+        );
+        left.frame
+    }
+
     // ---- pins
 
     /// How many pins stand on the page. On a page past the last one there are none.
