@@ -8,7 +8,7 @@ ghost use Rattle.pp_report.specs.Lines.{HasNumbers};
 use pp_model::{Event, Move};
 
 /// The worker that the move names, if any.
-fn worker_of(did: Move) -> Option<u32>
+pub fn worker_of(did: Move) -> Option<u32>
     ensures { result ≡ worker_of did }
 {
     match did {

@@ -3,6 +3,7 @@ pub mod Told
 pub mod Turned
 pub mod FlushTurned
 pub mod Parts
+pub mod Agreements
 pub mod Joined
 pub mod Ran
 pub mod Sent

@@ -9,7 +9,7 @@ ghost use Rattle.pp_run.specs.Calling.{begun_flushes_in};
 ghost use Rattle.pp_run.specs.Ends.{AllSound, FlushSettled, Settled};
 ghost use Rattle.pp_run.specs.Verdicts.{is_no_memory, IsFirstBroken, IsStarved, IsUnlike, IsUnsettled, IsVerdict, LeavesAPage};
 
-use crate::comparing::is_part;
+use crate::comparing::{agreement, is_part};
 use crate::counting::{FlushCounts, flush_counts};
 use crate::error::RunError;
 use crate::stop::{Flushed, Worked};
@@ -129,6 +129,7 @@ fn settle<D: Drop>(
     ensures ok { IfOk result (λ back. Settled worked.items events.now back.items) }
     ensures error { IfErr result (IsUnlike worked.items events.now) }
 {
+    let counts = agreement(worked.as_slice(), events);
     let mut back = Vec::new(alloc);
     let mut worker = 0u32;
     for end in worked {
@@ -137,7 +138,7 @@ fn settle<D: Drop>(
             log,
             stop: _,
         } = end;
-        if !is_part(log.as_slice(), events, worker) {
+        if !is_part(&counts, log.as_slice(), events, worker) {
             return Err(RunError::Mismatch(worker));
         }
         if back.push(device).is_err() {

@@ -1,7 +1,8 @@
-use Rattle.std.proofs.Common.{◌≡◌, ◌≢◌, ◌+◌, get_or, vec_items, subst, rules, arith, below_more, ap, sym, ◌∙◌}
+use Rattle.std.proofs.Common.{◌≡◌, ◌≢◌, ◌+◌, length, get_or, vec_items, subst, rules, arith, below_more, ap, sym, ◌∙◌}
 use Rattle.std.proofs.lemmas.Bool.{false≢true}
 use Rattle.std.specs.Vec.Iter.{into_iter_items}
 use Rattle.pp_model.specs.WorkerParts.{part_of}
+use Rattle.pp_run.specs.Agreeing.{Agrees}
 use Rattle.pp_run.specs.Ends.{SettledAt}
 use Rattle.pp_run.specs.declared.stop.Worked.{Worked}
 use Rattle.pp_run.specs.declared.stop.Stop.TheVariants.{Broken}
@@ -67,3 +68,17 @@ returns-then-is_err-clause-error g c =
           ap (λ xs. (get_or xs done x).log.items) (sym same)
           ∙ (ap (λ (e : Worked g.row.D.Denot). e.log.items) (sym next) ∙ log)) v (omega (arith, low));
     }
+
+pub is_part-requires : goal.is_part-requires
+is_part-requires g c count low =
+    let was = c.loop-end.invariant in let done = c.loop-end.worker in let end = c.in-Some.end in
+    let step = c.in-Some.ensures.steps in
+    let worked = into_iter_items c.into_iter-end-iterator.result in
+    let given = c.into_iter-end-iterator.ensures.into_iter_gives in
+    let same : worked ≡ c.args.worked.items = search rules in
+    let next : end ≡ get_or worked done end = let h = was.2 0 end in grind rules in
+    let log : (get_or c.as_slice.result.now done end).log.items ≡ c.as_slice-in-loop-end.result.now
+    = ap (λ xs. (get_or xs done end).log.items) (c.as_slice.ensures.value ∙ sym same)
+    ∙ (ap (λ (e : Worked g.row.D.Denot). e.log.items) (sym next) ∙ sym c.as_slice-in-loop-end.ensures.value) in
+    subst (λ items. Agrees (get_or c.agreement-counts.result done count) items done c.args.events.now
+    (length c.args.events.now)) log (c.agreement-counts.ensures done count end low (search rules))

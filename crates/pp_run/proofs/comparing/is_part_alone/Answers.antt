@@ -2,8 +2,8 @@ use Rattle.std.proofs.Common.{arith, sym, ◌∙◌}
 use Rattle.std.proofs.lemmas.Bool.{false≢true}
 use Rattle.std.proofs.lemmas.Option.{slice_get_within}
 use Rattle.pp_run.proofs.Parts.{part_taken, part_skipped, part_at}
-use Rattle.pp_run.proofs.comparing.is_part.Goals as goal
-use Rattle.pp_run.proofs.comparing.is_part.Goals.{then-names_worker+else-not-stands_at, else-names_worker}
+use Rattle.pp_run.proofs.comparing.is_part_alone.Goals as goal
+use Rattle.pp_run.proofs.comparing.is_part_alone.Goals.{then-names_worker+else-not-stands_at, else-names_worker}
 
 pub loop-event-preserved : goal.loop-event-preserved
 loop-event-preserved c = elim c.if-names_worker.branch [
