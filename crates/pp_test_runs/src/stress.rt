@@ -116,15 +116,27 @@ fn ended(events: &[Event]) -> usize {
     events.iter().filter(is_end).count()
 }
 
-/// Runs this plan 200 times by 8 workers, and gives the record and an end of the device.
+/// How many plans a run has.
+const PLANS: usize = 200;
+
+/// The texts of a run's plans: these two in turn.
+fn in_turn<'a>(even: &'a str, odd: &'a str) -> [&'a str; PLANS] {
+    let mut texts = [even; PLANS];
+    for pair in 0..PLANS / 2 {
+        texts[2 * pair + 1] = odd;
+    }
+    texts
+}
+
+/// Runs the plans of these texts by 8 workers, and gives the record and an end of the device.
 fn run_many<R: AllocGlobal + Abort + Threads + Wait + Clock + Copy + Drop + Sync + Send>(
     rt: &R,
-    text: &str,
+    texts: &[&str],
     seen: &Seen,
 ) -> Result<(RunRecord, SharedDevice<R>), Fail> {
     let alloc = rt.alloc();
     let settings = Settings::from_text(alloc, SETTINGS)?;
-    let plans = all_accepted(rt, alloc, &settings, &[text; 200])?;
+    let plans = all_accepted(rt, alloc, &settings, texts)?;
     let mut devices = Vec::new(alloc);
     for end in SharedDevice::over_memory(*rt, alloc, 24, 64, 9)? {
         devices.push(troubled(alloc, end)?)?;
@@ -143,10 +155,14 @@ fn run_many<R: AllocGlobal + Abort + Threads + Wait + Clock + Copy + Drop + Sync
 }
 
 /// The journal is audited: each event is possible at its point, with the reply that is told, and nothing is left.
-fn is_audited<R: AllocGlobal + Abort>(rt: &R, text: &str, events: &[Event]) -> Result<(), Fail> {
+fn is_audited<R: AllocGlobal + Abort>(
+    rt: &R,
+    texts: &[&str],
+    events: &[Event],
+) -> Result<(), Fail> {
     let alloc = rt.alloc();
     let settings = Settings::from_text(alloc, SETTINGS)?;
-    let plans = all_accepted(rt, alloc, &settings, &[text; 200])?;
+    let plans = all_accepted(rt, alloc, &settings, texts)?;
     let journal = journal_text(alloc, events)?;
     match audit(alloc, &settings, plans, journal.as_bytes()) {
         Ok(audited) => assert!(rt; audited.lines == events.len() as u64, "other lines"),
@@ -159,13 +175,13 @@ fn is_audited<R: AllocGlobal + Abort>(rt: &R, text: &str, events: &[Event]) -> R
 /// write every page back, so that no change is lost.
 fn loses_no_change<R: AllocGlobal + Abort + Threads + Wait + Clock + Copy + Drop + Sync + Send>(
     rt: &R,
-    text: &str,
+    texts: &[&str],
 ) -> Result<(), Fail> {
     let seen = Seen::new();
-    let (record, mut device) = run_many(rt, text, &seen)?;
+    let (record, mut device) = run_many(rt, texts, &seen)?;
     assert!(rt; record.plans == 200, "other plans");
     assert!(rt; ended(&record.events) == 200, "a plan did not end");
-    is_audited(rt, text, &record.events)?;
+    is_audited(rt, texts, &record.events)?;
     assert!(rt;
         seen.bad.load(Ordering::SeqCst) == 0,
         "a bad image was seen"
@@ -193,10 +209,10 @@ fn loses_no_change<R: AllocGlobal + Abort + Threads + Wait + Clock + Copy + Drop
 
 #[test]
 fn many_workers_lose_no_change(rt: HostRuntime) -> Result<(), Fail> {
-    loses_no_change(&rt, DESCENT)
+    loses_no_change(&rt, &in_turn(DESCENT, DESCENT))
 }
 
 #[test]
 fn many_workers_keep_their_bundles(rt: HostRuntime) -> Result<(), Fail> {
-    loses_no_change(&rt, KEEPING)
+    loses_no_change(&rt, &in_turn(DESCENT, KEEPING))
 }
