@@ -3,21 +3,21 @@ use Rattle.std.proofs.Common.{◌≡◌, ℕ, Bool, true, false, List, Result, r
 use Rattle.pp_text.specs.Steps.{Refuses}
 use Rattle.pp_judge.specs.declared.device.DeviceSize.{DeviceSize}
 use Rattle.pp_judge.specs.declared.error.JudgeError.{JudgeError}
-use Rattle.pp_judge.specs.declared.outcome.Outcome.{Outcome}
-use Rattle.pp_judge.specs.declared.outcome.Outcome.TheVariants.{OutOfMemory, Refused}
+use Rattle.pp_judge.specs.declared.exit.Exit.{Exit}
+use Rattle.pp_judge.specs.declared.exit.Exit.TheVariants.{OutOfMemory, Refused}
 use Rattle.pp_judge.specs.Answers.{refused, seen}
 use Rattle.pp_judge.specs.Judgement.{device_size_in}
 use Rattle.pp_words.specs.CommandLine.{Asked, Text}
 use Rattle.pp_cli.specs.Runs.{ComesOf, ComesOfFormat}
 
 -- A refusal that is no want of memory is that of the settings.
-pub refused_format : (b : Bool) (settings device : Text) (bytes : List ℕ) (refusal : JudgeError) (outcome : Outcome)
-    → outcome ≡ (if b then OutOfMemory else Refused refusal) → Refuses b refusal (device_size_in bytes)
-    → ComesOf (Asked.format settings device) (seen outcome)
-refused_format true settings device bytes refusal outcome is told =
-    let P : Outcome → Type 0 = λ o. ComesOf (Asked.format settings device) (seen o) in
+pub refused_format : (b : Bool) (settings device : Text) (bytes : List ℕ) (refusal : JudgeError) (exit : Exit)
+    → exit ≡ (if b then OutOfMemory else Refused refusal) → Refuses b refusal (device_size_in bytes)
+    → ComesOf (Asked.format settings device) (seen exit)
+refused_format true settings device bytes refusal exit is told =
+    let P : Exit → Type 0 = λ o. ComesOf (Asked.format settings device) (seen o) in
     subst P (sym is) (inl tt)
-refused_format false settings device bytes refusal outcome is told =
-    let P : Outcome → Type 0 = λ o. ComesOf (Asked.format settings device) (seen o) in
+refused_format false settings device bytes refusal exit is told =
+    let P : Exit → Type 0 = λ o. ComesOf (Asked.format settings device) (seen o) in
     let Q : Result DeviceSize JudgeError → Type 0 = λ r. ComesOfFormat device r (refused refusal) in
     subst P (sym is) (inr (bytes, subst Q (sym told) refl))

@@ -11,8 +11,8 @@ use Rattle.pp_judge.specs.Answers.{Answer, seen, done, made, simulated, formatte
 use Rattle.pp_judge.specs.Answers.{refused, misused, wordless, unread, unwritten, out_of_memory}
 use Rattle.pp_judge.specs.Judgement.{workload_in}
 use Rattle.pp_judge.specs.declared.error.JudgeError.{JudgeError}
-use Rattle.pp_judge.specs.declared.outcome.Outcome.{Outcome}
-use Rattle.pp_judge.specs.declared.outcome.Outcome.TheVariants.{OutOfMemory, Refused}
+use Rattle.pp_judge.specs.declared.exit.Exit.{Exit}
+use Rattle.pp_judge.specs.declared.exit.Exit.TheVariants.{OutOfMemory, Refused}
 use Rattle.pp_runner.specs.Runs.{IsUnwritten, MayEnd, MayRun, Tells}
 use Rattle.pp_words.specs.CommandLine.{Asked, Text}
 use Rattle.pp_cli.specs.Runs.{ComesOf}
@@ -73,14 +73,14 @@ comes_of_run journal settings device seed plans s ps w answer long is may =
 
 -- Settings or plans that are refused are told so.
 pub refused_run : (b : Bool) (journal : Option Text) (settings device : Text) (seed : ℕ) (plans : List Text) (s : List ℕ)
-    (ps : List (List ℕ)) (refusal : JudgeError) (outcome : Outcome)
-    → length ps ≡ length plans → outcome ≡ (if b then OutOfMemory else Refused refusal)
+    (ps : List (List ℕ)) (refusal : JudgeError) (exit : Exit)
+    → length ps ≡ length plans → exit ≡ (if b then OutOfMemory else Refused refusal)
     → Refuses b refusal (workload_in s ps)
-    → ComesOf (Asked.run journal settings device seed plans) (seen outcome)
-refused_run true journal settings device seed plans s ps refusal outcome long is told =
-    let P : Outcome → Type 0 = λ o. ComesOf (Asked.run journal settings device seed plans) (seen o) in
+    → ComesOf (Asked.run journal settings device seed plans) (seen exit)
+refused_run true journal settings device seed plans s ps refusal exit long is told =
+    let P : Exit → Type 0 = λ o. ComesOf (Asked.run journal settings device seed plans) (seen o) in
     subst P (sym is) (inl tt)
-refused_run false journal settings device seed plans s ps refusal outcome long is told =
-    let P : Outcome → Type 0 = λ o. ComesOf (Asked.run journal settings device seed plans) (seen o) in
+refused_run false journal settings device seed plans s ps refusal exit long is told =
+    let P : Exit → Type 0 = λ o. ComesOf (Asked.run journal settings device seed plans) (seen o) in
     let Q : Result (Configuration × List Acceptance) JudgeError → Type 0 = λ r. MayRun device journal r (refused refusal) in
     subst P (sym is) (inr (s, ps, long, subst Q (sym told) refl))

@@ -7,7 +7,7 @@ use Rattle.std.proofs.lemmas.List.Elements.{Contains-append_left, Contains-appen
 use Rattle.std.specs.Borrow.{Bor}
 use Rattle.std.specs.List.{Contains}
 use Rattle.pp_judge.specs.Answers.{seen}
-use Rattle.pp_judge.specs.declared.outcome.Outcome.{Outcome}
+use Rattle.pp_judge.specs.declared.exit.Exit.{Exit}
 use Rattle.pp_words.specs.CommandLine.{Asked, Text, texts}
 use Rattle.pp_cli.specs.Runs.{ComesOf, IsStopped, stopped_by}
 use Rattle.pp_cli.specs.declared.files.Unread.{Unread}
@@ -50,10 +50,10 @@ one_of paths k d path below h =
     (Contains-get_or (texts paths) k d.now within)
 
 -- What is handed on stops the command so.
-pub handed_on : (asked : Asked) (r : Result Outcome Unread) (why : Unread) → IsErrAnd r (λ told. told ≡ why)
+pub handed_on : (asked : Asked) (r : Result Exit Unread) (why : Unread) → IsErrAnd r (λ told. told ≡ why)
     → ComesOf asked (stopped_by why)
-    → MatchResult r (λ outcome. ComesOf asked (seen outcome)) (λ told. ComesOf asked (stopped_by told))
-handed_on asked (Ok outcome) why same comes = absurd same
+    → MatchResult r (λ exit. ComesOf asked (seen exit)) (λ told. ComesOf asked (stopped_by told))
+handed_on asked (Ok exit) why same comes = absurd same
 handed_on asked (Err told) why same comes = subst (λ w. ComesOf asked (stopped_by w)) (sym same) comes
 
 -- And a reading of files.

@@ -5,27 +5,23 @@ ghost use Rattle.pp_explain.specs.Paragraphs.{IsAbout, paths_in, paths_of};
 ghost use Rattle.pp_words.specs.CommandLine.{texts};
 
 use pp_explain::{Refused, Source, Sources, explain};
-use pp_judge::{JudgeError, Outcome};
+use pp_judge::{Exit, JudgeError};
 use pp_simulate::SimulateError;
 use std::alloc::{AllocError, Global};
 
-/// What explains the outcome, where it is a refusal of these files. Nothing where memory runs out for it.
-pub fn explained(alloc: Global, files: Sources<'_>, outcome: &Outcome<'_>) -> Option<Vec<u8>>
+/// What explains the exit, where it is a refusal of these files. Nothing where memory runs out for it.
+pub fn explained(alloc: Global, files: Sources<'_>, exit: &Exit<'_>) -> Option<Vec<u8>>
     // A paragraph about one of the files.
     ensures { IfSome result (λ text. IsAbout (paths_of files.entry) text.items) }
 {
-    match outcome {
-        Outcome::Refused(refusal) => explained_as(alloc, files, refused_as(*refusal)?),
+    match exit {
+        Exit::Refused(refusal) => explained_as(alloc, files, refused_as(*refusal)?),
         _ => None,
     }
 }
 
 /// The same of settings alone.
-pub fn explained_alone(
-    alloc: Global,
-    settings: Source<'_>,
-    outcome: &Outcome<'_>,
-) -> Option<Vec<u8>>
+pub fn explained_alone(alloc: Global, settings: Source<'_>, exit: &Exit<'_>) -> Option<Vec<u8>>
     ensures { IfSome result (λ text. IsAbout (settings.entry.path.now ∷ []) text.items) }
 {
     let sources = Sources {
@@ -33,7 +29,7 @@ pub fn explained_alone(
         other: None,
         plans: &[],
     };
-    explained(alloc, sources, outcome)
+    explained(alloc, sources, exit)
 }
 
 /// What explains that the files are refused so. Nothing where memory runs out for it.
@@ -77,13 +73,13 @@ pub struct Texts<'a> {
 impl Texts<'_> {
     ghost use Rattle.pp_cli.specs.Texts.{paths_at};
 
-    /// What explains the outcome, where it is a refusal of these texts. Nothing where memory runs out for it.
-    pub fn explained(&self, alloc: Global, outcome: &Outcome<'_>) -> Option<Vec<u8>>
+    /// What explains the exit, where it is a refusal of these texts. Nothing where memory runs out for it.
+    pub fn explained(&self, alloc: Global, exit: &Exit<'_>) -> Option<Vec<u8>>
         requires { length self.now.paths.now ≡ length self.now.plans.now }
         ensures { IfSome result (λ text. IsAbout (paths_at self.now) text.items) }
     {
-        match outcome {
-            Outcome::Refused(refusal) => self.explained_as(alloc, refused_as(*refusal)?),
+        match exit {
+            Exit::Refused(refusal) => self.explained_as(alloc, refused_as(*refusal)?),
             _ => None,
         }
     }

@@ -17,8 +17,8 @@ use pp_device::image::HEAD;
 use pp_explain::Sources;
 use pp_format::format_onto;
 use pp_judge::{
-    AnnotateFiles, AuditFiles, CheckFiles, Contents, DeviceSize, Outcome, SimulateFiles,
-    device_size, outcome_of,
+    AnnotateFiles, AuditFiles, CheckFiles, Contents, DeviceSize, Exit, SimulateFiles, device_size,
+    exit_of,
 };
 use pp_words::{AnnotatePaths, AuditPaths, CheckPaths, DrawPaths, FormatPaths, Job, SimulatePaths};
 use std::alloc::Global;
@@ -45,7 +45,7 @@ pub fn perform<
     'a,
     R: Files<File = File> + AllocGlobal + Threads + Wait + Clock + Sync + Copy + Send + Drop,
     P: Write + Send,
->(rt: &R, job: Job<'a>, bar: &mut Bar<P>, note: &mut Option<Vec<u8>>) -> Outcome<'a>
+>(rt: &R, job: Job<'a>, bar: &mut Bar<P>, note: &mut Option<Vec<u8>>) -> Exit<'a>
     requires { note.old ≡ None }
     ensures comes { ComesOf (asked_by job.entry) (seen result) }
     ensures explained { IfSome note.new (λ text. IsAbout (files_of (asked_by job.entry)) text.items) }
@@ -60,9 +60,9 @@ pub fn perform<
         Job::Draw(paths) => draw(rt, paths, note),
     };
     match ended {
-        Ok(outcome) => outcome,
-        Err(Unread::File(path)) => Outcome::Unread(path),
-        Err(Unread::Memory) => Outcome::OutOfMemory,
+        Ok(exit) => exit,
+        Err(Unread::File(path)) => Exit::Unread(path),
+        Err(Unread::Memory) => Exit::OutOfMemory,
     }
 }
 
@@ -71,10 +71,10 @@ fn check<'a, R: Files + AllocGlobal>(
     rt: &R,
     paths: CheckPaths<'a>,
     note: &mut Option<Vec<u8>>,
-) -> Result<Outcome<'a>, Unread<'a>>
+) -> Result<Exit<'a>, Unread<'a>>
     requires { note.old ≡ None }
     ensures explained { IfSome note.new (λ text. IsAbout (files_of (asked_check paths.entry)) text.items) }
-    ensures comes { MatchResult result (λ outcome. ComesOf (asked_check paths.entry) (seen outcome))
+    ensures comes { MatchResult result (λ exit. ComesOf (asked_check paths.entry) (seen exit))
         (λ why. ComesOf (asked_check paths.entry) (stopped_by why)) }
 {
     let settings = contents(rt, paths.settings)?;
@@ -85,14 +85,14 @@ fn check<'a, R: Files + AllocGlobal>(
         plan: plan.as_slice(),
         certificate: certificate.as_slice(),
     };
-    let outcome = outcome_of(rt.alloc(), Contents::Check(files));
+    let exit = exit_of(rt.alloc(), Contents::Check(files));
     let sources = Sources {
         settings: source(paths.settings, &settings),
         other: Some(source(paths.certificate, &certificate)),
         plans: &[source(paths.plan, &plan)],
     };
-    *note = explained(rt.alloc(), sources, &outcome);
-    Ok(outcome)
+    *note = explained(rt.alloc(), sources, &exit);
+    Ok(exit)
 }
 
 /// What the two files of `annotate` come to, where both can be read.
@@ -100,10 +100,10 @@ fn annotate<'a, R: Files + AllocGlobal>(
     rt: &R,
     paths: AnnotatePaths<'a>,
     note: &mut Option<Vec<u8>>,
-) -> Result<Outcome<'a>, Unread<'a>>
+) -> Result<Exit<'a>, Unread<'a>>
     requires { note.old ≡ None }
     ensures explained { IfSome note.new (λ text. IsAbout (files_of (asked_annotate paths.entry)) text.items) }
-    ensures comes { MatchResult result (λ outcome. ComesOf (asked_annotate paths.entry) (seen outcome))
+    ensures comes { MatchResult result (λ exit. ComesOf (asked_annotate paths.entry) (seen exit))
         (λ why. ComesOf (asked_annotate paths.entry) (stopped_by why)) }
 {
     let settings = contents(rt, paths.settings)?;
@@ -112,14 +112,14 @@ fn annotate<'a, R: Files + AllocGlobal>(
         settings: settings.as_slice(),
         plan: plan.as_slice(),
     };
-    let outcome = outcome_of(rt.alloc(), Contents::Annotate(files));
+    let exit = exit_of(rt.alloc(), Contents::Annotate(files));
     let sources = Sources {
         settings: source(paths.settings, &settings),
         other: None,
         plans: &[source(paths.plan, &plan)],
     };
-    *note = explained(rt.alloc(), sources, &outcome);
-    Ok(outcome)
+    *note = explained(rt.alloc(), sources, &exit);
+    Ok(exit)
 }
 
 /// What the files of `simulate` come to, where all can be read.
@@ -127,10 +127,10 @@ fn simulate<'a, R: Files + AllocGlobal>(
     rt: &R,
     paths: SimulatePaths<'a>,
     note: &mut Option<Vec<u8>>,
-) -> Result<Outcome<'a>, Unread<'a>>
+) -> Result<Exit<'a>, Unread<'a>>
     requires { note.old ≡ None }
     ensures explained { IfSome note.new (λ text. IsAbout (files_of (asked_simulate paths.entry)) text.items) }
-    ensures comes { MatchResult result (λ outcome. ComesOf (asked_simulate paths.entry) (seen outcome))
+    ensures comes { MatchResult result (λ exit. ComesOf (asked_simulate paths.entry) (seen exit))
         (λ why. ComesOf (asked_simulate paths.entry) (stopped_by why)) }
 {
     let settings = contents(rt, paths.settings)?;
@@ -141,15 +141,15 @@ fn simulate<'a, R: Files + AllocGlobal>(
         script: script.as_slice(),
         plans: plans.as_slice(),
     };
-    let outcome = outcome_of(rt.alloc(), Contents::Simulate(files));
+    let exit = exit_of(rt.alloc(), Contents::Simulate(files));
     let files = Texts {
         settings: source(paths.settings, &settings),
         other: Some(source(paths.script, &script)),
         paths: &paths.plans,
         plans: &plans,
     };
-    *note = files.explained(rt.alloc(), &outcome);
-    Ok(outcome)
+    *note = files.explained(rt.alloc(), &exit);
+    Ok(exit)
 }
 
 /// What the files of `audit` come to, where all can be read.
@@ -157,10 +157,10 @@ fn audit<'a, R: Files + AllocGlobal>(
     rt: &R,
     paths: AuditPaths<'a>,
     note: &mut Option<Vec<u8>>,
-) -> Result<Outcome<'a>, Unread<'a>>
+) -> Result<Exit<'a>, Unread<'a>>
     requires { note.old ≡ None }
     ensures explained { IfSome note.new (λ text. IsAbout (files_of (asked_audit paths.entry)) text.items) }
-    ensures comes { MatchResult result (λ outcome. ComesOf (asked_audit paths.entry) (seen outcome))
+    ensures comes { MatchResult result (λ exit. ComesOf (asked_audit paths.entry) (seen exit))
         (λ why. ComesOf (asked_audit paths.entry) (stopped_by why)) }
 {
     let settings = contents(rt, paths.settings)?;
@@ -171,15 +171,15 @@ fn audit<'a, R: Files + AllocGlobal>(
         journal: journal.as_slice(),
         plans: plans.as_slice(),
     };
-    let outcome = outcome_of(rt.alloc(), Contents::Audit(files));
+    let exit = exit_of(rt.alloc(), Contents::Audit(files));
     let files = Texts {
         settings: source(paths.settings, &settings),
         other: Some(source(paths.journal, &journal)),
         paths: &paths.plans,
         plans: &plans,
     };
-    *note = files.explained(rt.alloc(), &outcome);
-    Ok(outcome)
+    *note = files.explained(rt.alloc(), &exit);
+    Ok(exit)
 }
 
 /// What the files of `draw` come to, where all can be read.
@@ -187,10 +187,10 @@ fn draw<'a, R: Files + AllocGlobal>(
     rt: &R,
     paths: DrawPaths<'a>,
     note: &mut Option<Vec<u8>>,
-) -> Result<Outcome<'a>, Unread<'a>>
+) -> Result<Exit<'a>, Unread<'a>>
     requires { note.old ≡ None }
     ensures explained { IfSome note.new (λ text. IsAbout (files_of (asked_draw paths.entry)) text.items) }
-    ensures comes { MatchResult result (λ outcome. ComesOf (asked_draw paths.entry) (seen outcome))
+    ensures comes { MatchResult result (λ exit. ComesOf (asked_draw paths.entry) (seen exit))
         (λ why. ComesOf (asked_draw paths.entry) (stopped_by why)) }
 {
     let settings = contents(rt, paths.settings)?;
@@ -201,15 +201,15 @@ fn draw<'a, R: Files + AllocGlobal>(
         journal: text.as_slice(),
         plans: plans.as_slice(),
     };
-    let outcome = outcome_of(rt.alloc(), Contents::Draw(files));
+    let exit = exit_of(rt.alloc(), Contents::Draw(files));
     let files = Texts {
         settings: source(paths.settings, &settings),
         other: Some(source(paths.journal, &text)),
         paths: &paths.plans,
         plans: &plans,
     };
-    *note = files.explained(rt.alloc(), &outcome);
-    Ok(outcome)
+    *note = files.explained(rt.alloc(), &exit);
+    Ok(exit)
 }
 
 /// What the settings of `format` come to, where they can be read: their refusal, or what writing the device comes to.
@@ -218,20 +218,20 @@ fn format<'a, R: Files + AllocGlobal, P: Write>(
     paths: FormatPaths<'a>,
     bar: &mut Bar<P>,
     note: &mut Option<Vec<u8>>,
-) -> Result<Outcome<'a>, Unread<'a>>
+) -> Result<Exit<'a>, Unread<'a>>
     requires { note.old ≡ None }
     ensures explained { IfSome note.new (λ text. IsAbout (files_of (asked_format paths.entry)) text.items) }
-    ensures comes { MatchResult result (λ outcome. ComesOf (asked_format paths.entry) (seen outcome))
+    ensures comes { MatchResult result (λ exit. ComesOf (asked_format paths.entry) (seen exit))
         (λ why. ComesOf (asked_format paths.entry) (stopped_by why)) }
 {
     let settings = contents(rt, paths.settings)?;
     match device_size(rt.alloc(), settings.as_slice()) {
         Ok(size) => Ok(format_device(rt, paths.device, size, bar)),
         Err(refusal) => {
-            let outcome = Outcome::from(refusal);
+            let exit = Exit::from(refusal);
             let file = source(paths.settings, &settings);
-            *note = explained_alone(rt.alloc(), file, &outcome);
-            Ok(outcome)
+            *note = explained_alone(rt.alloc(), file, &exit);
+            Ok(exit)
         }
     }
 }
@@ -242,16 +242,16 @@ fn format_device<'a, R: Files + AllocGlobal, P: Write>(
     device: &'a str,
     size: DeviceSize,
     bar: &mut Bar<P>,
-) -> Outcome<'a>
+) -> Exit<'a>
     requires { HEAD ≤ size.page_bytes }
     ensures { ComesOfWriting device.entry.now size (seen result) }
 {
     let Ok(image) = Vec::from_elem(rt.alloc(), 0, size.page_bytes as usize) else {
-        return Outcome::OutOfMemory;
+        return Exit::OutOfMemory;
     };
     match fs::create(rt, device) {
         Ok(mut file) => format_opened(&mut file, image, device, size, bar),
-        Err(error) => fault(&error, Outcome::Unwritten(device)),
+        Err(error) => fault(&error, Exit::Unwritten(device)),
     }
 }
 
@@ -262,7 +262,7 @@ fn format_opened<'a, W: Write, P: Write>(
     device: &'a str,
     size: DeviceSize,
     bar: &mut Bar<P>,
-) -> Outcome<'a>
+) -> Exit<'a>
     requires long { vec_len image ≡ size.page_bytes }
     requires zeros { image.items ≡ replicate (vec_len image) 0 }
     requires head { HEAD ≤ size.page_bytes }
@@ -275,8 +275,8 @@ fn format_opened<'a, W: Write, P: Write>(
     let written = format_onto(file, image, size.pages, bar);
     bar.end();
     match written {
-        Ok(()) => Outcome::Formatted(size.pages),
-        Err(error) => fault(&error, Outcome::Unwritten(device)),
+        Ok(()) => Exit::Formatted(size.pages),
+        Err(error) => fault(&error, Exit::Unwritten(device)),
     }
 }
 

@@ -11,7 +11,7 @@ use crate::bar::Bar;
 use crate::fault::fault;
 use crate::files::perform;
 use crate::telling::tell;
-use pp_judge::Outcome;
+use pp_judge::Exit;
 use pp_words::{JobError, job};
 use std::convert::AsStr;
 use std::fs::File;
@@ -59,8 +59,8 @@ pub fn serve<
 {
     match words {
         Ok(words) => serve_words(rt, words, out, err, &mut Bar::on(terminal)),
-        Err(error) => tell(fault(error, Outcome::Wordless), None, out, err)
-            .outcome
+        Err(error) => tell(fault(error, Exit::Wordless), None, out, err)
+            .exit
             .status(),
     }
 }
@@ -81,25 +81,25 @@ fn serve_words<
     ensures run { IsRun O.contents E.contents (map S.text words.now) result out.old out.new err.old err.new }
 {
     let mut note = None;
-    let outcome = outcome_of_words(rt, words, bar, &mut note);
-    tell(outcome, note.as_deref(), out, err).outcome.status()
+    let exit = exit_of_words(rt, words, bar, &mut note);
+    tell(exit, note.as_deref(), out, err).exit.status()
 }
 
 /// What the words come to, the program's name first, before anything is told; and what explains it, where it is a refusal.
-fn outcome_of_words<
+fn exit_of_words<
     'a,
     R: Files<File = File> + AllocGlobal + Threads + Wait + Clock + Sync + Copy + Send + Drop,
     S: AsStr,
     P: Write + Send,
->(rt: &R, words: &'a [S], bar: &mut Bar<P>, note: &mut Option<Vec<u8>>) -> Outcome<'a>
+>(rt: &R, words: &'a [S], bar: &mut Bar<P>, note: &mut Option<Vec<u8>>) -> Exit<'a>
     requires { note.old ≡ None }
     ensures comes { ComesOfWords (map S.text words.entry.now) (seen result) }
     ensures explained { Explains (asked (map S.text words.entry.now)) (option_map (λ text. text.items) note.new) }
 {
     match job(rt.alloc(), words) {
         Ok(job) => perform(rt, job, bar, note),
-        Err(JobError::Shown(text)) => Outcome::Shown(text),
-        Err(JobError::Words(text)) => Outcome::Misused(text),
-        Err(JobError::OutOfMemory) => Outcome::OutOfMemory,
+        Err(JobError::Shown(text)) => Exit::Shown(text),
+        Err(JobError::Words(text)) => Exit::Misused(text),
+        Err(JobError::OutOfMemory) => Exit::OutOfMemory,
     }
 }

@@ -12,7 +12,7 @@ use crate::explaining::{Texts, source};
 use crate::fault::fault;
 use crate::files::{Unread, contents, contents_of_all};
 use pp_explain::{Refused, Stop};
-use pp_judge::{Outcome, Workload};
+use pp_judge::{Exit, Workload};
 use pp_model::Event;
 use pp_report::{RunRecord, journal_text};
 use pp_run::RunError;
@@ -37,10 +37,10 @@ pub fn run<
     paths: RunPaths<'a>,
     terminal: Option<&mut P>,
     note: &mut Option<Vec<u8>>,
-) -> Result<Outcome<'a>, Unread<'a>>
+) -> Result<Exit<'a>, Unread<'a>>
     requires { note.old ≡ None }
     ensures explained { IfSome note.new (λ text. IsAbout (files_of (asked_run paths.entry)) text.items) }
-    ensures comes { MatchResult result (λ outcome. ComesOf (asked_run paths.entry) (seen outcome))
+    ensures comes { MatchResult result (λ exit. ComesOf (asked_run paths.entry) (seen exit))
         (λ why. ComesOf (asked_run paths.entry) (stopped_by why)) }
 {
     let settings = contents(rt, paths.settings)?;
@@ -54,9 +54,9 @@ pub fn run<
     match Workload::read(rt.alloc(), settings.as_slice(), plans.as_slice()) {
         Ok(workload) => Ok(run_workload(rt, workload, &paths, texts, terminal, note)),
         Err(refusal) => {
-            let outcome = Outcome::from(refusal);
-            *note = texts.explained(rt.alloc(), &outcome);
-            Ok(outcome)
+            let exit = Exit::from(refusal);
+            *note = texts.explained(rt.alloc(), &exit);
+            Ok(exit)
         }
     }
 }
@@ -73,7 +73,7 @@ fn run_workload<
     texts: Texts<'_>,
     terminal: Option<&mut P>,
     note: &mut Option<Vec<u8>>,
-) -> Outcome<'a>
+) -> Exit<'a>
     requires long { length texts.paths.now ≡ length texts.plans.now }
     requires note { note.old ≡ None }
     ensures explained { IfSome note.new (λ text. IsAbout (paths_at texts.entry) text.items) }
@@ -82,15 +82,15 @@ fn run_workload<
 {
     match pp_runner::run(rt, workload, paths.device, paths.seed, terminal) {
         Ok(done) => ended(rt, &done, paths.journal),
-        Err(RunnerError::Unopened) => Outcome::Unread(paths.device),
-        Err(RunnerError::OutOfMemory) => Outcome::OutOfMemory,
+        Err(RunnerError::Unopened) => Exit::Unread(paths.device),
+        Err(RunnerError::OutOfMemory) => Exit::OutOfMemory,
         Err(RunnerError::Stopped(error)) => {
             if let Some(refused) = stopped_as(error) {
                 *note = texts.explained_as(rt.alloc(), refused);
             }
             match stopped_line(rt.alloc(), error) {
-                Ok(text) => Outcome::Stopped(text),
-                Err(_) => Outcome::OutOfMemory,
+                Ok(text) => Exit::Stopped(text),
+                Err(_) => Exit::OutOfMemory,
             }
         }
     }
@@ -108,21 +108,17 @@ fn stopped_as(error: RunError) -> Option<Refused> {
 }
 
 /// What a run comes to that gave this record: its report, once the journal is written where one is wanted.
-fn ended<'a, R: Files + AllocGlobal>(
-    rt: &R,
-    done: &RunRecord,
-    journal: Option<&'a str>,
-) -> Outcome<'a>
+fn ended<'a, R: Files + AllocGlobal>(rt: &R, done: &RunRecord, journal: Option<&'a str>) -> Exit<'a>
     ensures { Tells done.now (option_map (λ text. text.now) journal.entry) (seen result) }
 {
     if let Some(path) = journal {
-        if let Err(outcome) = keep_journal(rt, path, &done.events) {
-            return outcome;
+        if let Err(exit) = keep_journal(rt, path, &done.events) {
+            return exit;
         }
     }
     match told(rt.alloc(), done) {
-        Ok(report) => Outcome::Ran(report),
-        Err(_) => Outcome::OutOfMemory,
+        Ok(report) => Exit::Ran(report),
+        Err(_) => Exit::OutOfMemory,
     }
 }
 
@@ -132,11 +128,11 @@ fn keep_journal<'a, R: Files + AllocGlobal>(
     rt: &R,
     path: &'a str,
     events: &[Event],
-) -> Result<(), Outcome<'a>>
-    ensures { IfErr result (λ outcome. IsUnwritten path.entry.now (seen outcome)) }
+) -> Result<(), Exit<'a>>
+    ensures { IfErr result (λ exit. IsUnwritten path.entry.now (seen exit)) }
 {
     let Ok(text) = journal_text(rt.alloc(), events) else {
-        return Err(Outcome::OutOfMemory);
+        return Err(Exit::OutOfMemory);
     };
     let written = match fs::create(rt, path) {
         Ok(mut file) => write_journal(&mut file, &text),
@@ -144,6 +140,6 @@ fn keep_journal<'a, R: Files + AllocGlobal>(
     };
     match written {
         Ok(()) => Ok(()),
-        Err(error) => Err(fault(&error, Outcome::Unwritten(path))),
+        Err(error) => Err(fault(&error, Exit::Unwritten(path))),
     }
 }

@@ -1,4 +1,4 @@
-//! Telling an outcome where it belongs, on standard output or standard error.
+//! Telling an exit where it belongs, on standard output or standard error.
 
 ghost use Rattle.std.specs.Prelude.{◌≡◌, IfSome, IsTrue, OnOk, option_map, true, false};
 ghost use Rattle.std.specs.Io.KnownBytes.{Appends};
@@ -8,7 +8,7 @@ ghost use Rattle.pp_cli.specs.Telling.{IsBehind, IsTold, is_refusal_of};
 
 use crate::fault::fault;
 use crate::writing::put;
-use pp_judge::Outcome;
+use pp_judge::Exit;
 use std::fmt::Display;
 use std::io;
 use std::io::Write;
@@ -16,72 +16,72 @@ use std::io::Write;
 /// How a run ends, once that is told.
 #[derive(Debug, Drop)]
 pub struct Told<'a> {
-    /// The outcome, or the fault that kept standard output from taking its text. Its status is the program's.
-    pub outcome: Outcome<'a>,
+    /// The exit, or the fault that kept standard output from taking its text. Its status is the program's.
+    pub exit: Exit<'a>,
     /// Whether all of its text is written.
     pub is_whole: bool,
 }
 
-/// Says what the outcome has to say where it belongs, and behind a refusal what explains it on standard error. Where
+/// Says what the exit has to say where it belongs, and behind a refusal what explains it on standard error. Where
 /// standard output doesn't take its text, standard error says so, and nothing is explained.
 pub fn tell<'a, O: Write, E: Write>(
-    outcome: Outcome<'a>,
+    exit: Exit<'a>,
     note: Option<&[u8]>,
     out: &mut O,
     err: &mut E,
 ) -> Told<'a>
     // An output has exactly its text more on standard output, and nothing more on standard error but a front of what
     // explains a refusal; a complaint leaves standard output as it was; only an output gives way to a fault of writing.
-    ensures told { IsTold O.contents E.contents (option_map (λ text. text.now) note.entry) (seen outcome.entry)
-        (seen result.outcome) out.old out.new err.old err.new }
+    ensures told { IsTold O.contents E.contents (option_map (λ text. text.now) note.entry) (seen exit.entry)
+        (seen result.exit) out.old out.new err.old err.new }
     // A complaint that is whole has exactly its text more on standard error.
-    ensures whole { is_output_of (seen result.outcome) ≡ false → IsTrue result.is_whole
-        → Appends (E.contents err.old) (E.contents err.new) (text_of (seen result.outcome)) }
+    ensures whole { is_output_of (seen result.exit) ≡ false → IsTrue result.is_whole
+        → Appends (E.contents err.old) (E.contents err.new) (text_of (seen result.exit)) }
     // A refusal that is whole has exactly what explains it more on standard error.
-    ensures explained { is_refusal_of (seen result.outcome) ≡ true → IsTrue result.is_whole
+    ensures explained { is_refusal_of (seen result.exit) ≡ true → IsTrue result.is_whole
         → IfSome note.entry (λ text. Appends (E.contents err.old) (E.contents err.new) text.now) }
 {
-    if !outcome.is_output() {
-        return complain(outcome, err);
+    if !exit.is_output() {
+        return complain(exit, err);
     }
-    match say(out, &outcome) {
+    match say(out, &exit) {
         Ok(()) => {
-            let is_whole = explain(&outcome, note, err);
-            Told { outcome, is_whole }
+            let is_whole = explain(&exit, note, err);
+            Told { exit, is_whole }
         }
-        Err(error) => complain(fault(&error, Outcome::Unwritten("-")), err),
+        Err(error) => complain(fault(&error, Exit::Unwritten("-")), err),
     }
 }
 
 /// Writes what explains a refusal to standard error, and nothing behind another output. Whether that took all of it; what
 /// it doesn't take is lost.
-fn explain<E: Write>(outcome: &Outcome<'_>, note: Option<&[u8]>, err: &mut E) -> bool
-    ensures behind { IsBehind E.contents (is_refusal_of (seen outcome.now)) (option_map (λ text. text.now) note.entry)
+fn explain<E: Write>(exit: &Exit<'_>, note: Option<&[u8]>, err: &mut E) -> bool
+    ensures behind { IsBehind E.contents (is_refusal_of (seen exit.now)) (option_map (λ text. text.now) note.entry)
         err.old err.new }
-    ensures whole { IsTrue result → is_refusal_of (seen outcome.now) ≡ true
+    ensures whole { IsTrue result → is_refusal_of (seen exit.now) ≡ true
         → IfSome note.entry (λ text. Appends (E.contents err.old) (E.contents err.new) text.now) }
 {
     match note {
-        Some(text) if is_refusal(outcome) => put(err, text),
+        Some(text) if is_refusal(exit) => put(err, text),
         _ => true,
     }
 }
 
-/// Whether the outcome is the refusal of a file, or of a run.
-fn is_refusal(outcome: &Outcome<'_>) -> bool
-    ensures { result ≡ is_refusal_of (seen outcome.now) }
+/// Whether the exit is the refusal of a file, or of a run.
+fn is_refusal(exit: &Exit<'_>) -> bool
+    ensures { result ≡ is_refusal_of (seen exit.now) }
 {
-    matches!(outcome, Outcome::Refused(_) | Outcome::Stopped(_))
+    matches!(exit, Exit::Refused(_) | Exit::Stopped(_))
 }
 
-/// Says the outcome on standard error. What that doesn't take is lost.
-fn complain<'a, E: Write>(outcome: Outcome<'a>, err: &mut E) -> Told<'a>
-    ensures same { result.outcome ≡ outcome.entry }
+/// Says the exit on standard error. What that doesn't take is lost.
+fn complain<'a, E: Write>(exit: Exit<'a>, err: &mut E) -> Told<'a>
+    ensures same { result.exit ≡ exit.entry }
     ensures whole { IsTrue result.is_whole
-        → Appends (E.contents err.old) (E.contents err.new) (text_of (seen outcome.entry)) }
+        → Appends (E.contents err.old) (E.contents err.new) (text_of (seen exit.entry)) }
 {
-    let is_whole = say(err, &outcome).is_ok();
-    Told { outcome, is_whole }
+    let is_whole = say(err, &exit).is_ok();
+    Told { exit, is_whole }
 }
 
 /// Writes the value's text, and sees that it leaves the writer's buffer.

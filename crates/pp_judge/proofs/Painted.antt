@@ -5,8 +5,8 @@ use Rattle.pp_text.specs.Steps.{Refuses}
 use Rattle.pp_judge.specs.Answers.{Draws, IsDrawingAnswer, MayCome, drawn, refused, seen}
 use Rattle.pp_judge.specs.Steps.{is_want_of_memory}
 use Rattle.pp_judge.specs.declared.error.JudgeError.{JudgeError}
-use Rattle.pp_judge.specs.declared.outcome.Outcome.{Outcome}
-use Rattle.pp_judge.specs.declared.outcome.Outcome.TheVariants as outcome
+use Rattle.pp_judge.specs.declared.exit.Exit.{Exit}
+use Rattle.pp_judge.specs.declared.exit.Exit.TheVariants as exit
 
 -- Files that are refused end it so.
 pub not_painted : {Z : Type 0} (verdict : Result ℕ JudgeError) (r : Result (String Z) JudgeError) (e : JudgeError)
@@ -21,8 +21,8 @@ pub painted : (verdict : Result ℕ JudgeError) (lines : ℕ) (text : List ℕ) 
 painted verdict lines text is = subst (λ v. IsDrawingAnswer v (drawn text)) (sym is) tt
 
 -- What is refused so comes to that.
-pub not_drawn : (b : Bool) (verdict : Result ℕ JudgeError) (refusal : JudgeError) (ended : Outcome)
-    → ended ≡ (if b then outcome.OutOfMemory else outcome.Refused refusal) → Refuses b refusal verdict
+pub not_drawn : (b : Bool) (verdict : Result ℕ JudgeError) (refusal : JudgeError) (ended : Exit)
+    → ended ≡ (if b then exit.OutOfMemory else exit.Refused refusal) → Refuses b refusal verdict
     → MayCome (IsDrawingAnswer verdict) ended
 not_drawn true verdict refusal ended is told = inr is
 not_drawn false verdict refusal ended is told =

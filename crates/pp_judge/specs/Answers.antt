@@ -16,10 +16,10 @@ use Rattle.pp_judge.specs.declared.contents.Contents.{Contents}
 use Rattle.pp_judge.specs.declared.contents.Contents.TheVariants.{Check, Annotate, Simulate, Audit, Draw}
 use Rattle.pp_judge.specs.declared.error.JudgeError.{JudgeError}
 use Rattle.pp_judge.specs.declared.error.JudgeError.TheVariants as judge_error
-use Rattle.pp_judge.specs.declared.outcome.Figures.{Figures}
-use Rattle.pp_judge.specs.declared.outcome.Outcome.{Outcome}
-use Rattle.pp_judge.specs.declared.outcome.Outcome.TheVariants.{Done, Made, Simulated, Formatted, Ran, Stopped, Audited, Drawn}
-use Rattle.pp_judge.specs.declared.outcome.Outcome.TheVariants.{Shown, Refused, Misused, Wordless, Unread, Unwritten, OutOfMemory}
+use Rattle.pp_judge.specs.declared.exit.Figures.{Figures}
+use Rattle.pp_judge.specs.declared.exit.Exit.{Exit}
+use Rattle.pp_judge.specs.declared.exit.Exit.TheVariants.{Done, Made, Simulated, Formatted, Ran, Stopped, Audited, Drawn}
+use Rattle.pp_judge.specs.declared.exit.Exit.TheVariants.{Shown, Refused, Misused, Wordless, Unread, Unwritten, OutOfMemory}
 
 -- what a run comes to; texts are their bytes
 pub data Answer : Type 0 where
@@ -39,8 +39,8 @@ pub data Answer : Type 0 where
   unwritten : (path : List ℕ) → Answer
   out_of_memory : Answer
 
--- an outcome, as it is seen
-abbrev pub seen : Outcome → Answer
+-- an exit, as it is seen
+abbrev pub seen : Exit → Answer
 seen (Done figures) = done figures
 seen (Made text) = made (string_bytes text)
 seen (Simulated text) = simulated (string_bytes text)
@@ -179,14 +179,14 @@ MayAnswer (Audit files) answer =
 MayAnswer (Draw files) answer =
     MayDraw files.settings.now files.journal.now (map (λ plan. plan.items) files.plans.now) answer
 
--- the outcome is one of these answers, or want of memory
-abbrev pub MayCome : (Answer → Type 0) → Outcome → Type 0
-MayCome may outcome = may (seen outcome) ⊎ (outcome ≡ OutOfMemory)
+-- the exit is one of these answers, or want of memory
+abbrev pub MayCome : (Answer → Type 0) → Exit → Type 0
+MayCome may exit = may (seen exit) ⊎ (exit ≡ OutOfMemory)
 
--- the outcome is this answer, or want of memory
-abbrev pub ComesTo : Answer → Outcome → Type 0
-ComesTo answer outcome = (seen outcome ≡ answer) ⊎ (outcome ≡ OutOfMemory)
+-- the exit is this answer, or want of memory
+abbrev pub ComesTo : Answer → Exit → Type 0
+ComesTo answer exit = (seen exit ≡ answer) ⊎ (exit ≡ OutOfMemory)
 
--- want of memory is an outcome of its own, and no refusal of a file
-abbrev pub refused_by : JudgeError → Outcome
+-- want of memory is an exit of its own, and no refusal of a file
+abbrev pub refused_by : JudgeError → Exit
 refused_by refusal = if is_want_of_memory refusal then OutOfMemory else Refused refusal

@@ -15,7 +15,7 @@ use Rattle.pp_judge.specs.Answers.{refused, misused, wordless, unread, unwritten
 use Rattle.pp_judge.specs.declared.error.JudgeError.{JudgeError}
 use Rattle.pp_judge.specs.declared.error.JudgeError.TheVariants.{Settings, Script, Plan, Certificate, Check, Annotate}
 use Rattle.pp_judge.specs.declared.error.JudgeError.TheVariants.{Simulate, Audit}
-use Rattle.pp_judge.specs.declared.outcome.Figures.{Figures}
+use Rattle.pp_judge.specs.declared.exit.Figures.{Figures}
 
 -- The number and the name of a refusal, and what it is about.
 abbrev pub judge_error_row : JudgeError → Row

@@ -1,4 +1,4 @@
-//! What was asked for with the bytes of its files, and what these come to: one outcome, but where a script is played.
+//! What was asked for with the bytes of its files, and what these come to: one exit, but where a script is played.
 
 ghost use Rattle.std.specs.Prelude.{map};
 ghost use Rattle.pp_judge.specs.Answers.{audit_answer, certification_answer, judgement_answer, ComesTo, IsDrawingAnswer};
@@ -7,8 +7,8 @@ ghost use Rattle.pp_judge.specs.Judgement.{audited_in, staged_in};
 
 use crate::auditing::audit;
 use crate::drawing::draw;
+use crate::exit::{Exit, Figures};
 use crate::judgement::{certify, judge};
-use crate::outcome::{Figures, Outcome};
 use crate::rehearsal::rehearse;
 use std::alloc::Global;
 
@@ -70,7 +70,7 @@ pub struct AuditFiles<'a> {
 }
 
 /// What the contents of the files come to.
-pub fn outcome_of<'a>(alloc: Global, contents: Contents<'_>) -> Outcome<'a>
+pub fn exit_of<'a>(alloc: Global, contents: Contents<'_>) -> Exit<'a>
     // What the definition gives of these bytes, or want of memory.
     ensures { MayCome (MayAnswer contents.entry) result }
 {
@@ -84,56 +84,56 @@ pub fn outcome_of<'a>(alloc: Global, contents: Contents<'_>) -> Outcome<'a>
 }
 
 /// What the three files of `check` come to.
-fn checked<'a>(alloc: Global, files: CheckFiles<'_>) -> Outcome<'a>
+fn checked<'a>(alloc: Global, files: CheckFiles<'_>) -> Exit<'a>
     ensures { ComesTo
         (judgement_answer files.entry.settings.now files.entry.plan.now files.entry.certificate.now)
         result }
 {
     match judge(alloc, files) {
-        Ok(accepted) => Outcome::Done(Figures::of(&accepted)),
-        Err(refusal) => Outcome::from(refusal),
+        Ok(accepted) => Exit::Done(Figures::of(&accepted)),
+        Err(refusal) => Exit::from(refusal),
     }
 }
 
 /// What the two files of `annotate` come to.
-fn annotated<'a>(alloc: Global, files: AnnotateFiles<'_>) -> Outcome<'a>
+fn annotated<'a>(alloc: Global, files: AnnotateFiles<'_>) -> Exit<'a>
     ensures { ComesTo (certification_answer files.entry.settings.now files.entry.plan.now) result }
 {
     match certify(alloc, files) {
-        Ok(text) => Outcome::Made(text),
-        Err(refusal) => Outcome::from(refusal),
+        Ok(text) => Exit::Made(text),
+        Err(refusal) => Exit::from(refusal),
     }
 }
 
 /// What the files of `simulate` come to.
-fn simulated<'a>(alloc: Global, files: SimulateFiles<'_>) -> Outcome<'a>
+fn simulated<'a>(alloc: Global, files: SimulateFiles<'_>) -> Exit<'a>
     ensures { MayCome (IsSimulationAnswer (staged_in files.entry.settings.now files.entry.script.now
         (map (λ plan. plan.items) files.entry.plans.now))) result }
 {
     match rehearse(alloc, files) {
-        Ok(text) => Outcome::Simulated(text),
-        Err(refusal) => Outcome::from(refusal),
+        Ok(text) => Exit::Simulated(text),
+        Err(refusal) => Exit::from(refusal),
     }
 }
 
 /// What the files of `audit` come to.
-fn audited<'a>(alloc: Global, files: AuditFiles<'_>) -> Outcome<'a>
+fn audited<'a>(alloc: Global, files: AuditFiles<'_>) -> Exit<'a>
     ensures { ComesTo (audit_answer files.entry.settings.now files.entry.journal.now
         (map (λ plan. plan.items) files.entry.plans.now)) result }
 {
     match audit(alloc, files) {
-        Ok(audited) => Outcome::Audited(audited.lines),
-        Err(refusal) => Outcome::from(refusal),
+        Ok(audited) => Exit::Audited(audited.lines),
+        Err(refusal) => Exit::from(refusal),
     }
 }
 
 /// What the files of `draw` come to.
-fn drawn<'a>(alloc: Global, files: AuditFiles<'_>) -> Outcome<'a>
+fn drawn<'a>(alloc: Global, files: AuditFiles<'_>) -> Exit<'a>
     ensures { MayCome (IsDrawingAnswer (audited_in files.entry.settings.now files.entry.journal.now
         (map (λ plan. plan.items) files.entry.plans.now))) result }
 {
     match draw(alloc, files) {
-        Ok(text) => Outcome::Drawn(text),
-        Err(refusal) => Outcome::from(refusal),
+        Ok(text) => Exit::Drawn(text),
+        Err(refusal) => Exit::from(refusal),
     }
 }

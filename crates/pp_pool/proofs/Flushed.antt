@@ -5,9 +5,9 @@ use Rattle.pp_device.specs.Answers.{Answer as DeviceAnswer}
 use Rattle.pp_vault.specs.declared.tokens.Returned.{Returned}
 use Rattle.pp_pool.specs.declared.request.Request.{Request}
 use Rattle.pp_pool.specs.declared.request.Request.TheVariants as request
-use Rattle.pp_pool.specs.declared.outcome.Answer.{Answer}
-use Rattle.pp_pool.specs.declared.outcome.Answer.TheVariants as answer
-use Rattle.pp_pool.specs.declared.outcome.Outcome.{Outcome}
+use Rattle.pp_pool.specs.declared.response.BookAnswer.{BookAnswer}
+use Rattle.pp_pool.specs.declared.response.BookAnswer.TheVariants as answer
+use Rattle.pp_pool.specs.declared.response.Response.{Response}
 use Rattle.pp_pool.specs.declared.turned.Turned.{Turned}
 use Rattle.pp_pool.specs.declared.flusher.Flusher.{Flusher}
 use Rattle.pp_pool.specs.Replies.{TokensFit}
@@ -29,7 +29,7 @@ none_some : {n : ℕ} → ◌≡◌ {A = Option ℕ} None (Some n) → ⊥
 none_some e = cc
 
 -- The answer to the flusher's request is the flusher's.
-of_returned : (returned : Returned) (out : Answer) → IsFlushersAsk (request.Answer returned)
+of_returned : (returned : Returned) (out : BookAnswer) → IsFlushersAsk (request.Answer returned)
     → TokensFit (request.Answer returned) out → IsFlushers out
 of_returned returned (answer.Away errand) h fit = fit ∙ h
 of_returned returned (answer.Flushed clean) h fit = tt
@@ -43,7 +43,7 @@ of_returned returned (answer.Idle chair) h fit = absurd fit
 of_returned returned (answer.Shared y g) h fit = absurd fit
 of_returned returned (answer.Exclusive y g) h fit = absurd fit
 
-of_search : (number : ℕ) (out : Answer) → TokensFit (request.FlushNext number) out → IsFlushers out
+of_search : (number : ℕ) (out : BookAnswer) → TokensFit (request.FlushNext number) out → IsFlushers out
 of_search number (answer.Away errand) fit = fit
 of_search number (answer.No back why) fit = subst (λ r. IsFlushers (answer.No r why)) (sym fit) tt
 of_search number (answer.Flushed clean) fit = absurd fit
@@ -56,7 +56,7 @@ of_search number (answer.Idle chair) fit = absurd fit
 of_search number (answer.Shared y g) fit = absurd fit
 of_search number (answer.Exclusive y g) fit = absurd fit
 
-pub flushers : (asked : Request) (out : Answer) → IsFlushersAsk asked → TokensFit asked out → IsFlushers out
+pub flushers : (asked : Request) (out : BookAnswer) → IsFlushersAsk asked → TokensFit asked out → IsFlushers out
 flushers (request.Answer returned) out h fit = of_returned returned out h fit
 flushers (request.AnswerJoin returned) out h fit = absurd h
 flushers (request.FlushNext number) out h fit = of_search number out fit
@@ -75,20 +75,20 @@ flushers (request.End x) out h fit = absurd h
 flushers (request.GiveBack x g) out h fit = absurd h
 flushers (request.Flush page) out h fit = absurd h
 
-pub flush_turns : {S D : Type 0} (gives : S → Request → Outcome → S → Type 0)
+pub flush_turns : {S D : Type 0} (gives : S → Request → Response → S → Type 0)
     (reads : D → ℕ → List ℕ → DeviceAnswer → List ℕ → D → Type 0) (writes : D → ℕ → List ℕ → DeviceAnswer → D → Type 0)
-    (calls failures : D → ℕ) (old new : Flusher S D) (turned : Turned) (asked : Request) (outcome : Outcome)
+    (calls failures : D → ℕ) (old new : Flusher S D) (turned : Turned) (asked : Request) (response : Response)
     → old.ended < most_ended
     → AsksFlush reads writes calls failures old.flushing old.from old.device asked new.device
-    → gives old.site asked outcome new.site → new.ended ≡ old.ended + ends_in outcome.event
-    → new.failed ≡ old.failed + failures_in outcome.event → new.from ≡ from_after old.from outcome.event
-    → new.flushing ≡ flushing_after outcome.answer → turned ≡ flush_turned outcome.answer
+    → gives old.site asked response new.site → new.ended ≡ old.ended + ends_in response.event
+    → new.failed ≡ old.failed + failures_in response.event → new.from ≡ from_after old.from response.event
+    → new.flushing ≡ flushing_after response.answer → turned ≡ flush_turned response.answer
     → FlushTurnIs gives reads writes calls failures old turned new
-flush_turns gives reads writes calls failures old new turned asked outcome room asks given ended failed from flushing how =
+flush_turns gives reads writes calls failures old new turned asked response room asks given ended failed from flushing how =
     inl (record {
       room = room;
       asked = asked;
-      outcome = outcome;
+      response = response;
       asks = asks;
       given = given;
       ended = ended;

@@ -11,7 +11,7 @@ use Rattle.pp_vault.specs.StandsFor.{StandsFor}
 use Rattle.pp_vault.specs.Calls.{Call, stranger, refusal_of, after_call, told}
 use Rattle.pp_vault.specs.Events.{Refuses, Does}
 use Rattle.pp_pool.specs.declared.request.Request.TheVariants as request
-use Rattle.pp_pool.specs.declared.outcome.Answer.{Answer}
+use Rattle.pp_pool.specs.declared.response.BookAnswer.{BookAnswer}
 use Rattle.pp_pool.specs.Requests.{call_of, bundle_asked, bundle_served, can_join, join_call}
 use Rattle.pp_pool.specs.Performing.{DoesUnless}
 
@@ -50,7 +50,7 @@ module _ (old : Parts) (bundle : Option (ℕ × ℕ)) (call : State → Call) wh
 -- ---- a gather
 
 module _ (old : Parts) (x : Session) (page : ℕ) (can : Bool) (same : CanJoin old (bundle_asked x.worker x.ask) can) where
-  pub fix_joins : (new : Parts) (out : Answer) → can ≡ true → DoesUnless old (request.Fix x page) out new
+  pub fix_joins : (new : Parts) (out : BookAnswer) → can ≡ true → DoesUnless old (request.Fix x page) out new
       → DoesUnless old (request.Join x page) out new
   fix_joins new out is does done =
       joins old (bundle_asked x.worker x.ask) (call_of old (request.Fix x page)) new can same is (does done)

@@ -17,9 +17,9 @@ use Rattle.pp_vault.specs.Fits.{fix_slot}
 use Rattle.pp_vault.specs.Holding.{slot_by, placed, is_free, has_bundle}
 use Rattle.pp_pool.specs.declared.request.Request.{Request}
 use Rattle.pp_pool.specs.declared.request.Request.TheVariants as request
-use Rattle.pp_pool.specs.declared.outcome.Answer.{Answer}
-use Rattle.pp_pool.specs.declared.outcome.Answer.TheVariants as answer
-use Rattle.pp_pool.specs.declared.outcome.Outcome.{Outcome}
+use Rattle.pp_pool.specs.declared.response.BookAnswer.{BookAnswer}
+use Rattle.pp_pool.specs.declared.response.BookAnswer.TheVariants as answer
+use Rattle.pp_pool.specs.declared.response.Response.{Response}
 use Rattle.pp_pool.specs.Replies.{TokensFit, slot_for, SlotFits, Replies}
 use Rattle.pp_pool.specs.declared.turned.Turned.{Turned}
 use Rattle.pp_pool.specs.declared.site.Site as Site
@@ -134,7 +134,7 @@ of_back (request.AnswerJoin returned) = refl
 of_back (request.Flush page) = tt
 of_back (request.FlushNext number) = tt
 
-of_answer : (asked : Request) (out : Answer) → TokensFit asked out → IsOf (worker_asked asked) (stage_in out)
+of_answer : (asked : Request) (out : BookAnswer) → TokensFit asked out → IsOf (worker_asked asked) (stage_in out)
 of_answer asked (answer.No back why) fit = subst (λ r. IsOf (worker_asked r) (stage_asked back)) fit (of_back back)
 of_answer (request.Take chair) (answer.Acts y) fit = ap Some fit
 of_answer (request.Fix x page) (answer.Pinned y h) fit = ap Some fit.0
@@ -171,15 +171,15 @@ of_answer asked out fit = absurd fit
 pub keeps_worker : {S D W : Type 0} (s : Site.Ghosts S) (k : Work.Ghosts W)
     (reads : D → ℕ → List ℕ → DeviceAnswer → List ℕ → D → Type 0)
     (writes : D → ℕ → List ℕ → DeviceAnswer → D → Type 0) (calls failures : D → ℕ) (layout : Geometry)
-    (before after : Stage) (old : D) (asked : Request) (new : D) (outcome : Outcome) (site : S) (room : ℕ) (work : W)
-    (turned : Turned) (used : Answer) (left : W)
-    → Asks reads writes calls failures layout before old asked new → Replies asked outcome
-    → Uses s k site room work outcome.answer turned used left → stage_in used ≡ Some after
+    (before after : Stage) (old : D) (asked : Request) (new : D) (response : Response) (site : S) (room : ℕ) (work : W)
+    (turned : Turned) (used : BookAnswer) (left : W)
+    → Asks reads writes calls failures layout before old asked new → Replies asked response
+    → Uses s k site room work response.answer turned used left → stage_in used ≡ Some after
     → stage_worker after ≡ stage_worker before
-keeps_worker s k reads writes calls failures layout before after old asked new outcome site room work turned used left asks
+keeps_worker s k reads writes calls failures layout before after old asked new response site room work turned used left asks
     replies uses there =
-    subst (IsOf (worker_asked asked)) (sym (used_stage s k site room work turned left outcome.answer used uses) ∙ there)
-    (of_answer asked outcome.answer replies.tokens)
+    subst (IsOf (worker_asked asked)) (sym (used_stage s k site room work turned left response.answer used uses) ∙ there)
+    (of_answer asked response.answer replies.tokens)
     ∙ of_stage reads writes calls failures layout before old asked new asks
 
 -- ---- an errand's place stays
@@ -272,7 +272,7 @@ away_slot (request.GiveBack x g) errand workers fit = absurd fit
 
 module _ {S W : Type 0} (s : Site.Ghosts S) (k : Work.Ghosts W) (site : S) (room : ℕ) (old : W) (turned : Turned)
     (new : W) (places rest : List (Option Guard)) (asked : Request) (p : Prepares places asked rest) where
-  answer_keeps : (out after : Answer) → TokensFit asked out → SlotFits asked out
+  answer_keeps : (out after : BookAnswer) → TokensFit asked out → SlotFits asked out
       → Uses s k site room old out turned after new → KeepsIn (places_with rest (guard_in after)) (stage_in out)
   answer_keeps (answer.Away errand) after fit slot uses =
       subst (λ o. has_place (places_with rest (guard_in o)) (duty_slot errand.duty) ≡ true) (sym uses.1)
@@ -292,7 +292,7 @@ module _ {S W : Type 0} (s : Site.Ghosts S) (k : Work.Ghosts W) (site : S) (room
   answer_keeps (answer.Flushed clean) after fit slot uses = tt
 
   -- So the hand after a request keeps it.
-  pub keeps_after : (out after : Answer) (at : Stage) (guards : List (Option Guard)) → TokensFit asked out
+  pub keeps_after : (out after : BookAnswer) (at : Stage) (guards : List (Option Guard)) → TokensFit asked out
       → SlotFits asked out → Uses s k site room old out turned after new → stage_in after ≡ Some at
       → guards ≡ places_with rest (guard_in after) → keeps_place guards at ≡ true
   keeps_after out after at guards fit slot uses there are =

@@ -12,9 +12,9 @@ use Rattle.pp_vault.specs.StandsFor.{StandsFor}
 use Rattle.pp_vault.specs.Calls.{Call, stranger, refused, asks, refusal_in, refusal_of, after_call, told}
 use Rattle.pp_vault.specs.Events.{Refuses, Does, untold}
 use Rattle.pp_pool.specs.declared.request.Request.{Request}
-use Rattle.pp_pool.specs.declared.outcome.Answer.{Answer}
-use Rattle.pp_pool.specs.declared.outcome.Answer.TheVariants.{Acts, Idle, Leaves, Pinned, Shared, Exclusive, Away}
-use Rattle.pp_pool.specs.declared.outcome.Answer.TheVariants.{Opened, Joined, Flushed, No}
+use Rattle.pp_pool.specs.declared.response.BookAnswer.{BookAnswer}
+use Rattle.pp_pool.specs.declared.response.BookAnswer.TheVariants.{Acts, Idle, Leaves, Pinned, Shared, Exclusive, Away}
+use Rattle.pp_pool.specs.declared.response.BookAnswer.TheVariants.{Opened, Joined, Flushed, No}
 use Rattle.pp_pool.specs.Requests.{call_of}
 use Rattle.pp_pool.specs.Performing.{ComesTo, DoesUnless}
 
@@ -65,7 +65,7 @@ noted_refused old new call why refuses same =
       is_told = λ s st. ap (λ (v : Parts). v.last) same ∙ sym (refused_call s (call s) why (refuses s st)).1;
     }
 
-pub noted : (old new : Parts) (asked : Request) (out : Answer) → ComesTo old asked out new → DoesUnless old asked out new
+pub noted : (old new : Parts) (asked : Request) (out : BookAnswer) → ComesTo old asked out new → DoesUnless old asked out new
     → IsNoted old (call_of old asked) new
 noted old new asked (No back why) h d = noted_refused old new (call_of old asked) why h.refuses h.unchanged
 noted old new asked (Acts x) h d = noted_done old new (call_of old asked) (d refl)

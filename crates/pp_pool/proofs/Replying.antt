@@ -1,4 +1,4 @@
--- What is promised of an outcome by every site.
+-- What is promised of a response by every site.
 use Rattle.std.proofs.Common.{◌≡◌, ◌∙◌, true, false, Option, Some, None, refl, sym, ap, subst, not}
 use Rattle.std.specs.Prelude.{IfSome, option_map, if◌then◌else◌}
 use Rattle.std.specs.Option.{is_some}
@@ -13,9 +13,9 @@ use Rattle.pp_vault.specs.Parts as vault
 use Rattle.pp_vault.specs.StandsFor.{StandsFor}
 use Rattle.pp_vault.specs.Calls.{Call, stranger, refused, asks, refusal_in, refusal_of, told}
 use Rattle.pp_pool.specs.declared.request.Request.{Request}
-use Rattle.pp_pool.specs.declared.outcome.Answer.{Answer}
-use Rattle.pp_pool.specs.declared.outcome.Answer.TheVariants.{Acts, Idle, Leaves, Pinned, Shared, Exclusive, Away}
-use Rattle.pp_pool.specs.declared.outcome.Answer.TheVariants.{Opened, Joined, Flushed, No}
+use Rattle.pp_pool.specs.declared.response.BookAnswer.{BookAnswer}
+use Rattle.pp_pool.specs.declared.response.BookAnswer.TheVariants.{Acts, Idle, Leaves, Pinned, Shared, Exclusive, Away}
+use Rattle.pp_pool.specs.declared.response.BookAnswer.TheVariants.{Opened, Joined, Flushed, No}
 use Rattle.pp_pool.specs.Parts.{Parts, state_of}
 use Rattle.pp_pool.specs.Books.{IsBook}
 use Rattle.pp_pool.specs.Requests.{call_of, event_for}
@@ -52,13 +52,13 @@ done_call s (asks m) e =
     ap (λ b. is_some {T = Move × Reply} (if b then Some (m, reply_of s m) else None)) can
 
 module _ (old new : vault.Parts) (asked : Request) (s : State) (st : StandsFor old s) where
-  abbrev Tells : Answer → Type 0
+  abbrev Tells : BookAnswer → Type 0
   Tells out = is_some (told s (call_of old asked s)) ≡ not (is_no out)
 
-  told_where : (out : Answer) → is_no out ≡ false → DoesUnless old asked out new → Tells out
+  told_where : (out : BookAnswer) → is_no out ≡ false → DoesUnless old asked out new → Tells out
   told_where out is d = done_call s (call_of old asked s) ((d is).allowed s st) ∙ sym (ap not is)
 
-  told_by : (out : Answer) → ComesTo old asked out new → DoesUnless old asked out new → Tells out
+  told_by : (out : BookAnswer) → ComesTo old asked out new → DoesUnless old asked out new → Tells out
   told_by (No back why) h d = ap is_some (refused_call s (call_of old asked s) why (h.refuses s st)).1
   told_by (Acts x) h d = told_where (Acts x) refl d
   told_by (Idle chair) h d = told_where (Idle chair) refl d
@@ -76,7 +76,7 @@ some_mapped : (o : Option (Move × Reply))
 some_mapped None = refl
 some_mapped (Some t) = refl
 
-pub replies : (b : Parts) (k : IsBook b) (asked : Request) (out : Answer) (v : vault.Parts)
+pub replies : (b : Parts) (k : IsBook b) (asked : Request) (out : BookAnswer) (v : vault.Parts)
     → ComesTo b.vault asked out v → DoesUnless b.vault asked out v → (e : Option Event)
     → e ≡ option_map (λ (t : Move × Reply). Step t.0 t.1) v.last → TokensFit asked out
     → Replies asked (record { event = e; answer = out })

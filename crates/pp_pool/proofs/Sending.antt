@@ -28,9 +28,9 @@ use Rattle.pp_vault.specs.Tokens.{IsOut}
 use Rattle.pp_vault.proofs.FitTests.{nat_is}
 use Rattle.pp_pool.specs.declared.request.Request.{Request}
 use Rattle.pp_pool.specs.declared.request.Request.TheVariants as request
-use Rattle.pp_pool.specs.declared.outcome.Answer.{Answer}
-use Rattle.pp_pool.specs.declared.outcome.Answer.TheVariants.{Acts, Idle, Leaves, Pinned, Shared, Exclusive, Away}
-use Rattle.pp_pool.specs.declared.outcome.Answer.TheVariants.{Opened, Joined, Flushed, No}
+use Rattle.pp_pool.specs.declared.response.BookAnswer.{BookAnswer}
+use Rattle.pp_pool.specs.declared.response.BookAnswer.TheVariants.{Acts, Idle, Leaves, Pinned, Shared, Exclusive, Away}
+use Rattle.pp_pool.specs.declared.response.BookAnswer.TheVariants.{Opened, Joined, Flushed, No}
 use Rattle.pp_pool.specs.Performing.{ComesTo}
 use Rattle.pp_pool.specs.Replies.{TokensFit, slot_for, SlotFits}
 use Rattle.pp_pool.proofs.Tokens.{away_slot, no_slot}
@@ -139,7 +139,7 @@ module _ (old new : vault.Parts) (s : State) (st : StandsFor old s) where
   away (request.End x) errand h fit = absurd fit
   away (request.GiveBack x g) errand h fit = absurd fit
 
-  pub slot_fits : (asked : Request) (out : Answer) → ComesTo old asked out new → TokensFit asked out
+  pub slot_fits : (asked : Request) (out : BookAnswer) → ComesTo old asked out new → TokensFit asked out
       → SlotFits asked out
   slot_fits asked (Away errand) h fit = away asked errand h fit
   slot_fits asked (Acts x) h fit = tt

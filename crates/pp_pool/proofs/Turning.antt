@@ -20,10 +20,10 @@ use Rattle.pp_vault.specs.declared.tokens.Duty.{Duty}
 use Rattle.pp_vault.specs.declared.tokens.Duty.TheVariants as duty
 use Rattle.pp_pool.specs.declared.request.Request.{Request}
 use Rattle.pp_pool.specs.declared.request.Request.TheVariants as request
-use Rattle.pp_pool.specs.declared.outcome.Answer.{Answer}
-use Rattle.pp_pool.specs.declared.outcome.Answer.TheVariants as answer
+use Rattle.pp_pool.specs.declared.response.BookAnswer.{BookAnswer}
+use Rattle.pp_pool.specs.declared.response.BookAnswer.TheVariants as answer
 use Rattle.pp_pool.specs.Replies.{TokensFit}
-use Rattle.pp_pool.specs.declared.outcome.Outcome.{Outcome}
+use Rattle.pp_pool.specs.declared.response.Response.{Response}
 use Rattle.pp_pool.specs.declared.turned.Turned.{Turned}
 use Rattle.pp_pool.specs.declared.turned.Turned.TheVariants.{Done, NotNow, Ended, NoMemory, Broken}
 use Rattle.pp_pool.specs.declared.worker.Worker.{Worker}
@@ -87,7 +87,7 @@ not_flushed (request.AnswerJoin returned) clean h fit = fit
 not_flushed (request.Flush page) clean h fit = fit
 not_flushed (request.FlushNext number) clean h fit = fit
 
-pub stage_there : (asked : Request) (out : Answer) → IsWorkers asked → TokensFit asked out → IsSome (stage_in out)
+pub stage_there : (asked : Request) (out : BookAnswer) → IsWorkers asked → TokensFit asked out → IsSome (stage_in out)
 stage_there asked (answer.Acts x) h fit = refl
 stage_there asked (answer.Idle chair) h fit = refl
 stage_there asked (answer.Leaves x) h fit = refl
@@ -209,7 +209,7 @@ bundle_placed places (request.AnswerJoin returned) y h free fit = absurd fit
 bundle_placed places (request.Flush page) y h free fit = absurd fit
 bundle_placed places (request.FlushNext number) y h free fit = absurd fit
 
-pub guard_placed : (places : List (Option Guard)) (asked : Request) (out : Answer) → FindsPlace places asked
+pub guard_placed : (places : List (Option Guard)) (asked : Request) (out : BookAnswer) → FindsPlace places asked
     → TokensFit asked out → IsPlaced places (guard_in out)
 guard_placed places asked (answer.Acts x) free fit = tt
 guard_placed places asked (answer.Idle chair) free fit = tt
@@ -247,7 +247,7 @@ exclusive_long (request.AnswerJoin returned) y h fit = absurd fit
 exclusive_long (request.Flush page) y h fit = absurd fit
 exclusive_long (request.FlushNext number) y h fit = absurd fit
 
-pub long_by : (asked : Request) (out : Answer) → TokensFit asked out → IsLong out
+pub long_by : (asked : Request) (out : BookAnswer) → TokensFit asked out → IsLong out
 long_by asked (answer.Exclusive x g) fit = exclusive_long asked x g fit
 long_by asked (answer.Acts x) fit = tt
 long_by asked (answer.Idle chair) fit = tt
@@ -264,7 +264,7 @@ long_by asked (answer.No back why) fit = tt
 module _ {S W : Type 0} (s : Site.Ghosts S) (k : Work.Ghosts W) (site : S) (room : ℕ) (old : W) (turned : Turned)
     (new : W) where
   -- Its stage is what it was.
-  pub used_stage : (before after : Answer) → Uses s k site room old before turned after new
+  pub used_stage : (before after : BookAnswer) → Uses s k site room old before turned after new
       → stage_in after ≡ stage_in before
   used_stage (answer.Exclusive x g) after h = ap stage_in h.0.stays
   used_stage (answer.Shared x g) after h = ap stage_in h.1
@@ -279,7 +279,7 @@ module _ {S W : Type 0} (s : Site.Ghosts S) (k : Work.Ghosts W) (site : S) (room
   used_stage (answer.No back why) after h = ap stage_in h.1
 
   -- So its guard finds its place, as before.
-  pub used_placed : (places : List (Option Guard)) (before after : Answer)
+  pub used_placed : (places : List (Option Guard)) (before after : BookAnswer)
       → Uses s k site room old before turned after new → IsPlaced places (guard_in before) → IsPlaced places (guard_in after)
   used_placed places (answer.Exclusive x g) after h free =
       subst (λ o. IsPlaced places (guard_in o)) (sym h.0.stays) free
@@ -295,7 +295,7 @@ module _ {S W : Type 0} (s : Site.Ghosts S) (k : Work.Ghosts W) (site : S) (room
   used_placed places (answer.No back why) after h free = subst (λ o. IsPlaced places (guard_in o)) (sym h.1) free
 
 -- What the work leaves of a page is in the guard.
-pub changed : {S W : Type 0} (s : Site.Ghosts S) (k : Work.Ghosts W) (site : S) (room : ℕ) (old new : W) (before : Answer)
+pub changed : {S W : Type 0} (s : Site.Ghosts S) (k : Work.Ghosts W) (site : S) (room : ℕ) (old new : W) (before : BookAnswer)
     (x : Session) (g : WriteGuard) (page : ℕ) (lent body : List ℕ) → before ≡ answer.Exclusive x g → page ≡ g.page
     → lent ≡ body_of g.image → length body ≡ length lent → k.change_leaves old page lent body new
     → Uses s k site room old before Done (answer.Exclusive x (record g { image = with_body g.image body })) new
@@ -315,33 +315,33 @@ changed s k site room old new before x g page lent body is of front long left =
 -- ---- a turn
 
 pub stage_after : {S W : Type 0} (s : Site.Ghosts S) (k : Work.Ghosts W) (site : S) (room : ℕ) (old : W) (turned : Turned)
-    (new : W) (asked : Request) (out after : Answer) → IsWorkers asked → TokensFit asked out
+    (new : W) (asked : Request) (out after : BookAnswer) → IsWorkers asked → TokensFit asked out
     → Uses s k site room old out turned after new → IsSome (stage_in after)
 stage_after s k site room old turned new asked out after h fit uses =
     subst IsSome (sym (used_stage s k site room old turned new out after uses)) (stage_there asked out h fit)
 
 pub placed_after : {S W : Type 0} (s : Site.Ghosts S) (k : Work.Ghosts W) (site : S) (room : ℕ) (old : W) (turned : Turned)
-    (new : W) (places rest : List (Option Guard)) (asked : Request) (out after : Answer) → Prepares places asked rest
+    (new : W) (places rest : List (Option Guard)) (asked : Request) (out after : BookAnswer) → Prepares places asked rest
     → TokensFit asked out → Uses s k site room old out turned after new
     → IfSome (guard_in after) (λ g. is_free rest (slot_by g) ≡ true)
 placed_after s k site room old turned new places rest asked out after p fit uses =
     used_placed s k site room old turned new rest out after uses (guard_placed rest asked out p.finds fit)
 
 module _ {S D W : Type 0} (s : Site.Ghosts S) (d : Device.Ghosts D) (k : Work.Ghosts W) (old new : Worker S D)
-    (before between left : W) (asked : Request) (outcome : Outcome) (after : Answer) (rest : List (Option Guard)) (site : S)
+    (before between left : W) (asked : Request) (response : Response) (after : BookAnswer) (rest : List (Option Guard)) (site : S)
     (room : ℕ) where
   makes : (is_logged : Bool) (ends : Turned)
       → Asks d.read_gives d.write_leaves d.calls d.failures old.layout old.hand.stage old.device asked new.device
       → Consults k old.layout before asked between → Prepares old.hand.guards asked rest
-      → s.gives old.site asked outcome site → Replies asked outcome → new.site ≡ site
-      → new.log.items ≡ old.log.items ++ logged_events is_logged outcome.event → room_of new ≡ room
-      → Uses s k site room between outcome.answer ends after left
+      → s.gives old.site asked response site → Replies asked response → new.site ≡ site
+      → new.log.items ≡ old.log.items ++ logged_events is_logged response.event → room_of new ≡ room
+      → Uses s k site room between response.answer ends after left
       → stage_in after ≡ Some new.hand.stage → new.hand.guards ≡ places_with rest (guard_in after)
       → Makes s d k is_logged old before ends new left
   makes is_logged ends asks consults prepares given fits same log long uses stage guards =
       record {
         asked = asked;
-        outcome = outcome;
+        response = response;
         after = after;
         between = between;
         asks = asks;
@@ -349,12 +349,12 @@ module _ {S D W : Type 0} (s : Site.Ghosts S) (d : Device.Ghosts D) (k : Work.Gh
         own = prepares.own;
         finds = subst (λ ps. FindsPlace ps asked) prepares.keeps prepares.finds;
         none = prepares.none;
-        given = subst (s.gives old.site asked outcome) (sym same) given;
+        given = subst (s.gives old.site asked response) (sym same) given;
         fits = fits;
         log = log;
         uses =
-            subst (λ n. Uses s k new.site n between outcome.answer ends after left) (sym long)
-            (subst (λ t. Uses s k t room between outcome.answer ends after left) (sym same) uses);
+            subst (λ n. Uses s k new.site n between response.answer ends after left) (sym long)
+            (subst (λ t. Uses s k t room between response.answer ends after left) (sym same) uses);
         stage = stage;
         guards = guards ∙ ap (λ ps. places_with ps (guard_in after)) prepares.keeps;
       }
@@ -376,9 +376,9 @@ module _ {S D W : Type 0} (s : Site.Ghosts S) (d : Device.Ghosts D) (k : Work.Gh
   pub turns : (is_logged : Bool) (ends turned : Turned)
       → Asks d.read_gives d.write_leaves d.calls d.failures old.layout old.hand.stage old.device asked new.device
       → Consults k old.layout before asked between → Prepares old.hand.guards asked rest
-      → s.gives old.site asked outcome site → Replies asked outcome → new.site ≡ site
-      → new.log.items ≡ old.log.items ++ logged_events is_logged outcome.event → room_of new ≡ room
-      → Uses s k site room between outcome.answer ends after left
+      → s.gives old.site asked response site → Replies asked response → new.site ≡ site
+      → new.log.items ≡ old.log.items ++ logged_events is_logged response.event → room_of new ≡ room
+      → Uses s k site room between response.answer ends after left
       → stage_in after ≡ Some new.hand.stage → new.hand.guards ≡ places_with rest (guard_in after)
       → (has_errand old.hand.stage ≡ false → vec_len old.log < vec_capacity old.log)
       → (is_logged ≡ false → vec_capacity old.log ≤ vec_len old.log)
@@ -489,7 +489,7 @@ module _ {S D W : Type 0} (s : Site.Ghosts S) (d : Device.Ghosts D) (k : Work.Gh
   makes_from is_logged ends t =
       record {
         asked = t.asked;
-        outcome = t.outcome;
+        response = t.response;
         after = t.after;
         between = t.between;
         asks =
@@ -502,9 +502,9 @@ module _ {S D W : Type 0} (s : Site.Ghosts S) (d : Device.Ghosts D) (k : Work.Gh
         finds =
             subst (λ (h : Hand). FindsPlace (places_without h.guards (guard_asked t.asked)) t.asked) hand t.finds;
         none = subst (λ (h : Hand). LeavesNone h.guards t.asked) hand t.none;
-        given = subst (λ x. s.gives x t.asked t.outcome new.site) site t.given;
+        given = subst (λ x. s.gives x t.asked t.response new.site) site t.given;
         fits = t.fits;
-        log = t.log ∙ ap (λ es. es ++ logged_events is_logged t.outcome.event) log;
+        log = t.log ∙ ap (λ es. es ++ logged_events is_logged t.response.event) log;
         uses = t.uses;
         stage = t.stage;
         guards =

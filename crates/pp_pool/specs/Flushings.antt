@@ -15,8 +15,8 @@ use Rattle.pp_vault.specs.Duties.{duty_worker}
 use Rattle.pp_vault.specs.Carrying.{CarriesOut}
 use Rattle.pp_pool.specs.declared.request.Request.{Request}
 use Rattle.pp_pool.specs.declared.request.Request.TheVariants as request
-use Rattle.pp_pool.specs.declared.outcome.Answer.{Answer}
-use Rattle.pp_pool.specs.declared.outcome.Answer.TheVariants as answer
+use Rattle.pp_pool.specs.declared.response.BookAnswer.{BookAnswer}
+use Rattle.pp_pool.specs.declared.response.BookAnswer.TheVariants as answer
 use Rattle.pp_pool.specs.declared.turned.Turned.{Turned}
 use Rattle.pp_pool.specs.declared.turned.Turned.TheVariants.{Done, NotNow, Ended, Broken}
 
@@ -77,7 +77,7 @@ abbrev pub flushing_asked : Request → Option Flushing
 flushing_asked (request.Answer returned) = Some (Back returned)
 flushing_asked _ = None
 
-abbrev pub flushing_after : Answer → Option Flushing
+abbrev pub flushing_after : BookAnswer → Option Flushing
 flushing_after (answer.Away errand) = Some (Out errand)
 flushing_after (answer.No back why) = flushing_asked back
 flushing_after _ = None
@@ -89,7 +89,7 @@ flush_turned_by (refusal.OffPlan NotDirty) = Ended
 flush_turned_by (refusal.OffPlan NoFlushLeft) = Ended
 flush_turned_by _ = Broken
 
-abbrev pub flush_turned : Answer → Turned
+abbrev pub flush_turned : BookAnswer → Turned
 flush_turned (answer.No back why) = flush_turned_by why
 flush_turned _ = Done
 
@@ -104,7 +104,7 @@ IsFlushersAsk (request.FlushNext number) = Unit {0}
 IsFlushersAsk _ = ⊥
 
 -- The tokens of an answer to the flusher are the flusher's.
-abbrev pub IsFlushers : Answer → Type 0
+abbrev pub IsFlushers : BookAnswer → Type 0
 IsFlushers (answer.Away errand) = duty_worker errand.duty ≡ None
 IsFlushers (answer.Flushed clean) = Unit {0}
 IsFlushers (answer.No back why) = IsFlushersAsk back

@@ -17,9 +17,9 @@ use Rattle.pp_vault.specs.Leaves.{GivesBack}
 use Rattle.pp_vault.specs.Flushes.{CopiesOut, CopiesNext}
 use Rattle.pp_pool.specs.declared.request.Request.{Request}
 use Rattle.pp_pool.specs.declared.request.Request.TheVariants as request
-use Rattle.pp_pool.specs.declared.outcome.Answer.{Answer}
-use Rattle.pp_pool.specs.declared.outcome.Answer.TheVariants.{Acts, Idle, Leaves, Pinned, Shared, Exclusive, Away}
-use Rattle.pp_pool.specs.declared.outcome.Answer.TheVariants.{Opened, Joined, Flushed, No}
+use Rattle.pp_pool.specs.declared.response.BookAnswer.{BookAnswer}
+use Rattle.pp_pool.specs.declared.response.BookAnswer.TheVariants.{Acts, Idle, Leaves, Pinned, Shared, Exclusive, Away}
+use Rattle.pp_pool.specs.declared.response.BookAnswer.TheVariants.{Opened, Joined, Flushed, No}
 use Rattle.pp_pool.specs.Requests.{call_of}
 
 -- The request is done; worker w acts, and no image has moved.
@@ -54,7 +54,7 @@ pub record Declines (old : Parts) (asked back : Request) (refusal : Refusal) (ne
   pub unchanged : new ≡ untold old
 
 -- What a request is answered and does, as the vault's calls say it; no answer of another kind comes.
-abbrev pub ComesTo : (old : Parts) → Request → Answer → (new : Parts) → Type 0
+abbrev pub ComesTo : (old : Parts) → Request → BookAnswer → (new : Parts) → Type 0
 ComesTo old asked (No back refusal) new = Declines old asked back refusal new
 ComesTo old (request.Take chair) (Acts x) new = GoesOn old (request.Take chair) chair.worker x new
 ComesTo old (request.Fix x page) (Pinned y g) new = FixAnswers old x page (fixed.Got y g) new
@@ -87,10 +87,10 @@ ComesTo old (request.FlushNext number) (Away errand) new = FlushesNext old numbe
 ComesTo old asked out new = ⊥
 
 -- Whether the answer is a refusal.
-abbrev pub is_no : Answer → Bool
+abbrev pub is_no : BookAnswer → Bool
 is_no (No back refusal) = true
 is_no _ = false
 
 -- Where the answer is no refusal, the request's call is done.
-abbrev pub DoesUnless : (old : Parts) → Request → Answer → (new : Parts) → Type 0
+abbrev pub DoesUnless : (old : Parts) → Request → BookAnswer → (new : Parts) → Type 0
 DoesUnless old asked out new = is_no out ≡ false → Does old (call_of old asked) new

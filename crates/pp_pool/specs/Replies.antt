@@ -1,4 +1,4 @@
--- What every site promises of an outcome, whatever others have done meanwhile.
+-- What every site promises of a response, whatever others have done meanwhile.
 use Rattle.std.specs.Prelude.{◌≡◌, ◌≤◌, ℕ, length, Bool, not, Option, Some, None, IfSome, List, is_ok}
 use Rattle.std.specs.Option.{is_some}
 use Rattle.pp_model.specs.declared.moves.Move.{Move}
@@ -14,10 +14,10 @@ use Rattle.pp_vault.specs.Holding.{slot_by}
 use Rattle.pp_vault.specs.Answers.{came_of}
 use Rattle.pp_pool.specs.declared.request.Request.{Request}
 use Rattle.pp_pool.specs.declared.request.Request.TheVariants as request
-use Rattle.pp_pool.specs.declared.outcome.Answer.{Answer}
-use Rattle.pp_pool.specs.declared.outcome.Answer.TheVariants.{Acts, Idle, Leaves, Pinned, Shared, Exclusive, Away}
-use Rattle.pp_pool.specs.declared.outcome.Answer.TheVariants.{Opened, Joined, Flushed, No}
-use Rattle.pp_pool.specs.declared.outcome.Outcome.{Outcome}
+use Rattle.pp_pool.specs.declared.response.BookAnswer.{BookAnswer}
+use Rattle.pp_pool.specs.declared.response.BookAnswer.TheVariants.{Acts, Idle, Leaves, Pinned, Shared, Exclusive, Away}
+use Rattle.pp_pool.specs.declared.response.BookAnswer.TheVariants.{Opened, Joined, Flushed, No}
+use Rattle.pp_pool.specs.declared.response.Response.{Response}
 use Rattle.pp_pool.specs.Performing.{is_no}
 
 -- ---- the event
@@ -57,7 +57,7 @@ IsEventOf asked (Step did reply) = IsMoveOf asked did
 -- The tokens of an answer are of the request's worker, and a guard is of the slot and the page that it was of, a bundle's of
 -- the slot; one of a latch X has an image of 64 bytes or more. A page that joins a bundle brings no guard. What is refused comes
 -- back.
-abbrev pub TokensFit : Request → Answer → Type 0
+abbrev pub TokensFit : Request → BookAnswer → Type 0
 TokensFit asked (No back refusal) = back ≡ asked
 TokensFit (request.Take chair) (Acts x) = x.worker ≡ chair.worker
 TokensFit (request.Fix x page) (Pinned y g) =
@@ -112,16 +112,16 @@ slot_for _ = None
 
 -- An errand is for the request's slot: the one that a fix or a gather names, or the one for which a device has worked. One of
 -- the flusher is for none.
-abbrev pub SlotFits : Request → Answer → Type 0
+abbrev pub SlotFits : Request → BookAnswer → Type 0
 SlotFits asked (Away errand) = duty_slot errand.duty ≡ slot_for asked
 SlotFits asked out = Unit {0}
 
--- ---- an outcome
+-- ---- a response
 
 -- There is an event exactly where the answer is no refusal, and it is the request's; and the tokens fit, an errand's slot
 -- too.
-pub record Replies (asked : Request) (outcome : Outcome) : Type 0 where
-  pub done : is_some outcome.event ≡ not (is_no outcome.answer)
-  pub event : IfSome outcome.event (IsEventOf asked)
-  pub tokens : TokensFit asked outcome.answer
-  pub slot : SlotFits asked outcome.answer
+pub record Replies (asked : Request) (response : Response) : Type 0 where
+  pub done : is_some response.event ≡ not (is_no response.answer)
+  pub event : IfSome response.event (IsEventOf asked)
+  pub tokens : TokensFit asked response.answer
+  pub slot : SlotFits asked response.answer

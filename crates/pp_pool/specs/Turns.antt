@@ -34,9 +34,9 @@ use Rattle.pp_vault.specs.Holding.{slot_by, placed, is_free, all_free, has_bundl
 use Rattle.pp_vault.specs.Lending.{with_body}
 use Rattle.pp_pool.specs.declared.request.Request.{Request}
 use Rattle.pp_pool.specs.declared.request.Request.TheVariants as request
-use Rattle.pp_pool.specs.declared.outcome.Answer.{Answer}
-use Rattle.pp_pool.specs.declared.outcome.Answer.TheVariants as answer
-use Rattle.pp_pool.specs.declared.outcome.Outcome.{Outcome}
+use Rattle.pp_pool.specs.declared.response.BookAnswer.{BookAnswer}
+use Rattle.pp_pool.specs.declared.response.BookAnswer.TheVariants as answer
+use Rattle.pp_pool.specs.declared.response.Response.{Response}
 use Rattle.pp_pool.specs.declared.turned.Turned.{Turned}
 use Rattle.pp_pool.specs.declared.turned.Turned.TheVariants.{Done, NotNow, Ended, NoMemory, Broken}
 use Rattle.pp_pool.specs.declared.site.Site as Site
@@ -119,7 +119,7 @@ guard_asked (request.GiveBack x g) = Some g
 guard_asked _ = None
 
 -- The guard that an answer has in it, if it has one.
-abbrev pub guard_in : Answer → Option Guard
+abbrev pub guard_in : BookAnswer → Option Guard
 guard_in (answer.Pinned x g) = Some (guard.Pin g)
 guard_in (answer.Opened x g) = Some (guard.Bundle g)
 guard_in (answer.Shared x g) = Some (guard.Read g)
@@ -270,7 +270,7 @@ stage_asked (request.AnswerJoin returned) = Some (stage.Back returned)
 stage_asked (request.Flush page) = None
 stage_asked (request.FlushNext number) = None
 
-abbrev pub stage_in : Answer → Option Stage
+abbrev pub stage_in : BookAnswer → Option Stage
 stage_in (answer.Acts x) = Some (stage.In x)
 stage_in (answer.Idle chair) = Some (stage.Idle chair)
 stage_in (answer.Leaves x) = Some (stage.Leaving x)
@@ -284,13 +284,13 @@ stage_in (answer.Flushed clean) = None
 stage_in (answer.No back why) = stage_asked back
 
 -- An image in the guard of an answer has 64 bytes or more.
-abbrev pub IsLong : Answer → Type 0
+abbrev pub IsLong : BookAnswer → Type 0
 IsLong (answer.Exclusive x g) = 64 ≤ length g.image
 IsLong _ = Unit {0}
 
 -- After a latch X the work changes the body of the guard's image, which it is told is the guard's page. What it leaves there
 -- is the body from then on.
-pub record Changes {W : Type 0} (k : Work.Ghosts W) (old : W) (x : Session) (g : WriteGuard) (after : Answer) (new : W)
+pub record Changes {W : Type 0} (k : Work.Ghosts W) (old : W) (x : Session) (g : WriteGuard) (after : BookAnswer) (new : W)
     : Type 0 where
   pub body : List ℕ
   pub left : k.change_leaves old g.page (body_of g.image) body new
@@ -327,8 +327,8 @@ turned_by refusal.Stranger = Broken
 
 -- What the work does with an answer's page, and how the turn ends: after a latch X it changes the page, after a latch S it
 -- sees it. Any other answer stays as it is, the work too, and the turn is done but for a refusal.
-abbrev pub Uses : {S W : Type 0} → Site.Ghosts S → Work.Ghosts W → (site : S) → (room : ℕ) → (old : W) → Answer → Turned
-    → (after : Answer) → (new : W) → Type 0
+abbrev pub Uses : {S W : Type 0} → Site.Ghosts S → Work.Ghosts W → (site : S) → (room : ℕ) → (old : W) → BookAnswer → Turned
+    → (after : BookAnswer) → (new : W) → Type 0
 Uses s k site room old (answer.Exclusive x g) turned after new = Changes k old x g after new × (turned ≡ Done)
 Uses s k site room old (answer.Shared x g) turned after new =
     LooksAt s k site room g old turned new × (after ≡ answer.Shared x g)
@@ -352,18 +352,18 @@ logged_events false event = []
 pub record Makes {S D W : Type 0} (s : Site.Ghosts S) (d : Device.Ghosts D) (k : Work.Ghosts W) (is_logged : Bool)
     (old : Worker S D) (before : W) (ends : Turned) (new : Worker S D) (left : W) : Type 0 where
   pub asked : Request
-  pub outcome : Outcome
-  pub after : Answer
+  pub response : Response
+  pub after : BookAnswer
   pub between : W
   pub asks : Asks d.read_gives d.write_leaves d.calls d.failures old.layout old.hand.stage old.device asked new.device
   pub consults : Consults k old.layout before asked between
   pub own : IsOwn old.hand.guards asked
   pub finds : FindsPlace (places_without old.hand.guards (guard_asked asked)) asked
   pub none : LeavesNone old.hand.guards asked
-  pub given : s.gives old.site asked outcome new.site
-  pub fits : Replies asked outcome
-  pub log : new.log.items ≡ old.log.items ++ logged_events is_logged outcome.event
-  pub uses : Uses s k new.site (room_of new) between outcome.answer ends after left
+  pub given : s.gives old.site asked response new.site
+  pub fits : Replies asked response
+  pub log : new.log.items ≡ old.log.items ++ logged_events is_logged response.event
+  pub uses : Uses s k new.site (room_of new) between response.answer ends after left
   pub stage : stage_in after ≡ Some new.hand.stage
   pub guards : new.hand.guards ≡ places_with (places_without old.hand.guards (guard_asked asked)) (guard_in after)
 

@@ -8,8 +8,8 @@ ghost use Rattle.pp_pool.specs.Performing.{ComesTo, DoesUnless};
 ghost use Rattle.pp_pool.specs.Replies.{TokensFit};
 ghost use Rattle.pp_pool.specs.Requests.{can_join, bundle_asked, bundle_served};
 
-use crate::outcome::Answer;
 use crate::request::Request;
+use crate::response::BookAnswer;
 use pp_plan::Ask;
 use pp_vault::{
     Answered, BundleGuard, Chair, Fixed, Guard, Leaver, PinGuard, ReadGuard, Refusal, Returned,
@@ -17,7 +17,7 @@ use pp_vault::{
 };
 
 /// Makes the call of the request.
-pub(crate) fn ask(vault: &mut Vault, request: Request) -> Answer
+pub(crate) fn ask(vault: &mut Vault, request: Request) -> BookAnswer
     ensures comes { ComesTo vault.old request result vault.new }
     ensures does { DoesUnless vault.old request result vault.new }
     ensures tokens { TokensFit request result }
@@ -46,98 +46,98 @@ pub(crate) fn ask(vault: &mut Vault, request: Request) -> Answer
 // ---- a worker and its plan
 
 #[tactic(auto, using(crate::proofs::Noted::refused_does))]
-fn take(vault: &mut Vault, chair: Chair) -> Answer
+fn take(vault: &mut Vault, chair: Chair) -> BookAnswer
     ensures comes { ComesTo vault.old (request.Take chair) result vault.new }
     ensures does { DoesUnless vault.old (request.Take chair) result vault.new }
     ensures tokens { TokensFit (request.Take chair) result }
 {
     match vault.take(chair) {
-        Ok(session) => Answer::Acts(session),
-        Err((chair, refusal)) => Answer::No(Request::Take(chair), refusal),
+        Ok(session) => BookAnswer::Acts(session),
+        Err((chair, refusal)) => BookAnswer::No(Request::Take(chair), refusal),
     }
 }
 
 #[tactic(auto, using(crate::proofs::Noted::refused_does))]
-fn choose(vault: &mut Vault, session: Session, branch: u32) -> Answer
+fn choose(vault: &mut Vault, session: Session, branch: u32) -> BookAnswer
     ensures comes { ComesTo vault.old (request.Choose session branch) result vault.new }
     ensures does { DoesUnless vault.old (request.Choose session branch) result vault.new }
     ensures tokens { TokensFit (request.Choose session branch) result }
 {
     match vault.choose(session, branch) {
-        Ok(session) => Answer::Acts(session),
-        Err((session, refusal)) => Answer::No(Request::Choose(session, branch), refusal),
+        Ok(session) => BookAnswer::Acts(session),
+        Err((session, refusal)) => BookAnswer::No(Request::Choose(session, branch), refusal),
     }
 }
 
 #[tactic(auto, using(crate::proofs::Noted::refused_does))]
-fn finish(vault: &mut Vault, session: Session) -> Answer
+fn finish(vault: &mut Vault, session: Session) -> BookAnswer
     ensures comes { ComesTo vault.old (request.Finish session) result vault.new }
     ensures does { DoesUnless vault.old (request.Finish session) result vault.new }
     ensures tokens { TokensFit (request.Finish session) result }
 {
     match vault.finish(session) {
-        Ok(chair) => Answer::Idle(chair),
-        Err((session, refusal)) => Answer::No(Request::Finish(session), refusal),
+        Ok(chair) => BookAnswer::Idle(chair),
+        Err((session, refusal)) => BookAnswer::No(Request::Finish(session), refusal),
     }
 }
 
 #[tactic(auto, using(crate::proofs::Noted::refused_does))]
-fn end(vault: &mut Vault, leaver: Leaver) -> Answer
+fn end(vault: &mut Vault, leaver: Leaver) -> BookAnswer
     ensures comes { ComesTo vault.old (request.End leaver) result vault.new }
     ensures does { DoesUnless vault.old (request.End leaver) result vault.new }
     ensures tokens { TokensFit (request.End leaver) result }
 {
     match vault.end(leaver) {
-        Ok(chair) => Answer::Idle(chair),
-        Err((leaver, refusal)) => Answer::No(Request::End(leaver), refusal),
+        Ok(chair) => BookAnswer::Idle(chair),
+        Err((leaver, refusal)) => BookAnswer::No(Request::End(leaver), refusal),
     }
 }
 
 #[tactic(auto, using(crate::proofs::Noted::refused_does, crate::proofs::Tokens::back_same))]
-fn give_back(vault: &mut Vault, leaver: Leaver, guard: Guard) -> Answer
+fn give_back(vault: &mut Vault, leaver: Leaver, guard: Guard) -> BookAnswer
     ensures comes { ComesTo vault.old (request.GiveBack leaver guard) result vault.new }
     ensures does { DoesUnless vault.old (request.GiveBack leaver guard) result vault.new }
     ensures tokens { TokensFit (request.GiveBack leaver guard) result }
 {
     match vault.give_back(leaver, guard) {
-        Ok(leaver) => Answer::Leaves(leaver),
-        Err((leaver, guard, refusal)) => Answer::No(Request::GiveBack(leaver, guard), refusal),
+        Ok(leaver) => BookAnswer::Leaves(leaver),
+        Err((leaver, guard, refusal)) => BookAnswer::No(Request::GiveBack(leaver, guard), refusal),
     }
 }
 
 // ---- a worker and its slots
 
 #[tactic(auto, using(crate::proofs::Noted::refused_does, crate::proofs::Tokens::sent_worker))]
-fn fix(vault: &mut Vault, session: Session, page: u32) -> Answer
+fn fix(vault: &mut Vault, session: Session, page: u32) -> BookAnswer
     ensures comes { ComesTo vault.old (request.Fix session page) result vault.new }
     ensures does { DoesUnless vault.old (request.Fix session page) result vault.new }
     ensures tokens { TokensFit (request.Fix session page) result }
 {
     match vault.fix(session, page) {
-        Fixed::Got(session, guard) => Answer::Pinned(session, guard),
-        Fixed::Opened(session, guard) => Answer::Opened(session, guard),
-        Fixed::Joined(session) => Answer::Joined(session),
-        Fixed::Away(errand) => Answer::Away(errand),
-        Fixed::No(session, refusal) => Answer::No(Request::Fix(session, page), refusal),
+        Fixed::Got(session, guard) => BookAnswer::Pinned(session, guard),
+        Fixed::Opened(session, guard) => BookAnswer::Opened(session, guard),
+        Fixed::Joined(session) => BookAnswer::Joined(session),
+        Fixed::Away(errand) => BookAnswer::Away(errand),
+        Fixed::No(session, refusal) => BookAnswer::No(Request::Fix(session, page), refusal),
     }
 }
 
 #[tactic(auto, using(crate::proofs::Noted::refused_does, crate::proofs::Tokens::sent_worker, crate::proofs::Joining::fix_joins, crate::proofs::Joining::fix_refused, crate::proofs::Joining::join_strange))]
-fn join(vault: &mut Vault, session: Session, page: u32) -> Answer
+fn join(vault: &mut Vault, session: Session, page: u32) -> BookAnswer
     ensures comes { ComesTo vault.old (request.Join session page) result vault.new }
     ensures does { DoesUnless vault.old (request.Join session page) result vault.new }
     ensures tokens { TokensFit (request.Join session page) result }
 {
     if !may_join(vault, &session) {
         vault.refuse();
-        return Answer::No(Request::Join(session, page), Refusal::Stranger);
+        return BookAnswer::No(Request::Join(session, page), Refusal::Stranger);
     }
     // There is a state that the vault stands for, and in it the bundle holds a page. So no guard comes.
     vault.known();
     match vault.fix(session, page) {
-        Fixed::Joined(session) => Answer::Joined(session),
-        Fixed::Away(errand) => Answer::Away(errand),
-        Fixed::No(session, refusal) => Answer::No(Request::Join(session, page), refusal),
+        Fixed::Joined(session) => BookAnswer::Joined(session),
+        Fixed::Away(errand) => BookAnswer::Away(errand),
+        Fixed::No(session, refusal) => BookAnswer::No(Request::Join(session, page), refusal),
         _ => unreachable!(),
     }
 }
@@ -154,81 +154,81 @@ fn may_join(vault: &Vault, session: &Session) -> bool
 }
 
 #[tactic(auto, using(crate::proofs::Noted::refused_does))]
-fn unfix(vault: &mut Vault, session: Session, guard: PinGuard) -> Answer
+fn unfix(vault: &mut Vault, session: Session, guard: PinGuard) -> BookAnswer
     ensures comes { ComesTo vault.old (request.Unfix session guard) result vault.new }
     ensures does { DoesUnless vault.old (request.Unfix session guard) result vault.new }
     ensures tokens { TokensFit (request.Unfix session guard) result }
 {
     match vault.unfix(session, guard) {
-        Ok(session) => Answer::Acts(session),
-        Err((session, guard, refusal)) => Answer::No(Request::Unfix(session, guard), refusal),
+        Ok(session) => BookAnswer::Acts(session),
+        Err((session, guard, refusal)) => BookAnswer::No(Request::Unfix(session, guard), refusal),
     }
 }
 
 #[tactic(auto, using(crate::proofs::Noted::refused_does))]
-fn scatter(vault: &mut Vault, session: Session, guard: BundleGuard) -> Answer
+fn scatter(vault: &mut Vault, session: Session, guard: BundleGuard) -> BookAnswer
     ensures comes { ComesTo vault.old (request.Scatter session guard) result vault.new }
     ensures does { DoesUnless vault.old (request.Scatter session guard) result vault.new }
     ensures tokens { TokensFit (request.Scatter session guard) result }
 {
     match vault.scatter(session, guard) {
-        Ok(session) => Answer::Acts(session),
-        Err((session, guard, refusal)) => Answer::No(Request::Scatter(session, guard), refusal),
+        Ok(session) => BookAnswer::Acts(session),
+        Err((session, guard, refusal)) => BookAnswer::No(Request::Scatter(session, guard), refusal),
     }
 }
 
 #[tactic(auto, using(crate::proofs::Noted::refused_does))]
-fn latch_shared(vault: &mut Vault, session: Session, guard: PinGuard) -> Answer
+fn latch_shared(vault: &mut Vault, session: Session, guard: PinGuard) -> BookAnswer
     ensures comes { ComesTo vault.old (request.LatchShared session guard) result vault.new }
     ensures does { DoesUnless vault.old (request.LatchShared session guard) result vault.new }
     ensures tokens { TokensFit (request.LatchShared session guard) result }
 {
     match vault.latch_shared(session, guard) {
-        Ok((session, guard)) => Answer::Shared(session, guard),
+        Ok((session, guard)) => BookAnswer::Shared(session, guard),
         Err((session, guard, refusal)) => {
-            Answer::No(Request::LatchShared(session, guard), refusal)
+            BookAnswer::No(Request::LatchShared(session, guard), refusal)
         }
     }
 }
 
 #[tactic(auto, using(crate::proofs::Noted::refused_does, crate::proofs::Tokens::latched_long))]
-fn latch_exclusive(vault: &mut Vault, session: Session, guard: PinGuard) -> Answer
+fn latch_exclusive(vault: &mut Vault, session: Session, guard: PinGuard) -> BookAnswer
     ensures comes { ComesTo vault.old (request.LatchExclusive session guard) result vault.new }
     ensures does { DoesUnless vault.old (request.LatchExclusive session guard) result vault.new }
     ensures tokens { TokensFit (request.LatchExclusive session guard) result }
 {
     match vault.latch_exclusive(session, guard) {
-        Ok((session, guard)) => Answer::Exclusive(session, guard),
+        Ok((session, guard)) => BookAnswer::Exclusive(session, guard),
         Err((session, guard, refusal)) => {
-            Answer::No(Request::LatchExclusive(session, guard), refusal)
+            BookAnswer::No(Request::LatchExclusive(session, guard), refusal)
         }
     }
 }
 
 #[tactic(auto, using(crate::proofs::Noted::refused_does))]
-fn unlatch_shared(vault: &mut Vault, session: Session, guard: ReadGuard) -> Answer
+fn unlatch_shared(vault: &mut Vault, session: Session, guard: ReadGuard) -> BookAnswer
     ensures comes { ComesTo vault.old (request.UnlatchShared session guard) result vault.new }
     ensures does { DoesUnless vault.old (request.UnlatchShared session guard) result vault.new }
     ensures tokens { TokensFit (request.UnlatchShared session guard) result }
 {
     match vault.unlatch_shared(session, guard) {
-        Ok((session, guard)) => Answer::Pinned(session, guard),
+        Ok((session, guard)) => BookAnswer::Pinned(session, guard),
         Err((session, guard, refusal)) => {
-            Answer::No(Request::UnlatchShared(session, guard), refusal)
+            BookAnswer::No(Request::UnlatchShared(session, guard), refusal)
         }
     }
 }
 
 #[tactic(auto, using(crate::proofs::Noted::refused_does))]
-fn unlatch_exclusive(vault: &mut Vault, session: Session, guard: WriteGuard) -> Answer
+fn unlatch_exclusive(vault: &mut Vault, session: Session, guard: WriteGuard) -> BookAnswer
     ensures comes { ComesTo vault.old (request.UnlatchExclusive session guard) result vault.new }
     ensures does { DoesUnless vault.old (request.UnlatchExclusive session guard) result vault.new }
     ensures tokens { TokensFit (request.UnlatchExclusive session guard) result }
 {
     match vault.unlatch_exclusive(session, guard) {
-        Ok((session, guard)) => Answer::Pinned(session, guard),
+        Ok((session, guard)) => BookAnswer::Pinned(session, guard),
         Err((session, guard, refusal)) => {
-            Answer::No(Request::UnlatchExclusive(session, guard), refusal)
+            BookAnswer::No(Request::UnlatchExclusive(session, guard), refusal)
         }
     }
 }
@@ -236,38 +236,38 @@ fn unlatch_exclusive(vault: &mut Vault, session: Session, guard: WriteGuard) -> 
 // ---- a device, and the flusher
 
 #[tactic(auto, using(crate::proofs::Noted::refused_does, crate::proofs::Tokens::got_worker, crate::proofs::Tokens::got_slot, crate::proofs::Tokens::opened_worker, crate::proofs::Tokens::opened_slot, crate::proofs::Tokens::joined_worker, crate::proofs::Tokens::away_worker, crate::proofs::Tokens::lost_worker, crate::proofs::Tokens::flushed_worker))]
-fn answer(vault: &mut Vault, returned: Returned) -> Answer
+fn answer(vault: &mut Vault, returned: Returned) -> BookAnswer
     ensures comes { ComesTo vault.old (request.Answer returned) result vault.new }
     ensures does { DoesUnless vault.old (request.Answer returned) result vault.new }
     ensures tokens { TokensFit (request.Answer returned) result }
 {
     match vault.answer(returned) {
-        Answered::Got(session, guard) => Answer::Pinned(session, guard),
-        Answered::Opened(session, guard) => Answer::Opened(session, guard),
-        Answered::Joined(session) => Answer::Joined(session),
-        Answered::Away(errand) => Answer::Away(errand),
-        Answered::Lost(leaver) => Answer::Leaves(leaver),
-        Answered::Flushed(clean) => Answer::Flushed(clean),
-        Answered::No(returned, refusal) => Answer::No(Request::Answer(returned), refusal),
+        Answered::Got(session, guard) => BookAnswer::Pinned(session, guard),
+        Answered::Opened(session, guard) => BookAnswer::Opened(session, guard),
+        Answered::Joined(session) => BookAnswer::Joined(session),
+        Answered::Away(errand) => BookAnswer::Away(errand),
+        Answered::Lost(leaver) => BookAnswer::Leaves(leaver),
+        Answered::Flushed(clean) => BookAnswer::Flushed(clean),
+        Answered::No(returned, refusal) => BookAnswer::No(Request::Answer(returned), refusal),
     }
 }
 
 #[tactic(auto, using(crate::proofs::Noted::refused_does, crate::proofs::Tokens::joined_worker, crate::proofs::Tokens::away_worker, crate::proofs::Tokens::lost_worker, crate::proofs::Joining::answer_joins, crate::proofs::Joining::answer_refused, crate::proofs::Joining::answer_strange))]
-fn answer_join(vault: &mut Vault, returned: Returned) -> Answer
+fn answer_join(vault: &mut Vault, returned: Returned) -> BookAnswer
     ensures comes { ComesTo vault.old (request.AnswerJoin returned) result vault.new }
     ensures does { DoesUnless vault.old (request.AnswerJoin returned) result vault.new }
     ensures tokens { TokensFit (request.AnswerJoin returned) result }
 {
     if !may_answer_join(vault, &returned) {
         vault.refuse();
-        return Answer::No(Request::AnswerJoin(returned), Refusal::Stranger);
+        return BookAnswer::No(Request::AnswerJoin(returned), Refusal::Stranger);
     }
     vault.known();
     match vault.answer(returned) {
-        Answered::Joined(session) => Answer::Joined(session),
-        Answered::Away(errand) => Answer::Away(errand),
-        Answered::Lost(leaver) => Answer::Leaves(leaver),
-        Answered::No(returned, refusal) => Answer::No(Request::AnswerJoin(returned), refusal),
+        Answered::Joined(session) => BookAnswer::Joined(session),
+        Answered::Away(errand) => BookAnswer::Away(errand),
+        Answered::Lost(leaver) => BookAnswer::Leaves(leaver),
+        Answered::No(returned, refusal) => BookAnswer::No(Request::AnswerJoin(returned), refusal),
         _ => unreachable!(),
     }
 }
@@ -283,25 +283,25 @@ fn may_answer_join(vault: &Vault, returned: &Returned) -> bool
 }
 
 #[tactic(auto, using(crate::proofs::Noted::refused_does))]
-fn flush(vault: &mut Vault, page: u32) -> Answer
+fn flush(vault: &mut Vault, page: u32) -> BookAnswer
     ensures comes { ComesTo vault.old (request.Flush page) result vault.new }
     ensures does { DoesUnless vault.old (request.Flush page) result vault.new }
     ensures tokens { TokensFit (request.Flush page) result }
 {
     match vault.flush(page) {
-        Ok(errand) => Answer::Away(errand),
-        Err(refusal) => Answer::No(Request::Flush(page), refusal),
+        Ok(errand) => BookAnswer::Away(errand),
+        Err(refusal) => BookAnswer::No(Request::Flush(page), refusal),
     }
 }
 
 #[tactic(auto, using(crate::proofs::Noted::refused_does))]
-fn flush_next(vault: &mut Vault, number: u32) -> Answer
+fn flush_next(vault: &mut Vault, number: u32) -> BookAnswer
     ensures comes { ComesTo vault.old (request.FlushNext number) result vault.new }
     ensures does { DoesUnless vault.old (request.FlushNext number) result vault.new }
     ensures tokens { TokensFit (request.FlushNext number) result }
 {
     match vault.flush_next(number) {
-        Ok(errand) => Answer::Away(errand),
-        Err(refusal) => Answer::No(Request::FlushNext(number), refusal),
+        Ok(errand) => BookAnswer::Away(errand),
+        Err(refusal) => BookAnswer::No(Request::FlushNext(number), refusal),
     }
 }

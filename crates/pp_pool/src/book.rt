@@ -21,8 +21,8 @@ ghost use Rattle.pp_model.specs.Submitting.{submit_error};
 
 use crate::asking::ask;
 use crate::error::BookError;
-use crate::outcome::Outcome;
 use crate::request::Request;
+use crate::response::Response;
 use pp_model::{Event, SubmitError, Turn};
 use pp_settings::Settings;
 use pp_vault::{Accepted, Hands, PlanId, ReadGuard, Vault, VaultError};
@@ -169,7 +169,7 @@ impl Book {
     /// possible; its reply is the model's, in the state that the journal leads to. The answer is then the vault's. Else
     /// the request comes back with its tokens, and with the cause: [`pp_vault::Refusal::Stranger`] where a token
     /// doesn't fit. It takes no memory.
-    pub fn perform(&mut self, request: Request) -> Outcome
+    pub fn perform(&mut self, request: Request) -> Response
         ensures event { result.event ≡ event_for self.old request }
         ensures journal { self.new.journal ≡ self.old.journal ++ events_in result.event }
         ensures answer { ComesTo self.old.vault request result.answer self.new.vault }
@@ -182,7 +182,7 @@ impl Book {
     {
         let answer = ask(&mut self.vault, request);
         let event = noted(&self.vault, &mut self.journal);
-        Outcome { event, answer }
+        Response { event, answer }
     }
 
     /// Who moves next; see [`Vault::next_possible`].

@@ -5,8 +5,8 @@ ghost use Rattle.pp_pool.specs.Flushings.{IsFlush, AsksFlush, IsFlushersAsk, IsF
 ghost use Rattle.pp_pool.specs.Flushings.{ends_in, failures_in, flushing_asked, flushing_after, flush_turned, flush_turned_by};
 ghost use Rattle.pp_pool.specs.Flushings.{from_after as from_then};
 
-use crate::outcome::{Answer, Outcome};
 use crate::request::Request;
+use crate::response::{BookAnswer, Response};
 use crate::site::Site;
 use crate::turned::Turned;
 use core::mem;
@@ -98,7 +98,7 @@ impl<S: Site, D: Device> Flusher<S, D> {
             from,
         } = self;
         let request = next_request(flushing, from, &mut device);
-        let Outcome { event, answer } = site.perform(request);
+        let Response { event, answer } = site.perform(request);
         count(event, &mut ended, &mut failed);
         let (flushing, turned) = in_hand(answer);
         let flusher = Flusher {
@@ -167,16 +167,16 @@ fn from_after(from: u32, event: Option<Event>) -> u32
 }
 
 /// What the flusher has in hand after an answer, and how the turn ends.
-fn in_hand(answer: Answer) -> (Option<Flushing>, Turned)
+fn in_hand(answer: BookAnswer) -> (Option<Flushing>, Turned)
     requires { IsFlushers answer }
     ensures hand { result.0 ≡ flushing_after answer }
     ensures flush { IsFlush result.0 }
     ensures turned { result.1 ≡ flush_turned answer }
 {
     match answer {
-        Answer::Away(errand) => (Some(Flushing::Out(errand)), Turned::Done),
-        Answer::Flushed(_) => (None, Turned::Done),
-        Answer::No(request, refusal) => (back_in_hand(request), turned_by(refusal)),
+        BookAnswer::Away(errand) => (Some(Flushing::Out(errand)), Turned::Done),
+        BookAnswer::Flushed(_) => (None, Turned::Done),
+        BookAnswer::No(request, refusal) => (back_in_hand(request), turned_by(refusal)),
         _ => unreachable!(),
     }
 }

@@ -4,12 +4,12 @@ ghost use Rattle.std.specs.Prelude.{◌≡◌, ◌≤◌, ◌-◌, ◌&&◌, nat
 ghost use Rattle.pp_device.specs.Image.{head_of, body_of};
 ghost use Rattle.pp_vault.specs.declared.guards.ReadGuard.{ReadGuard};
 ghost use Rattle.pp_pool.specs.declared.request.Request.{Request};
-ghost use Rattle.pp_pool.specs.declared.outcome.Outcome.{Outcome};
+ghost use Rattle.pp_pool.specs.declared.response.Response.{Response};
 ghost use Rattle.pp_pool.specs.Replies.{Replies};
 
 use crate::book::Book;
-use crate::outcome::Outcome;
 use crate::request::Request;
+use crate::response::Response;
 use pp_device::image;
 use pp_device::image::HEAD;
 use pp_vault::ReadGuard;
@@ -20,21 +20,21 @@ pub(crate) const SHORTEST: usize = 64;
 /// Performs requests on a book: its own, or one that it shares with others.
 ///
 /// Each site says what it gives by a relation of its own, `gives`: from the site as it was, with this request, this
-/// outcome, and the site as it is then. Of every outcome a caller knows that it fits its request (`Replies`): there is
+/// response, and the site as it is then. Of every response a caller knows that it fits its request (`Replies`): there is
 /// an event exactly where the answer is no refusal, it is of the request's move, the tokens are of the request's
 /// worker, and what is refused comes back.
 ///
 /// Two more relations say what it answers without an event: `shows`, whether it shows the page of this guard, with the
 /// slice before and after, and `tells`, which number it takes for the greatest cost of a submitted plan.
 pub trait Site {
-    ghost gives: { Self → Request → Outcome → Self → Type 0 };
+    ghost gives: { Self → Request → Response → Self → Type 0 };
 
     ghost shows: { Self → ReadGuard → (before : List ℕ) → (shown : Bool) → (after : List ℕ) → Type 0 };
 
     ghost tells: { Self → (most : ℕ) → Type 0 };
 
     /// Performs the request, as [`Book::perform`] does. A shared site may wait before.
-    fn perform(&mut self, request: Request) -> Outcome
+    fn perform(&mut self, request: Request) -> Response
         ensures given { gives self.old request result self.new }
         ensures fits { Replies request result };
 
@@ -86,7 +86,7 @@ impl Site for OwnSite {
     ghost use Rattle.pp_pool.specs.Fronts.{ShowsPage};
 
     // The book's event and its answer, from the state that its journal leads to.
-    ghost gives = { λ s request outcome t. Performs s.book request outcome t.book };
+    ghost gives = { λ s request response t. Performs s.book request response t.book };
 
     // The front of the page's image, exactly where the guard is one of that state and the slice has 64 bytes at least and no
     // more than a page has.
@@ -94,7 +94,7 @@ impl Site for OwnSite {
 
     ghost tells = { λ s most. most ≡ greatest_cost (plans_of s.book) };
 
-    fn perform(&mut self, request: Request) -> Outcome {
+    fn perform(&mut self, request: Request) -> Response {
         self.book.perform(request)
     }
 

@@ -5,12 +5,12 @@ ghost use Rattle.pp_vault.specs.Holding.{slot_by, is_free};
 ghost use Rattle.pp_pool.specs.Turns.{stage_in, guard_in, stage_asked, guard_asked, places_with};
 
 use crate::asked::put;
-use crate::outcome::Answer;
 use crate::request::Request;
+use crate::response::BookAnswer;
 use pp_vault::{Guard, Guards, Stage};
 
 /// The stage of the answer's tokens. Its guard, if there is one, comes into its place.
-pub(crate) fn stage_after(guards: &mut Guards, answer: Answer) -> Stage
+pub(crate) fn stage_after(guards: &mut Guards, answer: BookAnswer) -> Stage
     requires stage { IsSome (stage_in answer) }
     requires place { IfSome (guard_in answer) (λ guard. is_free guards.old (slot_by guard) ≡ true) }
     ensures stage { stage_in answer ≡ Some result }
@@ -25,23 +25,23 @@ pub(crate) fn stage_after(guards: &mut Guards, answer: Answer) -> Stage
 }
 
 /// The tokens of an answer: the stage's, and a guard, if there is one.
-fn tokens(answer: Answer) -> (Stage, Option<Guard>)
+fn tokens(answer: BookAnswer) -> (Stage, Option<Guard>)
     requires { IsSome (stage_in answer) }
     ensures stage { stage_in answer ≡ Some result.0 }
     ensures guard { result.1 ≡ guard_in answer }
 {
     match answer {
-        Answer::Acts(session) => (Stage::In(session), None),
-        Answer::Idle(chair) => (Stage::Idle(chair), None),
-        Answer::Leaves(leaver) => (Stage::Leaving(leaver), None),
-        Answer::Away(errand) => (Stage::Out(errand), None),
-        Answer::Pinned(session, guard) => (Stage::In(session), Some(Guard::Pin(guard))),
-        Answer::Opened(session, guard) => (Stage::In(session), Some(Guard::Bundle(guard))),
-        Answer::Joined(session) => (Stage::In(session), None),
-        Answer::Shared(session, guard) => (Stage::In(session), Some(Guard::Read(guard))),
-        Answer::Exclusive(session, guard) => (Stage::In(session), Some(Guard::Write(guard))),
-        Answer::Flushed(_) => unreachable!(),
-        Answer::No(request, _refusal) => tokens_back(request),
+        BookAnswer::Acts(session) => (Stage::In(session), None),
+        BookAnswer::Idle(chair) => (Stage::Idle(chair), None),
+        BookAnswer::Leaves(leaver) => (Stage::Leaving(leaver), None),
+        BookAnswer::Away(errand) => (Stage::Out(errand), None),
+        BookAnswer::Pinned(session, guard) => (Stage::In(session), Some(Guard::Pin(guard))),
+        BookAnswer::Opened(session, guard) => (Stage::In(session), Some(Guard::Bundle(guard))),
+        BookAnswer::Joined(session) => (Stage::In(session), None),
+        BookAnswer::Shared(session, guard) => (Stage::In(session), Some(Guard::Read(guard))),
+        BookAnswer::Exclusive(session, guard) => (Stage::In(session), Some(Guard::Write(guard))),
+        BookAnswer::Flushed(_) => unreachable!(),
+        BookAnswer::No(request, _refusal) => tokens_back(request),
     }
 }
 

@@ -10,7 +10,7 @@ ghost use Rattle.pp_pool.specs.Turns.{KeepsPlace, keeps_place, logged_events};
 ghost use Rattle.pp_pool.specs.Turns.{has_errand as errand_is_there, turned_by as turned_then};
 
 use crate::asked::next;
-use crate::outcome::{Answer, Outcome};
+use crate::response::{BookAnswer, Response};
 use crate::site::{SHORTEST, Site};
 use crate::taken::stage_after;
 use crate::turned::Turned;
@@ -278,7 +278,7 @@ fn asked<S: Site, D: Device, W: Work>(
 {
     match next(stage, guards, layout, device, work) {
         Ok(request) => {
-            let Outcome { event, answer } = site.perform(request);
+            let Response { event, answer } = site.perform(request);
             let is_logged = add(log, event);
             let (answer, turned) = used(answer, site, seen, work);
             (stage_after(guards, answer), ended(is_logged, turned))
@@ -314,28 +314,28 @@ fn ended(is_logged: bool, turned: Turned) -> Turned
 
 /// What the work does with an answer's page, and how the turn ends.
 fn used<S: Site, W: Work>(
-    answer: Answer,
+    answer: BookAnswer,
     site: &mut S,
     seen: &mut [u8],
     work: &mut W,
-) -> (Answer, Turned)
+) -> (BookAnswer, Turned)
     requires { IsLong answer }
     ensures uses { Uses S.Site W.Work site.old (length seen.old) work.old answer result.1 result.0 work.new }
     ensures site { site.new ≡ site.old }
 {
     match answer {
-        Answer::Exclusive(session, mut guard) => {
+        BookAnswer::Exclusive(session, mut guard) => {
             let page = guard.page();
             work.change(page, guard.body_mut());
-            (Answer::Exclusive(session, guard), Turned::Done)
+            (BookAnswer::Exclusive(session, guard), Turned::Done)
         }
-        Answer::Shared(session, guard) => {
+        BookAnswer::Shared(session, guard) => {
             let turned = see(site, &guard, seen, work);
-            (Answer::Shared(session, guard), turned)
+            (BookAnswer::Shared(session, guard), turned)
         }
-        Answer::No(request, refusal) => {
+        BookAnswer::No(request, refusal) => {
             let turned = turned_by(refusal);
-            (Answer::No(request, refusal), turned)
+            (BookAnswer::No(request, refusal), turned)
         }
         answer => (answer, Turned::Done),
     }

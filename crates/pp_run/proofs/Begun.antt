@@ -11,7 +11,7 @@ use Rattle.pp_model.specs.declared.moves.Move.{Move}
 use Rattle.pp_model.specs.declared.reply.Reply.{Reply}
 use Rattle.pp_vault.specs.Calls.{told}
 use Rattle.pp_pool.specs.declared.request.Request.{Request}
-use Rattle.pp_pool.specs.declared.outcome.Outcome.{Outcome}
+use Rattle.pp_pool.specs.declared.response.Response.{Response}
 use Rattle.pp_pool.specs.Parts.{Parts, state_of}
 use Rattle.pp_pool.specs.Requests.{call_of, events_in}
 use Rattle.pp_pool.specs.Performs.{Performs}
@@ -73,20 +73,20 @@ adds_a_move : (o : Option (Move × Reply)) → list_all is_move (events_in (opti
 adds_a_move None = refl
 adds_a_move (Some t) = refl
 
-pub performs_submits : (n : ℕ) (old : Parts) (asked : Request) (outcome : Outcome) (new : Parts)
-    → Performs old asked outcome new → take n old.journal ≡ submits 0 n → take n new.journal ≡ submits 0 n
-performs_submits n old asked outcome new p begins =
+pub performs_submits : (n : ℕ) (old : Parts) (asked : Request) (response : Response) (new : Parts)
+    → Performs old asked response new → take n old.journal ≡ submits 0 n → take n new.journal ≡ submits 0 n
+performs_submits n old asked response new p begins =
     ap (take n) p.journal
-    ∙ (take-append-le n old.journal (events_in outcome.event) (reaches n old.journal begins) ∙ begins)
+    ∙ (take-append-le n old.journal (events_in response.event) (reaches n old.journal begins) ∙ begins)
 
-pub performs_moves : (n : ℕ) (old : Parts) (asked : Request) (outcome : Outcome) (new : Parts)
-    → Performs old asked outcome new → take n old.journal ≡ submits 0 n
+pub performs_moves : (n : ℕ) (old : Parts) (asked : Request) (response : Response) (new : Parts)
+    → Performs old asked response new → take n old.journal ≡ submits 0 n
     → list_all is_move (drop n old.journal) ≡ true → list_all is_move (drop n new.journal) ≡ true
-performs_moves n old asked outcome new p begins moves =
-    let added : list_all is_move (events_in outcome.event) ≡ true
+performs_moves n old asked response new p begins moves =
+    let added : list_all is_move (events_in response.event) ≡ true
     = ap (λ e. list_all is_move (events_in e)) p.event
     ∙ adds_a_move (told (state_of old) (call_of old.vault asked (state_of old))) in
     ap (λ es. list_all is_move (drop n es)) p.journal
-    ∙ (ap (list_all is_move) (drop-append-le n old.journal (events_in outcome.event) (reaches n old.journal begins))
-    ∙ (list_all-append is_move (drop n old.journal) (events_in outcome.event)
-    ∙ (ap (λ b. b && list_all is_move (events_in outcome.event)) moves ∙ added)))
+    ∙ (ap (list_all is_move) (drop-append-le n old.journal (events_in response.event) (reaches n old.journal begins))
+    ∙ (list_all-append is_move (drop n old.journal) (events_in response.event)
+    ∙ (ap (λ b. b && list_all is_move (events_in response.event)) moves ∙ added)))

@@ -17,9 +17,9 @@ use Rattle.pp_vault.specs.declared.hands.Flushing.TheVariants as flushing
 use Rattle.pp_vault.specs.Duties.{duty_worker}
 use Rattle.pp_pool.specs.declared.request.Request.{Request}
 use Rattle.pp_pool.specs.declared.request.Request.TheVariants as request
-use Rattle.pp_pool.specs.declared.outcome.Answer.{Answer}
-use Rattle.pp_pool.specs.declared.outcome.Answer.TheVariants as answer
-use Rattle.pp_pool.specs.declared.outcome.Outcome.{Outcome}
+use Rattle.pp_pool.specs.declared.response.BookAnswer.{BookAnswer}
+use Rattle.pp_pool.specs.declared.response.BookAnswer.TheVariants as answer
+use Rattle.pp_pool.specs.declared.response.Response.{Response}
 use Rattle.pp_pool.specs.declared.turned.Turned.TheVariants.{Done, Ended}
 use Rattle.pp_pool.specs.declared.flusher.Flusher.{Flusher}
 use Rattle.pp_pool.specs.Performing.{is_no}
@@ -47,7 +47,7 @@ not_done (refusal.OffPlan cause.NotHeld) e = cc
 not_done (refusal.OffPlan cause.NotEnded) e = cc
 not_done refusal.Stranger e = cc
 
-done_is_yes : (out : Answer) → Done ≡ flush_turned out → is_no out ≡ false
+done_is_yes : (out : BookAnswer) → Done ≡ flush_turned out → is_no out ≡ false
 done_is_yes (answer.Acts x) h = refl
 done_is_yes (answer.Idle x) h = refl
 done_is_yes (answer.Leaves x) h = refl
@@ -60,7 +60,7 @@ done_is_yes (answer.Away errand) h = refl
 done_is_yes (answer.Flushed clean) h = refl
 done_is_yes (answer.No back why) h = absurd (not_done why (sym h))
 
-ended_is_no : (out : Answer) → Ended ≡ flush_turned out → is_no out ≡ true
+ended_is_no : (out : BookAnswer) → Ended ≡ flush_turned out → is_no out ≡ true
 ended_is_no (answer.Acts x) h = absurd cc
 ended_is_no (answer.Idle x) h = absurd cc
 ended_is_no (answer.Leaves x) h = absurd cc
@@ -74,7 +74,7 @@ ended_is_no (answer.Flushed clean) h = absurd cc
 ended_is_no (answer.No back why) h = refl
 
 -- What is in hand after a turn that was done has no answer of a device.
-untold_after : (out : Answer) → is_no out ≡ false → HoldsNoAnswer (flushing_after out)
+untold_after : (out : BookAnswer) → is_no out ≡ false → HoldsNoAnswer (flushing_after out)
 untold_after (answer.Acts x) h = tt
 untold_after (answer.Idle x) h = tt
 untold_after (answer.Leaves x) h = tt
@@ -147,7 +147,7 @@ module _ {D : Type 0} (reads : D → ℕ → List ℕ → DeviceAnswer → List 
   asked_ends (Some (flushing.Back returned)) from old asked new event flush untold asks t = absurd untold
 
   -- A flusher with nothing in hand after a refusal has called no device.
-  none_called : (hand : Option Flushing) (from : ℕ) (old : D) (asked : Request) (new : D) (out : Answer)
+  none_called : (hand : Option Flushing) (from : ℕ) (old : D) (asked : Request) (new : D) (out : BookAnswer)
       → AsksFlush reads writes calls failures hand from old asked new → HoldsNoAnswer hand → is_no out ≡ true
       → Rattle.pp_pool.specs.Replies.TokensFit asked out → flushing_after out ≡ None → new ≡ old
   none_called None from old asked new out asks untold back fit none = asks.1
@@ -177,17 +177,17 @@ pub record FlushKept {S D : Type 0} (calls failures : D → ℕ) (old new : Flus
   pub counts : FlushesBy calls failures old.device old.ended old.failed new.device new.ended new.failed
   pub untold : HoldsNoAnswer new.flushing
 
-abbrev Told : {S : Type 0} → S → Request → Outcome → S → Type 0
-Told s asked outcome t = Replies asked outcome
+abbrev Told : {S : Type 0} → S → Request → Response → S → Type 0
+Told s asked response t = Replies asked response
 
 module _ {S D : Type 0} (reads : D → ℕ → List ℕ → DeviceAnswer → List ℕ → D → Type 0)
     (writes : D → ℕ → List ℕ → DeviceAnswer → D → Type 0) (calls failures : D → ℕ) (old new : Flusher S D) where
   turns_kept : (t : FlushTurns Told reads writes calls failures old Done new) → IsFlush old.flushing
       → HoldsNoAnswer old.flushing → FlushKept calls failures old new
   turns_kept t flush unsaid =
-      let went = done_is_yes t.outcome.answer t.turned_is in
-      let tells = told t.asked t.outcome t.given went in
-      let c = asked_ends reads writes calls failures old.flushing old.from old.device t.asked new.device t.outcome.event
+      let went = done_is_yes t.response.answer t.turned_is in
+      let tells = told t.asked t.response t.given went in
+      let c = asked_ends reads writes calls failures old.flushing old.from old.device t.asked new.device t.response.event
       flush unsaid t.asks tells in
       let n : new.ended ≡ old.ended + ends_in (Some tells.e) = t.ended ∙ ap (λ e. old.ended + ends_in e) tells.is_event in
       let m : new.failed ≡ old.failed + failures_in (Some tells.e) = t.failed ∙ ap (λ e. old.failed + failures_in e) tells.is_event in
@@ -196,7 +196,7 @@ module _ {S D : Type 0} (reads : D → ℕ → List ℕ → DeviceAnswer → Lis
       let a = c.called in let b = c.failed in
       record {
         counts = record { called = omega (arith, n, a, p); failed = omega (arith, m, b, q) };
-        untold = subst (λ f. HoldsNoAnswer f) (sym t.flushing) (untold_after t.outcome.answer went);
+        untold = subst (λ f. HoldsNoAnswer f) (sym t.flushing) (untold_after t.response.answer went);
       }
 
   pub done_kept : FlushTurnIs Told reads writes calls failures old Done new → IsFlush old.flushing
@@ -208,11 +208,11 @@ module _ {S D : Type 0} (reads : D → ℕ → List ℕ → DeviceAnswer → Lis
       → is_some new.flushing ≡ false
       → FlushesBy calls failures old.device old.ended old.failed new.device new.ended new.failed
   turns_ended t unsaid none =
-      let back = ended_is_no t.outcome.answer t.turned_is in
-      let event = untold t.asked t.outcome t.given back in
+      let back = ended_is_no t.response.answer t.turned_is in
+      let event = untold t.asked t.response t.given back in
       let empty = empty_hand new.flushing none in
       let device = none_called reads writes calls failures old.flushing old.from old.device t.asked new.device
-      t.outcome.answer t.asks unsaid back t.given.tokens (sym t.flushing ∙ empty) in
+      t.response.answer t.asks unsaid back t.given.tokens (sym t.flushing ∙ empty) in
       let n : new.ended ≡ old.ended + 0 = t.ended ∙ ap (λ e. old.ended + ends_in e) event in
       let m : new.failed ≡ old.failed + 0 = t.failed ∙ ap (λ e. old.failed + failures_in e) event in
       let a = ap calls device in let b = ap failures device in

@@ -14,7 +14,7 @@ use Rattle.pp_vault.specs.declared.tokens.Duty.TheVariants as duty
 use Rattle.pp_vault.specs.Duties.{duty_worker}
 use Rattle.pp_pool.specs.declared.request.Request.{Request}
 use Rattle.pp_pool.specs.declared.request.Request.TheVariants as request
-use Rattle.pp_pool.specs.declared.outcome.Outcome.{Outcome}
+use Rattle.pp_pool.specs.declared.response.Response.{Response}
 use Rattle.pp_pool.specs.Performing.{is_no}
 use Rattle.pp_pool.specs.Replies.{Replies, IsMoveOf, IsEventOf, duty_move}
 use Rattle.pp_pool.specs.Turns.{IsStep, IsWayOut}
@@ -37,18 +37,18 @@ told_by : (asked : Request) (event : Option Event) → is_some event ≡ true �
 told_by asked None some h = absurd (false≢true some)
 told_by asked (Some e) some h = told_at asked e h
 
-pub told : (asked : Request) (outcome : Outcome) → Replies asked outcome → is_no outcome.answer ≡ false
-    → Tells asked outcome.event
-told asked outcome fits done = told_by asked outcome.event (fits.done ∙ ap not done) fits.event
+pub told : (asked : Request) (response : Response) → Replies asked response → is_no response.answer ≡ false
+    → Tells asked response.event
+told asked response fits done = told_by asked response.event (fits.done ∙ ap not done) fits.event
 
 none_at : (event : Option Event) → is_some event ≡ false → event ≡ None
 none_at None h = refl
 none_at (Some e) h = absurd (false≢true (sym h))
 
 -- A request that was refused has no event.
-pub untold : (asked : Request) (outcome : Outcome) → Replies asked outcome → is_no outcome.answer ≡ true
-    → outcome.event ≡ None
-untold asked outcome fits back = none_at outcome.event (fits.done ∙ ap not back)
+pub untold : (asked : Request) (response : Response) → Replies asked response → is_no response.answer ≡ true
+    → response.event ≡ None
+untold asked response fits back = none_at response.event (fits.done ∙ ap not back)
 
 -- ---- calls of a device
 

@@ -18,9 +18,9 @@ use Rattle.pp_vault.specs.Duties.{duty_worker}
 use Rattle.pp_vault.specs.Stages.{is_chair}
 use Rattle.pp_pool.specs.declared.request.Request.{Request}
 use Rattle.pp_pool.specs.declared.request.Request.TheVariants as request
-use Rattle.pp_pool.specs.declared.outcome.Answer.{Answer}
-use Rattle.pp_pool.specs.declared.outcome.Answer.TheVariants as answer
-use Rattle.pp_pool.specs.declared.outcome.Outcome.{Outcome}
+use Rattle.pp_pool.specs.declared.response.BookAnswer.{BookAnswer}
+use Rattle.pp_pool.specs.declared.response.BookAnswer.TheVariants as answer
+use Rattle.pp_pool.specs.declared.response.Response.{Response}
 use Rattle.pp_pool.specs.declared.site.Site as Site
 use Rattle.pp_pool.specs.declared.work.Work as Work
 use Rattle.pp_pool.specs.declared.turned.Turned.{Turned}
@@ -75,7 +75,7 @@ no_memory_not_looked false e = cc
 
 module _ {S W : Type 0} (s : Site.Ghosts S) (k : Work.Ghosts W) (site : S) (room : ℕ) (old left : W) where
   -- A turn that is done was no refusal.
-  done_is_yes : (out after : Answer) → Uses s k site room old out Done after left → is_no out ≡ false
+  done_is_yes : (out after : BookAnswer) → Uses s k site room old out Done after left → is_no out ≡ false
   done_is_yes (answer.Acts x) after h = refl
   done_is_yes (answer.Idle x) after h = refl
   done_is_yes (answer.Leaves x) after h = refl
@@ -89,7 +89,7 @@ module _ {S W : Type 0} (s : Site.Ghosts S) (k : Work.Ghosts W) (site : S) (room
   done_is_yes (answer.No back why) after h = absurd (not_done why (sym h.0))
 
   -- A turn that has ended was a refusal.
-  ended_is_no : (out after : Answer) → Uses s k site room old out Ended after left → is_no out ≡ true
+  ended_is_no : (out after : BookAnswer) → Uses s k site room old out Ended after left → is_no out ≡ true
   ended_is_no (answer.Acts x) after h = absurd (ended_not_done h.0)
   ended_is_no (answer.Idle x) after h = absurd (ended_not_done h.0)
   ended_is_no (answer.Leaves x) after h = absurd (ended_not_done h.0)
@@ -103,7 +103,7 @@ module _ {S W : Type 0} (s : Site.Ghosts S) (k : Work.Ghosts W) (site : S) (room
   ended_is_no (answer.No back why) after h = refl
 
   -- No turn that asked has run out of memory.
-  never_no_memory : (out after : Answer) → Uses s k site room old out NoMemory after left → ⊥
+  never_no_memory : (out after : BookAnswer) → Uses s k site room old out NoMemory after left → ⊥
   never_no_memory (answer.Acts x) after h = no_memory_not_done h.0
   never_no_memory (answer.Idle x) after h = no_memory_not_done h.0
   never_no_memory (answer.Leaves x) after h = no_memory_not_done h.0
@@ -208,7 +208,7 @@ at_work : (s t : Stage) → ◌≡◌ {A = Option Stage} (Some s) (Some t) → I
 at_work s t e h = let same : s ≡ t = cc in subst (λ x. IsAtWork x) same h
 
 still_at_work : {S W : Type 0} (own : Site.Ghosts S) (k : Work.Ghosts W) (site : S) (room : ℕ) (old left : W) (turned : Turned)
-    (asked : Request) (out after : Answer) (s : Stage) → IsOfWorker asked → TokensFit asked out
+    (asked : Request) (out after : BookAnswer) (s : Stage) → IsOfWorker asked → TokensFit asked out
     → is_no out ≡ false → Uses own k site room old out turned after left → stage_in after ≡ Some s → IsAtWork s
 still_at_work own k site room old left turned asked (answer.Acts x) after s of fit went works is =
     at_work (stage.In x) s (sym (ap stage_in works.1) ∙ is) tt
@@ -294,10 +294,10 @@ module _ {S D W : Type 0} (s : Site.Ghosts S) (d : Device.Ghosts D) (k : Work.Gh
   turns_kept : (t : Turns s d k old before Done new left) → IsAtWork old.hand.stage
       → Kept d.calls d.failures old new
   turns_kept t work =
-      let went = done_is_yes s k new.site _ t.between left t.outcome.answer t.after t.uses in
-      let tells = told t.asked t.outcome t.fits went in
+      let went = done_is_yes s k new.site _ t.between left t.response.answer t.after t.uses in
+      let tells = told t.asked t.response t.fits went in
       let c = asked_calls d.read_gives d.write_leaves d.calls d.failures old.layout old.hand.stage old.device t.asked new.device
-      t.outcome.event work t.asks tells in
+      t.response.event work t.asks tells in
       let log : new.log.items ≡ old.log.items ++ events_in (Some tells.e) = t.log ∙ ap (λ e. old.log.items ++ events_in e) tells.is_event in
       let n : total calls_of new.log.items ≡ total calls_of old.log.items + total calls_of (events_in (Some tells.e))
       = ap (total calls_of) log ∙ total_append calls_of old.log.items (events_in (Some tells.e)) in
@@ -306,7 +306,7 @@ module _ {S D W : Type 0} (s : Site.Ghosts S) (d : Device.Ghosts D) (k : Work.Gh
       let a = c.called in let b = c.failed in let p = tells.step calls_of in let q = tells.step failed_calls_of in
       record {
         counts = record { called = omega (arith, n, a, p); failed = omega (arith, m, b, q) };
-        work = still_at_work s k new.site _ t.between left Done t.asked t.outcome.answer t.after new.hand.stage
+        work = still_at_work s k new.site _ t.between left Done t.asked t.response.answer t.after new.hand.stage
             (asked_of_worker d.read_gives d.write_leaves d.calls d.failures old.layout old.hand.stage old.device t.asked new.device work t.asks)
             t.fits.tokens went t.uses t.stage;
       }
@@ -327,10 +327,10 @@ module _ {S D W : Type 0} (s : Site.Ghosts S) (d : Device.Ghosts D) (k : Work.Gh
   pub no_memory_counts : TurnIs s d k old before NoMemory new left
       → CountsBy d.calls d.failures old.device old.log.items new.device new.log.items
   no_memory_counts (inl (inr t)) = let broken = t.broken in absurd cc
-  no_memory_counts (inl (inl t)) = absurd (never_no_memory s k new.site _ t.between left t.outcome.answer t.after t.uses)
+  no_memory_counts (inl (inl t)) = absurd (never_no_memory s k new.site _ t.between left t.response.answer t.after t.uses)
   no_memory_counts (inr w) = same_counts w.device w.log
 
-  back_stage : (site : S) (room : ℕ) (work : W) (turned : Turned) (asked : Request) (out after : Answer) (t : Stage)
+  back_stage : (site : S) (room : ℕ) (work : W) (turned : Turned) (asked : Request) (out after : BookAnswer) (t : Stage)
       → is_no out ≡ true → TokensFit asked out → Uses s k site room work out turned after left
       → stage_in after ≡ Some t → stage_asked asked ≡ Some t
   back_stage site room work turned asked (answer.No r why) after t is_back fit uses is =
@@ -349,9 +349,9 @@ module _ {S D W : Type 0} (s : Site.Ghosts S) (d : Device.Ghosts D) (k : Work.Gh
   turns_ended : (t : Turns s d k old before Ended new left) → is_chair new.hand.stage ≡ true
       → CountsBy d.calls d.failures old.device old.log.items new.device new.log.items
   turns_ended t chair =
-      let is_back = ended_is_no s k new.site _ t.between left t.outcome.answer t.after t.uses in
-      let none = untold t.asked t.outcome t.fits is_back in
-      let back = back_stage new.site _ t.between Ended t.asked t.outcome.answer t.after new.hand.stage is_back t.fits.tokens t.uses t.stage in
+      let is_back = ended_is_no s k new.site _ t.between left t.response.answer t.after t.uses in
+      let none = untold t.asked t.response t.fits is_back in
+      let back = back_stage new.site _ t.between Ended t.asked t.response.answer t.after new.hand.stage is_back t.fits.tokens t.uses t.stage in
       let device = chair_calls_none d.read_gives d.write_leaves d.calls d.failures old.layout old.hand.stage old.device t.asked new.device
       new.hand.stage chair back t.asks in
       let log : new.log.items ≡ old.log.items ++ [] = t.log ∙ ap (λ e. old.log.items ++ events_in e) none in

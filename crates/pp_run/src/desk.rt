@@ -12,7 +12,7 @@ ghost use Rattle.pp_report.specs.Reports.{is_move};
 ghost use Rattle.pp_run.specs.Runs.{submits, coded_events};
 
 use pp_model::{Event, Reply};
-use pp_pool::{Book, Outcome, OwnSite, Request, Site};
+use pp_pool::{Book, OwnSite, Request, Response, Site};
 use pp_settings::{Layout, Settings};
 use pp_vault::{Flushing, Hand, Hands, ReadGuard};
 use std::marker::{Brand, PhantomData};
@@ -117,18 +117,18 @@ impl<'a, N: Naming> Site for RunDesk<'a, N> {
     ghost use Rattle.pp_pool.specs.Books.{greatest_cost};
     ghost use Rattle.pp_pool.specs.Fronts.{ShowsPage};
 
-    ghost gives = { λ s request outcome t. Replies request outcome };
+    ghost gives = { λ s request response t. Replies request response };
 
     ghost shows = { λ s guard before shown after. ShowsPage s.site.book guard before shown after };
 
     ghost tells = { λ s most. most ≡ greatest_cost N.plans };
 
-    fn perform(&mut self, request: Request) -> Outcome {
-        let outcome = self.site.perform(request);
-        if ends_plan(outcome.event.as_ref()) {
+    fn perform(&mut self, request: Request) -> Response {
+        let response = self.site.perform(request);
+        if ends_plan(response.event.as_ref()) {
             self.finished.fetch_add(1, Ordering::SeqCst);
         }
-        outcome
+        response
     }
 
     fn look(&mut self, guard: &ReadGuard, bytes: &mut [u8]) -> bool {

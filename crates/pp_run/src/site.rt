@@ -8,7 +8,7 @@ ghost use Rattle.pp_pool.specs.Replies.{Replies};
 use crate::desk::Desk;
 use crate::locked::{Locked, WaitsFor};
 use pp_model::{Event, Failure, Reply};
-use pp_pool::{Answer, Outcome, Request, Site};
+use pp_pool::{BookAnswer, Request, Response, Site};
 use pp_settings::Layout;
 use pp_vault::{Flushing, Guard, Hand, ReadGuard};
 use std::hint::spin_loop;
@@ -40,13 +40,13 @@ pub struct LockedSite<'a, B: Desk, R: Wait> {
 impl<'a, B: Desk, R: Wait> Site for LockedSite<'a, B, R> {
     ghost use Rattle.pp_pool.specs.Replies.{Replies};
 
-    ghost gives = { λ s request outcome t. Replies request outcome };
+    ghost gives = { λ s request response t. Replies request response };
 
     ghost shows = { λ s guard before shown after. (desk : B) × B.shows desk guard before shown after };
 
     ghost tells = { λ s most. (desk : B) × B.tells desk most };
 
-    fn perform(&mut self, request: Request) -> Outcome {
+    fn perform(&mut self, request: Request) -> Response {
         self.perform_when_possible(request)
     }
 
@@ -62,19 +62,19 @@ impl<'a, B: Desk, R: Wait> Site for LockedSite<'a, B, R> {
 impl<'a, B: Desk, R: Wait> LockedSite<'a, B, R> {
     /// Performs the request, when it is possible. It waits where the move isn't possible now, unless no plan is left; and
     /// where nothing can be flushed, until the run is closing.
-    fn perform_when_possible(&self, request: Request) -> Outcome
+    fn perform_when_possible(&self, request: Request) -> Response
         ensures { Replies request result }
     {
         let mut request = request;
         let mut locked = self.hold();
         for _ in self.rt.forever() {
             let takes_writer_off = takes_writer_off(&request);
-            let Outcome { event, answer } = locked.desk.perform(request);
+            let Response { event, answer } = locked.desk.perform(request);
             match answer {
-                Answer::No(back, refusal) => match locked.waits_for(refusal) {
+                BookAnswer::No(back, refusal) => match locked.waits_for(refusal) {
                     WaitsFor::Nothing => {
-                        let answer = Answer::No(back, refusal);
-                        return Outcome { event, answer };
+                        let answer = BookAnswer::No(back, refusal);
+                        return Response { event, answer };
                     }
                     WaitsFor::Move => {
                         request = back;
@@ -93,7 +93,7 @@ impl<'a, B: Desk, R: Wait> LockedSite<'a, B, R> {
                     let waiters = locked.waiters();
                     drop(locked);
                     self.wake(waiters, takes_writer_off || has_failed_to_write(event));
-                    return Outcome { event, answer };
+                    return Response { event, answer };
                 }
             }
         }

@@ -3,15 +3,14 @@
 use crate::samples::{JOURNAL, PIN, PIN_NOTES, SCRIPT, SET1, TOUCH, WRITE};
 use crate::stand::{answer, call};
 use pp_judge::{
-    AnnotateFiles, AuditFiles, CheckFiles, Contents, SimulateFiles, Workload, device_size,
-    outcome_of,
+    AnnotateFiles, AuditFiles, CheckFiles, Contents, SimulateFiles, Workload, device_size, exit_of,
 };
 use std::alloc::Global;
 
 /// Does the case of this call and this row.
 pub fn case<R: AllocGlobal + Print>(rt: &R, call: &str, row: &str) -> anyhow::Result<()> {
     match call {
-        "outcome_of" => outcome(rt, row),
+        "exit_of" => exit(rt, row),
         "device_size" => size(rt),
         "Workload::read" => workload(rt),
         _ => anyhow::bail!("there is no such call"),
@@ -60,7 +59,7 @@ fn contents<'a>(row: &str, plans: &'a [Vec<u8>]) -> Contents<'a> {
     }
 }
 
-fn outcome<R: AllocGlobal + Print>(rt: &R, row: &str) -> anyhow::Result<()> {
+fn exit<R: AllocGlobal + Print>(rt: &R, row: &str) -> anyhow::Result<()> {
     let text = match row {
         "audit" | "draw" => TOUCH,
         _ => WRITE,
@@ -69,10 +68,10 @@ fn outcome<R: AllocGlobal + Print>(rt: &R, row: &str) -> anyhow::Result<()> {
     for _time in 0..2 {
         let contents = contents(row, &plans);
         call(rt)?;
-        let outcome = outcome_of(rt.alloc(), contents);
+        let exit = exit_of(rt.alloc(), contents);
         answer(rt)?;
-        println!(rt; "status {}: {outcome}", outcome.status())?;
-        if outcome.is_output() {
+        println!(rt; "status {}: {exit}", exit.status())?;
+        if exit.is_output() {
             return Ok(());
         }
     }

@@ -2,7 +2,7 @@
 
 use crate::common::{FirstPages, READ, SETTINGS, accepted, same_turns};
 use pp_device::{SoloDevice, image};
-use pp_pool::{Book, Outcome, OwnSite, Request, Site, Turned, Worker};
+use pp_pool::{Book, OwnSite, Request, Response, Site, Turned, Worker};
 use pp_settings::Settings;
 use pp_vault::ReadGuard;
 use std::alloc::Global;
@@ -31,13 +31,13 @@ struct Odd<'a, R: Abort> {
 impl<'a, R: Abort> Site for Odd<'a, R> {
     ghost use Rattle.pp_pool.specs.Replies.{Replies};
 
-    ghost gives = { λ s request outcome t. Replies request outcome };
+    ghost gives = { λ s request response t. Replies request response };
 
     ghost shows = { λ s guard before shown after. Unit {0} };
 
     ghost tells = { λ s most. Unit {0} };
 
-    fn perform(&mut self, request: Request) -> Outcome {
+    fn perform(&mut self, request: Request) -> Response {
         self.site.perform(request)
     }
 

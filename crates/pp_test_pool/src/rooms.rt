@@ -3,7 +3,7 @@
 use crate::common::{FirstPages, SETTINGS, WRITE, accepted, part, same_events};
 use pp_cert::Accepted;
 use pp_device::SoloDevice;
-use pp_pool::{Book, Event, Outcome, OwnSite, Request, Site, Turned, Worker};
+use pp_pool::{Book, Event, OwnSite, Request, Response, Site, Turned, Worker};
 use pp_settings::Settings;
 use pp_vault::{Hand, Hands, ReadGuard, Stage};
 use std::alloc::Global;
@@ -22,13 +22,13 @@ impl Site for Boasting {
     ghost use Rattle.pp_pool.specs.Replies.{Replies};
     ghost use Rattle.pp_pool.specs.Fronts.{ShowsPage};
 
-    ghost gives = { λ s request outcome t. Replies request outcome };
+    ghost gives = { λ s request response t. Replies request response };
 
     ghost shows = { λ s guard before shown after. ShowsPage s.site.book guard before shown after };
 
     ghost tells = { λ s most. Unit {0} };
 
-    fn perform(&mut self, request: Request) -> Outcome {
+    fn perform(&mut self, request: Request) -> Response {
         self.site.perform(request)
     }
 

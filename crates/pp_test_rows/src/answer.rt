@@ -3,8 +3,8 @@
 use crate::row::Question;
 use pp_format::{Nobody, format_onto};
 use pp_judge::{
-    AnnotateFiles, AuditFiles, CheckFiles, Contents, JudgeError, Outcome, SimulateFiles,
-    device_size, outcome_of,
+    AnnotateFiles, AuditFiles, CheckFiles, Contents, Exit, JudgeError, SimulateFiles, device_size,
+    exit_of,
 };
 use pp_plan::{Plan, PlanError};
 use pp_script::{Script, ScriptError};
@@ -23,11 +23,11 @@ pub fn answer_to(alloc: Global, question: Question, texts: &[Vec<u8>]) -> anyhow
                 plan,
                 certificate,
             };
-            format!(in alloc; "{}", outcome_of(alloc, Contents::Check(files)))?
+            format!(in alloc; "{}", exit_of(alloc, Contents::Check(files)))?
         }
         (Question::Annotate, [settings, plan]) => {
             let files = AnnotateFiles { settings, plan };
-            format!(in alloc; "{}", outcome_of(alloc, Contents::Annotate(files)))?
+            format!(in alloc; "{}", exit_of(alloc, Contents::Annotate(files)))?
         }
         (Question::Script, [script]) => script_answer(alloc, script)?,
         (Question::Simulate, [settings, script, plans @ ..]) => {
@@ -36,7 +36,7 @@ pub fn answer_to(alloc: Global, question: Question, texts: &[Vec<u8>]) -> anyhow
                 script,
                 plans,
             };
-            format!(in alloc; "{}", outcome_of(alloc, Contents::Simulate(files)))?
+            format!(in alloc; "{}", exit_of(alloc, Contents::Simulate(files)))?
         }
         (Question::Audit, [settings, journal, plans @ ..]) => {
             let files = AuditFiles {
@@ -44,7 +44,7 @@ pub fn answer_to(alloc: Global, question: Question, texts: &[Vec<u8>]) -> anyhow
                 journal,
                 plans,
             };
-            format!(in alloc; "{}", outcome_of(alloc, Contents::Audit(files)))?
+            format!(in alloc; "{}", exit_of(alloc, Contents::Audit(files)))?
         }
         (Question::Format, [settings]) => format_answer(alloc, settings)?,
         _ => anyhow::bail!("the row has too few texts or too many"),
@@ -117,7 +117,7 @@ fn format_answer(alloc: Global, settings: &[u8]) -> anyhow::Result<String> {
     let mut file = Vec::new(alloc);
     let image = Vec::from_elem(alloc, 0, page_bytes)?;
     format_onto(&mut file, image, size.pages, &mut Nobody)?;
-    let told = Outcome::Formatted(size.pages);
+    let told = Exit::Formatted(size.pages);
     let bytes = file.len();
     let mut answer = format!(in alloc; "{told}  {bytes} bytes, the last page begins")?;
     for byte in file.iter().skip(bytes.saturating_sub(page_bytes)).take(16) {

@@ -102,16 +102,16 @@ impl<'a, R: Clock> Work for Numbered<'a, R> {
     }
 }
 
-/// The end of the worker with this number. It notes each reading of another page than the worker's own.
+/// The device of the worker with this number. It notes each reading of another page than the worker's own.
 #[derive(Drop)]
-struct End<'a> {
+struct NotingDevice<'a> {
     asked: &'a Asked,
     number: u32,
     calls: Count,
     failures: Count,
 }
 
-impl<'a> Device for End<'a> {
+impl<'a> Device for NotingDevice<'a> {
     ghost calls = { λ d. d.calls.number };
 
     ghost failures = { λ d. d.failures.number };
@@ -164,7 +164,7 @@ fn run_apart<R: AllocGlobal + Abort + Threads + Wait + Clock + Copy + Drop + Syn
         })?;
     }
     for number in 0..4 {
-        devices.push(End {
+        devices.push(NotingDevice {
             asked,
             number,
             calls: Count::new(),

@@ -1,6 +1,6 @@
 //! A desk on which one worker goes on, and the other waits until something comes back.
 
-use pp_pool::{Answer, Book, Event, Outcome, OwnSite, Request, Site};
+use pp_pool::{Book, BookAnswer, Event, OwnSite, Request, Response, Site};
 use pp_run::Desk;
 use pp_settings::{Layout, Settings};
 use pp_vault::{Cause, Delay, Flushing, Hand, Hands, ReadGuard, Refusal};
@@ -108,17 +108,17 @@ impl Patient {
 impl Site for Patient {
     ghost use Rattle.pp_pool.specs.Replies.{Replies};
 
-    ghost gives = { λ s request outcome t. Replies request outcome };
+    ghost gives = { λ s request response t. Replies request response };
 
     ghost shows = { λ s guard before shown after. Unit {0} };
 
     ghost tells = { λ s most. Unit {0} };
 
-    fn perform(&mut self, request: Request) -> Outcome {
+    fn perform(&mut self, request: Request) -> Response {
         match self.refusal(&request) {
-            Some(refusal) => Outcome {
+            Some(refusal) => Response {
                 event: None,
-                answer: Answer::No(request, refusal),
+                answer: BookAnswer::No(request, refusal),
             },
             None => self.site.perform(request),
         }

@@ -1,6 +1,6 @@
 //! A desk that has no room for the logs of some workers.
 
-use pp_pool::{Book, Event, Outcome, OwnSite, Request, Site};
+use pp_pool::{Book, Event, OwnSite, Request, Response, Site};
 use pp_run::{Desk, Left};
 use pp_settings::{Layout, Settings};
 use pp_vault::{Flushing, Hand, Hands, ReadGuard, Stage};
@@ -68,13 +68,13 @@ impl Site for Scarce {
     ghost use Rattle.pp_pool.specs.Replies.{Replies};
     ghost use Rattle.pp_pool.specs.Fronts.{ShowsPage};
 
-    ghost gives = { λ s request outcome t. Replies request outcome };
+    ghost gives = { λ s request response t. Replies request response };
 
     ghost shows = { λ s guard before shown after. ShowsPage s.site.book guard before shown after };
 
     ghost tells = { λ s most. Unit {0} };
 
-    fn perform(&mut self, request: Request) -> Outcome {
+    fn perform(&mut self, request: Request) -> Response {
         self.site.perform(request)
     }
 

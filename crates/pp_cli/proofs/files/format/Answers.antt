@@ -5,4 +5,4 @@ use Rattle.pp_cli.proofs.files.format.Goals as goal
 pub returns-clause-comes : goal.returns-clause-comes
 returns-clause-comes g c =
     refused_format (is_want_of_memory c.in-Err.refusal) c.args.paths.settings.now c.args.paths.device.now
-    c.as_slice.result.now c.in-Err.refusal c.from-outcome.result c.from-outcome.ensures c.in-Err.ensures.exact
+    c.as_slice.result.now c.in-Err.refusal c.from-exit.result c.from-exit.ensures c.in-Err.ensures.exact

@@ -31,7 +31,7 @@ pub returns-clause-comes : goal.returns-clause-comes
 returns-clause-comes g c =
     refused_run (is_want_of_memory c.in-Err.refusal) (option_map (λ text. text.now) c.args.paths.journal)
     c.args.paths.settings.now c.args.paths.device.now c.args.paths.seed (texts c.args.paths.plans.items)
-    c.as_slice.result.now (map (λ plan. plan.items) c.as_slice-2.result.now) c.in-Err.refusal c.from-outcome.result
+    c.as_slice.result.now (map (λ plan. plan.items) c.as_slice-2.result.now) c.in-Err.refusal c.from-exit.result
     (length-map c.as_slice-2.result.now (λ plan. plan.items) ∙ ap length c.as_slice-2.ensures.value
     ∙ c.in_ok-plans.ensures.each ∙ ap length c.deref.ensures.value
-    ∙ sym (length-map c.args.paths.plans.items (λ text. text.now))) c.from-outcome.ensures c.in-Err.ensures
+    ∙ sym (length-map c.args.paths.plans.items (λ text. text.now))) c.from-exit.ensures c.in-Err.ensures

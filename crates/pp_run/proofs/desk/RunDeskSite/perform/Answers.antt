@@ -6,11 +6,11 @@ pub invariant_of-self : goal.invariant_of-self
 invariant_of-self g c =
     let d = c.args.self.now in
     let n = length g.N.Naming.plans in
-    let p = c.perform-outcome.ensures.given in
-    let new = c.perform-outcome.new.self.book in
+    let p = c.perform-response.ensures.given in
+    let new = c.perform-response.new.self.book in
     record {
       settings = p.settings ∙ d.settings;
       plans = p.plans ∙ d.plans;
-      begun = performs_submits n d.site.book c.args.request c.perform-outcome.result new p d.begun;
-      moving = performs_moves n d.site.book c.args.request c.perform-outcome.result new p d.begun d.moving;
+      begun = performs_submits n d.site.book c.args.request c.perform-response.result new p d.begun;
+      moving = performs_moves n d.site.book c.args.request c.perform-response.result new p d.begun d.moving;
     }

@@ -10,7 +10,7 @@ use std::fmt;
 
 /// What a run comes to: what is told of it, where, and the status.
 #[derive(Debug, Drop)]
-pub enum Outcome<'a> {
+pub enum Exit<'a> {
     /// The certificate is accepted, with these figures.
     Done(Figures),
     /// The text of the certificate that was made, without a line feed.
@@ -87,24 +87,24 @@ impl fmt::Display for Figures {
     }
 }
 
-impl Outcome<'_> {
+impl Exit<'_> {
     /// The status of a program that ends so.
     pub fn status(&self) -> u8
         ensures { result ≡ status_of (seen self.now) }
     {
         match self {
-            Outcome::Done(_)
-            | Outcome::Made(_)
-            | Outcome::Simulated(_)
-            | Outcome::Formatted(_)
-            | Outcome::Audited(_)
-            | Outcome::Drawn(_)
-            | Outcome::Shown(_) => 0,
-            Outcome::Ran(report) if report.is_well => 0,
-            Outcome::Refused(_) | Outcome::Stopped(_) => 1,
-            Outcome::Misused(_) | Outcome::Wordless => 2,
-            Outcome::Ran(_) | Outcome::Unread(_) | Outcome::Unwritten(_) => 3,
-            Outcome::OutOfMemory => 4,
+            Exit::Done(_)
+            | Exit::Made(_)
+            | Exit::Simulated(_)
+            | Exit::Formatted(_)
+            | Exit::Audited(_)
+            | Exit::Drawn(_)
+            | Exit::Shown(_) => 0,
+            Exit::Ran(report) if report.is_well => 0,
+            Exit::Refused(_) | Exit::Stopped(_) => 1,
+            Exit::Misused(_) | Exit::Wordless => 2,
+            Exit::Ran(_) | Exit::Unread(_) | Exit::Unwritten(_) => 3,
+            Exit::OutOfMemory => 4,
         }
     }
 
@@ -113,59 +113,59 @@ impl Outcome<'_> {
         ensures { result ≡ is_output_of (seen self.now) }
     {
         match self {
-            Outcome::Done(_)
-            | Outcome::Made(_)
-            | Outcome::Simulated(_)
-            | Outcome::Formatted(_)
-            | Outcome::Ran(_)
-            | Outcome::Stopped(_)
-            | Outcome::Audited(_)
-            | Outcome::Drawn(_)
-            | Outcome::Shown(_)
-            | Outcome::Refused(_) => true,
-            Outcome::Misused(_)
-            | Outcome::Wordless
-            | Outcome::Unread(_)
-            | Outcome::Unwritten(_)
-            | Outcome::OutOfMemory => false,
+            Exit::Done(_)
+            | Exit::Made(_)
+            | Exit::Simulated(_)
+            | Exit::Formatted(_)
+            | Exit::Ran(_)
+            | Exit::Stopped(_)
+            | Exit::Audited(_)
+            | Exit::Drawn(_)
+            | Exit::Shown(_)
+            | Exit::Refused(_) => true,
+            Exit::Misused(_)
+            | Exit::Wordless
+            | Exit::Unread(_)
+            | Exit::Unwritten(_)
+            | Exit::OutOfMemory => false,
         }
     }
 }
 
 /// What is printed, ended by a line feed; a script's lines have one each.
-impl fmt::Display for Outcome<'_> {
-    ghost output = { λ outcome. Some (text_of (seen outcome)) };
+impl fmt::Display for Exit<'_> {
+    ghost output = { λ exit. Some (text_of (seen exit)) };
 
     fn fmt<W: fmt::Write>(&self, f: &mut fmt::Formatter<W>) -> fmt::Result {
         match self {
-            Outcome::Done(figures) => writeln!(f, "{figures}"),
-            Outcome::Made(text) => writeln!(f, "{text}"),
-            Outcome::Formatted(pages) => writeln!(f, "formatted {pages} pages"),
-            Outcome::Ran(report) => f.write_str(report.text.as_str()),
-            Outcome::Audited(lines) => writeln!(f, "audited {lines} lines"),
-            Outcome::Refused(refusal) => writeln!(f, "{refusal}"),
-            Outcome::Simulated(text)
-            | Outcome::Stopped(text)
-            | Outcome::Drawn(text)
-            | Outcome::Shown(text)
-            | Outcome::Misused(text) => f.write_str(text.as_str()),
-            Outcome::Wordless => f.write_str("error: the words can't be read\n"),
-            Outcome::Unread(path) => writeln!(f, "fault reading {path}"),
-            Outcome::Unwritten(path) => writeln!(f, "fault writing {path}"),
-            Outcome::OutOfMemory => f.write_str("out of memory\n"),
+            Exit::Done(figures) => writeln!(f, "{figures}"),
+            Exit::Made(text) => writeln!(f, "{text}"),
+            Exit::Formatted(pages) => writeln!(f, "formatted {pages} pages"),
+            Exit::Ran(report) => f.write_str(report.text.as_str()),
+            Exit::Audited(lines) => writeln!(f, "audited {lines} lines"),
+            Exit::Refused(refusal) => writeln!(f, "{refusal}"),
+            Exit::Simulated(text)
+            | Exit::Stopped(text)
+            | Exit::Drawn(text)
+            | Exit::Shown(text)
+            | Exit::Misused(text) => f.write_str(text.as_str()),
+            Exit::Wordless => f.write_str("error: the words can't be read\n"),
+            Exit::Unread(path) => writeln!(f, "fault reading {path}"),
+            Exit::Unwritten(path) => writeln!(f, "fault writing {path}"),
+            Exit::OutOfMemory => f.write_str("out of memory\n"),
         }
     }
 }
 
-/// Want of memory is an outcome of its own.
-impl From<JudgeError> for Outcome<'_> {
-    ghost from_gives = { λ refusal outcome. outcome ≡ refused_by refusal };
+/// Want of memory is an exit of its own.
+impl From<JudgeError> for Exit<'_> {
+    ghost from_gives = { λ refusal exit. exit ≡ refused_by refusal };
 
     fn from(refusal: JudgeError) -> Self {
         if refusal.is_want_of_memory() {
-            Outcome::OutOfMemory
+            Exit::OutOfMemory
         } else {
-            Outcome::Refused(refusal)
+            Exit::Refused(refusal)
         }
     }
 }

@@ -10,7 +10,7 @@ use pp_vault::{
 ///
 /// The compiler refuses code that lets it fall.
 #[derive(Debug)]
-pub enum Answer {
+pub enum BookAnswer {
     /// The worker acts in its plan.
     Acts(Session),
     /// The worker is idle.
@@ -37,8 +37,8 @@ pub enum Answer {
 
 /// What comes of a request: the event that the journal has gained, if one, and the answer.
 #[derive(Debug)]
-pub struct Outcome {
+pub struct Response {
     /// The event; none if and only if the request was refused.
     pub event: Option<Event>,
-    pub answer: Answer,
+    pub answer: BookAnswer,
 }
