@@ -35,8 +35,9 @@ pub fn audit(rt: &HostRuntime, words: &[String]) -> Result<(), Trouble> {
     let mut text = Vec::new(rt.alloc());
     rt.stdin().read_to_end(&mut text)?;
     let watch = Watch::start(rt);
-    let audited = pp_report::audit(rt.alloc(), &settings, plans, text.as_slice())?;
+    let audited = pp_report::audit(rt.alloc(), &settings, plans, text.as_slice());
     let nanos = watch.nanos(rt);
+    let audited = audited.map_err(Trouble::Failed)?;
     println!(rt; "{}", audited.lines)?;
     watch::tell(rt, nanos, audited.lines, "a line")
 }

@@ -19,16 +19,15 @@ mod watch;
 mod words;
 
 use std::env;
-use std::io::Write;
 use std::process::ExitCode;
-use trouble::Trouble;
+use trouble::{LIMITS, Trouble, USAGE};
 
 /// Plays what the words of the command line ask for, and says what went wrong.
 fn main(rt: HostRuntime) -> ExitCode {
     match play(&rt) {
         Ok(()) => ExitCode::SUCCESS,
         Err(trouble) => {
-            let _ = writeln!(rt.stderr(), "{trouble}");
+            trouble.tell(USAGE, LIMITS, &mut rt.stderr());
             ExitCode::from(trouble.status())
         }
     }

@@ -16,12 +16,11 @@ mod trouble;
 mod words;
 
 use std::env;
-use std::io::Write;
 use std::process::ExitCode;
 use std::rt::Runtime;
 use std::sync::Wait;
 use std::thread::Threads;
-use trouble::Trouble;
+use trouble::{LIMITS, Trouble, USAGE};
 use words::Asked;
 
 /// Runs what the words of the command line ask for, and says what went wrong.
@@ -29,7 +28,7 @@ fn main(rt: HostRuntime) -> ExitCode {
     match play(&rt) {
         Ok(()) => ExitCode::SUCCESS,
         Err(trouble) => {
-            let _ = writeln!(rt.stderr(), "{trouble}");
+            trouble.tell(USAGE, LIMITS, &mut rt.stderr());
             ExitCode::from(trouble.status())
         }
     }

@@ -44,7 +44,8 @@ pub fn run<R: AllocGlobal + Threads + Wait + Clock + Copy + Drop + Sync + Send>(
     let works = works(rt, alloc, &settings, &span, asked)?;
     let page_bytes = settings.page_bytes() as usize;
     let devices = SharedDevice::over_memory(rt, alloc, PAGES, page_bytes, workers as usize + 1)?;
-    let (record, _devices) = Pool::run(&rt, alloc, &settings, plans, devices, works)?;
+    let ran = Pool::run(&rt, alloc, &settings, plans, devices, works);
+    let (record, _devices) = ran.map_err(Trouble::Failed)?;
     let operations = u64::from(workers) * asked.ops;
     Ok(Ran {
         misses: misses(record.events.as_slice()),

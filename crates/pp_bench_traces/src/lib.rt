@@ -4,7 +4,9 @@
 pub use error::PlanError;
 pub use plans::{MOST_OPS, accepted, settings};
 pub use trace::{Kind, PAGES, Trace};
+pub use trouble::Trouble;
 
 mod error;
 mod plans;
 mod trace;
+mod trouble;
