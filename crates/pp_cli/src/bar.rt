@@ -4,10 +4,11 @@ use pp_format::Watch;
 use pp_judge::DeviceSize;
 use std::io::Write;
 
-/// How many bytes a device has at most that is written without a bar: 64 MiB.
+/// How many bytes a device has at most that is written without a bar: 64 MiB, which take about a second even where writing
+/// is slow.
 const SHORT: u64 = 64 << 20;
 
-/// How many places a bar has.
+/// How many places a bar has: each stands for two hundredths, and all fit a narrow terminal.
 const PLACES: u32 = 50;
 
 /// A bar of 50 places on a terminal. It is drawn only for a device of more than 64 MiB, and only where there is a

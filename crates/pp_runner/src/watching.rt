@@ -7,10 +7,11 @@ use std::sync::atomic::Ordering;
 use std::sync::{Condvar, Mutex, Wait};
 use std::time::{Clock, Duration, Instant};
 
-/// For how many milliseconds a run shows nothing.
+/// For how many milliseconds a run shows nothing: one that is over by then has its report before anybody wonders.
 const QUIET: u64 = 2_000;
 
-/// For how many milliseconds a line stands until the next one.
+/// For how many milliseconds a line stands until the next one: long enough to be read, and short enough to show that the
+/// run goes on.
 const PAUSE: u64 = 500;
 
 /// Whether a run is over, for another thread that waits for it.

@@ -11,12 +11,13 @@ use pp_cache::{Cache, Create, Fetched};
 use pp_test_plain::Chance;
 use std::alloc::{AllocError, Global};
 
-/// How many calls are made.
+/// How many calls are made: each kind of call and answer comes a thousand times or more.
 const CALLS: u32 = 1_000_000;
 
-/// How many keys are asked for, and how far apart they are.
+/// How many keys are asked for: more than a cache has frames, which are 24 at most, so that pages leave.
 const KEYS: u32 = 40;
 
+/// How far apart keys are, so that a cache is cut between two of them.
 const APART: u32 = 7;
 
 /// What both caches are asked, and what the host keeps.

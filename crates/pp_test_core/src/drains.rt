@@ -27,7 +27,7 @@ const WAYS: &str =
     "{\"body\":[{\"choice\":[[],[],[],[{\"fix\":\"a\",\"region\":\"leaf\"},{\"choice\":[[],\
 [{\"fix\":\"b\",\"region\":\"root\"},{\"unfix\":\"b\"}]]},{\"unfix\":\"a\"}]]}],\"version\":1}";
 
-/// How many questions a host can keep.
+/// How many questions a host can keep: more than any test here compares.
 const MOST: usize = 16;
 
 /// A question, with the numbers that the host was told.

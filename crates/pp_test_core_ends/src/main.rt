@@ -15,9 +15,10 @@ use pp_settings::Settings;
 use pp_test_plain::Chance;
 use std::alloc::Global;
 
-/// How many cores are driven to their end, and how many plans each has.
+/// How many cores are driven to their end: a hundred in each of the two ways.
 const CORES: u32 = 200;
 
+/// How many plans each core has: four for each worker, so that workers take new ones while others are in theirs.
 const PLANS: u32 = 12;
 
 /// Two regions of eight pages, with a gap between them, and before the first.

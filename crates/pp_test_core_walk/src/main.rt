@@ -21,7 +21,7 @@ use pp_settings::Settings;
 use pp_test_plain::Chance;
 use std::alloc::Global;
 
-/// How many moves are made.
+/// How many moves are made: each kind of reply and refusal comes ten times or more.
 const MOVES: u32 = 20_000;
 
 /// Two regions of eight pages, with a gap between them, and before the first.

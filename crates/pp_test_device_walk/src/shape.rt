@@ -4,7 +4,7 @@ use pp_cert::Accepted;
 use pp_plan::{Mode, Stmt};
 use std::alloc::{AllocError, Global};
 
-/// How deep statements stand in each other at most.
+/// How deep statements stand in each other at most: a plan in which they stand deeper is refused.
 const LEVELS: u8 = 16;
 
 /// A statement. Slots and regions are numbers.

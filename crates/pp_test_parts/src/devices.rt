@@ -4,7 +4,7 @@ use pp_device::{Device, Failing, Fault, SoloDevice, Trouble, image};
 use std::process::Abort;
 use std::test::Fail;
 
-/// How long the images of these tests are.
+/// How long the images of these tests are: a head of twelve bytes, and four of a body.
 const BYTES: usize = 16;
 
 /// An image of page 1 with stamp 6.

@@ -172,7 +172,8 @@ pub fn works_of<'a>(
     Ok(works)
 }
 
-/// How many times a thread looks whether another one has come so far: for five seconds.
+/// How many times a thread looks whether another one has come so far: for five seconds, longer than a busy machine lets a
+/// thread wait.
 const LOOKS: u32 = 1_000;
 
 /// Waits until the counter has come so far. It is told whether it has.
@@ -186,7 +187,7 @@ pub fn comes_to(rt: &impl Clock, counter: &AtomicU64, number: u64) -> bool {
     false
 }
 
-/// How many hundredths of a second a run may take.
+/// How many hundredths of a second a run may take: a third of the minute that a test has, so that a hang is told as one.
 const PATIENCE: u32 = 2_000;
 
 /// Waits until it is over. The test fails where that takes too long.

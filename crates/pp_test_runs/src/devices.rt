@@ -12,7 +12,7 @@ use std::thread::Threads;
 use std::time::Clock;
 use std::{env, fs};
 
-/// How many pages these devices have, and how long they are.
+/// How many pages these devices have, and how long they are: as the settings say.
 const PAGES: u32 = 24;
 
 const BYTES: usize = 64;

@@ -8,7 +8,8 @@ use std::marker::Model;
 use std::sync::atomic::{AtomicBool, Ordering};
 use std::test::*;
 
-/// For how many turns a reading waits for the other one.
+/// For how many turns a reading waits for the other one: far longer than a thread takes to begin, and no test runs on where
+/// the other never comes.
 const PATIENCE: u64 = 50_000_000;
 
 /// Whether a reading of page 1, and one of page 2, has begun.

@@ -116,7 +116,7 @@ fn ended(events: &[Event]) -> usize {
     events.iter().filter(is_end).count()
 }
 
-/// How many plans a run has.
+/// How many plans a run has: 25 for each worker, so that devices fail and lie many times in a run.
 const PLANS: usize = 200;
 
 /// The texts of a run's plans: these two in turn.

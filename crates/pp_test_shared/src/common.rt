@@ -7,7 +7,7 @@ use std::sync::atomic::{AtomicBool, Ordering};
 use std::time::{Clock, Duration};
 use std::{env, fs, io, thread};
 
-/// How long the images of these tests are.
+/// How long the images of these tests are: a head of twelve bytes, and four of a body.
 pub const BYTES: usize = 16;
 
 /// An image of page 1 with stamp 6.
@@ -100,7 +100,8 @@ pub fn holds<R: Files + AllocGlobal + Abort>(rt: &R, path: &str, want: &[u8]) ->
 
 // ---- patience
 
-/// How many hundredths of a second threads may take.
+/// How many hundredths of a second threads may take: two thirds of the minute that a test has, so that a hang is told as
+/// one.
 const PATIENCE: u32 = 4_000;
 
 /// Waits until it is over. The test fails where that takes too long.

@@ -12,7 +12,7 @@ use std::thread::Threads;
 use std::time::Clock;
 use std::{fs, thread};
 
-/// How long the images of a memory are.
+/// How long the images of a memory are: another thread may come while one is copied.
 const BYTES: usize = 4096;
 
 /// How long the images of a file are: the system reads and writes them in many pieces, which only the lock keeps

@@ -30,7 +30,7 @@ const PLAN: &str =
     {\"fix\":\"b\",\"region\":\"leaf\"},{\"latch\":\"b\",\"mode\":\"X\"},{\"unlatch\":\"a\"},{\"unfix\":\"a\"},\
     {\"unlatch\":\"b\"},{\"unfix\":\"b\"}],\"loop\":30}],\"version\":1}";
 
-/// How many plans are run.
+/// How many plans are run: three for each worker, so that workers take new ones while others are at work.
 const PLANS: u32 = 24;
 
 /// Adds the path of the plan to the words, once for each plan.
