@@ -70,7 +70,7 @@ uint32_t pinpool_cache_rekey(pinpool_cache *handle, uint32_t from, uint32_t to);
 ** the keys. A host that truncates often asks only where it may have such a page. DONE; NO_CACHE. */
 uint32_t pinpool_cache_truncate(pinpool_cache *handle, uint32_t limit);
 
-/* Drops each page that isn't pinned. It takes a step for each key that there is room for, whether a page has it or not.
+/* Drops each page that isn't pinned. It takes a step for each page within the size of the cache, pinned or not.
 ** DONE; NO_CACHE. */
 uint32_t pinpool_cache_shrink(pinpool_cache *handle);
 

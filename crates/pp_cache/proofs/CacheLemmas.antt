@@ -22,7 +22,7 @@ use Rattle.pp_arc.specs.Sizes.{renamed, renamed_in, resized}
 use Rattle.pp_cache.specs.declared.resident.Resident.{Resident}
 use Rattle.pp_cache.specs.Frames.{FrameMap, page_of, is_held, is_pinned, resident_count, pinned_to, with_page, with_pinned}
 use Rattle.pp_cache.specs.Frames.{with_keys, with_free_frame, moved, IsOneToOne}
-use Rattle.pp_cache.specs.Cache.{PageCache, without_victim, dropped, lists_where, KeepsOnly, is_idle, IsTogether}
+use Rattle.pp_cache.specs.Cache.{PageCache, without_victim, dropped, lists_where, KeepsOnly, IsTogether}
 use Rattle.pp_cache.specs.Cache.{IsSound, PinnedStay, one_fewer, fewer}
 use Rattle.pp_cache.proofs.FrameLemmas.{count-set, one_for}
 
@@ -529,22 +529,12 @@ test_start limit y = elim (cases_lt y limit) [
   | inr le ↦ rw (le-leb limit y le) (or_true (ltb y limit))
 ]
 
-pub test_from_0 : (b : Bool) (y : ℕ) → (b || leb 0 y) ≡ true
-test_from_0 b y = rw (le-leb 0 y (omega arith)) (or_true b)
-
 -- a key that is dropped fails from then on
 pub test_dropped : (base : Bool) (i y : ℕ) → (y ≡ i → base ≡ false)
     → (base || leb (i + 1) y) ≡ ((base || leb i y) && not (eqb y i))
 test_dropped base i y out = elim (eqb_tells y i) [
   | inl t ↦ rw (t.0, out t.1, lt-leb (i + 1) y (omega (arith, t.1))) (sym (and_false (leb i y)))
   | inr t ↦ rw (t.0, leb_next i y t.1) (sym (and_true (base || leb i y)))
-]
-
--- a key that is kept passes from then on
-pub test_kept : (base : Bool) (i y : ℕ) → (y ≡ i → base ≡ true) → (base || leb i y) ≡ (base || leb (i + 1) y)
-test_kept base i y stays = elim (cases_eq y i) [
-  | inl e ↦ rw (stays e) refl
-  | inr ne ↦ rw (leb_next i y ne) refl
 ]
 
 -- past the last key
@@ -563,28 +553,6 @@ keeps_alike p q old s h same = record {
   pages = λ k. h.pages k ∙ ap (λ b. cond b (page_of old.table k) None) (same k);
   frames = h.frames;
 }
-
--- a page is dropped where it is idle
-pub keeps_if : (base : ℕ → Bool) (old s t : PageCache) (k : ℕ) → KeepsOnly (λ y. base y || leb k y) old s
-    → base k ≡ not (is_idle old.table k) → t ≡ cond (is_idle s.table k) (dropped s k) s
-    → KeepsOnly (λ y. base y || leb (k + 1) y) old t
-keeps_if base old s t k h is e = go (is_idle old.table k) refl
-  where
-    same_page : page_of s.table k ≡ page_of old.table k
-    same_page = h.pages k ∙ ap (λ b. cond b (page_of old.table k) None)
-        (ap (λ b. base k || b) (le-leb k k (omega arith)) ∙ or_true (base k))
-
-    same_idle : is_idle s.table k ≡ is_idle old.table k
-    same_idle = ap (λ o. is_some o && not (is_held o)) same_page
-
-    go : (b : Bool) → is_idle old.table k ≡ b → KeepsOnly (λ y. base y || leb (k + 1) y) old t
-    go true f = keeps_fewer (λ y. base y || leb k y) (λ y. base y || leb (k + 1) y) old s t k h
-        (e ∙ ap (λ b. cond b (dropped s k) s) (same_idle ∙ f))
-        (λ y. test_dropped (base y) k y (λ w. ap base w ∙ is ∙ ap not f))
-    go false f =
-        let stays : t ≡ s = e ∙ ap (λ b. cond b (dropped s k) s) (same_idle ∙ f) in
-        rw stays (keeps_alike (λ y. base y || leb k y) (λ y. base y || leb (k + 1) y) old s h
-        (λ y. test_kept (base y) k y (λ w. ap base w ∙ is ∙ ap not f)))
 
 -- ---- a rename changes no size
 

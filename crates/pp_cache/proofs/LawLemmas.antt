@@ -1,7 +1,7 @@
 -- Lemmas on the laws of a cache: how many pages may stand in frames, and that no frame is given back.
 use Rattle.std.proofs.Common.{◌≡◌, ℕ, zero, suc, ◌+◌, ◌-◌, ◌≤◌, Bool, true, false, not, cond, eqb, List, [], ◌∷◌, ◌++◌}
 use Rattle.std.proofs.Common.{length, get_or, set, refl, ap, sym, ◌∙◌, arith, inl, inr, length-append, get_or-set_other}
-use Rattle.std.specs.Prelude.{Option, None, Some, is_some, count_by, ◌&&◌, ◌||◌, nat_lt}
+use Rattle.std.specs.Prelude.{Option, None, Some, is_some, IsTrue, count_by, ◌&&◌, ◌||◌, nat_lt}
 use Rattle.std.proofs.lemmas.Bool.{cases_lt, cases_Bool}
 use Rattle.std.proofs.lemmas.Bool.Decides.{eqb_tells}
 use Rattle.std.proofs.lemmas.List.{set_past}
@@ -19,7 +19,7 @@ use Rattle.pp_cache.specs.Frames.{FrameMap, is_held, is_pinned, resident_count, 
 use Rattle.pp_cache.specs.Frames.{with_pinned}
 use Rattle.pp_cache.specs.Cache.{PageCache, asked, after_pin, after_bring_in, grown, keys_for, with_key, with_room}
 use Rattle.pp_cache.specs.Cache.{dropped, after_unpin, moved_page, after_rekey, last_cached, one_fewer_of, one_fewer}
-use Rattle.pp_cache.specs.Cache.{fewer, after_resize, IsSound, IsTogether, without_victim}
+use Rattle.pp_cache.specs.Cache.{fewer, after_resize, is_idle, IsSound, IsTogether, without_victim}
 use Rattle.pp_cache.proofs.FrameLemmas.{one_for, count-set}
 use Rattle.pp_cache.proofs.CacheLemmas.{page_gone, victim_frames}
 
@@ -127,6 +127,9 @@ contains-append [] ys k = refl
 contains-append (x ∷ xs) ys k = ap (λ b. eqb x k || b) (contains-append xs ys k)
     ∙ or_assoc (eqb x k) (contains xs k) (contains ys k)
 
+pub idle_cached : (s : PageCache) → IsSound s → (k : ℕ) → is_idle s.table k ≡ true → IsTrue (is_cached s.lists k)
+idle_cached s h k e = h.together.unpinned_is_cached k (idle_some (page_of s.table k) e) (idle_free (page_of s.table k) e)
+
 pub few_unpinned : (s : PageCache) → IsSound s → resident_count s.table ≤ pinned_count s.table + s.lists.c
 few_unpinned s h = omega (
   arith,
@@ -138,9 +141,7 @@ few_unpinned s h = omega (
   where
     stands : (k : ℕ) → is_idle_page (get_or s.table.pages k None) ≡ true
         → contains (s.lists.t1 ++ s.lists.t2) k ≡ true
-    stands k e = contains-append s.lists.t1 s.lists.t2 k
-        ∙ h.together.unpinned_is_cached k (idle_some (get_or s.table.pages k None) e)
-        (idle_free (get_or s.table.pages k None) e)
+    stands k e = contains-append s.lists.t1 s.lists.t2 k ∙ idle_cached s h k e
 
 -- ---- no frame is given back
 

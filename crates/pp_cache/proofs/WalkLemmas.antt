@@ -16,11 +16,13 @@ use Rattle.pp_arc.specs.Bounds.{IsWithinBounds}
 use Rattle.pp_arc.proofs.PageLemmas.{times_in-contains, contains-times_in}
 use Rattle.pp_arc.proofs.SizeLemmas.{times_in-append}
 use Rattle.pp_cache.specs.declared.resident.Resident.{Resident}
-use Rattle.pp_cache.specs.Frames.{page_of, resident_count}
-use Rattle.pp_cache.specs.Cache.{PageCache, dropped, lists_where, KeepsOnly, IsSound}
+use Rattle.pp_cache.specs.declared.leaving.Leaving.{Leaving}
+use Rattle.pp_cache.specs.declared.leaving.Leaving.TheVariants.{From, Idle}
+use Rattle.pp_cache.specs.Frames.{FrameMap, page_of, is_held, resident_count}
+use Rattle.pp_cache.specs.Cache.{PageCache, dropped, lists_where, KeepsOnly, is_idle, stays, IsSound}
 use Rattle.pp_cache.proofs.FrameLemmas.{one_for, count-set}
 use Rattle.pp_cache.proofs.CacheLemmas.{filter_twice, keeps_all, keeps_fewer, keeps_alike}
-use Rattle.pp_cache.proofs.LawLemmas.{contains-append}
+use Rattle.pp_cache.proofs.LawLemmas.{contains-append, idle_cached}
 
 -- ---- tests
 
@@ -164,6 +166,11 @@ passes base l i k = base k || not (contains (take i l) k)
 passes-other : (base : ℕ → Bool) (l : List ℕ) (i y : ℕ) → contains (take i l) y ≡ false → passes base l i y ≡ true
 passes-other base l i y none = ap (λ b. base y || not b) none ∙ or_true (base y)
 
+-- the next page wasn't looked at
+not_passed : (l : List ℕ) (i k : ℕ) → times_in l k ≤ 1 → slice_get l i ≡ Some k → contains (take i l) k ≡ false
+not_passed l i k once e =
+    passed-not (take i l) (k ∷ drop (i + 1) l) k (rw (← split_at l i k e) once) (first k (drop (i + 1) l))
+
 pub walk-start : (base : ℕ → Bool) (l : List ℕ) (s : PageCache) → KeepsOnly (passes base l 0) s s
 walk-start base l s = keeps_all (passes base l 0) s (λ y. or_true (base y))
 
@@ -187,16 +194,14 @@ walk-next base s t list i k h sound sound' e =
     once' : (y : ℕ) → times_in (take i l ++ k ∷ drop (i + 1) l) y ≤ 1
     once' y = rw (← split_at l i k e) (once_in s.lists list sound.bounds y)
 
-    not_passed : contains (take i l) k ≡ false
-    not_passed = passed-not (take i l) (k ∷ drop (i + 1) l) k (once' k) (first k (drop (i + 1) l))
-
     there : contains l k ≡ true
     there = ap (λ w. contains w k) (split_at l i k e) ∙ contains-append (take i l) (k ∷ drop (i + 1) l) k
         ∙ ap (λ b. contains (take i l) k || b) (first k (drop (i + 1) l)) ∙ or_true (contains (take i l) k)
 
     placed : place t.lists k ≡ Some list
     placed = place-in t.lists list k sound'.bounds
-        (ap (λ w. contains w k) filtered ∙ contains-filter p l k there (passes-other base l i k not_passed))
+        (ap (λ w. contains w k) filtered
+        ∙ contains-filter p l k there (passes-other base l i k (not_passed l i k (once_in s.lists list sound.bounds k) e)))
 
 passes-next : (base : ℕ → Bool) (l : List ℕ) (i k y : ℕ) → slice_get l i ≡ Some k
     → passes base l (i + 1) y ≡ (base y || not (contains (take i l) y || (eqb k y || false)))
@@ -204,7 +209,7 @@ passes-next base l i k y e = ap (λ w. base y || not (contains w y)) (take_next 
     ∙ ap (λ b. base y || not b) (contains-append (take i l) (k ∷ []) y)
 
 -- a page is dropped where it doesn't pass the test
-pub walk-step : (base : ℕ → Bool) (s t u : PageCache) (l : List ℕ) (i k : ℕ) → KeepsOnly (passes base l i) s t
+walk-step : (base : ℕ → Bool) (s t u : PageCache) (l : List ℕ) (i k : ℕ) → KeepsOnly (passes base l i) s t
     → slice_get l i ≡ Some k → u ≡ cond (base k) t (dropped t k) → KeepsOnly (passes base l (i + 1)) s u
 walk-step base s t u l i k h e same = go (base k) refl
   where
@@ -244,6 +249,30 @@ walk-step base s t u l i k h e same = go (base k) refl
         let stay : u ≡ t = same ∙ ap (λ b. cond b t (dropped t k)) f in
         rw stay (keeps_alike (passes base l i) (passes base l (i + 1)) s t h
         (λ y. sym (next y ∙ ap (λ b. passes base l i y && b) (stays y f) ∙ and_true (passes base l i y))))
+
+stays-same : (leaving : Leaving) (m n : FrameMap) (k : ℕ) → page_of m k ≡ page_of n k
+    → stays leaving m k ≡ stays leaving n k
+stays-same (From limit) m n k e = refl
+stays-same Idle m n k e = ap (λ o. not (is_some o && not (is_held o))) e
+
+-- the same, where a page of the cache as it is now is tested: the walk hasn't changed it
+pub walk-leaving : (leaving : Leaving) (s t u : PageCache) (list : ListName) (i k : ℕ)
+    → KeepsOnly (passes (stays leaving s.table) (list_of s.lists list) i) s t → IsSound s
+    → slice_get (list_of s.lists list) i ≡ Some k → u ≡ cond (stays leaving t.table k) t (dropped t k)
+    → KeepsOnly (passes (stays leaving s.table) (list_of s.lists list) (i + 1)) s u
+walk-leaving leaving s t u list i k h sound e same =
+    walk-step base s t u l i k h e
+    (same ∙ ap (λ b. cond b t (dropped t k)) (stays-same leaving t.table s.table k page))
+  where
+    base : ℕ → Bool
+    base = stays leaving s.table
+
+    l : List ℕ
+    l = list_of s.lists list
+
+    page : page_of t.table k ≡ page_of s.table k
+    page = h.pages k ∙ ap (λ b. cond b (page_of s.table k) None)
+        (passes-other base l i k (not_passed l i k (once_in s.lists list sound.bounds k) e))
 
 pub walk-end : (base : ℕ → Bool) (s t : PageCache) (l : List ℕ) (i : ℕ) → KeepsOnly (passes base l i) s t
     → length l ≤ i → KeepsOnly (λ k. base k || not (contains l k)) s t
@@ -383,6 +412,40 @@ four_walks base s a b d e cached ha hb hd he = keeps_on p4 base s e h4 named pag
     paged y some = elim (cases_Bool (contains s.lists.t1 y)) [
       | inl t ↦ named T1 y t
       | inr f ↦ named T2 y (sym (ap (λ v. v || contains s.lists.t2 y) f) ∙ cached y some)
+    ]
+
+-- an idle page is one of T1 or T2, so two walks find each
+pub two_walks : (s a b : PageCache) → IsSound s → KeepsOnly (walked (stays Idle s.table) s T1) s a
+    → KeepsOnly (walked (stays Idle a.table) a T2) a b → KeepsOnly (stays Idle s.table) s b
+two_walks s a b sound ha hb =
+    keeps_alike (λ k. p k && q k) (stays Idle s.table) s b (keeps_then p q s a b ha hb) test
+  where
+    p : ℕ → Bool
+    p = walked (stays Idle s.table) s T1
+
+    q : ℕ → Bool
+    q = walked (stays Idle a.table) a T2
+
+    same : (k : ℕ) → p k ≡ true → is_idle a.table k ≡ is_idle s.table k
+    same k pass = ap (λ o. is_some o && not (is_held o))
+        (ha.pages k ∙ ap (λ v. cond v (page_of s.table k) None) pass)
+
+    test : (k : ℕ) → (p k && q k) ≡ stays Idle s.table k
+    test k = elim (cases_Bool (is_idle s.table k)) [
+      | inl t ↦ elim (cases_Bool (contains s.lists.t1 k)) [
+        | inl here ↦ rw (t, here) refl
+        | inr other ↦
+            let pass : p k ≡ true = rw (t, other) refl in
+            let cached : contains s.lists.t2 k ≡ true =
+            sym (ap (λ v. v || contains s.lists.t2 k) other) ∙ idle_cached s sound k t in
+            let here : contains a.lists.t2 k ≡ true =
+            ap (λ w. contains (list_of w T2) k) ha.lists ∙ contains-filter p s.lists.t2 k cached pass in
+            ap (λ v. v && q k) pass ∙ ap (λ v. not v || not (contains a.lists.t2 k)) (same k pass ∙ t)
+            ∙ ap not here ∙ sym (ap not t)
+      ]
+      | inr f ↦
+          let pass : p k ≡ true = ap (λ v. not v || not (contains s.lists.t1 k)) f in
+          ap (λ v. v && q k) pass ∙ ap (λ v. not v || not (contains a.lists.t2 k)) (same k pass ∙ f) ∙ sym (ap not f)
     ]
 
 -- ---- as many pages are cached as stand in frames

@@ -12,6 +12,8 @@ use Rattle.pp_arc.specs.Figure.{request, forget}
 use Rattle.pp_arc.specs.Sizes.{with_pages, given_up, after_giving_up, resized, renamed}
 use Rattle.pp_cache.specs.declared.create.Create.{Create}
 use Rattle.pp_cache.specs.declared.create.Create.TheVariants.{Never, IfRoom, Always}
+use Rattle.pp_cache.specs.declared.leaving.Leaving.{Leaving}
+use Rattle.pp_cache.specs.declared.leaving.Leaving.TheVariants.{From, Idle}
 use Rattle.pp_cache.specs.Frames.{FrameMap, no_frames, page_of, is_pinned, pinned_count, with_page, with_pinned}
 use Rattle.pp_cache.specs.Frames.{moved, with_keys, with_free_frame, IsOneToOne}
 
@@ -133,6 +135,11 @@ pub record KeepsOnly (test : ℕ → Bool) (old new : PageCache) : Type 0 where
 -- Whether the page of a key stands in a frame for no user.
 abbrev pub is_idle : FrameMap → ℕ → Bool
 is_idle m key = is_some (page_of m key) && not (is_pinned m key)
+
+-- Whether the page of a key isn't one of those that leave.
+abbrev pub stays : Leaving → FrameMap → ℕ → Bool
+stays (From limit) m key = nat_lt key limit
+stays Idle m key = not (is_idle m key)
 
 -- The last page of T1, else of T2.
 abbrev pub last_cached : FourLists → Option ℕ

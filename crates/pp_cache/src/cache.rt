@@ -10,6 +10,7 @@ ghost use Rattle.pp_cache.specs.Frames.{with_pinned};
 ghost use Rattle.pp_cache.specs.Cache.{keys_for, without_victim};
 
 use crate::frames::Frames;
+use crate::leaving::Leaving;
 use crate::{Create, Fetched};
 use pp_arc::{Answer, Busy, Directory, List};
 use std::alloc::{AllocError, Global};
@@ -82,7 +83,7 @@ fn make_way(frames: &mut Frames, answer: Answer)
 
 impl Cache {
     ghost use Rattle.pp_cache.specs.Cache.{empty_cache, asked, after_pin, after_bring_in, is_crowded, may_bring_in, grown};
-    ghost use Rattle.pp_cache.specs.Cache.{with_key, with_room, dropped, after_unpin, after_rekey, KeepsOnly, is_idle};
+    ghost use Rattle.pp_cache.specs.Cache.{with_key, with_room, dropped, after_unpin, after_rekey, KeepsOnly, is_idle, stays};
     ghost use Rattle.pp_cache.specs.Cache.{moved_page, one_fewer, one_fewer_of, last_cached, after_resize, IsSound, PinnedStay, SamePages};
 
     /// A cache of `size` pages that nobody has pinned, for a start without room for any key.
@@ -444,15 +445,24 @@ impl Cache {
         ensures exact { KeepsOnly (λ key. nat_lt key limit) self.old self.new }
         ensures sound { IsSound self.new }
     {
-        self.truncate_list(List::T1, limit);
-        self.truncate_list(List::T2, limit);
-        self.truncate_list(List::B1, limit);
-        self.truncate_list(List::B2, limit);
+        self.drop_in(List::T1, Leaving::From(limit));
+        self.drop_in(List::T2, Leaving::From(limit));
+        self.drop_in(List::B1, Leaving::From(limit));
+        self.drop_in(List::B2, Leaving::From(limit));
     }
 
-    /// Drops each page of this list whose key is at least `limit`.
-    fn truncate_list(&mut self, list: List, limit: u32)
-        ensures exact { KeepsOnly (λ key. nat_lt key limit || not (contains (list_of self.old.lists list) key))
+    /// Drops each page that isn't pinned. It takes a step for each page of `T1` and `T2`: `c` at most.
+    pub fn shrink(&mut self)
+        ensures exact { KeepsOnly (λ key. not (is_idle self.old.table key)) self.old self.new }
+        ensures sound { IsSound self.new }
+    {
+        self.drop_in(List::T1, Leaving::Idle);
+        self.drop_in(List::T2, Leaving::Idle);
+    }
+
+    /// Drops those pages of this list that leave.
+    fn drop_in(&mut self, list: List, leaving: Leaving)
+        ensures exact { KeepsOnly (λ key. stays leaving self.old.table key || not (contains (list_of self.old.lists list) key))
             self.old self.new }
         ensures were_sound { IsSound self.old }
         ensures sound { IsSound self.new }
@@ -461,43 +471,42 @@ impl Cache {
         for _ in 0..self.directory.len(list) {
             if let Some(key) = at {
                 at = self.directory.after(key);
-                self.drop_from(key, limit);
+                self.drop_leaving(key, leaving);
             }
         }
     }
 
-    /// Drops the page of the key where it is at least `limit`.
-    fn drop_from(&mut self, key: u32, limit: u32)
-        ensures exact { self.new ≡ (if nat_lt key limit then self.old else dropped self.old key) }
+    /// Drops the page of the key where it is one of those that leave.
+    fn drop_leaving(&mut self, key: u32, leaving: Leaving)
+        ensures exact { self.new ≡ (if stays leaving self.old.table key then self.old else dropped self.old key) }
         ensures sound { IsSound self.new }
     {
         let _ = &self.directory;
-        if limit <= key {
+        if !self.stays(key, leaving) {
             self.drop_page(key);
         }
     }
 
-    /// Drops each page that isn't pinned. It takes a step for each key that there is room for.
-    pub fn shrink(&mut self)
-        ensures exact { KeepsOnly (λ key. not (is_idle self.old.table key)) self.old self.new }
-        ensures sound { IsSound self.new }
+    /// Whether the page of the key isn't one of those that leave.
+    fn stays(&self, key: u32, leaving: Leaving) -> bool
+        ensures { result ≡ stays leaving self.now.table key }
     {
-        for key in 0..self.frames.keys() {
-            self.drop_if_idle(key);
+        match leaving {
+            Leaving::From(limit) => key < limit,
+            Leaving::Idle => !self.is_idle(key),
         }
     }
 
-    /// Drops the page of the key where it stands in a frame and isn't pinned.
-    fn drop_if_idle(&mut self, key: u32)
-        ensures exact { self.new ≡ (if is_idle self.old.table key then dropped self.old key else self.old) }
-        ensures sound { IsSound self.new }
+    /// Whether the page of the key stands in a frame for no user.
+    fn is_idle(&self, key: u32) -> bool
+        ensures { result ≡ is_idle self.now.table key }
     {
-        if let Some(page) = self.frames.page(key) {
-            if !page.is_pinned {
-                self.drop_page(key);
-            }
+        match self.frames.page(key) {
+            Some(page) => !page.is_pinned,
+            None => false,
         }
     }
+
     // ---- another size
 
     /// Makes the cache one of `size` pages that nobody has pinned.

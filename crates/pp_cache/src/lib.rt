@@ -16,4 +16,5 @@ mod create;
 mod fetched;
 mod frames;
 pub mod laws;
+mod leaving;
 mod resident;

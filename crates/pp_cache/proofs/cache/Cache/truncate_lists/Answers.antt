@@ -5,7 +5,6 @@ use Rattle.pp_cache.proofs.cache.Cache.truncate_lists.Goals as goal
 
 pub returns-clause-exact : goal.returns-clause-exact
 returns-clause-exact c =
-    four_walks (λ k. ltb k c.args.limit) c.args.self.now c.truncate_list.new.self c.truncate_list-2.new.self
-    c.truncate_list-3.new.self c.truncate_list-4.new.self
-    (all_cached c.args.self.now c.truncate_list.ensures.were_sound c.requires.cached) c.truncate_list.ensures.exact
-    c.truncate_list-2.ensures.exact c.truncate_list-3.ensures.exact c.truncate_list-4.ensures.exact
+    four_walks (λ k. ltb k c.args.limit) c.args.self.now c.drop_in.new.self c.drop_in-2.new.self c.drop_in-3.new.self
+    c.drop_in-4.new.self (all_cached c.args.self.now c.drop_in.ensures.were_sound c.requires.cached)
+    c.drop_in.ensures.exact c.drop_in-2.ensures.exact c.drop_in-3.ensures.exact c.drop_in-4.ensures.exact
