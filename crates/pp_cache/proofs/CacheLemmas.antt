@@ -5,6 +5,7 @@ use Rattle.std.proofs.Common.{get_or-set_other, get_or-set_same, eq-eqb}
 use Rattle.std.specs.Prelude.{Option, None, Some, is_some, IsSome, IsTrue, ◌&&◌, ◌||◌, not}
 use Rattle.std.specs.List.{filter}
 use Rattle.std.specs.Option.{option_map}
+use Rattle.std.proofs.Math.Bool.{or-true, or-false, and-true, and-false}
 use Rattle.std.proofs.lemmas.Bool.{cases_lt, cases_eq, lt-ltb, le-leb, lt-leb}
 use Rattle.std.proofs.lemmas.Bool.Decides.{eqb_tells}
 use Rattle.std.proofs.lemmas.List.{get_or_past, set_past, get_or_append_left, get_or-append_right, get_or-replicate}
@@ -15,16 +16,17 @@ use Rattle.pp_arc.specs.declared.answer.Answer.TheVariants.{Hit, Free, Evict, Al
 use Rattle.pp_arc.specs.declared.list.List.{List as ListName}
 use Rattle.pp_arc.specs.declared.list.List.TheVariants.{T1, T2, B1, B2}
 use Rattle.pp_arc.specs.Pages.{contains, without, times_in}
-use Rattle.pp_arc.specs.FourLists.{FourLists, times_named, cached_count, is_cached, place}
+use Rattle.pp_arc.specs.FourLists.{FourLists, list_of, times_named, cached_count, is_cached, place}
 use Rattle.pp_arc.specs.Figure.{forget, with_remembered}
 use Rattle.pp_arc.specs.Laws.{CachesInstead, CachesWithout, CachesRenamed, AllCachedAreBusy}
 use Rattle.pp_arc.specs.Sizes.{renamed, renamed_in, resized}
+use Rattle.pp_arc.proofs.PageLemmas.{times_in-contains}
 use Rattle.pp_cache.specs.declared.resident.Resident.{Resident}
 use Rattle.pp_cache.specs.Frames.{FrameMap, page_of, is_held, is_pinned, resident_count, pinned_to, with_page, with_pinned}
 use Rattle.pp_cache.specs.Frames.{with_keys, with_free_frame, moved, IsOneToOne}
 use Rattle.pp_cache.specs.Cache.{PageCache, without_victim, dropped, lists_where, KeepsOnly, IsTogether}
 use Rattle.pp_cache.specs.Cache.{IsSound, PinnedStay, one_fewer, fewer}
-use Rattle.pp_cache.proofs.FrameLemmas.{count-set, one_for}
+use Rattle.pp_cache.proofs.FrameLemmas.{count-set}
 
 -- ---- one page of the map
 
@@ -387,9 +389,17 @@ together-rekey s lists old new h ne low pages c = record {
 
 -- ---- many pages at once
 
-pub filter_all : (p : ℕ → Bool) → ((y : ℕ) → p y ≡ true) → (xs : List ℕ) → filter p xs ≡ xs
-filter_all p all [] = refl
-filter_all p all (x ∷ xs) = rw (all x) (ap (λ l. x ∷ l) (filter_all p all xs))
+pub contains-first : (k : ℕ) (ys : List ℕ) → contains (k ∷ ys) k ≡ true
+contains-first k ys = rw (eq-eqb k k refl) refl
+
+-- the test lets all of the list through
+pub filter_pass : (p : ℕ → Bool) (xs : List ℕ) → ((y : ℕ) → contains xs y ≡ true → p y ≡ true) → filter p xs ≡ xs
+filter_pass p [] all = refl
+filter_pass p (x ∷ xs) all =
+    let here : p x ≡ true = all x (contains-first x xs) in
+    let rest : filter p xs ≡ xs =
+    filter_pass p xs (λ y h. all y (ap (λ b. eqb x y || b) h ∙ or-true (eqb x y))) in
+    rw here (ap (λ l. x ∷ l) rest)
 
 filter_twice_one : (p q r : ℕ → Bool) (x : ℕ) (xs : List ℕ) (b c : Bool) → r x ≡ (p x && q x)
     → filter q (filter p xs) ≡ filter r xs → p x ≡ b → q x ≡ c → filter q (filter p (x ∷ xs)) ≡ filter r (x ∷ xs)
@@ -407,25 +417,22 @@ filter_twice p q r same (x ∷ xs) =
     filter_twice_one p q r x xs (p x) (q x) (same x) (filter_twice p q r same xs) refl refl
 
 -- two tests that agree on what stands in the list
-filter_same_one : (p q : ℕ → Bool) (x : ℕ) (xs : List ℕ) (b : Bool) → p x ≡ q x → filter p xs ≡ filter q xs → q x ≡ b
-    → filter p (x ∷ xs) ≡ filter q (x ∷ xs)
-filter_same_one p q x xs true here rest e = rw (here, e) (ap (λ l. x ∷ l) rest)
-filter_same_one p q x xs false here rest e = rw (here, e) rest
-
-pub filter_same : (p q : ℕ → Bool) (bound : ℕ) → ((y : ℕ) → y < bound → p y ≡ q y) → (xs : List ℕ)
-    → ((y : ℕ) → 1 ≤ times_in xs y → y < bound) → filter p xs ≡ filter q xs
-filter_same p q bound same [] below = refl
-filter_same p q bound same (x ∷ xs) below =
-    filter_same_one p q x xs (q x) (same x (below x (omega (arith, ap one_for (eq-eqb x x refl)))))
-    (filter_same p q bound same xs (λ y n. below y (omega (arith, n)))) refl
+filter_same_on : (p q : ℕ → Bool) (xs : List ℕ) → ((y : ℕ) → contains xs y ≡ true → p y ≡ q y)
+    → filter p xs ≡ filter q xs
+filter_same_on p q [] same = refl
+filter_same_on p q (x ∷ xs) same =
+    let here : p x ≡ q x = same x (contains-first x xs) in
+    let rest : filter p xs ≡ filter q xs =
+    filter_same_on p q xs (λ y h. same y (ap (λ b. eqb x y || b) h ∙ or-true (eqb x y))) in
+    rw (here, rest) refl
 
 pub keeps_all : (p : ℕ → Bool) (s : PageCache) → ((y : ℕ) → p y ≡ true) → KeepsOnly p s s
 keeps_all p s all = record {
   lists = rw (
-    filter_all p all s.lists.t1,
-    filter_all p all s.lists.t2,
-    filter_all p all s.lists.b1,
-    filter_all p all s.lists.b2,
+    filter_pass p s.lists.t1 (λ y here. all y),
+    filter_pass p s.lists.t2 (λ y here. all y),
+    filter_pass p s.lists.b1 (λ y here. all y),
+    filter_pass p s.lists.b2 (λ y here. all y),
   ) refl;
   pages = λ k. rw (all k) refl;
   frames = refl;
@@ -439,7 +446,7 @@ keeps_fewer p q old s t k h e same = rw e (record {
     | inl w ↦ rw (w, same k, eq-eqb k k refl) (page_gone s.table k ∙ clear (p k))
     | inr ne ↦ page_there s.table k j None ne ∙ h.pages j
         ∙ ap (λ b. cond b (page_of old.table j) None) (sym (same j ∙ ap (λ b. p j && not b) (eqb_no j k ne)
-        ∙ keep (p j)))
+        ∙ and-true (p j)))
   ];
   frames = h.frames;
 })
@@ -456,62 +463,57 @@ keeps_fewer p q old s t k h e same = rw e (record {
     clear true = refl
     clear false = refl
 
-    keep : (b : Bool) → (b && true) ≡ b
-    keep true = refl
-    keep false = refl
-
     eqb_no : (j k : ℕ) → j ≢ k → eqb j k ≡ false
     eqb_no j k ne = elim (eqb_tells j k) [ inl t ↦ absurd (ne t.1) | inr t ↦ t.0 ]
 
--- the same pages and names pass another test
-pub keeps_same : (p q : ℕ → Bool) (old s : PageCache) → KeepsOnly p old s → IsSound old
-    → ((y : ℕ) → y < length old.table.pages → p y ≡ q y) → KeepsOnly q old s
-keeps_same p q old s h sound same = record {
+-- the same pages and names pass a test that agrees on these
+pub keeps_on : (p q : ℕ → Bool) (s u : PageCache) → KeepsOnly p s u
+    → ((list : ListName) (y : ℕ) → contains (list_of s.lists list) y ≡ true → p y ≡ q y)
+    → ((y : ℕ) → IsSome (page_of s.table y) → p y ≡ q y) → KeepsOnly q s u
+keeps_on p q s u h named paged = record {
   lists = h.lists ∙ four;
-  pages = λ k. h.pages k ∙ page k;
+  pages = λ k. h.pages k ∙ page k (page_of s.table k) refl;
   frames = h.frames;
 }
   where
-    below : (y : ℕ) → 0 < times_named old.lists y → y < length old.table.pages
-    below y n = omega (arith, sound.bounds.below y n, sound.together.keys)
-
-    four : lists_where p old.lists ≡ lists_where q old.lists
+    four : lists_where p s.lists ≡ lists_where q s.lists
     four = rw (
-      filter_same p q (length old.table.pages) same old.lists.t1 (λ y n. below y (omega (arith, n))),
-      filter_same p q (length old.table.pages) same old.lists.t2 (λ y n. below y (omega (arith, n))),
-      filter_same p q (length old.table.pages) same old.lists.b1 (λ y n. below y (omega (arith, n))),
-      filter_same p q (length old.table.pages) same old.lists.b2 (λ y n. below y (omega (arith, n))),
+      filter_same_on p q s.lists.t1 (named T1),
+      filter_same_on p q s.lists.t2 (named T2),
+      filter_same_on p q s.lists.b1 (named B1),
+      filter_same_on p q s.lists.b2 (named B2),
     ) refl
 
-    both : (a b : Bool) (o : Option Resident) → cond a o o ≡ cond b o o
-    both true true o = refl
-    both true false o = refl
-    both false true o = refl
-    both false false o = refl
+    nothing : (a b : Bool) (none : Option Resident) → cond a none none ≡ cond b none none
+    nothing true true o = refl
+    nothing true false o = refl
+    nothing false true o = refl
+    nothing false false o = refl
 
-    page : (k : ℕ) → cond (p k) (page_of old.table k) None ≡ cond (q k) (page_of old.table k) None
-    page k = elim (cases_lt k (length old.table.pages)) [
-      | inl lt ↦ ap (λ b. cond b (page_of old.table k) None) (same k lt)
-      | inr le ↦ rw (get_or_past old.table.pages k None le) (both (p k) (q k) None)
-    ]
+    page : (k : ℕ) (o : Option Resident) → page_of s.table k ≡ o → cond (p k) o None ≡ cond (q k) o None
+    page k None e = nothing (p k) (q k) None
+    page k (Some r) e = ap (λ b. cond b (Some r) None) (paged k (ap is_some e))
+
+-- a list has no name that isn't one of the four lists'
+pub times_in-list : (s : FourLists) (list : ListName) (y : ℕ) → times_in (list_of s list) y ≤ times_named s y
+times_in-list s T1 y = omega arith
+times_in-list s T2 y = omega arith
+times_in-list s B1 y = omega arith
+times_in-list s B2 y = omega arith
+
+-- the same, where it agrees on the keys that there is room for
+pub keeps_same : (p q : ℕ → Bool) (old s : PageCache) → KeepsOnly p old s → IsSound old
+    → ((y : ℕ) → y < length old.table.pages → p y ≡ q y) → KeepsOnly q old s
+keeps_same p q old s h sound same = keeps_on p q old s h (λ list y here. same y (below list y here))
+    (λ y some. same y (some_below old.table y some))
+  where
+    below : (list : ListName) (y : ℕ) → contains (list_of old.lists list) y ≡ true → y < length old.table.pages
+    below list y here =
+        let named : 0 < times_named old.lists y =
+        omega (arith, times_in-contains (list_of old.lists list) y here, times_in-list old.lists list y) in
+        omega (arith, sound.bounds.below y named, sound.together.keys)
 
 -- ---- the keys that a loop has passed
-
-or_false : (b : Bool) → (b || false) ≡ b
-or_false true = refl
-or_false false = refl
-
-or_true : (b : Bool) → (b || true) ≡ true
-or_true true = refl
-or_true false = refl
-
-and_true : (b : Bool) → (b && true) ≡ b
-and_true true = refl
-and_true false = refl
-
-and_false : (b : Bool) → (b && false) ≡ false
-and_false true = refl
-and_false false = refl
 
 leb_next : (i y : ℕ) → y ≢ i → leb (i + 1) y ≡ leb i y
 leb_next i y ne = elim (cases_lt i y) [
@@ -526,20 +528,20 @@ leb_next i y ne = elim (cases_lt i y) [
 pub test_start : (limit y : ℕ) → (ltb y limit || leb limit y) ≡ true
 test_start limit y = elim (cases_lt y limit) [
   | inl lt ↦ rw (lt-ltb y limit lt) refl
-  | inr le ↦ rw (le-leb limit y le) (or_true (ltb y limit))
+  | inr le ↦ rw (le-leb limit y le) (or-true (ltb y limit))
 ]
 
 -- a key that is dropped fails from then on
 pub test_dropped : (base : Bool) (i y : ℕ) → (y ≡ i → base ≡ false)
     → (base || leb (i + 1) y) ≡ ((base || leb i y) && not (eqb y i))
 test_dropped base i y out = elim (eqb_tells y i) [
-  | inl t ↦ rw (t.0, out t.1, lt-leb (i + 1) y (omega (arith, t.1))) (sym (and_false (leb i y)))
-  | inr t ↦ rw (t.0, leb_next i y t.1) (sym (and_true (base || leb i y)))
+  | inl t ↦ rw (t.0, out t.1, lt-leb (i + 1) y (omega (arith, t.1))) (sym (and-false (leb i y)))
+  | inr t ↦ rw (t.0, leb_next i y t.1) (sym (and-true (base || leb i y)))
 ]
 
 -- past the last key
 pub test_end : (base : Bool) (i y : ℕ) → y < i → (base || leb i y) ≡ base
-test_end base i y lt = rw (lt-leb i y lt) (or_false base)
+test_end base i y lt = rw (lt-leb i y lt) (or-false base)
 
 -- the same test
 pub keeps_alike : (p q : ℕ → Bool) (old s : PageCache) → KeepsOnly p old s → ((y : ℕ) → p y ≡ q y) → KeepsOnly q old s

@@ -1,6 +1,6 @@
 -- Lemmas on the frames: what is left of their order where a page comes, goes, moves or is pinned.
 use Rattle.std.proofs.Common.{◌≡◌, ◌≢◌, ℕ, suc, ◌+◌, ◌-◌, ◌*◌, ◌<◌, ◌≤◌, ◌^◌, Bool, true, false, cond, eqb, List, [], ◌∷◌}
-use Rattle.std.proofs.Common.{◌++◌, length, take, drop, replicate, get_or, set, refl, ap, sym, ◌∙◌, arith, inl, inr, eq-eqb}
+use Rattle.std.proofs.Common.{◌++◌, length, take, drop, replicate, get_or, set, refl, ap, sym, ◌∙◌, arith, inl, inr, eq-eqb, subst}
 use Rattle.std.proofs.Common.{drop-cons, add-one, length-append, length-set, get_or-set_other, get_or-set_same}
 use Rattle.std.specs.Prelude.{Option, None, Some, is_some, count_by, sum_by}
 use Rattle.std.specs.Option.{option_map}
@@ -11,7 +11,7 @@ use Rattle.std.proofs.lemmas.List.Sums.{sum_by-set, get_or-le-sum_by, count_by-l
 use Rattle.std.proofs.lemmas.List.Folds.{sum_by-replicate}
 use Rattle.pp_arc.specs.Pages.{times_in}
 use Rattle.pp_cache.specs.declared.resident.Resident.{Resident}
-use Rattle.pp_cache.specs.Frames.{is_held, IsFree, IsOneToOne}
+use Rattle.pp_cache.specs.Frames.{FrameMap, is_held, resident_count, IsFree, IsOneToOne}
 use Rattle.pp_cache.specs.Kept.{Parts, IsKept, frame_map, free_frames, is_in, uses}
 
 -- ---- counts
@@ -115,6 +115,11 @@ times_in-first f xs = let e : one_for (eqb f f) ≡ 1 = ap one_for (eq-eqb f f r
 
 pub open_first : (p : Parts) (f : ℕ) → IsKept p → p.taken < length p.order → f ≡ get_or p.order p.taken 0 → IsOpen p f
 open_first p f h lt e = open_frame p f h (rw (first_free p f lt e) (times_in-first f (drop (p.taken + 1) p.order)))
+
+-- where fewer pages stand in frames than there are, a frame is free
+pub taken_room : (p : Parts) (m : FrameMap) → IsKept p → frame_map p ≡ m → resident_count m < m.frames
+    → p.taken < length p.order
+taken_room p m h e less = omega (arith, h.taken, subst (λ (w : FrameMap). resident_count w < w.frames) (sym e) less)
 
 pub kept-take : (p : Parts) (key f : ℕ) → IsKept p → key < length p.pages → get_or p.pages key None ≡ None
     → p.taken < length p.order → f ≡ get_or p.order p.taken 0

@@ -1,5 +1,5 @@
 -- Lemmas on the names after a request: the page asked for is one, and one other is lost at most.
-use Rattle.std.proofs.Common.{◌≡◌, ◌≢◌, ◌⊎◌, ℕ, ◌*◌, ◌≤◌, Bool, true, false, cond, eqb, ltb, [], ◌∷◌, length, refl, arith}
+use Rattle.std.proofs.Common.{◌≡◌, ◌≢◌, ◌⊎◌, ℕ, ◌*◌, ◌+◌, ◌≤◌, Bool, true, false, cond, eqb, ltb, List, [], ◌∷◌, length, refl, arith}
 use Rattle.std.proofs.Common.{sym, ◌∙◌, subst, ap, inl, inr, eq-eqb}
 use Rattle.std.specs.Prelude.{Option, Some, None, is_some, is_none, ◌&&◌, IsTrue}
 use Rattle.std.proofs.lemmas.Bool.{eqb-true, eqb-false, ltb-true, ltb-false}
@@ -8,7 +8,7 @@ use Rattle.pp_arc.specs.declared.answer.Answer.{Answer}
 use Rattle.pp_arc.specs.declared.answer.Answer.TheVariants.{Hit, Free, Evict, AllBusy}
 use Rattle.pp_arc.specs.declared.list.List.{List as ListName}
 use Rattle.pp_arc.specs.declared.list.List.TheVariants.{T1, T2, B1, B2}
-use Rattle.pp_arc.specs.Pages.{times_in, last_page}
+use Rattle.pp_arc.specs.Pages.{times_in, last_page, without_last}
 use Rattle.pp_arc.specs.FourLists.{FourLists, recent_count, total_count, times_named, is_cached, place}
 use Rattle.pp_arc.specs.Bounds.{IsWithinBounds}
 use Rattle.pp_arc.specs.Figure.{forget, with_front_of_t1, with_front_of_t2, replacement, after_replace, replace}
@@ -71,6 +71,16 @@ instead s r t x lost left put q = (forth, back)
           | inr j ↦ named-times t q (omega (arith, times-named s q k.0, (put q).1 j.1, (left q).1 k.1))
         ]
 
+-- the others are named as before where one is forgotten
+times-forget_other : (s : FourLists) (x q : ℕ) → x ≢ q → times_named (forget s x) q ≡ times_named s q
+times-forget_other s x q ne = omega (
+  arith,
+  times_in-without_other s.t1 x q ne,
+  times_in-without_other s.t2 x q ne,
+  times_in-without_other s.b1 x q ne,
+  times_in-without_other s.b2 x q ne,
+)
+
 -- ---- a name comes
 
 Gains-front_of_t2 : (s : FourLists) (x : ℕ) → Gains s (with_front_of_t2 s x) x
@@ -79,13 +89,7 @@ Gains-front_of_t2 s x q = (
   λ e. rw (eq-eqb x q e) (omega arith),
   λ ne. elim (eqb_tells x q) [
     | inl t ↦ absurd (ne t.1)
-    | inr t ↦ rw t.0 (omega (
-      arith,
-      times_in-without_other s.t1 x q ne,
-      times_in-without_other s.t2 x q ne,
-      times_in-without_other s.b1 x q ne,
-      times_in-without_other s.b2 x q ne,
-    ))
+    | inr t ↦ rw t.0 (omega (arith, times-forget_other s x q ne))
   ],
 )
 
@@ -114,44 +118,40 @@ Loses-forget : (s : FourLists) (v : ℕ) → Loses s (forget s v) (Some v)
 unfolding Loses
 Loses-forget s v q = (
   λ e. let same : v ≡ q = cc in rw (← same) (times_named-forget_same s v),
-  λ ne. let other : v ≢ q = λ same. ne (ap Some same) in omega (
-    arith,
-    times_in-without_other s.t1 v q other,
-    times_in-without_other s.t2 v q other,
-    times_in-without_other s.b1 v q other,
-    times_in-without_other s.b2 v q other,
-  ),
+  λ ne. times-forget_other s v q (λ same. ne (ap Some same)),
 )
 
 -- one name alone
 times-other : (p q : ℕ) → p ≢ q → times_in (p ∷ []) q ≡ 0
 times-other p q ne = elim (eqb_tells p q) [ inl t ↦ absurd (ne t.1) | inr t ↦ rw t.0 refl ]
 
-Loses-last_of_b1 : (s : FourLists) → IsWithinBounds s → Loses s (without_last_of_b1 s) (last_page s.b1)
+-- the last of a list is lost, and the others are named as before
+Loses-last : (s t : FourLists) (l : List ℕ) (others : ℕ → ℕ) → ((q : ℕ) → times_named s q ≤ 1)
+    → ((q : ℕ) → times_named s q ≡ others q + times_in l q)
+    → ((q : ℕ) → times_named t q ≡ others q + times_in (without_last l) q) → Loses s t (last_page l)
 unfolding Loses
-Loses-last_of_b1 s h = go (last_page s.b1) refl
+Loses-last s t l others once before now = go (last_page l) refl
   where
-    go : (last : Option ℕ) → last_page s.b1 ≡ last → Loses s (without_last_of_b1 s) last
-    go None e q = (λ w. absurd (cc), λ ne. let empty : s.b1 ≡ [] = last-none s.b1 e in rw empty refl)
+    go : (last : Option ℕ) → last_page l ≡ last → Loses s t last
+    go None e q = (
+      λ w. absurd (cc),
+      λ ne. let same : without_last l ≡ l = rw (last-none l e) refl in
+          now q ∙ ap (λ xs. others q + times_in xs q) same ∙ sym (before q),
+    )
     go (Some p) e q = (
       λ w. let same : p ≡ q = cc in rw (← same)
-          (omega (arith, times_in-last s.b1 p p e, times_in-one p, h.once p)),
+          (omega (arith, before p, now p, times_in-last l p p e, times_in-one p, once p)),
       λ ne. let other : p ≢ q = λ same. ne (ap Some same) in
-          omega (arith, times_in-last s.b1 p q e, times-other p q other),
+          omega (arith, before q, now q, times_in-last l p q e, times-other p q other),
     )
 
+Loses-last_of_b1 : (s : FourLists) → IsWithinBounds s → Loses s (without_last_of_b1 s) (last_page s.b1)
+Loses-last_of_b1 s h = Loses-last s (without_last_of_b1 s) s.b1
+    (λ q. times_in s.t1 q + times_in s.t2 q + times_in s.b2 q) h.once (λ q. omega arith) (λ q. omega arith)
+
 Loses-last_of_b2 : (s : FourLists) → IsWithinBounds s → Loses s (without_last_of_b2 s) (last_page s.b2)
-unfolding Loses
-Loses-last_of_b2 s h = go (last_page s.b2) refl
-  where
-    go : (last : Option ℕ) → last_page s.b2 ≡ last → Loses s (without_last_of_b2 s) last
-    go None e q = (λ w. absurd (cc), λ ne. let empty : s.b2 ≡ [] = last-none s.b2 e in rw empty refl)
-    go (Some p) e q = (
-      λ w. let same : p ≡ q = cc in rw (← same)
-          (omega (arith, times_in-last s.b2 p p e, times_in-one p, h.once p)),
-      λ ne. let other : p ≢ q = λ same. ne (ap Some same) in
-          omega (arith, times_in-last s.b2 p q e, times-other p q other),
-    )
+Loses-last_of_b2 s h = Loses-last s (without_last_of_b2 s) s.b2
+    (λ q. times_in s.t1 q + times_in s.t2 q + times_in s.b1 q) h.once (λ q. omega arith) (λ q. omega arith)
 
 -- REPLACE remembers its victim, so no name is lost
 times-after_replace : (s : FourLists) (answer : Answer) → IsWithinBounds s

@@ -4,6 +4,7 @@ use Rattle.std.proofs.Common.{length, take, drop, get_or, set, refl, ap, sym, �
 use Rattle.std.specs.Prelude.{Option, None, Some, is_some, IsSome, IsTrue, count_by, slice_get, ◌&&◌, ◌||◌}
 use Rattle.std.specs.List.{filter}
 use Rattle.std.specs.Option.{option_and_then}
+use Rattle.std.proofs.Math.Bool.{or-true, and-true}
 use Rattle.std.proofs.lemmas.Bool.{cases_lt, cases_Bool, cases_eq}
 use Rattle.std.proofs.lemmas.Bool.Decides.{eqb_tells}
 use Rattle.std.proofs.lemmas.List.{get_or_past, take_all}
@@ -21,28 +22,10 @@ use Rattle.pp_cache.specs.declared.leaving.Leaving.TheVariants.{From, Idle}
 use Rattle.pp_cache.specs.Frames.{FrameMap, page_of, is_held, resident_count}
 use Rattle.pp_cache.specs.Cache.{PageCache, dropped, lists_where, KeepsOnly, is_idle, stays, IsSound}
 use Rattle.pp_cache.proofs.FrameLemmas.{one_for, count-set}
-use Rattle.pp_cache.proofs.CacheLemmas.{filter_twice, keeps_all, keeps_fewer, keeps_alike}
+use Rattle.pp_cache.proofs.CacheLemmas.{contains-first, times_in-list, filter_pass, filter_twice, keeps_all, keeps_fewer, keeps_on, keeps_alike}
 use Rattle.pp_cache.proofs.LawLemmas.{contains-append, idle_cached}
 
--- ---- tests
-
-or_true : (b : Bool) → (b || true) ≡ true
-or_true true = refl
-or_true false = refl
-
-and_false : (b : Bool) → (b && false) ≡ false
-and_false true = refl
-and_false false = refl
-
 -- ---- one list, of which the test lets through all that is still to come
-
-filter_pass : (p : ℕ → Bool) (xs : List ℕ) → ((y : ℕ) → contains xs y ≡ true → p y ≡ true) → filter p xs ≡ xs
-filter_pass p [] all = refl
-filter_pass p (x ∷ xs) all =
-    let here : p x ≡ true = all x (rw (eq-eqb x x refl) refl) in
-    let rest : filter p xs ≡ xs =
-    filter_pass p xs (λ y h. all y (ap (λ b. eqb x y || b) h ∙ or_true (eqb x y))) in
-    rw here (ap (λ l. x ∷ l) rest)
 
 not-contains-filter : (p : ℕ → Bool) (xs : List ℕ) (k : ℕ) → contains xs k ≡ false → contains (filter p xs) k ≡ false
 not-contains-filter p [] k h = refl
@@ -65,7 +48,7 @@ contains-filter p (x ∷ xs) k h pass = elim (eqb_tells x k) [
 ]
   where
     go : (b : Bool) → contains (filter p xs) k ≡ true → contains (cond b (x ∷ filter p xs) (filter p xs)) k ≡ true
-    go true rest = ap (λ b. eqb x k || b) rest ∙ or_true (eqb x k)
+    go true rest = ap (λ b. eqb x k || b) rest ∙ or-true (eqb x k)
     go false rest = rest
 
 shift : (y : ℕ) (ys : List ℕ) (k : ℕ) → slice_get (drop (1 + k + 1) (y ∷ ys)) 0 ≡ slice_get (drop (k + 1) ys) 0
@@ -89,16 +72,13 @@ filter_parts : (p : ℕ → Bool) (xs ys : List ℕ) → ((y : ℕ) → times_in
 filter_parts p xs ys once pass = filter-append p xs ys
     ∙ ap (λ l. filter p xs ++ l) (filter_pass p ys (λ y here. pass y (passed-not xs ys y (once y) here)))
 
-first : (k : ℕ) (ys : List ℕ) → contains (k ∷ ys) k ≡ true
-first k ys = rw (eq-eqb k k refl) refl
-
 -- what stands next in the filtered list
 next-filtered : (p : ℕ → Bool) (xs ys : List ℕ) (k : ℕ) → ((y : ℕ) → times_in (xs ++ k ∷ ys) y ≤ 1)
     → ((y : ℕ) → contains xs y ≡ false → p y ≡ true) → next_after (filter p (xs ++ k ∷ ys)) k ≡ slice_get ys 0
 next-filtered p xs ys k once pass =
     ap (λ l. next_after l k) (filter_parts p xs (k ∷ ys) once pass)
     ∙ next-passed (filter p xs) ys k
-    (not-contains-filter p xs k (passed-not xs (k ∷ ys) k (once k) (first k ys)))
+    (not-contains-filter p xs k (passed-not xs (k ∷ ys) k (once k) (contains-first k ys)))
 
 -- a list by its place: what was passed, the page here, and what is still to come
 split_at : (l : List ℕ) (i k : ℕ) → slice_get l i ≡ Some k → l ≡ take i l ++ k ∷ drop (i + 1) l
@@ -133,10 +113,7 @@ list_of-where p s B1 = refl
 list_of-where p s B2 = refl
 
 once_in : (s : FourLists) (list : ListName) → IsWithinBounds s → (y : ℕ) → times_in (list_of s list) y ≤ 1
-once_in s T1 h y = omega (arith, h.once y)
-once_in s T2 h y = omega (arith, h.once y)
-once_in s B1 h y = omega (arith, h.once y)
-once_in s B2 h y = omega (arith, h.once y)
+once_in s list h y = omega (arith, times_in-list s list y, h.once y)
 
 -- a page stands in one list alone
 place-in : (s : FourLists) (list : ListName) (k : ℕ) → IsWithinBounds s → contains (list_of s list) k ≡ true
@@ -164,15 +141,15 @@ abbrev pub passes : (ℕ → Bool) → List ℕ → ℕ → ℕ → Bool
 passes base l i k = base k || not (contains (take i l) k)
 
 passes-other : (base : ℕ → Bool) (l : List ℕ) (i y : ℕ) → contains (take i l) y ≡ false → passes base l i y ≡ true
-passes-other base l i y none = ap (λ b. base y || not b) none ∙ or_true (base y)
+passes-other base l i y none = ap (λ b. base y || not b) none ∙ or-true (base y)
 
 -- the next page wasn't looked at
 not_passed : (l : List ℕ) (i k : ℕ) → times_in l k ≤ 1 → slice_get l i ≡ Some k → contains (take i l) k ≡ false
 not_passed l i k once e =
-    passed-not (take i l) (k ∷ drop (i + 1) l) k (rw (← split_at l i k e) once) (first k (drop (i + 1) l))
+    passed-not (take i l) (k ∷ drop (i + 1) l) k (rw (← split_at l i k e) once) (contains-first k (drop (i + 1) l))
 
 pub walk-start : (base : ℕ → Bool) (l : List ℕ) (s : PageCache) → KeepsOnly (passes base l 0) s s
-walk-start base l s = keeps_all (passes base l 0) s (λ y. or_true (base y))
+walk-start base l s = keeps_all (passes base l 0) s (λ y. or-true (base y))
 
 pub walk-next : (base : ℕ → Bool) (s t : PageCache) (list : ListName) (i k : ℕ)
     → KeepsOnly (passes base (list_of s.lists list) i) s t → IsSound s → IsSound t
@@ -196,7 +173,7 @@ walk-next base s t list i k h sound sound' e =
 
     there : contains l k ≡ true
     there = ap (λ w. contains w k) (split_at l i k e) ∙ contains-append (take i l) (k ∷ drop (i + 1) l) k
-        ∙ ap (λ b. contains (take i l) k || b) (first k (drop (i + 1) l)) ∙ or_true (contains (take i l) k)
+        ∙ ap (λ b. contains (take i l) k || b) (contains-first k (drop (i + 1) l)) ∙ or-true (contains (take i l) k)
 
     placed : place t.lists k ≡ Some list
     placed = place-in t.lists list k sound'.bounds
@@ -224,19 +201,15 @@ walk-step base s t u l i k h e same = go (base k) refl
       | inl t ↦ rw (t.0, eq-eqb k y (sym t.1)) (ap (λ b. b || false) (ap base t.1 ∙ f))
       | inr t ↦ rw t.0 (elim (eqb_tells k y) [
         | inl w ↦ absurd (t.1 (sym w.1))
-        | inr w ↦ rw w.0 (or_true (base y))
+        | inr w ↦ rw w.0 (or-true (base y))
       ])
     ]
 
     stays : (y : ℕ) → base k ≡ true → (base y || not (eqb k y)) ≡ true
     stays y f = elim (eqb_tells k y) [
       | inl w ↦ rw w.0 (ap (λ b. b || false) (sym (ap base w.1) ∙ f))
-      | inr w ↦ rw w.0 (or_true (base y))
+      | inr w ↦ rw w.0 (or-true (base y))
     ]
-
-    and_true : (b : Bool) → (b && true) ≡ b
-    and_true true = refl
-    and_true false = refl
 
     next : (y : ℕ) → passes base l (i + 1) y ≡ (passes base l i y && (base y || not (eqb k y)))
     next y = passes-next base l i k y e ∙ out (base y) (contains (take i l) y) (eqb k y)
@@ -248,7 +221,7 @@ walk-step base s t u l i k h e same = go (base k) refl
     go true f =
         let stay : u ≡ t = same ∙ ap (λ b. cond b t (dropped t k)) f in
         rw stay (keeps_alike (passes base l i) (passes base l (i + 1)) s t h
-        (λ y. sym (next y ∙ ap (λ b. passes base l i y && b) (stays y f) ∙ and_true (passes base l i y))))
+        (λ y. sym (next y ∙ ap (λ b. passes base l i y && b) (stays y f) ∙ and-true (passes base l i y))))
 
 stays-same : (leaving : Leaving) (m n : FrameMap) (k : ℕ) → page_of m k ≡ page_of n k
     → stays leaving m k ≡ stays leaving n k
@@ -319,42 +292,6 @@ gone base p s t list k h out there = go (p k) refl
         ap (λ w. contains (list_of w list) k) h.lists ∙ ap (λ w. contains w k) (list_of-where p s.lists list)
         ∙ contains-filter p (list_of s.lists list) k there e in
         ap (λ b. b || not (contains (list_of t.lists list) k)) out ∙ ap not here
-
-filter_same_on : (p q : ℕ → Bool) (xs : List ℕ) → ((y : ℕ) → contains xs y ≡ true → p y ≡ q y)
-    → filter p xs ≡ filter q xs
-filter_same_on p q [] same = refl
-filter_same_on p q (x ∷ xs) same =
-    let here : p x ≡ q x = same x (first x xs) in
-    let rest : filter p xs ≡ filter q xs =
-    filter_same_on p q xs (λ y h. same y (ap (λ b. eqb x y || b) h ∙ or_true (eqb x y))) in
-    rw (here, rest) refl
-
-keeps_on : (p q : ℕ → Bool) (s u : PageCache) → KeepsOnly p s u
-    → ((list : ListName) (y : ℕ) → contains (list_of s.lists list) y ≡ true → p y ≡ q y)
-    → ((y : ℕ) → IsSome (page_of s.table y) → p y ≡ q y) → KeepsOnly q s u
-keeps_on p q s u h named paged = record {
-  lists = h.lists ∙ four;
-  pages = λ k. h.pages k ∙ page k (page_of s.table k) refl;
-  frames = h.frames;
-}
-  where
-    four : lists_where p s.lists ≡ lists_where q s.lists
-    four = rw (
-      filter_same_on p q s.lists.t1 (named T1),
-      filter_same_on p q s.lists.t2 (named T2),
-      filter_same_on p q s.lists.b1 (named B1),
-      filter_same_on p q s.lists.b2 (named B2),
-    ) refl
-
-    nothing : (a b : Bool) (none : Option Resident) → cond a none none ≡ cond b none none
-    nothing true true o = refl
-    nothing true false o = refl
-    nothing false true o = refl
-    nothing false false o = refl
-
-    page : (k : ℕ) (o : Option Resident) → page_of s.table k ≡ o → cond (p k) o None ≡ cond (q k) o None
-    page k None e = nothing (p k) (q k) None
-    page k (Some r) e = ap (λ b. cond b (Some r) None) (paged k (ap is_some e))
 
 -- each page that stands in a frame is one of T1 or T2
 abbrev pub AllCached : PageCache → Type 0
@@ -455,8 +392,8 @@ many : (xs : List ℕ) (pages : List (Option Resident)) → ((y : ℕ) → times
 many [] pages once here = omega arith
 many (x ∷ xs) pages once here = omega (
   arith,
-  count-set is_some pages x None (below x (here x (first x xs))),
-  ap one_for (here x (first x xs)),
+  count-set is_some pages x None (below x (here x (contains-first x xs))),
+  ap one_for (here x (contains-first x xs)),
   many xs (set pages x None) (λ y. omega (arith, once y)) still,
 )
   where
