@@ -16,6 +16,8 @@ mod failing;
 #[cfg(test)]
 mod faults;
 #[cfg(test)]
+mod freed;
+#[cfg(test)]
 mod hands;
 #[cfg(test)]
 mod latches;

@@ -1,20 +1,27 @@
 //! Each wake-up is needed: who waits is woken by the very move that lets it go on, and not only when a worker ends.
 
 use crate::common::{all_accepted, comes_to, run_over, settings_of, settings_with};
-use pp_device::{Device, Fault};
+use pp_device::{Device, Failing, Fault, Trouble};
 use pp_pool::Work;
 use pp_shared::SharedDevice;
 use std::marker::Model;
 use std::process::Abort;
+use std::sync::Wait;
 use std::sync::atomic::{AtomicU64, Ordering};
 use std::test::*;
 use std::thread;
+use std::thread::Threads;
 use std::time::{Clock, Duration};
 
 /// Writes a leaf, and fixes a root afterwards.
-const WRITE_THEN_TOUCH: &str =
+pub const WRITE_THEN_TOUCH: &str =
     "{\"body\":[{\"fix\":\"a\",\"region\":\"leaf\"},{\"latch\":\"a\",\"mode\":\"X\"},\
 {\"unlatch\":\"a\"},{\"unfix\":\"a\"},{\"fix\":\"b\",\"region\":\"root\"},{\"unfix\":\"b\"}],\"version\":1}";
+
+/// Writes a leaf, and fixes a root before it lets go of the leaf.
+const WRITE_AND_TOUCH: &str =
+    "{\"body\":[{\"fix\":\"a\",\"region\":\"leaf\"},{\"latch\":\"a\",\"mode\":\"X\"},\
+{\"unlatch\":\"a\"},{\"fix\":\"b\",\"region\":\"root\"},{\"unfix\":\"b\"},{\"unfix\":\"a\"}],\"version\":1}";
 
 /// What the threads of a run tell one another.
 #[derive(Drop)]
@@ -119,8 +126,8 @@ impl<'a, R: Clock, D: Device> Device for Telling<'a, R, D> {
 fn an_unlatch_wakes_who_waits_for_it(rt: HostRuntime) -> Result<(), Fail> {
     let alloc = rt.alloc();
     let told = Told::new();
-    let settings = settings_of(alloc, 2, 0)?;
-    let plans = all_accepted(&rt, alloc, &settings, &[WRITE_THEN_TOUCH; 2])?;
+    let settings = settings_with(alloc, 4, 2, 0)?;
+    let plans = all_accepted(&rt, alloc, &settings, &[WRITE_AND_TOUCH; 2])?;
     let devices = SharedDevice::over_memory(rt, alloc, 24, 64, 3)?;
     let mut works = Vec::new(alloc);
     for _worker in 0..2 {
@@ -174,31 +181,41 @@ fn an_unlatch_wakes_the_flusher(rt: HostRuntime) -> Result<(), Fail> {
     Ok(())
 }
 
-/// The only worker wants the frame of the page that is being flushed, and waits. Nobody but the flusher can wake it: without
-/// that the run hangs.
-#[test]
-fn the_end_of_a_flush_wakes_the_only_worker(rt: HostRuntime) -> Result<(), Fail> {
+/// Runs a plan of one worker in one frame, of which the flusher writes the leaf. The first writing of the flusher fails where
+/// that is wanted. The test fails where a page is left.
+fn run_in_one_frame<R: AllocGlobal + Abort + Threads + Wait + Clock + Copy + Drop + Sync + Send>(
+    rt: &R,
+    flushes: u32,
+    fails: bool,
+) -> Result<(), Fail> {
     let alloc = rt.alloc();
     let told = Told::new();
-    let settings = settings_with(alloc, 1, 1, 4)?;
-    let plans = all_accepted(&rt, alloc, &settings, &[WRITE_THEN_TOUCH])?;
+    let settings = settings_with(alloc, 1, 1, flushes)?;
+    let plans = all_accepted(rt, alloc, &settings, &[WRITE_THEN_TOUCH])?;
     let mut devices = Vec::new(alloc);
-    for device in SharedDevice::over_memory(rt, alloc, 24, 64, 2)? {
+    for (number, end) in SharedDevice::over_memory(*rt, alloc, 24, 64, 2)?
+        .into_iter()
+        .enumerate()
+    {
+        let mut troubles = Vec::new(alloc);
+        if fails && number == 1 {
+            troubles.push((1, Trouble::Fail))?;
+        }
         devices.push(Telling {
-            rt,
+            rt: *rt,
             told: &told,
-            device,
+            device: Failing::new(end, troubles),
         })?;
     }
     let mut works = Vec::new(alloc);
     works.push(Meeting {
-        rt,
+        rt: *rt,
         told: &told,
         leaves: 1,
         changes: 1,
         writings: 1,
     })?;
-    match run_over(&rt, alloc, &settings, plans, devices, works) {
+    match run_over(rt, alloc, &settings, plans, devices, works) {
         Ok((record, _devices)) => assert!(rt; record.dirty == 0, "a page is left"),
         Err(error) => panic!(rt; "refused: {error}"),
     }
@@ -207,4 +224,17 @@ fn the_end_of_a_flush_wakes_the_only_worker(rt: HostRuntime) -> Result<(), Fail>
         "the flusher is not woken"
     );
     Ok(())
+}
+
+/// The only worker wants the frame of the page that is being flushed, and waits. Nobody but the flusher can wake it: without
+/// that the run hangs.
+#[test]
+fn the_end_of_a_flush_wakes_the_only_worker(rt: HostRuntime) -> Result<(), Fail> {
+    run_in_one_frame(&rt, 4, false)
+}
+
+/// The same where the only flush fails, and the worker has to write the page itself.
+#[test]
+fn the_end_of_a_flush_that_failed_wakes_the_only_worker(rt: HostRuntime) -> Result<(), Fail> {
+    run_in_one_frame(&rt, 1, true)
 }
