@@ -88,6 +88,14 @@ fn numbered(alloc: Global) -> Result<SoloDevice, Trouble> {
     Ok(device)
 }
 
+/// Whether the number stands at the front of the body.
+fn is_at_front(body: &[u8], number: u64) -> bool {
+    let &[a, b, c, d, e, f, g, h, ..] = body else {
+        return false;
+    };
+    u64::from_le_bytes([a, b, c, d, e, f, g, h]) == number
+}
+
 impl Pool {
     /// Has a worker do the plan on the trace, and tells how many pages were read. Where a call is refused, what the
     /// worker has then comes back.
@@ -102,12 +110,12 @@ impl Pool {
             return Err(Stopped::at(Stage::Idle(chair)));
         }
         let session = match self.vault.take(chair) {
-            Ok(session) => session,
+            Ok((session, _done)) => session,
             Err((chair, _refusal)) => return Err(Stopped::at(Stage::Idle(chair))),
         };
         let (session, misses) = self.misses(session, trace, ops)?;
         match self.vault.finish(session) {
-            Ok(chair) => Ok((chair, misses)),
+            Ok((chair, _done)) => Ok((chair, misses)),
             Err((session, _refusal)) => Err(Stopped::at(Stage::In(session))),
         }
     }
@@ -134,7 +142,11 @@ impl Pool {
 
     /// Fixes the page, and tells whether it was cached.
     fn fix(&mut self, session: Session, page: u32) -> Result<(Session, PinGuard, bool), Stopped> {
-        match self.vault.fix(session, page) {
+        let (fixed, _done) = match self.vault.fix(session, page) {
+            Ok(fixed) => fixed,
+            Err((session, _refusal)) => return Err(Stopped::at(Stage::In(session))),
+        };
+        match fixed {
             Fixed::Got(session, guard) => Ok((session, guard, true)),
             Fixed::Opened(session, guard) => Err(Stopped::holding(
                 Stage::In(session),
@@ -145,13 +157,16 @@ impl Pool {
                 let (session, guard) = self.load(errand)?;
                 Ok((session, guard, false))
             }
-            Fixed::No(session, _refusal) => Err(Stopped::at(Stage::In(session))),
         }
     }
 
     /// Has the device read a page.
     fn load(&mut self, errand: Errand) -> Result<(Session, PinGuard), Stopped> {
-        match self.vault.answer(errand.carry_out(&mut self.device)) {
+        let (answered, _done) = match self.vault.answer(errand.carry_out(&mut self.device)) {
+            Ok(answered) => answered,
+            Err((returned, _refusal)) => return Err(Stopped::at(Stage::Back(returned))),
+        };
+        match answered {
             Answered::Got(session, guard) => Ok((session, guard)),
             Answered::Opened(session, guard) => Err(Stopped::holding(
                 Stage::In(session),
@@ -161,31 +176,30 @@ impl Pool {
             Answered::Away(errand) => Err(Stopped::at(Stage::Out(errand))),
             Answered::Lost(leaver) => Err(Stopped::at(Stage::Leaving(leaver))),
             Answered::Flushed(_) => Err(Stopped::with_nothing()),
-            Answered::No(returned, _refusal) => Err(Stopped::at(Stage::Back(returned))),
         }
     }
 
     /// Latches the page, looks at it, unlatches it and unfixes it.
     fn use_page(&mut self, session: Session, guard: PinGuard) -> Result<Session, Stopped> {
-        let (session, guard) = match self.vault.latch_shared(session, guard) {
+        let (session, guard, _done) = match self.vault.latch_shared(session, guard) {
             Ok(latched) => latched,
             Err((session, guard, _refusal)) => {
                 return Err(Stopped::holding(Stage::In(session), Guard::Pin(guard)));
             }
         };
-        let number = u64::from(guard.page()).to_le_bytes();
+        let number = u64::from(guard.page());
         let body = self.vault.see(&guard);
-        if !body.is_some_and(|body| body.starts_with(&number)) {
+        if !body.is_some_and(|body| is_at_front(body, number)) {
             return Err(Stopped::holding(Stage::In(session), Guard::Read(guard)));
         }
-        let (session, guard) = match self.vault.unlatch_shared(session, guard) {
+        let (session, guard, _done) = match self.vault.unlatch_shared(session, guard) {
             Ok(unlatched) => unlatched,
             Err((session, guard, _refusal)) => {
                 return Err(Stopped::holding(Stage::In(session), Guard::Read(guard)));
             }
         };
         match self.vault.unfix(session, guard) {
-            Ok(session) => Ok(session),
+            Ok((session, _done)) => Ok(session),
             Err((session, guard, _refusal)) => Err(Stopped::holding(
                 Stage::In(session),
                 Guard::Pin(guard),

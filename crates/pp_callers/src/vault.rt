@@ -71,10 +71,14 @@ fn run(vault: &mut Vault, device: &mut SoloDevice, chair: Chair, accepted: Accep
         return Stopped::at(Stage::Idle(chair));
     }
     let session = match vault.take(chair) {
-        Ok(session) => session,
+        Ok((session, _done)) => session,
         Err((chair, _refusal)) => return Stopped::at(Stage::Idle(chair)),
     };
-    let (session, guard) = match vault.fix(session, 2) {
+    let fixed = match vault.fix(session, 2) {
+        Ok((fixed, _done)) => fixed,
+        Err((session, _refusal)) => return Stopped::at(Stage::In(session)),
+    };
+    let (session, guard) = match fixed {
         Fixed::Got(session, guard) => (session, guard),
         // A plan that asks a gather gives what it gathered back at once.
         Fixed::Opened(session, guard) => return scatter(vault, session, guard),
@@ -83,14 +87,13 @@ fn run(vault: &mut Vault, device: &mut SoloDevice, chair: Chair, accepted: Accep
             Ok(loaded) => loaded,
             Err(out) => return out,
         },
-        Fixed::No(session, _refusal) => return Stopped::at(Stage::In(session)),
     };
     let session = match write(vault, session, guard) {
         Ok(session) => session,
         Err(out) => return out,
     };
     match vault.finish(session) {
-        Ok(chair) => Stopped::at(Stage::Idle(chair)),
+        Ok((chair, _done)) => Stopped::at(Stage::Idle(chair)),
         Err((session, _refusal)) => Stopped::at(Stage::In(session)),
     }
 }
@@ -103,14 +106,17 @@ fn load(
 ) -> Result<(Session, PinGuard), Stopped>
     ensures headline { HeadlineHolds vault.new }
 {
-    match vault.answer(errand.carry_out(device)) {
+    let answered = match vault.answer(errand.carry_out(device)) {
+        Ok((answered, _done)) => answered,
+        Err((returned, _refusal)) => return Err(Stopped::at(Stage::Back(returned))),
+    };
+    match answered {
         Answered::Got(session, guard) => Ok((session, guard)),
         Answered::Opened(session, guard) => Err(scatter(vault, session, guard)),
         Answered::Joined(session) => Err(Stopped::at(Stage::In(session))),
         Answered::Away(errand) => Err(Stopped::at(Stage::Out(errand))),
         Answered::Lost(leaver) => Err(Stopped::at(Stage::Leaving(leaver))),
         Answered::Flushed(_) => Err(Stopped::with_nothing()),
-        Answered::No(returned, _refusal) => Err(Stopped::at(Stage::Back(returned))),
     }
 }
 
@@ -119,7 +125,7 @@ fn scatter(vault: &mut Vault, session: Session, guard: BundleGuard) -> Stopped
     ensures headline { HeadlineHolds vault.new }
 {
     match vault.scatter(session, guard) {
-        Ok(session) => Stopped::at(Stage::In(session)),
+        Ok((session, _done)) => Stopped::at(Stage::In(session)),
         Err((session, guard, _refusal)) => Stopped::holding(
             Stage::In(session),
             Guard::Bundle(guard),
@@ -132,21 +138,21 @@ fn write(vault: &mut Vault, session: Session, guard: PinGuard) -> Result<Session
     ensures headline { HeadlineHolds vault.new }
 {
     let (session, guard) = match vault.latch_exclusive(session, guard) {
-        Ok(latched) => latched,
+        Ok((session, guard, _done)) => (session, guard),
         Err((session, guard, _refusal)) => return Err(Stopped::holding(
             Stage::In(session),
             Guard::Pin(guard),
         )),
     };
     let (session, guard) = match vault.unlatch_exclusive(session, guard) {
-        Ok(unlatched) => unlatched,
+        Ok((session, guard, _done)) => (session, guard),
         Err((session, guard, _refusal)) => return Err(Stopped::holding(
             Stage::In(session),
             Guard::Write(guard),
         )),
     };
     match vault.unfix(session, guard) {
-        Ok(session) => Ok(session),
+        Ok((session, _done)) => Ok(session),
         Err((session, guard, _refusal)) => Err(Stopped::holding(
             Stage::In(session),
             Guard::Pin(guard),

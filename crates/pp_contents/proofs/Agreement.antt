@@ -23,12 +23,13 @@ use Rattle.pp_vault.specs.declared.stage.Hand.{Hand}
 use Rattle.pp_vault.specs.declared.hands.Hands.{Hands}
 use Rattle.pp_vault.specs.Parts.{Parts}
 use Rattle.pp_vault.specs.StandsFor.{StandsFor}
+use Rattle.pp_vault.specs.Events.{Tells}
 use Rattle.pp_vault.specs.Holding.{placed}
 use Rattle.pp_vault.specs.Hands.{StageFits, IsAway}
 use Rattle.pp_contents.specs.Told.{told_after}
 use Rattle.pp_contents.specs.Content.{ready_image}
 use Rattle.pp_contents.specs.Agreeing.{flush_copy, Agrees}
-use Rattle.pp_contents.specs.HandMoves.{HandMoves}
+use Rattle.pp_contents.specs.HandMoves.{HandMoves, call_in}
 use Rattle.pp_contents.specs.ContentLaws.{Held, HandsBack, returned_of, GivesBackImage}
 use Rattle.pp_vault.proofs.FitTests.{none_some}
 use Rattle.pp_contents.proofs.ImageSteps.{ImageStep}
@@ -38,6 +39,7 @@ use Rattle.pp_contents.proofs.AgreementStates.{flushed_alone, loaded_clean, vict
 use Rattle.pp_contents.proofs.AgreementImages.{shown, unshown, not_standing, image_stays}
 use Rattle.pp_contents.proofs.AgreementCallers.{mover, left_answered, is_home, answer_ended}
 use Rattle.pp_contents.proofs.AgreementAnswers.{untold, ready_apart, answer_told}
+use Rattle.pp_contents.proofs.MovesDone.{told_done}
 use Rattle.pp_contents.proofs.AgreementPlaces.{hand_fits, stage_fits, home_errand, back_all}
 
 -- ---- a worker's call
@@ -154,10 +156,12 @@ module _ (old new : Parts) (s : State) (hands after : Hands) (told now : ℕ →
 -- ---- calls that ask no device
 
 pub step_agrees : (old new : Parts) (s : State) (hands after : Hands) (told : ℕ → List ℕ) (w : ℕ) (hand left : Hand)
-    (m : Move) (reply : Reply) → Held old s hands → placed hands.workers w ≡ Some hand → HandMoves old hand new left
-    → HandsBack hands w left after → new.last ≡ Some (m, reply) → Held new (next_of s m) after
+    (m : Move) (reply : Reply) → Held old s hands → placed hands.workers w ≡ Some hand
+    → (moves : HandMoves old hand new left) → HandsBack hands w left after
+    → Tells old (call_in old hand new left moves) (m, reply) → Held new (next_of s m) after
     → ImageStep old new s (next_of s m) hand left → Agrees old s hands told → Agrees new (next_of s m) after told
-step_agrees old new s hands after told w hand left m reply held there moves back last now step agrees =
+step_agrees old new s hands after told w hand left m reply held there moves back said now step agrees =
+    let done = told_done s (call_in old hand new left moves s) m reply (said s held.stands) in
     let fits = hand_fits old s hands w hand held there in
     let none = λ (x : Returned) (e : hand.stage ≡ Back x). agrees.answered w hand x there e in
     let home = home_errand old.page_bytes s w hand.stage fits.stage (is_home old new hand left none moves) in
@@ -166,8 +170,7 @@ step_agrees old new s hands after told w hand left m reply held there moves back
       was = held.stands;
       is = now.stands;
       by =
-          mover old new s m reply held.stands last hand left moves
-          ∙ stage_fits old.page_bytes s w hand.stage fits.stage;
+          mover old new s m hand left moves done.is ∙ stage_fits old.page_bytes s w hand.stage fits.stage;
       flushing = back.flushing;
       answered =
           back_all hands after w hand left there back (λ (h : Hand). (x : Returned) → h.stage ≡ Back x → ⊥)
@@ -183,23 +186,26 @@ step_agrees old new s hands after told w hand left m reply held there moves back
 pub answer_agrees : (old new : Parts) (s : State) (hands after : Hands) (told : ℕ → List ℕ) (w : ℕ) (hand left : Hand)
     (errand : Errand) (given : List ℕ) (answer : Answer) (m : Move) (reply : Reply) → Held old s hands
     → placed hands.workers w ≡ Some hand → hand.stage ≡ Out errand → GivesBackImage errand.duty errand.image given
-    → HandMoves old (record hand { stage = Back (returned_of errand given answer) }) new left
-    → HandsBack hands w left after → new.last ≡ Some (m, reply) → Held new (next_of s m) after
+    → (moves : HandMoves old (record hand { stage = Back (returned_of errand given answer) }) new left)
+    → HandsBack hands w left after
+    → Tells old (call_in old (record hand { stage = Back (returned_of errand given answer) }) new left moves) (m, reply)
+    → Held new (next_of s m) after
     → ImageStep old new s (next_of s m) (record hand { stage = Back (returned_of errand given answer) }) left
     → Agrees old s hands told → Agrees new (next_of s m) after (told_after told errand.duty answer given)
-answer_agrees old new s hands after told w hand left errand given answer m reply held there out gives moves back last
+answer_agrees old new s hands after told w hand left errand given answer m reply held there out gives moves back said
     now step agrees =
     let x : Returned = returned_of errand given answer in
     let had : Hand = record hand { stage = Back x } in
     let fits = hand_fits old s hands w hand held there in
     let away : IsAway old.page_bytes s w errand.duty errand.image =
     subst (StageFits old.page_bytes s w) out fits.stage in
-    let ended = answer_ended old new had left x refl moves in
+    let done = told_done s (call_in old had new left moves s) m reply (said s held.stands) in
+    let ended = answer_ended old new s m had left x refl moves done.is in
     worked_agrees old new s hands after told (told_after told errand.duty answer given) w m
     (record {
       was = held.stands;
       is = now.stands;
-      by = mover old new s m reply held.stands last had left moves ∙ away.worker;
+      by = mover old new s m had left moves done.is ∙ away.worker;
       flushing = back.flushing;
       answered =
           back_all hands after w hand left there back (λ (h : Hand). (x : Returned) → h.stage ≡ Back x → ⊥)
@@ -208,8 +214,8 @@ answer_agrees old new s hands after told w hand left errand given answer m reply
       told_before = λ q x ready.
           untold told errand.duty answer given q
           (ready_apart s w errand.duty held.stands.core.reached away.worker away.out q x ready);
-      read = λ slot q asks j is.
-          answer_told old new s m reply held.stands last told w given answer ended.out slot q asks j is errand.duty
-          away.worker away.out ended.done;
+      read = λ slot q waits j is.
+          answer_told old new s m held.stands told w given answer ended.out slot q waits j is errand.duty away.worker
+          away.out ended.done ended.is;
     })
     agrees

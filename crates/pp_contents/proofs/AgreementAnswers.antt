@@ -7,7 +7,6 @@ use Rattle.std.proofs.lemmas.Bool.Decides.{nat_tests}
 use Rattle.pp_model.specs.declared.moves.Came.TheVariants.{Fault}
 use Rattle.pp_model.specs.declared.moves.Move.{Move}
 use Rattle.pp_model.specs.declared.moves.Move.TheVariants.{ReadDone}
-use Rattle.pp_model.specs.declared.reply.Reply.{Reply}
 use Rattle.pp_model.specs.declared.reply.Reply.TheVariants.{Loaded}
 use Rattle.pp_model.specs.Pool.{State, frame_of}
 use Rattle.pp_model.specs.Moves.{reply_of, next_of}
@@ -27,8 +26,8 @@ use Rattle.pp_vault.specs.declared.answering.Answered.TheVariants as answered
 use Rattle.pp_vault.specs.Parts.{Parts}
 use Rattle.pp_vault.specs.StandsFor.{StandsFor, image_in}
 use Rattle.pp_vault.specs.ImageMoves.{PutIn}
-use Rattle.pp_vault.specs.Answers.{is_read_out, read_call, came_of, IsUnread, DutyEnds}
-use Rattle.pp_vault.specs.Events.{Does}
+use Rattle.pp_vault.specs.Answers.{is_read_out, read_call, duty_call, came_of, IsUnread, DutyEnds}
+use Rattle.pp_vault.specs.Calls.{asks}
 use Rattle.pp_contents.specs.Told.{duty_page, told_after}
 use Rattle.pp_contents.specs.Content.{ready_image}
 use Rattle.pp_vault.specs.Duties.{duty_worker}
@@ -38,7 +37,7 @@ use Rattle.pp_vault.proofs.ErrandSteps.{is_reading}
 use Rattle.pp_vault.proofs.Images.{in_here}
 use Rattle.pp_contents.proofs.AgreementStates.{loads_of_errand, sends_of_errand, loading_unready, victim_unready}
 use Rattle.pp_contents.proofs.AgreementImages.{IsShown, shown, one_image, not_standing}
-use Rattle.pp_contents.proofs.AgreementCallers.{if_move, does_asks}
+use Rattle.pp_contents.proofs.MovesDone.{if_asks}
 
 -- ---- pages that are ready
 
@@ -77,17 +76,15 @@ loads_well : (s : State) (w mark : ℕ) (ok : Bool) (head : ℕ × ℕ)
 loads_well s w mark true head e = refl
 loads_well s w mark false head e = absurd (faultless s w mark e)
 
-module _ (old new : Parts) (s : State) (m : Move) (reply : Reply) (st : StandsFor old s)
-    (last : new.last ≡ Some (m, reply)) (w slot page : ℕ) (out : errand_of s w ≡ Some (slot, page, None))
-    (given : List ℕ) (ok : Bool) (does : Does old (read_call old.page_bytes w slot page given ok) new) (j : List ℕ)
+module _ (old new : Parts) (s : State) (m : Move) (st : StandsFor old s) (w slot page : ℕ)
+    (out : errand_of s w ≡ Some (slot, page, None)) (given : List ℕ) (ok : Bool)
+    (done : read_call old.page_bytes w slot page given ok s ≡ asks m) (j : List ℕ)
     (is : ready_image new (next_of s m) page ≡ Some j) where
   abbrev moved : Move
   moved = ReadDone w (came_of ok (head_of given))
 
   same_move : moved ≡ m
-  same_move =
-      if_move (is_read_out old.page_bytes w slot page given s) moved m
-      (does_asks old new s m reply st last (read_call old.page_bytes w slot page given ok) does)
+  same_move = (if_asks (is_read_out old.page_bytes w slot page given s) moved m done).1
 
   stands : IsShown new (next_of s moved) page j
   stands = shown new (next_of s moved) page j (ap (λ n. ready_image new (next_of s n) page) same_move ∙ is)
@@ -122,21 +119,21 @@ module _ (old new : Parts) (s : State) (m : Move) (reply : Reply) (st : StandsFo
       not_standing
       (sym (loading_unready s page (loads_of_errand s w slot page None out)) ∙ sym (stay.0 page) ∙ stands.ready)
 
-pub reading_told : (old new : Parts) (s : State) (m : Move) (reply : Reply) → StandsFor old s
-    → new.last ≡ Some (m, reply) → (w slot page : ℕ) → errand_of s w ≡ Some (slot, page, None) → (given : List ℕ)
-    (ok : Bool) (out : Answered) → DutyEnds old (duty.Read w slot page) given ok out new → (j : List ℕ)
+pub reading_told : (old new : Parts) (s : State) (m : Move) → StandsFor old s → (w slot page : ℕ)
+    → errand_of s w ≡ Some (slot, page, None) → (given : List ℕ) (ok : Bool)
+    → read_call old.page_bytes w slot page given ok s ≡ asks m → (out : Answered)
+    → DutyEnds old (duty.Read w slot page) given ok out new → (j : List ℕ)
     → ready_image new (next_of s m) page ≡ Some j → (ok ≡ true) × (j ≡ given)
-reading_told old new s m reply st last w slot page out given ok (answered.Got x g) ends j is =
-    loaded_told old new s m reply st last w slot page out given ok ends.0 j is (ends.1.replies s st) (ends.1.images s st)
-reading_told old new s m reply st last w slot page out given ok (answered.Opened x g) ends j is =
-    loaded_told old new s m reply st last w slot page out given ok ends.0 j is (ends.1.replies s st) (ends.1.images s st)
-reading_told old new s m reply st last w slot page out given ok (answered.Joined x) ends j is =
-    loaded_told old new s m reply st last w slot page out given ok ends.0 j is (ends.1.replies s st) (ends.1.images s st)
-reading_told old new s m reply st last w slot page out given ok (answered.Lost leaver) ends j is =
-    absurd (lost_told old new s m reply st last w slot page out given ok ends.0 j is leaver ends.1)
-reading_told old new s m reply st last w slot page out given ok (answered.Away errand) ends j is = absurd ends
-reading_told old new s m reply st last w slot page out given ok (answered.Flushed clean) ends j is = absurd ends
-reading_told old new s m reply st last w slot page out given ok (answered.No back refusal) ends j is = absurd ends
+reading_told old new s m st w slot page away given ok done (answered.Got x g) ends j is =
+    loaded_told old new s m st w slot page away given ok done j is (ends.1.replies s st) (ends.1.images s st)
+reading_told old new s m st w slot page away given ok done (answered.Opened x g) ends j is =
+    loaded_told old new s m st w slot page away given ok done j is (ends.1.replies s st) (ends.1.images s st)
+reading_told old new s m st w slot page away given ok done (answered.Joined x) ends j is =
+    loaded_told old new s m st w slot page away given ok done j is (ends.1.replies s st) (ends.1.images s st)
+reading_told old new s m st w slot page away given ok done (answered.Lost leaver) ends j is =
+    absurd (lost_told old new s m st w slot page away given ok done j is leaver ends.1)
+reading_told old new s m st w slot page away given ok done (answered.Away errand) ends j is = absurd ends
+reading_told old new s m st w slot page away given ok done (answered.Flushed clean) ends j is = absurd ends
 
 -- What was read is what the device told.
 read_well : (told : ℕ → List ℕ) (w slot page : ℕ) (answer : Answer) (given : List ℕ) → is_ok answer ≡ true
@@ -149,30 +146,31 @@ read_well told w slot page (Err why) given ok = absurd (false≢true ok)
 same_errand : (i p k q : ℕ) → ◌≡◌ {A = Option (ℕ × ℕ × Option ℕ)} (Some (i, p, None)) (Some (k, q, None)) → p ≡ q
 same_errand i p k q e = ap (λ (o : Option (ℕ × ℕ × Option ℕ)). (unwrap_or o (i, p, None)).1) e
 
-module _ (old new : Parts) (s : State) (m : Move) (reply : Reply) (st : StandsFor old s)
-    (last : new.last ≡ Some (m, reply)) (told : ℕ → List ℕ) (w : ℕ) (given : List ℕ) (answer : Answer)
-    (out : Answered) (k q : ℕ) (asks : errand_of s w ≡ Some (k, q, None)) (j : List ℕ)
+module _ (old new : Parts) (s : State) (m : Move) (st : StandsFor old s) (told : ℕ → List ℕ) (w : ℕ) (given : List ℕ)
+    (answer : Answer) (out : Answered) (k q : ℕ) (waits : errand_of s w ≡ Some (k, q, None)) (j : List ℕ)
     (is : ready_image new (next_of s m) q ≡ Some j) where
   answered_read : (v slot page : ℕ) → v ≡ w → errand_of s v ≡ Some (slot, page, None)
       → DutyEnds old (duty.Read v slot page) given (is_ok answer) out new
+      → read_call old.page_bytes v slot page given (is_ok answer) s ≡ asks m
       → body_of j ≡ body_of (told_after told (duty.Read v slot page) answer given q)
-  answered_read v slot page same away ends =
-      let it : page ≡ q = same_errand slot page k q (sym away ∙ ap (errand_of s) same ∙ asks) in
+  answered_read v slot page same away ends done =
+      let it : page ≡ q = same_errand slot page k q (sym away ∙ ap (errand_of s) same ∙ waits) in
       let came =
-      reading_told old new s m reply st last v slot page away given (is_ok answer) out ends j
+      reading_told old new s m st v slot page away given (is_ok answer) done out ends j
       (ap (ready_image new (next_of s m)) it ∙ is) in
       ap body_of
       (came.1 ∙ read_well told v slot page answer given came.0
       ∙ ap (told_after told (duty.Read v slot page) answer given) it)
 
   pub answer_told : (d : Duty) → duty_worker d ≡ Some w → IsOut s d → DutyEnds old d given (is_ok answer) out new
+      → duty_call old.page_bytes d given (is_ok answer) s ≡ asks m
       → body_of j ≡ body_of (told_after told d answer given q)
-  answer_told (duty.Read v slot page) by away ends = answered_read v slot page (some_some w v w by) away ends
-  answer_told (duty.Write v slot page victim) by away ends =
-      absurd (apart (sym away ∙ ap (errand_of s) (some_some w v w by) ∙ asks))
+  answer_told (duty.Read v slot page) by away ends done = answered_read v slot page (some_some w v w by) away ends done
+  answer_told (duty.Write v slot page victim) by away ends done =
+      absurd (apart (sym away ∙ ap (errand_of s) (some_some w v w by) ∙ waits))
     where
       apart : ◌≡◌ {A = Option (ℕ × ℕ × Option ℕ)} (Some (slot, page, Some victim)) (Some (k, q, None)) → ⊥
       apart e =
           none_some
           (sym (ap (λ (o : Option (ℕ × ℕ × Option ℕ)). (unwrap_or o (slot, page, Some victim)).2) e))
-  answer_told (duty.Flush page) by away ends = absurd (none_some by)
+  answer_told (duty.Flush page) by away ends done = absurd (none_some by)

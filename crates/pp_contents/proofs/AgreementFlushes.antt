@@ -8,7 +8,6 @@ use Rattle.pp_arc.specs.FourLists.{is_cached}
 use Rattle.pp_frames.specs.Marks.{is_exclusive}
 use Rattle.pp_model.specs.declared.moves.Move.{Move}
 use Rattle.pp_model.specs.declared.moves.Move.TheVariants.{FlushBegin, FlushDone}
-use Rattle.pp_model.specs.declared.reply.Reply.{Reply}
 use Rattle.pp_model.specs.declared.reply.Reply.TheVariants.{Flushed}
 use Rattle.pp_model.specs.Pool.{writing, Flush, State, is_dirty, known_mark, mark_at}
 use Rattle.pp_model.specs.Holders.{latches_of}
@@ -32,27 +31,28 @@ use Rattle.pp_device.specs.Image.{body_of}
 use Rattle.pp_vault.specs.declared.tokens.Duty.{Duty}
 use Rattle.pp_vault.specs.declared.tokens.Duty.TheVariants as duty
 use Rattle.pp_vault.specs.declared.tokens.Errand.{Errand}
+use Rattle.pp_vault.specs.declared.tokens.Returned.{Returned}
 use Rattle.pp_vault.specs.declared.answering.Answered.TheVariants as answered
 use Rattle.pp_vault.specs.declared.hands.Flushing.{Flushing}
 use Rattle.pp_vault.specs.declared.hands.Flushing.TheVariants as flushing
 use Rattle.pp_vault.specs.declared.hands.Hands.{Hands}
 use Rattle.pp_vault.specs.Parts.{Parts}
 use Rattle.pp_vault.specs.StandsFor.{image_in}
-use Rattle.pp_vault.specs.Calls.{refusal_in}
+use Rattle.pp_vault.specs.Calls.{asks, refusal_in}
 use Rattle.pp_vault.specs.Flushes.{flush_call, IsImageOf, CopiesOut}
-use Rattle.pp_vault.specs.Answers.{is_flush_out, flushed_call, IsFlushed, DutyEnds}
+use Rattle.pp_vault.specs.Answers.{is_flush_out, duty_call, answer_call, IsFlushed, DutyEnds}
 use Rattle.pp_contents.specs.Told.{told_after}
 use Rattle.pp_vault.specs.Holding.{placed}
 use Rattle.pp_vault.specs.Hands.{IsAway, IsFlushAway, StageFits, FlushingFits}
 use Rattle.pp_contents.specs.Content.{or_other, first_given, written_in, victim_in, standing_image, ready_image}
 use Rattle.pp_contents.specs.Content.{image_here, content}
 use Rattle.pp_contents.specs.Agreeing.{flush_copy, Agrees}
-use Rattle.pp_contents.specs.ContentLaws.{Held, KeepsContents, GivesBackImage, EmptyAgree, FlushesKeepContents}
+use Rattle.pp_contents.specs.ContentLaws.{Held, KeepsContents, returned_of, GivesBackImage, EmptyAgree, FlushesKeepContents}
 use Rattle.pp_contents.specs.ContentLaws.{FlushAnswersKeepContents, SubmitsKeepContents}
 use Rattle.pp_vault.proofs.FitTests.{none_some, some_some, both_hold}
 use Rattle.pp_contents.proofs.AgreementStates.{flushed_alone, loaded_clean, victims_dirty}
 use Rattle.pp_contents.proofs.AgreementImages.{shown, one_image, not_standing}
-use Rattle.pp_contents.proofs.AgreementCallers.{if_move, does_asks}
+use Rattle.pp_contents.proofs.MovesDone.{told_done, if_asks}
 use Rattle.pp_contents.proofs.AgreementAnswers.{untold, same_page}
 use Rattle.pp_contents.proofs.AgreementPlaces.{hand_fits}
 use Rattle.pp_contents.proofs.AgreementHolders.{cached_here}
@@ -239,9 +239,9 @@ module _ (old new : Parts) (s : State) (hands after : Hands) (told : ℕ → Lis
       }
 
 pub flushes_keep : FlushesKeepContents
-flushes_keep old new s hands after told page errand m reply held idle does copies put last now agrees =
-    let it : FlushBegin page ≡ m =
-    if_move true (FlushBegin page) m (does_asks old new s m reply held.stands last (flush_call page) does) in
+flushes_keep old new s hands after told page errand m reply held idle does copies put said now agrees =
+    let done = told_done s (flush_call page s) m reply (said s held.stands) in
+    let it : FlushBegin page ≡ m = (if_asks true (FlushBegin page) m done.is).1 in
     let begun = has_begun s page (does.allowed s held.stands) in
     subst (λ t. KeepsContents old s hands told new t after told) (sym begun.after ∙ ap (next_of s) it)
     (begun_keeps old new s hands after told page errand held copies put begun agrees)
@@ -370,28 +370,28 @@ module _ (old new : Parts) (s : State) (hands after : Hands) (told : ℕ → Lis
 
 -- The same by the duty of the flusher's errand, which is a flush.
 by_duty : (old new : Parts) (s : State) (hands after : Hands) (told : ℕ → List ℕ) (d : Duty) (image given : List ℕ)
-    (answer : Answer) (clean : Bool) (m : Move) (reply : Reply) → Held old s hands
-    → flush_copy hands.flushing ≡ Some image → IsFlushAway old.page_bytes s d image → GivesBackImage d image given
+    (answer : Answer) (clean : Bool) (m : Move) → Held old s hands → flush_copy hands.flushing ≡ Some image
+    → IsFlushAway old.page_bytes s d image → GivesBackImage d image given
     → DutyEnds old d given (is_ok answer) (answered.Flushed clean) new → after ≡ record hands { flushing = None }
-    → new.last ≡ Some (m, reply) → Held new (next_of s m) after → Agrees old s hands told
+    → duty_call old.page_bytes d given (is_ok answer) s ≡ asks m → Held new (next_of s m) after → Agrees old s hands told
     → KeepsContents old s hands told new (next_of s m) after (told_after told d answer given)
-by_duty old new s hands after told (duty.Read w slot page) image given answer clean m reply held copy away gives over
-    put last now agrees = absurd away
-by_duty old new s hands after told (duty.Write w slot page v) image given answer clean m reply held copy away gives over
-    put last now agrees = absurd away
-by_duty old new s hands after told (duty.Flush page) image given answer clean m reply held copy away gives over put last
-    now agrees =
+by_duty old new s hands after told (duty.Read w slot page) image given answer clean m held copy away gives over put is
+    now agrees = absurd away
+by_duty old new s hands after told (duty.Write w slot page v) image given answer clean m held copy away gives over put is
+    now agrees = absurd away
+by_duty old new s hands after told (duty.Flush page) image given answer clean m held copy away gives over put is now
+    agrees =
     let ok = is_ok answer in
-    let it : FlushDone ok ≡ m =
-    if_move (is_flush_out old.page_bytes page given s) (FlushDone ok) m
-    (does_asks old new s m reply held.stands last (flushed_call old.page_bytes page given ok) over.does) in
+    let it : FlushDone ok ≡ m = (if_asks (is_flush_out old.page_bytes page given s) (FlushDone ok) m is).1 in
     subst
     (λ n. KeepsContents old s hands told new (next_of s n) after (told_after told (duty.Flush page) answer given)) it
     (over_keeps old new s hands after told page image given answer clean held copy away.0 gives over put
     (subst (λ n. Held new (next_of s n) after) (sym it) now) agrees)
 
 pub flush_answers_keep : FlushAnswersKeepContents
-flush_answers_keep old new s hands after told errand given answer clean m reply held out gives comes put last now
+flush_answers_keep old new s hands after told errand given answer clean m reply held out gives comes put said now
     agrees =
-    by_duty old new s hands after told errand.duty errand.image given answer clean m reply held (ap flush_copy out)
-    (subst (FlushingFits old.page_bytes s) out held.fit.flushing) gives comes put last now agrees
+    let x : Returned = returned_of errand given answer in
+    let done = told_done s (answer_call old.page_bytes x s) m reply (said s held.stands) in
+    by_duty old new s hands after told errand.duty errand.image given answer clean m held (ap flush_copy out)
+    (subst (FlushingFits old.page_bytes s) out held.fit.flushing) gives comes put done.is now agrees

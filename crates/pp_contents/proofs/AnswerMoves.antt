@@ -5,7 +5,6 @@ use Rattle.pp_cert.specs.declared.note.Held.TheVariants.{X}
 use Rattle.pp_model.specs.declared.moves.Came.TheVariants.{Image}
 use Rattle.pp_model.specs.declared.moves.Move.{Move}
 use Rattle.pp_model.specs.declared.moves.Move.TheVariants as move
-use Rattle.pp_model.specs.declared.reply.Reply.{Reply}
 use Rattle.pp_model.specs.declared.reply.Reply.TheVariants.{Loaded}
 use Rattle.pp_model.specs.Pool.{State, frame_of, frame_at, mark_at, known_mark}
 use Rattle.pp_model.specs.Moves.{reply_of, next_of}
@@ -37,12 +36,13 @@ use Rattle.pp_vault.specs.StandsFor.{StandsFor}
 use Rattle.pp_vault.specs.ImageMoves.{PutIn}
 use Rattle.pp_vault.specs.Fits.{IsEmpty}
 use Rattle.pp_vault.specs.Answers.{came_of, is_head_of, is_read_out, is_write_out, IsRead, IsReadFirst, IsReadFurther}
-use Rattle.pp_vault.specs.Answers.{IsUnread, IsWritten, IsUnwritten, DutyEnds, AnswerComesTo}
+use Rattle.pp_vault.specs.Answers.{IsUnread, IsWritten, IsUnwritten, read_call, write_call, duty_call, answer_call}
+use Rattle.pp_vault.specs.Answers.{DutyEnds, AnswerComesTo}
 use Rattle.pp_vault.specs.Duties.{duty_worker}
 use Rattle.pp_vault.specs.Stages.{stage_worker}
 use Rattle.pp_vault.specs.Holding.{placed}
 use Rattle.pp_contents.specs.Content.{ready_image, victim_of, victim_by}
-use Rattle.pp_contents.specs.HandMoves.{HandMoves, IsNowAt, HasAnswer}
+use Rattle.pp_contents.specs.HandMoves.{HandMoves, call_in, IsNowAt, HasAnswer}
 use Rattle.pp_contents.specs.HandMoves as hands
 use Rattle.pp_vault.proofs.BackSteps as back
 use Rattle.pp_contents.proofs.CallMoves.{pin_writes, bundle_writes}
@@ -51,7 +51,7 @@ use Rattle.pp_vault.proofs.ErrandSteps.{IsReading, is_reading, IsWriting, is_wri
 use Rattle.pp_contents.proofs.Finding.{test_same, test_apart}
 use Rattle.pp_vault.proofs.FitTests.{none_some, some_some}
 use Rattle.pp_contents.proofs.ImageSteps.{TokenIn, guarded, sent, NoToken, SameToken}
-use Rattle.pp_contents.proofs.MovesDone.{IsDone, call_done, if_asks}
+use Rattle.pp_contents.proofs.MovesDone.{IsDone, if_asks}
 use Rattle.pp_contents.proofs.ReadyMoves.{ready_same, ready_beside, entered_none, entered_is, entered_others}
 use Rattle.pp_contents.proofs.StepKinds.{AnswerStep, loads, loses, writes, keeps}
 use Rattle.pp_contents.proofs.TokenMoves.{at_now, has_more}
@@ -219,9 +219,8 @@ module _ (old new : Parts) (s : State) (w : ℕ) (hand left : Hand) (st : Stands
 
 -- ---- any answer
 
-module _ (old new : Parts) (s : State) (w : ℕ) (hand left : Hand) (m : Move) (reply : Reply) (st : StandsFor old s)
-    (last : new.last ≡ Some (m, reply)) (st' : StandsFor new (next_of s m)) (a : Stands s w hand)
-    (b : Stands (next_of s m) w left) where
+module _ (old new : Parts) (s : State) (w : ℕ) (hand left : Hand) (m : Move) (st : StandsFor old s)
+    (st' : StandsFor new (next_of s m)) (a : Stands s w hand) (b : Stands (next_of s m) w left) where
   -- The step, for the move that the call was.
   to_move : (d : Duty) (ok : Bool) (image : List ℕ) (k : Move) → k ≡ m
       → AnswerStep old new s (next_of s k) hand left d ok image → AnswerStep old new s (next_of s m) hand left d ok image
@@ -229,88 +228,73 @@ module _ (old new : Parts) (s : State) (w : ℕ) (hand left : Hand) (m : Move) (
 
   read_moves : (v slot page : ℕ) (ok : Bool) (image : List ℕ) → v ≡ w → ((q : ℕ) → victim_by q hand.stage ≡ None)
       → (o : Answered) → DutyEnds old (duty.Read v slot page) image ok o new → HasAnswer hand o left
+      → IsDone s (read_call old.page_bytes v slot page image ok s) m
       → AnswerStep old new s (next_of s m) hand left (duty.Read v slot page) ok image
-  read_moves v slot page ok image of none (answered.Got x g) ends now =
+  read_moves v slot page ok image of none (answered.Got x g) ends now done =
       let k : Move = move.ReadDone v (came_of ok (head_of image)) in
-      let d : IsDone s _ m = call_done old new _ s m reply st ends.0 last in
-      let is = if_asks (is_read_out old.page_bytes v slot page image s) k m d.is in
+      let is = if_asks (is_read_out old.page_bytes v slot page image s) k m done.is in
       let next : StandsFor new (next_of s k) = subst (λ n. StandsFor new (next_of s n)) (sym is.1) st' in
       to_move (duty.Read v slot page) ok image k is.1
       (read_fixes old new s w hand left st a v slot page ok image of none is.0 next.core.reached
       (subst (λ n. Stands (next_of s n) w left) (sym is.1) b) x g ends.1 now)
-  read_moves v slot page ok image of none (answered.Opened x g) ends now =
+  read_moves v slot page ok image of none (answered.Opened x g) ends now done =
       let k : Move = move.ReadDone v (came_of ok (head_of image)) in
-      let d : IsDone s _ m = call_done old new _ s m reply st ends.0 last in
-      let is = if_asks (is_read_out old.page_bytes v slot page image s) k m d.is in
+      let is = if_asks (is_read_out old.page_bytes v slot page image s) k m done.is in
       let next : StandsFor new (next_of s k) = subst (λ n. StandsFor new (next_of s n)) (sym is.1) st' in
       to_move (duty.Read v slot page) ok image k is.1
       (read_opens old new s w hand left st a v slot page ok image of none is.0 next.core.reached
       (subst (λ n. Stands (next_of s n) w left) (sym is.1) b) x g ends.1 now)
-  read_moves v slot page ok image of none (answered.Joined x) ends now =
+  read_moves v slot page ok image of none (answered.Joined x) ends now done =
       let k : Move = move.ReadDone v (came_of ok (head_of image)) in
-      let d : IsDone s _ m = call_done old new _ s m reply st ends.0 last in
-      let is = if_asks (is_read_out old.page_bytes v slot page image s) k m d.is in
+      let is = if_asks (is_read_out old.page_bytes v slot page image s) k m done.is in
       let next : StandsFor new (next_of s k) = subst (λ n. StandsFor new (next_of s n)) (sym is.1) st' in
       to_move (duty.Read v slot page) ok image k is.1
       (read_joins old new s w hand left st a v slot page ok image of none is.0 next.core.reached
       (subst (λ n. Stands (next_of s n) w left) (sym is.1) b) x ends.1 now)
-  read_moves v slot page ok image of none (answered.Lost x) ends now =
+  read_moves v slot page ok image of none (answered.Lost x) ends now done =
       let k : Move = move.ReadDone v (came_of ok (head_of image)) in
-      let d : IsDone s _ m = call_done old new _ s m reply st ends.0 last in
-      let is = if_asks (is_read_out old.page_bytes v slot page image s) k m d.is in
+      let is = if_asks (is_read_out old.page_bytes v slot page image s) k m done.is in
       to_move (duty.Read v slot page) ok image k is.1
       (read_loses old new s w hand left st a v slot page ok image of none is.0 x ends.1 now)
-  read_moves v slot page ok image of none (answered.Away further) ends now = absurd ends
-  read_moves v slot page ok image of none (answered.Flushed clean) ends now = absurd ends
-  read_moves v slot page ok image of none (answered.No returned refusal) ends now = absurd ends
+  read_moves v slot page ok image of none (answered.Away further) ends now done = absurd ends
+  read_moves v slot page ok image of none (answered.Flushed clean) ends now done = absurd ends
 
   write_moves : (v slot page victim : ℕ) (ok : Bool) (image : List ℕ)
       → ((q : ℕ) → victim_by q hand.stage ≡ victim_of q (duty.Write v slot page victim) image)
       → (o : Answered) → DutyEnds old (duty.Write v slot page victim) image ok o new → HasAnswer hand o left
+      → IsDone s (write_call old.page_bytes v slot page victim image ok s) m
       → AnswerStep old new s (next_of s m) hand left (duty.Write v slot page victim) ok image
-  write_moves v slot page victim ok image with_it (answered.Away further) ends now =
-      let d : IsDone s _ m = call_done old new _ s m reply st ends.1 last in
-      let is = if_asks (is_write_out old.page_bytes v slot page victim image s) (move.WriteDone v ok) m d.is in
+  write_moves v slot page victim ok image with_it (answered.Away further) ends now done =
+      let is = if_asks (is_write_out old.page_bytes v slot page victim image s) (move.WriteDone v ok) m done.is in
       let out = (write_out slot page victim
       ((length image == old.page_bytes) && is_head_of victim (head_of image) (known_mark s victim)) (errand_of s v) is.0).0 in
       subst (λ good. AnswerStep old new s (next_of s m) hand left (duty.Write v slot page victim) good image) (sym ends.0)
       (to_move (duty.Write v slot page victim) true image (move.WriteDone v true)
       (ap (λ good. move.WriteDone v good) (sym ends.0) ∙ is.1)
       (write_goes_on old new s w hand left st a v slot page victim image with_it out further ends.2 now))
-  write_moves v slot page victim ok image with_it (answered.Lost x) ends now =
-      let d : IsDone s _ m = call_done old new _ s m reply st ends.1 last in
-      let is = if_asks (is_write_out old.page_bytes v slot page victim image s) (move.WriteDone v ok) m d.is in
+  write_moves v slot page victim ok image with_it (answered.Lost x) ends now done =
+      let is = if_asks (is_write_out old.page_bytes v slot page victim image s) (move.WriteDone v ok) m done.is in
       let out = (write_out slot page victim
       ((length image == old.page_bytes) && is_head_of victim (head_of image) (known_mark s victim)) (errand_of s v) is.0).0 in
       subst (λ good. AnswerStep old new s (next_of s m) hand left (duty.Write v slot page victim) good image) (sym ends.0)
       (to_move (duty.Write v slot page victim) false image (move.WriteDone v false)
       (ap (λ good. move.WriteDone v good) (sym ends.0) ∙ is.1)
       (write_fails old new s w hand left st a v slot page victim image with_it out x ends.2 now))
-  write_moves v slot page victim ok image with_it (answered.Got x g) ends now = absurd ends
-  write_moves v slot page victim ok image with_it (answered.Opened x g) ends now = absurd ends
-  write_moves v slot page victim ok image with_it (answered.Joined x) ends now = absurd ends
-  write_moves v slot page victim ok image with_it (answered.Flushed clean) ends now = absurd ends
-  write_moves v slot page victim ok image with_it (answered.No returned refusal) ends now = absurd ends
+  write_moves v slot page victim ok image with_it (answered.Got x g) ends now done = absurd ends
+  write_moves v slot page victim ok image with_it (answered.Opened x g) ends now done = absurd ends
+  write_moves v slot page victim ok image with_it (answered.Joined x) ends now done = absurd ends
+  write_moves v slot page victim ok image with_it (answered.Flushed clean) ends now done = absurd ends
 
   duty_moves : (d : Duty) (ok : Bool) (image : List ℕ) → duty_worker d ≡ Some w
       → ((q : ℕ) → victim_by q hand.stage ≡ victim_of q d image)
       → (o : Answered) → DutyEnds old d image ok o new → HasAnswer hand o left
+      → IsDone s (duty_call old.page_bytes d image ok s) m
       → AnswerStep old new s (next_of s m) hand left d ok image
-  duty_moves (duty.Read v slot page) ok image of with_it o ends now =
-      read_moves v slot page ok image (some_some v v w of) with_it o ends now
-  duty_moves (duty.Write v slot page victim) ok image of with_it o ends now =
-      write_moves v slot page victim ok image with_it o ends now
-  duty_moves (duty.Flush page) ok image of with_it o ends now = absurd (none_some of)
-
-  answer_ends : (r : Returned) (o : Answered) → AnswerComesTo old r o new → HasAnswer hand o left
-      → DutyEnds old r.duty r.image (is_ok r.answer) o new
-  answer_ends r (answered.Got x g) told now = told
-  answer_ends r (answered.Opened x g) told now = told
-  answer_ends r (answered.Joined x) told now = told
-  answer_ends r (answered.Away further) told now = told
-  answer_ends r (answered.Lost x) told now = told
-  answer_ends r (answered.Flushed clean) told now = absurd now
-  answer_ends r (answered.No back refusal) told now = absurd now
+  duty_moves (duty.Read v slot page) ok image of with_it o ends now done =
+      read_moves v slot page ok image (some_some v v w of) with_it o ends now done
+  duty_moves (duty.Write v slot page victim) ok image of with_it o ends now done =
+      write_moves v slot page victim ok image with_it o ends now done
+  duty_moves (duty.Flush page) ok image of with_it o ends now done = absurd (none_some of)
 
   -- The answer to what the worker's token tells.
   module _ (r : Returned) (stage : hand.stage ≡ Back r) where
@@ -332,21 +316,22 @@ module _ (old new : Parts) (s : State) (w : ℕ) (hand left : Hand) (m : Move) (
         back_same : (x y : Returned) → Back x ≡ Back y → x ≡ y
         back_same x y f = cc
 
-    pub answer_moves : HandMoves old hand new left
+    pub answer_moves : (moves : HandMoves old hand new left) → IsDone s (call_in old hand new left moves s) m
         → AnswerStep old new s (next_of s m) hand left r.duty (is_ok r.answer) r.image
-    answer_moves (hands.answers q o at told now) =
+    answer_moves (hands.answers q o at told now) done =
         let e : q ≡ r = same_back q at in
         duty_moves r.duty (is_ok r.answer) r.image of_worker (λ p. ap (victim_by p) stage) o
-        (answer_ends r o (subst (λ x. AnswerComesTo old x o new) e told) now) now
-    answer_moves (hands.takes chair x at does stay now) = absurd (idle_back chair (sym at ∙ stage))
-    answer_moves (hands.chooses x y branch at does stay now) = absurd (in_back x (sym at ∙ stage))
-    answer_moves (hands.finishes x chair at does stay now) = absurd (in_back x (sym at ∙ stage))
-    answer_moves (hands.ends x chair at does stay now) = absurd (leaving_back x (sym at ∙ stage))
-    answer_moves (hands.fixes x page f at told now) = absurd (in_back x (sym at ∙ stage))
-    answer_moves (hands.unfixes x y slot g at there told now) = absurd (in_back x (sym at ∙ stage))
-    answer_moves (hands.scatters x y slot g at there told now) = absurd (in_back x (sym at ∙ stage))
-    answer_moves (hands.latches_shared x y slot g h at there told now) = absurd (in_back x (sym at ∙ stage))
-    answer_moves (hands.latches_exclusive x y slot g h at there told now) = absurd (in_back x (sym at ∙ stage))
-    answer_moves (hands.unlatches_shared x y slot g h at there told now) = absurd (in_back x (sym at ∙ stage))
-    answer_moves (hands.unlatches_exclusive x y slot g h at there told now) = absurd (in_back x (sym at ∙ stage))
-    answer_moves (hands.gives_back x y slot g at there told now) = absurd (leaving_back x (sym at ∙ stage))
+        (subst (λ x. AnswerComesTo old x o new) e told) now
+        (subst (λ x. IsDone s (answer_call old.page_bytes x s) m) e done)
+    answer_moves (hands.takes chair x at does stay now) done = absurd (idle_back chair (sym at ∙ stage))
+    answer_moves (hands.chooses x y branch at does stay now) done = absurd (in_back x (sym at ∙ stage))
+    answer_moves (hands.finishes x chair at does stay now) done = absurd (in_back x (sym at ∙ stage))
+    answer_moves (hands.ends x chair at does stay now) done = absurd (leaving_back x (sym at ∙ stage))
+    answer_moves (hands.fixes x page f at told now) done = absurd (in_back x (sym at ∙ stage))
+    answer_moves (hands.unfixes x y slot g at there told now) done = absurd (in_back x (sym at ∙ stage))
+    answer_moves (hands.scatters x y slot g at there told now) done = absurd (in_back x (sym at ∙ stage))
+    answer_moves (hands.latches_shared x y slot g h at there told now) done = absurd (in_back x (sym at ∙ stage))
+    answer_moves (hands.latches_exclusive x y slot g h at there told now) done = absurd (in_back x (sym at ∙ stage))
+    answer_moves (hands.unlatches_shared x y slot g h at there told now) done = absurd (in_back x (sym at ∙ stage))
+    answer_moves (hands.unlatches_exclusive x y slot g h at there told now) done = absurd (in_back x (sym at ∙ stage))
+    answer_moves (hands.gives_back x y slot g at there told now) done = absurd (leaving_back x (sym at ∙ stage))

@@ -13,9 +13,10 @@ use Rattle.pp_vault.specs.declared.stage.Stage.TheVariants.{Out, Back}
 use Rattle.pp_vault.specs.declared.stage.Hand.{Hand}
 use Rattle.pp_vault.specs.declared.hands.Hands.{Hands}
 use Rattle.pp_vault.specs.Parts.{Parts}
+use Rattle.pp_vault.specs.Events.{Tells}
 use Rattle.pp_vault.specs.Holding.{placed}
 use Rattle.pp_vault.specs.Hands.{StageFits, IsAway}
-use Rattle.pp_contents.specs.HandMoves.{HandMoves}
+use Rattle.pp_contents.specs.HandMoves.{HandMoves, call_in}
 use Rattle.pp_contents.specs.Told.{told_after}
 use Rattle.pp_contents.specs.Content.{content, ContentsStay, victim_of, victim_by}
 use Rattle.pp_contents.specs.Agreeing.{Agrees}
@@ -25,6 +26,7 @@ use Rattle.pp_contents.proofs.AnswerMoves.{answer_moves}
 use Rattle.pp_contents.proofs.ContentPlaces.{hand_stands}
 use Rattle.pp_contents.proofs.ContentSteps.{left_there, calls_keep, answers_follow}
 use Rattle.pp_contents.proofs.ImageSteps.{SameToken, ImageStep}
+use Rattle.pp_contents.proofs.MovesDone.{told_done}
 use Rattle.pp_contents.proofs.MovesToSteps.{call_moves}
 use Rattle.pp_contents.proofs.StepKinds.{CallStep, AnswerStep, call_step, answer_step, answer_from}
 use Rattle.pp_contents.proofs.TokenMoves.{token_stays}
@@ -32,8 +34,7 @@ use Rattle.pp_contents.proofs.TokensApart.{Stands, stands_back}
 
 module _ (old new : Parts) (s : State) (hands after : Hands) (told : ℕ → List ℕ) (w : ℕ) (hand left : Hand) (m : Move)
     (reply : Reply) (before : Held old s hands) (there : placed hands.workers w ≡ Some hand)
-    (back : HandsBack hands w left after) (last : new.last ≡ Some (m, reply)) (later : Held new (next_of s m) after)
-    (agrees : Agrees old s hands told) where
+    (back : HandsBack hands w left after) (later : Held new (next_of s m) after) (agrees : Agrees old s hands told) where
   stands_left : Stands (next_of s m) w left
   stands_left =
       hand_stands new (next_of s m) after later w left
@@ -41,11 +42,12 @@ module _ (old new : Parts) (s : State) (hands after : Hands) (told : ℕ → Lis
 
   -- ---- a call that asks no device
 
-  module _ (moves : HandMoves old hand new left) where
+  module _ (moves : HandMoves old hand new left) (said : Tells old (call_in old hand new left moves) (m, reply)) where
     step : CallStep old new s (next_of s m) hand left
     step =
-        call_moves old new s w hand left m reply before.stands last later.stands
-        (hand_stands old s hands before w hand there) stands_left moves (λ r e. agrees.answered w hand r there e)
+        call_moves old new s w hand left m before.stands later.stands (hand_stands old s hands before w hand there)
+        stands_left moves (told_done s (call_in old hand new left moves s) m reply (said s before.stands))
+        (λ r e. agrees.answered w hand r there e)
 
     pub call_image : ImageStep old new s (next_of s m) hand left
     call_image = call_step old new s (next_of s m) hand left step
@@ -81,11 +83,13 @@ module _ (old new : Parts) (s : State) (hands after : Hands) (told : ℕ → Lis
     same_images q =
         token_stays hand carried q (same_victim errand.duty errand.image gives q ∙ sym (ap (victim_by q) out)) refl
 
-    module _ (moves : HandMoves old carried new left) where
+    module _ (moves : HandMoves old carried new left)
+        (said : Tells old (call_in old carried new left moves) (m, reply)) where
       ends : AnswerStep old new s (next_of s m) carried left errand.duty (is_ok answer) given
       ends =
-          answer_moves old new s w carried left m reply before.stands last later.stands stands_carried stands_left
+          answer_moves old new s w carried left m before.stands later.stands stands_carried stands_left
           (returned_of errand given answer) refl moves
+          (told_done s (call_in old carried new left moves s) m reply (said s before.stands))
 
       pub answer_image : ImageStep old new s (next_of s m) carried left
       answer_image = answer_step old new s (next_of s m) carried left errand.duty (is_ok answer) given ends

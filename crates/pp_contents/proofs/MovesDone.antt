@@ -1,5 +1,5 @@
 -- The move that a done call of a vault was, and what it found and was answered.
-use Rattle.std.proofs.Common.{◌≡◌, ◌∙◌, ℕ, Bool, true, false, not, Option, Some, None, refl, sym, ap, subst}
+use Rattle.std.proofs.Common.{◌≡◌, ℕ, Bool, true, false, not, Option, Some, None, refl, sym, ap, subst}
 use Rattle.std.specs.Prelude.{if◌then◌else◌, ◌&&◌, ◌==◌, IsTrue}
 use Rattle.std.proofs.lemmas.Bool.{false≢true}
 use Rattle.pp_cert.specs.declared.note.Held.{Held}
@@ -11,10 +11,7 @@ use Rattle.pp_model.specs.Ready.{Keeps, is_still}
 use Rattle.pp_model.specs.Reached.{IsReached}
 use Rattle.pp_model.proofs.ReadyLaws.{still_keeps}
 use Rattle.pp_core.specs.Queries.{held_of, is_leaving}
-use Rattle.pp_vault.specs.Parts.{Parts}
-use Rattle.pp_vault.specs.StandsFor.{StandsFor}
 use Rattle.pp_vault.specs.Calls.{Call, stranger, refused, asks, told}
-use Rattle.pp_vault.specs.Events.{Does}
 use Rattle.pp_vault.specs.Fits.{guard_call, leaver_fits, is_held_so}
 use Rattle.pp_vault.proofs.FitTests.{none_some, some_some, both_hold, slot_held}
 
@@ -27,7 +24,8 @@ not_true : (b : Bool) → not b ≡ true → b ≡ false
 not_true true e = absurd (false≢true e)
 not_true false e = refl
 
-told_done : (s : State) (c : Call) (m : Move) (reply : Reply) → told s c ≡ Some (m, reply) → IsDone s c m
+-- What is told is the move that the call asks.
+pub told_done : (s : State) (c : Call) (m : Move) (reply : Reply) → told s c ≡ Some (m, reply) → IsDone s c m
 told_done s stranger m reply e = absurd (none_some e)
 told_done s (refused why) m reply e = absurd (none_some e)
 told_done s (asks k) m reply e = go (is_possible s k) refl e
@@ -43,10 +41,6 @@ told_done s (asks k) m reply e = go (is_possible s k) refl e
           done = subst (λ n. is_refusal (reply_of s n) ≡ false) same (not_true (is_refusal (reply_of s k)) is);
         }
     go false is f = absurd (none_some f)
-
-pub call_done : (old new : Parts) (call : State → Call) (s : State) (m : Move) (reply : Reply) → StandsFor old s
-    → Does old call new → new.last ≡ Some (m, reply) → IsDone s (call s) m
-call_done old new call s m reply st does last = told_done s (call s) m reply (sym (does.is_told s st) ∙ last)
 
 -- ---- which move it was
 

@@ -24,14 +24,14 @@ use Rattle.pp_vault.specs.declared.hands.Flushing.TheVariants as flushing
 use Rattle.pp_vault.specs.declared.hands.Hands.{Hands}
 use Rattle.pp_vault.specs.Parts.{Parts}
 use Rattle.pp_vault.specs.StandsFor.{StandsFor}
-use Rattle.pp_vault.specs.Events.{Does}
+use Rattle.pp_vault.specs.Events.{Does, Tells}
 use Rattle.pp_vault.specs.Submits.{TakesIn}
 use Rattle.pp_vault.specs.Flushes.{flush_call, IsImageOf, CopiesOut}
-use Rattle.pp_vault.specs.Answers.{AnswerComesTo}
+use Rattle.pp_vault.specs.Answers.{answer_call, AnswerComesTo}
 use Rattle.pp_contents.specs.Told.{told_after}
 use Rattle.pp_vault.specs.Holding.{placed}
 use Rattle.pp_vault.specs.Hands.{HandsFitState}
-use Rattle.pp_contents.specs.HandMoves.{HandMoves}
+use Rattle.pp_contents.specs.HandMoves.{HandMoves, call_in}
 use Rattle.pp_contents.specs.Content.{content, ContentsStay, ContentIsSet}
 use Rattle.pp_contents.specs.Agreeing.{Agrees}
 
@@ -63,8 +63,9 @@ returned_of errand given answer = record { duty = errand.duty; image = given; an
 abbrev pub CallsKeepContents : Type 0
 CallsKeepContents =
     (old new : Parts) (s : State) (hands after : Hands) (told : ℕ → List ℕ) (w : ℕ) (hand left : Hand) (m : Move)
-    (reply : Reply) → Held old s hands → placed hands.workers w ≡ Some hand → HandMoves old hand new left
-    → HandsBack hands w left after → new.last ≡ Some (m, reply) → Held new (next_of s m) after
+    (reply : Reply) → Held old s hands → placed hands.workers w ≡ Some hand → (moves : HandMoves old hand new left)
+    → HandsBack hands w left after → Tells old (call_in old hand new left moves) (m, reply)
+    → Held new (next_of s m) after
     → Agrees old s hands told → KeepsContents old s hands told new (next_of s m) after told
 
 -- So does a flush that begins.
@@ -73,7 +74,7 @@ FlushesKeepContents =
     (old new : Parts) (s : State) (hands after : Hands) (told : ℕ → List ℕ) (page : ℕ) (errand : Errand) (m : Move)
     (reply : Reply) → Held old s hands → hands.flushing ≡ None → Does old (flush_call page) new
     → CopiesOut old new page errand → after ≡ record hands { flushing = Some (flushing.Out errand) }
-    → new.last ≡ Some (m, reply) → Held new (next_of s m) after → Agrees old s hands told
+    → Tells old (flush_call page) (m, reply) → Held new (next_of s m) after → Agrees old s hands told
     → KeepsContents old s hands told new (next_of s m) after told
 
 -- And a plan that is taken in.
@@ -122,8 +123,10 @@ AnswersSetContents =
     (old new : Parts) (s : State) (hands after : Hands) (told : ℕ → List ℕ) (w : ℕ) (hand left : Hand) (errand : Errand)
     (given : List ℕ) (answer : Answer) (m : Move) (reply : Reply) → Held old s hands
     → placed hands.workers w ≡ Some hand → hand.stage ≡ Out errand → GivesBackImage errand.duty errand.image given
-    → HandMoves old (record hand { stage = Back (returned_of errand given answer) }) new left
-    → HandsBack hands w left after → new.last ≡ Some (m, reply) → Held new (next_of s m) after
+    → (moves : HandMoves old (record hand { stage = Back (returned_of errand given answer) }) new left)
+    → HandsBack hands w left after
+    → Tells old (call_in old (record hand { stage = Back (returned_of errand given answer) }) new left moves) (m, reply)
+    → Held new (next_of s m) after
     → Agrees old s hands told
     → AnswerFollows errand.duty answer given (content old s hands told)
     (content new (next_of s m) after (told_after told errand.duty answer given))
@@ -136,7 +139,9 @@ FlushAnswersKeepContents =
     (answer : Answer) (clean : Bool) (m : Move) (reply : Reply) → Held old s hands
     → hands.flushing ≡ Some (flushing.Out errand) → GivesBackImage errand.duty errand.image given
     → AnswerComesTo old (returned_of errand given answer) (Flushed clean) new
-    → after ≡ record hands { flushing = None } → new.last ≡ Some (m, reply) → Held new (next_of s m) after
+    → after ≡ record hands { flushing = None }
+    → Tells old (answer_call old.page_bytes (returned_of errand given answer)) (m, reply)
+    → Held new (next_of s m) after
     → Agrees old s hands told
     → KeepsContents old s hands told new (next_of s m) after (told_after told errand.duty answer given)
 

@@ -17,13 +17,19 @@ use Rattle.pp_vault.specs.declared.fixing.Fixed.{Fixed}
 use Rattle.pp_vault.specs.declared.fixing.Fixed.TheVariants as fixed
 use Rattle.pp_vault.specs.declared.answering.Answered.{Answered}
 use Rattle.pp_vault.specs.declared.answering.Answered.TheVariants as answered
+use Rattle.pp_cert.specs.declared.note.Held.TheVariants.{S}
+use Rattle.pp_plan.specs.declared.mode.Mode.TheVariants as mode
+use Rattle.pp_model.specs.Pool.{State}
 use Rattle.pp_vault.specs.Parts.{Parts}
+use Rattle.pp_vault.specs.Calls.{Call}
 use Rattle.pp_vault.specs.Events.{Does}
-use Rattle.pp_vault.specs.Fits.{take_call, choose_call, finish_call, end_call}
+use Rattle.pp_vault.specs.Fits.{take_call, choose_call, finish_call, end_call, fix_slot, fix_call, unfix_call, scatter_call}
+use Rattle.pp_vault.specs.Fits.{latch_call, unlatch_call, put_back_call}
+use Rattle.pp_vault.specs.Tokens.{is_long}
 use Rattle.pp_vault.specs.Fixes.{FixAnswers}
-use Rattle.pp_vault.specs.Answers.{AnswerComesTo}
+use Rattle.pp_vault.specs.Answers.{answer_call, AnswerComesTo}
 use Rattle.pp_vault.specs.Uses.{Unfixes, Scatters, LatchesShared, LatchesExclusive, UnlatchesShared, UnlatchesExclusive}
-use Rattle.pp_vault.specs.Leaves.{GivesBack}
+use Rattle.pp_vault.specs.Leaves.{give_back_call, GivesBack}
 use Rattle.pp_vault.specs.ImageMoves.{ImagesStay}
 use Rattle.pp_vault.specs.Holding.{placed}
 
@@ -49,7 +55,6 @@ HasFixed hand (fixed.Opened session guard) left =
     left ≡ record { stage = In session; guards = slice_set hand.guards guard.slot (Some (Bundle guard)) }
 HasFixed hand (fixed.Joined session) left = IsNowAt hand (In session) left
 HasFixed hand (fixed.Away errand) left = IsNowAt hand (Out errand) left
-HasFixed hand (fixed.No session refusal) left = ⊥
 
 -- What an answer gave: the guard of a slot, or of a bundle that it opened; nothing beside the token for a further page of a
 -- bundle; a further errand; or the way out of the plan.
@@ -62,7 +67,6 @@ HasAnswer hand (answered.Joined session) left = IsNowAt hand (In session) left
 HasAnswer hand (answered.Away errand) left = IsNowAt hand (Out errand) left
 HasAnswer hand (answered.Lost leaver) left = IsNowAt hand (Leaving leaver) left
 HasAnswer hand (answered.Flushed clean) left = ⊥
-HasAnswer hand (answered.No returned refusal) left = ⊥
 
 -- A call of a vault is done with the tokens of this hand, and what it gave is in the hand.
 pub data HandMoves (old : Parts) (hand : Hand) (new : Parts) (left : Hand) : Type 0 where
@@ -104,3 +108,24 @@ pub data HandMoves (old : Parts) (hand : Hand) (new : Parts) (left : Hand) : Typ
   gives_back : (leaver now : Leaver) (slot : ℕ) (guard : Guard) → hand.stage ≡ Leaving leaver
       → placed hand.guards slot ≡ Some guard → GivesBack old leaver guard new now
       → HasSpent hand (Leaving now) slot left → HandMoves old hand new left
+
+-- Which call of the vault it is.
+abbrev pub call_in : (old : Parts) (hand : Hand) (new : Parts) (left : Hand) → HandMoves old hand new left → State → Call
+call_in old hand new left (takes chair session at does images has) = take_call chair.worker
+call_in old hand new left (chooses session now branch at does images has) = choose_call session.worker branch
+call_in old hand new left (finishes session chair at does images has) = finish_call session.worker
+call_in old hand new left (ends leaver chair at does images has) = end_call leaver.worker
+call_in old hand new left (fixes session page fixed at gives has) = fix_call session.worker (fix_slot session.ask) page
+call_in old hand new left (answers returned answered at comes has) = answer_call old.page_bytes returned
+call_in old hand new left (unfixes x now slot guard at there does has) =
+    unfix_call x.worker guard.worker guard.slot guard.page
+call_in old hand new left (scatters x now slot guard at there does has) = scatter_call x.worker guard.worker guard.slot
+call_in old hand new left (latches_shared x now slot guard latched at there does has) =
+    latch_call mode.S x.worker guard.worker guard.slot guard.page
+call_in old hand new left (latches_exclusive x now slot guard latched at there does has) =
+    latch_call mode.X x.worker guard.worker guard.slot guard.page
+call_in old hand new left (unlatches_shared x now slot guard pinned at there does has) =
+    unlatch_call S x.worker guard.worker guard.slot guard.page
+call_in old hand new left (unlatches_exclusive x now slot guard pinned at there does has) =
+    put_back_call (is_long old guard.image) x.worker guard.worker guard.slot guard.page
+call_in old hand new left (gives_back leaver now slot guard at there does has) = give_back_call old leaver guard

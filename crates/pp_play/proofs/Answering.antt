@@ -1,24 +1,27 @@
 -- What the answer of a device does for the cue that asks it.
 use Rattle.std.proofs.Common.{◌≡◌, ℕ, Bool, true, false, Option, Some, None, List, refl, sym, ap, subst, arith, rules}
-use Rattle.std.specs.Prelude.{◌&&◌, ◌==◌, nat_eq, if◌then◌else◌}
+use Rattle.std.specs.Prelude.{◌&&◌, ◌==◌, nat_eq, is_ok, is_some, if◌then◌else◌}
+use Rattle.std.proofs.lemmas.Bool.{false≢true}
 use Rattle.std.proofs.lemmas.Bool.Decides.{nat_tests}
 use Rattle.pp_model.specs.declared.moves.Move.{Move}
+use Rattle.pp_model.specs.declared.reply.Reply.{Reply}
 use Rattle.pp_model.specs.Pool.{State}
 use Rattle.pp_core.specs.Queries.{errand_of}
 use Rattle.pp_vault.specs.declared.tokens.Duty.{Duty}
 use Rattle.pp_vault.specs.declared.tokens.Duty.TheVariants as duty
-use Rattle.pp_vault.specs.declared.tokens.Errand.{Errand}
-use Rattle.pp_vault.specs.declared.tokens.Leaver.{Leaver}
+use Rattle.pp_vault.specs.declared.tokens.Returned.{Returned}
 use Rattle.pp_vault.specs.declared.tokens.Session.{Session}
 use Rattle.pp_vault.specs.declared.guards.PinGuard.{PinGuard}
 use Rattle.pp_vault.specs.declared.guards.BundleGuard.{BundleGuard}
 use Rattle.pp_vault.specs.declared.guards.Guard.{Guard}
+use Rattle.pp_vault.specs.declared.answering.Answered.{Answered}
 use Rattle.pp_vault.specs.declared.answering.Answered.TheVariants.{Got, Opened, Joined, Away, Lost, Flushed}
 use Rattle.pp_vault.specs.Parts.{Parts}
 use Rattle.pp_vault.specs.StandsFor.{IsKept}
 use Rattle.pp_vault.specs.Duties.{duty_worker}
 use Rattle.pp_vault.specs.Calls.{asks, stranger, refusal_of}
-use Rattle.pp_vault.specs.Answers.{is_of_read, DutyEnds}
+use Rattle.pp_vault.specs.Events.{Does, Tells}
+use Rattle.pp_vault.specs.Answers.{is_of_read, duty_call, answer_call, DutyEnds, AnswerComesTo}
 use Rattle.pp_vault.specs.Fits.{is_gathered}
 use Rattle.pp_vault.specs.Holding.{is_free}
 use Rattle.pp_script.specs.declared.cue.Cue.TheVariants as cue
@@ -28,48 +31,50 @@ use Rattle.pp_play.proofs.Room.{room_free}
 
 -- ---- what is done
 
-module _ (old new : Parts) (kept : IsKept old) (w : ℕ) (image : List ℕ) (ok : Bool) where
-  pub got_done : (d : Duty) (x : Session) (g : PinGuard) → duty_worker d ≡ Some w
-      → DutyEnds old d image ok (Got x g) new → IsDone old (cue.Device w) new
-  got_done (duty.Read v slot page) x g of ends =
-      read_done old new kept v w (same v w of) old.page_bytes slot page image ok ends.0
-  got_done (duty.Write v slot page victim) x g of ends = absurd ends
-  got_done (duty.Flush page) x g of ends = absurd ends
+-- Whatever came of the answer, its call is done.
+pub duty_does : (old new : Parts) (d : Duty) (image : List ℕ) (ok : Bool) (out : Answered)
+    → DutyEnds old d image ok out new → Does old (duty_call old.page_bytes d image ok) new
+duty_does old new (duty.Read w slot page) image ok (Got x g) ends = ends.0
+duty_does old new (duty.Read w slot page) image ok (Opened x g) ends = ends.0
+duty_does old new (duty.Read w slot page) image ok (Joined x) ends = ends.0
+duty_does old new (duty.Read w slot page) image ok (Lost leaver) ends = ends.0
+duty_does old new (duty.Write w slot page victim) image ok (Away errand) ends = ends.1
+duty_does old new (duty.Write w slot page victim) image ok (Lost leaver) ends = ends.1
+duty_does old new (duty.Flush page) image ok (Flushed clean) ends = ends.does
+duty_does old new d image ok out ends = absurd ends
 
-  pub opened_done : (d : Duty) (x : Session) (g : BundleGuard) → duty_worker d ≡ Some w
-      → DutyEnds old d image ok (Opened x g) new → IsDone old (cue.Device w) new
-  opened_done (duty.Read v slot page) x g of ends =
-      read_done old new kept v w (same v w of) old.page_bytes slot page image ok ends.0
-  opened_done (duty.Write v slot page victim) x g of ends = absurd ends
-  opened_done (duty.Flush page) x g of ends = absurd ends
+duty_done : (old new : Parts) (kept : IsKept old) (w : ℕ) (d : Duty) (image : List ℕ) (ok : Bool) {done : Move × Reply}
+    → duty_worker d ≡ Some w → Does old (duty_call old.page_bytes d image ok) new
+    → Tells old (duty_call old.page_bytes d image ok) done → IsDone old (cue.Device w) done new
+duty_done old new kept w (duty.Read v slot page) image ok of does tells =
+    read_done old new kept v w (same v w of) old.page_bytes slot page image ok does tells
+duty_done old new kept w (duty.Write v slot page victim) image ok of does tells =
+    write_done old new kept v w (same v w of) old.page_bytes slot page victim image ok does tells
+duty_done old new kept w (duty.Flush page) image ok of does tells = absurd (false≢true (ap is_some of))
 
-  pub joined_done : (d : Duty) (x : Session) → duty_worker d ≡ Some w → DutyEnds old d image ok (Joined x) new
-      → IsDone old (cue.Device w) new
-  joined_done (duty.Read v slot page) x of ends =
-      read_done old new kept v w (same v w of) old.page_bytes slot page image ok ends.0
-  joined_done (duty.Write v slot page victim) x of ends = absurd ends
-  joined_done (duty.Flush page) x of ends = absurd ends
+module _ (old new : Parts) (kept : IsKept old) (returned : Returned) (out : Answered) {done : Move × Reply}
+    (comes : AnswerComesTo old returned out new) (tells : Tells old (answer_call old.page_bytes returned) done) where
+  does : Does old (answer_call old.page_bytes returned) new
+  does = duty_does old new returned.duty returned.image (is_ok returned.answer) out comes
 
-  pub away_done : (d : Duty) (errand : Errand) → duty_worker d ≡ Some w
-      → DutyEnds old d image ok (Away errand) new → IsDone old (cue.Device w) new
-  away_done (duty.Read v slot page) errand of ends = absurd ends
-  away_done (duty.Write v slot page victim) errand of ends =
-      write_done old new kept v w (same v w of) old.page_bytes slot page victim image ok ends.1
-  away_done (duty.Flush page) errand of ends = absurd ends
+  -- An answer to a worker's errand.
+  pub answer_done : (w : ℕ) → duty_worker returned.duty ≡ Some w → IsDone old (cue.Device w) done new
+  answer_done w of = duty_done old new kept w returned.duty returned.image (is_ok returned.answer) of does tells
 
-  pub lost_done : (d : Duty) (leaver : Leaver) → duty_worker d ≡ Some w
-      → DutyEnds old d image ok (Lost leaver) new → IsDone old (cue.Device w) new
-  lost_done (duty.Read v slot page) leaver of ends =
-      read_done old new kept v w (same v w of) old.page_bytes slot page image ok ends.0
-  lost_done (duty.Write v slot page victim) leaver of ends =
-      write_done old new kept v w (same v w of) old.page_bytes slot page victim image ok ends.1
-  lost_done (duty.Flush page) leaver of ends = absurd ends
+over_done : (old new : Parts) (kept : IsKept old) (d : Duty) (image : List ℕ) (ok clean : Bool) {done : Move × Reply}
+    → DutyEnds old d image ok (Flushed clean) new → Tells old (duty_call old.page_bytes d image ok) done
+    → IsDone old cue.FlushDevice done new
+over_done old new kept (duty.Read v slot page) image ok clean ends tells = absurd ends
+over_done old new kept (duty.Write v slot page victim) image ok clean ends tells = absurd ends
+over_done old new kept (duty.Flush page) image ok clean ends tells =
+    flushed_done old new old.page_bytes page image ok kept ends.does tells
 
-  pub flush_over : (d : Duty) (clean : Bool) → DutyEnds old d image ok (Flushed clean) new
-      → IsDone old cue.FlushDevice new
-  flush_over (duty.Read v slot page) clean ends = absurd ends
-  flush_over (duty.Write v slot page victim) clean ends = absurd ends
-  flush_over (duty.Flush page) clean ends = flushed_done old new old.page_bytes page image ok kept ends.does
+-- An answer to a flush.
+pub flush_over : (old new : Parts) (kept : IsKept old) (returned : Returned) (clean : Bool) {done : Move × Reply}
+    → AnswerComesTo old returned (Flushed clean) new → Tells old (answer_call old.page_bytes returned) done
+    → IsDone old cue.FlushDevice done new
+flush_over old new kept returned clean comes tells =
+    over_done old new kept returned.duty returned.image (is_ok returned.answer) clean comes tells
 
 -- ---- the place of the page that came
 

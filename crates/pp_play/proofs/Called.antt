@@ -6,8 +6,8 @@ use Rattle.std.proofs.lemmas.Bool.{false≢true}
 use Rattle.std.proofs.lemmas.Bool.Decides.{nat_tests}
 use Rattle.std.proofs.lemmas.List.{drop-append-le, get_or-set_same, get_or-set_other, length-set}
 use Rattle.pp_model.specs.declared.moves.Move.{Move}
+use Rattle.pp_model.specs.declared.reply.Reply.{Reply}
 use Rattle.pp_model.specs.Pool.{State}
-use Rattle.pp_model.specs.Moves.{reply_of}
 use Rattle.pp_vault.specs.declared.stage.Hand.{Hand}
 use Rattle.pp_vault.specs.declared.hands.Hands.{Hands}
 use Rattle.pp_vault.specs.Parts.{Parts}
@@ -22,7 +22,6 @@ use Rattle.pp_play.specs.Plays.{IsMoveOf, Tells, ComesTo}
 use Rattle.pp_play.specs.Doing.{IsDone}
 use Rattle.pp_play.specs.Calling.{is_answer, tells_answer, answers, is_back, is_flush_back, NoneBack, IsCalled}
 use Rattle.pp_play.proofs.AllHands.{past}
-use Rattle.pp_play.proofs.DeviceHands.{TellsLast}
 
 -- ---- lines that tell of no answer
 
@@ -76,18 +75,12 @@ device_answer : (w : ℕ) (m : Move) → IsMoveOf (Device w) m → is_answer m �
 device_answer w m (inl asked) = ap is_answer asked.1
 device_answer w m (inr asked) = ap is_answer asked.1
 
-module _ (old new : Parts) (kept : IsKept old) (line : Line) (tells : TellsLast new line) where
-  told_answer : (cue : Cue) → IsDone old cue new → ((m : Move) → IsMoveOf cue m → is_answer m ≡ true)
-      → tells_answer line ≡ true
-  told_answer cue done answer =
-      let d = done.does kept.state kept.stands in
-      ap tells_answer (tells d.0 (reply_of kept.state d.0) d.2) ∙ answer d.0 d.1
+module _ (old new : Parts) (line : Line) {told : Move × Reply} (tells : line ≡ Did told.0 told.1) where
+  pub device_told : (w : ℕ) → IsDone old (Device w) told new → tells_answer line ≡ true
+  device_told w done = ap tells_answer tells ∙ device_answer w told.0 done.asked
 
-  pub device_told : (w : ℕ) → IsDone old (Device w) new → tells_answer line ≡ true
-  device_told w done = told_answer (Device w) done (device_answer w)
-
-  pub flush_told : IsDone old FlushDevice new → tells_answer line ≡ true
-  flush_told done = told_answer FlushDevice done (λ m asked. ap is_answer asked.1)
+  pub flush_told : IsDone old FlushDevice told new → tells_answer line ≡ true
+  flush_told done = ap tells_answer tells ∙ ap is_answer done.asked.1
 
 -- ---- how many lines do
 

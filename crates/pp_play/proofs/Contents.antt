@@ -1,6 +1,6 @@
 -- What a cue leaves of the contents of pages.
 use Rattle.std.proofs.Common.{◌≡◌, ◌∙◌, ℕ, ◌≤◌, Option, Some, None, List, [], refl, sym, ap, subst, arith}
-use Rattle.std.specs.Prelude.{slice_get, slice_set, is_some, unwrap_or, length}
+use Rattle.std.specs.Prelude.{slice_get, slice_set, is_some, length}
 use Rattle.std.proofs.lemmas.Bool.{false≢true}
 use Rattle.std.proofs.lemmas.List.{get_or_past, drop-set-add}
 use Rattle.pp_cert.specs.declared.note.Held.{Held}
@@ -8,7 +8,6 @@ use Rattle.pp_cert.specs.declared.note.Held.TheVariants.{S, X}
 use Rattle.pp_model.specs.declared.moves.Move.{Move}
 use Rattle.pp_model.specs.declared.reply.Reply.{Reply}
 use Rattle.pp_model.specs.Pool.{State}
-use Rattle.pp_model.specs.Ready.{Standing, ready_at}
 use Rattle.pp_core.specs.Queries.{held_of}
 use Rattle.pp_device.specs.Image.{body_of}
 use Rattle.pp_vault.specs.declared.refusal.Refusal.{Refusal}
@@ -19,12 +18,10 @@ use Rattle.pp_vault.specs.declared.stage.Hand.{Hand}
 use Rattle.pp_vault.specs.declared.hands.Hands.{Hands}
 use Rattle.pp_vault.specs.Parts.{Parts}
 use Rattle.pp_vault.specs.StandsFor.{StandsFor}
-use Rattle.pp_vault.specs.Events.{untold}
 use Rattle.pp_vault.specs.Hands.{HandsFit, GuardFits, PlaceFits}
 use Rattle.pp_vault.specs.HandLaws.{FitsIn}
 use Rattle.pp_vault.specs.Holding.{placed}
-use Rattle.pp_contents.specs.Content.{or_other, first_given, written_in, victim_in, standing_image, ready_image, content}
-use Rattle.pp_contents.specs.Content.{ContentsStay, ContentIsSet}
+use Rattle.pp_contents.specs.Content.{content, ContentsStay, ContentIsSet}
 use Rattle.pp_contents.specs.Agreeing.{Agrees}
 use Rattle.pp_contents.specs.ContentLaws as law
 use Rattle.pp_contents.specs.ContentLaws.{KeepsContents, ContentsAreSeen, WritersSetContents}
@@ -35,57 +32,17 @@ use Rattle.pp_play.specs.Exact.{Lets, Writes, first_of, guards_by, guards_of, ha
 use Rattle.pp_play.specs.Following.{CueFollows, ShowsFirst}
 use Rattle.pp_play.proofs.AllHands.{part_fits}
 
--- ---- a vault in which nothing has changed but what is told
+-- ---- a vault in which nothing has changed
 
-standing_same : (v : Parts) (o : Option Standing) → standing_image (untold v) o ≡ standing_image v o
-standing_same v None = refl
-standing_same v (Some x) = refl
+module _ (s : State) (hands : Hands) (told : ℕ → List ℕ) (v new : Parts) (same : new ≡ v) where
+  pub unchanged : (page : ℕ) → content new s hands told page ≡ content v s hands told page
+  unchanged page = ap (λ u. content u s hands told page) same
 
-ready_same : (v : Parts) (s : State) (page : ℕ) → ready_image (untold v) s page ≡ ready_image v s page
-ready_same v s page = standing_same v (ready_at s page)
+  pub still_agrees : Agrees v s hands told → Agrees new s hands told
+  still_agrees a = subst (λ u. Agrees u s hands told) (sym same) a
 
-module _ (s : State) (hands : Hands) (told : ℕ → List ℕ) where
-  content_same : (v : Parts) (page : ℕ) → content (untold v) s hands told page ≡ content v s hands told page
-  content_same v page =
-      ap
-      (λ o. body_of (unwrap_or (or_other (first_given (written_in page) hands.workers)
-      (or_other (first_given (victim_in page) hands.workers) o)) (told page)))
-      (ready_same v s page)
-
-  untold_agrees : (v : Parts) → Agrees v s hands told → Agrees (untold v) s hands told
-  untold_agrees v a =
-      record {
-        clean = λ page image at clean. a.clean page image (sym (ready_same v s page) ∙ at) clean;
-        loaded = a.loaded;
-        victim = a.victim;
-        flushed = a.flushed;
-        copied = λ f image copy is mark at. a.copied f image copy is mark (sym (ready_same v s f.page) ∙ at);
-        answered = a.answered;
-        flush_answered = a.flush_answered;
-      }
-
-  told_agrees : (v : Parts) → Agrees (untold v) s hands told → Agrees v s hands told
-  told_agrees v a =
-      record {
-        clean = λ page image at clean. a.clean page image (ready_same v s page ∙ at) clean;
-        loaded = a.loaded;
-        victim = a.victim;
-        flushed = a.flushed;
-        copied = λ f image copy is mark at. a.copied f image copy is mark (ready_same v s f.page ∙ at);
-        answered = a.answered;
-        flush_answered = a.flush_answered;
-      }
-
-  module _ (v new : Parts) (same : untold new ≡ untold v) where
-    pub unchanged : (page : ℕ) → content new s hands told page ≡ content v s hands told page
-    unchanged page =
-        sym (content_same new page) ∙ ap (λ u. content u s hands told page) same ∙ content_same v page
-
-    pub still_agrees : Agrees v s hands told → Agrees new s hands told
-    still_agrees a = told_agrees new (subst (λ u. Agrees u s hands told) (sym same) (untold_agrees v a))
-
-    pub untold_keeps : Agrees v s hands told → KeepsContents v s hands told new s hands told
-    untold_keeps a = record { stay = unchanged; agrees = still_agrees a }
+  pub same_keeps : Agrees v s hands told → KeepsContents v s hands told new s hands told
+  same_keeps a = record { stay = unchanged; agrees = still_agrees a }
 
 -- ---- cues that keep all contents
 

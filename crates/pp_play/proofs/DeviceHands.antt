@@ -47,17 +47,13 @@ use Rattle.pp_play.specs.declared.line.Line.{Line}
 use Rattle.pp_play.specs.declared.line.Line.TheVariants.{Did}
 use Rattle.pp_play.specs.Doing.{LeavesOthers, LeavesHand, HandPlays}
 use Rattle.pp_play.specs.Exact.{IsLineOf, unless_out}
-use Rattle.pp_play.proofs.Asked.{same, read_done, write_done}
+use Rattle.pp_play.proofs.Asked.{same}
 use Rattle.pp_play.proofs.Leaves.{did_leaves}
 use Rattle.pp_play.proofs.Room.{gathered_same}
 use Rattle.pp_play.proofs.Slots.{low, low_gathered}
 use Rattle.pp_play.proofs.Others.{StillFits, asked_so, leaves_others, place_set, did_line}
 
 -- ---- a call of worker w that is done, for an errand that is out
-
--- The line tells what was done last.
-abbrev pub TellsLast : Parts → Line → Type 0
-TellsLast new line = (m : Move) (r : Reply) → new.last ≡ Some (m, r) → line ≡ Did m r
 
 module _ (still : StillFits) (old new : Parts) (kept : IsKept old) (w : ℕ) (test : State → Bool) (asked : Move)
     (by : caller (asks asked) ≡ Some w)
@@ -86,7 +82,7 @@ module _ (still : StillFits) (old new : Parts) (kept : IsKept old) (w : ℕ) (te
 module _ (still : StillFits) (old new : Parts) (kept : IsKept old) (w slot page : ℕ) (image : List ℕ) (ok : Bool) (hand : Hand)
     (fits : FitsIn old w hand) (out : (s : State) → StandsFor old s → errand_of s w ≡ Some (slot, page, None))
     (does : Does old (read_call old.page_bytes w slot page image ok) new) (line : Line)
-    (tells : TellsLast new line) where
+    {told : Move × Reply} (tells : line ≡ Did told.0 told.1) where
   abbrev came : Came
   came = came_of ok (head_of image)
 
@@ -96,13 +92,10 @@ module _ (still : StillFits) (old new : Parts) (kept : IsKept old) (w slot page 
   read_line : (now : List (Option Guard)) (s : State) → StandsFor old s
       → IsLineOf old s hand.guards now (cue.Device w) line
   read_line now s st =
-      did_line old new (cue.Device w) line (read_done old new kept w w refl old.page_bytes slot page image ok does) tells
-      s st hand.guards now (ap (λ o. unless_out (is_some o)) (out s st))
+      did_line old new (cue.Device w) line tells s hand.guards now (ap (λ o. unless_out (is_some o)) (out s st))
 
   read_leaves : (left : Hand) → LeavesHand old hand line new left
-  read_leaves left =
-      did_leaves old new line (read_done old new kept w w refl old.page_bytes slot page image ok does).some tells hand
-      left
+  read_leaves left = did_leaves old new line tells hand left
 
   read_others : LeavesOthers old w new
   read_others =
@@ -274,20 +267,17 @@ module _ (still : StillFits) (old new : Parts) (kept : IsKept old) (w slot page 
     (fits : FitsIn old w hand)
     (out : (s : State) → StandsFor old s → errand_of s w ≡ Some (slot, page, Some victim))
     (does : Does old (write_call old.page_bytes w slot page victim image ok) new) (line : Line)
-    (tells : TellsLast new line) where
+    {told : Move × Reply} (tells : line ≡ Did told.0 told.1) where
   abbrev write_test : State → Bool
   write_test s = is_write_out old.page_bytes w slot page victim image s
 
   write_line : (s : State) → StandsFor old s → IsLineOf old s hand.guards hand.guards (cue.Device w) line
   write_line s st =
-      did_line old new (cue.Device w) line
-      (write_done old new kept w w refl old.page_bytes slot page victim image ok does) tells s st hand.guards
-      hand.guards (ap (λ o. unless_out (is_some o)) (out s st))
+      did_line old new (cue.Device w) line tells s hand.guards hand.guards
+      (ap (λ o. unless_out (is_some o)) (out s st))
 
   write_leaves : (left : Hand) → LeavesHand old hand line new left
-  write_leaves left =
-      did_leaves old new line (write_done old new kept w w refl old.page_bytes slot page victim image ok does).some
-      tells hand left
+  write_leaves left = did_leaves old new line tells hand left
 
   write_others : LeavesOthers old w new
   write_others =
@@ -365,7 +355,7 @@ module _ (still : StillFits) (old new : Parts) (kept : IsKept old) (w slot page 
 -- ---- by the duty
 
 module _ (still : StillFits) (old new : Parts) (kept : IsKept old) (w : ℕ) (image : List ℕ) (ok : Bool) (hand : Hand)
-    (fits : FitsIn old w hand) (line : Line) (tells : TellsLast new line) where
+    (fits : FitsIn old w hand) (line : Line) {told : Move × Reply} (tells : line ≡ Did told.0 told.1) where
   abbrev AwayFor : Duty → Type 0
   AwayFor d = (s : State) → StandsFor old s → IsAway old.page_bytes s w d image
 

@@ -1,5 +1,5 @@
 -- The lines of cues that are done: nothing refuses them.
-use Rattle.std.proofs.Common.{◌≡◌, false, Option, Some, None, List, refl, sym, ap, subst, inl, inr, rules}
+use Rattle.std.proofs.Common.{◌≡◌, ◌∙◌, false, Option, Some, None, List, refl, sym, ap, subst, inl, inr, rules}
 use Rattle.std.specs.Option.{is_some}
 use Rattle.pp_model.specs.declared.moves.Move.{Move}
 use Rattle.pp_model.specs.declared.moves.Move.TheVariants as move
@@ -71,10 +71,9 @@ module _ (s : State) (reached : IsReached s) (m : Move) (allowed : refusal_in (r
   unrefused (Look w slot) is = absurd is
 
 -- The line of what is done is exact.
-pub did_exact : (old new : Parts) (cue : Cue) (line : Line) (was now : List (Option Guard)) → IsDone old cue new
-    → ((m : Move) (r : Reply) → new.last ≡ Some (m, r) → line ≡ Did m r) → (s : State) → StandsFor old s
+pub did_exact : (old new : Parts) (cue : Cue) (line : Line) (was now : List (Option Guard)) {done : Move × Reply}
+    → IsDone old cue done new → line ≡ Did done.0 done.1 → (s : State) → StandsFor old s
     → IsLineOf old s was now cue line
-did_exact old new cue line was now d tells s st =
-    let w = d.does s st in
-    subst (λ l. IsLineOf old s was now cue l) (sym (tells w.0 (reply_of s w.0) w.2))
-    (unrefused s st.core.reached w.0 w.3 cue w.1)
+did_exact old new cue line was now {done} d is s st =
+    subst (λ l. IsLineOf old s was now cue l) (sym is)
+    (unrefused s st.core.reached done.0 (ap refusal_in (d.replies s st) ∙ d.allowed) cue d.asked)

@@ -10,8 +10,8 @@ use Rattle.pp_vault.specs.declared.stage.Hand.{Hand}
 use Rattle.pp_vault.specs.Parts.{Parts}
 use Rattle.pp_vault.specs.StandsFor.{StandsFor, IsKept}
 use Rattle.pp_vault.specs.Calls.{Call, stranger, asks, refusal_of}
-use Rattle.pp_vault.specs.Events.{Does, untold}
-use Rattle.pp_vault.specs.Hands.{StageFits, HandFits, FlushingFits}
+use Rattle.pp_vault.specs.Events.{Does}
+use Rattle.pp_vault.specs.Hands.{StageFits}
 use Rattle.pp_vault.specs.HandLaws.{caller, FitsIn, LeavesSlot, OthersStillFit, SlotsStillFit, FlushingStillFits}
 use Rattle.pp_vault.specs.Holding.{placed}
 use Rattle.pp_script.specs.declared.cue.Cue.{Cue}
@@ -20,43 +20,22 @@ use Rattle.pp_play.specs.declared.line.Line.TheVariants.{Refused}
 use Rattle.pp_play.specs.Exact.{refusal_to, IsLineOf}
 use Rattle.pp_play.specs.Doing.{LeavesOthers, HandPlays}
 use Rattle.pp_play.proofs.Leaves.{same_leaves}
+use Rattle.pp_play.proofs.Others.{nothing_changed}
 
 -- ---- a call that is refused, and a cue for which none is made
 
--- The parts before stand for what those after stand for, pages are as long, and only what is told has changed.
-pub record Unmoved (old new : Parts) : Type 0 where
-  pub bytes : new.page_bytes ≡ old.page_bytes
-  pub back : (t : State) → StandsFor new t → StandsFor old t
-  pub told : untold new ≡ untold old
-
-pub unmoved : (v : Parts) → Unmoved v v
-unmoved v = record { bytes = refl; back = λ t st. st; told = refl }
-
-pub untold_unmoved : (old new : Parts) → new ≡ untold old → Unmoved old new
-untold_unmoved old new is =
-    subst (λ v. Unmoved old v) (sym is)
-    record { bytes = refl; back = λ t st. record { core = st.core; images = st.images }; told = refl }
-
-module _ (old new : Parts) (un : Unmoved old new) where
-  hand_stays : (w : ℕ) (hand : Hand) → FitsIn old w hand → FitsIn new w hand
-  hand_stays w hand fits t st = subst (λ n. HandFits n t w hand) (sym un.bytes) (fits t (un.back t st))
-
-  -- The line tells the refusal, and the hand is as it was.
-  pub refused_plays : (w : ℕ) (hand left : Hand) (cue : Cue) (line : Line) (why : Refusal) → left ≡ hand
-      → line ≡ Refused cue why → ((s : State) → StandsFor old s → refusal_to s cue ≡ Some why) → FitsIn old w hand
-      → HandPlays old w hand cue line new left
-  refused_plays w hand left cue line why same is exact fits =
-      record {
-        exact = λ s st. subst (λ l. IsLineOf old s hand.guards left.guards cue l) (sym is) (exact s st);
-        leaves = same_leaves old new hand left line un.told same;
-        fit = subst (λ h. FitsIn new w h) (sym same) (hand_stays w hand fits);
-        others =
-            record {
-              hands = λ v apart hand fits. hand_stays v hand fits;
-              flushing = λ flushing fits t st.
-                  subst (λ n. FlushingFits n t flushing) (sym un.bytes) (fits t (un.back t st));
-            };
-      }
+-- The line tells the refusal, and all is as it was.
+pub refused_plays : (old new : Parts) → new ≡ old → (w : ℕ) (hand left : Hand) (cue : Cue) (line : Line) (why : Refusal)
+    → left ≡ hand → line ≡ Refused cue why → ((s : State) → StandsFor old s → refusal_to s cue ≡ Some why)
+    → FitsIn old w hand → HandPlays old w hand cue line new left
+refused_plays old new unchanged w hand left cue line why same is exact fits =
+    subst (λ v. HandPlays old w hand cue line v left) (sym unchanged)
+    (record {
+      exact = λ s st. subst (λ l. IsLineOf old s hand.guards left.guards cue l) (sym is) (exact s st);
+      leaves = same_leaves old old hand left line refl same;
+      fit = subst (λ h. FitsIn old w h) (sym same) fits;
+      others = nothing_changed old w;
+    })
 
 -- The hand with a token that came back.
 pub hand_back : (hand : Hand) (x y : Stage) → hand.stage ≡ y → x ≡ y

@@ -23,9 +23,11 @@ use Rattle.pp_vault.specs.declared.stage.Stage.TheVariants.{In, Out}
 use Rattle.pp_vault.specs.Parts.{Parts}
 use Rattle.pp_vault.specs.StandsFor.{StandsFor, IsKept}
 use Rattle.pp_vault.specs.Calls.{asks, stranger, refusal_of, after_call}
-use Rattle.pp_vault.specs.Events.{Does, Refuses, untold}
+use Rattle.pp_vault.specs.Events.{Does, Refuses}
 use Rattle.pp_vault.specs.Fits.{fix_slot, names_slot, fix_call, is_gathered}
-use Rattle.pp_vault.specs.Fixes.{IsHit, OpensBundle, JoinsBundle, IsSent}
+use Rattle.pp_vault.specs.declared.fixing.Fixed.{Fixed}
+use Rattle.pp_vault.specs.declared.fixing.Fixed.TheVariants.{Got, Opened, Joined, Away}
+use Rattle.pp_vault.specs.Fixes.{FixAnswers, IsHit, OpensBundle, JoinsBundle, IsSent}
 use Rattle.pp_vault.specs.Tokens.{ErrandFits}
 use Rattle.pp_vault.specs.Duties.{duty_worker}
 use Rattle.pp_vault.specs.HandLaws.{FitsIn, LeavesSlot}
@@ -45,6 +47,14 @@ use Rattle.pp_play.proofs.StillFitting.{StillFit, refused_plays, others_fit, all
 
 same_test : (m n : ℕ) → m ≡ n → (m == n) ≡ true
 same_test m n e = grind (arith, nat_tests)
+
+-- Whatever came of the fix, its call is done.
+pub fix_does : (old new : Parts) (x : Session) (page : ℕ) (out : Fixed) → FixAnswers old x page out new
+    → Does old (fix_call x.worker (fix_slot x.ask) page) new
+fix_does old new x page (Got y g) ends = ends.0
+fix_does old new x page (Opened y g) ends = ends.0
+fix_does old new x page (Joined y) ends = ends.0
+fix_does old new x page (Away errand) ends = ends.0
 
 -- ---- the place of a page that came at once
 
@@ -76,7 +86,7 @@ module _ (old new : Parts) (kept : IsKept old) (x : Session) (page : ℕ) (place
       ap (λ b. if b then asks (move.Fix x.worker page) else stranger)
       (ap (names_slot (fix_slot x.ask)) ((fits s st).stage.1) ∙ same_test (fix_slot x.ask) (fix_slot x.ask) refl)
 
-  pub fix_refused : (why : Refusal) → Refuses old (fix_call x.worker (fix_slot x.ask) page) why → untold new ≡ untold old
+  pub fix_refused : (why : Refusal) → Refuses old (fix_call x.worker (fix_slot x.ask) page) why → new ≡ old
       → HandPlays old x.worker (hand_of (In x) places) (cue.Fix x.worker page) (Refused (cue.Fix x.worker page) why) new
       (hand_of (In x) places)
   fix_refused why refuses same =
@@ -87,8 +97,7 @@ module _ (old new : Parts) (kept : IsKept old) (x : Session) (page : ℕ) (place
   after s st = after_moves s st.core.reached
 
   module _ (laws : StillFit) (does : Does old (fix_call x.worker (fix_slot x.ask) page) new) (line : Line)
-      (done : IsDone old (cue.Fix x.worker page) new)
-      (tells : (m : Move) (r : Reply) → new.last ≡ Some (m, r) → line ≡ Did m r) where
+      {told : Move × Reply} (done : IsDone old (cue.Fix x.worker page) told new) (tells : line ≡ Did told.0 told.1) where
     there : StandsFor new (after_call kept.state (fix_call x.worker (fix_slot x.ask) page kept.state))
     there = does.stands kept.state kept.stands
 
@@ -101,7 +110,7 @@ module _ (old new : Parts) (kept : IsKept old) (x : Session) (page : ℕ) (place
           exact = line_fits old new (cue.Fix x.worker page) line done tells (move.Fix x.worker page) (λ n e. e) (λ s. refl)
               places (slice_set places g.slot (Some (Pin g)));
           leaves =
-              did_leaves old new line done.some tells (hand_of (In x) places)
+              did_leaves old new line tells (hand_of (In x) places)
               (hand_of (In y) (slice_set places g.slot (Some (Pin g))));
           fit = one_fits laws old new (fix_call x.worker (fix_slot x.ask) page) kept does x.worker (move.Fix x.worker page)
               refl calls (In x)
@@ -129,7 +138,7 @@ module _ (old new : Parts) (kept : IsKept old) (x : Session) (page : ℕ) (place
           exact = line_fits old new (cue.Fix x.worker page) line done tells (move.Fix x.worker page) (λ n e. e) (λ s. refl)
               places (slice_set places g.slot (Some (Bundle g)));
           leaves =
-              did_leaves old new line done.some tells (hand_of (In x) places)
+              did_leaves old new line tells (hand_of (In x) places)
               (hand_of (In y) (slice_set places g.slot (Some (Bundle g))));
           fit = one_fits laws old new (fix_call x.worker (fix_slot x.ask) page) kept does x.worker (move.Fix x.worker page)
               refl calls (In x)
@@ -176,7 +185,7 @@ module _ (old new : Parts) (kept : IsKept old) (x : Session) (page : ℕ) (place
           exact = line_fits old new (cue.Fix x.worker page) line done tells (move.Fix x.worker page) (λ n e. e) (λ s. refl)
               places places;
           leaves =
-              did_leaves old new line done.some tells (hand_of (In x) places)
+              did_leaves old new line tells (hand_of (In x) places)
               (hand_of (In y) places);
           fit = all_fit laws old new (fix_call x.worker (fix_slot x.ask) page) kept does x.worker (move.Fix x.worker page) refl
               calls (In x)
@@ -213,7 +222,7 @@ module _ (old new : Parts) (kept : IsKept old) (x : Session) (page : ℕ) (place
           exact = line_fits old new (cue.Fix x.worker page) line done tells (move.Fix x.worker page) (λ n q. q) (λ s. refl)
               places places;
           leaves =
-              did_leaves old new line done.some tells (hand_of (In x) places)
+              did_leaves old new line tells (hand_of (In x) places)
               (hand_of (Out e) places);
           fit = all_fit laws old new (fix_call x.worker (fix_slot x.ask) page) kept does x.worker (move.Fix x.worker page) refl
               calls (In x)

@@ -5,7 +5,9 @@ use Rattle.std.specs.Prelude.{◌&&◌, if◌then◌else◌, is_some, is_ok, nat
 use Rattle.std.proofs.lemmas.Bool.{false≢true}
 use Rattle.pp_arc.specs.FourLists.{is_cached}
 use Rattle.pp_frames.specs.Marks.{is_exclusive}
+use Rattle.pp_model.specs.declared.moves.Move.{Move}
 use Rattle.pp_model.specs.declared.moves.Move.TheVariants as move
+use Rattle.pp_model.specs.declared.reply.Reply.{Reply}
 use Rattle.pp_model.specs.Pool.{Flush, State, is_dirty}
 use Rattle.pp_model.specs.Holders.{latches_of}
 use Rattle.pp_model.specs.Flushing.{flush_where, flush_by, is_clean, flushed_where, flushed_by}
@@ -26,8 +28,8 @@ use Rattle.pp_vault.specs.declared.hands.Flushing.TheVariants as flushing
 use Rattle.pp_vault.specs.Parts.{Parts}
 use Rattle.pp_vault.specs.StandsFor.{StandsFor, IsKept}
 use Rattle.pp_vault.specs.Calls.{Call, asks, stranger, refusal_of, after_call}
-use Rattle.pp_vault.specs.Events.{Refuses, Does, untold}
-use Rattle.pp_vault.specs.Answers.{flushed_call, is_flush_out, IsFlushed, DutyEnds, duty_call, answer_call}
+use Rattle.pp_vault.specs.Events.{Refuses, Does, Tells}
+use Rattle.pp_vault.specs.Answers.{flushed_call, is_flush_out, IsFlushed, DutyEnds, AnswerComesTo, duty_call, answer_call}
 use Rattle.pp_vault.specs.Flushes.{flush_call}
 use Rattle.pp_vault.specs.Tokens.{IsOut, ErrandFits}
 use Rattle.pp_vault.specs.Hands.{HandFits, IsFlushAway, FlushingFits, HandsFit}
@@ -36,13 +38,12 @@ use Rattle.pp_vault.specs.Holding.{placed}
 use Rattle.pp_script.specs.declared.cue.Cue.TheVariants as cue
 use Rattle.pp_play.specs.declared.line.Line.{Line}
 use Rattle.pp_play.specs.declared.line.Line.TheVariants.{Did, Refused, Wrote, Looked, NoLatch}
-use Rattle.pp_play.specs.Doing.{IsDone}
 use Rattle.pp_play.specs.Exact.{Plays, IsLineOf, guards_of, unless_out}
 use Rattle.pp_play.proofs.Asked.{flush_done}
 use Rattle.pp_play.proofs.Done.{done_comes, refused_so}
 use Rattle.pp_play.proofs.Errands.{answer_taken}
-use Rattle.pp_play.proofs.Others.{StillFits, asked_so, did_line, told_left}
-use Rattle.pp_play.proofs.DeviceHands.{TellsLast}
+use Rattle.pp_play.proofs.Others.{StillFits, asked_so, did_line}
+use Rattle.pp_play.proofs.Answering.{flush_over}
 use Rattle.pp_play.proofs.Leaves.{is_done, all_done, all_did_leave}
 use Rattle.pp_vault.specs.declared.guards.Guard.{Guard}
 
@@ -86,11 +87,6 @@ module _ (still : StillFits) (old new : Parts) (call : State → Call) (kept : I
         flushing = token t st;
       }
 
--- Where only what is told has changed, they fit as before.
-pub untold_fit : (old new : Parts) (hands : Hands) → new ≡ untold old → HandsFit old hands → HandsFit new hands
-untold_fit old new hands is fits =
-    subst (λ v. HandsFit v hands) (sym is) (λ s st. fits s (told_left old s st))
-
 -- ---- a flush that begins
 
 begun_seats : (s : State) (page : ℕ) (changed some written : Bool)
@@ -112,17 +108,15 @@ sent_away n t page d image is out long =
     subst (λ x. IsFlushAway n t x image) (sym is) (subst (λ x. IsOut t x) is out, long)
 
 pub flush_plays : StillFits → (old new : Parts) → IsKept old → (page : ℕ) (errand : Errand) (hands left : Hands)
-    (line : Line) → HandsFit old hands → Does old (flush_call page) new → ErrandFits new errand
+    (line : Line) {told : Move × Reply} → HandsFit old hands → Does old (flush_call page) new → ErrandFits new errand
     → errand.duty ≡ duty.Flush page → left ≡ record hands { flushing = Some (flushing.Out errand) }
-    → TellsLast new line → Plays old hands (cue.Flush page) line new left
-flush_plays still old new kept page errand hands left line fits does out is_flush is tells =
-    let done = flush_done old new page kept does in
+    → Tells old (flush_call page) told → line ≡ Did told.0 told.1 → Plays old hands (cue.Flush page) line new left
+flush_plays still old new kept page errand hands left line fits does out is_flush is answered tells =
     record {
-      comes = done_comes old new (cue.Flush page) line done tells;
+      comes = done_comes old new (cue.Flush page) line (flush_done old new page kept does answered) tells;
       exact = λ s st.
-          did_line old new (cue.Flush page) line done tells s st (guards_of hands 0) (guards_of left 0)
-          (does.allowed s st);
-      leaves = all_did_leave old new line done.some tells hands left (cue.Flush page);
+          did_line old new (cue.Flush page) line tells s (guards_of hands 0) (guards_of left 0) (does.allowed s st);
+      leaves = all_did_leave old new line tells hands left (cue.Flush page);
       fit =
           subst (λ h. HandsFit new h) (sym is)
           (with_flushing still old new (flush_call page) kept does hands fits (λ s st. refl)
@@ -131,14 +125,14 @@ flush_plays still old new kept page errand hands left line fits does out is_flus
     }
 
 pub flush_refused : (old new : Parts) (page : ℕ) (hands : Hands) (why : Refusal) → HandsFit old hands
-    → Refuses old (flush_call page) why → new ≡ untold old
+    → Refuses old (flush_call page) why → new ≡ old
     → Plays old hands (cue.Flush page) (Refused (cue.Flush page) why) new hands
 flush_refused old new page hands why fits refuses is =
     record {
       comes = refused_so old new (cue.Flush page) why is;
       exact = refuses;
-      leaves = (ap untold is, refl);
-      fit = untold_fit old new hands is fits;
+      leaves = (is, refl);
+      fit = subst (λ v. HandsFit v hands) (sym is) fits;
     }
 
 -- ---- the answer to a flush
@@ -213,17 +207,18 @@ flush_allowed n s (duty.Write w slot page victim) image away = absurd away
 flush_allowed n s (duty.Flush page) image away = ap (λ o. unless_out (is_some o)) away.0
 
 pub flushed_plays : StillFits → (old new : Parts) → IsKept old → (returned : Returned) (clean : Bool) (hands : Hands)
-    (line : Line) → hands.flushing ≡ None → HandsFit old (back_flushing hands returned)
-    → DutyEnds old returned.duty returned.image (is_ok returned.answer) (Flushed clean) new
-    → IsDone old cue.FlushDevice new → TellsLast new line
+    (line : Line) {told : Move × Reply} → hands.flushing ≡ None → HandsFit old (back_flushing hands returned)
+    → AnswerComesTo old returned (Flushed clean) new → Tells old (answer_call old.page_bytes returned) told
+    → line ≡ Did told.0 told.1
     → Plays old (back_flushing hands returned) cue.FlushDevice line new hands
-flushed_plays still old new kept returned clean hands line free fits ends done tells =
+flushed_plays still old new kept returned clean hands line free fits ends answered tells =
     record {
-      comes = done_comes old new cue.FlushDevice line done tells;
+      comes =
+          done_comes old new cue.FlushDevice line (flush_over old new kept returned clean ends answered) tells;
       exact = λ s st.
-          did_line old new cue.FlushDevice line done tells s st (guards_of hands 0) (guards_of hands 0)
+          did_line old new cue.FlushDevice line tells s (guards_of hands 0) (guards_of hands 0)
           (flush_allowed old.page_bytes s returned.duty returned.image (fits s st).flushing);
-      leaves = all_did_leave old new line done.some tells (back_flushing hands returned) hands cue.FlushDevice;
+      leaves = all_did_leave old new line tells (back_flushing hands returned) hands cue.FlushDevice;
       fit =
           subst (λ f. HandsFit new (record hands { flushing = f })) (sym free)
           (flushed_by_duty still old new kept returned.duty returned.image (is_ok returned.answer) clean

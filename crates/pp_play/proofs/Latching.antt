@@ -1,22 +1,20 @@
 -- What the calls that latch a page, and take a latch off, do to the guard of its slot.
-use Rattle.std.proofs.Common.{◌≡◌, Some, ap, subst}
+use Rattle.std.proofs.Common.{◌≡◌, Some, refl, subst}
 use Rattle.pp_plan.specs.declared.mode.Mode.TheVariants as mode
 use Rattle.pp_cert.specs.declared.note.Held.TheVariants.{Free, S, X}
-use Rattle.pp_model.specs.Pool.{State}
 use Rattle.pp_core.specs.Queries.{held_of}
-use Rattle.pp_vault.specs.declared.refusal.Refusal.{Refusal}
+use Rattle.pp_vault.specs.declared.refusal.Refusal.TheVariants.{Stranger}
 use Rattle.pp_vault.specs.declared.tokens.Session.{Session}
 use Rattle.pp_vault.specs.declared.guards.PinGuard.{PinGuard}
 use Rattle.pp_vault.specs.declared.guards.ReadGuard.{ReadGuard}
 use Rattle.pp_vault.specs.declared.guards.WriteGuard.{WriteGuard}
 use Rattle.pp_vault.specs.declared.guards.Guard.{Guard}
-use Rattle.pp_vault.specs.declared.guards.Guard.TheVariants.{Pin, Read, Write}
+use Rattle.pp_vault.specs.declared.guards.Guard.TheVariants.{Pin, Read, Write, Bundle}
 use Rattle.pp_vault.specs.Parts.{Parts}
-use Rattle.pp_vault.specs.Calls.{Call}
-use Rattle.pp_vault.specs.Events.{Refuses, untold}
+use Rattle.pp_vault.specs.Events.{Refuses}
 use Rattle.pp_vault.specs.Fits.{latch_call}
 use Rattle.pp_vault.specs.Uses.{LatchesShared, LatchesExclusive, UnlatchesShared, UnlatchesExclusive}
-use Rattle.pp_play.specs.Guarding.{unlatch_with, ChangesGuard, KeepsGuard}
+use Rattle.pp_play.specs.Guarding.{unlatch_with, ChangesGuard}
 
 module _ (old new : Parts) (x y : Session) where
   pub shared : (g : PinGuard) (h : ReadGuard) → LatchesShared old x g new y h
@@ -75,7 +73,10 @@ module _ (old new : Parts) (x y : Session) where
         };
       }
 
-  pub keeps : (call : State → Call) (g h : Guard) (why : Refusal) → Refuses old call why → y ≡ x → h ≡ g
-      → new ≡ untold old → KeepsGuard old call x g why new y h
-  keeps call g h why refuses session guard is =
-      record { refuses = refuses; same_session = session; same_guard = guard; unchanged = ap untold is }
+-- A guard that isn't of a latch is a stranger's.
+pub none_latched : (v : Parts) (x : Session) (g : Guard) → ((h : ReadGuard) → g ≡ Read h → ⊥)
+    → ((h : WriteGuard) → g ≡ Write h → ⊥) → Refuses v (unlatch_with v x g) Stranger
+none_latched v x (Pin g) shared exclusive s st = refl
+none_latched v x (Read g) shared exclusive s st = absurd (shared g refl)
+none_latched v x (Write g) shared exclusive s st = absurd (exclusive g refl)
+none_latched v x (Bundle g) shared exclusive s st = refl

@@ -1,12 +1,10 @@
 -- What a cue leaves, by its line.
-use Rattle.std.proofs.Common.{◌≡◌, Bool, true, false, Option, Some, None, refl, ap}
-use Rattle.std.specs.Prelude.{IsSome}
+use Rattle.std.proofs.Common.{◌≡◌, Bool, true, false, ap}
 use Rattle.std.proofs.lemmas.Bool.{false≢true}
 use Rattle.pp_model.specs.declared.moves.Move.{Move}
 use Rattle.pp_model.specs.declared.reply.Reply.{Reply}
 use Rattle.pp_vault.specs.declared.stage.Hand.{Hand}
 use Rattle.pp_vault.specs.declared.hands.Hands.{Hands}
-use Rattle.pp_vault.specs.Events.{untold}
 use Rattle.pp_vault.specs.Parts.{Parts}
 use Rattle.pp_script.specs.declared.cue.Cue.{Cue}
 use Rattle.pp_play.specs.declared.line.Line.{Line}
@@ -35,25 +33,21 @@ all_done old new hands left cue Wrote e = absurd (false≢true e)
 all_done old new hands left cue (Looked byte) e = absurd (false≢true e)
 all_done old new hands left cue NoLatch e = absurd (false≢true e)
 
-told_done : (last : Option (Move × Reply)) (line : Line) → IsSome last
-    → ((m : Move) (r : Reply) → last ≡ Some (m, r) → line ≡ Did m r) → is_done line ≡ true
-told_done None line some tells = absurd (false≢true some)
-told_done (Some (m, r)) line some tells = ap is_done (tells m r refl)
+-- The line tells what is done.
+module _ (old new : Parts) (line : Line) where
+  pub did_leaves : {done : Move × Reply} → line ≡ Did done.0 done.1 → (hand left : Hand)
+      → LeavesHand old hand line new left
+  did_leaves is hand left = hand_done old new hand left line (ap is_done is)
 
--- The line tells what was done last.
-module _ (old new : Parts) (line : Line) (some : IsSome new.last)
-    (tells : (m : Move) (r : Reply) → new.last ≡ Some (m, r) → line ≡ Did m r) where
-  pub did_leaves : (hand left : Hand) → LeavesHand old hand line new left
-  did_leaves hand left = hand_done old new hand left line (told_done new.last line some tells)
+  pub all_did_leave : {done : Move × Reply} → line ≡ Did done.0 done.1 → (hands left : Hands) (cue : Cue)
+      → Leaves old hands cue line new left
+  all_did_leave is hands left cue = all_done old new hands left cue line (ap is_done is)
 
-  pub all_did_leave : (hands left : Hands) (cue : Cue) → Leaves old hands cue line new left
-  all_did_leave hands left cue = all_done old new hands left cue line (told_done new.last line some tells)
-
--- Nothing has changed but what is told.
-pub same_leaves : (old new : Parts) (hand left : Hand) (line : Line) → untold new ≡ untold old → left ≡ hand
+-- Nothing has changed.
+pub same_leaves : (old new : Parts) (hand left : Hand) (line : Line) → new ≡ old → left ≡ hand
     → LeavesHand old hand line new left
-same_leaves old new hand left (Did m reply) told same = tt
-same_leaves old new hand left (Refused asked why) told same = (told, same)
-same_leaves old new hand left Wrote told same = (told, ap (λ (h : Hand). h.stage) same)
-same_leaves old new hand left (Looked byte) told same = (told, same)
-same_leaves old new hand left NoLatch told same = (told, same)
+same_leaves old new hand left (Did m reply) is same = tt
+same_leaves old new hand left (Refused asked why) is same = (is, same)
+same_leaves old new hand left Wrote is same = (is, ap (λ (h : Hand). h.stage) same)
+same_leaves old new hand left (Looked byte) is same = (is, same)
+same_leaves old new hand left NoLatch is same = (is, same)

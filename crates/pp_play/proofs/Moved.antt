@@ -1,6 +1,6 @@
 -- What lines say of the hand whose tokens a call of the vault was done with.
 use Rattle.std.proofs.Common.{◌≡◌, ◌∙◌, ℕ, true, Option, Some, None, List, refl, sym, ap, subst}
-use Rattle.std.specs.Prelude.{IsSome, slice_set}
+use Rattle.std.specs.Prelude.{slice_set}
 use Rattle.std.proofs.lemmas.Bool.{false≢true}
 use Rattle.pp_model.specs.declared.moves.Move.{Move}
 use Rattle.pp_model.specs.declared.reply.Reply.{Reply}
@@ -15,37 +15,21 @@ use Rattle.pp_vault.specs.declared.stage.Stage.{Stage}
 use Rattle.pp_vault.specs.declared.stage.Stage.TheVariants.{In}
 use Rattle.pp_vault.specs.Parts.{Parts}
 use Rattle.pp_vault.specs.Holding.{placed, slot_by}
-use Rattle.pp_contents.specs.HandMoves.{HandMoves, latches_shared, latches_exclusive, unlatches_shared, unlatches_exclusive}
+use Rattle.pp_contents.specs.HandMoves.{latches_shared, latches_exclusive, unlatches_shared, unlatches_exclusive}
 use Rattle.pp_script.specs.declared.cue.Cue.{Cue}
 use Rattle.pp_script.specs.declared.cue.Cue.TheVariants as cue
 use Rattle.pp_play.specs.declared.line.Line.{Line}
 use Rattle.pp_play.specs.declared.line.Line.TheVariants.{Did, Refused, Wrote, Looked, NoLatch}
 use Rattle.pp_play.specs.Plays.{asks_byte, Tells}
 use Rattle.pp_play.specs.Guarding.{hand_of}
-use Rattle.pp_play.specs.Moving.{MovesHand, LatchesWith, UnlatchesWith}
+use Rattle.pp_play.specs.Moving.{CallsWith, MovesHand, LatchesWith, UnlatchesWith}
 
 -- ---- lines
 
--- The line of a call that was done.
-pub record DidSo (last : Option (Move × Reply)) (line : Line) : Type 0 where
-  pub m : Move
-  pub reply : Reply
-  pub last_is : last ≡ Some (m, reply)
-  pub line_is : line ≡ Did m reply
-
-pub did_so : (last : Option (Move × Reply)) (line : Line) → IsSome last
-    → ((m : Move) (r : Reply) → last ≡ Some (m, r) → line ≡ Did m r) → DidSo last line
-did_so None line some tells = absurd (false≢true some)
-did_so (Some (m, r)) line some tells =
-    record { m = m; reply = r; last_is = refl; line_is = tells m r refl }
-
--- It tells the move of that call.
-pub did_moves : (old new : Parts) (hand left : Hand) (line : Line) → IsSome new.last
-    → ((m : Move) (r : Reply) → new.last ≡ Some (m, r) → line ≡ Did m r) → HandMoves old hand new left
-    → MovesHand old hand line new left
-did_moves old new hand left line some tells moves =
-    let d = did_so new.last line some tells in
-    subst (λ l. MovesHand old hand l new left) (sym d.line_is) (moves, d.last_is)
+-- It tells the move of the call that was done.
+pub did_moves : (old new : Parts) (hand left : Hand) (line : Line) {done : Move × Reply} → line ≡ Did done.0 done.1
+    → CallsWith old hand done new left → MovesHand old hand line new left
+did_moves old new hand left line is calls = subst (λ l. MovesHand old hand l new left) (sym is) calls
 
 -- A line that refuses tells of none.
 pub refused_moves : (old new : Parts) (hand left : Hand) (cue : Cue) (why : Refusal) (line : Line)
@@ -62,27 +46,24 @@ moves_of old new hand line left stage is h =
 
 -- ---- latches
 
-module _ (old new : Parts) (x y : Session) (places : List (Option Guard)) (slot : ℕ) where
+module _ (old new : Parts) (x y : Session) (places : List (Option Guard)) (slot : ℕ) (done : Move × Reply) where
   abbrev Left : Guard → Type 0
   Left h =
-      HandMoves old (hand_of (In x) places) new (hand_of (In y) (slice_set (slice_set places slot None) slot (Some h)))
+      CallsWith old (hand_of (In x) places) done new
+      (hand_of (In y) (slice_set (slice_set places slot None) slot (Some h)))
 
-  pub latch_moves : (g : PinGuard) (h : Guard) → placed places slot ≡ Some (Pin g) → LatchesWith old x g new y h → Left h
+  pub latch_moves : (g : PinGuard) (h : Guard) → placed places slot ≡ Some (Pin g) → LatchesWith old x g done new y h
+      → Left h
   latch_moves g (Pin h) at did = absurd did
-  latch_moves g (Read h) at did = latches_shared x y slot g h refl at did refl
-  latch_moves g (Write h) at did = latches_exclusive x y slot g h refl at did refl
+  latch_moves g (Read h) at did = (latches_shared x y slot g h refl at did.0 refl, did.1)
+  latch_moves g (Write h) at did = (latches_exclusive x y slot g h refl at did.0 refl, did.1)
   latch_moves g (Bundle h) at did = absurd did
 
-  pub unlatch_moves : (g h : Guard) → placed places slot ≡ Some g → UnlatchesWith old x g new y h → Left h
-  unlatch_moves (Read g) (Pin h) at did = unlatches_shared x y slot g h refl at did refl
-  unlatch_moves (Write g) (Pin h) at did = unlatches_exclusive x y slot g h refl at did refl
+  pub unlatch_moves : (g : Guard) (h : PinGuard) → placed places slot ≡ Some g → UnlatchesWith old x g done new y h
+      → Left (Pin h)
   unlatch_moves (Pin g) h at did = absurd did
-  unlatch_moves (Read g) (Read h) at did = absurd did
-  unlatch_moves (Read g) (Write h) at did = absurd did
-  unlatch_moves (Write g) (Read h) at did = absurd did
-  unlatch_moves (Write g) (Write h) at did = absurd did
-  unlatch_moves (Read g) (Bundle h) at did = absurd did
-  unlatch_moves (Write g) (Bundle h) at did = absurd did
+  unlatch_moves (Read g) h at did = (unlatches_shared x y slot g h refl at did.0 refl, did.1)
+  unlatch_moves (Write g) h at did = (unlatches_exclusive x y slot g h refl at did.0 refl, did.1)
   unlatch_moves (Bundle g) h at did = absurd did
 
 -- A guard is put where one was taken out.

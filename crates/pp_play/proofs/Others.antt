@@ -11,7 +11,7 @@ use Rattle.pp_vault.specs.declared.guards.Guard.{Guard}
 use Rattle.pp_vault.specs.Parts.{Parts}
 use Rattle.pp_vault.specs.StandsFor.{StandsFor, IsKept}
 use Rattle.pp_vault.specs.Calls.{Call, asks, stranger, refusal_of}
-use Rattle.pp_vault.specs.Events.{Does, untold}
+use Rattle.pp_vault.specs.Events.{Does}
 use Rattle.pp_vault.specs.Hands.{PlaceFits}
 use Rattle.pp_vault.specs.HandLaws.{caller, OthersStillFit, SlotsStillFit, FlushingStillFits}
 use Rattle.pp_vault.specs.Holding.{placed}
@@ -19,8 +19,7 @@ use Rattle.pp_script.specs.declared.cue.Cue.{Cue}
 use Rattle.pp_play.specs.declared.line.Line.{Line}
 use Rattle.pp_play.specs.declared.line.Line.TheVariants.{Did}
 use Rattle.pp_model.specs.declared.reply.Reply.{Reply}
-use Rattle.pp_model.specs.Moves.{reply_of}
-use Rattle.pp_play.specs.Doing.{IsDone, LeavesOthers}
+use Rattle.pp_play.specs.Doing.{LeavesOthers}
 use Rattle.pp_play.specs.Exact.{refusal_to, IsLineOf}
 
 -- What a vault tells of the hands that its calls leave.
@@ -50,10 +49,7 @@ leaves_others still old new call w kept does by =
       flushing = λ flushing fits. still.flushing old new call kept does w by flushing fits;
     }
 
--- So they are where nothing but what is told has changed.
-pub told_left : (v : Parts) (s : State) → StandsFor (untold v) s → StandsFor v s
-told_left v s st = record { core = st.core; images = st.images }
-
+-- So they are where nothing has changed.
 pub nothing_changed : (v : Parts) (w : ℕ) → LeavesOthers v w v
 nothing_changed v w = record { hands = λ u apart hand fits. fits; flushing = λ flushing fits. fits }
 
@@ -77,9 +73,6 @@ module _ (n : ℕ) (s : State) (w : ℕ) (places : List (Option Guard)) (slot : 
 
 -- ---- the line of what is done
 
-pub did_line : (old new : Parts) (cue : Cue) (line : Line) → IsDone old cue new
-    → ((m : Move) (r : Reply) → new.last ≡ Some (m, r) → line ≡ Did m r) → (s : State) → StandsFor old s
-    → (was now : List (Option Guard)) → refusal_to s cue ≡ None → IsLineOf old s was now cue line
-did_line old new cue line d tells s st was now allowed =
-    let w = d.does s st in
-    subst (λ l. IsLineOf old s was now cue l) (sym (tells w.0 (reply_of s w.0) w.2)) allowed
+pub did_line : (old new : Parts) (cue : Cue) (line : Line) {done : Move × Reply} → line ≡ Did done.0 done.1
+    → (s : State) → (was now : List (Option Guard)) → refusal_to s cue ≡ None → IsLineOf old s was now cue line
+did_line old new cue line is s was now allowed = subst (λ l. IsLineOf old s was now cue l) (sym is) allowed

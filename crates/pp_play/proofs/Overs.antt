@@ -24,8 +24,9 @@ use Rattle.pp_vault.specs.declared.hands.Flushing.TheVariants as flushing
 use Rattle.pp_vault.specs.declared.hands.Hands.{Hands}
 use Rattle.pp_vault.specs.Parts.{Parts}
 use Rattle.pp_vault.specs.StandsFor.{StandsFor}
-use Rattle.pp_vault.specs.Events.{Does, untold}
-use Rattle.pp_vault.specs.Answers.{AnswerComesTo}
+use Rattle.pp_vault.specs.Events.{Does}
+use Rattle.pp_vault.specs.Events as event
+use Rattle.pp_vault.specs.Answers.{answer_call, AnswerComesTo}
 use Rattle.pp_vault.specs.Flushes.{flush_call, CopiesOut}
 use Rattle.pp_vault.specs.Hands.{HandsFit, HandsFitState, FlushingFits, IsFlushAway, StageFits}
 use Rattle.pp_vault.specs.HandLaws.{FitsIn}
@@ -53,7 +54,7 @@ use Rattle.pp_play.specs.Moving.{tells_move, hand_errand, DoesWith, EndsFlush, K
 use Rattle.pp_play.proofs.AllHands.{part_fits}
 use Rattle.pp_play.proofs.Answers.{out_at, same_returned}
 use Rattle.pp_play.proofs.Asked.{same}
-use Rattle.pp_play.proofs.Contents.{untold_keeps, unchanged, still_agrees, did_follows, refused_follows}
+use Rattle.pp_play.proofs.Contents.{same_keeps, unchanged, still_agrees, did_follows, refused_follows}
 use Rattle.pp_play.proofs.Contents.{did_shows, refused_shows, shown, written}
 use Rattle.pp_play.proofs.FlushHands.{flush_allowed}
 use Rattle.pp_play.proofs.Steady.{duty_steady, hand_steady, quiet_flusher, worker_flusher}
@@ -124,10 +125,10 @@ module _ {D : Type 0} (reads : D → ℕ → List ℕ → Answer → List ℕ �
 
   -- Of a cue that asks no device and changes no byte.
   kept_over : (q : Cue) (line : Line) → e ≡ d → Plays old hands q line new left → Tells s q line s → StandsFor new s
-      → untold new ≡ untold old → left ≡ hands → errand_for hands q ≡ None → tells_move line ≡ false
+      → new ≡ old → left ≡ hands → errand_for hands q ≡ None → tells_move line ≡ false
       → ((c n : ℕ → List ℕ) → ContentsStay c n → CueFollows s q line c n) → ShowsFirst s q line Before → Over q line
   kept_over q line device plays tells stands same hands_same none not follows shows =
-      let keeps = untold_keeps s hands told old new same agrees in
+      let keeps = same_keeps s hands told old new same agrees in
       let stay : ContentsStay Before (content new s left told) =
       subst (λ h. ContentsStay Before (content new s h told)) (sym hands_same) keeps.stay in (
         s,
@@ -309,17 +310,17 @@ module _ {D : Type 0} (reads : D → ℕ → List ℕ → Answer → List ℕ �
       hand_over q Wrote of plays None none does = quiet_over q Wrote refl does.0 plays
       hand_over q (Looked byte) of plays None none does = quiet_over q (Looked byte) refl does.0 plays
       hand_over q NoLatch of plays None none does = quiet_over q NoLatch refl does.0 plays
-      hand_over q line of plays (Some errand) out (given, answer, r, made, is, last, moves) =
+      hand_over q line of plays (Some errand) out (given, answer, r, made, is, calls) =
           let m = answer_move errand.duty given answer in
           let so : Plays old hands q (Did m r) new left = subst (λ l. Plays old hands q l new left) is plays in
           let known = done q m r so in
           let after =
           laws.answers old new s hands left told w hand now errand given answer m r at_start there
-          (stage_out q errand out) (gives_back errand.duty errand.image given answer made) moves back last known.held
+          (stage_out q errand out) (gives_back errand.duty errand.image given answer made) calls.0 back calls.1 known.held
           agrees in
           subst (λ l. Over q l) (sym is)
           (asked_over q errand given answer r so (errand_of_hand q of ∙ out) made
-          (worker_flusher old s hands left back.flushing q (Did m r) w of) (hand_steady old new _ now moves) after.0 after.1)
+          (worker_flusher old s hands left back.flushing q (Did m r) w of) (hand_steady old new _ now calls.0) after.0 after.1)
 
       pub worker_over : (q : Cue) (line : Line) → cue_worker q ≡ Some w → Plays old hands q line new left
           → (FitsIn old w hand → is_back hand.stage ≡ false
@@ -350,15 +351,17 @@ module _ {D : Type 0} (reads : D → ℕ → List ℕ → Answer → List ℕ �
       let n = answer_move errand.duty given answer in
       let move_is : m ≡ n = ends.2 ∙ ap (λ x. answer_move x given answer) is in
       let line_so : line ≡ Did n r = line_is ∙ ap (λ x. Did x r) move_is in
-      let last : new.last ≡ Some (n, r) = ends.1 ∙ ap (λ (x : Move). Some (x, r)) move_is in
       let so : Plays old hands cue.FlushDevice (Did n r) new left =
       subst (λ l. Plays old hands cue.FlushDevice l new left) line_so plays in
       let known = done cue.FlushDevice n r so in
       let came : AnswerComesTo old (returned_of errand given answer) (Flushed ends.0.0) new =
       subst (λ b. AnswerComesTo old b (Flushed ends.0.0) new) (same_returned errand returned is) ends.0.1 in
+      let answered : event.Tells old (answer_call old.page_bytes (returned_of errand given answer)) (n, r) =
+      subst (λ b. event.Tells old (answer_call old.page_bytes b) (n, r)) (same_returned errand returned is)
+      (subst (λ (x : Move). event.Tells old (answer_call old.page_bytes returned) (x, r)) move_is ends.1) in
       let keeps =
       laws.flush_answers old new s hands left told errand given answer ends.0.0 n r at_start out
-      (gives_back errand.duty errand.image given answer made) came ends.3 last known.held agrees in
+      (gives_back errand.duty errand.image given answer made) came ends.3 answered known.held agrees in
       let away : IsFlushAway old.page_bytes s errand.duty errand.image =
       subst (λ f. FlushingFits old.page_bytes s f) out (fits s st).flushing in
       subst (λ l. Over cue.FlushDevice l) (sym line_so)
@@ -377,7 +380,7 @@ module _ (laws : Laws) (old new : Parts) (hands left : Hands) (page : ℕ) where
       × KeepsContents old s hands told new t left told
   flush_kept asked why plays s st told agrees =
       let c = plays.comes s st in
-      let keeps = untold_keeps s hands told old new plays.leaves.0 agrees in (
+      let keeps = same_keeps s hands told old new plays.leaves.0 agrees in (
         s,
         (c.1.0, refl),
         subst (StandsFor new) c.1.1 c.2,
@@ -389,12 +392,12 @@ module _ (laws : Laws) (old new : Parts) (hands left : Hands) (page : ℕ) where
   -- Where it is done, all contents are kept.
   pub flush_done : (errand : Errand) (m : Move) (r : Reply) → hands.flushing ≡ None → Does old (flush_call page) new
       → CopiesOut old new page errand → left ≡ record hands { flushing = Some (flushing.Out errand) }
-      → new.last ≡ Some (m, r) → (fits : HandsFit old hands) → Plays old hands (cue.Flush page) (Did m r) new left
+      → event.Tells old (flush_call page) (m, r) → (fits : HandsFit old hands) → Plays old hands (cue.Flush page) (Did m r) new left
       → (s : State) → StandsFor old s → (told : ℕ → List ℕ) → Agrees old s hands told
       → (t : State) × Tells s (cue.Flush page) (Did m r) t × StandsFor new t
       × FlusherFollows old s hands (cue.Flush page) (Did m r) left × (new.page_bytes ≡ old.page_bytes)
       × KeepsContents old s hands told new t left told
-  flush_done errand m r none does copies is last fits plays s st told agrees =
+  flush_done errand m r none does copies is answered fits plays s st told agrees =
       let c = plays.comes s st in
       let stands = subst (StandsFor new) c.1.3 c.2 in
       let held : law.Held new (next_of s m) left =
@@ -405,7 +408,7 @@ module _ (laws : Laws) (old new : Parts) (hands left : Hands) (page : ℕ) where
         stands,
         (errand, ap (λ (h : Hands). h.flushing) is, copies.duty, copies.copy s st),
         does.page_bytes,
-        laws.flushes old new s hands left told page errand m r at_start none does copies is last held agrees,
+        laws.flushes old new s hands left told page errand m r at_start none does copies is answered held agrees,
       )
 
   -- It is played over any device, which it doesn't ask.
@@ -436,7 +439,7 @@ module _ (laws : Laws) (old new : Parts) (hands left : Hands) (page : ℕ) where
   pub flush_stays : (v : Parts) (h : Hands) (asked : Cue) (why : Refusal) → asked ≡ cue.Flush page
       → KeepsAll v h (cue.Flush page) (Refused asked why) v h
   flush_stays v h asked why same fits s st told agrees =
-      (s, (same, refl), st, refl, refl, untold_keeps s h told v v refl agrees)
+      (s, (same, refl), st, refl, refl, same_keeps s h told v v refl agrees)
 
 -- Where no flush is in flight, its device isn't asked.
 pub flush_off : (v : Parts) (hands left : Hands) (line : Line) → HandsFit v hands → hands.flushing ≡ None

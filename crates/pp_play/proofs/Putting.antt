@@ -1,6 +1,6 @@
 -- The places of guards from which one was taken, and into which one is put again.
-use Rattle.std.proofs.Common.{◌≡◌, ◌∙◌, ℕ, false, Option, Some, None, List, refl, ap, subst}
-use Rattle.std.specs.Prelude.{IfNone, IfSome, slice_set}
+use Rattle.std.proofs.Common.{◌≡◌, ◌∙◌, ℕ, false, Option, Some, None, List, refl, ap}
+use Rattle.std.specs.Prelude.{slice_set}
 use Rattle.pp_vault.specs.declared.guards.PinGuard.{PinGuard}
 use Rattle.pp_vault.specs.declared.guards.BundleGuard.{BundleGuard}
 use Rattle.pp_vault.specs.declared.guards.Guard.{Guard}
@@ -35,10 +35,3 @@ no_bundle (Pin g) isnt = refl
 no_bundle (Read g) isnt = refl
 no_bundle (Write g) isnt = refl
 no_bundle (Bundle g) isnt = absurd (isnt g refl)
-
--- What holds where something is None, or Some.
-pub at_none : {T : Type 0} {P : Type 0} (o : Option T) → IfNone o P → o ≡ None → P
-at_none {T} {P} o h e = subst (λ x. IfNone x P) e h
-
-pub at_some : {T : Type 0} (P : T → Type 0) (o : Option T) (x : T) → IfSome o P → o ≡ Some x → P x
-at_some P o x h e = subst (λ y. IfSome y P) e h

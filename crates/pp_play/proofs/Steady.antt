@@ -43,21 +43,18 @@ module _ (old new : Parts) where
   duty_steady (duty.Read w slot page) image ok (answered.Lost leaver) ends = ends.0.page_bytes
   duty_steady (duty.Read w slot page) image ok (answered.Away errand) ends = absurd ends
   duty_steady (duty.Read w slot page) image ok (answered.Flushed clean) ends = absurd ends
-  duty_steady (duty.Read w slot page) image ok (answered.No back refusal) ends = absurd ends
   duty_steady (duty.Write w slot page victim) image ok (answered.Got session guard) ends = absurd ends
   duty_steady (duty.Write w slot page victim) image ok (answered.Opened session guard) ends = absurd ends
   duty_steady (duty.Write w slot page victim) image ok (answered.Joined session) ends = absurd ends
   duty_steady (duty.Write w slot page victim) image ok (answered.Lost leaver) ends = ends.1.page_bytes
   duty_steady (duty.Write w slot page victim) image ok (answered.Away errand) ends = ends.1.page_bytes
   duty_steady (duty.Write w slot page victim) image ok (answered.Flushed clean) ends = absurd ends
-  duty_steady (duty.Write w slot page victim) image ok (answered.No back refusal) ends = absurd ends
   duty_steady (duty.Flush page) image ok (answered.Got session guard) ends = absurd ends
   duty_steady (duty.Flush page) image ok (answered.Opened session guard) ends = absurd ends
   duty_steady (duty.Flush page) image ok (answered.Joined session) ends = absurd ends
   duty_steady (duty.Flush page) image ok (answered.Lost leaver) ends = absurd ends
   duty_steady (duty.Flush page) image ok (answered.Away errand) ends = absurd ends
   duty_steady (duty.Flush page) image ok (answered.Flushed clean) ends = ends.does.page_bytes
-  duty_steady (duty.Flush page) image ok (answered.No back refusal) ends = absurd ends
 
   answer_steady : (hand left : Hand) (returned : Returned) (out : Answered) → AnswerComesTo old returned out new
       → HasAnswer hand out left → Steady
@@ -67,7 +64,6 @@ module _ (old new : Parts) where
   answer_steady hand left returned (answered.Lost leaver) ends has = duty_steady _ _ _ _ ends
   answer_steady hand left returned (answered.Away errand) ends has = duty_steady _ _ _ _ ends
   answer_steady hand left returned (answered.Flushed clean) ends has = absurd has
-  answer_steady hand left returned (answered.No back refusal) ends has = absurd has
 
   fix_steady : (hand left : Hand) (x : Session) (page : ℕ) (out : Fixed) → FixAnswers old x page out new
       → HasFixed hand out left → Steady
@@ -75,7 +71,6 @@ module _ (old new : Parts) where
   fix_steady hand left x page (fixed.Opened session guard) ends has = ends.0.page_bytes
   fix_steady hand left x page (fixed.Joined session) ends has = ends.0.page_bytes
   fix_steady hand left x page (fixed.Away errand) ends has = ends.0.page_bytes
-  fix_steady hand left x page (fixed.No session refusal) ends has = absurd has
 
   give_steady : (x y : Leaver) (g : Guard) → GivesBack old x g new y → Steady
   give_steady x y (guard.Pin g) gives = gives.still.does.page_bytes

@@ -13,12 +13,11 @@ use Rattle.pp_vault.specs.declared.refusal.Refusal.{Refusal}
 use Rattle.pp_vault.specs.declared.guards.Guard.{Guard}
 use Rattle.pp_vault.specs.declared.stage.Stage.{Stage}
 use Rattle.pp_vault.specs.declared.stage.Hand.{Hand}
-use Rattle.pp_vault.specs.declared.hands.Flushing.{Flushing}
 use Rattle.pp_vault.specs.Parts.{Parts}
 use Rattle.pp_vault.specs.StandsFor.{StandsFor, IsKept}
 use Rattle.pp_vault.specs.Calls.{Call, asks, refusal_in, refusal_of}
-use Rattle.pp_vault.specs.Events.{Does, untold}
-use Rattle.pp_vault.specs.Hands.{StageFits, PlaceFits, HandFits, FlushingFits}
+use Rattle.pp_vault.specs.Events.{Does}
+use Rattle.pp_vault.specs.Hands.{StageFits, PlaceFits}
 use Rattle.pp_vault.specs.HandLaws.{caller, FitsIn, LeavesSlot, OthersStillFit, SlotsStillFit, FlushingStillFits}
 use Rattle.pp_vault.specs.Holding.{placed}
 use Rattle.pp_script.specs.declared.cue.Cue.{Cue}
@@ -26,43 +25,19 @@ use Rattle.pp_play.specs.declared.line.Line.{Line}
 use Rattle.pp_play.specs.declared.line.Line.TheVariants.{Did, Refused}
 use Rattle.pp_play.specs.Plays.{IsMoveOf}
 use Rattle.pp_play.specs.Exact.{refusal_to, IsLineOf}
-use Rattle.pp_play.specs.Doing.{IsDone, FlushingFitsIn, LeavesOthers, HandPlays}
+use Rattle.pp_play.specs.Doing.{IsDone, LeavesOthers, HandPlays}
 use Rattle.pp_play.specs.Guarding.{hand_of}
 use Rattle.pp_play.proofs.Asked.{same}
+use Rattle.pp_play.proofs.Others.{nothing_changed}
 
 -- ---- refused
 
-untold_back : (v : Parts) (s : State) → StandsFor (untold v) s → StandsFor v s
-untold_back v s st = record { core = st.core; images = st.images }
-
-untold_on : (v : Parts) (s : State) → StandsFor v s → StandsFor (untold v) s
-untold_on v s st = record { core = st.core; images = st.images }
-
--- Nothing has changed but what is told.
-module _ (old new : Parts) (unchanged : untold new ≡ untold old) where
-  back : (s : State) → StandsFor new s → StandsFor old s
-  back s st = untold_back old s (subst (λ v. StandsFor v s) unchanged (untold_on new s st))
-
-  bytes : old.page_bytes ≡ new.page_bytes
-  bytes = sym (ap (λ (v : Parts). v.page_bytes) unchanged)
-
-  hand_stays : (w : ℕ) (hand : Hand) → FitsIn old w hand → FitsIn new w hand
-  hand_stays w hand fits s st = subst (λ n. HandFits n s w hand) bytes (fits s (back s st))
-
-  flushing_stays : (f : Option Flushing) → FlushingFitsIn old f → FlushingFitsIn new f
-  flushing_stays f fits s st = subst (λ n. FlushingFits n s f) bytes (fits s (back s st))
-
-  pub refused_plays : (w : ℕ) (hand : Hand) (cue : Cue) (why : Refusal) (fits : FitsIn old w hand)
-      → ((s : State) → StandsFor old s → refusal_to s cue ≡ Some why)
-      → HandPlays old w hand cue (Refused cue why) new hand
-  refused_plays w hand cue why fits refuses =
-      record {
-        exact = refuses;
-        leaves = (unchanged, refl);
-        fit = hand_stays w hand fits;
-        others =
-            record { hands = λ v apart other. hand_stays v other; flushing = flushing_stays };
-      }
+pub refused_plays : (old new : Parts) → new ≡ old → (w : ℕ) (hand : Hand) (cue : Cue) (why : Refusal)
+    → FitsIn old w hand → ((s : State) → StandsFor old s → refusal_to s cue ≡ Some why)
+    → HandPlays old w hand cue (Refused cue why) new hand
+refused_plays old new unchanged w hand cue why fits refuses =
+    subst (λ v. HandPlays old w hand cue (Refused cue why) v hand) (sym unchanged)
+    (record { exact = refuses; leaves = (refl, refl); fit = fits; others = nothing_changed old w })
 
 -- ---- done
 
@@ -139,13 +114,13 @@ module _ (laws : StillFit) (old new : Parts) (call : State → Call) (kept : IsK
           }
 
 -- The line of a cue that is done: nothing refuses it.
-module _ (old new : Parts) (cue : Cue) (line : Line) (done : IsDone old cue new)
-    (tells : (m : Move) (r : Reply) → new.last ≡ Some (m, r) → line ≡ Did m r) (m : Move)
+module _ (old new : Parts) (cue : Cue) (line : Line) {done : Move × Reply} (is_done : IsDone old cue done new)
+    (tells : line ≡ Did done.0 done.1) (m : Move)
     (only : (n : Move) → IsMoveOf cue n → n ≡ m)
     (refusal : (s : State) → refusal_to s cue ≡ refusal_in (reply_of s m)) where
   pub line_fits : (before after : List (Option Guard)) (s : State) → StandsFor old s
       → IsLineOf old s before after cue line
   line_fits before after s st =
-      let d = done.does s st in
-      subst (λ l. IsLineOf old s before after cue l) (sym (tells d.0 (reply_of s d.0) d.2))
-      (refusal s ∙ subst (λ n. refusal_in (reply_of s n) ≡ None) (only d.0 d.1) d.3)
+      subst (λ l. IsLineOf old s before after cue l) (sym tells)
+      (refusal s ∙ subst (λ n. refusal_in (reply_of s n) ≡ None) (only done.0 is_done.asked)
+      (ap refusal_in (is_done.replies s st) ∙ is_done.allowed))

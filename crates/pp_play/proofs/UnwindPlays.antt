@@ -19,7 +19,7 @@ use Rattle.pp_vault.specs.declared.stage.Stage.TheVariants.{Leaving}
 use Rattle.pp_vault.specs.Parts.{Parts}
 use Rattle.pp_vault.specs.StandsFor.{StandsFor, IsKept}
 use Rattle.pp_vault.specs.Calls.{asks, stranger, refusal_of}
-use Rattle.pp_vault.specs.Events.{Refuses, untold}
+use Rattle.pp_vault.specs.Events.{Refuses}
 use Rattle.pp_vault.specs.Fits.{is_held_so, is_gathered, IsEmpty, leaver_fits, leaver_fits_bundle}
 use Rattle.pp_vault.specs.Tokens.{is_long}
 use Rattle.pp_vault.specs.Leaves.{StillLeaves, GivesBack, give_back_call}
@@ -103,7 +103,7 @@ module _ (old new : Parts) (kept : IsKept old) (x : Leaver) (places : List (Opti
   low_by s st (Write h) fit = low old s x.worker slot st (h.page, X) fit.held
   low_by s st (Bundle h) fit = low_gathered old s x.worker slot st fit.gathered
 
-  pub unwind_refused : (why : Refusal) → Refuses old (give_back_call old x g) why → untold new ≡ untold old
+  pub unwind_refused : (why : Refusal) → Refuses old (give_back_call old x g) why → new ≡ old
       → HandPlays old x.worker (hand_of (Leaving x) places) (cue.Unwind x.worker slot)
       (Refused (cue.Unwind x.worker slot) why) new (hand_of (Leaving x) places)
   unwind_refused why refuses same =
@@ -157,9 +157,9 @@ module _ (old new : Parts) (kept : IsKept old) (x : Leaver) (places : List (Opti
     slot_of (Write h) fit = fit.of_slot
     slot_of (Bundle h) fit = fit.of_slot
 
-    pub unwind_plays : ((s : State) → StandsFor new s → IsEmpty s x.worker (slot_by g)) → (line : Line)
-        → IsDone old (cue.Unwind x.worker slot) new
-        → ((m : Move) (r : Reply) → new.last ≡ Some (m, r) → line ≡ Did m r)
+    pub unwind_plays : ((s : State) → StandsFor new s → IsEmpty s x.worker (slot_by g)) → (line : Line) {done : Move × Reply}
+        → IsDone old (cue.Unwind x.worker slot) done new
+        → line ≡ Did done.0 done.1
         → HandPlays old x.worker (hand_of (Leaving x) places) (cue.Unwind x.worker slot) line new
         (hand_of (Leaving y) (slice_set places slot None))
     unwind_plays empty line done tells =
@@ -169,7 +169,7 @@ module _ (old new : Parts) (kept : IsKept old) (x : Leaver) (places : List (Opti
           exact = line_fits old new (cue.Unwind w slot) line done tells (move.Unwind w slot) (λ n e. e) (λ s. refl)
               places (slice_set places slot None);
           leaves =
-              did_leaves old new line done.some tells (hand_of (Leaving x) places)
+              did_leaves old new line tells (hand_of (Leaving x) places)
               (hand_of (Leaving y) (slice_set places slot None));
           fit = one_fits laws old new call kept still.does w (move.Unwind w slot) refl calls (Leaving x) (Leaving y)
               places fits (λ s st. (ap (λ (l : Leaver). l.worker) still.same, still.leaves s st)) slot None

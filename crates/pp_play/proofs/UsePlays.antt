@@ -27,7 +27,7 @@ use Rattle.pp_vault.specs.declared.stage.Stage.TheVariants.{In}
 use Rattle.pp_vault.specs.Parts.{Parts}
 use Rattle.pp_vault.specs.StandsFor.{StandsFor, IsKept}
 use Rattle.pp_vault.specs.Calls.{Call, asks, refusal_of}
-use Rattle.pp_vault.specs.Events.{Refuses, untold}
+use Rattle.pp_vault.specs.Events.{Refuses}
 use Rattle.pp_vault.specs.Fits.{is_acting_by, is_acting, is_same_held, is_held_by, is_held_so, asks_unfix, is_same_mode}
 use Rattle.pp_vault.specs.Fits.{asks_scatter, asks_latch, asks_unlatch, guard_call, fits_both, bundle_fits, is_gathered}
 use Rattle.pp_vault.specs.Fits.{IsEmpty, unfix_call, scatter_call, latch_call}
@@ -124,7 +124,7 @@ module _ (old new : Parts) (kept : IsKept old) (x : Session) (places : List (Opt
         (ap (asks_unfix g.slot) wants ∙ number_is g.slot slot pin.of_slot)
 
     pub unfix_refused : (why : Refusal) → Refuses old (unfix_call x.worker g.worker g.slot g.page) why
-        → untold new ≡ untold old
+        → new ≡ old
         → HandPlays old x.worker (hand_of (In x) places) (cue.Unfix x.worker) (Refused (cue.Unfix x.worker) why) new
         (hand_of (In x) places)
     unfix_refused why refuses same =
@@ -137,8 +137,9 @@ module _ (old new : Parts) (kept : IsKept old) (x : Session) (places : List (Opt
         (after s st).unfixed x.worker slot (unfix_did s x.worker slot wants) wants
 
     pub unfix_plays : (laws : StillFit) (y : Session) → Unfixes old x g new y
-        → ((s : State) → StandsFor new s → IsEmpty s x.worker g.slot) → (line : Line) → IsDone old (cue.Unfix x.worker) new
-        → ((m : Move) (r : Reply) → new.last ≡ Some (m, r) → line ≡ Did m r)
+        → ((s : State) → StandsFor new s → IsEmpty s x.worker g.slot) → (line : Line) {done : Move × Reply}
+        → IsDone old (cue.Unfix x.worker) done new
+        → line ≡ Did done.0 done.1
         → HandPlays old x.worker (hand_of (In x) places) (cue.Unfix x.worker) line new
         (hand_of (In y) (slice_set places slot None))
     unfix_plays laws y unfixes empty line done tells =
@@ -149,7 +150,7 @@ module _ (old new : Parts) (kept : IsKept old) (x : Session) (places : List (Opt
           exact = line_fits old new (cue.Unfix w) line done tells (move.Unfix w) (λ n e. e) (λ s. refl) places
               (slice_set places slot None);
           leaves =
-              did_leaves old new line done.some tells (hand_of (In x) places)
+              did_leaves old new line tells (hand_of (In x) places)
               (hand_of (In y) (slice_set places slot None));
           fit = one_fits laws old new call kept unfixes.does w (move.Unfix w) refl unfix_calls (In x) (In y) places fits
               (λ s st. (unfixes.session.worker, unfixes.session.ask s st)) slot None
@@ -175,7 +176,7 @@ module _ (old new : Parts) (kept : IsKept old) (x : Session) (places : List (Opt
         (ap (asks_scatter g.slot) wants ∙ number_is g.slot slot bundle.of_slot)
 
     pub scatter_refused : (why : Refusal) → Refuses old (scatter_call x.worker g.worker g.slot) why
-        → untold new ≡ untold old
+        → new ≡ old
         → HandPlays old x.worker (hand_of (In x) places) (cue.Unfix x.worker) (Refused (cue.Unfix x.worker) why) new
         (hand_of (In x) places)
     scatter_refused why refuses same =
@@ -188,8 +189,9 @@ module _ (old new : Parts) (kept : IsKept old) (x : Session) (places : List (Opt
         (after s st).scattered x.worker slot (scatter_did s x.worker slot wants) wants
 
     pub scatter_plays : (laws : StillFit) (y : Session) → Scatters old x g new y
-        → ((s : State) → StandsFor new s → IsEmpty s x.worker g.slot) → (line : Line) → IsDone old (cue.Unfix x.worker) new
-        → ((m : Move) (r : Reply) → new.last ≡ Some (m, r) → line ≡ Did m r)
+        → ((s : State) → StandsFor new s → IsEmpty s x.worker g.slot) → (line : Line) {done : Move × Reply}
+        → IsDone old (cue.Unfix x.worker) done new
+        → line ≡ Did done.0 done.1
         → HandPlays old x.worker (hand_of (In x) places) (cue.Unfix x.worker) line new
         (hand_of (In y) (slice_set places slot None))
     scatter_plays laws y scatters empty line done tells =
@@ -200,7 +202,7 @@ module _ (old new : Parts) (kept : IsKept old) (x : Session) (places : List (Opt
           exact = line_fits old new (cue.Unfix w) line done tells (move.Unfix w) (λ n e. e) (λ s. refl) places
               (slice_set places slot None);
           leaves =
-              did_leaves old new line done.some tells (hand_of (In x) places)
+              did_leaves old new line tells (hand_of (In x) places)
               (hand_of (In y) (slice_set places slot None));
           fit = one_fits laws old new call kept scatters.does w (move.Unfix w) refl scatter_calls (In x) (In y) places fits
               (λ s st. (scatters.session.worker, scatters.session.ask s st)) slot None
@@ -227,7 +229,7 @@ module _ (old new : Parts) (kept : IsKept old) (x : Session) (places : List (Opt
         ∙ both (g.slot == slot) (is_same_mode m m) (number_is g.slot slot pin.of_slot) (same_mode m))
 
     pub latch_refused : (why : Refusal) → Refuses old (latch_call m x.worker g.worker g.slot g.page) why
-        → untold new ≡ untold old
+        → new ≡ old
         → HandPlays old x.worker (hand_of (In x) places) (cue.Latch x.worker) (Refused (cue.Latch x.worker) why) new
         (hand_of (In x) places)
     latch_refused why refuses same =
@@ -235,9 +237,9 @@ module _ (old new : Parts) (kept : IsKept old) (x : Session) (places : List (Opt
         (λ s st. subst (λ c. refusal_of s c ≡ Some why) (latch_calls s st) (refuses s st))
 
     pub latch_plays : (laws : StillFit) (y : Session) (h : Guard)
-        → ChangesGuard old (latch_call m x.worker g.worker g.slot g.page) x.worker slot new y h → (line : Line)
-        → IsDone old (cue.Latch x.worker) new
-        → ((n : Move) (r : Reply) → new.last ≡ Some (n, r) → line ≡ Did n r)
+        → ChangesGuard old (latch_call m x.worker g.worker g.slot g.page) x.worker slot new y h → (line : Line) {done : Move × Reply}
+        → IsDone old (cue.Latch x.worker) done new
+        → line ≡ Did done.0 done.1
         → HandPlays old x.worker (hand_of (In x) places) (cue.Latch x.worker) line new
         (hand_of (In y) (slice_set places slot (Some h)))
     latch_plays laws y h changes line done tells =
@@ -248,7 +250,7 @@ module _ (old new : Parts) (kept : IsKept old) (x : Session) (places : List (Opt
           exact = line_fits old new (cue.Latch w) line done tells (move.Latch w) (λ n e. e) (λ s. refl) places
               (slice_set places slot (Some h));
           leaves =
-              did_leaves old new line done.some tells (hand_of (In x) places)
+              did_leaves old new line tells (hand_of (In x) places)
               (hand_of (In y) (slice_set places slot (Some h)));
           fit = one_fits laws old new call kept changes.does w (move.Latch w) refl latch_calls (In x) (In y) places fits
               (λ s st. (changes.session_fits.worker, changes.session_fits.ask s st)) slot (Some h)
@@ -288,7 +290,7 @@ module _ (old new : Parts) (kept : IsKept old) (x : Session) (places : List (Opt
     unlatch_calls : (s : State) → StandsFor old s → unlatch_with old x g s ≡ asks (move.Unlatch x.worker)
     unlatch_calls s st = unlatch_calls_by s st g (here s st (Some g) at) latched
 
-    pub unlatch_refused : (why : Refusal) → Refuses old (unlatch_with old x g) why → untold new ≡ untold old
+    pub unlatch_refused : (why : Refusal) → Refuses old (unlatch_with old x g) why → new ≡ old
         → HandPlays old x.worker (hand_of (In x) places) (cue.Unlatch x.worker) (Refused (cue.Unlatch x.worker) why) new
         (hand_of (In x) places)
     unlatch_refused why refuses same =
@@ -314,9 +316,9 @@ module _ (old new : Parts) (kept : IsKept old) (x : Session) (places : List (Opt
     other_ask s k off e f = off (ap (unlatch_of slot) (sym f ∙ e))
 
     pub unlatch_plays : (laws : StillFit) (y : Session) (h : Guard)
-        → ChangesGuard old (unlatch_with old x g) x.worker slot new y h → (line : Line)
-        → IsDone old (cue.Unlatch x.worker) new
-        → ((n : Move) (r : Reply) → new.last ≡ Some (n, r) → line ≡ Did n r)
+        → ChangesGuard old (unlatch_with old x g) x.worker slot new y h → (line : Line) {done : Move × Reply}
+        → IsDone old (cue.Unlatch x.worker) done new
+        → line ≡ Did done.0 done.1
         → HandPlays old x.worker (hand_of (In x) places) (cue.Unlatch x.worker) line new
         (hand_of (In y) (slice_set places slot (Some h)))
     unlatch_plays laws y h changes line done tells =
@@ -326,7 +328,7 @@ module _ (old new : Parts) (kept : IsKept old) (x : Session) (places : List (Opt
           exact = line_fits old new (cue.Unlatch w) line done tells (move.Unlatch w) (λ n e. e) (λ s. refl) places
               (slice_set places slot (Some h));
           leaves =
-              did_leaves old new line done.some tells (hand_of (In x) places)
+              did_leaves old new line tells (hand_of (In x) places)
               (hand_of (In y) (slice_set places slot (Some h)));
           fit = one_fits laws old new call kept changes.does w (move.Unlatch w) refl unlatch_calls (In x) (In y) places
               fits (λ s st. (changes.session_fits.worker, changes.session_fits.ask s st)) slot (Some h)

@@ -1,13 +1,13 @@
 -- What the functions that play one cue tell one another.
-use Rattle.std.specs.Prelude.{◌≡◌, ◌≢◌, ℕ, Bool, true, ◌&&◌, ◌||◌, Option, None, Some, IsSome, List}
+use Rattle.std.specs.Prelude.{◌≡◌, ◌≢◌, ℕ, Bool, true, ◌&&◌, ◌||◌, Option, None, Some, List}
 use Rattle.pp_plan.specs.declared.action.Ask.{Ask}
 use Rattle.pp_plan.specs.declared.action.Ask.TheVariants as ask
 use Rattle.pp_model.specs.declared.moves.Move.{Move}
+use Rattle.pp_model.specs.declared.reply.Reply.{Reply}
 use Rattle.pp_model.specs.Pool.{State}
 use Rattle.pp_model.specs.Moves.{reply_of, next_of, seat_of}
 use Rattle.pp_core.specs.Queries.{ask_of, errand_of}
 use Rattle.pp_vault.specs.Calls.{refusal_in}
-use Rattle.pp_vault.specs.Events.{untold}
 use Rattle.pp_vault.specs.Parts.{Parts}
 use Rattle.pp_vault.specs.StandsFor.{StandsFor}
 use Rattle.pp_vault.specs.Fits.{is_gathered}
@@ -41,16 +41,12 @@ cue_worker FlushDevice = None
 cue_worker (Write w slot byte) = Some w
 cue_worker (Look w slot) = Some w
 
--- Every state that the old parts stand for is one that the new parts stand for.
-abbrev pub Stays : (old new : Parts) → Type 0
-Stays old new = (s : State) → StandsFor old s → StandsFor new s
-
--- A move that the cue asks is done, and it is what is told.
-pub record IsDone (old : Parts) (cue : Cue) (new : Parts) : Type 0 where
-  pub some : IsSome new.last
-  pub does : (s : State) → StandsFor old s
-      → (m : Move) × IsMoveOf cue m × (new.last ≡ Some (m, reply_of s m)) × (refusal_in (reply_of s m) ≡ None)
-      × StandsFor new (next_of s m)
+-- A move that the cue asks is done, and these are the move and the model's reply to it, which is no refusal.
+pub record IsDone (old : Parts) (cue : Cue) (done : Move × Reply) (new : Parts) : Type 0 where
+  pub asked : IsMoveOf cue done.0
+  pub allowed : refusal_in done.1 ≡ None
+  pub replies : (s : State) → StandsFor old s → reply_of s done.0 ≡ done.1
+  pub stands : (s : State) → StandsFor old s → StandsFor new (next_of s done.0)
 
 -- Whether a page may come into the slot of worker w with these guards in their places: nothing is in its place, or the slot is
 -- a bundle, and the guard of one is there.
@@ -84,11 +80,11 @@ pub record LeavesOthers (old : Parts) (w : ℕ) (new : Parts) : Type 0 where
   pub hands : (v : ℕ) → v ≢ w → (hand : Hand) → FitsIn old v hand → FitsIn new v hand
   pub flushing : (flushing : Option Flushing) → FlushingFitsIn old flushing → FlushingFitsIn new flushing
 
--- A cue that isn't done leaves the vault but for what is told, and the hand; one that writes a byte leaves the token.
+-- A cue that isn't done leaves the vault and the hand; one that writes a byte leaves the vault and the token.
 abbrev pub LeavesHand : Parts → Hand → Line → (new : Parts) → (left : Hand) → Type 0
 LeavesHand old hand (Did m reply) new left = Unit {0}
-LeavesHand old hand Wrote new left = (untold new ≡ untold old) × (left.stage ≡ hand.stage)
-LeavesHand old hand line new left = (untold new ≡ untold old) × (left ≡ hand)
+LeavesHand old hand Wrote new left = (new ≡ old) × (left.stage ≡ hand.stage)
+LeavesHand old hand line new left = (new ≡ old) × (left ≡ hand)
 
 -- A cue of worker w is played with a hand that fits: its line is exact, it leaves all else where it isn't done, and all
 -- hands still fit.

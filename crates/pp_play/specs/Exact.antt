@@ -17,7 +17,6 @@ use Rattle.pp_vault.specs.declared.guards.Guard.TheVariants as guard
 use Rattle.pp_vault.specs.declared.stage.Hand.{Hand}
 use Rattle.pp_vault.specs.declared.hands.Hands.{Hands}
 use Rattle.pp_vault.specs.Calls.{refusal_in}
-use Rattle.pp_vault.specs.Events.{untold}
 use Rattle.pp_vault.specs.Parts.{Parts}
 use Rattle.pp_vault.specs.StandsFor.{StandsFor}
 use Rattle.pp_vault.specs.Holding.{placed}
@@ -125,13 +124,13 @@ abbrev pub hands_with : Hands → (w : ℕ) → List (Option Guard) → Hands
 hands_with hands w guards =
     record hands { workers = slice_set hands.workers w (hand_with guards (placed hands.workers w)) }
 
--- What a cue leaves that isn't done: the vault, but for what it tells of the last call, and all hands. Where it writes a
--- byte, the guards of its worker may change, and nothing else of the hands. Of a cue that is done nothing is said here.
+-- What a cue leaves that isn't done: the vault and all hands. Where it writes a byte, the guards of its worker may change,
+-- and nothing else of the hands. Of a cue that is done nothing is said here.
 abbrev pub Leaves : Parts → Hands → Cue → Line → (next : Parts) → (left : Hands) → Type 0
 Leaves v hands cue (Did m reply) next left = Unit {0}
 Leaves v hands cue Wrote next left =
-    (untold next ≡ untold v) × (left ≡ hands_with hands (looker cue) (guards_of left (looker cue)))
-Leaves v hands cue line next left = (untold next ≡ untold v) × (left ≡ hands)
+    (next ≡ v) × (left ≡ hands_with hands (looker cue) (guards_of left (looker cue)))
+Leaves v hands cue line next left = (next ≡ v) × (left ≡ hands)
 
 -- ---- scripts
 

@@ -4,7 +4,6 @@ use Rattle.pp_cert.specs.declared.note.Held.TheVariants.{S}
 use Rattle.pp_plan.specs.declared.action.Ask.{Ask}
 use Rattle.pp_model.specs.Pool.{State}
 use Rattle.pp_core.specs.Queries.{ask_of}
-use Rattle.pp_vault.specs.declared.refusal.Refusal.{Refusal}
 use Rattle.pp_vault.specs.declared.tokens.Session.{Session}
 use Rattle.pp_vault.specs.declared.guards.Guard.{Guard}
 use Rattle.pp_vault.specs.declared.guards.Guard.TheVariants.{Pin, Read, Write, Bundle}
@@ -13,7 +12,7 @@ use Rattle.pp_vault.specs.declared.stage.Hand.{Hand}
 use Rattle.pp_vault.specs.Parts.{Parts}
 use Rattle.pp_vault.specs.StandsFor.{StandsFor}
 use Rattle.pp_vault.specs.Calls.{Call, stranger}
-use Rattle.pp_vault.specs.Events.{Does, Refuses, untold}
+use Rattle.pp_vault.specs.Events.{Does}
 use Rattle.pp_vault.specs.Fits.{unlatch_call, put_back_call}
 use Rattle.pp_vault.specs.Tokens.{is_long, SessionFits}
 use Rattle.pp_vault.specs.Hands.{GuardFits}
@@ -49,11 +48,3 @@ pub record ChangesGuard (old : Parts) (call : State → Call) (w slot : ℕ) (ne
   pub does : Does old call new
   pub session_fits : SessionFits new w session
   pub guard_fits : (s : State) → StandsFor new s → GuardFits new.page_bytes s w slot guard
-
--- The call is refused: the session and the guard come back, and nothing has changed but what is told.
-pub record KeepsGuard (old : Parts) (call : State → Call) (session : Session) (guard : Guard) (why : Refusal)
-    (new : Parts) (session_back : Session) (guard_back : Guard) : Type 0 where
-  pub refuses : Refuses old call why
-  pub same_session : session_back ≡ session
-  pub same_guard : guard_back ≡ guard
-  pub unchanged : untold new ≡ untold old

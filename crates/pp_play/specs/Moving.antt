@@ -1,8 +1,11 @@
 -- What the functions that play one cue tell one another of the tokens that they move, and of the device that they ask.
 use Rattle.std.specs.Prelude.{◌≡◌, ℕ, Bool, true, false, Option, None, Some, List}
+use Rattle.pp_model.specs.declared.moves.Move.{Move}
 use Rattle.pp_model.specs.declared.reply.Reply.{Reply}
 use Rattle.pp_model.specs.Pool.{State}
 use Rattle.pp_device.specs.Answers.{Answer}
+use Rattle.pp_cert.specs.declared.note.Held.TheVariants.{S}
+use Rattle.pp_plan.specs.declared.mode.Mode.TheVariants as mode
 use Rattle.pp_vault.specs.declared.tokens.Errand.{Errand}
 use Rattle.pp_vault.specs.declared.tokens.Returned.{Returned}
 use Rattle.pp_vault.specs.declared.tokens.Session.{Session}
@@ -15,9 +18,12 @@ use Rattle.pp_vault.specs.declared.hands.Hands.{Hands}
 use Rattle.pp_vault.specs.declared.answering.Answered.TheVariants.{Flushed}
 use Rattle.pp_vault.specs.Parts.{Parts}
 use Rattle.pp_vault.specs.StandsFor.{StandsFor}
-use Rattle.pp_vault.specs.Answers.{AnswerComesTo}
+use Rattle.pp_vault.specs.Events as event
+use Rattle.pp_vault.specs.Fits.{latch_call, unlatch_call, put_back_call}
+use Rattle.pp_vault.specs.Tokens.{is_long}
+use Rattle.pp_vault.specs.Answers.{answer_call, AnswerComesTo}
 use Rattle.pp_vault.specs.Carrying.{CarriesOut}
-use Rattle.pp_contents.specs.HandMoves.{HandMoves}
+use Rattle.pp_contents.specs.HandMoves.{HandMoves, call_in}
 use Rattle.pp_vault.specs.Hands.{HandsFit}
 use Rattle.pp_vault.specs.Uses.{LatchesShared, LatchesExclusive, UnlatchesShared, UnlatchesExclusive}
 use Rattle.pp_contents.specs.ContentLaws.{returned_of, KeepsContents}
@@ -36,23 +42,35 @@ abbrev pub tells_move : Line → Bool
 tells_move (Did m reply) = true
 tells_move _ = false
 
--- A line that says that a move is done: a call of the vault was done with the tokens of the hand, and this is its move.
+-- A call of the vault was done with the tokens of the hand, and was answered so.
+abbrev pub CallsWith : (old : Parts) → Hand → (Move × Reply) → (new : Parts) → (left : Hand) → Type 0
+CallsWith old hand done new left =
+    (moves : HandMoves old hand new left) × event.Tells old (call_in old hand new left moves) done
+
+-- A line that says that a move is done: a call of the vault was done with the tokens of the hand, and answered what the
+-- line tells.
 abbrev pub MovesHand : (old : Parts) → Hand → Line → (new : Parts) → (left : Hand) → Type 0
-MovesHand old hand (Did m reply) new left = HandMoves old hand new left × (new.last ≡ Some (m, reply))
+MovesHand old hand (Did m reply) new left = CallsWith old hand (m, reply) new left
 MovesHand old hand line new left = Unit {0}
 
--- The page of a guard was latched, S or X.
-abbrev pub LatchesWith : (old : Parts) → Session → PinGuard → (new : Parts) → Session → Guard → Type 0
-LatchesWith old x g new y (Pin h) = ⊥
-LatchesWith old x g new y (Read h) = LatchesShared old x g new y h
-LatchesWith old x g new y (Write h) = LatchesExclusive old x g new y h
-LatchesWith old x g new y (Bundle h) = ⊥
+-- The page of a guard was latched, S or X, and the call was answered so.
+abbrev pub LatchesWith : (old : Parts) → Session → PinGuard → (Move × Reply) → (new : Parts) → Session → Guard → Type 0
+LatchesWith old x g done new y (Pin h) = ⊥
+LatchesWith old x g done new y (Read h) =
+    LatchesShared old x g new y h × event.Tells old (latch_call mode.S x.worker g.worker g.slot g.page) done
+LatchesWith old x g done new y (Write h) =
+    LatchesExclusive old x g new y h × event.Tells old (latch_call mode.X x.worker g.worker g.slot g.page) done
+LatchesWith old x g done new y (Bundle h) = ⊥
 
--- The latch of a guard is off its page.
-abbrev pub UnlatchesWith : (old : Parts) → Session → Guard → (new : Parts) → Session → Guard → Type 0
-UnlatchesWith old x (Read g) new y (Pin h) = UnlatchesShared old x g new y h
-UnlatchesWith old x (Write g) new y (Pin h) = UnlatchesExclusive old x g new y h
-UnlatchesWith old x g new y h = ⊥
+-- The latch of a guard is off its page, and the call was answered so.
+abbrev pub UnlatchesWith : (old : Parts) → Session → Guard → (Move × Reply) → (new : Parts) → Session → PinGuard → Type 0
+UnlatchesWith old x (Pin g) done new y h = ⊥
+UnlatchesWith old x (Read g) done new y h =
+    UnlatchesShared old x g new y h × event.Tells old (unlatch_call S x.worker g.worker g.slot g.page) done
+UnlatchesWith old x (Write g) done new y h =
+    UnlatchesExclusive old x g new y h
+    × event.Tells old (put_back_call (is_long old g.image) x.worker g.worker g.slot g.page) done
+UnlatchesWith old x (Bundle g) done new y h = ⊥
 
 -- ---- a device
 
@@ -76,13 +94,14 @@ DoesWith reads writes (Some errand) old hand d line new left e =
     (given : List ℕ) × (answer : Answer) × (reply : Reply)
     × CarriesOut reads writes errand.duty d errand.image answer given e
     × (line ≡ Did (answer_move errand.duty given answer) reply)
-    × (new.last ≡ Some (answer_move errand.duty given answer, reply))
-    × HandMoves old (record hand { stage = Back (returned_of errand given answer) }) new left
+    × CallsWith old (record hand { stage = Back (returned_of errand given answer) })
+    (answer_move errand.duty given answer, reply) new left
 
 -- A line that says that a flush is over: the vault took this answer to it, and the line tells that.
 abbrev pub EndsFlush : (old : Parts) → Returned → Hands → Line → (new : Parts) → (left : Hands) → Type 0
 EndsFlush old returned hands (Did m reply) new left =
-    ((clean : Bool) × AnswerComesTo old returned (Flushed clean) new) × (new.last ≡ Some (m, reply))
+    ((clean : Bool) × AnswerComesTo old returned (Flushed clean) new)
+    × event.Tells old (answer_call old.page_bytes returned) (m, reply)
     × (m ≡ answer_move returned.duty returned.image returned.answer) × (left ≡ hands)
 EndsFlush old returned hands line new left = Unit {0}
 

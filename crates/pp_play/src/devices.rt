@@ -107,24 +107,29 @@ fn answer(vault: &mut Vault, returned: Returned, guards: &mut Guards, worker: u3
 {
     laws::hands_still_fit();
     match vault.answer(returned) {
-        Answered::Got(session, guard) => {
-            put(guards, Guard::Pin(guard));
-            (Stage::In(session), did(vault))
+        Ok((answered, done)) => {
+            let line = did(done);
+            match answered {
+                Answered::Got(session, guard) => {
+                    put(guards, Guard::Pin(guard));
+                    (Stage::In(session), line)
+                }
+                Answered::Opened(session, guard) => {
+                    put(guards, Guard::Bundle(guard));
+                    (Stage::In(session), line)
+                }
+                Answered::Joined(session) => (Stage::In(session), line),
+                Answered::Away(errand) => (Stage::Out(errand), line),
+                Answered::Lost(leaver) => (Stage::Leaving(leaver), line),
+                Answered::Flushed(_) => unreachable!(),
+            }
         }
-        Answered::Opened(session, guard) => {
-            put(guards, Guard::Bundle(guard));
-            (Stage::In(session), did(vault))
-        }
-        Answered::Joined(session) => (Stage::In(session), did(vault)),
-        Answered::Away(errand) => (Stage::Out(errand), did(vault)),
-        Answered::Lost(leaver) => (Stage::Leaving(leaver), did(vault)),
-        Answered::No(returned, _) => {
+        Err((returned, _)) => {
             (
                 Stage::Back(returned),
                 Line::Refused(Cue::Device { worker }, Refusal::Stranger),
             )
         }
-        Answered::Flushed(_) => unreachable!(),
     }
 }
 
@@ -155,9 +160,9 @@ pub(crate) fn flush(vault: &mut Vault, hands: &mut Hands, page: u32) -> Line
         return Line::Refused(cue, Refusal::NotNow(Delay::FlushBusy));
     }
     match vault.flush(page) {
-        Ok(errand) => {
+        Ok((errand, done)) => {
             put_flushing(hands, Flushing::Out(errand));
-            did(vault)
+            did(done)
         }
         Err(refusal) => Line::Refused(cue, refusal),
     }
@@ -214,11 +219,13 @@ fn flushed(vault: &mut Vault, hands: &mut Hands, returned: Returned) -> Line
 {
     laws::hands_still_fit();
     match vault.answer(returned) {
-        Answered::Flushed(_) => did(vault),
-        Answered::No(returned, _) => {
+        Ok((answered, done)) => match answered {
+            Answered::Flushed(_) => did(done),
+            _ => unreachable!(),
+        },
+        Err((returned, _)) => {
             put_flushing(hands, Flushing::Back(returned));
             Line::Refused(Cue::FlushDevice, Refusal::Stranger)
         }
-        _ => unreachable!(),
     }
 }

@@ -1,28 +1,31 @@
 //! Fix, unfix, latch, unlatch and unwind: cues of a worker that move the guards of its slots. A fix is a gather where the
 //! plan asks one, and an unfix a scatter.
 
-ghost use Rattle.std.specs.Prelude.{◌≡◌, true, false, None, Some, IfNone, IfSome, slice_set};
+ghost use Rattle.std.specs.Prelude.{◌≡◌, true, false, Some, IfOk, IfErr, OnErr, slice_set};
 ghost use Rattle.pp_plan.specs.declared.action.Ask.TheVariants as ask;
 ghost use Rattle.pp_model.specs.Pool.{State};
 ghost use Rattle.pp_vault.specs.Holding.{slot_by, is_free};
 ghost use Rattle.pp_vault.specs.Stages.{stage_worker};
 ghost use Rattle.pp_vault.specs.StandsFor.{StandsFor, IsKept};
 ghost use Rattle.pp_vault.specs.Fits.{latch_call};
+ghost use Rattle.pp_vault.specs.Events.{Refuses};
 ghost use Rattle.pp_vault.specs.HandLaws.{FitsIn};
 ghost use Rattle.pp_vault.specs.declared.guards.Guard.TheVariants.{Pin};
 ghost use Rattle.pp_vault.specs.declared.stage.Stage.TheVariants.{In};
 ghost use Rattle.pp_script.specs.declared.cue.Cue.TheVariants as cue;
 ghost use Rattle.pp_play.specs.Plays.{ComesTo};
 ghost use Rattle.pp_play.specs.Calling.{is_back};
-ghost use Rattle.pp_play.specs.Doing.{slot_wanted, has_room, FixHasPlace, IsDone, Stays, HandPlays};
-ghost use Rattle.pp_play.specs.Guarding.{hand_of, PlaysHand, FixLacksPlace, unlatch_with, ChangesGuard, KeepsGuard};
+ghost use Rattle.pp_play.specs.Doing.{slot_wanted, has_room, FixHasPlace, IsDone, HandPlays};
+ghost use Rattle.pp_play.specs.Guarding.{hand_of, PlaysHand, FixLacksPlace, unlatch_with, ChangesGuard};
 ghost use Rattle.pp_play.specs.Moving.{MovesHand, LatchesWith, UnlatchesWith};
 
 use crate::line::{Line, did, off_plan};
 use pp_plan::Mode;
 use pp_script::Cue;
 use pp_vault::laws::hands_still_fit;
-use pp_vault::{Ask, Cause, Fixed, Guard, Guards, Hand, PinGuard, Refusal, Session, Stage, Vault};
+use pp_vault::{
+    Ask, Cause, Done, Fixed, Guard, Guards, Hand, PinGuard, Refusal, Session, Stage, Vault,
+};
 
 /// Whether a page may come into the slot of the worker: nothing is in its place, or the slot is a bundle, and the guard of
 /// one is there.
@@ -118,17 +121,22 @@ fn fix_in(
 {
     hands_still_fit();
     match vault.fix(session, page) {
-        Fixed::Got(session, guard) => {
-            put(guards, Guard::Pin(guard));
-            (Stage::In(session), did(vault))
+        Ok((fixed, done)) => {
+            let line = did(done);
+            match fixed {
+                Fixed::Got(session, guard) => {
+                    put(guards, Guard::Pin(guard));
+                    (Stage::In(session), line)
+                }
+                Fixed::Opened(session, guard) => {
+                    put(guards, Guard::Bundle(guard));
+                    (Stage::In(session), line)
+                }
+                Fixed::Joined(session) => (Stage::In(session), line),
+                Fixed::Away(errand) => (Stage::Out(errand), line),
+            }
         }
-        Fixed::Opened(session, guard) => {
-            put(guards, Guard::Bundle(guard));
-            (Stage::In(session), did(vault))
-        }
-        Fixed::Joined(session) => (Stage::In(session), did(vault)),
-        Fixed::Away(errand) => (Stage::Out(errand), did(vault)),
-        Fixed::No(session, refusal) => {
+        Err((session, refusal)) => {
             (
                 Stage::In(session),
                 Line::Refused(Cue::Fix { worker, page }, refusal),
@@ -196,7 +204,7 @@ fn unfix_slot(
     match guards.take(u32::from(slot)) {
         Some(guard) => match guard {
             Guard::Pin(guard) => match vault.unfix(session, guard) {
-                Ok(session) => (Stage::In(session), did(vault)),
+                Ok((session, done)) => (Stage::In(session), did(done)),
                 Err((session, guard, refusal)) => {
                     put(guards, Guard::Pin(guard));
                     (Stage::In(session), Line::Refused(cue, refusal))
@@ -235,7 +243,7 @@ fn scatter_slot(
     match guards.take(u32::from(slot)) {
         Some(guard) => match guard {
             Guard::Bundle(guard) => match vault.scatter(session, guard) {
-                Ok(session) => (Stage::In(session), did(vault)),
+                Ok((session, done)) => (Stage::In(session), did(done)),
                 Err((session, guard, refusal)) => {
                     put(guards, Guard::Bundle(guard));
                     (Stage::In(session), Line::Refused(cue, refusal))
@@ -305,14 +313,16 @@ fn latch_slot(
     let cue = Cue::Latch { worker };
     match guards.take(u32::from(slot)) {
         Some(guard) => match guard {
-            Guard::Pin(guard) => {
-                let (session, guard, refusal) = latched(vault, session, guard, mode);
-                put(guards, guard);
-                match refusal {
-                    None => (Stage::In(session), did(vault)),
-                    Some(refusal) => (Stage::In(session), Line::Refused(cue, refusal)),
+            Guard::Pin(guard) => match latched(vault, session, guard, mode) {
+                Ok((session, guard, done)) => {
+                    put(guards, guard);
+                    (Stage::In(session), did(done))
                 }
-            }
+                Err((session, guard, refusal)) => {
+                    put(guards, Guard::Pin(guard));
+                    (Stage::In(session), Line::Refused(cue, refusal))
+                }
+            },
             guard => {
                 put(guards, guard);
                 (Stage::In(session), Line::Refused(cue, Refusal::Stranger))
@@ -322,34 +332,34 @@ fn latch_slot(
     }
 }
 
-/// The call of the vault for this mode: the tokens that come back, and why it was refused, if it was.
+/// The call of the vault for this mode.
 fn latched(
     vault: &mut Vault,
     session: Session,
     guard: PinGuard,
     mode: Mode,
-) -> (Session, Guard, Option<Refusal>)
+) -> Result<(Session, Guard, Done), (Session, PinGuard, Refusal)>
     requires { IsKept vault.old }
-    ensures of { result.0.worker ≡ session.worker }
-    ensures slot { slot_by result.1 ≡ guard.slot }
-    ensures done { IfNone result.2 (IsDone vault.old (cue.Latch session.worker) vault.new) }
-    ensures changes { IfNone result.2 (ChangesGuard vault.old
+    ensures of { IfOk result (λ now. now.0.worker ≡ session.worker) }
+    ensures slot { IfOk result (λ now. slot_by now.1 ≡ guard.slot) }
+    ensures done { IfOk result (λ now. IsDone vault.old (cue.Latch session.worker) now.2 vault.new) }
+    ensures changes { IfOk result (λ now. ChangesGuard vault.old
         (latch_call mode session.worker guard.worker guard.slot guard.page) session.worker guard.slot vault.new
-        result.0 result.1) }
-    ensures uses { IfNone result.2 (LatchesWith vault.old session guard vault.new result.0 result.1) }
-    ensures refused { IfSome result.2 (λ _. Stays vault.old vault.new) }
-    ensures keeps { IfSome result.2 (λ why. KeepsGuard vault.old
-        (latch_call mode session.worker guard.worker guard.slot guard.page) session (Pin guard) why vault.new
-        result.0 result.1) }
+        now.0 now.1) }
+    ensures uses { IfOk result (λ now. LatchesWith vault.old session guard now.2 vault.new now.0 now.1) }
+    ensures err { IfErr result (λ e. Refuses vault.old
+        (latch_call mode session.worker guard.worker guard.slot guard.page) e.2) }
+    ensures back { IfErr result (λ e. (e.0 ≡ session) × (e.1 ≡ guard)) }
+    ensures unchanged { OnErr result (vault.new ≡ vault.old) }
 {
     match mode {
         Mode::S => match vault.latch_shared(session, guard) {
-            Ok((session, guard)) => (session, Guard::Read(guard), None),
-            Err((session, guard, refusal)) => (session, Guard::Pin(guard), Some(refusal)),
+            Ok((session, guard, done)) => Ok((session, Guard::Read(guard), done)),
+            Err(kept) => Err(kept),
         },
         Mode::X => match vault.latch_exclusive(session, guard) {
-            Ok((session, guard)) => (session, Guard::Write(guard), None),
-            Err((session, guard, refusal)) => (session, Guard::Pin(guard), Some(refusal)),
+            Ok((session, guard, done)) => Ok((session, Guard::Write(guard), done)),
+            Err(kept) => Err(kept),
         },
     }
 }
@@ -407,42 +417,47 @@ fn unlatch_slot(
     hands_still_fit();
     let cue = Cue::Unlatch { worker };
     match guards.take(u32::from(slot)) {
-        Some(guard) => {
-            let (session, guard, refusal) = unlatched(vault, session, guard);
-            put(guards, guard);
-            match refusal {
-                None => (Stage::In(session), did(vault)),
-                Some(refusal) => (Stage::In(session), Line::Refused(cue, refusal)),
+        Some(guard) => match unlatched(vault, session, guard) {
+            Ok((session, guard, done)) => {
+                put(guards, Guard::Pin(guard));
+                (Stage::In(session), did(done))
             }
-        }
+            Err((session, guard, refusal)) => {
+                put(guards, guard);
+                (Stage::In(session), Line::Refused(cue, refusal))
+            }
+        },
         None => (Stage::In(session), Line::Refused(cue, Refusal::Stranger)),
     }
 }
 
-/// The call of the vault for this guard: the tokens that come back, and why it was refused, if it was.
-fn unlatched(vault: &mut Vault, session: Session, guard: Guard) -> (Session, Guard, Option<Refusal>)
+/// The call of the vault for this guard. One that isn't of a latch is a stranger's.
+fn unlatched(
+    vault: &mut Vault,
+    session: Session,
+    guard: Guard,
+) -> Result<(Session, PinGuard, Done), (Session, Guard, Refusal)>
     requires { IsKept vault.old }
-    ensures of { result.0.worker ≡ session.worker }
-    ensures slot { slot_by result.1 ≡ slot_by guard }
-    ensures done { IfNone result.2 (IsDone vault.old (cue.Unlatch session.worker) vault.new) }
-    ensures changes { IfNone result.2 (ChangesGuard vault.old (unlatch_with vault.old session guard) session.worker
-        (slot_by guard) vault.new result.0 result.1) }
-    ensures uses { IfNone result.2 (UnlatchesWith vault.old session guard vault.new result.0 result.1) }
-    ensures refused { IfSome result.2 (λ _. Stays vault.old vault.new) }
-    ensures keeps { IfSome result.2 (λ why. KeepsGuard vault.old (unlatch_with vault.old session guard) session guard
-        why vault.new result.0 result.1) }
+    ensures of { IfOk result (λ now. now.0.worker ≡ session.worker) }
+    ensures slot { IfOk result (λ now. now.1.slot ≡ slot_by guard) }
+    ensures done { IfOk result (λ now. IsDone vault.old (cue.Unlatch session.worker) now.2 vault.new) }
+    ensures changes { IfOk result (λ now. ChangesGuard vault.old (unlatch_with vault.old session guard) session.worker
+        (slot_by guard) vault.new now.0 (Pin now.1)) }
+    ensures uses { IfOk result (λ now. UnlatchesWith vault.old session guard now.2 vault.new now.0 now.1) }
+    ensures err { IfErr result (λ e. Refuses vault.old (unlatch_with vault.old session guard) e.2) }
+    ensures back { IfErr result (λ e. (e.0 ≡ session) × (e.1 ≡ guard)) }
+    ensures unchanged { OnErr result (vault.new ≡ vault.old) }
 {
     match guard {
-        Guard::Pin(guard) => (session, Guard::Pin(guard), Some(Refusal::Stranger)),
         Guard::Read(guard) => match vault.unlatch_shared(session, guard) {
-            Ok((session, guard)) => (session, Guard::Pin(guard), None),
-            Err((session, guard, refusal)) => (session, Guard::Read(guard), Some(refusal)),
+            Ok(now) => Ok(now),
+            Err((session, guard, refusal)) => Err((session, Guard::Read(guard), refusal)),
         },
         Guard::Write(guard) => match vault.unlatch_exclusive(session, guard) {
-            Ok((session, guard)) => (session, Guard::Pin(guard), None),
-            Err((session, guard, refusal)) => (session, Guard::Write(guard), Some(refusal)),
+            Ok(now) => Ok(now),
+            Err((session, guard, refusal)) => Err((session, Guard::Write(guard), refusal)),
         },
-        Guard::Bundle(guard) => (session, Guard::Bundle(guard), Some(Refusal::Stranger)),
+        guard => Err((session, guard, Refusal::Stranger)),
     }
 }
 
@@ -463,12 +478,12 @@ pub(crate) fn unwind(vault: &mut Vault, hand: Hand, worker: u32, slot: u32) -> (
     match stage {
         Stage::Leaving(leaver) => match guards.take(slot) {
             Some(guard) => match vault.give_back(leaver, guard) {
-                Ok(leaver) => (
+                Ok((leaver, done)) => (
                     Hand {
                         stage: Stage::Leaving(leaver),
                         guards,
                     },
-                    did(vault),
+                    did(done),
                 ),
                 Err((leaver, guard, refusal)) => {
                     put(&mut guards, guard);

@@ -1,14 +1,12 @@
 //! What a cue comes to, and how it is printed.
 
-ghost use Rattle.std.specs.Prelude.{◌≡◌, Some, IsSome};
-ghost use Rattle.pp_model.specs.declared.moves.Move.{Move};
-ghost use Rattle.pp_model.specs.declared.reply.Reply.{Reply};
+ghost use Rattle.std.specs.Prelude.{◌≡◌, Some};
 ghost use Rattle.pp_vault.specs.declared.refusal.Refusal.TheVariants.{OffPlan};
 
 use pp_model::Event;
 use pp_report::Line as JournalLine;
 use pp_script::Cue;
-use pp_vault::{Cause, Move, Refusal, Reply, Vault};
+use pp_vault::{Cause, Done, Move, Refusal, Reply};
 use std::fmt;
 
 /// What a cue comes to.
@@ -16,7 +14,7 @@ use std::fmt;
 pub enum Line {
     /// It is done: the move, and the reply. It is printed as a journal has it.
     Did(Move, Reply),
-    /// It is refused. Where the hands fit the vault, nothing has changed but what [`Vault::done`] tells.
+    /// It is refused. Where the hands fit the vault, nothing has changed.
     Refused(Cue, Refusal),
     /// The byte is written.
     Wrote,
@@ -49,15 +47,12 @@ impl fmt::Display for Printed {
     }
 }
 
-/// The line of a call of the vault that was just done.
-pub(crate) fn did(vault: &Vault) -> Line
-    requires { IsSome vault.now.last }
-    ensures { (m : Move) (r : Reply) → vault.now.last ≡ Some (m, r) → result ≡ Line.Did m r }
+/// The line of a call of the vault that is done.
+pub(crate) fn did(done: Done) -> Line
+    ensures { result ≡ Line.Did done.0 done.1 }
 {
-    match vault.done() {
-        Some((asked, reply)) => Line::Did(asked, reply),
-        None => unreachable!(),
-    }
+    let (asked, reply) = done;
+    Line::Did(asked, reply)
 }
 
 /// The line of a cue that may not be asked here.

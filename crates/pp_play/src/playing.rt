@@ -48,9 +48,9 @@ impl From<AllocError> for PlayError {
 /// `offplan stranger` where that move is possible. A cue of a device is refused with `offplan noerrand` where no errand
 /// is in the hands, and as a stranger's where the vault doesn't take the one that is there.
 ///
-/// Where the hands fit the vault, a cue that is refused changes nothing but what [`Vault::done`] tells, and the device is
-/// called once for each of its answers that a line tells, but for one that was in the hands already. An errand of another
-/// vault may be carried out before its answer is refused: then the device was called, and the answer stays in the hands.
+/// Where the hands fit the vault, a cue that is refused changes nothing, and the device is called once for each of its
+/// answers that a line tells, but for one that was in the hands already. An errand of another vault may be carried out
+/// before its answer is refused: then the device was called, and the answer stays in the hands.
 ///
 /// Where a worker's plan asks a gather, a fix plays it, and where it asks a scatter, an unfix does. A bundle's pages aren't
 /// latched through it, so a byte of a bundle is neither written nor looked at.

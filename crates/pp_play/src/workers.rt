@@ -29,12 +29,12 @@ pub(crate) fn take(vault: &mut Vault, hand: Hand, worker: u32) -> (Hand, Line)
     let Hand { stage, guards } = hand;
     match stage {
         Stage::Idle(chair) => match vault.take(chair) {
-            Ok(session) => (
+            Ok((session, done)) => (
                 Hand {
                     stage: Stage::In(session),
                     guards,
                 },
-                did(vault),
+                did(done),
             ),
             Err((chair, refusal)) => {
                 (
@@ -66,12 +66,12 @@ pub(crate) fn choose(vault: &mut Vault, hand: Hand, worker: u32, branch: u32) ->
     let Hand { stage, guards } = hand;
     match stage {
         Stage::In(session) => match vault.choose(session, branch) {
-            Ok(session) => (
+            Ok((session, done)) => (
                 Hand {
                     stage: Stage::In(session),
                     guards,
                 },
-                did(vault),
+                did(done),
             ),
             Err((session, refusal)) => {
                 (
@@ -103,12 +103,12 @@ pub(crate) fn finish(vault: &mut Vault, hand: Hand, worker: u32) -> (Hand, Line)
     let Hand { stage, guards } = hand;
     match stage {
         Stage::In(session) => match vault.finish(session) {
-            Ok(chair) => (
+            Ok((chair, done)) => (
                 Hand {
                     stage: Stage::Idle(chair),
                     guards,
                 },
-                did(vault),
+                did(done),
             ),
             Err((session, refusal)) => {
                 (
@@ -121,12 +121,12 @@ pub(crate) fn finish(vault: &mut Vault, hand: Hand, worker: u32) -> (Hand, Line)
             }
         },
         Stage::Leaving(leaver) => match vault.end(leaver) {
-            Ok(chair) => (
+            Ok((chair, done)) => (
                 Hand {
                     stage: Stage::Idle(chair),
                     guards,
                 },
-                did(vault),
+                did(done),
             ),
             Err((leaver, refusal)) => {
                 (

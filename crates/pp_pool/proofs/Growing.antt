@@ -158,16 +158,16 @@ module _ (b : Parts) (k : IsBook b) (v : vault.Parts) where
 -- ---- a request
 
 module _ (b : Parts) (k : IsBook b) (asked : Request) (v : vault.Parts)
-    (n : IsNoted b.vault (call_of b.vault asked) v) where
+    (done : Option (Move × Reply)) (n : IsNoted b.vault (call_of b.vault asked) done v) where
   abbrev call : Call
   call = call_of b.vault asked (state_of b)
 
-  pub room_in : IsSome v.last → length b.journal < b.capacity
-  room_in some = room_for b k v call (subst IsSome (n.is_told (state_of b) k.stands) some)
+  pub room_in : IsSome done → length b.journal < b.capacity
+  room_in some = room_for b k v call (subst IsSome (sym (n.is_told (state_of b) k.stands)) some)
 
-  pub event_in : (e : Option Event) → e ≡ option_map (λ (t : Move × Reply). Step t.0 t.1) v.last → e ≡ event_for b asked
+  pub event_in : (e : Option Event) → e ≡ option_map (λ (t : Move × Reply). Step t.0 t.1) done → e ≡ event_for b asked
   event_in e is =
-      is ∙ ap (option_map (λ (t : Move × Reply). Step t.0 t.1)) (n.is_told (state_of b) k.stands)
+      is ∙ ap (option_map (λ (t : Move × Reply). Step t.0 t.1)) (sym (n.is_told (state_of b) k.stands))
 
   leads_in : Leads (with_event b v (event_for b asked)) (after_call (state_of b) call)
   leads_in = leads_after b k v call (n.stands (state_of b) k.stands)
@@ -185,10 +185,10 @@ after_plans s (asks m) = same_plans s m
 pub book_headline : (b : Parts) → IsBook b → HeadlineHolds b
 book_headline b k = headline b.vault (state_of b) k.stands
 
--- The book after a request, where the event that the vault tells has come behind the others.
+-- The book after a request, where the event of what is told has come behind the others.
 module _ (b : Parts) (k : IsBook b) (asked : Request) (v : vault.Parts)
-    (n : IsNoted b.vault (call_of b.vault asked) v) (e : Option Event)
-    (is : e ≡ option_map (λ (t : Move × Reply). Step t.0 t.1) v.last)
+    (done : Option (Move × Reply)) (n : IsNoted b.vault (call_of b.vault asked) done v) (e : Option Event)
+    (is : e ≡ option_map (λ (t : Move × Reply). Step t.0 t.1) done)
     (journal : List Event) (grows : journal ≡ b.journal ++ events_in e)
     (capacity : ℕ) (same : capacity ≡ b.capacity) where
   abbrev pub book_then : Parts
@@ -201,8 +201,8 @@ module _ (b : Parts) (k : IsBook b) (asked : Request) (v : vault.Parts)
   leads_then =
       subst (λ c. Leads (record b { vault = v; journal = journal; capacity = c }) state_then) (sym same)
       (subst (λ es. Leads (record b { vault = v; journal = es }) state_then) (sym grows)
-      (subst (λ (x : Option Event). Leads (with_event b v x) state_then) (sym (event_in b k asked v n e is))
-      (leads_in b k asked v n)))
+      (subst (λ (x : Option Event). Leads (with_event b v x) state_then) (sym (event_in b k asked v done n e is))
+      (leads_in b k asked v done n)))
 
   pub performed : IsBook book_then
   performed = book_is book_then state_then leads_then

@@ -19,7 +19,7 @@ use Rattle.pp_pool.specs.declared.response.BookAnswer.TheVariants.{Opened, Joine
 use Rattle.pp_pool.specs.Parts.{Parts, state_of}
 use Rattle.pp_pool.specs.Books.{IsBook}
 use Rattle.pp_pool.specs.Requests.{call_of, event_for}
-use Rattle.pp_pool.specs.Performing.{ComesTo, DoesUnless, is_no}
+use Rattle.pp_pool.specs.Performing.{ComesTo, DoesUnless, TellsOf, is_no}
 use Rattle.pp_pool.specs.Replies.{IsEventOf, TokensFit, Replies}
 use Rattle.pp_pool.proofs.Noted.{noted, refused_call}
 use Rattle.pp_pool.proofs.Growing.{event_in}
@@ -77,12 +77,12 @@ some_mapped None = refl
 some_mapped (Some t) = refl
 
 pub replies : (b : Parts) (k : IsBook b) (asked : Request) (out : BookAnswer) (v : vault.Parts)
-    → ComesTo b.vault asked out v → DoesUnless b.vault asked out v → (e : Option Event)
-    → e ≡ option_map (λ (t : Move × Reply). Step t.0 t.1) v.last → TokensFit asked out
-    → Replies asked (record { event = e; answer = out })
-replies b k asked out v h d e is fit =
+    → ComesTo b.vault asked out v → DoesUnless b.vault asked out v → (done : Option (Move × Reply))
+    → TellsOf b.vault asked out done → (e : Option Event) → e ≡ option_map (λ (t : Move × Reply). Step t.0 t.1) done
+    → TokensFit asked out → Replies asked (record { event = e; answer = out })
+replies b k asked out v h d did tells e is fit =
     let s = state_of b in
-    let here : e ≡ event_for b asked = event_in b k asked v (noted b.vault v asked out h d) e is in
+    let here : e ≡ event_for b asked = event_in b k asked v did (noted b.vault v asked out did h d tells) e is in
     record {
       done =
           ap is_some here ∙ some_mapped (told s (call_of b.vault asked s))

@@ -1,15 +1,18 @@
 -- Whose tokens an answer gives.
 use Rattle.std.proofs.Common.{◌≡◌, ◌∙◌, ◌≤◌, ℕ, Bool, List, length, Some, None, refl, sym, ap, subst}
+use Rattle.std.specs.Prelude.{is_ok}
 use Rattle.pp_vault.specs.declared.tokens.Duty.{Duty}
 use Rattle.pp_vault.specs.declared.tokens.Duty.TheVariants.{Read, Write, Flush}
 use Rattle.pp_vault.specs.declared.tokens.Errand.{Errand}
 use Rattle.pp_vault.specs.declared.tokens.Leaver.{Leaver}
+use Rattle.pp_vault.specs.declared.tokens.Returned.{Returned}
 use Rattle.pp_vault.specs.declared.tokens.Session.{Session}
 use Rattle.pp_vault.specs.declared.guards.PinGuard.{PinGuard}
 use Rattle.pp_vault.specs.declared.guards.BundleGuard.{BundleGuard}
 use Rattle.pp_vault.specs.declared.guards.WriteGuard.{WriteGuard}
 use Rattle.pp_vault.specs.declared.guards.Guard.{Guard}
 use Rattle.pp_vault.specs.declared.guards.Guard.TheVariants as guard
+use Rattle.pp_vault.specs.declared.answering.Answered.{Answered}
 use Rattle.pp_vault.specs.declared.answering.Answered.TheVariants as answered
 use Rattle.pp_vault.specs.Parts.{Parts}
 use Rattle.pp_vault.specs.StandsFor.{IsKept}
@@ -18,7 +21,7 @@ use Rattle.pp_vault.specs.Duties.{duty_worker, duty_slot}
 use Rattle.pp_vault.specs.Fixes.{IsSent}
 use Rattle.pp_vault.specs.Events.{Does}
 use Rattle.pp_vault.specs.Leaves.{GivesBack, give_back_call}
-use Rattle.pp_vault.specs.Answers.{DutyEnds, duty_call}
+use Rattle.pp_vault.specs.Answers.{DutyEnds, duty_call, AnswerComesTo, answer_call}
 
 pub sent_worker : (old new : Parts) (w page : ℕ) (image : List ℕ) (d : Duty) → IsSent old new w page image d
     → duty_worker d ≡ Some w
@@ -45,6 +48,32 @@ back_does old new x (guard.Read g) y h = h.still.does
 back_does old new x (guard.Write g) y h = h.still.does
 back_does old new x (guard.Bundle g) y h = h.still.does
 
+-- What the answer of a device does.
+ends_does : (old new : Parts) (d : Duty) (image : List ℕ) (ok : Bool) (out : Answered) → DutyEnds old d image ok out new
+    → Does old (duty_call old.page_bytes d image ok) new
+ends_does old new (Read w slot page) image ok (answered.Got x g) h = h.0
+ends_does old new (Read w slot page) image ok (answered.Opened x g) h = h.0
+ends_does old new (Read w slot page) image ok (answered.Joined x) h = h.0
+ends_does old new (Read w slot page) image ok (answered.Lost x) h = h.0
+ends_does old new (Read w slot page) image ok (answered.Away errand) h = absurd h
+ends_does old new (Read w slot page) image ok (answered.Flushed clean) h = absurd h
+ends_does old new (Write w slot page victim) image ok (answered.Away errand) h = h.1
+ends_does old new (Write w slot page victim) image ok (answered.Lost x) h = h.1
+ends_does old new (Write w slot page victim) image ok (answered.Got x g) h = absurd h
+ends_does old new (Write w slot page victim) image ok (answered.Opened x g) h = absurd h
+ends_does old new (Write w slot page victim) image ok (answered.Joined x) h = absurd h
+ends_does old new (Write w slot page victim) image ok (answered.Flushed clean) h = absurd h
+ends_does old new (Flush page) image ok (answered.Flushed clean) h = h.does
+ends_does old new (Flush page) image ok (answered.Got x g) h = absurd h
+ends_does old new (Flush page) image ok (answered.Opened x g) h = absurd h
+ends_does old new (Flush page) image ok (answered.Joined x) h = absurd h
+ends_does old new (Flush page) image ok (answered.Away errand) h = absurd h
+ends_does old new (Flush page) image ok (answered.Lost x) h = absurd h
+
+pub answer_does : (old new : Parts) (returned : Returned) (out : Answered) → AnswerComesTo old returned out new
+    → Does old (answer_call old.page_bytes returned) new
+answer_does old new returned out h = ends_does old new returned.duty returned.image (is_ok returned.answer) out h
+
 pub no_slot : (d : Duty) → duty_worker d ≡ None → duty_slot d ≡ None
 no_slot (Read w slot page) e = cc
 no_slot (Write w slot page victim) e = cc
@@ -64,12 +93,6 @@ module _ (old new : Parts) (image : List ℕ) (ok : Bool) where
   got_guard (Write w slot page victim) x g h = absurd h
   got_guard (Flush page) x g h = absurd h
 
-  pub got_does : (d : Duty) (x : Session) (g : PinGuard) → DutyEnds old d image ok (answered.Got x g) new
-      → Does old (duty_call old.page_bytes d image ok) new
-  got_does (Read w slot page) x g h = h.0
-  got_does (Write w slot page victim) x g h = absurd h
-  got_does (Flush page) x g h = absurd h
-
   pub got_slot : (d : Duty) (x : Session) (g : PinGuard) → DutyEnds old d image ok (answered.Got x g) new
       → duty_slot d ≡ Some g.slot
   got_slot (Read w slot page) x g h = ap Some (sym h.1.of_slot)
@@ -88,12 +111,6 @@ module _ (old new : Parts) (image : List ℕ) (ok : Bool) where
   opened_guard (Write w slot page victim) x g h = absurd h
   opened_guard (Flush page) x g h = absurd h
 
-  pub opened_does : (d : Duty) (x : Session) (g : BundleGuard) → DutyEnds old d image ok (answered.Opened x g) new
-      → Does old (duty_call old.page_bytes d image ok) new
-  opened_does (Read w slot page) x g h = h.0
-  opened_does (Write w slot page victim) x g h = absurd h
-  opened_does (Flush page) x g h = absurd h
-
   pub opened_slot : (d : Duty) (x : Session) (g : BundleGuard) → DutyEnds old d image ok (answered.Opened x g) new
       → duty_slot d ≡ Some g.slot
   opened_slot (Read w slot page) x g h = ap Some (sym h.1.of_slot)
@@ -106,23 +123,11 @@ module _ (old new : Parts) (image : List ℕ) (ok : Bool) where
   joined_worker (Write w slot page victim) x h = absurd h
   joined_worker (Flush page) x h = absurd h
 
-  pub joined_does : (d : Duty) (x : Session) → DutyEnds old d image ok (answered.Joined x) new
-      → Does old (duty_call old.page_bytes d image ok) new
-  joined_does (Read w slot page) x h = h.0
-  joined_does (Write w slot page victim) x h = absurd h
-  joined_does (Flush page) x h = absurd h
-
   pub away_worker : (d : Duty) (errand : Errand) → DutyEnds old d image ok (answered.Away errand) new
       → duty_worker errand.duty ≡ duty_worker d
   away_worker (Read w slot page) errand h = absurd h
   away_worker (Write w slot page victim) errand h = ap duty_worker h.2.duty
   away_worker (Flush page) errand h = absurd h
-
-  pub away_does : (d : Duty) (errand : Errand) → DutyEnds old d image ok (answered.Away errand) new
-      → Does old (duty_call old.page_bytes d image ok) new
-  away_does (Read w slot page) errand h = absurd h
-  away_does (Write w slot page victim) errand h = h.1
-  away_does (Flush page) errand h = absurd h
 
   pub away_slot : (d : Duty) (errand : Errand) → DutyEnds old d image ok (answered.Away errand) new
       → duty_slot errand.duty ≡ duty_slot d
@@ -135,12 +140,6 @@ module _ (old new : Parts) (image : List ℕ) (ok : Bool) where
   lost_worker (Read w slot page) x h = ap Some (sym h.1.worker)
   lost_worker (Write w slot page victim) x h = ap Some (sym h.2.worker)
   lost_worker (Flush page) x h = absurd h
-
-  pub lost_does : (d : Duty) (x : Leaver) → DutyEnds old d image ok (answered.Lost x) new
-      → Does old (duty_call old.page_bytes d image ok) new
-  lost_does (Read w slot page) x h = h.0
-  lost_does (Write w slot page victim) x h = h.1
-  lost_does (Flush page) x h = absurd h
 
   pub flushed_worker : (d : Duty) (clean : Bool) → DutyEnds old d image ok (answered.Flushed clean) new
       → duty_worker d ≡ None

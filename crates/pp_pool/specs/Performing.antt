@@ -1,5 +1,7 @@
 -- What a request is answered, and what it does to the vault.
-use Rattle.std.specs.Prelude.{◌≡◌, ℕ, Bool, true, false}
+use Rattle.std.specs.Prelude.{◌≡◌, ℕ, Bool, true, false, Option, None, Some}
+use Rattle.pp_model.specs.declared.moves.Move.{Move}
+use Rattle.pp_model.specs.declared.reply.Reply.{Reply}
 use Rattle.pp_vault.specs.declared.fixing.Fixed.TheVariants as fixed
 use Rattle.pp_vault.specs.declared.answering.Answered.TheVariants as answered
 use Rattle.pp_vault.specs.declared.tokens.Chair.{Chair}
@@ -7,7 +9,7 @@ use Rattle.pp_vault.specs.declared.tokens.Session.{Session}
 use Rattle.pp_vault.specs.declared.tokens.Errand.{Errand}
 use Rattle.pp_vault.specs.declared.refusal.Refusal.{Refusal}
 use Rattle.pp_vault.specs.Parts.{Parts}
-use Rattle.pp_vault.specs.Events.{Refuses, Does, untold}
+use Rattle.pp_vault.specs.Events.{Refuses, Does, Tells}
 use Rattle.pp_vault.specs.Tokens.{SessionFits, HoldsNothing, ErrandFits}
 use Rattle.pp_vault.specs.ImageMoves.{ImagesStay}
 use Rattle.pp_vault.specs.Fixes.{FixAnswers}
@@ -51,7 +53,7 @@ pub record FlushesNext (old : Parts) (number : ℕ) (errand : Errand) (new : Par
 pub record Declines (old : Parts) (asked back : Request) (refusal : Refusal) (new : Parts) : Type 0 where
   pub same : back ≡ asked
   pub refuses : Refuses old (call_of old asked) refusal
-  pub unchanged : new ≡ untold old
+  pub unchanged : new ≡ old
 
 -- What a request is answered and does, as the vault's calls say it; no answer of another kind comes.
 abbrev pub ComesTo : (old : Parts) → Request → BookAnswer → (new : Parts) → Type 0
@@ -94,3 +96,8 @@ is_no _ = false
 -- Where the answer is no refusal, the request's call is done.
 abbrev pub DoesUnless : (old : Parts) → Request → BookAnswer → (new : Parts) → Type 0
 DoesUnless old asked out new = is_no out ≡ false → Does old (call_of old asked) new
+
+-- What is told beside the answer: nothing where it is a refusal, and else the call's move and its reply.
+abbrev pub TellsOf : (old : Parts) → Request → BookAnswer → Option (Move × Reply) → Type 0
+TellsOf old asked out None = is_no out ≡ true
+TellsOf old asked out (Some done) = Tells old (call_of old asked) done

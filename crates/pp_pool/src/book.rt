@@ -25,7 +25,7 @@ use crate::request::Request;
 use crate::response::Response;
 use pp_model::{Event, SubmitError, Turn};
 use pp_settings::Settings;
-use pp_vault::{Accepted, Hands, PlanId, ReadGuard, Vault, VaultError};
+use pp_vault::{Accepted, Done, Hands, PlanId, ReadGuard, Vault, VaultError};
 use std::alloc::Global;
 use std::marker::Model;
 
@@ -180,8 +180,8 @@ impl Book {
         ensures kept { IsBook self.new }
         ensures headline { HeadlineHolds self.new }
     {
-        let answer = ask(&mut self.vault, request);
-        let event = noted(&self.vault, &mut self.journal);
+        let (answer, done) = ask(&mut self.vault, request);
+        let event = noted(done, &mut self.journal);
         Response { event, answer }
     }
 
@@ -254,14 +254,14 @@ impl Book {
     }
 }
 
-/// Adds the move that the vault did last to the journal, with its reply, where its last call was a move.
-fn noted(vault: &Vault, journal: &mut Vec<Event>) -> Option<Event>
-    requires { IsSome vault.now.last → length journal.old.items < vec_capacity journal.old }
-    ensures event { result ≡ option_map (λ t. Step t.0 t.1) vault.now.last }
+/// Adds what the vault did to the journal, its move with the reply, where it did one.
+fn noted(done: Option<Done>, journal: &mut Vec<Event>) -> Option<Event>
+    requires { IsSome done → length journal.old.items < vec_capacity journal.old }
+    ensures event { result ≡ option_map (λ t. Step t.0 t.1) done }
     ensures journal { journal.new.items ≡ journal.old.items ++ events_in result }
     ensures memory { vec_capacity journal.new ≡ vec_capacity journal.old }
 {
-    let (did, reply) = vault.done()?;
+    let (did, reply) = done?;
     let event = Event::Step { did, reply };
     journal.push_reserved(event);
     Some(event)

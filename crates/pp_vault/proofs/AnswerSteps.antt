@@ -66,7 +66,7 @@ module _ (old mid : Parts) (page : ℕ) (image : List ℕ) (ok clean : Bool) (r 
   flush_is =
       record {
         does = does old (record mid { spare = Some image }) (flushed_call old.page_bytes page image ok) (FlushDone ok) r
-            did.moves did.done (ap (λ (p : Parts). p.last) did.rest) (ap (λ (p : Parts). p.page_bytes) did.rest) calls
+            did.moves did.done (ap (λ (p : Parts). p.page_bytes) did.rest) calls
             back_fits;
         replies = answer;
         images = ap (λ (p : Parts). p.images) did.rest;

@@ -73,7 +73,7 @@ module _ (old mid : Parts) (w : ℕ) (m : Move) (of : worker_of m ≡ Some w) (c
 
     pub stay_does : Does old call mid
     stay_does =
-        does old mid call m r did.moves did.done (ap (λ (p : Parts). p.last) did.rest)
+        does old mid call m r did.moves did.done
         (ap (λ (p : Parts). p.page_bytes) did.rest) calls stay_fits
 
     pub stay : ImagesStay old mid
@@ -100,7 +100,7 @@ module _ (old mid : Parts) (w : ℕ) (m : Move) (of : worker_of m ≡ Some w) (c
         (ready : (s : State) → StandsFor old s → (p : ℕ) (x : Standing) → ready_at (next s) p ≡ Some x
         → ((ready_at s p ≡ Some x) × (x.frame ≢ frame)) ⊎ ((x.frame ≡ frame) × (head_of image ≡ (p, x.mark))))
         (new : Parts) (rest : new ≡ record mid { images = slice_set mid.images frame (Some image) }) where
-      whole : new ≡ record old { core = mid.core; last = Some (m, r); images = slice_set old.images frame (Some image) }
+      whole : new ≡ record old { core = mid.core; images = slice_set old.images frame (Some image) }
       whole = rest ∙ ap (λ (p : Parts). record p { images = slice_set p.images frame (Some image) }) did.rest
 
       core_is : new.core ≡ mid.core
@@ -117,8 +117,7 @@ module _ (old mid : Parts) (w : ℕ) (m : Move) (of : worker_of m ≡ Some w) (c
 
       pub in_does : Does old call new
       in_does =
-          does old new call m r (subst (λ c. core.Moves old.core m r c) (sym core_is) did.moves) did.done
-          (ap (λ (p : Parts). p.last) whole) (ap (λ (p : Parts). p.page_bytes) whole) calls in_fits
+          does old new call m r (subst (λ c. core.Moves old.core m r c) (sym core_is) did.moves) did.done (ap (λ (p : Parts). p.page_bytes) whole) calls in_fits
 
       pub put_in : (s : State) → StandsFor old s → PutIn old new frame image
       put_in s st =

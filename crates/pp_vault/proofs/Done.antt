@@ -1,5 +1,5 @@
 -- Calls that are done, and calls that are refused.
-use Rattle.std.proofs.Common.{◌≡◌, ◌∙◌, false, not, Some, None, refl, sym, ap, subst}
+use Rattle.std.proofs.Common.{◌≡◌, ◌∙◌, Bool, true, false, not, Some, None, refl, sym, ap, subst}
 use Rattle.std.specs.Prelude.{if◌then◌else◌}
 use Rattle.std.proofs.lemmas.Bool.{false≢true}
 use Rattle.pp_model.specs.declared.moves.Move.{Move}
@@ -11,9 +11,11 @@ use Rattle.pp_core.specs.StandsFor as core
 use Rattle.pp_vault.specs.declared.refusal.Refusal.{Refusal}
 use Rattle.pp_vault.specs.Parts.{Parts}
 use Rattle.pp_vault.specs.StandsFor.{StandsFor, ImagesFit}
-use Rattle.pp_vault.specs.Calls.{Call, asks, refusal_in, refusal_of, after_call, told}
-use Rattle.pp_vault.specs.Steps.{Refused}
-use Rattle.pp_vault.specs.Events.{Refuses, Does}
+use Rattle.pp_vault.specs.Calls.{Call, asks, stranger, refusal_in, refusal_of, after_call, told}
+use Rattle.pp_vault.specs.Fits.{guard_call}
+use Rattle.pp_vault.specs.Steps.{Stepped, Refused}
+use Rattle.pp_vault.specs.Events.{Refuses, Does, Tells}
+use Rattle.pp_vault.proofs.FitTests.{guard_asks}
 
 -- A reply that is no refusal gives none.
 pub not_refused : (r : Reply) → is_refusal r ≡ false → refusal_in r ≡ None
@@ -34,7 +36,7 @@ not_refused (reply.OffPlan cause) e = absurd (false≢true (sym e))
 
 module _ (old new : Parts) (call : State → Call) (m : Move) (r : Reply)
     (moves : core.Moves old.core m r new.core) (done : is_refusal r ≡ false)
-    (last : new.last ≡ Some (m, r)) (bytes : new.page_bytes ≡ old.page_bytes)
+    (bytes : new.page_bytes ≡ old.page_bytes)
     (calls : (s : State) → StandsFor old s → call s ≡ asks m)
     (fits : (s : State) → StandsFor old s → ImagesFit new.page_bytes new.images new.spare (next_of s m)) where
   answers : (s : State) → StandsFor old s → reply_of s m ≡ r
@@ -48,15 +50,32 @@ module _ (old new : Parts) (call : State → Call) (m : Move) (r : Reply)
         stands = λ s st.
             subst (StandsFor new) (sym (ap (after_call s) (calls s st)))
             (record { core = moves.stands s st.core; images = fits s st });
-        is_told = λ s st.
-            last
-            ∙ sym (
-            ap (told s) (calls s st)
-            ∙ ap (λ x. if not (is_refusal x) then Some (m, x) else None) (answers s st)
-            ∙ ap (λ b. if not b then Some (m, r) else None) done
-            );
         page_bytes = bytes;
       }
+
+-- ---- what is answered
+
+module _ (old new : Parts) (m : Move) (r : Reply) (did : Stepped old new m r) where
+  -- A call that is this move.
+  pub tells : (call : State → Call) → ((s : State) → StandsFor old s → call s ≡ asks m) → Tells old call (m, r)
+  tells call calls s st =
+      ap (told s) (calls s st)
+      ∙ ap (λ x. if not (is_refusal x) then Some (m, x) else None) (sym (did.moves.replies s st.core))
+      ∙ ap (λ b. if not b then Some (m, r) else None) did.done
+
+  -- One that a test allows.
+  pub tells_tested : (test : State → Bool) → ((s : State) → StandsFor old s → test s ≡ true)
+      → Tells old (λ s. if test s then asks m else stranger) (m, r)
+  tells_tested test pass =
+      tells (λ s. if test s then asks m else stranger)
+      (λ s st. ap (λ b. if b then asks m else stranger) (pass s st))
+
+  -- One with a guard that fits, for which the plan asks.
+  pub tells_asked : (fits asked : State → Bool) → ((s : State) → StandsFor old s → fits s ≡ true)
+      → ((s : State) → StandsFor old s → asked s ≡ true) → Tells old (λ s. guard_call (fits s) (asked s) (asks m)) (m, r)
+  tells_asked fits asked fit wanted =
+      tells (λ s. guard_call (fits s) (asked s) (asks m))
+      (λ s st. guard_asks (fits s) (asked s) (asks m) (fit s st) (wanted s st))
 
 -- ---- refused
 

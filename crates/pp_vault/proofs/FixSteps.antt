@@ -6,7 +6,6 @@ use Rattle.std.specs.Option.{is_some}
 use Rattle.std.proofs.lemmas.Bool.{false≢true}
 use Rattle.pp_plan.specs.declared.action.Ask.{Ask}
 use Rattle.pp_plan.specs.declared.action.Ask.TheVariants as ask
-use Rattle.pp_cert.specs.declared.note.Held.TheVariants.{Free}
 use Rattle.pp_model.specs.declared.moves.Move.TheVariants.{Fix}
 use Rattle.pp_model.specs.declared.reply.Reply.{Reply}
 use Rattle.pp_model.specs.declared.reply.Reply.TheVariants as reply
@@ -21,7 +20,7 @@ use Rattle.pp_model.proofs.Alone.{settings_stay, flush_stays}
 use Rattle.pp_model.proofs.ReadyLaws.{still_keeps, ready_are_apart, ready_stand, read_vacates, write_leaves}
 use Rattle.pp_model.proofs.Requests.{same, other, which}
 use Rattle.pp_core.specs.StandsFor as core
-use Rattle.pp_core.specs.Queries.{ask_of, held_of, bundle_of, gathered_of, errand_of}
+use Rattle.pp_core.specs.Queries.{ask_of, bundle_of, gathered_of, errand_of}
 use Rattle.pp_core.specs.AfterMoves.{AfterMoves, HasFixed, HasGathered, wanted_of}
 use Rattle.pp_core.specs.Fixing.{wanted}
 use Rattle.pp_core.proofs.AfterMoves.{after_moves}
@@ -36,11 +35,11 @@ use Rattle.pp_vault.specs.Calls.{asks, stranger, refusal_of}
 use Rattle.pp_vault.specs.Fits.{is_acting_by, is_gathered, fix_slot, names_slot, asked_at, fix_call}
 use Rattle.pp_vault.specs.ImageMoves.{TakenOut, ImagesStay}
 use Rattle.pp_vault.specs.Steps.{Stepped}
-use Rattle.pp_vault.specs.Events.{Refuses, Does}
+use Rattle.pp_vault.specs.Events.{Refuses, Does, Tells}
 use Rattle.pp_vault.specs.Tokens.{ActsIn, SessionFits, ErrandFits}
 use Rattle.pp_vault.specs.Fixes.{Gathers, IsHit, OpensBundle, JoinsBundle, IsSent}
 use Rattle.pp_vault.proofs.Images.{fit_stays, fit_out}
-use Rattle.pp_vault.proofs.Done.{does}
+use Rattle.pp_vault.proofs.Done.{does, tells}
 use Rattle.pp_vault.proofs.FitTests.{nat_is, none_some, some_some, some_pins, empty_by, page_gathered}
 
 pub acts_by : (o : Option Ask) → IsSome o → is_acting_by o ≡ true
@@ -215,6 +214,9 @@ module _ (old mid : Parts) (w slot page : ℕ) (r : Reply) (did : Stepped old mi
   calls : (s : State) → StandsFor old s → fix_call w slot page s ≡ asks (Fix w page)
   calls s st = ap (λ b. if b then asks (Fix w page) else stranger) (names s st)
 
+  pub fix_tells : Tells old (fix_call w slot page) (Fix w page, r)
+  fix_tells = tells old mid (Fix w page) r did (fix_call w slot page) calls
+
   frames : (s : State) → StandsFor old s → (next s).settings.layout.frames ≡ s.settings.layout.frames
   frames s st = ap (λ k. k.layout.frames) (settings_stay s (Fix w page))
 
@@ -239,7 +241,7 @@ module _ (old mid : Parts) (w slot page : ℕ) (r : Reply) (did : Stepped old mi
 
     pub hit_does : Does old (fix_call w slot page) mid
     hit_does =
-        does old mid (fix_call w slot page) (Fix w page) r did.moves did.done (ap (λ (p : Parts). p.last) did.rest)
+        does old mid (fix_call w slot page) (Fix w page) r did.moves did.done
         (ap (λ (p : Parts). p.page_bytes) did.rest) calls hit_fits
 
     pub hit_kept : IsKept old → IsKept mid
@@ -386,7 +388,7 @@ module _ (old mid : Parts) (w slot page : ℕ) (r : Reply) (did : Stepped old mi
 
     module _ (new : Parts) (image : List ℕ) (was : image_in mid.images frame ≡ Some image)
         (rest : new ≡ record mid { images = slice_set mid.images frame None }) where
-      whole : new ≡ record old { core = mid.core; last = Some (Fix w page, r); images = slice_set old.images frame None }
+      whole : new ≡ record old { core = mid.core; images = slice_set old.images frame None }
       whole = rest ∙ ap (λ (p : Parts). record p { images = slice_set p.images frame None }) did.rest
 
       core_is : new.core ≡ mid.core
@@ -408,8 +410,7 @@ module _ (old mid : Parts) (w slot page : ℕ) (r : Reply) (did : Stepped old mi
       out_does : Does old (fix_call w slot page) new
       out_does =
           does old new (fix_call w slot page) (Fix w page) r
-          (subst (λ c. core.Moves old.core (Fix w page) r c) (sym core_is) did.moves) did.done
-          (ap (λ (p : Parts). p.last) whole) (ap (λ (p : Parts). p.page_bytes) whole) calls out_fits
+          (subst (λ c. core.Moves old.core (Fix w page) r c) (sym core_is) did.moves) did.done (ap (λ (p : Parts). p.page_bytes) whole) calls out_fits
 
       out : TakenOut old new frame image
       out =

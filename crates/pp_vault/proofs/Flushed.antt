@@ -4,6 +4,7 @@ use Rattle.std.specs.Prelude.{unwrap_or, option_map, IsSome, IfOk}
 use Rattle.std.specs.Option.{is_some}
 use Rattle.std.proofs.lemmas.Bool.{false≢true}
 use Rattle.pp_model.specs.declared.moves.Move.TheVariants.{FlushBegin}
+use Rattle.pp_model.specs.declared.moves.Move.{Move}
 use Rattle.pp_model.specs.declared.reply.Reply.{Reply}
 use Rattle.pp_model.specs.declared.reply.Reply.TheVariants as reply
 use Rattle.pp_frames.specs.Marks.{dirty_from}
@@ -24,7 +25,7 @@ use Rattle.pp_vault.specs.declared.tokens.Errand.{Errand}
 use Rattle.pp_vault.specs.Parts.{Parts}
 use Rattle.pp_vault.specs.StandsFor.{StandsFor, IsKept, IsRight, ImagesFit, image_in}
 use Rattle.pp_vault.specs.Steps.{Stepped}
-use Rattle.pp_vault.specs.Events.{Does}
+use Rattle.pp_vault.specs.Events.{Does, Tells}
 use Rattle.pp_vault.specs.Tokens.{ErrandFits, IsOut, IsHeaded}
 use Rattle.pp_vault.specs.Flushes.{flush_call, flush_if, next_call, IsImageOf, CanCopy, CopiesOut}
 use Rattle.pp_vault.proofs.Done.{does}
@@ -175,7 +176,7 @@ module _ (old mid : Parts) (page : ℕ) (r : Reply) (kept : IsKept old) (step : 
           spare = ap (λ (v : Parts). v.spare) rest;
         }
 
-    all : new ≡ record old { core = mid.core; last = Some (FlushBegin page, r); spare = None }
+    all : new ≡ record old { core = mid.core; spare = None }
     all = rest ∙ ap (λ (v : Parts). record v { spare = None }) step.rest
 
     fits : (s : State) → StandsFor old s
@@ -193,7 +194,7 @@ module _ (old mid : Parts) (page : ℕ) (r : Reply) (kept : IsKept old) (step : 
 
     pub flush_does : Does old (flush_call page) new
     flush_does =
-        does old new (flush_call page) (FlushBegin page) r moves step.done (ap (λ (v : Parts). v.last) all)
+        does old new (flush_call page) (FlushBegin page) r moves step.done
         (ap (λ (v : Parts). v.page_bytes) all) (λ s st. refl) fits
 
     flushed : (u : State) → StandsFor new u → flushed_page u ≡ Some page
@@ -224,9 +225,19 @@ next_does old new n page found does =
     record {
       allowed = λ s st. sym (ap (refusal_of s) (next_is old n page found s st)) ∙ does.allowed s st;
       stands = λ s st. subst (λ c. StandsFor new (after_call s c)) (next_is old n page found s st) (does.stands s st);
-      is_told = λ s st. does.is_told s st ∙ ap (told_of s) (next_is old n page found s st);
       page_bytes = does.page_bytes;
     }
+
+next_tells : (v : Parts) (n page : ℕ) (done : Move × Reply)
+    → ((s : State) → StandsFor v s → dirty_from (marks s) n ≡ Some page) → Tells v (flush_call page) done
+    → Tells v (next_call n) done
+next_tells v n page done found told s st = sym (ap (told_of s) (next_is v n page found s st)) ∙ told s st
+
+pub next_told : {A E : Type 0} (v : Parts) (n page : ℕ) (r : Result (A × (Move × Reply)) E)
+    → ((s : State) → StandsFor v s → dirty_from (marks s) n ≡ Some page)
+    → IfOk r (λ now. Tells v (flush_call page) now.1) → IfOk r (λ now. Tells v (next_call n) now.1)
+next_told v n page (Ok now) found told = next_tells v n page now.1 found told
+next_told v n page (Err e) found told = told
 
 pub next_ok : {A E : Type 0} (old new : Parts) (n page : ℕ) (r : Result A E)
     → ((s : State) → StandsFor old s → dirty_from (marks s) n ≡ Some page)

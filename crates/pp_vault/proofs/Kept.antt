@@ -10,7 +10,7 @@ use Rattle.pp_vault.specs.Parts.{Parts}
 use Rattle.pp_vault.specs.StandsFor.{StandsFor, IsKept, IsRight}
 use Rattle.pp_vault.specs.Headline.{ReadyFramesAreRight, HeadlineHolds}
 use Rattle.pp_vault.specs.Calls.{Call, after_call}
-use Rattle.pp_vault.specs.Events.{Does, untold}
+use Rattle.pp_vault.specs.Events.{Does}
 
 -- Where a page stands that is ready.
 known_standing : (o : Option Standing) → IsSome o → (x : Standing) × (o ≡ Some x)
@@ -43,17 +43,13 @@ pub kept_after : (old new : Parts) (call : State → Call) → IsKept old → Do
 kept_after old new call k d =
     record { state = after_call k.state (call k.state); stands = d.stands k.state k.stands }
 
-pub kept_untold : (old : Parts) → IsKept old → IsKept (untold old)
-kept_untold old k =
-    record { state = k.state; stands = record { core = k.stands.core; images = k.stands.images } }
-
 pub kept_by : {A E : Type 0} (old new : Parts) (call : State → Call) (r : Result A E) → IsKept old
-    → IfOk r (λ _. Does old call new) → OnErr r (new ≡ untold old) → IsKept new
+    → IfOk r (λ _. Does old call new) → OnErr r (new ≡ old) → IsKept new
 kept_by old new call (Ok x) k does same = kept_after old new call k does
-kept_by old new call (Err e) k does same = subst IsKept (sym same) (kept_untold old k)
+kept_by old new call (Err e) k does same = subst IsKept (sym same) k
 
 -- The same, where what the call ensures of a value says that it is done.
 pub kept_where : {A E : Type 0} (old new : Parts) (call : State → Call) (P : A → Type 0) (r : Result A E)
-    → ((a : A) → P a → Does old call new) → IfOk r P → OnErr r (new ≡ untold old) → IsKept old → IsKept new
+    → ((a : A) → P a → Does old call new) → IfOk r P → OnErr r (new ≡ old) → IsKept old → IsKept new
 kept_where old new call P (Ok a) does ok same k = kept_after old new call k (does a ok)
-kept_where old new call P (Err e) does ok same k = subst IsKept (sym same) (kept_untold old k)
+kept_where old new call P (Err e) does ok same k = subst IsKept (sym same) k

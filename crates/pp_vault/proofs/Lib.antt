@@ -2,7 +2,7 @@ pub mod Images
 pub mod CoreSteps
 pub mod Done
 pub mod FixSteps
-pub mod FixKept
+pub mod FixDone
 pub mod DutyEnds
 pub mod Looked
 pub mod AnswerSteps

@@ -97,5 +97,5 @@ module _ (old new : Parts) (call : State → Call) (m : Move) (r : Reply) (w : �
 
   pub plain : Does old call new
   plain =
-      does old new call m r step.moves step.done (ap (λ (v : Parts). v.last) step.rest)
+      does old new call m r step.moves step.done
       (ap (λ (v : Parts). v.page_bytes) step.rest) calls fits

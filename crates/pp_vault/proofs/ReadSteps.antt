@@ -31,14 +31,15 @@ use Rattle.pp_vault.specs.Calls.{Call, asks, stranger}
 use Rattle.pp_vault.specs.Fits.{is_acting_by, is_gathered}
 use Rattle.pp_vault.specs.Steps.{Stepped}
 use Rattle.pp_vault.specs.ImageMoves.{PutIn}
-use Rattle.pp_vault.specs.Events.{Does}
+use Rattle.pp_vault.specs.Events.{Does, Tells}
+use Rattle.pp_vault.proofs.Done.{tells}
 use Rattle.pp_vault.specs.Tokens.{ActsIn, SessionFits}
 use Rattle.pp_vault.specs.Fixes.{Gathers}
 use Rattle.pp_vault.specs.Answers.{came_of, is_of_read, is_read_out, read_call, IsRead, IsReadFirst, IsReadFurther, IsUnread}
 use Rattle.pp_vault.proofs.ErrandSteps.{IsReading, is_reading, entered, returned}
 use Rattle.pp_vault.proofs.FitTests.{none_some, some_some, some_pins, empty_by, page_gathered}
 use Rattle.pp_vault.proofs.FixSteps.{acts_by}
-use Rattle.pp_vault.proofs.FixKept.{done_keeps}
+use Rattle.pp_vault.proofs.Kept as kept
 use Rattle.pp_vault.proofs.WriteSteps.{both, same_nat}
 use Rattle.pp_vault.proofs.BackSteps as back
 
@@ -142,6 +143,10 @@ module _ (old : Parts) (w slot page : ℕ) (image : List ℕ)
     calls : (s : State) → StandsFor old s → call s ≡ asks m
     calls s st = ap (λ b. if b then asks m else stranger) (out s st)
 
+    pub read_tells : Tells old call (ReadDone w came, r)
+    read_tells =
+        tells old mid (ReadDone w came) r given call (λ s st. calls s st ∙ ap (λ c. asks (ReadDone w c)) (sym is))
+
     answer : (s : State) → StandsFor old s → reply_of s m ≡ r
     answer s st = sym (did.moves.replies s st.core)
 
@@ -223,7 +228,7 @@ module _ (old : Parts) (w slot page : ℕ) (image : List ℕ)
           )
 
           pub loaded_kept : IsKept new
-          loaded_kept = done_keeps old new call k loaded_does
+          loaded_kept = kept.kept_after old new call k loaded_does
 
           pub loaded_acts : ActsIn new w
           loaded_acts t b =

@@ -29,7 +29,7 @@ use Rattle.pp_vault.specs.Uses.{UnlatchesExclusive}
 use Rattle.pp_vault.proofs.UseReplies.{is_unlatched}
 use Rattle.pp_vault.proofs.FitTests.{both_hold, guard_held, guard_asks, unlatch_asked, acts_by, Asking, asking}
 use Rattle.pp_vault.proofs.FitTests.{Holds, holds}
-use Rattle.pp_vault.proofs.FixKept.{done_keeps}
+use Rattle.pp_vault.proofs.Kept as kept
 use Rattle.pp_vault.proofs.GoingBack.{Raised}
 use Rattle.pp_vault.proofs.GoingBack as going
 use Rattle.pp_vault.proofs.WriteSteps.{same_nat}
@@ -109,7 +109,7 @@ module _ (old mid : Parts) (x : Session) (g : WriteGuard) (r : Reply) (k : IsKep
         g.image b is head (same ∙ long) new rest
 
     pub exclusive_goes_kept : IsKept new
-    exclusive_goes_kept = done_keeps old new call k goes_does
+    exclusive_goes_kept = kept.kept_after old new call k goes_does
 
     pub exclusive_goes_acts : ActsIn new x.worker
     exclusive_goes_acts t st =

@@ -38,7 +38,7 @@ use Rattle.pp_vault.proofs.Done.{does, refuses}
 use Rattle.pp_vault.proofs.FitTests.{guard_held, guard_gathered, guard_asks, unfix_asked, scatter_asked, latch_asked}
 use Rattle.pp_vault.proofs.FitTests.{unlatch_asked, Asking, asking, Holds, holds, own_alone, bundle_alone, none_gathered}
 
--- A step leaves the images and the bytes of a page, and is told.
+-- A step leaves the images and the bytes of a page.
 pub stays : (old new : Parts) (m : Move) (r : Reply) → Stepped old new m r → ImagesStay old new
 stays old new m r h =
     record {
@@ -92,8 +92,7 @@ module _ (old new : Parts) (x : Session) (g : PinGuard) (r : Reply) (kept : IsKe
   pub unfixes : (y : Session) → SessionFits new x.worker y → Unfixes old x g new y
   unfixes y session =
       record {
-        does = does old new (unfix_call x.worker g.worker g.slot g.page) (move.Unfix x.worker) r h.moves h.done
-            (ap (λ (v : Parts). v.last) h.rest) (ap (λ (v : Parts). v.page_bytes) h.rest)
+        does = does old new (unfix_call x.worker g.worker g.slot g.page) (move.Unfix x.worker) r h.moves h.done (ap (λ (v : Parts). v.page_bytes) h.rest)
             (λ s st. guard_asks (fits_both s x.worker g.worker g.slot g.page Free)
             (asks_unfix g.slot (ask_of s x.worker)) (asks (move.Unfix x.worker)) (fit s st) (wanted s st))
             unfix_images;
@@ -146,8 +145,7 @@ module _ (old new : Parts) (x : Session) (g : BundleGuard) (r : Reply) (kept : I
   pub scatters : (y : Session) → SessionFits new x.worker y → Scatters old x g new y
   scatters y session =
       record {
-        does = does old new (scatter_call x.worker g.worker g.slot) (move.Unfix x.worker) r h.moves h.done
-            (ap (λ (v : Parts). v.last) h.rest) (ap (λ (v : Parts). v.page_bytes) h.rest)
+        does = does old new (scatter_call x.worker g.worker g.slot) (move.Unfix x.worker) r h.moves h.done (ap (λ (v : Parts). v.page_bytes) h.rest)
             (λ s st. guard_asks (bundle_fits s x.worker g.worker g.slot)
             (asks_scatter g.slot (ask_of s x.worker)) (asks (move.Unfix x.worker)) (fit s st) (wanted s st))
             scatter_images;
@@ -195,8 +193,7 @@ module _ (old new : Parts) (x : Session) (g : PinGuard) (r : Reply) (kept : IsKe
   latches y session =
       record {
         does = does old new (latch_call mode.S x.worker g.worker g.slot g.page) (move.Latch x.worker)
-            r h.moves h.done
-            (ap (λ (v : Parts). v.last) h.rest) (ap (λ (v : Parts). v.page_bytes) h.rest)
+            r h.moves h.done (ap (λ (v : Parts). v.page_bytes) h.rest)
             (λ s st. guard_asks (fits_both s x.worker g.worker g.slot g.page Free)
             (asks_latch g.slot mode.S (ask_of s x.worker)) (asks (move.Latch x.worker)) (fit s st) (wanted s st))
             latch_images;
@@ -273,8 +270,7 @@ module _ (old new : Parts) (x : Session) (g : ReadGuard) (r : Reply) (kept : IsK
       → UnlatchesShared old x g new y (record { worker = x.worker; slot = g.slot; page = g.page })
   unlatches y session =
       record {
-        does = does old new (unlatch_call S x.worker g.worker g.slot g.page) (move.Unlatch x.worker) r h.moves h.done
-            (ap (λ (v : Parts). v.last) h.rest) (ap (λ (v : Parts). v.page_bytes) h.rest)
+        does = does old new (unlatch_call S x.worker g.worker g.slot g.page) (move.Unlatch x.worker) r h.moves h.done (ap (λ (v : Parts). v.page_bytes) h.rest)
             (λ s st. guard_asks (fits_both s x.worker g.worker g.slot g.page S)
             (asks_unlatch g.slot (ask_of s x.worker)) (asks (move.Unlatch x.worker)) (fit s st) (wanted s st))
             unlatch_images;

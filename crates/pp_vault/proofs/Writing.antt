@@ -140,8 +140,7 @@ module _ (old mid : Parts) (x : Session) (g : PinGuard) (r : Reply) (kept : IsKe
       (record { worker = x.worker; slot = g.slot; page = g.page; mark = mark; image = image })
   exclusive_latches y mark image e there session =
       record {
-        does = does old out (latch_call mode.X x.worker g.worker g.slot g.page) (move.Latch x.worker) r h.moves h.done
-            (ap (λ (v : Parts). v.last) h.rest) (ap (λ (v : Parts). v.page_bytes) h.rest)
+        does = does old out (latch_call mode.X x.worker g.worker g.slot g.page) (move.Latch x.worker) r h.moves h.done (ap (λ (v : Parts). v.page_bytes) h.rest)
             (λ s st. guard_asks (fits_both s x.worker g.worker g.slot g.page Free)
             (asks_latch g.slot mode.X (ask_of s x.worker)) (asks (move.Latch x.worker)) (fit s st) (wanted s st))
             out_images;

@@ -25,7 +25,7 @@ use Rattle.pp_vault.specs.declared.answering.Answered.TheVariants as answered
 use Rattle.pp_vault.specs.Parts.{Parts}
 use Rattle.pp_vault.specs.StandsFor.{StandsFor}
 use Rattle.pp_vault.specs.Calls.{Call, asks, stranger}
-use Rattle.pp_vault.specs.Events.{Refuses, Does, untold}
+use Rattle.pp_vault.specs.Events.{Does}
 use Rattle.pp_vault.specs.ImageMoves.{PutIn, ImagesStay}
 use Rattle.pp_vault.specs.Fits.{is_gathered, IsEmpty}
 use Rattle.pp_vault.specs.Tokens.{ErrandFits, SessionFits, PinFits, BundleFits}
@@ -221,8 +221,6 @@ DutyEnds old (Write w slot page victim) image ok (answered.Lost leaver) new =
 DutyEnds old (Flush page) image ok (answered.Flushed clean) new = IsFlushed old page image ok clean new
 DutyEnds old duty image ok out new = ⊥
 
--- What the answer of a device comes to: where it is refused, all comes back and nothing has changed.
+-- What the answer of a device comes to, where it isn't refused.
 abbrev pub AnswerComesTo : (old : Parts) → Returned → Answered → (new : Parts) → Type 0
-AnswerComesTo old returned (answered.No back refusal) new =
-    (back ≡ returned) × Refuses old (answer_call old.page_bytes returned) refusal × (new ≡ untold old)
 AnswerComesTo old returned out new = DutyEnds old returned.duty returned.image (is_ok returned.answer) out new

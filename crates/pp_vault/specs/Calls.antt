@@ -37,7 +37,7 @@ after_call s stranger = s
 after_call s (refused why) = s
 after_call s (asks m) = next_of s m
 
--- What is told of the call: its move and the reply, where it is done.
+-- The move that the call is, and the core's reply, where it is done.
 abbrev pub told : State → Call → Option (Move × Reply)
 told s stranger = None
 told s (refused why) = None

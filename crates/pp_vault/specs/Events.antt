@@ -1,5 +1,7 @@
 -- What a call of a vault does.
 use Rattle.std.specs.Prelude.{◌≡◌, None, Some}
+use Rattle.pp_model.specs.declared.moves.Move.{Move}
+use Rattle.pp_model.specs.declared.reply.Reply.{Reply}
 use Rattle.pp_model.specs.Pool.{State}
 use Rattle.pp_vault.specs.declared.refusal.Refusal.{Refusal}
 use Rattle.pp_vault.specs.Parts.{Parts}
@@ -10,13 +12,12 @@ use Rattle.pp_vault.specs.Calls.{Call, refusal_of, after_call, told}
 abbrev pub Refuses : Parts → (State → Call) → Refusal → Type 0
 Refuses v call refusal = (s : State) → StandsFor v s → refusal_of s (call s) ≡ Some refusal
 
--- The call is done: it isn't refused, the new parts stand for the state after it, and it is what is told.
+-- The call is done: it isn't refused, and the new parts stand for the state after it.
 pub record Does (old : Parts) (call : State → Call) (new : Parts) : Type 0 where
   pub allowed : (s : State) → StandsFor old s → refusal_of s (call s) ≡ None
   pub stands : (s : State) → StandsFor old s → StandsFor new (after_call s (call s))
-  pub is_told : (s : State) → StandsFor old s → new.last ≡ told s (call s)
   pub page_bytes : new.page_bytes ≡ old.page_bytes
 
--- Nothing has changed, and no move is told.
-abbrev pub untold : Parts → Parts
-untold v = record v { last = None }
+-- What the call is answered: it is this move, which is possible, and this is the core's reply.
+abbrev pub Tells : Parts → (State → Call) → (Move × Reply) → Type 0
+Tells v call done = (s : State) → StandsFor v s → told s (call s) ≡ Some done

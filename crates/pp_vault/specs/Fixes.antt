@@ -1,5 +1,5 @@
 -- What a fix of a vault comes to.
-use Rattle.std.specs.Prelude.{◌≡◌, ℕ, true, false, Some, List, ◌∷◌}
+use Rattle.std.specs.Prelude.{◌≡◌, ℕ, true, Some, List, ◌∷◌}
 use Rattle.pp_plan.specs.declared.action.Ask.TheVariants as ask
 use Rattle.pp_model.specs.declared.moves.Move.TheVariants.{Fix}
 use Rattle.pp_model.specs.declared.reply.Reply.TheVariants.{Hit, MustRead, MustWrite}
@@ -13,12 +13,12 @@ use Rattle.pp_vault.specs.declared.tokens.Duty.TheVariants.{Read, Write, Flush}
 use Rattle.pp_vault.specs.declared.guards.PinGuard.{PinGuard}
 use Rattle.pp_vault.specs.declared.guards.BundleGuard.{BundleGuard}
 use Rattle.pp_vault.specs.declared.fixing.Fixed.{Fixed}
-use Rattle.pp_vault.specs.declared.fixing.Fixed.TheVariants.{Got, Opened, Joined, Away, No}
+use Rattle.pp_vault.specs.declared.fixing.Fixed.TheVariants.{Got, Opened, Joined, Away}
 use Rattle.pp_vault.specs.Parts.{Parts}
 use Rattle.pp_vault.specs.StandsFor.{StandsFor}
 use Rattle.pp_vault.specs.ImageMoves.{TakenOut, ImagesStay}
 use Rattle.pp_vault.specs.Fits.{is_gathered, IsEmpty, fix_slot, fix_call}
-use Rattle.pp_vault.specs.Events.{Refuses, Does, untold}
+use Rattle.pp_vault.specs.Events.{Does}
 use Rattle.pp_vault.specs.Tokens.{SessionFits, PinFits, BundleFits, ErrandFits}
 
 -- ---- fix
@@ -77,9 +77,8 @@ IsSent old new w page image (Write v slot p victim) =
     × (frame_of s victim ≡ Some frame) × TakenOut old new frame image)
 IsSent old new w page image (Flush p) = ⊥
 
--- What a fix comes to: the guard of the slot that the session tells, or of the bundle that it opens there; one page more in
--- that bundle; or an errand; each with what the call does. Where it is refused, the session comes back and nothing has
--- changed.
+-- What a fix comes to, where it isn't refused: the guard of the slot that the session tells, or of the bundle that it opens
+-- there; one page more in that bundle; or an errand; each with what the call does.
 abbrev pub FixAnswers : (old : Parts) → Session → (page : ℕ) → Fixed → (new : Parts) → Type 0
 FixAnswers old x page (Got session guard) new =
     Does old (fix_call x.worker (fix_slot x.ask) page) new × IsHit old new x.worker page session guard
@@ -93,5 +92,3 @@ FixAnswers old x page (Joined session) new =
 FixAnswers old x page (Away errand) new =
     Does old (fix_call x.worker (fix_slot x.ask) page) new × IsSent old new x.worker page errand.image errand.duty
     × ErrandFits new errand
-FixAnswers old x page (No session refusal) new =
-    (session ≡ x) × Refuses old (fix_call x.worker (fix_slot x.ask) page) refusal × (new ≡ untold old)

@@ -1,7 +1,5 @@
 -- What clauses see of a vault: what it keeps.
 use Rattle.std.specs.Prelude.{ℕ, Option, List}
-use Rattle.pp_model.specs.declared.moves.Move.{Move}
-use Rattle.pp_model.specs.declared.reply.Reply.{Reply}
 use Rattle.pp_core.specs.Parts as core
 use Rattle.pp_vault.specs.declared.store.Store.{Store}
 
@@ -14,8 +12,6 @@ pub record Parts : Type 0 where
   pub spare : Option (List ℕ)
   -- how many bytes a page has
   pub page_bytes : ℕ
-  -- the move and the reply of the last call that was a move
-  pub last : Option (Move × Reply)
 
 -- The same of a vault's inside.
 abbrev pub parts_of : Store → Parts
@@ -24,5 +20,4 @@ parts_of s = record {
   images = s.images.items;
   spare = s.spare;
   page_bytes = s.page_bytes;
-  last = s.last;
 }

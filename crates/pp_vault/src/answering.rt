@@ -4,11 +4,11 @@ ghost use Rattle.std.specs.Prelude.{◌≡◌, IfOk, IfErr, OnErr};
 ghost use Rattle.pp_model.specs.Pool.{State};
 ghost use Rattle.pp_vault.specs.Parts.{parts_of};
 ghost use Rattle.pp_vault.specs.StandsFor.{StandsFor, IsKept};
-ghost use Rattle.pp_vault.specs.Events.{Refuses, untold};
+ghost use Rattle.pp_vault.specs.Events.{Refuses, Tells};
 ghost use Rattle.pp_vault.specs.Answers.{is_flush_out, flushed_call, IsFlushed};
 ghost use Rattle.pp_vault.specs.Answers.{is_head_of, is_write_out, write_call, WriteEnds};
 ghost use Rattle.pp_vault.specs.Answers.{came_of, is_read_out, read_call, ReadEnds};
-ghost use Rattle.pp_vault.specs.Answers.{duty_call, DutyEnds, AnswerComesTo};
+ghost use Rattle.pp_vault.specs.Answers.{duty_call, answer_call, DutyEnds, AnswerComesTo};
 ghost use Rattle.pp_model.specs.Pool.{known_mark};
 ghost use Rattle.pp_device.specs.Image.{head_of};
 
@@ -17,6 +17,7 @@ use crate::image::Image;
 use crate::refusal::Refusal;
 use crate::store::Store;
 use crate::tokens::{Duty, Errand, Leaver, Returned, Session};
+use crate::vault::Done;
 use pp_core::{Came, Move, Reply};
 
 /// What the answer of a device comes to.
@@ -37,8 +38,6 @@ pub enum Answered {
     /// The flush is over, and its buffer is back; whether the page is clean. It isn't where the device failed, or where
     /// the page has changed meanwhile.
     Flushed(bool),
-    /// It is refused, and nothing has changed.
-    No(Returned, Refusal),
 }
 
 /// What the core is told that came.
@@ -70,16 +69,17 @@ impl Store {
         page: u32,
         image: Image,
         ok: bool,
-    ) -> Result<bool, (Image, Refusal)>
+    ) -> Result<(bool, Done), (Image, Refusal)>
         requires { IsKept (parts_of self.old) }
-        ensures ok { IfOk result (λ clean. IsFlushed (parts_of self.old) page image ok clean (parts_of self.new)) }
+        ensures ok { IfOk result (λ now. IsFlushed (parts_of self.old) page image ok now.0 (parts_of self.new)) }
+        ensures done { IfOk result (λ now. Tells (parts_of self.old)
+            (flushed_call (parts_of self.old).page_bytes page image ok) now.1) }
         ensures err { IfErr result (λ e. Refuses (parts_of self.old)
             (flushed_call (parts_of self.old).page_bytes page image ok) e.1) }
         ensures back { IfErr result (λ e. e.0 ≡ image) }
-        ensures unchanged { OnErr result (parts_of self.new ≡ untold (parts_of self.old)) }
+        ensures unchanged { OnErr result (parts_of self.new ≡ parts_of self.old) }
     {
         if !self.is_flush_out(page, &image) {
-            self.refuse();
             return Err((image, Refusal::Stranger));
         }
         let reply = match self.step(Move::FlushDone { ok }) {
@@ -87,8 +87,9 @@ impl Store {
             Err(refusal) => return Err((image, refusal)),
         };
         self.spare = Some(image);
+        let done = (Move::FlushDone { ok }, reply);
         match reply {
-            Reply::Flushed { clean } => Ok(clean),
+            Reply::Flushed { clean } => Ok((clean, done)),
             _ => unreachable!(),
         }
     }
@@ -129,17 +130,18 @@ impl Store {
         victim: u32,
         image: Image,
         ok: bool,
-    ) -> Result<Result<Errand, Leaver>, (Image, Refusal)>
+    ) -> Result<(Result<Errand, Leaver>, Done), (Image, Refusal)>
         requires { IsKept (parts_of self.old) }
-        ensures ok { IfOk result (λ ends. WriteEnds (parts_of self.old) worker slot page victim image ok ends
+        ensures ok { IfOk result (λ now. WriteEnds (parts_of self.old) worker slot page victim image ok now.0
             (parts_of self.new)) }
+        ensures done { IfOk result (λ now. Tells (parts_of self.old)
+            (write_call (parts_of self.old).page_bytes worker slot page victim image ok) now.1) }
         ensures err { IfErr result (λ e. Refuses (parts_of self.old)
             (write_call (parts_of self.old).page_bytes worker slot page victim image ok) e.1) }
         ensures back { IfErr result (λ e. e.0 ≡ image) }
-        ensures unchanged { OnErr result (parts_of self.new ≡ untold (parts_of self.old)) }
+        ensures unchanged { OnErr result (parts_of self.new ≡ parts_of self.old) }
     {
         if !self.is_write_out(worker, slot, page, victim, &image) {
-            self.refuse();
             return Err((image, Refusal::Stranger));
         }
         let Some(frame) = self.core.frame_of(page) else {
@@ -149,14 +151,15 @@ impl Store {
             Ok(reply) => reply,
             Err(refusal) => return Err((image, refusal)),
         };
+        let done = (Move::WriteDone { worker, ok }, reply);
         match reply {
             Reply::MustRead { .. } => {
                 let duty = Duty::Read { worker, slot, page };
-                Ok(Ok(Errand { duty, image }))
+                Ok((Ok(Errand { duty, image }), done))
             }
             Reply::Failed { .. } => {
                 self.put(frame, image);
-                Ok(Err(Leaver { worker }))
+                Ok((Err(Leaver { worker }), done))
             }
             _ => unreachable!(),
         }
@@ -182,17 +185,18 @@ impl Store {
         page: u32,
         image: Image,
         ok: bool,
-    ) -> Result<Answered, (Image, Refusal)>
+    ) -> Result<(Answered, Done), (Image, Refusal)>
         requires { IsKept (parts_of self.old) }
-        ensures ok { IfOk result (λ out. ReadEnds (parts_of self.old) worker slot page image ok out
+        ensures ok { IfOk result (λ now. ReadEnds (parts_of self.old) worker slot page image ok now.0
             (parts_of self.new)) }
+        ensures done { IfOk result (λ now. Tells (parts_of self.old)
+            (read_call (parts_of self.old).page_bytes worker slot page image ok) now.1) }
         ensures err { IfErr result (λ e. Refuses (parts_of self.old)
             (read_call (parts_of self.old).page_bytes worker slot page image ok) e.1) }
         ensures back { IfErr result (λ e. e.0 ≡ image) }
-        ensures unchanged { OnErr result (parts_of self.new ≡ untold (parts_of self.old)) }
+        ensures unchanged { OnErr result (parts_of self.new ≡ parts_of self.old) }
     {
         if !self.is_read_out(worker, slot, page, &image) {
-            self.refuse();
             return Err((image, Refusal::Stranger));
         }
         let Some(frame) = self.core.frame_of(page) else {
@@ -204,28 +208,42 @@ impl Store {
             Err(refusal) => return Err((image, refusal)),
         };
         self.put(frame, image);
+        let done = (Move::ReadDone { worker, came }, reply);
         match reply {
             Reply::Loaded { .. } => {
                 let session = self.session(worker);
                 match self.core.gathered(worker, slot) {
-                    0 => Ok(Answered::Got(session, PinGuard { worker, slot, page })),
-                    1 => Ok(Answered::Opened(session, BundleGuard { worker, slot })),
-                    _ => Ok(Answered::Joined(session)),
+                    0 => Ok((
+                        Answered::Got(session, PinGuard { worker, slot, page }),
+                        done,
+                    )),
+                    1 => Ok((
+                        Answered::Opened(session, BundleGuard { worker, slot }),
+                        done,
+                    )),
+                    _ => Ok((Answered::Joined(session), done)),
                 }
             }
-            Reply::Failed { .. } => Ok(Answered::Lost(Leaver { worker })),
+            Reply::Failed { .. } => Ok((Answered::Lost(Leaver { worker }), done)),
             _ => unreachable!(),
         }
     }
 
     /// The device has answered this duty.
-    fn end_duty(&mut self, duty: Duty, image: Image, ok: bool) -> Result<Answered, (Image, Refusal)>
+    fn end_duty(
+        &mut self,
+        duty: Duty,
+        image: Image,
+        ok: bool,
+    ) -> Result<(Answered, Done), (Image, Refusal)>
         requires { IsKept (parts_of self.old) }
-        ensures ok { IfOk result (λ out. DutyEnds (parts_of self.old) duty image ok out (parts_of self.new)) }
+        ensures ok { IfOk result (λ now. DutyEnds (parts_of self.old) duty image ok now.0 (parts_of self.new)) }
+        ensures done { IfOk result (λ now. Tells (parts_of self.old)
+            (duty_call (parts_of self.old).page_bytes duty image ok) now.1) }
         ensures err { IfErr result (λ e. Refuses (parts_of self.old)
             (duty_call (parts_of self.old).page_bytes duty image ok) e.1) }
         ensures back { IfErr result (λ e. e.0 ≡ image) }
-        ensures unchanged { OnErr result (parts_of self.new ≡ untold (parts_of self.old)) }
+        ensures unchanged { OnErr result (parts_of self.new ≡ parts_of self.old) }
     {
         match duty {
             Duty::Read { worker, slot, page } => self.read(worker, slot, page, image, ok),
@@ -235,20 +253,32 @@ impl Store {
                 page,
                 victim,
             } => {
-                match self.written(worker, slot, page, victim, image, ok)? {
-                    Ok(errand) => Ok(Answered::Away(errand)),
-                    Err(leaver) => Ok(Answered::Lost(leaver)),
+                let (ends, done) = self.written(worker, slot, page, victim, image, ok)?;
+                match ends {
+                    Ok(errand) => Ok((Answered::Away(errand), done)),
+                    Err(leaver) => Ok((Answered::Lost(leaver), done)),
                 }
             }
-            Duty::Flush { page } => Ok(Answered::Flushed(self.flushed(page, image, ok)?)),
+            Duty::Flush { page } => {
+                let (clean, done) = self.flushed(page, image, ok)?;
+                Ok((Answered::Flushed(clean), done))
+            }
         }
     }
 
     /// The device has answered: what it was asked ends, or goes on.
-    #[tactic(auto, using(crate::proofs::DutyEnds::ends_come))]
-    pub(crate) fn answer(&mut self, returned: Returned) -> Answered
+    pub(crate) fn answer(
+        &mut self,
+        returned: Returned,
+    ) -> Result<(Answered, Done), (Returned, Refusal)>
         requires { IsKept (parts_of self.old) }
-        ensures { AnswerComesTo (parts_of self.old) returned result (parts_of self.new) }
+        ensures ok { IfOk result (λ now. AnswerComesTo (parts_of self.old) returned now.0 (parts_of self.new)) }
+        ensures done { IfOk result (λ now. Tells (parts_of self.old)
+            (answer_call (parts_of self.old).page_bytes returned) now.1) }
+        ensures err { IfErr result (λ e. Refuses (parts_of self.old)
+            (answer_call (parts_of self.old).page_bytes returned) e.1) }
+        ensures back { IfErr result (λ e. e.0 ≡ returned) }
+        ensures unchanged { OnErr result (parts_of self.new ≡ parts_of self.old) }
     {
         let Returned {
             duty,
@@ -256,15 +286,15 @@ impl Store {
             answer,
         } = returned;
         match self.end_duty(duty, image, answer.is_ok()) {
-            Ok(out) => out,
-            Err((image, refusal)) => Answered::No(
+            Ok(now) => Ok(now),
+            Err((image, refusal)) => Err((
                 Returned {
                     duty,
                     image,
                     answer,
                 },
                 refusal,
-            ),
+            )),
         }
     }
 }

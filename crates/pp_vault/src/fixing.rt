@@ -1,9 +1,10 @@
 //! Fix: a page comes into a slot, or an image leaves its frame with an errand.
 
-ghost use Rattle.std.specs.Prelude.{◌≡◌};
+ghost use Rattle.std.specs.Prelude.{◌≡◌, IfOk, IfErr, OnErr};
 ghost use Rattle.pp_vault.specs.Parts.{parts_of};
 ghost use Rattle.pp_vault.specs.Fixes.{FixAnswers};
-ghost use Rattle.pp_vault.specs.Fits.{fix_slot, asked_at};
+ghost use Rattle.pp_vault.specs.Fits.{fix_slot, fix_call, asked_at};
+ghost use Rattle.pp_vault.specs.Events.{Refuses, Tells};
 ghost use Rattle.pp_vault.specs.StandsFor.{StandsFor, IsKept};
 ghost use Rattle.pp_model.specs.Pool.{State};
 ghost use Rattle.pp_core.specs.Queries.{ask_of};
@@ -12,7 +13,8 @@ use crate::guards::{BundleGuard, PinGuard};
 use crate::refusal::Refusal;
 use crate::store::Store;
 use crate::tokens::{Duty, Errand, Session};
-use pp_core::{Ask, Reply};
+use crate::vault::Done;
+use pp_core::{Ask, Move, Reply};
 
 /// What a fix comes to.
 #[derive(Debug)]
@@ -25,8 +27,6 @@ pub enum Fixed {
     Joined(Session),
     /// A device has to work first. The page has a frame, and the errand has the image that was in it.
     Away(Errand),
-    /// It is refused, and nothing has changed.
-    No(Session, Refusal),
 }
 
 /// The slot of a plan that asks a fix or a gather; zero where it asks something else.
@@ -52,36 +52,46 @@ impl Store {
     }
 
     /// A worker fixes or gathers a page into the slot that its plan names.
-    pub(crate) fn fix(&mut self, session: Session, page: u32) -> Fixed
+    pub(crate) fn fix(
+        &mut self,
+        session: Session,
+        page: u32,
+    ) -> Result<(Fixed, Done), (Session, Refusal)>
         requires { IsKept (parts_of self.old) }
-        ensures { FixAnswers (parts_of self.old) session page result (parts_of self.new) }
+        ensures ok { IfOk result (λ now. FixAnswers (parts_of self.old) session page now.0 (parts_of self.new)) }
+        ensures done { IfOk result (λ now. Tells (parts_of self.old)
+            (fix_call session.worker (fix_slot session.ask) page) now.1) }
+        ensures err { IfErr result (λ e. Refuses (parts_of self.old)
+            (fix_call session.worker (fix_slot session.ask) page) e.1) }
+        ensures back { IfErr result (λ e. e.0 ≡ session) }
+        ensures unchanged { OnErr result (parts_of self.new ≡ parts_of self.old) }
     {
         let Some(asked) = self.asked_slot(&session) else {
-            self.refuse();
-            return Fixed::No(session, Refusal::Stranger);
+            return Err((session, Refusal::Stranger));
         };
         let worker = session.worker;
         let slot = slot_of(session.ask);
         let reply = match self.step_fix(worker, page) {
             Ok(reply) => reply,
-            Err(refusal) => return Fixed::No(session, refusal),
+            Err(refusal) => return Err((session, refusal)),
         };
         let Session { worker, ask: _ } = session;
+        let done = (Move::Fix { worker, page }, reply);
         match reply {
             Reply::Hit { .. } => {
                 let session = self.session(worker);
                 let Ask::Gather { .. } = asked else {
-                    return Fixed::Got(session, PinGuard { worker, slot, page });
+                    return Ok((Fixed::Got(session, PinGuard { worker, slot, page }), done));
                 };
                 if self.core.gathered(worker, slot) > 1 {
-                    return Fixed::Joined(session);
+                    return Ok((Fixed::Joined(session), done));
                 }
-                Fixed::Opened(session, BundleGuard { worker, slot })
+                Ok((Fixed::Opened(session, BundleGuard { worker, slot }), done))
             }
             Reply::MustRead { frame } => {
                 let image = self.take_out(frame);
                 let duty = Duty::Read { worker, slot, page };
-                Fixed::Away(Errand { duty, image })
+                Ok((Fixed::Away(Errand { duty, image }), done))
             }
             Reply::MustWrite { frame, victim } => {
                 let image = self.take_out(frame);
@@ -91,7 +101,7 @@ impl Store {
                     page,
                     victim,
                 };
-                Fixed::Away(Errand { duty, image })
+                Ok((Fixed::Away(Errand { duty, image }), done))
             }
             _ => unreachable!(),
         }

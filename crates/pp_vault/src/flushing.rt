@@ -7,46 +7,46 @@ ghost use Rattle.pp_core.specs.Queries.{flushed_page};
 ghost use Rattle.pp_vault.specs.Calls.{refused};
 ghost use Rattle.pp_vault.specs.Parts.{parts_of};
 ghost use Rattle.pp_vault.specs.StandsFor.{StandsFor, IsKept};
-ghost use Rattle.pp_vault.specs.Events.{Refuses, Does, untold};
+ghost use Rattle.pp_vault.specs.Events.{Refuses, Does, Tells};
 ghost use Rattle.pp_vault.specs.Tokens.{ErrandFits};
 ghost use Rattle.pp_vault.specs.Flushes.{flush_call, flush_if, next_call, CanCopy, CopiesOut, CopiesNext, IsImageOf};
 
 use crate::refusal::Refusal;
 use crate::store::Store;
 use crate::tokens::{Duty, Errand};
+use crate::vault::Done;
 use pp_core::{Cause, Delay, Move};
 
 impl Store {
     /// The flusher begins to write a changed page.
-    pub(crate) fn flush(&mut self, page: u32) -> Result<Errand, Refusal>
+    pub(crate) fn flush(&mut self, page: u32) -> Result<(Errand, Done), Refusal>
         requires { IsKept (parts_of self.old) }
         ensures ok { IfOk result (λ _. Does (parts_of self.old) (flush_call page) (parts_of self.new)) }
-        ensures errand { IfOk result (λ errand. ErrandFits (parts_of self.new) errand) }
-        ensures copied { IfOk result (λ errand. CopiesOut (parts_of self.old) (parts_of self.new) page errand) }
+        ensures errand { IfOk result (λ now. ErrandFits (parts_of self.new) now.0) }
+        ensures copied { IfOk result (λ now. CopiesOut (parts_of self.old) (parts_of self.new) page now.0) }
+        ensures done { IfOk result (λ now. Tells (parts_of self.old) (flush_call page) now.1) }
         ensures err { IfErr result (λ why. Refuses (parts_of self.old) (flush_call page) why) }
-        ensures unchanged { OnErr result (parts_of self.new ≡ untold (parts_of self.old)) }
+        ensures unchanged { OnErr result (parts_of self.new ≡ parts_of self.old) }
     {
         match self.step(Move::FlushBegin { page }) {
-            Ok(_) => Ok(self.copy_out(page)),
+            Ok(reply) => Ok((self.copy_out(page), (Move::FlushBegin { page }, reply))),
             Err(refusal) => Err(refusal),
         }
     }
 
     /// The flusher begins to write the next changed page.
-    pub(crate) fn flush_next(&mut self, number: u32) -> Result<Errand, Refusal>
+    pub(crate) fn flush_next(&mut self, number: u32) -> Result<(Errand, Done), Refusal>
         requires { IsKept (parts_of self.old) }
         ensures ok { IfOk result (λ _. Does (parts_of self.old) (next_call number) (parts_of self.new)) }
-        ensures errand { IfOk result (λ errand. ErrandFits (parts_of self.new) errand) }
-        ensures copied { IfOk result (λ errand. CopiesNext (parts_of self.old) (parts_of self.new) number errand) }
+        ensures errand { IfOk result (λ now. ErrandFits (parts_of self.new) now.0) }
+        ensures copied { IfOk result (λ now. CopiesNext (parts_of self.old) (parts_of self.new) number now.0) }
+        ensures done { IfOk result (λ now. Tells (parts_of self.old) (next_call number) now.1) }
         ensures err { IfErr result (λ why. Refuses (parts_of self.old) (next_call number) why) }
-        ensures unchanged { OnErr result (parts_of self.new ≡ untold (parts_of self.old)) }
+        ensures unchanged { OnErr result (parts_of self.new ≡ parts_of self.old) }
     {
         match self.core.dirty_from(number) {
             Some(page) => self.flush(page),
-            None => {
-                self.refuse();
-                Err(self.no_flush())
-            }
+            None => Err(self.no_flush()),
         }
     }
 

@@ -14,7 +14,7 @@ ghost use Rattle.pp_vault.specs.Fits.{is_gathered, bundle_fits, IsEmpty, guard_c
 ghost use Rattle.pp_vault.specs.Fits.{fits_both as both_fit, asks_unfix as unfix_is_asked, asks_scatter as scatter_is_asked};
 ghost use Rattle.pp_vault.specs.Fits.{asks_latch as latch_is_asked, asks_unlatch as unlatch_is_asked};
 ghost use Rattle.pp_vault.specs.Steps.{told_mark};
-ghost use Rattle.pp_vault.specs.Events.{Refuses, untold};
+ghost use Rattle.pp_vault.specs.Events.{Refuses, Tells};
 ghost use Rattle.pp_vault.specs.Uses.{Unfixes, Scatters, LatchesShared, LatchesExclusive, UnlatchesShared, UnlatchesExclusive};
 ghost use Rattle.pp_vault.specs.Tokens.{is_long};
 
@@ -22,7 +22,8 @@ use crate::guards::{BundleGuard, PinGuard, ReadGuard, WriteGuard};
 use crate::refusal::Refusal;
 use crate::store::Store;
 use crate::tokens::Session;
-use pp_core::{Ask, Cause, Held, Reply};
+use crate::vault::Done;
+use pp_core::{Ask, Cause, Held, Move, Reply};
 use pp_plan::Mode;
 
 /// Why a call with a session and a guard is no move, if it isn't: they don't fit, or the plan asks something else.
@@ -144,31 +145,32 @@ impl Store {
         &mut self,
         session: Session,
         guard: PinGuard,
-    ) -> Result<Session, (Session, PinGuard, Refusal)>
+    ) -> Result<(Session, Done), (Session, PinGuard, Refusal)>
         requires { IsKept (parts_of self.old) }
-        ensures ok { IfOk result (λ after. Unfixes (parts_of self.old) session guard (parts_of self.new) after) }
+        ensures ok { IfOk result (λ now. Unfixes (parts_of self.old) session guard (parts_of self.new) now.0) }
         ensures empty { IfOk result (λ _. (s : State) → StandsFor (parts_of self.new) s
             → IsEmpty s session.worker guard.slot) }
+        ensures done { IfOk result (λ now. Tells (parts_of self.old)
+            (unfix_call session.worker guard.worker guard.slot guard.page) now.1) }
         ensures err { IfErr result (λ e. Refuses (parts_of self.old)
             (unfix_call session.worker guard.worker guard.slot guard.page) e.2) }
         ensures back { IfErr result (λ e. (e.0 ≡ session) × (e.1 ≡ guard)) }
-        ensures unchanged { OnErr result (parts_of self.new ≡ untold (parts_of self.old)) }
+        ensures unchanged { OnErr result (parts_of self.new ≡ parts_of self.old) }
     {
         let worker = session.worker;
         let fits = self.fits_both(worker, guard.worker, guard.slot, guard.page, Held::Free);
         if let Some(refusal) = objection(fits, self.asks_unfix(worker, guard.slot)) {
-            self.refuse();
             return Err((session, guard, refusal));
         }
         match self.step_unfix(worker) {
-            Ok(_) => {
+            Ok(reply) => {
                 let Session { worker, ask: _ } = session;
                 let PinGuard {
                     worker: _,
                     slot: _,
                     page: _,
                 } = guard;
-                Ok(self.session(worker))
+                Ok((self.session(worker), (Move::Unfix { worker }, reply)))
             }
             Err(refusal) => Err((session, guard, refusal)),
         }
@@ -179,27 +181,28 @@ impl Store {
         &mut self,
         session: Session,
         guard: BundleGuard,
-    ) -> Result<Session, (Session, BundleGuard, Refusal)>
+    ) -> Result<(Session, Done), (Session, BundleGuard, Refusal)>
         requires { IsKept (parts_of self.old) }
-        ensures ok { IfOk result (λ after. Scatters (parts_of self.old) session guard (parts_of self.new) after) }
+        ensures ok { IfOk result (λ now. Scatters (parts_of self.old) session guard (parts_of self.new) now.0) }
         ensures empty { IfOk result (λ _. (s : State) → StandsFor (parts_of self.new) s
             → IsEmpty s session.worker guard.slot) }
+        ensures done { IfOk result (λ now. Tells (parts_of self.old)
+            (scatter_call session.worker guard.worker guard.slot) now.1) }
         ensures err { IfErr result (λ e. Refuses (parts_of self.old)
             (scatter_call session.worker guard.worker guard.slot) e.2) }
         ensures back { IfErr result (λ e. (e.0 ≡ session) × (e.1 ≡ guard)) }
-        ensures unchanged { OnErr result (parts_of self.new ≡ untold (parts_of self.old)) }
+        ensures unchanged { OnErr result (parts_of self.new ≡ parts_of self.old) }
     {
         let worker = session.worker;
         let fits = self.fits_bundle(worker, guard.worker, guard.slot);
         if let Some(refusal) = objection(fits, self.asks_scatter(worker, guard.slot)) {
-            self.refuse();
             return Err((session, guard, refusal));
         }
         match self.step_unfix(worker) {
-            Ok(_) => {
+            Ok(reply) => {
                 let Session { worker, ask: _ } = session;
                 let BundleGuard { worker: _, slot: _ } = guard;
-                Ok(self.session(worker))
+                Ok((self.session(worker), (Move::Unfix { worker }, reply)))
             }
             Err(refusal) => Err((session, guard, refusal)),
         }
@@ -210,19 +213,20 @@ impl Store {
         &mut self,
         session: Session,
         guard: PinGuard,
-    ) -> Result<(Session, ReadGuard), (Session, PinGuard, Refusal)>
+    ) -> Result<(Session, ReadGuard, Done), (Session, PinGuard, Refusal)>
         requires { IsKept (parts_of self.old) }
         ensures ok { IfOk result
             (λ now. LatchesShared (parts_of self.old) session guard (parts_of self.new) now.0 now.1) }
+        ensures done { IfOk result (λ now. Tells (parts_of self.old)
+            (latch_call mode.S session.worker guard.worker guard.slot guard.page) now.2) }
         ensures err { IfErr result (λ e. Refuses (parts_of self.old)
             (latch_call mode.S session.worker guard.worker guard.slot guard.page) e.2) }
         ensures back { IfErr result (λ e. (e.0 ≡ session) × (e.1 ≡ guard)) }
-        ensures unchanged { OnErr result (parts_of self.new ≡ untold (parts_of self.old)) }
+        ensures unchanged { OnErr result (parts_of self.new ≡ parts_of self.old) }
     {
         let worker = session.worker;
         let fits = self.fits_both(worker, guard.worker, guard.slot, guard.page, Held::Free);
         if let Some(refusal) = objection(fits, self.asks_latch(worker, guard.slot, Mode::S)) {
-            self.refuse();
             return Err((session, guard, refusal));
         }
         match self.step_latch(worker) {
@@ -242,6 +246,7 @@ impl Store {
                         page,
                         mark,
                     },
+                    (Move::Latch { worker }, reply),
                 ))
             }
             Err(refusal) => Err((session, guard, refusal)),
@@ -253,19 +258,20 @@ impl Store {
         &mut self,
         session: Session,
         guard: PinGuard,
-    ) -> Result<(Session, WriteGuard), (Session, PinGuard, Refusal)>
+    ) -> Result<(Session, WriteGuard, Done), (Session, PinGuard, Refusal)>
         requires { IsKept (parts_of self.old) }
         ensures ok { IfOk result
             (λ now. LatchesExclusive (parts_of self.old) session guard (parts_of self.new) now.0 now.1) }
+        ensures done { IfOk result (λ now. Tells (parts_of self.old)
+            (latch_call mode.X session.worker guard.worker guard.slot guard.page) now.2) }
         ensures err { IfErr result (λ e. Refuses (parts_of self.old)
             (latch_call mode.X session.worker guard.worker guard.slot guard.page) e.2) }
         ensures back { IfErr result (λ e. (e.0 ≡ session) × (e.1 ≡ guard)) }
-        ensures unchanged { OnErr result (parts_of self.new ≡ untold (parts_of self.old)) }
+        ensures unchanged { OnErr result (parts_of self.new ≡ parts_of self.old) }
     {
         let worker = session.worker;
         let fits = self.fits_both(worker, guard.worker, guard.slot, guard.page, Held::Free);
         if let Some(refusal) = objection(fits, self.asks_latch(worker, guard.slot, Mode::X)) {
-            self.refuse();
             return Err((session, guard, refusal));
         }
         let Some(frame) = self.core.frame_of(guard.page) else {
@@ -290,6 +296,7 @@ impl Store {
                         mark,
                         image,
                     },
+                    (Move::Latch { worker }, reply),
                 ))
             }
             Err(refusal) => Err((session, guard, refusal)),
@@ -301,23 +308,24 @@ impl Store {
         &mut self,
         session: Session,
         guard: ReadGuard,
-    ) -> Result<(Session, PinGuard), (Session, ReadGuard, Refusal)>
+    ) -> Result<(Session, PinGuard, Done), (Session, ReadGuard, Refusal)>
         requires { IsKept (parts_of self.old) }
         ensures ok { IfOk result
             (λ now. UnlatchesShared (parts_of self.old) session guard (parts_of self.new) now.0 now.1) }
+        ensures done { IfOk result (λ now. Tells (parts_of self.old)
+            (unlatch_call S session.worker guard.worker guard.slot guard.page) now.2) }
         ensures err { IfErr result (λ e. Refuses (parts_of self.old)
             (unlatch_call S session.worker guard.worker guard.slot guard.page) e.2) }
         ensures back { IfErr result (λ e. (e.0 ≡ session) × (e.1 ≡ guard)) }
-        ensures unchanged { OnErr result (parts_of self.new ≡ untold (parts_of self.old)) }
+        ensures unchanged { OnErr result (parts_of self.new ≡ parts_of self.old) }
     {
         let worker = session.worker;
         let fits = self.fits_both(worker, guard.worker, guard.slot, guard.page, Held::S);
         if let Some(refusal) = objection(fits, self.asks_unlatch(worker, guard.slot)) {
-            self.refuse();
             return Err((session, guard, refusal));
         }
         match self.step_unlatch(worker) {
-            Ok(_) => {
+            Ok(reply) => {
                 let Session { worker, ask: _ } = session;
                 let ReadGuard {
                     worker: _,
@@ -325,7 +333,11 @@ impl Store {
                     page,
                     mark: _,
                 } = guard;
-                Ok((self.session(worker), PinGuard { worker, slot, page }))
+                Ok((
+                    self.session(worker),
+                    PinGuard { worker, slot, page },
+                    (Move::Unlatch { worker }, reply),
+                ))
             }
             Err(refusal) => Err((session, guard, refusal)),
         }
@@ -336,19 +348,20 @@ impl Store {
         &mut self,
         session: Session,
         guard: WriteGuard,
-    ) -> Result<(Session, PinGuard), (Session, WriteGuard, Refusal)>
+    ) -> Result<(Session, PinGuard, Done), (Session, WriteGuard, Refusal)>
         requires { IsKept (parts_of self.old) }
         ensures ok { IfOk result
             (λ now. UnlatchesExclusive (parts_of self.old) session guard (parts_of self.new) now.0 now.1) }
+        ensures done { IfOk result (λ now. Tells (parts_of self.old)
+            (put_back_call (is_long (parts_of self.old) guard.image) session.worker guard.worker guard.slot guard.page) now.2) }
         ensures err { IfErr result (λ e. Refuses (parts_of self.old) (put_back_call
             (is_long (parts_of self.old) guard.image) session.worker guard.worker guard.slot guard.page) e.2) }
         ensures back { IfErr result (λ e. (e.0 ≡ session) × (e.1 ≡ guard)) }
-        ensures unchanged { OnErr result (parts_of self.new ≡ untold (parts_of self.old)) }
+        ensures unchanged { OnErr result (parts_of self.new ≡ parts_of self.old) }
     {
         let worker = session.worker;
         let fits = self.fits_writer(worker, &guard);
         if let Some(refusal) = objection(fits, self.asks_unlatch(worker, guard.slot)) {
-            self.refuse();
             return Err((session, guard, refusal));
         }
         let Some(frame) = self.core.frame_of(guard.page) else {
@@ -366,7 +379,11 @@ impl Store {
                 } = guard;
                 image.set_head(page, mark_in(reply));
                 self.put(frame, image);
-                Ok((self.session(worker), PinGuard { worker, slot, page }))
+                Ok((
+                    self.session(worker),
+                    PinGuard { worker, slot, page },
+                    (Move::Unlatch { worker }, reply),
+                ))
             }
             Err(refusal) => Err((session, guard, refusal)),
         }

@@ -8,7 +8,7 @@ ghost use Rattle.pp_vault.specs.Parts.{parts_of};
 ghost use Rattle.pp_vault.specs.StandsFor.{StandsFor, IsKept};
 ghost use Rattle.pp_vault.specs.Fits.{leaver_fits as fits_leaving, leaver_fits_bundle, IsEmpty, unwind_call};
 ghost use Rattle.pp_vault.specs.Fits.{unwind_bundle_call};
-ghost use Rattle.pp_vault.specs.Events.{Refuses, untold};
+ghost use Rattle.pp_vault.specs.Events.{Refuses, Tells};
 ghost use Rattle.pp_vault.specs.Tokens.{is_long};
 ghost use Rattle.pp_vault.specs.Leaves.{give_back_call, GivesSlot, GivesImage, GivesBundle, GivesBack};
 
@@ -17,6 +17,7 @@ use crate::latching::mark_in;
 use crate::refusal::Refusal;
 use crate::store::Store;
 use crate::tokens::Leaver;
+use crate::vault::Done;
 use pp_core::{Held, Move};
 
 impl Store {
@@ -53,25 +54,26 @@ impl Store {
         slot: u32,
         page: u32,
         held: Held,
-    ) -> Result<Leaver, (Leaver, Refusal)>
+    ) -> Result<(Leaver, Done), (Leaver, Refusal)>
         requires kept { IsKept (parts_of self.old) }
         requires not_written { held ≢ X }
         ensures ok { IfOk result
-            (λ after. GivesSlot (parts_of self.old) leaver of slot page held (parts_of self.new) after) }
+            (λ now. GivesSlot (parts_of self.old) leaver of slot page held (parts_of self.new) now.0) }
         ensures empty { IfOk result (λ _. (s : State) → StandsFor (parts_of self.new) s
             → IsEmpty s leaver.worker slot) }
+        ensures done { IfOk result (λ now. Tells (parts_of self.old)
+            (unwind_call true held leaver.worker of slot page) now.1) }
         ensures err { IfErr result (λ e. Refuses (parts_of self.old)
             (unwind_call true held leaver.worker of slot page) e.1) }
         ensures back { IfErr result (λ e. e.0 ≡ leaver) }
-        ensures unchanged { OnErr result (parts_of self.new ≡ untold (parts_of self.old)) }
+        ensures unchanged { OnErr result (parts_of self.new ≡ parts_of self.old) }
     {
         let worker = leaver.worker;
         if !self.fits_leaver(worker, of, slot, page, held) {
-            self.refuse();
             return Err((leaver, Refusal::Stranger));
         }
         match self.step(Move::Unwind { worker, slot }) {
-            Ok(_) => Ok(leaver),
+            Ok(reply) => Ok((leaver, (Move::Unwind { worker, slot }, reply))),
             Err(refusal) => Err((leaver, refusal)),
         }
     }
@@ -82,19 +84,20 @@ impl Store {
         &mut self,
         leaver: Leaver,
         guard: WriteGuard,
-    ) -> Result<Leaver, (Leaver, WriteGuard, Refusal)>
+    ) -> Result<(Leaver, Done), (Leaver, WriteGuard, Refusal)>
         requires { IsKept (parts_of self.old) }
-        ensures ok { IfOk result (λ after. GivesImage (parts_of self.old) leaver guard (parts_of self.new) after) }
+        ensures ok { IfOk result (λ now. GivesImage (parts_of self.old) leaver guard (parts_of self.new) now.0) }
         ensures empty { IfOk result (λ _. (s : State) → StandsFor (parts_of self.new) s
             → IsEmpty s leaver.worker guard.slot) }
+        ensures done { IfOk result (λ now. Tells (parts_of self.old)
+            (unwind_call (is_long (parts_of self.old) guard.image) X leaver.worker guard.worker guard.slot guard.page) now.1) }
         ensures err { IfErr result (λ e. Refuses (parts_of self.old) (unwind_call
             (is_long (parts_of self.old) guard.image) X leaver.worker guard.worker guard.slot guard.page) e.2) }
         ensures back { IfErr result (λ e. (e.0 ≡ leaver) × (e.1 ≡ guard)) }
-        ensures unchanged { OnErr result (parts_of self.new ≡ untold (parts_of self.old)) }
+        ensures unchanged { OnErr result (parts_of self.new ≡ parts_of self.old) }
     {
         let worker = leaver.worker;
         if !self.fits_leaving_writer(worker, &guard) {
-            self.refuse();
             return Err((leaver, guard, Refusal::Stranger));
         }
         let Some(frame) = self.core.frame_of(guard.page) else {
@@ -112,7 +115,7 @@ impl Store {
                 } = guard;
                 image.set_head(page, mark_in(reply));
                 self.put(frame, image);
-                Ok(leaver)
+                Ok((leaver, (Move::Unwind { worker, slot }, reply)))
             }
             Err(refusal) => Err((leaver, guard, refusal)),
         }
@@ -123,27 +126,28 @@ impl Store {
         &mut self,
         leaver: Leaver,
         guard: BundleGuard,
-    ) -> Result<Leaver, (Leaver, BundleGuard, Refusal)>
+    ) -> Result<(Leaver, Done), (Leaver, BundleGuard, Refusal)>
         requires { IsKept (parts_of self.old) }
         ensures ok { IfOk result
-            (λ after. GivesBundle (parts_of self.old) leaver guard.worker guard.slot (parts_of self.new) after) }
+            (λ now. GivesBundle (parts_of self.old) leaver guard.worker guard.slot (parts_of self.new) now.0) }
         ensures empty { IfOk result (λ _. (s : State) → StandsFor (parts_of self.new) s
             → IsEmpty s leaver.worker guard.slot) }
+        ensures done { IfOk result (λ now. Tells (parts_of self.old)
+            (unwind_bundle_call leaver.worker guard.worker guard.slot) now.1) }
         ensures err { IfErr result (λ e. Refuses (parts_of self.old)
             (unwind_bundle_call leaver.worker guard.worker guard.slot) e.2) }
         ensures back { IfErr result (λ e. (e.0 ≡ leaver) × (e.1 ≡ guard)) }
-        ensures unchanged { OnErr result (parts_of self.new ≡ untold (parts_of self.old)) }
+        ensures unchanged { OnErr result (parts_of self.new ≡ parts_of self.old) }
     {
         let worker = leaver.worker;
         let slot = guard.slot;
         if !self.fits_leaver_bundle(worker, guard.worker, slot) {
-            self.refuse();
             return Err((leaver, guard, Refusal::Stranger));
         }
         match self.step(Move::Unwind { worker, slot }) {
-            Ok(_) => {
+            Ok(reply) => {
                 let BundleGuard { worker: _, slot: _ } = guard;
-                Ok(leaver)
+                Ok((leaver, (Move::Unwind { worker, slot }, reply)))
             }
             Err(refusal) => Err((leaver, guard, refusal)),
         }
@@ -154,20 +158,22 @@ impl Store {
         &mut self,
         leaver: Leaver,
         guard: Guard,
-    ) -> Result<Leaver, (Leaver, Guard, Refusal)>
+    ) -> Result<(Leaver, Done), (Leaver, Guard, Refusal)>
         requires { IsKept (parts_of self.old) }
-        ensures ok { IfOk result (λ after. GivesBack (parts_of self.old) leaver guard (parts_of self.new) after) }
+        ensures ok { IfOk result (λ now. GivesBack (parts_of self.old) leaver guard (parts_of self.new) now.0) }
         ensures empty { IfOk result (λ _. (s : State) → StandsFor (parts_of self.new) s
             → IsEmpty s leaver.worker (slot_by guard)) }
+        ensures done { IfOk result (λ now. Tells (parts_of self.old)
+            (give_back_call (parts_of self.old) leaver guard) now.1) }
         ensures err { IfErr result
             (λ e. Refuses (parts_of self.old) (give_back_call (parts_of self.old) leaver guard) e.2) }
         ensures back { IfErr result (λ e. (e.0 ≡ leaver) × (e.1 ≡ guard)) }
-        ensures unchanged { OnErr result (parts_of self.new ≡ untold (parts_of self.old)) }
+        ensures unchanged { OnErr result (parts_of self.new ≡ parts_of self.old) }
     {
         match guard {
             Guard::Pin(PinGuard { worker, slot, page }) => {
                 match self.give_slot(leaver, worker, slot, page, Held::Free) {
-                    Ok(leaver) => Ok(leaver),
+                    Ok(now) => Ok(now),
                     Err((leaver, refusal)) => {
                         Err((leaver, Guard::Pin(PinGuard { worker, slot, page }), refusal))
                     }
@@ -181,7 +187,7 @@ impl Store {
                     mark,
                 },
             ) => match self.give_slot(leaver, worker, slot, page, Held::S) {
-                Ok(leaver) => Ok(leaver),
+                Ok(now) => Ok(now),
                 Err((leaver, refusal)) => Err((
                     leaver,
                     Guard::Read(ReadGuard {
@@ -194,11 +200,11 @@ impl Store {
                 )),
             },
             Guard::Write(guard) => match self.give_image(leaver, guard) {
-                Ok(leaver) => Ok(leaver),
+                Ok(now) => Ok(now),
                 Err((leaver, guard, refusal)) => Err((leaver, Guard::Write(guard), refusal)),
             },
             Guard::Bundle(guard) => match self.give_bundle(leaver, guard) {
-                Ok(leaver) => Ok(leaver),
+                Ok(now) => Ok(now),
                 Err((leaver, guard, refusal)) => Err((leaver, Guard::Bundle(guard), refusal)),
             },
         }

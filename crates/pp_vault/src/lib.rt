@@ -1,7 +1,8 @@
 //! The vault of a buffer pool: its core, an image of a page for each frame, and guards that must be spent.
 //!
-//! Each call is one move of the core. What a worker has at hand are tokens: values that can't be copied and can't be
-//! let fall, so that a fixed page is unfixed, a latch is let go, and what a device was asked is answered.
+//! Each call of a worker or of the flusher is one move of the core, and answers that move and the core's reply ([`Done`]).
+//! What a worker has at hand are tokens: values that can't be copied and can't be let fall, so that a fixed page is unfixed,
+//! a latch is let go, and what a device was asked is answered.
 #![tactic(auto)]
 
 pub use answering::Answered;
@@ -18,7 +19,7 @@ pub use refusal::Refusal;
 pub use stage::{Hand, Stage};
 pub use stopped::Stopped;
 pub use tokens::{Chair, Errand, Leaver, Returned, Session};
-pub use vault::Vault;
+pub use vault::{Done, Vault};
 
 mod answering;
 mod carrying;

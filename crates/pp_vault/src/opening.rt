@@ -1,6 +1,6 @@
 //! A new vault.
 
-ghost use Rattle.std.specs.Prelude.{◌≡◌, ◌≤◌, None, IfOk};
+ghost use Rattle.std.specs.Prelude.{◌≡◌, ◌≤◌, IfOk};
 ghost use Rattle.pp_model.specs.Pool.{opening};
 ghost use Rattle.pp_core.specs.Opening.{kept_of};
 ghost use Rattle.pp_vault.specs.Parts.{parts_of};
@@ -33,7 +33,6 @@ impl Store {
     /// What a vault keeps in which nothing was done yet.
     pub(crate) fn new(alloc: Global, settings: &Settings) -> Result<Store, CoreError>
         ensures opens { IfOk result (λ store. StandsFor (parts_of store) (opening (kept_of settings.now))) }
-        ensures untold { IfOk result (λ store. store.last ≡ None) }
         ensures page_bytes { IfOk result (λ store. store.page_bytes ≡ settings.now.page_bytes) }
     {
         let core = Core::new(alloc, settings)?;
@@ -45,7 +44,6 @@ impl Store {
             images,
             spare,
             page_bytes,
-            last: None,
         })
     }
 }

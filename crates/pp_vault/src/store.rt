@@ -3,7 +3,7 @@
 ghost use Rattle.std.specs.Prelude.{◌≡◌, ◌<◌, None, Some, IsSome, IfOk, IfErr, length, slice_set};
 ghost use Rattle.pp_vault.specs.Parts.{parts_of};
 ghost use Rattle.pp_vault.specs.StandsFor.{image_in};
-ghost use Rattle.pp_vault.specs.Steps.{Stepped, Refused, Tells, TellsNone};
+ghost use Rattle.pp_vault.specs.Steps.{Stepped, Refused, IsDone, IsRefusal};
 
 use crate::image::Image;
 use crate::refusal::Refusal;
@@ -20,97 +20,73 @@ pub struct Store {
     pub(crate) spare: Option<Image>,
     /// How many bytes a page has.
     pub(crate) page_bytes: usize,
-    /// The move and the reply of the last call that was a move; none where that was refused.
-    pub(crate) last: Option<(Move, Reply)>,
+}
+
+/// The reply of a move that is done, or why the move is refused.
+#[inline(always)]
+fn answered(reply: Reply) -> Result<Reply, Refusal>
+    ensures done { IfOk result (λ given. IsDone reply given) }
+    ensures refused { IfErr result (λ refusal. IsRefusal reply refusal) }
+{
+    match reply {
+        Reply::NotNow(delay) => Err(Refusal::NotNow(delay)),
+        Reply::OffPlan(cause) => Err(Refusal::OffPlan(cause)),
+        _ => Ok(reply),
+    }
 }
 
 impl Store {
-    /// Does the move, if it is possible, and notes what is told of it.
+    /// Does the move, if it is possible.
     pub(crate) fn step(&mut self, asked: Move) -> Result<Reply, Refusal>
         ensures done { IfOk result (λ reply. Stepped (parts_of self.old) (parts_of self.new) asked reply) }
         ensures refused { IfErr result (λ refusal. Refused (parts_of self.old) (parts_of self.new) asked refusal) }
     {
-        let reply = self.core.step(&asked);
-        self.tell(asked, reply)
+        answered(self.core.step(&asked))
     }
 
-    /// Does the fix, if it is possible, and notes what is told of it.
+    /// Does the fix, if it is possible.
     #[inline(always)]
     pub(crate) fn step_fix(&mut self, worker: u32, page: u32) -> Result<Reply, Refusal>
         ensures done { IfOk result (λ reply. Stepped (parts_of self.old) (parts_of self.new) (Move.Fix worker page) reply) }
         ensures refused { IfErr result (λ refusal. Refused (parts_of self.old) (parts_of self.new) (Move.Fix worker page) refusal) }
     {
-        let reply = self.core.fix(worker, page);
-        self.tell(Move::Fix { worker, page }, reply)
+        answered(self.core.fix(worker, page))
     }
 
-    /// Does the answer to a read, if it is possible, and notes what is told of it.
+    /// Does the answer to a read, if it is possible.
     #[inline(always)]
     pub(crate) fn step_read_done(&mut self, worker: u32, came: Came) -> Result<Reply, Refusal>
         ensures done { IfOk result (λ reply. Stepped (parts_of self.old) (parts_of self.new) (Move.ReadDone worker came) reply) }
         ensures refused { IfErr result (λ refusal. Refused (parts_of self.old) (parts_of self.new) (Move.ReadDone worker came) refusal) }
     {
-        let reply = self.core.read_done(worker, came);
-        self.tell(Move::ReadDone { worker, came }, reply)
+        answered(self.core.read_done(worker, came))
     }
 
-    /// Does the unfix, if it is possible, and notes what is told of it.
+    /// Does the unfix, if it is possible.
     #[inline(always)]
     pub(crate) fn step_unfix(&mut self, worker: u32) -> Result<Reply, Refusal>
         ensures done { IfOk result (λ reply. Stepped (parts_of self.old) (parts_of self.new) (Move.Unfix worker) reply) }
         ensures refused { IfErr result (λ refusal. Refused (parts_of self.old) (parts_of self.new) (Move.Unfix worker) refusal) }
     {
-        let reply = self.core.unfix(worker);
-        self.tell(Move::Unfix { worker }, reply)
+        answered(self.core.unfix(worker))
     }
 
-    /// Does the latch, if it is possible, and notes what is told of it.
+    /// Does the latch, if it is possible.
     #[inline(always)]
     pub(crate) fn step_latch(&mut self, worker: u32) -> Result<Reply, Refusal>
         ensures done { IfOk result (λ reply. Stepped (parts_of self.old) (parts_of self.new) (Move.Latch worker) reply) }
         ensures refused { IfErr result (λ refusal. Refused (parts_of self.old) (parts_of self.new) (Move.Latch worker) refusal) }
     {
-        let reply = self.core.latch(worker);
-        self.tell(Move::Latch { worker }, reply)
+        answered(self.core.latch(worker))
     }
 
-    /// Does the unlatch, if it is possible, and notes what is told of it.
+    /// Does the unlatch, if it is possible.
     #[inline(always)]
     pub(crate) fn step_unlatch(&mut self, worker: u32) -> Result<Reply, Refusal>
         ensures done { IfOk result (λ reply. Stepped (parts_of self.old) (parts_of self.new) (Move.Unlatch worker) reply) }
         ensures refused { IfErr result (λ refusal. Refused (parts_of self.old) (parts_of self.new) (Move.Unlatch worker) refusal) }
     {
-        let reply = self.core.unlatch(worker);
-        self.tell(Move::Unlatch { worker }, reply)
-    }
-
-    /// Notes what is told of a move that the core has answered so.
-    #[inline(always)]
-    fn tell(&mut self, asked: Move, reply: Reply) -> Result<Reply, Refusal>
-        ensures done { IfOk result (λ same. Tells (parts_of self.old) (parts_of self.new) asked reply same) }
-        ensures refused { IfErr result (λ refusal. TellsNone (parts_of self.old) (parts_of self.new) reply refusal) }
-    {
-        match reply {
-            Reply::NotNow(delay) => {
-                self.last = None;
-                Err(Refusal::NotNow(delay))
-            }
-            Reply::OffPlan(cause) => {
-                self.last = None;
-                Err(Refusal::OffPlan(cause))
-            }
-            _ => {
-                self.last = Some((asked, reply));
-                Ok(reply)
-            }
-        }
-    }
-
-    /// Notes that the last call was refused.
-    pub(crate) fn refuse(&mut self)
-        ensures { parts_of self.new ≡ record (parts_of self.old) { last = None } }
-    {
-        self.last = None;
+        answered(self.core.unlatch(worker))
     }
 
     /// Takes the image out of a frame that has one.

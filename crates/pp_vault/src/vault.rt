@@ -17,15 +17,15 @@ ghost use Rattle.pp_vault.specs.Leaves.{GivesBack, give_back_call};
 ghost use Rattle.pp_vault.specs.StandsFor.{StandsFor, IsKept};
 ghost use Rattle.pp_vault.specs.Calls.{refusal_in};
 ghost use Rattle.pp_vault.specs.Headline.{HeadlineHolds};
-ghost use Rattle.pp_vault.specs.Events.{Refuses, Does, untold};
-ghost use Rattle.pp_vault.specs.Fits.{is_gathered, IsEmpty, take_call, choose_call, finish_call, end_call, unfix_call};
-ghost use Rattle.pp_vault.specs.Fits.{scatter_call, latch_call, unlatch_call, put_back_call};
+ghost use Rattle.pp_vault.specs.Events.{Refuses, Does, Tells};
+ghost use Rattle.pp_vault.specs.Fits.{is_gathered, IsEmpty, take_call, choose_call, finish_call, end_call, fix_slot, fix_call};
+ghost use Rattle.pp_vault.specs.Fits.{unfix_call, scatter_call, latch_call, unlatch_call, put_back_call};
 ghost use Rattle.pp_vault.specs.ImageMoves.{ImagesStay};
 ghost use Rattle.pp_vault.specs.Tokens.{is_long, SessionFits, HoldsNothing, ErrandFits};
 ghost use Rattle.pp_vault.specs.Flushes.{flush_call, next_call, CopiesOut, CopiesNext};
 ghost use Rattle.pp_vault.specs.Fixes.{FixAnswers};
 ghost use Rattle.pp_vault.specs.Looks.{may_see, may_look, Shows, ShowsBody};
-ghost use Rattle.pp_vault.specs.Answers.{AnswerComesTo};
+ghost use Rattle.pp_vault.specs.Answers.{answer_call, AnswerComesTo};
 ghost use Rattle.pp_cert.specs.declared.note.Held.TheVariants.{S};
 ghost use Rattle.pp_plan.specs.declared.mode.Mode.TheVariants as mode;
 ghost use Rattle.pp_vault.specs.Uses.{Unfixes, Scatters, LatchesShared, LatchesExclusive, UnlatchesShared, UnlatchesExclusive};
@@ -42,6 +42,9 @@ use pp_core::{Accepted, Ask, CoreError as VaultError, Move, PlanId, Reply, Submi
 use pp_settings::Settings;
 use std::alloc::Global;
 use std::marker::Model;
+
+/// What a call of a vault did: the move of its core, and the core's reply.
+pub type Done = (Move, Reply);
 
 /// A pool's core with an image of a page for each frame.
 #[derive(Drop)]
@@ -78,7 +81,6 @@ impl Vault {
         ensures no_flush { IfOk result (λ made. made.1.flushing ≡ None) }
         ensures fit { IfOk result (λ made. HandsFit made.0 made.1) }
         ensures page_bytes { IfOk result (λ made. made.0.page_bytes ≡ settings.now.page_bytes) }
-        ensures untold { IfOk result (λ made. made.0.last ≡ None) }
         ensures kept { IfOk result (λ made. IsKept made.0) }
         ensures headline { IfOk result (λ made. HeadlineHolds made.0) }
     {
@@ -102,13 +104,14 @@ impl Vault {
     /// # Errors
     ///
     /// [`Refusal::Stranger`] where the chair's worker isn't idle; else what the core refuses. The chair comes back.
-    pub fn take(&mut self, chair: Chair) -> Result<Session, (Chair, Refusal)>
+    pub fn take(&mut self, chair: Chair) -> Result<(Session, Done), (Chair, Refusal)>
         ensures ok { IfOk result (λ _. Does self.old (take_call chair.worker) self.new) }
         ensures images { IfOk result (λ _. ImagesStay self.old self.new) }
-        ensures session { IfOk result (λ session. SessionFits self.new chair.worker session) }
+        ensures session { IfOk result (λ now. SessionFits self.new chair.worker now.0) }
+        ensures done { IfOk result (λ now. Tells self.old (take_call chair.worker) now.1) }
         ensures err { IfErr result (λ e. Refuses self.old (take_call chair.worker) e.1) }
         ensures back { IfErr result (λ e. e.0 ≡ chair) }
-        ensures unchanged { OnErr result (self.new ≡ untold self.old) }
+        ensures unchanged { OnErr result (self.new ≡ self.old) }
         ensures kept { IsKept self.new }
         ensures headline { HeadlineHolds self.new }
     {
@@ -121,13 +124,18 @@ impl Vault {
     ///
     /// [`Refusal::Stranger`] where the session's worker doesn't act; else what the core refuses. The session comes
     /// back.
-    pub fn choose(&mut self, session: Session, branch: u32) -> Result<Session, (Session, Refusal)>
+    pub fn choose(
+        &mut self,
+        session: Session,
+        branch: u32,
+    ) -> Result<(Session, Done), (Session, Refusal)>
         ensures ok { IfOk result (λ _. Does self.old (choose_call session.worker branch) self.new) }
         ensures images { IfOk result (λ _. ImagesStay self.old self.new) }
-        ensures session { IfOk result (λ now. SessionFits self.new session.worker now) }
+        ensures session { IfOk result (λ now. SessionFits self.new session.worker now.0) }
+        ensures done { IfOk result (λ now. Tells self.old (choose_call session.worker branch) now.1) }
         ensures err { IfErr result (λ e. Refuses self.old (choose_call session.worker branch) e.1) }
         ensures back { IfErr result (λ e. e.0 ≡ session) }
-        ensures unchanged { OnErr result (self.new ≡ untold self.old) }
+        ensures unchanged { OnErr result (self.new ≡ self.old) }
         ensures kept { IsKept self.new }
         ensures headline { HeadlineHolds self.new }
     {
@@ -140,15 +148,16 @@ impl Vault {
     ///
     /// [`Refusal::Stranger`] where the session's worker doesn't act; else what the core refuses. The session comes
     /// back.
-    pub fn finish(&mut self, session: Session) -> Result<Chair, (Session, Refusal)>
+    pub fn finish(&mut self, session: Session) -> Result<(Chair, Done), (Session, Refusal)>
         ensures ok { IfOk result (λ _. Does self.old (finish_call session.worker) self.new) }
         ensures images { IfOk result (λ _. ImagesStay self.old self.new) }
-        ensures chair { IfOk result (λ chair. chair ≡ record { worker = session.worker }) }
+        ensures chair { IfOk result (λ now. now.0 ≡ record { worker = session.worker }) }
         ensures idle { IfOk result (λ _. (s : State) → StandsFor self.new s → is_idle s session.worker ≡ true) }
         ensures nothing_held { IfOk result (λ _. HoldsNothing self.old session.worker) }
+        ensures done { IfOk result (λ now. Tells self.old (finish_call session.worker) now.1) }
         ensures err { IfErr result (λ e. Refuses self.old (finish_call session.worker) e.1) }
         ensures back { IfErr result (λ e. e.0 ≡ session) }
-        ensures unchanged { OnErr result (self.new ≡ untold self.old) }
+        ensures unchanged { OnErr result (self.new ≡ self.old) }
         ensures kept { IsKept self.new }
         ensures headline { HeadlineHolds self.new }
     {
@@ -160,15 +169,16 @@ impl Vault {
     /// # Errors
     ///
     /// [`Refusal::Stranger`] where the worker doesn't leave its plan; else what the core refuses. The token comes back.
-    pub fn end(&mut self, leaver: Leaver) -> Result<Chair, (Leaver, Refusal)>
+    pub fn end(&mut self, leaver: Leaver) -> Result<(Chair, Done), (Leaver, Refusal)>
         ensures ok { IfOk result (λ _. Does self.old (end_call leaver.worker) self.new) }
         ensures images { IfOk result (λ _. ImagesStay self.old self.new) }
-        ensures chair { IfOk result (λ chair. chair ≡ record { worker = leaver.worker }) }
+        ensures chair { IfOk result (λ now. now.0 ≡ record { worker = leaver.worker }) }
         ensures idle { IfOk result (λ _. (s : State) → StandsFor self.new s → is_idle s leaver.worker ≡ true) }
         ensures nothing_held { IfOk result (λ _. HoldsNothing self.old leaver.worker) }
+        ensures done { IfOk result (λ now. Tells self.old (end_call leaver.worker) now.1) }
         ensures err { IfErr result (λ e. Refuses self.old (end_call leaver.worker) e.1) }
         ensures back { IfErr result (λ e. e.0 ≡ leaver) }
-        ensures unchanged { OnErr result (self.new ≡ untold self.old) }
+        ensures unchanged { OnErr result (self.new ≡ self.old) }
         ensures kept { IsKept self.new }
         ensures headline { HeadlineHolds self.new }
     {
@@ -180,12 +190,13 @@ impl Vault {
     /// # Errors
     ///
     /// What the core refuses.
-    pub fn flush(&mut self, page: u32) -> Result<Errand, Refusal>
+    pub fn flush(&mut self, page: u32) -> Result<(Errand, Done), Refusal>
         ensures ok { IfOk result (λ _. Does self.old (flush_call page) self.new) }
-        ensures errand { IfOk result (λ errand. ErrandFits self.new errand) }
-        ensures copied { IfOk result (λ errand. CopiesOut self.old self.new page errand) }
+        ensures errand { IfOk result (λ now. ErrandFits self.new now.0) }
+        ensures copied { IfOk result (λ now. CopiesOut self.old self.new page now.0) }
+        ensures done { IfOk result (λ now. Tells self.old (flush_call page) now.1) }
         ensures err { IfErr result (λ why. Refuses self.old (flush_call page) why) }
-        ensures unchanged { OnErr result (self.new ≡ untold self.old) }
+        ensures unchanged { OnErr result (self.new ≡ self.old) }
         ensures kept { IsKept self.new }
         ensures headline { HeadlineHolds self.new }
     {
@@ -199,19 +210,20 @@ impl Vault {
     ///
     /// Where no page lets one begin, [`Refusal::NotNow`] while a flush is in flight, and else [`Refusal::OffPlan`].
     /// Where one does, what the core refuses.
-    pub fn flush_next(&mut self, number: u32) -> Result<Errand, Refusal>
+    pub fn flush_next(&mut self, number: u32) -> Result<(Errand, Done), Refusal>
         ensures ok { IfOk result (λ _. Does self.old (next_call number) self.new) }
-        ensures errand { IfOk result (λ errand. ErrandFits self.new errand) }
-        ensures copied { IfOk result (λ errand. CopiesNext self.old self.new number errand) }
+        ensures errand { IfOk result (λ now. ErrandFits self.new now.0) }
+        ensures copied { IfOk result (λ now. CopiesNext self.old self.new number now.0) }
+        ensures done { IfOk result (λ now. Tells self.old (next_call number) now.1) }
         ensures err { IfErr result (λ why. Refuses self.old (next_call number) why) }
-        ensures unchanged { OnErr result (self.new ≡ untold self.old) }
+        ensures unchanged { OnErr result (self.new ≡ self.old) }
         ensures kept { IsKept self.new }
         ensures headline { HeadlineHolds self.new }
     {
         self.store.flush_next(number)
     }
 
-    /// Takes a plan in, which waits behind the others, and answers its number. It isn't told by [`Vault::done`].
+    /// Takes a plan in, which waits behind the others, and answers its number.
     ///
     /// # Errors
     ///
@@ -295,22 +307,6 @@ impl Vault {
         self.store.has_gathered(worker, slot)
     }
 
-    /// Does nothing but that no move is told of the last call, as of one that was refused.
-    pub fn refuse(&mut self)
-        ensures unchanged { self.new ≡ untold self.old }
-        ensures kept { IsKept self.new }
-        ensures headline { HeadlineHolds self.new }
-    {
-        self.store.refuse();
-    }
-
-    /// The move and the reply of the last call that was a move; none before the first, and where it was refused.
-    pub fn done(&self) -> Option<(Move, Reply)>
-        ensures { result ≡ self.now.last }
-    {
-        self.store.last
-    }
-
     /// Gives the vault up, with all tokens that are in its hands.
     pub fn scrap(self, hands: Hands) {
         let Vault { store: _store } = self;
@@ -330,12 +326,16 @@ impl Vault {
     /// frame, and the image in that frame goes with an errand: to have the page read into it, or first to be written back,
     /// where it is of a victim that is newer than the device's.
     ///
-    /// It is refused as [`Refusal::Stranger`] where the session's worker doesn't act, or the session tells another slot than
-    /// the plan, and else as the core refuses it.
-    /// Then the session comes back, and nothing has changed.
-    #[tactic(auto, using(crate::proofs::FixKept::fix_keeps))]
-    pub fn fix(&mut self, session: Session, page: u32) -> Fixed
-        ensures answers { FixAnswers self.old session page result self.new }
+    /// # Errors
+    ///
+    /// [`Refusal::Stranger`] where the session's worker doesn't act, or the session tells another slot than the plan; else
+    /// what the core refuses. The session comes back, and nothing has changed.
+    pub fn fix(&mut self, session: Session, page: u32) -> Result<(Fixed, Done), (Session, Refusal)>
+        ensures ok { IfOk result (λ now. FixAnswers self.old session page now.0 self.new) }
+        ensures done { IfOk result (λ now. Tells self.old (fix_call session.worker (fix_slot session.ask) page) now.1) }
+        ensures err { IfErr result (λ e. Refuses self.old (fix_call session.worker (fix_slot session.ask) page) e.1) }
+        ensures back { IfErr result (λ e. e.0 ≡ session) }
+        ensures unchanged { OnErr result (self.new ≡ self.old) }
         ensures kept { IsKept self.new }
         ensures headline { HeadlineHolds self.new }
     {
@@ -345,11 +345,16 @@ impl Vault {
     /// The device has answered an errand: its image comes back, and goes into a frame, on with a read of the page, or
     /// to the flusher.
     ///
-    /// An answer that isn't of a duty of this state, or whose image is of another length, or isn't the victim's that
-    /// was to be written, is refused as [`Refusal::Stranger`].
-    #[tactic(auto, using(crate::proofs::DutyEnds::answer_keeps))]
-    pub fn answer(&mut self, returned: Returned) -> Answered
-        ensures answers { AnswerComesTo self.old returned result self.new }
+    /// # Errors
+    ///
+    /// [`Refusal::Stranger`] where the answer isn't of a duty of this state, or its image is of another length, or isn't
+    /// the victim's that was to be written. What was made of the errand comes back, and nothing has changed.
+    pub fn answer(&mut self, returned: Returned) -> Result<(Answered, Done), (Returned, Refusal)>
+        ensures ok { IfOk result (λ now. AnswerComesTo self.old returned now.0 self.new) }
+        ensures done { IfOk result (λ now. Tells self.old (answer_call self.old.page_bytes returned) now.1) }
+        ensures err { IfErr result (λ e. Refuses self.old (answer_call self.old.page_bytes returned) e.1) }
+        ensures back { IfErr result (λ e. e.0 ≡ returned) }
+        ensures unchanged { OnErr result (self.new ≡ self.old) }
         ensures kept { IsKept self.new }
         ensures headline { HeadlineHolds self.new }
     {
@@ -366,14 +371,16 @@ impl Vault {
         &mut self,
         session: Session,
         guard: PinGuard,
-    ) -> Result<Session, (Session, PinGuard, Refusal)>
-        ensures ok { IfOk result (λ after. Unfixes self.old session guard self.new after) }
+    ) -> Result<(Session, Done), (Session, PinGuard, Refusal)>
+        ensures ok { IfOk result (λ now. Unfixes self.old session guard self.new now.0) }
         ensures empty { IfOk result (λ _. (s : State) → StandsFor self.new s
             → IsEmpty s session.worker guard.slot) }
+        ensures done { IfOk result (λ now. Tells self.old
+            (unfix_call session.worker guard.worker guard.slot guard.page) now.1) }
         ensures err { IfErr result (λ e. Refuses self.old
             (unfix_call session.worker guard.worker guard.slot guard.page) e.2) }
         ensures back { IfErr result (λ e. (e.0 ≡ session) × (e.1 ≡ guard)) }
-        ensures unchanged { OnErr result (self.new ≡ untold self.old) }
+        ensures unchanged { OnErr result (self.new ≡ self.old) }
         ensures kept { IsKept self.new }
         ensures headline { HeadlineHolds self.new }
     {
@@ -389,14 +396,16 @@ impl Vault {
         &mut self,
         session: Session,
         guard: BundleGuard,
-    ) -> Result<Session, (Session, BundleGuard, Refusal)>
-        ensures ok { IfOk result (λ after. Scatters self.old session guard self.new after) }
+    ) -> Result<(Session, Done), (Session, BundleGuard, Refusal)>
+        ensures ok { IfOk result (λ now. Scatters self.old session guard self.new now.0) }
         ensures empty { IfOk result (λ _. (s : State) → StandsFor self.new s
             → IsEmpty s session.worker guard.slot) }
+        ensures done { IfOk result (λ now. Tells self.old
+            (scatter_call session.worker guard.worker guard.slot) now.1) }
         ensures err { IfErr result (λ e. Refuses self.old
             (scatter_call session.worker guard.worker guard.slot) e.2) }
         ensures back { IfErr result (λ e. (e.0 ≡ session) × (e.1 ≡ guard)) }
-        ensures unchanged { OnErr result (self.new ≡ untold self.old) }
+        ensures unchanged { OnErr result (self.new ≡ self.old) }
         ensures kept { IsKept self.new }
         ensures headline { HeadlineHolds self.new }
     {
@@ -412,12 +421,14 @@ impl Vault {
         &mut self,
         session: Session,
         guard: PinGuard,
-    ) -> Result<(Session, ReadGuard), (Session, PinGuard, Refusal)>
+    ) -> Result<(Session, ReadGuard, Done), (Session, PinGuard, Refusal)>
         ensures ok { IfOk result (λ now. LatchesShared self.old session guard self.new now.0 now.1) }
+        ensures done { IfOk result (λ now. Tells self.old
+            (latch_call mode.S session.worker guard.worker guard.slot guard.page) now.2) }
         ensures err { IfErr result (λ e. Refuses self.old
             (latch_call mode.S session.worker guard.worker guard.slot guard.page) e.2) }
         ensures back { IfErr result (λ e. (e.0 ≡ session) × (e.1 ≡ guard)) }
-        ensures unchanged { OnErr result (self.new ≡ untold self.old) }
+        ensures unchanged { OnErr result (self.new ≡ self.old) }
         ensures kept { IsKept self.new }
         ensures headline { HeadlineHolds self.new }
     {
@@ -433,12 +444,14 @@ impl Vault {
         &mut self,
         session: Session,
         guard: PinGuard,
-    ) -> Result<(Session, WriteGuard), (Session, PinGuard, Refusal)>
+    ) -> Result<(Session, WriteGuard, Done), (Session, PinGuard, Refusal)>
         ensures ok { IfOk result (λ now. LatchesExclusive self.old session guard self.new now.0 now.1) }
+        ensures done { IfOk result (λ now. Tells self.old
+            (latch_call mode.X session.worker guard.worker guard.slot guard.page) now.2) }
         ensures err { IfErr result (λ e. Refuses self.old
             (latch_call mode.X session.worker guard.worker guard.slot guard.page) e.2) }
         ensures back { IfErr result (λ e. (e.0 ≡ session) × (e.1 ≡ guard)) }
-        ensures unchanged { OnErr result (self.new ≡ untold self.old) }
+        ensures unchanged { OnErr result (self.new ≡ self.old) }
         ensures kept { IsKept self.new }
         ensures headline { HeadlineHolds self.new }
     {
@@ -474,12 +487,14 @@ impl Vault {
         &mut self,
         session: Session,
         guard: ReadGuard,
-    ) -> Result<(Session, PinGuard), (Session, ReadGuard, Refusal)>
+    ) -> Result<(Session, PinGuard, Done), (Session, ReadGuard, Refusal)>
         ensures ok { IfOk result (λ now. UnlatchesShared self.old session guard self.new now.0 now.1) }
+        ensures done { IfOk result (λ now. Tells self.old
+            (unlatch_call S session.worker guard.worker guard.slot guard.page) now.2) }
         ensures err { IfErr result (λ e. Refuses self.old
             (unlatch_call S session.worker guard.worker guard.slot guard.page) e.2) }
         ensures back { IfErr result (λ e. (e.0 ≡ session) × (e.1 ≡ guard)) }
-        ensures unchanged { OnErr result (self.new ≡ untold self.old) }
+        ensures unchanged { OnErr result (self.new ≡ self.old) }
         ensures kept { IsKept self.new }
         ensures headline { HeadlineHolds self.new }
     {
@@ -496,12 +511,14 @@ impl Vault {
         &mut self,
         session: Session,
         guard: WriteGuard,
-    ) -> Result<(Session, PinGuard), (Session, WriteGuard, Refusal)>
+    ) -> Result<(Session, PinGuard, Done), (Session, WriteGuard, Refusal)>
         ensures ok { IfOk result (λ now. UnlatchesExclusive self.old session guard self.new now.0 now.1) }
+        ensures done { IfOk result (λ now. Tells self.old
+            (put_back_call (is_long self.old guard.image) session.worker guard.worker guard.slot guard.page) now.2) }
         ensures err { IfErr result (λ e. Refuses self.old
             (put_back_call (is_long self.old guard.image) session.worker guard.worker guard.slot guard.page) e.2) }
         ensures back { IfErr result (λ e. (e.0 ≡ session) × (e.1 ≡ guard)) }
-        ensures unchanged { OnErr result (self.new ≡ untold self.old) }
+        ensures unchanged { OnErr result (self.new ≡ self.old) }
         ensures kept { IsKept self.new }
         ensures headline { HeadlineHolds self.new }
     {
@@ -519,13 +536,14 @@ impl Vault {
         &mut self,
         leaver: Leaver,
         guard: Guard,
-    ) -> Result<Leaver, (Leaver, Guard, Refusal)>
-        ensures ok { IfOk result (λ after. GivesBack self.old leaver guard self.new after) }
+    ) -> Result<(Leaver, Done), (Leaver, Guard, Refusal)>
+        ensures ok { IfOk result (λ now. GivesBack self.old leaver guard self.new now.0) }
         ensures empty { IfOk result (λ _. (s : State) → StandsFor self.new s
             → IsEmpty s leaver.worker (slot_by guard)) }
+        ensures done { IfOk result (λ now. Tells self.old (give_back_call self.old leaver guard) now.1) }
         ensures err { IfErr result (λ e. Refuses self.old (give_back_call self.old leaver guard) e.2) }
         ensures back { IfErr result (λ e. (e.0 ≡ leaver) × (e.1 ≡ guard)) }
-        ensures unchanged { OnErr result (self.new ≡ untold self.old) }
+        ensures unchanged { OnErr result (self.new ≡ self.old) }
         ensures kept { IsKept self.new }
         ensures headline { HeadlineHolds self.new }
     {

@@ -8,24 +8,24 @@ pub returns-clause-empty : goal.returns-clause-empty
 returns-clause-empty c = empty_agree
 
 pub returns-clause-calls : goal.returns-clause-calls
-returns-clause-calls c = λ old new s hands after told w hand left m reply before there moves back last later agrees.
+returns-clause-calls c = λ old new s hands after told w hand left m reply before there moves back said later agrees.
     record {
-      stay = call_content old new s hands after told w hand left m reply before there back last later agrees moves;
+      stay = call_content old new s hands after told w hand left m reply before there back later agrees moves said;
       agrees =
-          step_agrees old new s hands after told w hand left m reply before there moves back last later
-          (call_image old new s hands after told w hand left m reply before there back last later agrees moves) agrees;
+          step_agrees old new s hands after told w hand left m reply before there moves back said later
+          (call_image old new s hands after told w hand left m reply before there back later agrees moves said) agrees;
     }
 
 pub returns-clause-answers : goal.returns-clause-answers
 returns-clause-answers c =
-    λ old new s hands after told w hand left errand given answer m reply before there out gives moves back last later
+    λ old new s hands after told w hand left errand given answer m reply before there out gives moves back said later
     agrees. (
-      answer_content old new s hands after told w hand left m reply before there back last later agrees errand given answer
-          out gives moves,
-      answer_agrees old new s hands after told w hand left errand given answer m reply before there out gives moves back last
+      answer_content old new s hands after told w hand left m reply before there back later agrees errand given answer out
+          gives moves said,
+      answer_agrees old new s hands after told w hand left errand given answer m reply before there out gives moves back said
           later
-          (answer_image old new s hands after told w hand left m reply before there back last later agrees errand given answer
-          out gives moves)
+          (answer_image old new s hands after told w hand left m reply before there back later agrees errand given answer out
+          gives moves said)
           agrees,
     )
 

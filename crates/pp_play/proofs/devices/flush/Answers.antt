@@ -12,7 +12,6 @@ use Rattle.pp_contents.specs.ContentLaws.{KeepsContents}
 use Rattle.pp_play.specs.Exact.{Plays}
 use Rattle.pp_play.specs.Plays.{Tells}
 use Rattle.pp_play.specs.Following.{FlusherFollows}
-use Rattle.pp_play.proofs.Moved.{did_so}
 use Rattle.pp_play.proofs.Overs.{Laws, flush_kept, flush_done, flush_stays}
 use Rattle.pp_play.proofs.devices.flush.Goals as goal
 
@@ -21,14 +20,15 @@ returns-in-Ok-clause-comes c =
     let old = c.args.vault.now in
     let new = c.flush.new.self in
     done_comes old new (cue.Flush c.args.page) c.did.result
-    (begun old new c.args.page c.known.ensures.kept c.in-Ok.ensures.ok) c.did.ensures
+    (begun old new c.args.page c.known.ensures.kept c.in-Ok.ensures.ok c.in-Ok.ensures.done) c.did.ensures
 
 pub returns-in-Ok-clause-plays : goal.returns-in-Ok-clause-plays
 returns-in-Ok-clause-plays c fits =
     let laws = c.hands_still_fit.ensures in
     flush_plays (still_fits laws.others laws.slots laws.flushing) c.args.vault.now c.flush.new.self
     c.known.ensures.kept c.args.page c.in-Ok.errand c.args.hands.now c.put_flushing.new.hands c.did.result fits
-    c.in-Ok.ensures.ok c.in-Ok.ensures.errand c.in-Ok.ensures.copied.duty c.put_flushing.ensures c.did.ensures
+    c.in-Ok.ensures.ok c.in-Ok.ensures.errand c.in-Ok.ensures.copied.duty c.put_flushing.ensures
+    c.in-Ok.ensures.done c.did.ensures
 
 pub returns-in-Err-clause-plays : goal.returns-in-Err-clause-plays
 returns-in-Err-clause-plays c fits =
@@ -59,9 +59,8 @@ returns-in-Ok-clause-contents c fits s st told agrees =
     let plays =
     flush_plays (still_fits laws.others laws.slots laws.flushing) old new c.known.ensures.kept page c.in-Ok.errand hands
     left c.did.result fits c.in-Ok.ensures.ok c.in-Ok.ensures.errand c.in-Ok.ensures.copied.duty c.put_flushing.ensures
-    c.did.ensures in
-    let done = begun old new page c.known.ensures.kept c.in-Ok.ensures.ok in
-    let d = did_so new.last c.did.result done.some c.did.ensures in
+    c.in-Ok.ensures.done c.did.ensures in
+    let d = c.in-Ok.done in
     let none : hands.flushing ≡ None = search rules in
     let contents : Laws = record {
       calls = c.contents_are_kept.ensures.calls;
@@ -74,10 +73,10 @@ returns-in-Ok-clause-contents c fits s st told agrees =
     subst
     (λ l. (t : State) × Tells s (cue.Flush page) l t × StandsFor new t × FlusherFollows old s hands (cue.Flush page) l left
     × (new.page_bytes ≡ old.page_bytes) × KeepsContents old s hands told new t left told)
-    (sym d.line_is)
-    (flush_done contents old new hands left page c.in-Ok.errand d.m d.reply none c.in-Ok.ensures.ok
-    c.in-Ok.ensures.copied c.put_flushing.ensures d.last_is fits
-    (subst (λ l. Plays old hands (cue.Flush page) l new left) d.line_is plays) s st told agrees)
+    (sym c.did.ensures)
+    (flush_done contents old new hands left page c.in-Ok.errand d.0 d.1 none c.in-Ok.ensures.ok
+    c.in-Ok.ensures.copied c.put_flushing.ensures c.in-Ok.ensures.done fits
+    (subst (λ l. Plays old hands (cue.Flush page) l new left) c.did.ensures plays) s st told agrees)
 
 pub returns-in-Err-clause-contents : goal.returns-in-Err-clause-contents
 returns-in-Err-clause-contents c fits s st told agrees =

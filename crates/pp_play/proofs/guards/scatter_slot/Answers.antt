@@ -3,7 +3,6 @@ use Rattle.std.specs.Prelude.{slice_set}
 use Rattle.std.proofs.lemmas.Bool.{false≢true}
 use Rattle.pp_vault.specs.declared.guards.Guard.TheVariants.{Bundle}
 use Rattle.pp_vault.specs.declared.stage.Stage.TheVariants.{In}
-use Rattle.pp_vault.specs.Events.{untold}
 use Rattle.pp_vault.specs.Holding.{slot_by, placed}
 use Rattle.pp_script.specs.declared.cue.Cue.TheVariants as cue
 use Rattle.pp_play.specs.declared.line.Line.TheVariants.{Refused}
@@ -18,18 +17,14 @@ use Rattle.pp_contents.specs.HandMoves.{scatters}
 use Rattle.pp_play.proofs.Moved.{did_moves}
 use Rattle.pp_play.proofs.guards.scatter_slot.Goals as goal
 
-pub did-requires : goal.did-requires
-did-requires c =
-    (scatter_done c.args.vault.now c.scatter.new.self c.requires.kept c.args.session.worker c.args.session.worker refl _ _
-    c.in-Ok.ensures.ok.does).some
-
 pub returns-in-Ok-clause-comes : goal.returns-in-Ok-clause-comes
 returns-in-Ok-clause-comes c =
     let old = c.args.vault.now in
     let new = c.scatter.new.self in
     let w = c.args.worker in
     done_comes old new (cue.Unfix w) c.did.result
-    (scatter_done old new c.requires.kept c.args.session.worker w c.requires.of _ _ c.in-Ok.ensures.ok.does)
+    (scatter_done old new c.requires.kept c.args.session.worker w c.requires.of _ _ c.in-Ok.ensures.ok.does
+    c.in-Ok.ensures.done)
     c.did.ensures
 
 pub returns-in-Ok-clause-plays : goal.returns-in-Ok-clause-plays
@@ -54,7 +49,8 @@ returns-in-Ok-clause-plays c =
     (λ fits.
     scatter_plays old new c.requires.kept x places fits c.args.slot c.requires.asks g at laws c.in-Ok.session
     c.in-Ok.ensures.ok c.in-Ok.ensures.empty c.did.result
-    (scatter_done old new c.requires.kept x.worker x.worker refl _ _ c.in-Ok.ensures.ok.does) c.did.ensures))
+    (scatter_done old new c.requires.kept x.worker x.worker refl _ _ c.in-Ok.ensures.ok.does c.in-Ok.ensures.done)
+    c.did.ensures))
 
 pub returns-in-Err-clause-plays : goal.returns-in-Err-clause-plays
 returns-in-Err-clause-plays c =
@@ -77,7 +73,7 @@ returns-in-Err-clause-plays c =
     (hand_of (In x) places)) c.requires.of
     (λ fits.
     scatter_refused old new c.requires.kept x places fits c.args.slot c.requires.asks g at c.in-Err.refusal
-    c.in-Err.ensures.err (ap untold c.in-Err.ensures.unchanged)))
+    c.in-Err.ensures.err c.in-Err.ensures.unchanged))
 
 pub returns-in_default-clause-plays : goal.returns-in_default-clause-plays
 returns-in_default-clause-plays c =
@@ -110,7 +106,6 @@ returns-in-Ok-clause-moves c =
     let here : placed places slot ≡ Some c.in-Some.guard = search rules in
     let at : placed places slot ≡ Some (Bundle g) = here ∙ ap (λ o. Some o) c.in-Bundle.is in
     let gone : c.take.new.self ≡ slice_set places slot None = search rules in
-    let done = scatter_done old new c.requires.kept x.worker x.worker refl _ _ c.in-Ok.ensures.ok.does in
     rw gone
     (did_moves old new (hand_of (In x) places) (hand_of (In c.in-Ok.session) (slice_set places slot None)) c.did.result
-    done.some c.did.ensures (scatters x c.in-Ok.session slot g refl at c.in-Ok.ensures.ok refl))
+    c.did.ensures (scatters x c.in-Ok.session slot g refl at c.in-Ok.ensures.ok refl, c.in-Ok.ensures.done))

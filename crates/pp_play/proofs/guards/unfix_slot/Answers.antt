@@ -3,7 +3,6 @@ use Rattle.std.specs.Prelude.{slice_set}
 use Rattle.std.proofs.lemmas.Bool.{false≢true}
 use Rattle.pp_vault.specs.declared.guards.Guard.TheVariants.{Pin}
 use Rattle.pp_vault.specs.declared.stage.Stage.TheVariants.{In}
-use Rattle.pp_vault.specs.Events.{untold}
 use Rattle.pp_vault.specs.Holding.{slot_by, placed}
 use Rattle.pp_script.specs.declared.cue.Cue.TheVariants as cue
 use Rattle.pp_play.specs.declared.line.Line.TheVariants.{Refused}
@@ -24,7 +23,8 @@ returns-in-Ok-clause-comes c =
     let new = c.unfix.new.self in
     let w = c.args.worker in
     done_comes old new (cue.Unfix w) c.did.result
-    (unfix_done old new c.requires.kept c.args.session.worker w c.requires.of _ _ _ c.in-Ok.ensures.ok.does)
+    (unfix_done old new c.requires.kept c.args.session.worker w c.requires.of _ _ _ c.in-Ok.ensures.ok.does
+    c.in-Ok.ensures.done)
     c.did.ensures
 
 pub returns-in-Ok-clause-plays : goal.returns-in-Ok-clause-plays
@@ -49,7 +49,8 @@ returns-in-Ok-clause-plays c =
     (λ fits.
     unfix_plays old new c.requires.kept x places fits c.args.slot c.requires.asks g at laws c.in-Ok.session
     c.in-Ok.ensures.ok c.in-Ok.ensures.empty c.did.result
-    (unfix_done old new c.requires.kept x.worker x.worker refl _ _ _ c.in-Ok.ensures.ok.does) c.did.ensures))
+    (unfix_done old new c.requires.kept x.worker x.worker refl _ _ _ c.in-Ok.ensures.ok.does c.in-Ok.ensures.done)
+    c.did.ensures))
 
 pub returns-in-Err-clause-plays : goal.returns-in-Err-clause-plays
 returns-in-Err-clause-plays c =
@@ -72,7 +73,7 @@ returns-in-Err-clause-plays c =
     (hand_of (In x) places)) c.requires.of
     (λ fits.
     unfix_refused old new c.requires.kept x places fits c.args.slot c.requires.asks g at c.in-Err.refusal
-    c.in-Err.ensures.err (ap untold c.in-Err.ensures.unchanged)))
+    c.in-Err.ensures.err c.in-Err.ensures.unchanged))
 
 pub returns-in_default-clause-plays : goal.returns-in_default-clause-plays
 returns-in_default-clause-plays c =
@@ -105,7 +106,6 @@ returns-in-Ok-clause-moves c =
     let here : placed places slot ≡ Some c.in-Some.guard = search rules in
     let at : placed places slot ≡ Some (Pin g) = here ∙ ap (λ o. Some o) c.in-Pin.is in
     let gone : c.take.new.self ≡ slice_set places slot None = search rules in
-    let done = unfix_done old new c.requires.kept x.worker x.worker refl _ _ _ c.in-Ok.ensures.ok.does in
     rw gone
     (did_moves old new (hand_of (In x) places) (hand_of (In c.in-Ok.session) (slice_set places slot None)) c.did.result
-    done.some c.did.ensures (unfixes x c.in-Ok.session slot g refl at c.in-Ok.ensures.ok refl))
+    c.did.ensures (unfixes x c.in-Ok.session slot g refl at c.in-Ok.ensures.ok refl, c.in-Ok.ensures.done))

@@ -1,7 +1,6 @@
 use Rattle.std.proofs.Common.{◌≡◌, ◌∙◌, Some, None, refl, sym, ap, subst, rules}
 use Rattle.std.specs.Prelude.{slice_set}
 use Rattle.pp_vault.specs.declared.stage.Stage.TheVariants.{Leaving}
-use Rattle.pp_vault.specs.Events.{untold}
 use Rattle.pp_vault.specs.Holding.{slot_by, placed}
 use Rattle.pp_script.specs.declared.cue.Cue.TheVariants as cue
 use Rattle.pp_play.specs.declared.line.Line.TheVariants.{Refused}
@@ -19,12 +18,6 @@ use Rattle.pp_contents.specs.HandMoves.{gives_back}
 use Rattle.pp_play.proofs.Moved.{did_moves, refused_moves}
 use Rattle.pp_play.proofs.guards.unwind.Goals as goal
 
-pub did-requires : goal.did-requires
-did-requires c =
-    (given_back c.args.vault.now c.give_back.new.self c.known.ensures.kept c.args.worker c.args.slot
-    c.in-Leaving.leaver c.in-Ok.leaver (same _ _ (search rules)) c.in-Some.guard c.in-Some.ensures.slot
-    c.in-Ok.ensures.ok).some
-
 pub put-requires : goal.put-requires
 put-requires c =
     let at : slot_by c.in-Err.guard ≡ c.args.slot = ap slot_by c.in-Err.ensures.back.1 ∙ c.in-Some.ensures.slot in
@@ -36,7 +29,8 @@ returns-in-Ok-clause-comes c =
     let new = c.give_back.new.self in
     done_comes old new (cue.Unwind c.args.worker c.args.slot) c.did.result
     (given_back old new c.known.ensures.kept c.args.worker c.args.slot c.in-Leaving.leaver c.in-Ok.leaver
-    (same _ _ (search rules)) c.in-Some.guard c.in-Some.ensures.slot c.in-Ok.ensures.ok) c.did.ensures
+    (same _ _ (search rules)) c.in-Some.guard c.in-Some.ensures.slot c.in-Ok.ensures.ok c.in-Ok.ensures.done)
+    c.did.ensures
 
 pub returns-in-Ok-clause-plays : goal.returns-in-Ok-clause-plays
 returns-in-Ok-clause-plays c =
@@ -61,7 +55,8 @@ returns-in-Ok-clause-plays c =
     λ fits.
     unwind_plays old new k x places fits slot g at laws y (still_leaves old new x y g c.in-Ok.ensures.ok)
     c.in-Ok.ensures.empty line
-    (given_back old new k x.worker slot x y refl g c.in-Some.ensures.slot c.in-Ok.ensures.ok) c.did.ensures in
+    (given_back old new k x.worker slot x y refl g c.in-Some.ensures.slot c.in-Ok.ensures.ok c.in-Ok.ensures.done)
+    c.did.ensures in
     rw c.in-Some.ensures.taken
     (subst (λ t. PlaysHand old c.args.worker (hand_of t places) (cue.Unwind c.args.worker slot) line new left)
     (sym c.in-Leaving.is)
@@ -86,7 +81,7 @@ returns-in-Err-clause-plays c =
     let mine : PlaysHand old x.worker (hand_of (Leaving x) places) (cue.Unwind x.worker slot)
     (Refused (cue.Unwind x.worker slot) why) new left =
     λ fits.
-    unwind_refused old new k x places fits slot g at why c.in-Err.ensures.err (ap untold c.in-Err.ensures.unchanged) in
+    unwind_refused old new k x places fits slot g at why c.in-Err.ensures.err c.in-Err.ensures.unchanged in
     rw (c.in-Err.ensures.back.0, back)
     (subst
     (λ t. PlaysHand old c.args.worker (hand_of t places) (cue.Unwind c.args.worker slot)
@@ -117,12 +112,9 @@ returns-in-Ok-clause-moves c =
     let slot = c.args.slot in
     let places = c.args.hand.guards in
     let at : placed places slot ≡ Some g = search rules in
-    let done =
-    given_back old new c.known.ensures.kept c.args.worker slot x y (same _ _ (search rules)) g c.in-Some.ensures.slot
-    c.in-Ok.ensures.ok in
     rw c.in-Some.ensures.taken
-    (did_moves old new c.args.hand (hand_of (Leaving y) (slice_set places slot None)) c.did.result done.some
-    c.did.ensures (gives_back x y slot g c.in-Leaving.is at c.in-Ok.ensures.ok refl))
+    (did_moves old new c.args.hand (hand_of (Leaving y) (slice_set places slot None)) c.did.result
+    c.did.ensures (gives_back x y slot g c.in-Leaving.is at c.in-Ok.ensures.ok refl, c.in-Ok.ensures.done))
 
 pub returns-in-None-clause-moves : goal.returns-in-None-clause-moves
 returns-in-None-clause-moves c =

@@ -10,14 +10,14 @@ use Rattle.pp_pool.proofs.book.Book.perform.Goals as goal
 pub noted-event-requires : goal.noted-event-requires
 noted-event-requires c =
     room_in (parts_with c.self.inside.vault c.self.inside.workers c.self.inside.journal c.self.inside.most)
-    c.self.invariant c.args.request c.ask-answer.new.vault (noted c.self.inside.vault c.ask-answer.new.vault c.args.request c.ask-answer.result c.ask-answer.ensures.comes
-    c.ask-answer.ensures.does)
+    c.self.invariant c.args.request c.ask-answer.new.vault c.ask-answer.result.1 (noted c.self.inside.vault c.ask-answer.new.vault c.args.request c.ask-answer.result.0 c.ask-answer.result.1
+    c.ask-answer.ensures.comes c.ask-answer.ensures.does c.ask-answer.ensures.done)
 
 pub invariant_of-self : goal.invariant_of-self
 invariant_of-self c =
     performed (parts_with c.self.inside.vault c.self.inside.workers c.self.inside.journal c.self.inside.most)
-    c.self.invariant c.args.request c.ask-answer.new.vault (noted c.self.inside.vault c.ask-answer.new.vault c.args.request c.ask-answer.result c.ask-answer.ensures.comes
-    c.ask-answer.ensures.does) c.noted-event.result
+    c.self.invariant c.args.request c.ask-answer.new.vault c.ask-answer.result.1 (noted c.self.inside.vault c.ask-answer.new.vault c.args.request c.ask-answer.result.0 c.ask-answer.result.1
+    c.ask-answer.ensures.comes c.ask-answer.ensures.does c.ask-answer.ensures.done) c.noted-event.result
     c.noted-event.ensures.event c.noted-event.new.journal.items c.noted-event.ensures.journal
     (vec_capacity c.noted-event.new.journal) c.noted-event.ensures.memory
 
@@ -25,15 +25,15 @@ pub returns-clause-event : goal.returns-clause-event
 returns-clause-event c =
     subst (λ b. c.noted-event.result ≡ event_for b c.args.request) c.self.view_is
     (event_in (parts_with c.self.inside.vault c.self.inside.workers c.self.inside.journal c.self.inside.most)
-    c.self.invariant c.args.request c.ask-answer.new.vault (noted c.self.inside.vault c.ask-answer.new.vault c.args.request c.ask-answer.result c.ask-answer.ensures.comes
-    c.ask-answer.ensures.does) c.noted-event.result
+    c.self.invariant c.args.request c.ask-answer.new.vault c.ask-answer.result.1 (noted c.self.inside.vault c.ask-answer.new.vault c.args.request c.ask-answer.result.0 c.ask-answer.result.1
+    c.ask-answer.ensures.comes c.ask-answer.ensures.does c.ask-answer.ensures.done) c.noted-event.result
     c.noted-event.ensures.event)
 
 pub returns-clause-settings : goal.returns-clause-settings
 returns-clause-settings c =
     settings_then (parts_with c.self.inside.vault c.self.inside.workers c.self.inside.journal c.self.inside.most)
-    c.self.invariant c.args.request c.ask-answer.new.vault (noted c.self.inside.vault c.ask-answer.new.vault c.args.request c.ask-answer.result c.ask-answer.ensures.comes
-    c.ask-answer.ensures.does) c.noted-event.result
+    c.self.invariant c.args.request c.ask-answer.new.vault c.ask-answer.result.1 (noted c.self.inside.vault c.ask-answer.new.vault c.args.request c.ask-answer.result.0 c.ask-answer.result.1
+    c.ask-answer.ensures.comes c.ask-answer.ensures.does c.ask-answer.ensures.done) c.noted-event.result
     c.noted-event.ensures.event c.noted-event.new.journal.items c.noted-event.ensures.journal
     (vec_capacity c.noted-event.new.journal) c.noted-event.ensures.memory
     ∙ ap settings_of c.self.view_is
@@ -41,8 +41,8 @@ returns-clause-settings c =
 pub returns-clause-plans : goal.returns-clause-plans
 returns-clause-plans c =
     plans_then (parts_with c.self.inside.vault c.self.inside.workers c.self.inside.journal c.self.inside.most)
-    c.self.invariant c.args.request c.ask-answer.new.vault (noted c.self.inside.vault c.ask-answer.new.vault c.args.request c.ask-answer.result c.ask-answer.ensures.comes
-    c.ask-answer.ensures.does) c.noted-event.result
+    c.self.invariant c.args.request c.ask-answer.new.vault c.ask-answer.result.1 (noted c.self.inside.vault c.ask-answer.new.vault c.args.request c.ask-answer.result.0 c.ask-answer.result.1
+    c.ask-answer.ensures.comes c.ask-answer.ensures.does c.ask-answer.ensures.done) c.noted-event.result
     c.noted-event.ensures.event c.noted-event.new.journal.items c.noted-event.ensures.journal
     (vec_capacity c.noted-event.new.journal) c.noted-event.ensures.memory
     ∙ ap plans_of c.self.view_is
@@ -50,22 +50,22 @@ returns-clause-plans c =
 pub returns-clause-kept : goal.returns-clause-kept
 returns-clause-kept c =
     performed (parts_with c.self.inside.vault c.self.inside.workers c.self.inside.journal c.self.inside.most)
-    c.self.invariant c.args.request c.ask-answer.new.vault (noted c.self.inside.vault c.ask-answer.new.vault c.args.request c.ask-answer.result c.ask-answer.ensures.comes
-    c.ask-answer.ensures.does) c.noted-event.result
+    c.self.invariant c.args.request c.ask-answer.new.vault c.ask-answer.result.1 (noted c.self.inside.vault c.ask-answer.new.vault c.args.request c.ask-answer.result.0 c.ask-answer.result.1
+    c.ask-answer.ensures.comes c.ask-answer.ensures.does c.ask-answer.ensures.done) c.noted-event.result
     c.noted-event.ensures.event c.noted-event.new.journal.items c.noted-event.ensures.journal
     (vec_capacity c.noted-event.new.journal) c.noted-event.ensures.memory
 
 pub returns-clause-fits : goal.returns-clause-fits
 returns-clause-fits c =
     replies (parts_with c.self.inside.vault c.self.inside.workers c.self.inside.journal c.self.inside.most)
-    c.self.invariant c.args.request c.ask-answer.result c.ask-answer.new.vault c.ask-answer.ensures.comes
-    c.ask-answer.ensures.does c.noted-event.result c.noted-event.ensures.event c.ask-answer.ensures.tokens
+    c.self.invariant c.args.request c.ask-answer.result.0 c.ask-answer.new.vault c.ask-answer.ensures.comes
+    c.ask-answer.ensures.does c.ask-answer.result.1 c.ask-answer.ensures.done c.noted-event.result c.noted-event.ensures.event c.ask-answer.ensures.tokens
 
 pub returns-clause-headline : goal.returns-clause-headline
 returns-clause-headline c =
     book_headline _
     (performed (parts_with c.self.inside.vault c.self.inside.workers c.self.inside.journal c.self.inside.most)
-    c.self.invariant c.args.request c.ask-answer.new.vault (noted c.self.inside.vault c.ask-answer.new.vault c.args.request c.ask-answer.result c.ask-answer.ensures.comes
-    c.ask-answer.ensures.does) c.noted-event.result
+    c.self.invariant c.args.request c.ask-answer.new.vault c.ask-answer.result.1 (noted c.self.inside.vault c.ask-answer.new.vault c.args.request c.ask-answer.result.0 c.ask-answer.result.1
+    c.ask-answer.ensures.comes c.ask-answer.ensures.does c.ask-answer.ensures.done) c.noted-event.result
     c.noted-event.ensures.event c.noted-event.new.journal.items c.noted-event.ensures.journal
     (vec_capacity c.noted-event.new.journal) c.noted-event.ensures.memory)

@@ -1,17 +1,14 @@
-use Rattle.std.proofs.Common.{◌∙◌, refl, sym}
+use Rattle.std.proofs.Common.{◌∙◌, sym}
 use Rattle.pp_vault.specs.Parts.{parts_of}
 use Rattle.pp_vault.specs.Fits.{fix_slot}
-use Rattle.pp_vault.proofs.FixSteps.{strange, no_other, hit_does, hit_kept, hit_acts, hit_at, opens_at, joins}
+use Rattle.pp_vault.proofs.FixSteps.{strange, fix_tells, no_other, hit_does, hit_kept, hit_acts, hit_at, opens_at, joins}
 use Rattle.pp_vault.proofs.FixSteps.{read_there, read_at, write_there, write_at}
 use Rattle.pp_vault.proofs.store.Store.fix.Goals as goal
 
-pub returns-in_default : goal.returns-in_default
-returns-in_default c = (
-  refl,
-  strange (parts_of c.args.self.now) c.args.session.worker (fix_slot c.args.session.ask) c.args.page
-      (λ s st. sym (c.asked_slot.ensures s st) ∙ c.in_default.is),
-  c.refuse.ensures,
-)
+pub returns-in_default-clause-err : goal.returns-in_default-clause-err
+returns-in_default-clause-err c =
+    strange (parts_of c.args.self.now) c.args.session.worker (fix_slot c.args.session.ask) c.args.page
+    (λ s st. sym (c.asked_slot.ensures s st) ∙ c.in_default.is)
 
 pub session-session-requires-clause-kept : goal.session-session-requires-clause-kept
 session-session-requires-clause-kept c =
@@ -48,8 +45,8 @@ unreachable-requires c =
     (λ s st. sym (c.asked_slot.ensures s st) ∙ c.in-Some.is)
     c.requires c.in_default-reply.not-Hit c.in_default-reply.not-MustRead c.in_default-reply.not-MustWrite
 
-pub returns-in_default-asked : goal.returns-in_default-asked
-returns-in_default-asked c = (
+pub returns-in_default-asked-clause-ok : goal.returns-in_default-asked-clause-ok
+returns-in_default-asked-clause-ok c = (
   hit_does (parts_of c.args.self.now) (parts_of c.step_fix.new.self) c.args.session.worker (fix_slot c.args.session.ask)
       c.args.page c.in-Ok.reply c.in-Ok.ensures.done c.in-Some.asked
       (λ s st. sym (c.asked_slot.ensures s st) ∙ c.in-Some.is)
@@ -62,8 +59,8 @@ returns-in_default-asked c = (
   c.slot_of-slot.ensures,
 )
 
-pub returns-else-gathered-gt1 : goal.returns-else-gathered-gt1
-returns-else-gathered-gt1 c = (
+pub returns-else-gathered-gt1-clause-ok : goal.returns-else-gathered-gt1-clause-ok
+returns-else-gathered-gt1-clause-ok c = (
   hit_does (parts_of c.args.self.now) (parts_of c.step_fix.new.self) c.args.session.worker (fix_slot c.args.session.ask)
       c.args.page c.in-Ok.reply c.in-Ok.ensures.done c.in-Some.asked
       (λ s st. sym (c.asked_slot.ensures s st) ∙ c.in-Some.is)
@@ -77,8 +74,8 @@ returns-else-gathered-gt1 c = (
   c.slot_of-slot.ensures,
 )
 
-pub returns-then-gathered-gt1 : goal.returns-then-gathered-gt1
-returns-then-gathered-gt1 c = (
+pub returns-then-gathered-gt1-clause-ok : goal.returns-then-gathered-gt1-clause-ok
+returns-then-gathered-gt1-clause-ok c = (
   hit_does (parts_of c.args.self.now) (parts_of c.step_fix.new.self) c.args.session.worker (fix_slot c.args.session.ask)
       c.args.page c.in-Ok.reply c.in-Ok.ensures.done c.in-Some.asked
       (λ s st. sym (c.asked_slot.ensures s st) ∙ c.in-Some.is)
@@ -91,16 +88,16 @@ returns-then-gathered-gt1 c = (
       c.in-Gather.is c.gathered.result c.gathered.ensures c.if-gathered-gt1.true,
 )
 
-pub returns-in-MustRead : goal.returns-in-MustRead
-returns-in-MustRead c =
+pub returns-in-MustRead-clause-ok : goal.returns-in-MustRead-clause-ok
+returns-in-MustRead-clause-ok c =
     read_at (parts_of c.args.self.now) (parts_of c.step_fix.new.self) c.args.session.worker (fix_slot c.args.session.ask)
     c.args.page c.in-Ok.reply c.in-Ok.ensures.done c.in-Some.asked
     (λ s st. sym (c.asked_slot.ensures s st) ∙ c.in-Some.is)
     c.in-MustRead.frame c.in-MustRead.is c.requires (parts_of c.take_out-image.new.self) c.take_out-image.result
     c.take_out-image.ensures.image c.take_out-image.ensures.rest c.slot_of-slot.result c.slot_of-slot.ensures
 
-pub returns-in-MustWrite : goal.returns-in-MustWrite
-returns-in-MustWrite c =
+pub returns-in-MustWrite-clause-ok : goal.returns-in-MustWrite-clause-ok
+returns-in-MustWrite-clause-ok c =
     write_at (parts_of c.args.self.now) (parts_of c.step_fix.new.self) c.args.session.worker (fix_slot c.args.session.ask)
     c.args.page c.in-Ok.reply c.in-Ok.ensures.done c.in-Some.asked
     (λ s st. sym (c.asked_slot.ensures s st) ∙ c.in-Some.is)
@@ -108,3 +105,28 @@ returns-in-MustWrite c =
     (parts_of c.take_out-image-in-MustWrite.new.self) c.take_out-image-in-MustWrite.result
     c.take_out-image-in-MustWrite.ensures.image c.take_out-image-in-MustWrite.ensures.rest c.slot_of-slot.result
     c.slot_of-slot.ensures
+
+pub returns-in_default-asked-clause-done : goal.returns-in_default-asked-clause-done
+returns-in_default-asked-clause-done c =
+    fix_tells (parts_of c.args.self.now) (parts_of c.step_fix.new.self) c.args.session.worker (fix_slot c.args.session.ask)
+    c.args.page c.in-Ok.reply c.in-Ok.ensures.done c.in-Some.asked (λ s st. sym (c.asked_slot.ensures s st) ∙ c.in-Some.is)
+
+pub returns-else-gathered-gt1-clause-done : goal.returns-else-gathered-gt1-clause-done
+returns-else-gathered-gt1-clause-done c =
+    fix_tells (parts_of c.args.self.now) (parts_of c.step_fix.new.self) c.args.session.worker (fix_slot c.args.session.ask)
+    c.args.page c.in-Ok.reply c.in-Ok.ensures.done c.in-Some.asked (λ s st. sym (c.asked_slot.ensures s st) ∙ c.in-Some.is)
+
+pub returns-then-gathered-gt1-clause-done : goal.returns-then-gathered-gt1-clause-done
+returns-then-gathered-gt1-clause-done c =
+    fix_tells (parts_of c.args.self.now) (parts_of c.step_fix.new.self) c.args.session.worker (fix_slot c.args.session.ask)
+    c.args.page c.in-Ok.reply c.in-Ok.ensures.done c.in-Some.asked (λ s st. sym (c.asked_slot.ensures s st) ∙ c.in-Some.is)
+
+pub returns-in-MustRead-clause-done : goal.returns-in-MustRead-clause-done
+returns-in-MustRead-clause-done c =
+    fix_tells (parts_of c.args.self.now) (parts_of c.step_fix.new.self) c.args.session.worker (fix_slot c.args.session.ask)
+    c.args.page c.in-Ok.reply c.in-Ok.ensures.done c.in-Some.asked (λ s st. sym (c.asked_slot.ensures s st) ∙ c.in-Some.is)
+
+pub returns-in-MustWrite-clause-done : goal.returns-in-MustWrite-clause-done
+returns-in-MustWrite-clause-done c =
+    fix_tells (parts_of c.args.self.now) (parts_of c.step_fix.new.self) c.args.session.worker (fix_slot c.args.session.ask)
+    c.args.page c.in-Ok.reply c.in-Ok.ensures.done c.in-Some.asked (λ s st. sym (c.asked_slot.ensures s st) ∙ c.in-Some.is)

@@ -1,9 +1,14 @@
-use Rattle.std.proofs.Common.{◌∙◌, sym, ap}
+use Rattle.std.proofs.Common.{◌∙◌, ◌&&◌, sym, ap}
 use Rattle.std.specs.Prelude.{unwrap_or}
 use Rattle.pp_device.specs.Image.{with_head}
 use Rattle.pp_vault.specs.Parts.{parts_of}
 use Rattle.pp_vault.proofs.BackSteps.{none_some}
 use Rattle.pp_vault.proofs.Unwinding.{unwind_framed, unwind_low, gives_image, image_slot_is_empty}
+use Rattle.pp_model.specs.declared.moves.Move.TheVariants.{Unwind}
+use Rattle.pp_cert.specs.declared.note.Held.TheVariants.{X}
+use Rattle.pp_vault.specs.Fits.{leaver_fits}
+use Rattle.pp_vault.specs.Tokens.{is_long}
+use Rattle.pp_vault.proofs.Done.{tells_tested}
 use Rattle.pp_vault.proofs.store.Store.give_image.Goals as goal
 
 pub unreachable-requires : goal.unreachable-requires
@@ -38,3 +43,12 @@ returns-in-Ok-clause-empty c =
     (c.set_head.ensures.image ∙ ap (λ m. with_head c.args.guard.image c.args.guard.page m) c.mark_in.ensures)
     (c.set_head.ensures.head ∙ ap (λ m. (c.args.guard.page, m)) c.mark_in.ensures)
     c.set_head.ensures.length (parts_of c.put.new.self) c.put.ensures
+
+pub returns-in-Ok-clause-done : goal.returns-in-Ok-clause-done
+returns-in-Ok-clause-done c =
+    let old = parts_of c.args.self.now in
+    let w = c.args.leaver.worker in
+    let g = c.args.guard in
+    tells_tested old (parts_of c.step.new.self) (Unwind w g.slot) c.in-Ok.reply c.in-Ok.ensures.done
+    (λ s. leaver_fits s w g.worker g.slot g.page X && is_long old g.image)
+    (λ s st. sym (c.if-not-fits_leaving_writer.ensures s st))

@@ -1,6 +1,7 @@
 use Rattle.std.proofs.Common.{◌∙◌, sym, ap, subst}
 use Rattle.std.specs.Prelude.{unwrap_or}
 use Rattle.pp_cert.specs.declared.note.Held.TheVariants.{Free}
+use Rattle.pp_plan.specs.declared.mode.Mode.TheVariants as mode
 use Rattle.pp_vault.specs.Parts.{Parts, parts_of}
 use Rattle.pp_vault.specs.StandsFor.{IsKept}
 use Rattle.pp_vault.specs.Tokens.{ActsIn, SessionFits}
@@ -9,6 +10,10 @@ use Rattle.pp_vault.proofs.BackSteps.{none_some}
 use Rattle.pp_vault.proofs.FitTests.{guard_held}
 use Rattle.pp_vault.proofs.HeldFrames.{held_framed}
 use Rattle.pp_vault.proofs.Writing.{exclusive_there, exclusive_kept, exclusive_acts, exclusive_latches}
+use Rattle.pp_model.specs.declared.moves.Move.TheVariants as move
+use Rattle.pp_core.specs.Queries.{ask_of}
+use Rattle.pp_vault.specs.Fits.{fits_both, asks_latch}
+use Rattle.pp_vault.proofs.Done.{tells_asked}
 use Rattle.pp_vault.proofs.store.Store.latch_exclusive.Goals as goal
 
 pub unreachable-requires : goal.unreachable-requires
@@ -62,3 +67,13 @@ returns-in-Ok-clause-ok c =
     c.take_out-image.ensures.image
     (subst (λ (v : Parts). SessionFits v c.args.session.worker c.session.result) c.take_out-image.ensures.rest
     c.session.ensures))
+
+pub returns-in-Ok-clause-done : goal.returns-in-Ok-clause-done
+returns-in-Ok-clause-done c =
+    let old = parts_of c.args.self.now in
+    let w = c.args.session.worker in
+    let g = c.args.guard in
+    tells_asked old (parts_of c.step_latch.new.self) (move.Latch w) c.in-Ok.reply c.in-Ok.ensures.done
+    (λ s. fits_both s w g.worker g.slot g.page Free) (λ s. asks_latch g.slot mode.X (ask_of s w))
+    (λ s st. sym (c.fits_both-fits.ensures s st) ∙ c.in_default.ensures.none.0)
+    (λ s st. sym (c.asks_latch.ensures s st) ∙ c.in_default.ensures.none.1)

@@ -1,4 +1,4 @@
-use Rattle.std.proofs.Common.{◌∙◌, ap, Option, Some, None, List, ℕ}
+use Rattle.std.proofs.Common.{◌∙◌, ap, Option, Some, List, ℕ}
 use Rattle.pp_core.specs.Opening.{kept_of}
 use Rattle.pp_vault.specs.Parts.{Parts}
 use Rattle.pp_vault.specs.Opening.{opening_images}
@@ -14,7 +14,6 @@ returns-clause-opens c =
       images = c.in_ok-images.images.items;
       spare = Some c.in_ok-new.field-0;
       page_bytes = n;
-      last = None;
     } in
     opening_stands (kept_of c.args.settings.now) v c.in_ok-core.ensures.opens c.page_bytes-page_bytes.ensures.within.0
     (c.in_ok-images.ensures ∙ ap (λ f. opening_images f n) c.frames.ensures.is)

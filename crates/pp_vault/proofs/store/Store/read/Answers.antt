@@ -1,7 +1,7 @@
 use Rattle.std.proofs.Common.{◌∙◌, sym, arith}
 use Rattle.pp_vault.specs.Parts.{parts_of}
 use Rattle.pp_vault.proofs.BackSteps.{none_some}
-use Rattle.pp_vault.proofs.ReadSteps.{framed, low, loaded_kept, loaded_acts, loaded_is, first_is, further_is, lost_is}
+use Rattle.pp_vault.proofs.ReadSteps.{framed, low, read_tells, loaded_kept, loaded_acts, loaded_is, first_is, further_is, lost_is}
 use Rattle.pp_vault.proofs.store.Store.read.Goals as goal
 
 pub unreachable-requires : goal.unreachable-requires
@@ -79,3 +79,31 @@ returns-in-Failed-clause-ok c =
     c.came_of-came.result c.came_of-came.ensures c.in-Ok.reply c.in-Ok.ensures.done c.in-Some.frame
     (λ s st. sym c.in-Some.is ∙ c.frame_of.ensures s st)
     (parts_of c.put.new.self) c.put.ensures c.in-Failed.field-0 c.in-Failed.is
+
+pub returns-in-0-clause-done : goal.returns-in-0-clause-done
+returns-in-0-clause-done c =
+    read_tells (parts_of c.args.self.now) c.args.worker c.args.slot c.args.page c.args.image
+    (λ s st. sym (c.is_read_out.ensures s st) ∙ c.if-not-is_read_out.false) c.requires
+    (parts_of c.step_read_done.new.self) c.args.ok c.came_of-came.result c.came_of-came.ensures c.in-Ok.reply
+    c.in-Ok.ensures.done
+
+pub returns-in-1-clause-done : goal.returns-in-1-clause-done
+returns-in-1-clause-done c =
+    read_tells (parts_of c.args.self.now) c.args.worker c.args.slot c.args.page c.args.image
+    (λ s st. sym (c.is_read_out.ensures s st) ∙ c.if-not-is_read_out.false) c.requires
+    (parts_of c.step_read_done.new.self) c.args.ok c.came_of-came.result c.came_of-came.ensures c.in-Ok.reply
+    c.in-Ok.ensures.done
+
+pub returns-in_default-gathered-clause-done : goal.returns-in_default-gathered-clause-done
+returns-in_default-gathered-clause-done c =
+    read_tells (parts_of c.args.self.now) c.args.worker c.args.slot c.args.page c.args.image
+    (λ s st. sym (c.is_read_out.ensures s st) ∙ c.if-not-is_read_out.false) c.requires
+    (parts_of c.step_read_done.new.self) c.args.ok c.came_of-came.result c.came_of-came.ensures c.in-Ok.reply
+    c.in-Ok.ensures.done
+
+pub returns-in-Failed-clause-done : goal.returns-in-Failed-clause-done
+returns-in-Failed-clause-done c =
+    read_tells (parts_of c.args.self.now) c.args.worker c.args.slot c.args.page c.args.image
+    (λ s st. sym (c.is_read_out.ensures s st) ∙ c.if-not-is_read_out.false) c.requires
+    (parts_of c.step_read_done.new.self) c.args.ok c.came_of-came.result c.came_of-came.ensures c.in-Ok.reply
+    c.in-Ok.ensures.done

@@ -4,11 +4,10 @@ use Rattle.pp_vault.proofs.store.Store.step.Goals as goal
 
 pub returns-clause-done : goal.returns-clause-done
 returns-clause-done c =
-    step_done (parts_of c.args.self.now) c.step-reply.new.self c.args.asked c.step-reply.result
-    c.step-reply.ensures.moves c.step-reply.ensures.refusal c.tell.result (parts_of c.tell.new.self) c.tell.ensures.done
+    step_done (parts_of c.args.self.now) c.step.new.self c.args.asked c.step.result c.step.ensures.moves c.step.ensures.refusal
+    c.answered.result c.answered.ensures.done
 
 pub returns-clause-refused : goal.returns-clause-refused
 returns-clause-refused c =
-    step_refused (parts_of c.args.self.now) c.step-reply.new.self c.args.asked c.step-reply.result
-    c.step-reply.ensures.moves c.step-reply.ensures.refusal c.tell.result (parts_of c.tell.new.self)
-    c.tell.ensures.refused
+    step_refused (parts_of c.args.self.now) c.step.new.self c.args.asked c.step.result c.step.ensures.moves c.step.ensures.refusal
+    c.answered.result c.answered.ensures.refused

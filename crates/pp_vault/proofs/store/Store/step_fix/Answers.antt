@@ -5,11 +5,10 @@ use Rattle.pp_vault.proofs.store.Store.step_fix.Goals as goal
 
 pub returns-clause-done : goal.returns-clause-done
 returns-clause-done c =
-    step_done (parts_of c.args.self.now) c.fix-reply.new.self (move.Fix c.args.worker c.args.page) c.fix-reply.result
-    c.fix-reply.ensures.moves c.fix-reply.ensures.refusal c.tell.result (parts_of c.tell.new.self) c.tell.ensures.done
+    step_done (parts_of c.args.self.now) c.fix.new.self (move.Fix c.args.worker c.args.page) c.fix.result c.fix.ensures.moves c.fix.ensures.refusal
+    c.answered.result c.answered.ensures.done
 
 pub returns-clause-refused : goal.returns-clause-refused
 returns-clause-refused c =
-    step_refused (parts_of c.args.self.now) c.fix-reply.new.self (move.Fix c.args.worker c.args.page) c.fix-reply.result
-    c.fix-reply.ensures.moves c.fix-reply.ensures.refusal c.tell.result (parts_of c.tell.new.self)
-    c.tell.ensures.refused
+    step_refused (parts_of c.args.self.now) c.fix.new.self (move.Fix c.args.worker c.args.page) c.fix.result c.fix.ensures.moves c.fix.ensures.refusal
+    c.answered.result c.answered.ensures.refused

@@ -5,11 +5,10 @@ use Rattle.pp_vault.proofs.store.Store.step_latch.Goals as goal
 
 pub returns-clause-done : goal.returns-clause-done
 returns-clause-done c =
-    step_done (parts_of c.args.self.now) c.latch-reply.new.self (move.Latch c.args.worker) c.latch-reply.result
-    c.latch-reply.ensures.moves c.latch-reply.ensures.refusal c.tell.result (parts_of c.tell.new.self) c.tell.ensures.done
+    step_done (parts_of c.args.self.now) c.latch.new.self (move.Latch c.args.worker) c.latch.result c.latch.ensures.moves c.latch.ensures.refusal
+    c.answered.result c.answered.ensures.done
 
 pub returns-clause-refused : goal.returns-clause-refused
 returns-clause-refused c =
-    step_refused (parts_of c.args.self.now) c.latch-reply.new.self (move.Latch c.args.worker) c.latch-reply.result
-    c.latch-reply.ensures.moves c.latch-reply.ensures.refusal c.tell.result (parts_of c.tell.new.self)
-    c.tell.ensures.refused
+    step_refused (parts_of c.args.self.now) c.latch.new.self (move.Latch c.args.worker) c.latch.result c.latch.ensures.moves c.latch.ensures.refusal
+    c.answered.result c.answered.ensures.refused

@@ -5,11 +5,10 @@ use Rattle.pp_vault.proofs.store.Store.step_unfix.Goals as goal
 
 pub returns-clause-done : goal.returns-clause-done
 returns-clause-done c =
-    step_done (parts_of c.args.self.now) c.unfix-reply.new.self (move.Unfix c.args.worker) c.unfix-reply.result
-    c.unfix-reply.ensures.moves c.unfix-reply.ensures.refusal c.tell.result (parts_of c.tell.new.self) c.tell.ensures.done
+    step_done (parts_of c.args.self.now) c.unfix.new.self (move.Unfix c.args.worker) c.unfix.result c.unfix.ensures.moves c.unfix.ensures.refusal
+    c.answered.result c.answered.ensures.done
 
 pub returns-clause-refused : goal.returns-clause-refused
 returns-clause-refused c =
-    step_refused (parts_of c.args.self.now) c.unfix-reply.new.self (move.Unfix c.args.worker) c.unfix-reply.result
-    c.unfix-reply.ensures.moves c.unfix-reply.ensures.refusal c.tell.result (parts_of c.tell.new.self)
-    c.tell.ensures.refused
+    step_refused (parts_of c.args.self.now) c.unfix.new.self (move.Unfix c.args.worker) c.unfix.result c.unfix.ensures.moves c.unfix.ensures.refusal
+    c.answered.result c.answered.ensures.refused

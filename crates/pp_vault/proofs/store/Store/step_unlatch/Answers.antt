@@ -5,11 +5,10 @@ use Rattle.pp_vault.proofs.store.Store.step_unlatch.Goals as goal
 
 pub returns-clause-done : goal.returns-clause-done
 returns-clause-done c =
-    step_done (parts_of c.args.self.now) c.unlatch-reply.new.self (move.Unlatch c.args.worker) c.unlatch-reply.result
-    c.unlatch-reply.ensures.moves c.unlatch-reply.ensures.refusal c.tell.result (parts_of c.tell.new.self) c.tell.ensures.done
+    step_done (parts_of c.args.self.now) c.unlatch.new.self (move.Unlatch c.args.worker) c.unlatch.result c.unlatch.ensures.moves c.unlatch.ensures.refusal
+    c.answered.result c.answered.ensures.done
 
 pub returns-clause-refused : goal.returns-clause-refused
 returns-clause-refused c =
-    step_refused (parts_of c.args.self.now) c.unlatch-reply.new.self (move.Unlatch c.args.worker) c.unlatch-reply.result
-    c.unlatch-reply.ensures.moves c.unlatch-reply.ensures.refusal c.tell.result (parts_of c.tell.new.self)
-    c.tell.ensures.refused
+    step_refused (parts_of c.args.self.now) c.unlatch.new.self (move.Unlatch c.args.worker) c.unlatch.result c.unlatch.ensures.moves c.unlatch.ensures.refusal
+    c.answered.result c.answered.ensures.refused

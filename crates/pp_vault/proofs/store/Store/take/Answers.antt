@@ -4,6 +4,7 @@ use Rattle.pp_vault.specs.Parts.{parts_of}
 use Rattle.pp_vault.specs.Fits.{take_call}
 use Rattle.pp_vault.proofs.Kept.{kept_after}
 use Rattle.pp_vault.proofs.SeatMoves.{all_pass, take_does, take_acts, tested_refuses}
+use Rattle.pp_vault.proofs.Done.{tells_tested}
 use Rattle.pp_vault.proofs.store.Store.take.Goals as goal
 
 pub session-requires-clause-kept : goal.session-requires-clause-kept
@@ -12,7 +13,7 @@ session-requires-clause-kept c =
     let new = parts_of c.step.new.self in
     let w = c.args.chair.worker in
     let all = all_pass old (λ s. is_idle s w) c.is_idle.result c.if-not-is_idle.false c.is_idle.ensures in
-    kept_after old new (take_call w) c.requires (take_does old new w c.in-Ok.field-0 c.requires all c.in-Ok.ensures.done)
+    kept_after old new (take_call w) c.requires (take_does old new w c.in-Ok.reply c.requires all c.in-Ok.ensures.done)
 
 pub session-requires-clause-acts : goal.session-requires-clause-acts
 session-requires-clause-acts c =
@@ -20,7 +21,7 @@ session-requires-clause-acts c =
     let new = parts_of c.step.new.self in
     let w = c.args.chair.worker in
     let all = all_pass old (λ s. is_idle s w) c.is_idle.result c.if-not-is_idle.false c.is_idle.ensures in
-    take_acts old new w c.in-Ok.field-0 c.requires all c.in-Ok.ensures.done
+    take_acts old new w c.in-Ok.reply c.requires all c.in-Ok.ensures.done
 
 pub returns-in-Ok-clause-ok : goal.returns-in-Ok-clause-ok
 returns-in-Ok-clause-ok c =
@@ -28,7 +29,7 @@ returns-in-Ok-clause-ok c =
     let new = parts_of c.step.new.self in
     let w = c.args.chair.worker in
     let all = all_pass old (λ s. is_idle s w) c.is_idle.result c.if-not-is_idle.false c.is_idle.ensures in
-    take_does old new w c.in-Ok.field-0 c.requires all c.in-Ok.ensures.done
+    take_does old new w c.in-Ok.reply c.requires all c.in-Ok.ensures.done
 
 pub returns-in-Err-clause-err : goal.returns-in-Err-clause-err
 returns-in-Err-clause-err c =
@@ -37,3 +38,10 @@ returns-in-Err-clause-err c =
     let w = c.args.chair.worker in
     let all = all_pass old (λ s. is_idle s w) c.is_idle.result c.if-not-is_idle.false c.is_idle.ensures in
     tested_refuses old new (λ s. is_idle s w) (Take w) c.in-Err.refusal c.in-Err.ensures.refused all
+
+pub returns-in-Ok-clause-done : goal.returns-in-Ok-clause-done
+returns-in-Ok-clause-done c =
+    let old = parts_of c.args.self.now in
+    let w = c.args.chair.worker in
+    let all = all_pass old (λ s. is_idle s w) c.is_idle.result c.if-not-is_idle.false c.is_idle.ensures in
+    tells_tested old (parts_of c.step.new.self) (Take w) c.in-Ok.reply c.in-Ok.ensures.done (λ s. is_idle s w) all

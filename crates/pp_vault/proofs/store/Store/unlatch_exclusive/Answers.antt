@@ -1,9 +1,15 @@
-use Rattle.std.proofs.Common.{◌∙◌, sym, ap}
+use Rattle.std.proofs.Common.{◌∙◌, ◌&&◌, sym, ap}
 use Rattle.std.specs.Prelude.{unwrap_or}
 use Rattle.pp_device.specs.Image.{with_head}
 use Rattle.pp_vault.specs.Parts.{parts_of}
 use Rattle.pp_vault.proofs.BackSteps.{none_some}
 use Rattle.pp_vault.proofs.Unlatching.{exclusive_framed, exclusive_low, exclusive_goes_kept, exclusive_goes_acts, exclusive_unlatches}
+use Rattle.pp_cert.specs.declared.note.Held.TheVariants.{X}
+use Rattle.pp_model.specs.declared.moves.Move.TheVariants as move
+use Rattle.pp_core.specs.Queries.{ask_of}
+use Rattle.pp_vault.specs.Fits.{fits_both, asks_unlatch}
+use Rattle.pp_vault.specs.Tokens.{is_long}
+use Rattle.pp_vault.proofs.Done.{tells_asked}
 use Rattle.pp_vault.proofs.store.Store.unlatch_exclusive.Goals as goal
 
 pub unreachable-requires : goal.unreachable-requires
@@ -52,3 +58,13 @@ returns-in-Ok-clause-ok c =
     (c.set_head.ensures.image ∙ ap (λ m. with_head c.args.guard.image c.args.guard.page m) c.mark_in.ensures)
     (c.set_head.ensures.head ∙ ap (λ m. (c.args.guard.page, m)) c.mark_in.ensures)
     c.set_head.ensures.length (parts_of c.put.new.self) c.put.ensures c.session.result c.session.ensures
+
+pub returns-in-Ok-clause-done : goal.returns-in-Ok-clause-done
+returns-in-Ok-clause-done c =
+    let old = parts_of c.args.self.now in
+    let w = c.args.session.worker in
+    let g = c.args.guard in
+    tells_asked old (parts_of c.step_unlatch.new.self) (move.Unlatch w) c.in-Ok.reply c.in-Ok.ensures.done
+    (λ s. fits_both s w g.worker g.slot g.page X && is_long old g.image) (λ s. asks_unlatch g.slot (ask_of s w))
+    (λ s st. sym (c.fits_writer-fits.ensures s st) ∙ c.in_default.ensures.none.0)
+    (λ s st. sym (c.asks_unlatch.ensures s st) ∙ c.in_default.ensures.none.1)

@@ -1,22 +1,37 @@
 use Rattle.std.proofs.Common.{◌∙◌, sym}
 use Rattle.pp_vault.specs.Parts.{parts_of}
 use Rattle.pp_vault.proofs.Using.{unlatch_kept, unlatch_acts, unlatches}
+use Rattle.pp_cert.specs.declared.note.Held.TheVariants.{S}
+use Rattle.pp_model.specs.declared.moves.Move.TheVariants as move
+use Rattle.pp_core.specs.Queries.{ask_of}
+use Rattle.pp_vault.specs.Fits.{fits_both, asks_unlatch}
+use Rattle.pp_vault.proofs.Done.{tells_asked}
 use Rattle.pp_vault.proofs.store.Store.unlatch_shared.Goals as goal
 
 pub session-requires-clause-kept : goal.session-requires-clause-kept
 session-requires-clause-kept c =
-    unlatch_kept (parts_of c.args.self.now) (parts_of c.step_unlatch.new.self) c.args.session c.args.guard c.in-Ok.field-0
+    unlatch_kept (parts_of c.args.self.now) (parts_of c.step_unlatch.new.self) c.args.session c.args.guard c.in-Ok.reply
     c.requires c.in-Ok.ensures.done (λ s st. sym (c.fits_both-fits.ensures s st) ∙ c.in_default.ensures.none.0)
     (λ s st. sym (c.asks_unlatch.ensures s st) ∙ c.in_default.ensures.none.1)
 
 pub session-requires-clause-acts : goal.session-requires-clause-acts
 session-requires-clause-acts c =
-    unlatch_acts (parts_of c.args.self.now) (parts_of c.step_unlatch.new.self) c.args.session c.args.guard c.in-Ok.field-0
+    unlatch_acts (parts_of c.args.self.now) (parts_of c.step_unlatch.new.self) c.args.session c.args.guard c.in-Ok.reply
     c.requires c.in-Ok.ensures.done (λ s st. sym (c.fits_both-fits.ensures s st) ∙ c.in_default.ensures.none.0)
     (λ s st. sym (c.asks_unlatch.ensures s st) ∙ c.in_default.ensures.none.1)
 
 pub returns-in-Ok-clause-ok : goal.returns-in-Ok-clause-ok
 returns-in-Ok-clause-ok c =
-    unlatches (parts_of c.args.self.now) (parts_of c.step_unlatch.new.self) c.args.session c.args.guard c.in-Ok.field-0
+    unlatches (parts_of c.args.self.now) (parts_of c.step_unlatch.new.self) c.args.session c.args.guard c.in-Ok.reply
     c.requires c.in-Ok.ensures.done (λ s st. sym (c.fits_both-fits.ensures s st) ∙ c.in_default.ensures.none.0)
     (λ s st. sym (c.asks_unlatch.ensures s st) ∙ c.in_default.ensures.none.1) c.session.result c.session.ensures
+
+pub returns-in-Ok-clause-done : goal.returns-in-Ok-clause-done
+returns-in-Ok-clause-done c =
+    let old = parts_of c.args.self.now in
+    let w = c.args.session.worker in
+    let g = c.args.guard in
+    tells_asked old (parts_of c.step_unlatch.new.self) (move.Unlatch w) c.in-Ok.reply c.in-Ok.ensures.done
+    (λ s. fits_both s w g.worker g.slot g.page S) (λ s. asks_unlatch g.slot (ask_of s w))
+    (λ s st. sym (c.fits_both-fits.ensures s st) ∙ c.in_default.ensures.none.0)
+    (λ s st. sym (c.asks_unlatch.ensures s st) ∙ c.in_default.ensures.none.1)

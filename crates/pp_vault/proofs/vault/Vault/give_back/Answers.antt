@@ -8,18 +8,18 @@ pub invariant_of-self : goal.invariant_of-self
 invariant_of-self c =
     kept_where (parts_of c.self.inside.store) (parts_of c.give_back.new.self)
     (give_back_call (parts_of c.self.inside.store) c.args.leaver c.args.guard)
-    (λ y. GivesBack (parts_of c.self.inside.store) c.args.leaver c.args.guard (parts_of c.give_back.new.self) y)
+    (λ y. GivesBack (parts_of c.self.inside.store) c.args.leaver c.args.guard (parts_of c.give_back.new.self) y.0)
     c.give_back.result
-    (λ y u. gives_done (parts_of c.self.inside.store) (parts_of c.give_back.new.self) c.args.leaver y c.args.guard u)
+    (λ y u. gives_done (parts_of c.self.inside.store) (parts_of c.give_back.new.self) c.args.leaver y.0 c.args.guard u)
     c.give_back.ensures.ok c.give_back.ensures.unchanged c.self.invariant
 
 pub returns-clause-kept : goal.returns-clause-kept
 returns-clause-kept c =
     kept_where (parts_of c.self.inside.store) (parts_of c.give_back.new.self)
     (give_back_call (parts_of c.self.inside.store) c.args.leaver c.args.guard)
-    (λ y. GivesBack (parts_of c.self.inside.store) c.args.leaver c.args.guard (parts_of c.give_back.new.self) y)
+    (λ y. GivesBack (parts_of c.self.inside.store) c.args.leaver c.args.guard (parts_of c.give_back.new.self) y.0)
     c.give_back.result
-    (λ y u. gives_done (parts_of c.self.inside.store) (parts_of c.give_back.new.self) c.args.leaver y c.args.guard u)
+    (λ y u. gives_done (parts_of c.self.inside.store) (parts_of c.give_back.new.self) c.args.leaver y.0 c.args.guard u)
     c.give_back.ensures.ok c.give_back.ensures.unchanged c.self.invariant
 
 pub returns-clause-headline : goal.returns-clause-headline

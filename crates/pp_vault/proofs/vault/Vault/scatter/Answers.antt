@@ -8,14 +8,14 @@ pub invariant_of-self : goal.invariant_of-self
 invariant_of-self c =
     kept_where (parts_of c.self.inside.store) (parts_of c.scatter.new.self)
     (scatter_call c.args.session.worker c.args.guard.worker c.args.guard.slot)
-    (λ y. Scatters (parts_of c.self.inside.store) c.args.session c.args.guard (parts_of c.scatter.new.self) y)
+    (λ y. Scatters (parts_of c.self.inside.store) c.args.session c.args.guard (parts_of c.scatter.new.self) y.0)
     c.scatter.result (λ y u. u.does) c.scatter.ensures.ok c.scatter.ensures.unchanged c.self.invariant
 
 pub returns-clause-kept : goal.returns-clause-kept
 returns-clause-kept c =
     kept_where (parts_of c.self.inside.store) (parts_of c.scatter.new.self)
     (scatter_call c.args.session.worker c.args.guard.worker c.args.guard.slot)
-    (λ y. Scatters (parts_of c.self.inside.store) c.args.session c.args.guard (parts_of c.scatter.new.self) y)
+    (λ y. Scatters (parts_of c.self.inside.store) c.args.session c.args.guard (parts_of c.scatter.new.self) y.0)
     c.scatter.result (λ y u. u.does) c.scatter.ensures.ok c.scatter.ensures.unchanged c.self.invariant
 
 pub returns-clause-headline : goal.returns-clause-headline

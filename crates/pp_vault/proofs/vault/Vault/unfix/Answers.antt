@@ -8,14 +8,14 @@ pub invariant_of-self : goal.invariant_of-self
 invariant_of-self c =
     kept_where (parts_of c.self.inside.store) (parts_of c.unfix.new.self)
     (unfix_call c.args.session.worker c.args.guard.worker c.args.guard.slot c.args.guard.page)
-    (λ y. Unfixes (parts_of c.self.inside.store) c.args.session c.args.guard (parts_of c.unfix.new.self) y)
+    (λ y. Unfixes (parts_of c.self.inside.store) c.args.session c.args.guard (parts_of c.unfix.new.self) y.0)
     c.unfix.result (λ y u. u.does) c.unfix.ensures.ok c.unfix.ensures.unchanged c.self.invariant
 
 pub returns-clause-kept : goal.returns-clause-kept
 returns-clause-kept c =
     kept_where (parts_of c.self.inside.store) (parts_of c.unfix.new.self)
     (unfix_call c.args.session.worker c.args.guard.worker c.args.guard.slot c.args.guard.page)
-    (λ y. Unfixes (parts_of c.self.inside.store) c.args.session c.args.guard (parts_of c.unfix.new.self) y)
+    (λ y. Unfixes (parts_of c.self.inside.store) c.args.session c.args.guard (parts_of c.unfix.new.self) y.0)
     c.unfix.result (λ y u. u.does) c.unfix.ensures.ok c.unfix.ensures.unchanged c.self.invariant
 
 pub returns-clause-headline : goal.returns-clause-headline
