@@ -1,6 +1,8 @@
 pub mod Asked
 pub mod Ended
 pub mod PlainWalk
+pub mod PlainPlans
+pub mod PlainTwo
 pub mod PlainCheck
 pub mod PlainAnnotate
 pub mod PlainSimulate

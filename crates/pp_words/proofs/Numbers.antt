@@ -1,5 +1,5 @@
 -- Numbers of 32 bits as words.
-use Rattle.std.proofs.Common.{◌≡◌, ◌<◌, ◌≤◌, ◌^◌, ℕ, Bool, true, false, cond, List, [], ◌∷◌, Option, Some, None, Result}
+use Rattle.std.proofs.Common.{◌≡◌, ◌<◌, ◌≤◌, ◌^◌, ℕ, Bool, true, false, cond, [], ◌∷◌, Option, Some, None, Result}
 use Rattle.std.proofs.Common.{Ok, Err, refl, sym, ap, subst, ◌∙◌, arith, rules, drop, unwrap_or, if◌then◌else◌}
 use Rattle.std.specs.Prelude.{◌==◌, pos, not}
 use Rattle.std.specs.List.{slice_index}

@@ -1,21 +1,12 @@
 -- What `audit` with three plain words or more asks for.
-use Rattle.std.proofs.Common.{◌≡◌, true, false, List, [], ◌∷◌, ◌++◌, Some, None, codes, refl, ap, ◌∙◌, fold}
-use Rattle.std.proofs.Common.{append_assoc, append-nil, is_some, sym}
+use Rattle.std.proofs.Common.{◌≡◌, true, List, [], ◌∷◌, ◌++◌, Some, codes, refl}
 use Rattle.std.specs.List.{All}
-use Rattle.std.proofs.lemmas.List.Elements.{All-head, All-tail}
-use Rattle.clap.specs.Kinds.{Kinds, or_else}
-use Rattle.clap.specs.Walk.{Held, Row, Rule, Step, Text, Walk, after_step, arg_by_index, finished, nothing_held}
-use Rattle.clap.specs.Walk.{positional, reading_by, settled, to_positional, value, walk, walked}
-use Rattle.clap.specs.Walk.{Names, walk_from, with_default, word_met}
-use Rattle.clap.specs.Simple.{Shape, built, entered, names_of, new_rule, subcommand_of}
-use Rattle.clap.specs.Faults.{level_fault, walk_fault, settle_fault, defaults_fault, check_fault, fault_of}
-use Rattle.clap.specs.Faults.{entered_fault, step_fault, turn_fault, word_fault}
-use Rattle.clap.specs.declared.parser.matches.ValueSource.TheVariants.{CommandLine}
+use Rattle.clap.specs.Walk.{Rule, Text, arg_by_index, settled, to_positional}
+use Rattle.clap.specs.Simple.{Shape, built, new_rule}
 use Rattle.clap.proofs.OnLiterals.{clap_on_literals}
-use Rattle.pp_words.specs.CommandLine.{asked, audit, audit_command, asked_of, is_plain_word, IsPlainWord, program}
-use Rattle.pp_words.specs.CommandLine.{unless_faulty}
-use Rattle.pp_words.proofs.PlainWalk.{between, fault_cons, held_after, no_dashes, no_hyphen, no_more, turn_plain}
-use Rattle.pp_words.proofs.PlainWalk.{walked_plain}
+use Rattle.pp_words.specs.CommandLine.{asked, audit, audit_command, is_plain_word, IsPlainWord, program}
+use Rattle.pp_words.proofs.PlainPlans.{among, plan_rows, plans_held, TakesPlans, HasCommand}
+use Rattle.pp_words.proofs.PlainTwo.{TakesTwo, two_rows, plain_two}
 
 -- the sixth of some commands
 sixth_shape : List Shape → Shape
@@ -35,296 +26,52 @@ abbrev plans_rule : Rule
 unfolding sixth_shape third_rule
 plans_rule = third_rule audit_shape.rules
 
-abbrev held_1 : Text → Held
-held_1 a = held_after audit_shape 1 a nothing_held
+more : (a b : Text) (before : List Text) (last word : Text)
+    → to_positional audit_shape.rules (arg_by_index audit_shape.rules 3) word
+    (among 3 (plans_held plans_rule (two_rows audit_shape a b) before last))
+    (plans_held plans_rule (two_rows audit_shape a b) before last)
+    ≡ among 3 (plans_held plans_rule (two_rows audit_shape a b) (before ++ last ∷ []) word)
+unfolding sixth_shape third_rule
+more a b [] last word = refl
+more a b (x ∷ xs) last word = refl
 
-abbrev held_2 : Text → Text → Held
-held_2 a b = held_after audit_shape 2 b (held_1 a)
+settled_one : (a b : Text) (before : List Text) (last : Text)
+    → (settled audit_shape.rules (plans_held plans_rule (two_rows audit_shape a b) before last)).rows
+    ≡ two_rows audit_shape a b ++ plan_rows plans_rule (before ++ last ∷ [])
+unfolding sixth_shape third_rule
+settled_one a b [] last = refl
+settled_one a b (x ∷ xs) last = refl
 
--- the rows of the first two words
-abbrev two_rows : Text → Text → List Row
-two_rows a b = (settled audit_shape.rules (held_2 a b)).rows
-
--- the row of the plans whose use is done
-abbrev plan_rows : List Text → List Row
-plan_rows [] = []
-plan_rows (x ∷ xs) = record {
-  id = codes "plans";
-  values = x ∷ xs;
-  count = None;
-  source = Some CommandLine;
-  reading = reading_by plans_rule;
-} ∷ []
-
--- what is held where one more plan is pending
-abbrev plans_held : Text → Text → List Text → Text → Held
-plans_held a b before last = record {
-  rows = two_rows a b ++ plan_rows before;
-  pending = Some (codes "plans", last ∷ []);
-  skip = 0;
+takes_plans : (a b : Text) → TakesPlans audit_shape 3 plans_rule (two_rows audit_shape a b)
+unfolding sixth_shape third_rule
+takes_plans a b = record {
+  more = more a b;
+  no_fault = λ before last. refl;
+  settled_one = settled_one a b;
+  settles = λ before last. refl;
 }
 
--- where the walk stands behind a plan
-abbrev among : Held → Walk
-among h = record { held = h; waiting = positional; position = 3; is_trailing = false; stopped = None }
-
-first_step : (a : Text) → is_plain_word a ≡ true
-    → walked audit_shape.rules [] (between nothing_held 1) a ≡ between (held_1 a) 2
-unfolding sixth_shape
-first_step a p = walked_plain audit_shape.rules nothing_held 1 a p
-
-second_step : (a b : Text) → is_plain_word b ≡ true
-    → walked audit_shape.rules [] (between (held_1 a) 2) b ≡ between (held_2 a b) 3
-unfolding sixth_shape
-second_step a b p = walked_plain audit_shape.rules (held_1 a) 2 b p
-
-third_step : (a b c : Text) → is_plain_word c ≡ true
-    → walked audit_shape.rules [] (between (held_2 a b) 3) c ≡ among (plans_held a b [] c)
-unfolding sixth_shape third_rule
-third_step a b c p = walked_plain audit_shape.rules (held_2 a b) 3 c p
-
--- ---- the plans behind the first
-
-plan_is_value : (word : Text) (h : Held) → is_plain_word word ≡ true
-    → word_met audit_shape.rules [] false positional 3 word h ≡ (h, value)
-plan_is_value word h plain = rw (no_dashes word plain, no_hyphen word plain, no_hyphen word plain) refl
-
-plan_is_right : (word : Text) (h : Held) → is_plain_word word ≡ true
-    → word_fault audit_shape [] false positional word h ≡ []
-plan_is_right word h plain = rw (no_dashes word plain, no_hyphen word plain, no_hyphen word plain) refl
-
-one_more : (a b : Text) (before : List Text) (last word : Text)
-    → to_positional audit_shape.rules (arg_by_index audit_shape.rules 3) word (among (plans_held a b before last))
-    (plans_held a b before last) ≡ among (plans_held a b (before ++ last ∷ []) word)
-unfolding sixth_shape third_rule
-one_more a b [] last word = refl
-one_more a b (x ∷ xs) last word = refl
-
-next_step : (a b : Text) (before : List Text) (last word : Text) → is_plain_word word ≡ true
-    → walked audit_shape.rules [] (among (plans_held a b before last)) word
-    ≡ among (plans_held a b (before ++ last ∷ []) word)
-unfolding walked
-next_step a b before last word plain =
-    ap (λ (met : Held × Step). after_step audit_shape.rules word (among (plans_held a b before last)) met.0 met.1)
-    (plan_is_value word (plans_held a b before last) plain)
-    ∙ one_more a b before last word
-
-no_fault : (a b : Text) (before : List Text) (last : Text)
-    → step_fault audit_shape 3 (plans_held a b before last) value ≡ []
-unfolding sixth_shape
-no_fault a b before last = refl
-
-next_turn : (a b : Text) (before : List Text) (last word : Text) → is_plain_word word ≡ true
-    → turn_fault audit_shape [] (among (plans_held a b before last)) word ≡ []
-next_turn a b before last word plain =
-    ap (λ (kinds : Kinds). or_else kinds (step_fault audit_shape 3
-    (word_met audit_shape.rules [] false positional 3 word (plans_held a b before last)).0
-    (word_met audit_shape.rules [] false positional 3 word (plans_held a b before last)).1))
-    (plan_is_right word (plans_held a b before last) plain)
-    ∙ ap (λ (met : Held × Step). step_fault audit_shape 3 met.0 met.1)
-    (plan_is_value word (plans_held a b before last) plain)
-    ∙ no_fault a b before last
-
--- what is held behind the last plan
-end_held : Text → Text → List Text → Text → List Text → Held
-end_held a b before last [] = plans_held a b before last
-end_held a b before last (w ∷ ws) = end_held a b (before ++ last ∷ []) w ws
-
-rest_walked : (a b : Text) (before : List Text) (last : Text) (rest : List Text) → All IsPlainWord rest
-    → fold (walked audit_shape.rules []) (among (plans_held a b before last)) rest
-    ≡ among (end_held a b before last rest)
-unfolding end_held
-rest_walked a b before last [] plain = refl
-rest_walked a b before last (w ∷ ws) plain =
-    ap (λ (v : Walk). fold (walked audit_shape.rules []) v ws) (next_step a b before last w (All-head IsPlainWord w ws plain))
-    ∙ rest_walked a b (before ++ last ∷ []) w ws (All-tail IsPlainWord w ws plain)
-
-rest_is_right : (a b : Text) (before : List Text) (last : Text) (rest : List Text) → All IsPlainWord rest
-    → walk_fault audit_shape [] (among (plans_held a b before last)) rest ≡ []
-rest_is_right a b before last [] plain = no_more audit_shape (among (plans_held a b before last))
-rest_is_right a b before last (w ∷ ws) plain =
-    fault_cons audit_shape (among (plans_held a b before last))
-    (among (plans_held a b (before ++ last ∷ []) w)) w ws
-    (next_turn a b before last w (All-head IsPlainWord w ws plain)) (next_step a b before last w (All-head IsPlainWord w ws plain))
-    (rest_is_right a b (before ++ last ∷ []) w ws (All-tail IsPlainWord w ws plain))
-
-one_settled : (a b : Text) (before : List Text) (last : Text)
-    → (settled audit_shape.rules (plans_held a b before last)).rows
-    ≡ two_rows a b ++ plan_rows (before ++ last ∷ [])
-unfolding sixth_shape third_rule
-one_settled a b [] last = refl
-one_settled a b (x ∷ xs) last = refl
-
-all_settled : (a b : Text) (before : List Text) (last : Text) (rest : List Text)
-    → (settled audit_shape.rules (end_held a b before last rest)).rows
-    ≡ two_rows a b ++ plan_rows (before ++ last ∷ rest)
-unfolding end_held
-all_settled a b before last [] = one_settled a b before last
-all_settled a b before last (w ∷ ws) =
-    all_settled a b (before ++ last ∷ []) w ws
-    ∙ ap (λ (plans : List Text). two_rows a b ++ plan_rows plans) (append_assoc before (last ∷ []) (w ∷ ws))
-
-end_settles : (a b : Text) (before : List Text) (last : Text) (rest : List Text)
-    → settle_fault audit_shape.rules audit_shape.args_override_self (end_held a b before last rest) ≡ []
-unfolding end_held sixth_shape
-end_settles a b before last [] = refl
-end_settles a b before last (w ∷ ws) = end_settles a b (before ++ last ∷ []) w ws
-
--- ---- all words
-
-walk_is_right : (a b c : Text) (rest : List Text) → is_plain_word a ≡ true → is_plain_word b ≡ true
-    → is_plain_word c ≡ true → All IsPlainWord rest
-    → walk_fault audit_shape [] (between nothing_held 1) (a ∷ b ∷ c ∷ rest) ≡ []
-unfolding sixth_shape
-walk_is_right a b c rest p q r plain =
-    fault_cons audit_shape (between nothing_held 1) (between (held_1 a) 2) a (b ∷ c ∷ rest)
-    (turn_plain audit_shape nothing_held 1 a p) (first_step a p)
-    (fault_cons audit_shape (between (held_1 a) 2) (between (held_2 a b) 3) b (c ∷ rest)
-    (turn_plain audit_shape (held_1 a) 2 b q) (second_step a b q)
-    (fault_cons audit_shape (between (held_2 a b) 3) (among (plans_held a b [] c)) c rest
-    (turn_plain audit_shape (held_2 a b) 3 c r) (third_step a b c r)
-    (rest_is_right a b [] c rest plain)))
-
-walk_ends : (a b c : Text) (rest : List Text) → is_plain_word a ≡ true → is_plain_word b ≡ true
-    → is_plain_word c ≡ true → All IsPlainWord rest
-    → walk audit_shape.rules [] nothing_held (a ∷ b ∷ c ∷ rest) ≡ among (end_held a b [] c rest)
-walk_ends a b c rest p q r plain =
-    ap (λ (v : Walk). fold (walked audit_shape.rules [])
-    (walked audit_shape.rules [] (walked audit_shape.rules [] v b) c) rest) (first_step a p)
-    ∙ ap (λ (v : Walk). fold (walked audit_shape.rules []) (walked audit_shape.rules [] v c) rest)
-    (second_step a b q)
-    ∙ ap (λ (v : Walk). fold (walked audit_shape.rules []) v rest) (third_step a b c r)
-    ∙ rest_walked a b [] c rest plain
-
--- the steps after the walk
-abbrev after_walk : Held → Kinds
-after_walk end = or_else (settle_fault audit_shape.rules audit_shape.args_override_self end)
-    (or_else (defaults_fault (settled audit_shape.rules end).rows audit_shape.rules)
-    (check_fault audit_shape (finished audit_shape.rules end) false))
-
-rows_are_right : (a b c : Text) (rest : List Text)
-    → or_else (defaults_fault (two_rows a b ++ plan_rows (c ∷ rest)) audit_shape.rules)
-    (check_fault audit_shape (fold with_default (two_rows a b ++ plan_rows (c ∷ rest)) audit_shape.rules) false)
-    ≡ []
-unfolding clap_on_literals sixth_shape third_rule
-rows_are_right a b c rest = refl
-
-end_is_right : (a b c : Text) (rest : List Text) → after_walk (end_held a b [] c rest) ≡ []
-end_is_right a b c rest =
-    ap (λ (kinds : Kinds). or_else kinds
-    (or_else (defaults_fault (settled audit_shape.rules (end_held a b [] c rest)).rows audit_shape.rules)
-    (check_fault audit_shape (finished audit_shape.rules (end_held a b [] c rest)) false)))
-    (end_settles a b [] c rest)
-    ∙ ap (λ (rows : List Row). or_else (defaults_fault rows audit_shape.rules)
-    (check_fault audit_shape (fold with_default rows audit_shape.rules) false))
-    (all_settled a b [] c rest)
-    ∙ rows_are_right a b c rest
-
-level_is_right : (a b c : Text) (rest : List Text) → is_plain_word a ≡ true → is_plain_word b ≡ true
-    → is_plain_word c ≡ true → All IsPlainWord rest
-    → level_fault audit_shape [] nothing_held (a ∷ b ∷ c ∷ rest) false [] ≡ []
-level_is_right a b c rest p q r plain =
-    ap (λ (kinds : Kinds). or_else kinds
-    (after_walk (walk audit_shape.rules [] nothing_held (a ∷ b ∷ c ∷ rest)).held))
-    (walk_is_right a b c rest p q r plain)
-    ∙ ap (λ (v : Walk). after_walk v.held) (walk_ends a b c rest p q r plain) ∙ end_is_right a b c rest
-
--- ---- the program's own level
-
-abbrev top_shape : Shape
-top_shape = (built program).top
-
-abbrev the_names : Names
-the_names = names_of (built program)
-
--- where the walk stands that has met the command, with these words behind it
-abbrev stopped_at : Text → List Text → Walk
-stopped_at name behind = record (walk_from nothing_held) { stopped = Some (name, behind) }
-
-stays : (name : Text) (before rest : List Text)
-    → fold (walked top_shape.rules the_names) (stopped_at name before) rest ≡ stopped_at name (before ++ rest)
-unfolding walked
-stays name before [] = ap (stopped_at name) (sym (append-nil before))
-stays name before (x ∷ xs) =
-    stays name (before ++ x ∷ []) xs ∙ ap (stopped_at name) (append_assoc before (x ∷ []) xs)
-
-stays_right : (name : Text) (before rest : List Text)
-    → walk_fault top_shape the_names (stopped_at name before) rest ≡ []
-unfolding walked walk_fault
-stays_right name before [] = refl
-stays_right name before (x ∷ xs) = stays_right name (before ++ x ∷ []) xs
-
-met_audit : walked top_shape.rules the_names (walk_from nothing_held) (codes "audit")
-    ≡ stopped_at (codes "audit") []
-unfolding clap_on_literals
-met_audit = refl
-
-turn_audit : turn_fault top_shape the_names (walk_from nothing_held) (codes "audit") ≡ []
-unfolding clap_on_literals
-turn_audit = refl
-
-top_walk : (behind : List Text) → walk top_shape.rules the_names nothing_held (codes "audit" ∷ behind)
-    ≡ stopped_at (codes "audit") behind
-top_walk behind =
-    ap (λ (v : Walk). fold (walked top_shape.rules the_names) v behind) met_audit
-    ∙ stays (codes "audit") [] behind
-
-top_walk_right : (behind : List Text)
-    → walk_fault top_shape the_names (walk_from nothing_held) (codes "audit" ∷ behind) ≡ []
-unfolding walk_fault
-top_walk_right behind =
-    ap (λ (kinds : Kinds). or_else kinds (walk_fault top_shape the_names
-    (walked top_shape.rules the_names (walk_from nothing_held) (codes "audit")) behind)) turn_audit
-    ∙ ap (λ (v : Walk). walk_fault top_shape the_names v behind) met_audit
-    ∙ stays_right (codes "audit") [] behind
-
--- the faults of the program's level, from those of its walk and from where that ends
-abbrev top_fault : Kinds → Walk → Kinds
-top_fault faults w = or_else faults
-    (or_else (entered_fault (built program) w.stopped)
-    (or_else (settle_fault top_shape.rules top_shape.args_override_self w.held)
-    (or_else (defaults_fault (settled top_shape.rules w.held).rows top_shape.rules)
-    (check_fault top_shape (finished top_shape.rules w.held) (is_some (entered (built program) w.stopped))))))
-
-entered_audit : (behind : List Text) → top_fault [] (stopped_at (codes "audit") behind)
-    ≡ or_else (level_fault audit_shape [] nothing_held behind false []) []
+has_command : HasCommand (codes "audit") audit_shape
 unfolding clap_on_literals sixth_shape
-entered_audit behind = refl
+has_command = record { met = refl; turn = refl; level = λ behind. refl; rows = λ behind. refl }
 
-top_is_right : (name : Text) (behind : List Text) → fault_of program (name ∷ codes "audit" ∷ behind)
-    ≡ or_else (level_fault audit_shape [] nothing_held behind false []) []
-top_is_right name behind =
-    ap (λ (kinds : Kinds). top_fault kinds (walk top_shape.rules the_names nothing_held (codes "audit" ∷ behind)))
-    (top_walk_right behind)
-    ∙ ap (top_fault []) (top_walk behind) ∙ entered_audit behind
-
-entered_rows : (behind : List Text) → entered (built program) (stopped_at (codes "audit") behind).stopped
-    ≡ Some (codes "audit", finished audit_shape.rules (walk audit_shape.rules [] nothing_held behind).held)
-unfolding clap_on_literals sixth_shape
-entered_rows behind = refl
-
-command_is : (name : Text) (behind : List Text) → subcommand_of program (name ∷ codes "audit" ∷ behind)
-    ≡ Some (codes "audit", finished audit_shape.rules (walk audit_shape.rules [] nothing_held behind).held)
-command_is name behind =
-    ap (λ (v : Walk). entered (built program) v.stopped) (top_walk behind) ∙ entered_rows behind
-
-values_are : (a b c : Text) (rest : List Text)
-    → asked_of (Some (codes "audit", fold with_default (two_rows a b ++ plan_rows (c ∷ rest)) audit_shape.rules))
-    ≡ Some (audit a b (c ∷ rest))
+takes_two : TakesTwo (codes "audit") audit_shape plans_rule audit
 unfolding clap_on_literals sixth_shape third_rule
-values_are a b c rest = refl
+takes_two = record {
+  has = has_command;
+  first = λ a. refl;
+  second = λ a b. refl;
+  third = λ a b c. refl;
+  first_right = refl;
+  second_right = λ a. refl;
+  third_right = λ a b. refl;
+  plans = takes_plans;
+  rows_right = λ a b c rest. refl;
+  values = λ a b c rest. refl;
+}
 
 pub plain_audit : (name a b c : Text) (rest : List Text) → is_plain_word a ≡ true → is_plain_word b ≡ true
     → is_plain_word c ≡ true → All IsPlainWord rest
     → asked (name ∷ codes "audit" ∷ a ∷ b ∷ c ∷ rest) ≡ Some (audit a b (c ∷ rest))
 plain_audit name a b c rest p q r plain =
-    ap (λ (kinds : Kinds).
-    unless_faulty kinds (asked_of (subcommand_of program (name ∷ codes "audit" ∷ a ∷ b ∷ c ∷ rest))))
-    (top_is_right name (a ∷ b ∷ c ∷ rest)
-    ∙ ap (λ (kinds : Kinds). or_else kinds []) (level_is_right a b c rest p q r plain))
-    ∙ ap asked_of (command_is name (a ∷ b ∷ c ∷ rest))
-    ∙ ap (λ (v : Walk). asked_of (Some (codes "audit", finished audit_shape.rules v.held)))
-    (walk_ends a b c rest p q r plain)
-    ∙ ap (λ (rows : List Row). asked_of (Some (codes "audit", fold with_default rows audit_shape.rules)))
-    (all_settled a b [] c rest)
-    ∙ values_are a b c rest
+    plain_two (codes "audit") audit_shape plans_rule audit takes_two a b c rest p q r plain name
