@@ -5,7 +5,7 @@ ghost use Rattle.clap.specs.Words.{app_of, found_of, rows_of};
 ghost use Rattle.clap.specs.declared.builder.command.Command.TheViews.{out-Command};
 ghost use Rattle.pp_words.specs.CommandLine.{asked_audit, audit_among, audit_command};
 
-use crate::parts::{path, paths, settings, value_of, values_of};
+use crate::parts::{journal, plans_of_journal, settings, value_of, values_of};
 use clap::{ArgMatches, Command};
 use std::alloc::{AllocError, Global};
 
@@ -26,18 +26,6 @@ impl<'a> AuditPaths<'a> {
         ensures { IfOk result (λ command. ((out-Command command).has_globals ≡ false)
             × (app_of command ≡ audit_command)) }
     {
-        let journal = path(
-            alloc,
-            "journal",
-            "JOURNAL",
-            "The journal of a run, an event on each line: a text",
-        );
-        let plans = paths(
-            alloc,
-            "plans",
-            "PLAN",
-            "The plans of the run, in the order in which it took them: JSON texts",
-        );
         Command::new(alloc, "audit")
             .after_help(
                 "Example: pinpool audit examples/set1.toml set1.journal examples/pin.json\n\
@@ -51,8 +39,8 @@ impl<'a> AuditPaths<'a> {
                 "Says whether a journal is a true one of these plans, to their end, and where it is not.",
             )
             .arg(settings(alloc))?
-            .arg(journal)?
-            .arg(plans)
+            .arg(journal(alloc))?
+            .arg(plans_of_journal(alloc))
     }
 
     /// The paths among the matches of the command.

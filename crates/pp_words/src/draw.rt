@@ -5,7 +5,7 @@ ghost use Rattle.clap.specs.Words.{app_of, found_of, rows_of};
 ghost use Rattle.clap.specs.declared.builder.command.Command.TheViews.{out-Command};
 ghost use Rattle.pp_words.specs.CommandLine.{asked_draw, draw_among, draw_command};
 
-use crate::parts::{path, paths, settings, value_of, values_of};
+use crate::parts::{journal, plans_of_journal, settings, value_of, values_of};
 use clap::{ArgMatches, Command};
 use std::alloc::{AllocError, Global};
 
@@ -26,18 +26,6 @@ impl<'a> DrawPaths<'a> {
         ensures { IfOk result (λ command. ((out-Command command).has_globals ≡ false)
             × (app_of command ≡ draw_command)) }
     {
-        let journal = path(
-            alloc,
-            "journal",
-            "JOURNAL",
-            "The journal of a run, an event on each line: a text",
-        );
-        let plans = paths(
-            alloc,
-            "plans",
-            "PLAN",
-            "The plans of the run, in the order in which it took them: JSON texts",
-        );
         Command::new(alloc, "draw")
             .after_help(
                 "Example: pinpool draw examples/one-worker.toml nine.journal examples/pin.json > nine.svg\n\
@@ -49,8 +37,8 @@ impl<'a> DrawPaths<'a> {
             )
             .about("Draws a true journal of these plans as a picture, an SVG text.")
             .arg(settings(alloc))?
-            .arg(journal)?
-            .arg(plans)
+            .arg(journal(alloc))?
+            .arg(plans_of_journal(alloc))
     }
 
     /// The paths among the matches of the command.

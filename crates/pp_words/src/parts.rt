@@ -34,6 +34,45 @@ pub fn plan<'a>(alloc: Global) -> Arg<'a>
     )
 }
 
+/// The argument `JOURNAL`.
+pub fn journal<'a>(alloc: Global) -> Arg<'a>
+    ensures rule { rule_of result ≡ path_rule (codes "journal") }
+    ensures local { result.global ≡ false }
+{
+    path(
+        alloc,
+        "journal",
+        "JOURNAL",
+        "The journal of a run, an event on each line: a text",
+    )
+}
+
+/// The arguments `PLAN`, of plans that workers take.
+pub fn plans_to_run<'a>(alloc: Global) -> Arg<'a>
+    ensures rule { rule_of result ≡ paths_rule (codes "plans") }
+    ensures local { result.global ≡ false }
+{
+    paths(
+        alloc,
+        "plans",
+        "PLAN",
+        "The plans that workers take, in this order: JSON texts",
+    )
+}
+
+/// The arguments `PLAN`, of plans that a journal is of.
+pub fn plans_of_journal<'a>(alloc: Global) -> Arg<'a>
+    ensures rule { rule_of result ≡ paths_rule (codes "plans") }
+    ensures local { result.global ≡ false }
+{
+    paths(
+        alloc,
+        "plans",
+        "PLAN",
+        "The plans of the run, in the order in which it took them: JSON texts",
+    )
+}
+
 /// An argument that is the path of a file and has to be given.
 pub fn path<'a>(alloc: Global, id: &'a str, name: &'a str, help: &'a str) -> Arg<'a>
     ensures rule { rule_of result ≡ path_rule id.entry.now }

@@ -6,7 +6,7 @@ ghost use Rattle.clap.specs.declared.builder.command.Command.TheViews.{out-Comma
 ghost use Rattle.pp_words.specs.CommandLine.{asked_run, run_among, run_command};
 
 use crate::parts::{
-    number, number_of, option, option_of, path, paths, settings, value_of, values_of,
+    number, number_of, option, option_of, path, plans_to_run, settings, value_of, values_of,
 };
 use clap::{ArgMatches, Command};
 use std::alloc::{AllocError, Global};
@@ -50,12 +50,6 @@ impl<'a> RunPaths<'a> {
             "SEED",
             "Where the choices begin that plans leave open: 0 to 4294967295",
         );
-        let plans = paths(
-            alloc,
-            "plans",
-            "PLAN",
-            "The plans that workers take, in this order: JSON texts",
-        );
         let command = Command::new(alloc, "run")
             .after_help(
                 "Example: pinpool run --journal set1.journal examples/set1.toml set1.device 0 examples/pin.json\n\
@@ -71,7 +65,7 @@ impl<'a> RunPaths<'a> {
             .arg(settings(alloc))?
             .arg(device)?
             .arg(seed)?
-            .arg(plans)?;
+            .arg(plans_to_run(alloc))?;
         Ok(command)
     }
 

@@ -5,7 +5,7 @@ ghost use Rattle.clap.specs.Words.{app_of, found_of, rows_of};
 ghost use Rattle.clap.specs.declared.builder.command.Command.TheViews.{out-Command};
 ghost use Rattle.pp_words.specs.CommandLine.{asked_simulate, simulate_among, simulate_command};
 
-use crate::parts::{path, paths, settings, value_of, values_of};
+use crate::parts::{path, plans_to_run, settings, value_of, values_of};
 use clap::{ArgMatches, Command};
 use std::alloc::{AllocError, Global};
 
@@ -32,12 +32,6 @@ impl<'a> SimulatePaths<'a> {
             "SCRIPT",
             "The script, a cue on each line: a text",
         );
-        let plans = paths(
-            alloc,
-            "plans",
-            "PLAN",
-            "The plans that workers take, in this order: JSON texts",
-        );
         Command::new(alloc, "simulate")
             .after_help(
                 "Example: pinpool simulate examples/set1.toml examples/no-room.script examples/two.json examples/two.json\n\
@@ -52,7 +46,7 @@ impl<'a> SimulatePaths<'a> {
             )
             .arg(settings(alloc))?
             .arg(script)?
-            .arg(plans)
+            .arg(plans_to_run(alloc))
     }
 
     /// The paths among the matches of the command.

@@ -7,8 +7,8 @@ use Rattle.pp_words.proofs.run.RunPaths.command.Goals as goal
 pub returns : goal.returns
 returns c =
     let begun : IsApp c.about.result (new_app (codes "run")) = (search rules, search rules) in
-    given _ _ _ (paths_rule (codes "plans")) _ c.in_ok-command.ensures c.paths-plans.ensures.rule
-    c.paths-plans.ensures.local
+    given _ _ _ (paths_rule (codes "plans")) _ c.in_ok-command.ensures c.plans_to_run.ensures.rule
+    c.plans_to_run.ensures.local
     (given _ _ _ (number_rule (codes "seed")) _ c.in_ok-arg-4.ensures c.number-seed.ensures.rule
     c.number-seed.ensures.local
     (given _ _ _ (path_rule (codes "device")) _ c.in_ok-arg-3.ensures c.path-device.ensures.rule
