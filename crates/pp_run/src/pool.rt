@@ -16,6 +16,7 @@ use crate::desk::{Naming, RunDesk};
 use crate::error::RunError;
 use crate::judging::{Left, judge};
 use crate::locked::Locked;
+use crate::site::LockedSite;
 use crate::threads::run_all;
 use pp_cert::Accepted;
 use pp_device::Device;
@@ -138,7 +139,13 @@ fn run_named<
     let desk = RunDesk::<N>::new(book, hands, settings, finished);
     let lock = Mutex::new(Locked::new(desk));
     let (moved, changed) = (Condvar::new(), Condvar::new());
-    let joined = run_all(rt, alloc, &lock, &moved, &changed, devices, last, works);
+    let site = LockedSite {
+        rt,
+        lock: &lock,
+        moved: &moved,
+        changed: &changed,
+    };
+    let joined = run_all(site, alloc, devices, last, works);
     let (book, hands) = lock.into_inner().into_desk().into_parts();
     let (left, events) = closed(book, hands, settings);
     let (worked, flushed) = joined?;

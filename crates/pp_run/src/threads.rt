@@ -6,7 +6,6 @@ ghost use Rattle.pp_run.specs.Ends.{AllWorkedFrom, FlushedFrom, IsUnstarted};
 use crate::desk::Desk;
 use crate::error::RunError;
 use crate::flushing::flush_on;
-use crate::locked::Locked;
 use crate::site::LockedSite;
 use crate::stop::{Flushed, Worked};
 use crate::working::work_on;
@@ -14,7 +13,7 @@ use pp_device::Device;
 use pp_pool::Work;
 use std::alloc::Global;
 use std::snapshot::Snapshot;
-use std::sync::{Condvar, Mutex, Wait};
+use std::sync::Wait;
 use std::thread;
 use std::thread::{Promise, PromisedHandle, Scope, Threads};
 
@@ -61,11 +60,8 @@ fn run_workers<
     R: Threads + Wait + Sync,
 >(
     scope: &Scope<'s, E>,
-    rt: &'s R,
+    site: &LockedSite<'s, B, R>,
     alloc: Global,
-    lock: &'s Mutex<Locked<B>>,
-    moved: &'s Condvar,
-    changed: &'s Condvar,
     devices: Vec<D>,
     works: Vec<W>,
 ) -> Result<Vec<Worked<D>>, RunError>
@@ -74,6 +70,7 @@ fn run_workers<
     ensures workers { IfOk result (λ v. AllWorkedFrom D.calls D.failures devices.items v.items) }
     ensures error { IfErr result (IsUnstarted (vec_len devices)) }
 {
+    let (rt, lock, moved, changed) = (site.rt, site.lock, site.moved, site.changed);
     let mut handles = Vec::new(alloc);
     handles.reserve(devices.len())?;
     let mut works = works.into_iter();
@@ -122,7 +119,8 @@ fn first_unstarted<D: Drop>(worked: Result<Vec<Worked<D>>, RunError>, flusher: u
     }
 }
 
-/// Starts a thread for each worker and one for the flusher, joins the workers, closes the book, and joins the flusher.
+/// Starts a thread for each worker and one for the flusher, all over this site, joins the workers, closes the book, and joins
+/// the flusher. There is a device and a work for each worker; the flusher's device comes last.
 ///
 /// # Errors
 ///
@@ -135,11 +133,8 @@ pub fn run_all<
     W: Work + Drop + Send,
     R: Threads + Wait + Sync,
 >(
-    rt: &R,
+    site: LockedSite<'_, B, R>,
     alloc: Global,
-    lock: &Mutex<Locked<B>>,
-    moved: &Condvar,
-    changed: &Condvar,
     devices: Vec<D>,
     last: D,
     works: Vec<W>,
@@ -150,6 +145,7 @@ pub fn run_all<
     ensures flusher { IfOk result (λ v. FlushedFrom D.calls D.failures last v.1) }
     ensures error { IfErr result (IsUnstarted (vec_len devices + 1)) }
 {
+    let (rt, lock, moved, changed) = (site.rt, site.lock, site.moved, site.changed);
     thread::scope(
         thread::scope_env(),
         rt,
@@ -172,13 +168,13 @@ pub fn run_all<
                 flush_on(site, last)
             };
             let started = scope.spawn_with(promise, job);
-            let worked = run_workers(scope, rt, alloc, lock, moved, changed, devices, works);
             let site = LockedSite {
                 rt,
                 lock,
                 moved,
                 changed,
             };
+            let worked = run_workers(scope, &site, alloc, devices, works);
             site.close();
             match started {
                 Ok(handle) => {

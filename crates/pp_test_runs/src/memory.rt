@@ -10,7 +10,7 @@ use crate::scarce::Scarce;
 use pp_cert::Accepted;
 use pp_device::Device;
 use pp_pool::Book;
-use pp_run::{Desk, Flushed, Locked, RunError, Stop, Worked, judge, run_all};
+use pp_run::{Desk, Flushed, Locked, LockedSite, RunError, Stop, Worked, judge, run_all};
 use pp_settings::Settings;
 use pp_shared::SharedDevice;
 use std::alloc::Global;
@@ -64,7 +64,13 @@ pub fn threads_over<
             requires few { vec_len devices < 2 ^ 32 }
             requires works { vec_len works ≡ vec_len devices }
         {
-            let ran = run_all(rt, alloc, lock, &moved, &changed, devices, last, works);
+            let site = LockedSite {
+                rt,
+                lock,
+                moved: &moved,
+                changed: &changed,
+            };
+            let ran = run_all(site, alloc, devices, last, works);
             over.store(true, Ordering::SeqCst);
             ran
         },
