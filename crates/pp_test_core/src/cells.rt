@@ -1,6 +1,6 @@
 //! Each refusal of each move, where one can also beside those that come after it, and each way in which a move is done.
 
-use crate::common::{READ, TOUCH, TWO, WRITE, core_with, follow, settings_of};
+use crate::common::{TWO, core_with, follow, settings_of};
 use pp_core::Came::{Fault, Image};
 use pp_core::Cause::{
     NoErrand, NoFlushLeft, NoWorker, NotActing, NotAsked, NotDirty, NotEnded, NotHeld, NotIdle,
@@ -18,6 +18,7 @@ use pp_core::Reply::{
     OffPlan, Taken, Unlatched,
 };
 use pp_core::{Move, Reply};
+use pp_test_plain::samples::{READ, TOUCH, WRITE};
 use std::alloc::Global;
 use std::process::Abort;
 use std::test::*;

@@ -1,57 +1,25 @@
-//! What the tests share: sample settings and plans, cores with plans that wait, and how replies are compared.
+//! What the tests share: settings of some sizes, cores with plans that wait, and how replies are compared.
 
 use pp_annotate::annotate;
 use pp_cert::{Accepted, check};
 use pp_core::{Core, Move, Reply, Turn};
 use pp_plan::Plan;
 use pp_settings::Settings;
+use pp_test_plain::samples::REGIONS;
 use std::alloc::Global;
 use std::process::Abort;
 use std::test::*;
-
-/// The sample settings' regions: `root` of the pages 0 to 3 and class 1, and `leaf` of the pages 16 to 23 and class 2.
-const REGIONS: &str = "
-page_bytes = 64
-workers = 2
-
-[[region]]
-name = \"root\"
-first = 0
-count = 4
-class = 1
-
-[[region]]
-name = \"leaf\"
-first = 16
-count = 8
-class = 2
-";
 
 /// Fixes a root and a leaf, and gives both back.
 pub const TWO: &str =
     "{\"body\":[{\"fix\":\"a\",\"region\":\"root\"},{\"fix\":\"b\",\"region\":\"leaf\"},\
 {\"unfix\":\"b\"},{\"unfix\":\"a\"}],\"version\":1}";
 
-/// Writes a leaf.
-pub const WRITE: &str =
-    "{\"body\":[{\"fix\":\"a\",\"region\":\"leaf\"},{\"latch\":\"a\",\"mode\":\"X\"},\
-{\"unlatch\":\"a\"},{\"unfix\":\"a\"}],\"version\":1}";
-
-/// Reads a leaf.
-pub const READ: &str =
-    "{\"body\":[{\"fix\":\"a\",\"region\":\"leaf\"},{\"latch\":\"a\",\"mode\":\"S\"},\
-{\"unlatch\":\"a\"},{\"unfix\":\"a\"}],\"version\":1}";
-
-/// Fixes a root and gives it back.
-pub const TOUCH: &str =
-    "{\"body\":[{\"fix\":\"a\",\"region\":\"root\"},{\"unfix\":\"a\"}],\"version\":1}";
-
-/// Does nothing.
-pub const NOTHING: &str = "{\"body\":[],\"version\":1}";
-
 /// The sample settings with this many frames, two workers and this many flushes.
 pub fn settings_of(alloc: Global, frames: u32, flushes: u32) -> Result<Settings, Fail> {
-    let text = format!(in alloc; "frames = {frames}\nflushes = {flushes}{REGIONS}")?;
+    let text = format!(in alloc;
+        "frames = {frames}\npage_bytes = 64\nworkers = 2\nflushes = {flushes}\n{REGIONS}"
+    )?;
     Ok(Settings::from_text(alloc, &text)?)
 }
 

@@ -3,10 +3,11 @@
 
 ghost use Rattle.std.specs.Prelude.{◌≡◌, ◌+◌, ◌-◌, nat_lt};
 
-use crate::common::{READ, TOUCH, TWO, WRITE, core_with, replies, settings_of};
+use crate::common::{TWO, core_with, replies, settings_of};
 use pp_core::Came::{Fault, Image};
 use pp_core::Move::{Finish, Fix, FlushBegin, Latch, ReadDone, Take, Unfix, Unlatch};
 use pp_core::{Came, Core, Decide};
+use pp_test_plain::samples::{READ, TOUCH, WRITE};
 use std::alloc::Global;
 use std::process::Abort;
 use std::test::*;

@@ -1,6 +1,6 @@
 //! Lists of moves with their replies, the turn that comes next and the bound that is left, worked out by hand.
 
-use crate::common::{TOUCH, TWO, WRITE, core_with, replies, same_left, same_replies, settings_of};
+use crate::common::{TWO, core_with, replies, same_left, same_replies, settings_of};
 use pp_core::Came::Image;
 use pp_core::Cause::NoErrand;
 use pp_core::Delay::{InFlight, LatchHeld, NoRoom};
@@ -11,6 +11,7 @@ use pp_core::Reply::{
     Did, Failed, Finished, Hit, Latched, Loaded, MustRead, NotNow, OffPlan, Taken,
 };
 use pp_core::{Move, Reply, Turn};
+use pp_test_plain::samples::{TOUCH, WRITE};
 use std::alloc::Global;
 use std::process::Abort;
 use std::test::*;

@@ -1,12 +1,13 @@
 //! Plans that are refused, and those that are taken in up to the limits.
 
-use crate::common::{NOTHING, TOUCH, accepted, core_with, replies, same_replies, settings_of};
+use crate::common::{accepted, core_with, replies, same_replies, settings_of};
 use crate::lists::{TOUCH_MOVES, TOUCH_REPLIES};
 use pp_cert::Accepted;
 use pp_core::Cause::NoWorker;
 use pp_core::Move::Take;
 use pp_core::Reply::{OffPlan, Taken};
 use pp_core::{Core, SubmitError};
+use pp_test_plain::samples::{NOTHING, TOUCH};
 use std::process::Abort;
 use std::test::*;
 

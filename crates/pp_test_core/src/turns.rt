@@ -1,9 +1,10 @@
 //! Whose turn is next.
 
-use crate::common::{TOUCH, WRITE, core_with, same_left, settings_of, take_turns};
+use crate::common::{core_with, same_left, settings_of, take_turns};
 use pp_core::Came::{Fault, Image};
 use pp_core::Move::{Finish, Fix, FlushBegin, FlushDone, Latch, ReadDone, Take, Unfix, Unlatch};
 use pp_core::{Move, Turn};
+use pp_test_plain::samples::{TOUCH, WRITE};
 use std::test::*;
 
 /// Nothing is to do in a new core.

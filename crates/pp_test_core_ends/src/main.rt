@@ -13,6 +13,7 @@ use pp_core::Core;
 use pp_plan::Plan;
 use pp_settings::Settings;
 use pp_test_plain::Chance;
+use pp_test_plain::samples::{GAPS, SCAN};
 use std::alloc::Global;
 
 /// How many cores are driven to their end: a hundred in each of the two ways.
@@ -21,37 +22,11 @@ const CORES: u32 = 200;
 /// How many plans each core has: four for each worker, so that workers take new ones while others are in theirs.
 const PLANS: u32 = 12;
 
-/// Two regions of eight pages, with a gap between them, and before the first.
-const SETTINGS: &str = "
-frames = 3
-page_bytes = 64
-workers = 3
-flushes = 60
-
-[[region]]
-name = \"root\"
-first = 1
-count = 3
-class = 1
-
-[[region]]
-name = \"leaf\"
-first = 5
-count = 5
-class = 2
-";
-
 /// From a root to a leaf, which is written.
 const DESCENT: &str =
     "{\"body\":[{\"fix\":\"a\",\"region\":\"root\"},{\"latch\":\"a\",\"mode\":\"S\"},\
 {\"fix\":\"b\",\"region\":\"leaf\"},{\"latch\":\"b\",\"mode\":\"X\"},{\"unlatch\":\"b\"},{\"unlatch\":\"a\"},\
 {\"unfix\":\"b\"},{\"unfix\":\"a\"}],\"version\":1}";
-
-/// Three leaves, each written, read twice, or let be.
-const SCAN: &str = "{\"body\":[{\"body\":[{\"fix\":\"a\",\"region\":\"leaf\"},{\"choice\":[\
-[{\"latch\":\"a\",\"mode\":\"X\"},{\"unlatch\":\"a\"}],\
-[{\"body\":[{\"latch\":\"a\",\"mode\":\"S\"},{\"unlatch\":\"a\"}],\"loop\":2}],[]]},\
-{\"unfix\":\"a\"}],\"loop\":3}],\"version\":1}";
 
 /// Three pages, two of them latched as the third is fixed.
 const SPLIT: &str =
@@ -64,6 +39,12 @@ const EITHER: &str =
     "{\"body\":[{\"fix\":\"a\",\"region\":\"root\"},{\"latch\":\"a\",\"mode\":\"X\"},{\"unlatch\":\"a\"},\
 {\"unfix\":\"a\"},{\"choice\":[[],[{\"fix\":\"b\",\"region\":\"leaf\"},{\"fix\":\"c\",\"region\":\"leaf\"},\
 {\"unfix\":\"b\"},{\"unfix\":\"c\"}]]}],\"version\":1}";
+
+/// Three frames, three workers, and eight pages.
+fn eight_pages(alloc: Global) -> anyhow::Result<Settings> {
+    let text = format!(in alloc; "frames = 3\npage_bytes = 64\nworkers = 3\nflushes = 60\n{GAPS}")?;
+    Ok(Settings::from_text(alloc, &text)?)
+}
 
 /// One of the plans, with its certificate accepted.
 fn some_plan(alloc: Global, settings: &Settings, chance: &mut Chance) -> anyhow::Result<Accepted> {
@@ -95,7 +76,7 @@ fn filled(alloc: Global, settings: &Settings, chance: &mut Chance) -> anyhow::Re
 
 /// Drives the cores to their end.
 fn main(rt: HostRuntime) -> anyhow::Result<()> {
-    let settings = Settings::from_text(rt.alloc(), SETTINGS)?;
+    let settings = eight_pages(rt.alloc())?;
     let mut chance = Chance::new();
     for number in 0..CORES {
         let mut core = filled(rt.alloc(), &settings, &mut chance)?;

@@ -19,30 +19,17 @@ use pp_core::{Core, SubmitError};
 use pp_plan::Plan;
 use pp_settings::Settings;
 use pp_test_plain::Chance;
+use pp_test_plain::samples::GAPS;
 use std::alloc::Global;
 
 /// How many moves are made: each kind of reply and refusal comes ten times or more.
 const MOVES: u32 = 20_000;
 
-/// Two regions of eight pages, with a gap between them, and before the first.
-const SETTINGS: &str = "
-frames = 3
-page_bytes = 64
-workers = 3
-flushes = 40
-
-[[region]]
-name = \"root\"
-first = 1
-count = 3
-class = 1
-
-[[region]]
-name = \"leaf\"
-first = 5
-count = 5
-class = 2
-";
+/// Three frames, three workers, and eight pages.
+fn eight_pages(alloc: Global) -> anyhow::Result<Settings> {
+    let text = format!(in alloc; "frames = 3\npage_bytes = 64\nworkers = 3\nflushes = 40\n{GAPS}")?;
+    Ok(Settings::from_text(alloc, &text)?)
+}
 
 /// The plan of this text, with its certificate accepted.
 fn accepted(alloc: Global, settings: &Settings, text: &str) -> anyhow::Result<Accepted> {
@@ -127,7 +114,7 @@ fn walk(
 
 /// Walks until all moves are made, and prints that all replies agreed.
 fn main(rt: HostRuntime) -> anyhow::Result<()> {
-    let settings = Settings::from_text(rt.alloc(), SETTINGS)?;
+    let settings = eight_pages(rt.alloc())?;
     let mut chance = Chance::new();
     let mut counts = Counts::new(rt.alloc())?;
     let mut left = MOVES;

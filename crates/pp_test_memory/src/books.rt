@@ -3,13 +3,14 @@
 ghost use Rattle.std.specs.Prelude.{◌≡◌, true, None, Some};
 ghost use Rattle.pp_vault.specs.Stages.{stage_worker, is_free_for};
 
-use crate::samples::{SET1, WRITE, accepted};
+use crate::samples::accepted;
 use crate::stand::{answer, call};
 use pp_cert::Accepted;
 use pp_device::SoloDevice;
 use pp_pool::{Book, Flusher, OwnSite, Turned, Worker};
 use pp_runner::Rounds;
 use pp_settings::Settings;
+use pp_test_plain::samples::{SETTINGS, WRITE};
 use pp_vault::{Flushing, Hand, Hands};
 
 /// Does the case of this call.
@@ -24,7 +25,7 @@ pub fn case<R: AllocGlobal + Print>(rt: &R, call: &str) -> anyhow::Result<()> {
 }
 
 fn opens<R: AllocGlobal + Print>(rt: &R) -> anyhow::Result<()> {
-    let settings = Settings::from_text(rt.alloc(), SET1)?;
+    let settings = Settings::from_text(rt.alloc(), SETTINGS)?;
     for _time in 0..2 {
         call(rt)?;
         let made = Book::new(rt.alloc(), &settings);
@@ -43,7 +44,7 @@ fn opens<R: AllocGlobal + Print>(rt: &R) -> anyhow::Result<()> {
 }
 
 fn submits<R: AllocGlobal + Print>(rt: &R) -> anyhow::Result<()> {
-    let settings = Settings::from_text(rt.alloc(), SET1)?;
+    let settings = Settings::from_text(rt.alloc(), SETTINGS)?;
     let plan = accepted(rt.alloc(), &settings, WRITE)?;
     let (mut book, hands) = Book::new(rt.alloc(), &settings)?;
     let done = submits_to(rt, &mut book, plan);
@@ -90,7 +91,7 @@ enum Whose {
 
 /// A worker does a plan, and then the flusher writes what it changed.
 fn turns<R: AllocGlobal + Print>(rt: &R, whose: Whose) -> anyhow::Result<()> {
-    let settings = Settings::from_text(rt.alloc(), SET1)?;
+    let settings = Settings::from_text(rt.alloc(), SETTINGS)?;
     let plan = accepted(rt.alloc(), &settings, WRITE)?;
     let device = SoloDevice::new(rt.alloc(), 24, 64)?;
     let (mut book, mut hands) = Book::new(rt.alloc(), &settings)?;

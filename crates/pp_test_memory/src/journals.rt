@@ -1,9 +1,10 @@
 //! The calls that write journals and reports, and audit journals.
 
-use crate::samples::{JOURNAL, SET1, TOUCH, all_accepted, events, record};
+use crate::samples::{JOURNAL, all_accepted, events, record};
 use crate::stand::{answer, call};
 use pp_report::{audit, journal_text, report};
 use pp_settings::Settings;
+use pp_test_plain::samples::{SETTINGS, TOUCH};
 
 /// Does the case of this call.
 pub fn case<R: AllocGlobal + Print>(rt: &R, call: &str) -> anyhow::Result<()> {
@@ -50,7 +51,7 @@ fn reports<R: AllocGlobal + Print>(rt: &R) -> anyhow::Result<()> {
 }
 
 fn audits<R: AllocGlobal + Print>(rt: &R) -> anyhow::Result<()> {
-    let settings = Settings::from_text(rt.alloc(), SET1)?;
+    let settings = Settings::from_text(rt.alloc(), SETTINGS)?;
     for _time in 0..2 {
         let plans = all_accepted(rt.alloc(), &settings, &[TOUCH])?;
         call(rt)?;

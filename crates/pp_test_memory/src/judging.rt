@@ -1,10 +1,11 @@
 //! The calls that judge the bytes of files.
 
-use crate::samples::{JOURNAL, PIN, PIN_NOTES, SCRIPT, SET1, TOUCH, WRITE};
+use crate::samples::{JOURNAL, PIN, PIN_NOTES, SCRIPT};
 use crate::stand::{answer, call};
 use pp_judge::{
     AnnotateFiles, AuditFiles, CheckFiles, Contents, SimulateFiles, Workload, device_size, exit_of,
 };
+use pp_test_plain::samples::{SETTINGS, TOUCH, WRITE};
 use std::alloc::Global;
 
 /// Does the case of this call and this row.
@@ -30,7 +31,7 @@ fn bytes_of(alloc: Global, texts: &[&str]) -> anyhow::Result<Vec<Vec<u8>>> {
 
 /// The contents of the files of a command.
 fn contents<'a>(row: &str, plans: &'a [Vec<u8>]) -> Contents<'a> {
-    let settings = SET1.as_bytes();
+    let settings = SETTINGS.as_bytes();
     match row {
         "check" => Contents::Check(CheckFiles {
             settings,
@@ -81,7 +82,7 @@ fn exit<R: AllocGlobal + Print>(rt: &R, row: &str) -> anyhow::Result<()> {
 fn size<R: AllocGlobal + Print>(rt: &R) -> anyhow::Result<()> {
     for _time in 0..2 {
         call(rt)?;
-        let size = device_size(rt.alloc(), SET1.as_bytes());
+        let size = device_size(rt.alloc(), SETTINGS.as_bytes());
         answer(rt)?;
         match size {
             Ok(size) => {
@@ -98,7 +99,7 @@ fn workload<R: AllocGlobal + Print>(rt: &R) -> anyhow::Result<()> {
     let plans = bytes_of(rt.alloc(), &[TOUCH, WRITE])?;
     for _time in 0..2 {
         call(rt)?;
-        let read = Workload::read(rt.alloc(), SET1.as_bytes(), &plans);
+        let read = Workload::read(rt.alloc(), SETTINGS.as_bytes(), &plans);
         answer(rt)?;
         match read {
             Ok(workload) => {

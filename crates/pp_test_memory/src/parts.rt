@@ -1,6 +1,6 @@
 //! The calls that make a directory, marks, stacks of pages, a core, a device and a vault, and a run of a core.
 
-use crate::samples::{MOVES, SET1, TOUCH, accepted};
+use crate::samples::{MOVES, accepted};
 use crate::stand::{answer, call};
 use pp_arc::{Directory, List};
 use pp_bundles::Bundles;
@@ -9,6 +9,7 @@ use pp_device::{Device, SoloDevice};
 use pp_frames::Marks;
 use pp_model::Reply;
 use pp_settings::Settings;
+use pp_test_plain::samples::{SETTINGS, TOUCH};
 use pp_vault::{Hands, Vault};
 
 /// Does the case of this call.
@@ -95,7 +96,7 @@ fn solo<R: AllocGlobal + Print>(rt: &R) -> anyhow::Result<()> {
 }
 
 fn core_of<R: AllocGlobal + Print>(rt: &R) -> anyhow::Result<()> {
-    let settings = Settings::from_text(rt.alloc(), SET1)?;
+    let settings = Settings::from_text(rt.alloc(), SETTINGS)?;
     for _time in 0..2 {
         call(rt)?;
         let made = Core::new(rt.alloc(), &settings);
@@ -112,7 +113,7 @@ fn core_of<R: AllocGlobal + Print>(rt: &R) -> anyhow::Result<()> {
 }
 
 fn core_runs<R: AllocGlobal + Print>(rt: &R) -> anyhow::Result<()> {
-    let settings = Settings::from_text(rt.alloc(), SET1)?;
+    let settings = Settings::from_text(rt.alloc(), SETTINGS)?;
     let plan = accepted(rt.alloc(), &settings, TOUCH)?;
     let mut core = Core::new(rt.alloc(), &settings)?;
     let queued = core.submit(plan).is_ok();
@@ -146,7 +147,7 @@ fn given_up(vault: Vault, hands: Hands) -> u64 {
 }
 
 fn vault<R: AllocGlobal + Print>(rt: &R) -> anyhow::Result<()> {
-    let settings = Settings::from_text(rt.alloc(), SET1)?;
+    let settings = Settings::from_text(rt.alloc(), SETTINGS)?;
     for _time in 0..2 {
         call(rt)?;
         let made = Vault::new(rt.alloc(), &settings);

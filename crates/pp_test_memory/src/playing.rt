@@ -1,12 +1,13 @@
 //! The calls that play a script.
 
-use crate::samples::{SCRIPT, SET1, WRITE, accepted, all_accepted};
+use crate::samples::{SCRIPT, accepted, all_accepted};
 use crate::stand::{answer, call};
 use pp_device::SoloDevice;
 use pp_play::play;
 use pp_script::{Cue, Script};
 use pp_settings::Settings;
 use pp_simulate::simulate;
+use pp_test_plain::samples::{SETTINGS, WRITE};
 use pp_vault::{Hands, Vault};
 
 /// Does the case of this call.
@@ -19,7 +20,7 @@ pub fn case<R: AllocGlobal + Print>(rt: &R, call: &str) -> anyhow::Result<()> {
 }
 
 fn plays<R: AllocGlobal + Print>(rt: &R) -> anyhow::Result<()> {
-    let settings = Settings::from_text(rt.alloc(), SET1)?;
+    let settings = Settings::from_text(rt.alloc(), SETTINGS)?;
     let plan = accepted(rt.alloc(), &settings, WRITE)?;
     let (cues, _troubles) = Script::from_text(rt.alloc(), SCRIPT)?.into_parts();
     let mut device = SoloDevice::new(rt.alloc(), 24, 64)?;
@@ -56,7 +57,7 @@ fn plays_in<R: AllocGlobal + Print>(
 }
 
 fn simulates<R: AllocGlobal + Print>(rt: &R) -> anyhow::Result<()> {
-    let settings = Settings::from_text(rt.alloc(), SET1)?;
+    let settings = Settings::from_text(rt.alloc(), SETTINGS)?;
     for _time in 0..2 {
         let plans = all_accepted(rt.alloc(), &settings, &[WRITE, WRITE])?;
         let script = Script::from_text(rt.alloc(), SCRIPT)?;

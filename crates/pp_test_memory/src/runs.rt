@@ -1,6 +1,6 @@
 //! The calls that run plans on threads, and what is told of a run.
 
-use crate::samples::{SET1, TOUCH, WRITE, all_accepted, record};
+use crate::samples::{all_accepted, record};
 use crate::stand::{answer, call};
 use pp_judge::Workload;
 use pp_report::RunRecord;
@@ -8,6 +8,7 @@ use pp_run::{Pool, RunError};
 use pp_runner::{Rounds, progress_line, run, stopped_line, told};
 use pp_settings::Settings;
 use pp_shared::SharedDevice;
+use pp_test_plain::samples::{SETTINGS, TOUCH, WRITE};
 use std::alloc::{AllocError, Global};
 use std::fs::File;
 use std::rt::Files;
@@ -65,7 +66,7 @@ fn pool<
         + Send
         + Drop,
 >(rt: &R) -> anyhow::Result<()> {
-    let settings = Settings::from_text(rt.alloc(), SET1)?;
+    let settings = Settings::from_text(rt.alloc(), SETTINGS)?;
     let workers = settings.workers();
     for _time in 0..2 {
         let plans = all_accepted(rt.alloc(), &settings, &[TOUCH, WRITE, TOUCH])?;
@@ -104,7 +105,7 @@ fn runner<
         plans.push(bytes)?;
     }
     for _time in 0..2 {
-        let workload = Workload::read(rt.alloc(), SET1.as_bytes(), &plans);
+        let workload = Workload::read(rt.alloc(), SETTINGS.as_bytes(), &plans);
         let Ok(workload) = workload else {
             anyhow::bail!("no workload");
         };

@@ -1,4 +1,4 @@
-//! Sample settings, plans and other texts, and what is made of them.
+//! Sample plans and other texts, beside those that tests share, and what is made of them.
 
 use pp_annotate::annotate;
 use pp_cert::{Accepted, check};
@@ -7,25 +7,6 @@ use pp_plan::Plan;
 use pp_report::RunRecord;
 use pp_settings::Settings;
 use std::alloc::Global;
-
-/// Three frames, two workers, four flushes, and two regions.
-pub const SET1: &str = "frames = 3
-page_bytes = 64
-workers = 2
-flushes = 4
-
-[[region]]
-name = \"root\"
-first = 0
-count = 4
-class = 1
-
-[[region]]
-name = \"leaf\"
-first = 16
-count = 8
-class = 2
-";
 
 /// No frame, and no region.
 pub const NO_FRAMES: &str = "frames = 0
@@ -48,9 +29,6 @@ pub const PIN_NOTES: &str = "{\"notes\":[{},{\"a\":[\"root\",\"-\"]},{\"a\":[\"r
 
 /// The same with a slot that the plan doesn't have.
 pub const OTHER_NOTES: &str = "{\"notes\":[{},{\"c\":[\"root\",\"-\"]}],\"peak\":2,\"steps\":8}";
-
-/// No statement.
-pub const EMPTY: &str = "{\"body\":[],\"version\":1}";
 
 /// Each kind of statement.
 pub const EVERY: &str = "{\"body\":[{\"body\":[{\"choice\":[[{\"fix\":\"a\",\"region\":\"leaf\"},\
@@ -79,16 +57,7 @@ pub const BRANCHES: &str =
 /// A list of statements that isn't closed.
 pub const CUT_OFF: &str = "{\"body\":[";
 
-/// Writes a leaf.
-pub const WRITE: &str =
-    "{\"body\":[{\"fix\":\"a\",\"region\":\"leaf\"},{\"latch\":\"a\",\"mode\":\"X\"},\
-    {\"unlatch\":\"a\"},{\"unfix\":\"a\"}],\"version\":1}";
-
-/// Fixes a root and lets go of it.
-pub const TOUCH: &str =
-    "{\"body\":[{\"fix\":\"a\",\"region\":\"root\"},{\"unfix\":\"a\"}],\"version\":1}";
-
-/// A script for two plans [`WRITE`], with a trouble.
+/// A script for two plans `WRITE`, with a trouble.
 pub const SCRIPT: &str = "fail 2
 take 0
 fix 0 16
@@ -106,7 +75,7 @@ pub const NO_CUE: &str = "take 0
 take
 ";
 
-/// The journal of [`TOUCH`].
+/// The journal of `TOUCH`.
 pub const JOURNAL: &str = "submit 0 = queued
 take 0 = taken 0
 fix 0 1 = mustread 0
@@ -149,7 +118,7 @@ pub fn events(alloc: Global) -> anyhow::Result<Vec<Event>> {
     Ok(events)
 }
 
-/// What a run of one plan [`TOUCH`] leaves.
+/// What a run of one plan `TOUCH` leaves.
 pub fn record(alloc: Global) -> anyhow::Result<RunRecord> {
     Ok(RunRecord {
         plans: 1,

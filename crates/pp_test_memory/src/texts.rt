@@ -4,8 +4,8 @@ ghost use Rattle.std.specs.Prelude.{◌≡◌};
 ghost use Rattle.pp_settings.specs.Settings.{geometry_of};
 
 use crate::samples::{
-    BRANCHES, BUNDLE, BUNDLE_NOTES, CUT_OFF, EMPTY, EVERY, MIXED, NO_CUE, NO_FRAMES, OTHER_NOTES,
-    PAGE_NOTES, PIN, PIN_NOTES, SCRIPT, SET1,
+    BRANCHES, BUNDLE, BUNDLE_NOTES, CUT_OFF, EVERY, MIXED, NO_CUE, NO_FRAMES, OTHER_NOTES,
+    PAGE_NOTES, PIN, PIN_NOTES, SCRIPT,
 };
 use crate::stand::{answer, call};
 use pp_annotate::annotate;
@@ -13,11 +13,12 @@ use pp_cert::Certificate;
 use pp_plan::Plan;
 use pp_script::Script;
 use pp_settings::Settings;
+use pp_test_plain::samples::{NOTHING, SETTINGS};
 
 /// Does the case of this call and this row.
 pub fn case<R: AllocGlobal + Print>(rt: &R, call: &str, row: &str) -> anyhow::Result<()> {
     match (call, row) {
-        ("Settings::from_text", "set1") => settings_from(rt, SET1),
+        ("Settings::from_text", "set1") => settings_from(rt, SETTINGS),
         ("Settings::from_text", "no_frames") => settings_from(rt, NO_FRAMES),
         ("Script::from_text", "script") => script_from(rt, SCRIPT),
         ("Script::from_text", "no_cue") => script_from(rt, NO_CUE),
@@ -27,7 +28,7 @@ pub fn case<R: AllocGlobal + Print>(rt: &R, call: &str, row: &str) -> anyhow::Re
 
 /// Does such a case of a call that has settings.
 fn under_settings<R: AllocGlobal + Print>(rt: &R, call: &str, row: &str) -> anyhow::Result<()> {
-    let settings = Settings::from_text(rt.alloc(), SET1)?;
+    let settings = Settings::from_text(rt.alloc(), SETTINGS)?;
     match (call, row) {
         ("Plan::from_text", "pin") => plan_from(rt, &settings, PIN),
         ("Plan::from_text", "every") => plan_from(rt, &settings, EVERY),
@@ -42,7 +43,7 @@ fn under_settings<R: AllocGlobal + Print>(rt: &R, call: &str, row: &str) -> anyh
         ("Certificate::from_text", "page") => certificate_from(rt, &settings, BUNDLE, PAGE_NOTES),
         (call, "pin") => with_plan(rt, &settings, call, PIN),
         (call, "every") => with_plan(rt, &settings, call, EVERY),
-        (call, "empty") => with_plan(rt, &settings, call, EMPTY),
+        (call, "empty") => with_plan(rt, &settings, call, NOTHING),
         (call, "branches") => with_plan(rt, &settings, call, BRANCHES),
         (call, "bundle") => with_plan(rt, &settings, call, BUNDLE),
         _ => anyhow::bail!("there is no such case"),

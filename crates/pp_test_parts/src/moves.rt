@@ -9,32 +9,10 @@ use pp_model::{Event, Move, Reply};
 use pp_plan::Plan;
 use pp_report::journal_text;
 use pp_settings::Settings;
+use pp_test_plain::samples::{SETTINGS, TOUCH};
 use std::alloc::{AllocError, Global};
 use std::process::Abort;
 use std::test::Fail;
-
-const SETTINGS: &str = "
-frames = 3
-page_bytes = 64
-workers = 2
-flushes = 4
-
-[[region]]
-name = \"root\"
-first = 0
-count = 4
-class = 1
-
-[[region]]
-name = \"leaf\"
-first = 16
-count = 8
-class = 2
-";
-
-/// Fixes a root and gives it back.
-const PLAN: &str =
-    "{\"body\":[{\"fix\":\"a\",\"region\":\"root\"},{\"unfix\":\"a\"}],\"version\":1}";
 
 /// The plan from its begin to its end.
 static MOVES: [Move; 5] = [
@@ -58,7 +36,7 @@ finish 0 = done
 
 /// The plan, with its certificate accepted.
 fn accepted(rt: &impl Abort, alloc: Global, settings: &Settings) -> Result<Accepted, Fail> {
-    let plan = Plan::from_text(alloc, settings, PLAN)?;
+    let plan = Plan::from_text(alloc, settings, TOUCH)?;
     let certificate = annotate(alloc, settings, &plan)?;
     match check(settings, plan, &certificate) {
         Ok(accepted) => Ok(accepted),

@@ -1,6 +1,6 @@
-//! What tests compare with: ARC as a plain program, and numbers that look like chance.
+//! What tests share: ARC as a plain program to compare with, numbers that look like chance, and sample settings and plans.
 //!
-//! It is written apart from the crates that are tested, for a reader who wants to see what they do, and costs a walk over its
+//! ARC is written apart from the crates that are tested, for a reader who wants to see what they do, and costs a walk over its
 //! lists at each call.
 #![tactic(auto)]
 
@@ -10,3 +10,4 @@ pub use pp_arc::Answer;
 
 mod chance;
 mod lists;
+pub mod samples;

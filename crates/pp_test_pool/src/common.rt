@@ -1,4 +1,4 @@
-//! What the tests share: sample settings and plans, a work that picks first pages, and a run of one plan.
+//! What the tests share: a work that picks first pages, and a run of one plan.
 
 use pp_annotate::annotate;
 use pp_cert::{Accepted, check};
@@ -6,39 +6,10 @@ use pp_device::{SoloDevice, image};
 use pp_plan::Plan;
 use pp_pool::{Book, Event, Flusher, OwnSite, Turned, Work, Worker};
 use pp_settings::Settings;
+use pp_test_plain::samples::SETTINGS;
 use std::alloc::Global;
 use std::process::Abort;
 use std::test::*;
-
-/// The sample settings: three frames, two workers, four flushes, and two regions.
-pub const SETTINGS: &str = "
-frames = 3
-page_bytes = 64
-workers = 2
-flushes = 4
-
-[[region]]
-name = \"root\"
-first = 0
-count = 4
-class = 1
-
-[[region]]
-name = \"leaf\"
-first = 16
-count = 8
-class = 2
-";
-
-/// Writes a leaf.
-pub const WRITE: &str =
-    "{\"body\":[{\"fix\":\"a\",\"region\":\"leaf\"},{\"latch\":\"a\",\"mode\":\"X\"},\
-{\"unlatch\":\"a\"},{\"unfix\":\"a\"}],\"version\":1}";
-
-/// Reads a leaf.
-pub const READ: &str =
-    "{\"body\":[{\"fix\":\"a\",\"region\":\"leaf\"},{\"latch\":\"a\",\"mode\":\"S\"},\
-{\"unlatch\":\"a\"},{\"unfix\":\"a\"}],\"version\":1}";
 
 /// Picks the first page of each region and the first branch of each choice, and keeps what it was shown last.
 #[derive(Drop)]

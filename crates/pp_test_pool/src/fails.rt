@@ -1,10 +1,11 @@
 //! A worker whose device fails at each call in turn.
 
-use crate::common::{SETTINGS, accepted, part, same_events};
+use crate::common::{accepted, part, same_events};
 use pp_cert::Accepted;
 use pp_device::{Device, Failing, SoloDevice, Trouble};
 use pp_pool::{Book, Event, OwnSite, Turned, Work, Worker};
 use pp_settings::Settings;
+use pp_test_plain::samples::SETTINGS;
 use pp_vault::{Ending, Failure, Reply};
 use std::alloc::Global;
 use std::process::Abort;

@@ -1,11 +1,12 @@
 //! Two workers on one thread, turn by turn.
 
-use crate::common::{SETTINGS, accepted};
+use crate::common::accepted;
 use core::mem;
 use pp_cert::Accepted;
 use pp_device::SoloDevice;
 use pp_pool::{Book, Event, OwnSite, Turned, Work, Worker};
 use pp_settings::Settings;
+use pp_test_plain::samples::{SCAN, SETTINGS};
 use pp_vault::{Ending, Hands, Reply};
 use std::alloc::Global;
 use std::process::Abort;
@@ -17,12 +18,6 @@ const DOWN: &str =
 {\"fix\":\"b\",\"region\":\"leaf\"},{\"latch\":\"b\",\"mode\":\"X\"},{\"unlatch\":\"b\"},{\"unfix\":\"b\"},\
 {\"choice\":[[],[{\"fix\":\"b\",\"region\":\"leaf\"},{\"unfix\":\"b\"}]]},{\"unlatch\":\"a\"},{\"unfix\":\"a\"}],\
 \"version\":1}";
-
-/// Three leaves, each written, read twice or left alone.
-const ROUND: &str = "{\"body\":[{\"body\":[{\"fix\":\"a\",\"region\":\"leaf\"},{\"choice\":[\
-[{\"latch\":\"a\",\"mode\":\"X\"},{\"unlatch\":\"a\"}],\
-[{\"body\":[{\"latch\":\"a\",\"mode\":\"S\"},{\"unlatch\":\"a\"}],\"loop\":2}],[]]},\
-{\"unfix\":\"a\"}],\"loop\":3}],\"version\":1}";
 
 /// How many plans there are, half of them of either kind.
 const PLANS: u32 = 20;
@@ -175,7 +170,7 @@ fn filled(
 fn all_plans(rt: &impl Abort, alloc: Global, settings: &Settings) -> Result<Vec<Accepted>, Fail> {
     let mut plans = Vec::new(alloc);
     for number in 0..PLANS {
-        let text = if number % 2 == 0 { DOWN } else { ROUND };
+        let text = if number % 2 == 0 { DOWN } else { SCAN };
         plans.push(accepted(rt, alloc, settings, text)?)?;
     }
     Ok(plans)

@@ -2,10 +2,11 @@
 
 ghost use Rattle.std.specs.Prelude.{◌≡◌};
 
-use crate::common::{READ, WRITE, accepted};
+use crate::common::accepted;
 use pp_device::{SoloDevice, image};
 use pp_pool::{Book, OwnSite, Turned, Work, Worker};
 use pp_settings::Settings;
+use pp_test_plain::samples::{READ, WRITE};
 use std::alloc::Global;
 use std::process::Abort;
 use std::test::*;

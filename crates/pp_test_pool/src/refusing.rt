@@ -1,9 +1,10 @@
 //! A worker whose site doesn't show a page, or shows it with another mark.
 
-use crate::common::{FirstPages, READ, SETTINGS, accepted, same_turns};
+use crate::common::{FirstPages, accepted, same_turns};
 use pp_device::{SoloDevice, image};
 use pp_pool::{Book, OwnSite, Request, Response, Site, Turned, Worker};
 use pp_settings::Settings;
+use pp_test_plain::samples::{READ, SETTINGS};
 use pp_vault::ReadGuard;
 use std::alloc::Global;
 use std::process::Abort;

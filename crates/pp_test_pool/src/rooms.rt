@@ -1,10 +1,11 @@
 //! A worker that is refused room for its log, and one whose log is taken out.
 
-use crate::common::{FirstPages, SETTINGS, WRITE, accepted, part, same_events};
+use crate::common::{FirstPages, accepted, part, same_events};
 use pp_cert::Accepted;
 use pp_device::SoloDevice;
 use pp_pool::{Book, Event, OwnSite, Request, Response, Site, Turned, Worker};
 use pp_settings::Settings;
+use pp_test_plain::samples::{SETTINGS, WRITE};
 use pp_vault::{Hand, Hands, ReadGuard, Stage};
 use std::alloc::Global;
 use std::mem;

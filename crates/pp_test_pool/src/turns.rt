@@ -1,11 +1,10 @@
 //! A turn does its work.
 
-use crate::common::{
-    READ, SETTINGS, WRITE, accepted, do_accepted, do_plan, part, same_events, same_turns,
-};
+use crate::common::{accepted, do_accepted, do_plan, part, same_events, same_turns};
 use pp_cert::Accepted;
 use pp_pool::{Book, Event, Turned};
 use pp_settings::Settings;
+use pp_test_plain::samples::{READ, REGIONS, SETTINGS, WRITE};
 use pp_vault::{Came, Ending, Move, Reply};
 use std::alloc::Global;
 use std::process::Abort;
@@ -102,29 +101,12 @@ fn a_writers_events_are_noted(rt: HostRuntime) -> Result<(), Fail> {
     Ok(())
 }
 
-/// One frame, and else the sample settings.
-const NARROW: &str = "
-frames = 1
-page_bytes = 64
-workers = 2
-flushes = 4
-
-[[region]]
-name = \"root\"
-first = 0
-count = 4
-class = 1
-
-[[region]]
-name = \"leaf\"
-first = 16
-count = 8
-class = 2
-";
-
-/// The plan comes back from a book of other settings, and nothing is noted there.
+/// The plan comes back from a book of settings that have one frame, and are else the sample ones. Nothing is noted there.
 fn refused(rt: &impl Abort, alloc: Global, plan: Accepted) -> Result<Accepted, Fail> {
-    let settings = Settings::from_text(alloc, NARROW)?;
+    let text = format!(in alloc;
+        "frames = 1\npage_bytes = 64\nworkers = 2\nflushes = 4\n{REGIONS}"
+    )?;
+    let settings = Settings::from_text(alloc, &text)?;
     let (mut book, hands) = Book::new(alloc, &settings)?;
     let answer = book.submit(plan);
     let journal = book.close(hands);

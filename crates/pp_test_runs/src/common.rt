@@ -1,4 +1,4 @@
-//! What the tests share: sample settings and plans, a work that counts what it saw, and a run over memory.
+//! What the tests share: settings of some sizes, a work that counts what it saw, and a run over memory.
 
 ghost use Rattle.std.specs.Prelude.{◌≡◌, ◌+◌, vec_len};
 
@@ -10,6 +10,7 @@ use pp_pool::{Event, Work};
 use pp_run::{Pool, RunError, RunRecord};
 use pp_settings::Settings;
 use pp_shared::SharedDevice;
+use pp_test_plain::samples::REGIONS;
 use std::alloc::Global;
 use std::process::Abort;
 use std::sync::Wait;
@@ -32,41 +33,10 @@ pub fn settings_with(
     flushes: u32,
 ) -> Result<Settings, Fail> {
     let text = format!(in alloc;
-        "
-frames = {frames}
-page_bytes = 64
-workers = {workers}
-flushes = {flushes}
-
-[[region]]
-name = \"root\"
-first = 0
-count = 4
-class = 1
-
-[[region]]
-name = \"leaf\"
-first = 16
-count = 8
-class = 2
-"
+        "frames = {frames}\npage_bytes = 64\nworkers = {workers}\nflushes = {flushes}\n{REGIONS}"
     )?;
     Ok(Settings::from_text(alloc, &text)?)
 }
-
-/// Writes a leaf.
-pub const WRITE: &str =
-    "{\"body\":[{\"fix\":\"a\",\"region\":\"leaf\"},{\"latch\":\"a\",\"mode\":\"X\"},\
-{\"unlatch\":\"a\"},{\"unfix\":\"a\"}],\"version\":1}";
-
-/// Reads a leaf.
-pub const READ: &str =
-    "{\"body\":[{\"fix\":\"a\",\"region\":\"leaf\"},{\"latch\":\"a\",\"mode\":\"S\"},\
-{\"unlatch\":\"a\"},{\"unfix\":\"a\"}],\"version\":1}";
-
-/// Fixes a root and lets go of it.
-pub const TOUCH: &str =
-    "{\"body\":[{\"fix\":\"a\",\"region\":\"root\"},{\"unfix\":\"a\"}],\"version\":1}";
 
 /// What all works of a run saw.
 #[derive(Drop)]

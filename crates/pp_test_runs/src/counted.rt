@@ -1,7 +1,8 @@
 //! A run counts the plans that have ended, for who watches it.
 
-use crate::common::{READ, Seen, TOUCH, WRITE, all_accepted, run_counted, settings_of, works_of};
+use crate::common::{Seen, all_accepted, run_counted, settings_of, works_of};
 use pp_shared::SharedDevice;
+use pp_test_plain::samples::{READ, TOUCH, WRITE};
 use std::process::Abort;
 use std::sync::atomic::{AtomicU64, Ordering};
 use std::test::*;

@@ -1,9 +1,10 @@
 //! What a run leaves on its devices.
 
-use crate::common::{Seen, WRITE, all_accepted, run_over, settings_of, works_of};
+use crate::common::{Seen, all_accepted, run_over, settings_of, works_of};
 use pp_device::{Device, image};
 use pp_run::RunRecord;
 use pp_shared::SharedDevice;
+use pp_test_plain::samples::WRITE;
 use std::alloc::Global;
 use std::process::Abort;
 use std::sync::Wait;

@@ -1,10 +1,11 @@
 //! What a fault of the device makes free wakes who waits for it.
 
-use crate::common::{TOUCH, WRITE, all_accepted, run_over, settings_with};
+use crate::common::{all_accepted, run_over, settings_with};
 use crate::waking::Told;
 use pp_device::{Count, Device, Fault, image};
 use pp_pool::Work;
 use pp_run::RunRecord;
+use pp_test_plain::samples::{TOUCH, WRITE};
 use std::marker::Model;
 use std::process::Abort;
 use std::sync::Wait;

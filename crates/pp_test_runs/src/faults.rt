@@ -1,12 +1,13 @@
 //! Runs of which one end of the device fails at its first call.
 
-use crate::common::{Counting, Seen, TOUCH, WRITE, all_accepted, run_over, settings_of};
+use crate::common::{Counting, Seen, all_accepted, run_over, settings_of};
 use crate::rows::count;
 use pp_device::{Failing, Trouble};
 use pp_pool::Event;
 use pp_report::{audit, journal_text, report};
 use pp_run::RunRecord;
 use pp_shared::SharedDevice;
+use pp_test_plain::samples::{TOUCH, WRITE};
 use pp_vault::{Ending, Move, Reply};
 use std::process::Abort;
 use std::sync::Wait;

@@ -1,9 +1,10 @@
 //! A run's many hands: each work and each end of the device goes to its own worker, and is asked what the plans ask.
 
-use crate::common::{WRITE, all_accepted, comes_to, run_counted, run_over, settings_of};
+use crate::common::{all_accepted, comes_to, run_counted, run_over, settings_of};
 use pp_device::{Count, Device, Fault, image};
 use pp_pool::{Event, Work};
 use pp_shared::SharedDevice;
+use pp_test_plain::samples::WRITE;
 use pp_vault::Move;
 use std::marker::Model;
 use std::process::Abort;

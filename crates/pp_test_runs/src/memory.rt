@@ -2,9 +2,7 @@
 
 ghost use Rattle.std.specs.Prelude.{◌≡◌, ◌^◌, ◌<◌, vec_len};
 
-use crate::common::{
-    Counting, READ, Seen, TOUCH, WRITE, all_accepted, run_over, settings_of, watch, works_of,
-};
+use crate::common::{Counting, Seen, all_accepted, run_over, settings_of, watch, works_of};
 use crate::rows::{count, is_done, is_loading};
 use crate::scarce::Scarce;
 use pp_cert::Accepted;
@@ -13,6 +11,7 @@ use pp_pool::Book;
 use pp_run::{Desk, Flushed, Locked, LockedSite, RunError, Stop, Worked, judge, run_all};
 use pp_settings::Settings;
 use pp_shared::SharedDevice;
+use pp_test_plain::samples::{READ, TOUCH, WRITE};
 use std::alloc::Global;
 use std::process::Abort;
 use std::sync::atomic::{AtomicBool, Ordering};

@@ -1,9 +1,10 @@
 //! Two workers are at work at once.
 
-use crate::common::{Counting, Seen, TOUCH, all_accepted, run_over, settings_of};
+use crate::common::{Counting, Seen, all_accepted, run_over, settings_of};
 use pp_device::{Count, Device, Fault, image};
 use pp_model::{Ending, Reply};
 use pp_pool::Event;
+use pp_test_plain::samples::TOUCH;
 use std::marker::Model;
 use std::sync::atomic::{AtomicBool, Ordering};
 use std::test::*;

@@ -1,7 +1,8 @@
 //! Worked rows of runs.
 
-use crate::common::{READ, Seen, TOUCH, WRITE, run, same_events};
+use crate::common::{Seen, run, same_events};
 use pp_pool::Event;
+use pp_test_plain::samples::{READ, TOUCH, WRITE};
 use pp_vault::{Came, Ending, Move, Reply};
 use std::sync::atomic::Ordering;
 use std::test::*;

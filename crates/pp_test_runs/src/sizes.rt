@@ -1,10 +1,11 @@
 //! Runs over pages of other sizes, whose last byte is changed and seen.
 
-use crate::common::{READ, Seen, WRITE, all_accepted, run_over};
+use crate::common::{Seen, all_accepted, run_over};
 use pp_device::{Device, image};
 use pp_pool::Work;
 use pp_settings::Settings;
 use pp_shared::SharedDevice;
+use pp_test_plain::samples::{READ, REGIONS, WRITE};
 use std::alloc::Global;
 use std::process::Abort;
 use std::sync::Wait;
@@ -16,24 +17,7 @@ use std::time::Clock;
 /// As the sample settings, with two workers, eight flushes and pages of so many bytes.
 fn settings_with(alloc: Global, page_bytes: usize) -> Result<Settings, Fail> {
     let text = format!(in alloc;
-        "
-frames = 3
-page_bytes = {page_bytes}
-workers = 2
-flushes = 8
-
-[[region]]
-name = \"root\"
-first = 0
-count = 4
-class = 1
-
-[[region]]
-name = \"leaf\"
-first = 16
-count = 8
-class = 2
-"
+        "frames = 3\npage_bytes = {page_bytes}\nworkers = 2\nflushes = 8\n{REGIONS}"
     )?;
     Ok(Settings::from_text(alloc, &text)?)
 }

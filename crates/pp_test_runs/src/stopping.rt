@@ -1,12 +1,13 @@
 //! A thread that stops wakes all that wait, also where it stops without an event.
 
-use crate::common::{Seen, WRITE, all_accepted, settings_of, works_of};
+use crate::common::{Seen, all_accepted, settings_of, works_of};
 use crate::memory::threads_over;
 use crate::patient::{Patient, Told, Until};
 use crate::waiting::Slow;
 use pp_pool::Book;
 use pp_run::{Locked, Stop};
 use pp_shared::SharedDevice;
+use pp_test_plain::samples::WRITE;
 use std::process::Abort;
 use std::sync::{Mutex, Wait};
 use std::test::*;

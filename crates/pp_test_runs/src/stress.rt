@@ -1,6 +1,6 @@
 //! Many plans by many workers over few frames, on a device that fails and lies.
 
-use crate::common::{Seen, all_accepted, run_over};
+use crate::common::{Seen, all_accepted, run_over, settings_with};
 use pp_device::{Device, Failing, Trouble, image};
 use pp_model::Reply;
 use pp_pool::{Event, Work};
@@ -16,24 +16,10 @@ use std::test::*;
 use std::thread::Threads;
 use std::time::Clock;
 
-const SETTINGS: &str = "
-frames = 6
-page_bytes = 64
-workers = 8
-flushes = 4000
-
-[[region]]
-name = \"root\"
-first = 0
-count = 4
-class = 1
-
-[[region]]
-name = \"leaf\"
-first = 16
-count = 8
-class = 2
-";
+/// Six frames, eight workers, 4,000 flushes, and the sample regions.
+fn sample(alloc: Global) -> Result<Settings, Fail> {
+    settings_with(alloc, 6, 8, 4000)
+}
 
 /// Five times: a leaf is written below a root that is read, or a leaf is read.
 const DESCENT: &str = "{\"body\":[{\"body\":[{\"choice\":[\
@@ -135,7 +121,7 @@ fn run_many<R: AllocGlobal + Abort + Threads + Wait + Clock + Copy + Drop + Sync
     seen: &Seen,
 ) -> Result<(RunRecord, SharedDevice<R>), Fail> {
     let alloc = rt.alloc();
-    let settings = Settings::from_text(alloc, SETTINGS)?;
+    let settings = sample(alloc)?;
     let plans = all_accepted(rt, alloc, &settings, texts)?;
     let mut devices = Vec::new(alloc);
     for end in SharedDevice::over_memory(*rt, alloc, 24, 64, 9)? {
@@ -161,7 +147,7 @@ fn is_audited<R: AllocGlobal + Abort>(
     events: &[Event],
 ) -> Result<(), Fail> {
     let alloc = rt.alloc();
-    let settings = Settings::from_text(alloc, SETTINGS)?;
+    let settings = sample(alloc)?;
     let plans = all_accepted(rt, alloc, &settings, texts)?;
     let journal = journal_text(alloc, events)?;
     match audit(alloc, &settings, plans, journal.as_bytes()) {

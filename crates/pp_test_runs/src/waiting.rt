@@ -1,9 +1,10 @@
 //! Threads that wait are woken. A hang fails a test after some seconds.
 
-use crate::common::{Seen, TOUCH, WRITE, all_accepted, run_over, settings_of, works_of};
+use crate::common::{Seen, all_accepted, run_over, settings_of, works_of};
 use pp_device::{Device, Fault};
 use pp_pool::Work;
 use pp_shared::SharedDevice;
+use pp_test_plain::samples::{TOUCH, WRITE};
 use std::marker::Model;
 use std::sync::atomic::Ordering;
 use std::test::*;
