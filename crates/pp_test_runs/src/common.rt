@@ -6,7 +6,7 @@ use pp_annotate::annotate;
 use pp_cert::{Accepted, check};
 use pp_device::{Device, image};
 use pp_plan::Plan;
-use pp_pool::{Event, Work};
+use pp_pool::Work;
 use pp_run::{Pool, RunError, RunRecord};
 use pp_settings::Settings;
 use pp_shared::SharedDevice;
@@ -246,7 +246,7 @@ pub fn run<R: AllocGlobal + Abort + Threads + Wait + Clock + Copy + Drop + Sync 
     }
 }
 
-/// Compares events. Where they differ, the test fails and tells both.
-pub fn same_events(rt: &impl Abort, got: &[Event], want: &[Event]) {
+/// Compares two texts. Where they differ, the test fails and tells both.
+pub fn same_text(rt: &impl Abort, got: &str, want: &str) {
     assert_eq!(rt; got, want, "got {got:?}, wanted {want:?}");
 }

@@ -1,50 +1,23 @@
 //! Worked rows of runs.
 
-use crate::common::{Seen, run, same_events};
+use crate::common::{Seen, run, same_text};
 use pp_pool::Event;
+use pp_report::journal_text;
 use pp_test_plain::samples::{READ, TOUCH, WRITE};
-use pp_vault::{Came, Ending, Move, Reply};
+use pp_vault::{Ending, Reply};
 use std::sync::atomic::Ordering;
 use std::test::*;
 
-/// One worker writes a leaf.
-static WRITTEN: &[Event] = &[
-    Event::Submit { plan: 0 },
-    Event::Step {
-        did: Move::Take { worker: 0 },
-        reply: Reply::Taken { plan: 0 },
-    },
-    Event::Step {
-        did: Move::Fix {
-            worker: 0,
-            page: 16,
-        },
-        reply: Reply::MustRead { frame: 0 },
-    },
-    Event::Step {
-        did: Move::ReadDone {
-            worker: 0,
-            came: Came::Image(16, 0),
-        },
-        reply: Reply::Loaded { mark: 0 },
-    },
-    Event::Step {
-        did: Move::Latch { worker: 0 },
-        reply: Reply::Latched { mark: 0 },
-    },
-    Event::Step {
-        did: Move::Unlatch { worker: 0 },
-        reply: Reply::Unlatched { mark: 1 },
-    },
-    Event::Step {
-        did: Move::Unfix { worker: 0 },
-        reply: Reply::Did,
-    },
-    Event::Step {
-        did: Move::Finish { worker: 0 },
-        reply: Reply::Finished(Ending::Done),
-    },
-];
+/// The journal of a worker that writes a leaf.
+const WRITTEN: &str = "submit 0 = queued
+take 0 = taken 0
+fix 0 16 = mustread 0
+came 0 16 0 = loaded 0
+latch 0 = latched 0
+unlatch 0 = unlatched 1
+unfix 0 = did
+finish 0 = done
+";
 
 /// One worker, no flush: eight events, a hundred times the same, and the page stays newer than the device's.
 #[test]
@@ -52,7 +25,8 @@ fn a_run_ends_well(rt: HostRuntime) -> Result<(), Fail> {
     for _again in 0..100 {
         let seen = Seen::new();
         let record = run(&rt, 1, 0, &[WRITE], &seen)?;
-        same_events(&rt, &record.events, WRITTEN);
+        let journal = journal_text(rt.alloc(), &record.events)?;
+        same_text(&rt, &journal, WRITTEN);
         assert!(rt; record.dirty == 1 && record.plans == 1, "other figures");
     }
     Ok(())
