@@ -13,7 +13,7 @@ use Rattle.pp_judge.specs.Judgement.{workload_in}
 use Rattle.pp_judge.specs.declared.error.JudgeError.{JudgeError}
 use Rattle.pp_judge.specs.declared.exit.Exit.{Exit}
 use Rattle.pp_judge.specs.declared.exit.Exit.TheVariants.{OutOfMemory, Refused}
-use Rattle.pp_runner.specs.Runs.{IsUnwritten, MayEnd, MayRun, Tells}
+use Rattle.pp_run_command.specs.Runs.{IsUnwritten, MayEnd, MayRun, Tells}
 use Rattle.pp_words.specs.CommandLine.{Asked, Text}
 use Rattle.pp_cli.specs.Runs.{ComesOf}
 

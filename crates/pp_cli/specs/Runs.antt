@@ -6,7 +6,7 @@ use Rattle.pp_judge.specs.declared.device.DeviceSize.{DeviceSize}
 use Rattle.pp_judge.specs.declared.error.JudgeError.{JudgeError}
 use Rattle.pp_judge.specs.Judgement.{device_size_in, workload_in}
 use Rattle.pp_explain.specs.Paragraphs.{IsAbout}
-use Rattle.pp_runner.specs.Runs.{MayRun}
+use Rattle.pp_run_command.specs.Runs.{MayRun}
 use Rattle.pp_judge.specs.Answers.{Answer, MayDraw, MaySimulate, audit_answer, certification_answer, judgement_answer}
 use Rattle.pp_judge.specs.Answers.{refused, shown, misused, status_of}
 use Rattle.pp_judge.specs.Answers.{formatted, out_of_memory, unread, unwritten}

@@ -3,7 +3,7 @@
 ghost use Rattle.std.specs.Prelude.{◌≡◌, IfErr, IfSome, MatchResult, None, length, option_map};
 ghost use Rattle.pp_judge.specs.Answers.{seen};
 ghost use Rattle.pp_explain.specs.Paragraphs.{IsAbout};
-ghost use Rattle.pp_runner.specs.Runs.{IsUnwritten, MayEnd, Tells};
+ghost use Rattle.pp_run_command.specs.Runs.{IsUnwritten, MayEnd, Tells};
 ghost use Rattle.pp_words.specs.CommandLine.{asked_run};
 ghost use Rattle.pp_cli.specs.Runs.{ComesOf, files_of, stopped_by};
 ghost use Rattle.pp_cli.specs.Texts.{paths_at};
@@ -16,7 +16,7 @@ use pp_judge::{Exit, Workload};
 use pp_model::Event;
 use pp_report::{RunRecord, journal_text};
 use pp_run::RunError;
-use pp_runner::{RunnerError, stopped_line, told, write_journal};
+use pp_run_command::{RunCommandError, stopped_line, told, write_journal};
 use pp_words::RunPaths;
 use std::fs;
 use std::fs::File;
@@ -80,11 +80,11 @@ fn run_workload<
     ensures comes { MayEnd paths.now.device.now (option_map (λ text. text.now) paths.now.journal)
         (workload.settings, workload.plans.items) (seen result) }
 {
-    match pp_runner::run(rt, workload, paths.device, paths.seed, terminal) {
+    match pp_run_command::run(rt, workload, paths.device, paths.seed, terminal) {
         Ok(done) => ended(rt, &done, paths.journal),
-        Err(RunnerError::Unopened) => Exit::Unread(paths.device),
-        Err(RunnerError::OutOfMemory) => Exit::OutOfMemory,
-        Err(RunnerError::Stopped(error)) => {
+        Err(RunCommandError::Unopened) => Exit::Unread(paths.device),
+        Err(RunCommandError::OutOfMemory) => Exit::OutOfMemory,
+        Err(RunCommandError::Stopped(error)) => {
             if let Some(refused) = stopped_as(error) {
                 *note = texts.explained_as(rt.alloc(), refused);
             }

@@ -8,7 +8,7 @@ use crate::stand::{answer, call};
 use pp_cert::Accepted;
 use pp_device::SoloDevice;
 use pp_pool::{Book, Flusher, OwnSite, Turned, Worker};
-use pp_runner::Rounds;
+use pp_run_command::Rounds;
 use pp_settings::Settings;
 use pp_test_plain::samples::{SETTINGS, WRITE};
 use pp_vault::{Flushing, Hand, Hands};

@@ -65,7 +65,7 @@ fn case<
         "pp_pool" => books::case(rt, call),
         "pp_report" => journals::case(rt, call),
         "pp_judge" => judging::case(rt, call, row),
-        "pp_run" | "pp_runner" => runs::case(rt, library, call),
+        "pp_run" | "pp_run_command" => runs::case(rt, library, call),
         "pp_words" => words::case(rt, row),
         _ => anyhow::bail!("there is no such library"),
     }

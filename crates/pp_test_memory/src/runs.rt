@@ -5,7 +5,7 @@ use crate::stand::{answer, call};
 use pp_judge::Workload;
 use pp_report::RunRecord;
 use pp_run::{Pool, RunError};
-use pp_runner::{Rounds, progress_line, run, stopped_line, told};
+use pp_run_command::{Rounds, progress_line, run, stopped_line, told};
 use pp_settings::Settings;
 use pp_shared::SharedDevice;
 use pp_test_plain::samples::{SETTINGS, TOUCH, WRITE};
@@ -32,10 +32,10 @@ pub fn case<
 >(rt: &R, library: &str, call: &str) -> anyhow::Result<()> {
     match (library, call) {
         ("pp_run", "Pool::run") => pool(rt),
-        ("pp_runner", "run") => runner(rt),
-        ("pp_runner", "told") => tells(rt),
-        ("pp_runner", "stopped_line") => stops(rt),
-        ("pp_runner", "progress_line") => progress(rt),
+        ("pp_run_command", "run") => command(rt),
+        ("pp_run_command", "told") => tells(rt),
+        ("pp_run_command", "stopped_line") => stops(rt),
+        ("pp_run_command", "progress_line") => progress(rt),
         _ => anyhow::bail!("there is no such call"),
     }
 }
@@ -86,7 +86,7 @@ fn pool<
     Ok(())
 }
 
-fn runner<
+fn command<
     R: Files<File = File>
         + AllocGlobal
         + Print

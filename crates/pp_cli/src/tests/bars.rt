@@ -2,7 +2,7 @@
 
 use super::plans::{REPORT, folder_of, words_of};
 use super::runs::{Folder, run, run_unseen};
-use pp_runner::progress_line;
+use pp_run_command::progress_line;
 use std::fs;
 use std::fs::File;
 use std::process::Abort;

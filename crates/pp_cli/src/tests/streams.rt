@@ -1,7 +1,7 @@
 //! Streams that fail: an output that can't be written, and a complaint that can't be.
 
 use crate::program::serve;
-use pp_runner::write_journal;
+use pp_run_command::write_journal;
 use std::fs::File;
 use std::io;
 use std::io::{ErrorKind, Write};

@@ -1,7 +1,7 @@
 use Rattle.std.proofs.Common.{◌∷◌, [], ◌++◌, ◌∙◌, ◌+◌, ap, sym, zero-add}
 use Rattle.std.proofs.lemmas.List.FromFn.{map-range_with_len_more}
-use Rattle.pp_runner.specs.Choices.{new_rounds, new_works}
-use Rattle.pp_runner.proofs.running.works_of.Goals as goal
+use Rattle.pp_run_command.specs.Choices.{new_rounds, new_works}
+use Rattle.pp_run_command.proofs.running.works_of.Goals as goal
 
 pub loop-worker-preserved : goal.loop-worker-preserved
 loop-worker-preserved c =

@@ -2,7 +2,7 @@
 
 ghost use Rattle.std.specs.Prelude.{◌≡◌, ◌+◌, ◌<◌, ◌≤◌, length};
 ghost use Rattle.pp_device.specs.Image.{head_of};
-ghost use Rattle.pp_runner.specs.Choices.{after_choice, choice, new_rounds, raised};
+ghost use Rattle.pp_run_command.specs.Choices.{after_choice, choice, new_rounds, raised};
 
 use pp_pool::Work;
 

@@ -12,20 +12,20 @@ use Rattle.pp_shared.specs.declared.error.OpenError.{OpenError}
 use Rattle.pp_shared.specs.declared.error.OpenError.TheVariants as open_error
 use Rattle.pp_judge.specs.Answers.{Answer, ran, stopped, refused, unread, unwritten, out_of_memory}
 use Rattle.pp_judge.specs.declared.error.JudgeError.{JudgeError}
-use Rattle.pp_runner.specs.Endings.{stopped_line, went_well}
+use Rattle.pp_run_command.specs.Endings.{stopped_line, went_well}
 use Rattle.pp_report.specs.Reports.{report_text}
-use Rattle.pp_runner.specs.declared.error.RunnerError.{RunnerError}
-use Rattle.pp_runner.specs.declared.error.RunnerError.TheVariants.{Unopened, OutOfMemory, Stopped}
+use Rattle.pp_run_command.specs.declared.error.RunCommandError.{RunCommandError}
+use Rattle.pp_run_command.specs.declared.error.RunCommandError.TheVariants.{Unopened, OutOfMemory, Stopped}
 
 -- Why there is no run where the device isn't opened.
-abbrev pub unopened : OpenError → RunnerError
+abbrev pub unopened : OpenError → RunCommandError
 unopened (open_error.Fault fault) = Unopened
 unopened open_error.OutOfMemory = OutOfMemory
 
 -- Why there is no record where the pool gives none.
-abbrev pub runner_error_of : RunError → RunnerError
-runner_error_of run_error.OutOfMemory = OutOfMemory
-runner_error_of error = Stopped error
+abbrev pub run_command_error_of : RunError → RunCommandError
+run_command_error_of run_error.OutOfMemory = OutOfMemory
+run_command_error_of error = Stopped error
 
 -- A run of these settings and plans stops so: the pool doesn't take the first of these plans in, or a thread came to no
 -- good end. Want of memory isn't told so.
@@ -33,9 +33,9 @@ abbrev pub IsStop : Configuration × List Acceptance → RunError → Type 0
 IsStop w run_error.OutOfMemory = ⊥
 IsStop w error = IsRunError (kept_of w.0) w.1 error
 
-abbrev pub IsRunnerError : Configuration × List Acceptance → RunnerError → Type 0
-IsRunnerError w (Stopped error) = IsStop w error
-IsRunnerError w _ = ⊤
+abbrev pub IsRunCommandError : Configuration × List Acceptance → RunCommandError → Type 0
+IsRunCommandError w (Stopped error) = IsStop w error
+IsRunCommandError w _ = ⊤
 
 -- The text is the report of a run of these settings and plans, and it is told whether that went well.
 pub record IsReport (w : Configuration × List Acceptance) (text : List ℕ) (is_well : Bool) : Type 0 where

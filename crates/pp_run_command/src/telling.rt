@@ -4,7 +4,7 @@ ghost use Rattle.std.specs.Prelude.{◌≡◌, IfOk, OnOk, string_bytes};
 ghost use Rattle.std.specs.Io.KnownBytes.{Appends};
 ghost use Rattle.pp_report.specs.Reports.{report_text};
 ghost use Rattle.pp_run.specs.RunErrors.{run_error_row};
-ghost use Rattle.pp_runner.specs.Endings.{is_trouble, stopped_line, went_well};
+ghost use Rattle.pp_run_command.specs.Endings.{is_trouble, stopped_line, went_well};
 
 use pp_judge::RunReport;
 use pp_model::{Ending, Event, Move, Reply};

@@ -1,7 +1,7 @@
 //! How far a run is, as another thread sees it.
 
 ghost use Rattle.std.specs.Prelude.{◌≡◌, IfOk, string_bytes};
-ghost use Rattle.pp_runner.specs.Showing.{progress_line};
+ghost use Rattle.pp_run_command.specs.Showing.{progress_line};
 
 use pp_device::{Device, Fault};
 use std::alloc::{AllocError, Global};

@@ -9,7 +9,7 @@ mod running;
 mod telling;
 mod watching;
 
-pub use error::RunnerError;
+pub use error::RunCommandError;
 pub use progress::progress_line;
 pub use rounds::Rounds;
 pub use running::run;

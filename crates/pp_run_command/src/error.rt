@@ -1,8 +1,8 @@
 //! Why a run over a file gives no record.
 
 ghost use Rattle.std.specs.Prelude.{◌≡◌};
-ghost use Rattle.pp_runner.specs.declared.error.RunnerError.TheVariants.{OutOfMemory};
-ghost use Rattle.pp_runner.specs.Runs.{runner_error_of, unopened};
+ghost use Rattle.pp_run_command.specs.declared.error.RunCommandError.TheVariants.{OutOfMemory};
+ghost use Rattle.pp_run_command.specs.Runs.{run_command_error_of, unopened};
 
 use pp_run::RunError;
 use pp_shared::OpenError;
@@ -11,7 +11,7 @@ use thiserror::Error;
 
 /// Why a run over a file gives no record.
 #[derive(Clone, Copy, Debug, PartialEq, Eq, Error)]
-pub enum RunnerError {
+pub enum RunCommandError {
     /// The file of the device can't be opened for reading and writing. Nothing was run.
     #[error("the device can't be opened")]
     Unopened,
@@ -23,32 +23,32 @@ pub enum RunnerError {
     Stopped(RunError),
 }
 
-impl From<OpenError> for RunnerError {
+impl From<OpenError> for RunCommandError {
     ghost from_gives = { λ error e. e ≡ unopened error };
 
-    fn from(error: OpenError) -> RunnerError {
+    fn from(error: OpenError) -> RunCommandError {
         match error {
-            OpenError::Fault(_) => RunnerError::Unopened,
-            OpenError::OutOfMemory => RunnerError::OutOfMemory,
+            OpenError::Fault(_) => RunCommandError::Unopened,
+            OpenError::OutOfMemory => RunCommandError::OutOfMemory,
         }
     }
 }
 
-impl From<RunError> for RunnerError {
-    ghost from_gives = { λ error e. e ≡ runner_error_of error };
+impl From<RunError> for RunCommandError {
+    ghost from_gives = { λ error e. e ≡ run_command_error_of error };
 
-    fn from(error: RunError) -> RunnerError {
+    fn from(error: RunError) -> RunCommandError {
         match error {
-            RunError::OutOfMemory => RunnerError::OutOfMemory,
-            error => RunnerError::Stopped(error),
+            RunError::OutOfMemory => RunCommandError::OutOfMemory,
+            error => RunCommandError::Stopped(error),
         }
     }
 }
 
-impl From<AllocError> for RunnerError {
+impl From<AllocError> for RunCommandError {
     ghost from_gives = { λ _ e. e ≡ OutOfMemory };
 
-    fn from(_refused: AllocError) -> RunnerError {
-        RunnerError::OutOfMemory
+    fn from(_refused: AllocError) -> RunCommandError {
+        RunCommandError::OutOfMemory
     }
 }

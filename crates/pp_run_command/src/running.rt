@@ -3,10 +3,10 @@
 ghost use Rattle.std.specs.Prelude.{◌≡◌, ◌+◌, IfOk, IfErr, vec_len};
 ghost use Rattle.pp_core.specs.Opening.{kept_of};
 ghost use Rattle.pp_run.specs.Runs.{IsRun, IsRunError};
-ghost use Rattle.pp_runner.specs.Choices.{new_works};
-ghost use Rattle.pp_runner.specs.Runs.{IsRunnerError};
+ghost use Rattle.pp_run_command.specs.Choices.{new_works};
+ghost use Rattle.pp_run_command.specs.Runs.{IsRunCommandError};
 
-use crate::error::RunnerError;
+use crate::error::RunCommandError;
 use crate::progress::{Counted, Progress};
 use crate::rounds::Rounds;
 use crate::watching::{Completion, watch};
@@ -46,11 +46,11 @@ pub fn run<
     device: &str,
     seed: u32,
     terminal: Option<&mut T>,
-) -> Result<RunRecord, RunnerError>
+) -> Result<RunRecord, RunCommandError>
     // What was done is a true journal of these settings and plans, to their end.
     ensures journal { IfOk result (λ done. IsRun (kept_of workload.settings) workload.plans.items done) }
     // A run stops where the pool doesn't take a plan in, or by a thread of its own.
-    ensures error { IfErr result (IsRunnerError (workload.settings, workload.plans.items)) }
+    ensures error { IfErr result (IsRunCommandError (workload.settings, workload.plans.items)) }
 {
     let Workload { settings, plans } = workload;
     let alloc = rt.alloc();

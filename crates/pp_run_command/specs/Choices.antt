@@ -1,7 +1,7 @@
 -- The choices of a run, and what it does with bodies.
 use Rattle.std.specs.Prelude.{ℕ, ◌+◌, ◌%◌, List, [], ◌∷◌, map, min}
 use Rattle.std.specs.List.{range_with_len}
-use Rattle.pp_runner.specs.declared.rounds.Rounds.{Rounds}
+use Rattle.pp_run_command.specs.declared.rounds.Rounds.{Rounds}
 
 -- The work of the worker with this number, which made no choice yet.
 abbrev pub new_rounds : (seed worker : ℕ) → Rounds
