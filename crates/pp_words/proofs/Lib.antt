@@ -4,12 +4,9 @@ pub mod PlainWalk
 pub mod PlainPlans
 pub mod PlainTwo
 pub mod PlainCheck
-pub mod PlainAnnotate
-pub mod PlainSimulate
-pub mod PlainFormat
+pub mod PlainAnnotateFormat
+pub mod PlainSimulateAuditDraw
 pub mod PlainRun
-pub mod PlainAudit
-pub mod PlainDraw
 pub mod Numbers
 pub mod Commands
 pub mod PlainWords

@@ -25,10 +25,8 @@ two_rows shape a b = (settled shape.rules (held_2 shape a b)).rows
 abbrev pub all_rows : Shape → Rule → Text → Text → List Text → List Row
 all_rows shape rule a b plans = two_rows shape a b ++ plan_rows rule plans
 
--- What a command's rules show by computing: two words go to its first two arguments, and plans to the third. It asks for
--- what these are.
-pub record TakesTwo (command : Text) (shape : Shape) (rule : Rule) (asks : Text → Text → List Text → Asked) : Type 0 where
-  pub has : HasCommand command shape
+-- Two words go to a command's first two arguments, and the next one to its plans.
+pub record WordsGo (shape : Shape) (rule : Rule) : Type 0 where
   pub first : (a : Text)
       → to_positional shape.rules (arg_by_index shape.rules 1) a (between nothing_held 1) nothing_held
       ≡ between (held_1 shape a) 2
@@ -38,13 +36,23 @@ pub record TakesTwo (command : Text) (shape : Shape) (rule : Rule) (asks : Text 
   pub third : (a b c : Text)
       → to_positional shape.rules (arg_by_index shape.rules 3) c (between (held_2 shape a b) 3) (held_2 shape a b)
       ≡ among 3 (plans_held rule (two_rows shape a b) [] c)
-  pub first_right : step_fault shape 1 nothing_held value ≡ []
-  pub second_right : (a : Text) → step_fault shape 2 (held_1 shape a) value ≡ []
-  pub third_right : (a b : Text) → step_fault shape 3 (held_2 shape a b) value ≡ []
-  pub plans : (a b : Text) → TakesPlans shape 3 rule (two_rows shape a b)
-  pub rows_right : (a b c : Text) (rest : List Text)
+
+-- These words are no fault, and with all rows there is none.
+pub record NoFaults (shape : Shape) (rule : Rule) : Type 0 where
+  pub first : step_fault shape 1 nothing_held value ≡ []
+  pub second : (a : Text) → step_fault shape 2 (held_1 shape a) value ≡ []
+  pub third : (a b : Text) → step_fault shape 3 (held_2 shape a b) value ≡ []
+  pub rows : (a b c : Text) (rest : List Text)
       → or_else (defaults_fault (all_rows shape rule a b (c ∷ rest)) shape.rules)
       (check_fault shape (fold with_default (all_rows shape rule a b (c ∷ rest)) shape.rules) false) ≡ []
+
+-- What a command's rules show by computing: two words go to its first two arguments, and plans to the third. It asks for
+-- what these are.
+pub record TakesTwo (command : Text) (shape : Shape) (rule : Rule) (asks : Text → Text → List Text → Asked) : Type 0 where
+  pub has : HasCommand command shape
+  pub goes : WordsGo shape rule
+  pub right : NoFaults shape rule
+  pub plans : (a b : Text) → TakesPlans shape 3 rule (two_rows shape a b)
   pub values : (a b c : Text) (rest : List Text)
       → asked_of (Some (command, fold with_default (all_rows shape rule a b (c ∷ rest)) shape.rules))
       ≡ Some (asks a b (c ∷ rest))
@@ -59,22 +67,22 @@ module _ (command : Text) (shape : Shape) (rule : Rule) (asks : Text → Text �
   end = end_held shape 3 rule front (takes.plans a b) [] c rest
 
   first_step : walked shape.rules [] (between nothing_held 1) a ≡ between (held_1 shape a) 2
-  first_step = walked_plain shape.rules nothing_held 1 a p ∙ takes.first a
+  first_step = walked_plain shape.rules nothing_held 1 a p ∙ takes.goes.first a
 
   second_step : walked shape.rules [] (between (held_1 shape a) 2) b ≡ between (held_2 shape a b) 3
-  second_step = walked_plain shape.rules (held_1 shape a) 2 b q ∙ takes.second a b
+  second_step = walked_plain shape.rules (held_1 shape a) 2 b q ∙ takes.goes.second a b
 
   third_step : walked shape.rules [] (between (held_2 shape a b) 3) c ≡ among 3 (plans_held rule front [] c)
-  third_step = walked_plain shape.rules (held_2 shape a b) 3 c r ∙ takes.third a b c
+  third_step = walked_plain shape.rules (held_2 shape a b) 3 c r ∙ takes.goes.third a b c
 
   walk_is_right : walk_fault shape [] (between nothing_held 1) (a ∷ b ∷ c ∷ rest) ≡ []
   walk_is_right =
       fault_cons shape (between nothing_held 1) (between (held_1 shape a) 2) a (b ∷ c ∷ rest)
-      (turn_plain shape nothing_held 1 a p ∙ takes.first_right) first_step
+      (turn_plain shape nothing_held 1 a p ∙ takes.right.first) first_step
       (fault_cons shape (between (held_1 shape a) 2) (between (held_2 shape a b) 3) b (c ∷ rest)
-      (turn_plain shape (held_1 shape a) 2 b q ∙ takes.second_right a) second_step
+      (turn_plain shape (held_1 shape a) 2 b q ∙ takes.right.second a) second_step
       (fault_cons shape (between (held_2 shape a b) 3) (among 3 (plans_held rule front [] c)) c rest
-      (turn_plain shape (held_2 shape a b) 3 c r ∙ takes.third_right a b) third_step
+      (turn_plain shape (held_2 shape a b) 3 c r ∙ takes.right.third a b) third_step
       (rest_is_right shape 3 rule front (takes.plans a b) [] c rest plain)))
 
   walk_ends : walk shape.rules [] nothing_held (a ∷ b ∷ c ∷ rest) ≡ among 3 end
@@ -90,7 +98,7 @@ module _ (command : Text) (shape : Shape) (rule : Rule) (asks : Text → Text �
       ap (λ (kinds : Kinds). or_else kinds
       (after_walk shape (walk shape.rules [] nothing_held (a ∷ b ∷ c ∷ rest)).held)) walk_is_right
       ∙ ap (λ (v : Walk). after_walk shape v.held) walk_ends
-      ∙ end_is_right shape 3 rule front (takes.plans a b) c rest (takes.rows_right a b c rest)
+      ∙ end_is_right shape 3 rule front (takes.plans a b) c rest (takes.right.rows a b c rest)
 
   pub plain_two : (name : Text) → asked (name ∷ command ∷ a ∷ b ∷ c ∷ rest) ≡ Some (asks a b (c ∷ rest))
   plain_two name =
