@@ -92,7 +92,7 @@ ask_back (ask.Scatter slot) = refl
 ask_back (ask.Choose branches) = refl
 ask_back ask.End = refl
 
-abbrev coded_ask : Coded Ask
+abbrev pub coded_ask : Coded Ask
 coded_ask =
     code_by AskParts (coded_option (coded× (coded_option coded_bool) (coded× coded_ℕ (coded_option coded_ℕ)))) ask_to
     ask_from ask_back

@@ -1,10 +1,8 @@
 -- The code of hands, by which proofs tell them apart.
-use Rattle.std.specs.Prelude.{◌≡◌, ℕ, zero, suc, Bool, true, false, ◌⊎◌, Option, None, Some, List, refl, Ok, Err}
+use Rattle.std.specs.Prelude.{◌≡◌, ℕ, Bool, true, false, ◌⊎◌, Option, None, Some, List, refl, Ok, Err}
 use Rattle.std.proofs.Common.{inl, inr}
 use Rattle.std.specs.Coded.{Coded, code_by, coded×, coded⊎, coded_ℕ, coded_bool, coded_list, coded_option}
-use Rattle.pp_plan.specs.declared.mode.Mode.TheVariants as mode
 use Rattle.pp_plan.specs.declared.action.Ask.{Ask}
-use Rattle.pp_plan.specs.declared.action.Ask.TheVariants as ask
 use Rattle.pp_device.specs.declared.fault.Fault.{Fault}
 use Rattle.pp_device.specs.declared.fault.Fault.TheVariants as fault
 use Rattle.pp_device.specs.Answers.{Answer}
@@ -14,54 +12,10 @@ use Rattle.pp_vault.specs.declared.guards.Guard.{Guard}
 use Rattle.pp_vault.specs.declared.stage.Stage.{Stage}
 use Rattle.pp_vault.specs.declared.stage.Stage.TheVariants as stage
 use Rattle.pp_vault.specs.declared.stage.Hand.{Hand}
+use Rattle.pp_core.specs.Coding.{coded_ask}
 use Rattle.pp_vault.specs.GuardCoding.{coded_guards}
 
--- ---- what a plan asks, a duty and a fault
-
--- Nothing for the end; else which pair of kinds it is of, its slot or number, and what else it has.
-abbrev AskParts : Type 0
-AskParts = Option (Option Bool × (ℕ × Option ℕ))
-
-abbrev ask_to : Ask → AskParts
-ask_to (ask.Fix slot region) = Some (None, (slot, Some region))
-ask_to (ask.Unfix slot) = Some (None, (slot, None))
-ask_to (ask.Latch slot mode.S) = Some (Some false, (slot, Some 0))
-ask_to (ask.Latch slot mode.X) = Some (Some false, (slot, Some 1))
-ask_to (ask.Unlatch slot) = Some (Some false, (slot, None))
-ask_to (ask.Gather slot region) = Some (Some true, (slot, Some (suc region)))
-ask_to (ask.Scatter slot) = Some (Some true, (slot, Some 0))
-ask_to (ask.Choose branches) = Some (Some true, (branches, None))
-ask_to ask.End = None
-
-abbrev action_from : Option Bool → ℕ → Option ℕ → Ask
-action_from None slot (Some region) = ask.Fix slot region
-action_from None slot None = ask.Unfix slot
-action_from (Some false) slot (Some zero) = ask.Latch slot mode.S
-action_from (Some false) slot (Some (suc n)) = ask.Latch slot mode.X
-action_from (Some false) slot None = ask.Unlatch slot
-action_from (Some true) slot (Some zero) = ask.Scatter slot
-action_from (Some true) slot (Some (suc region)) = ask.Gather slot region
-action_from (Some true) branches None = ask.Choose branches
-
-abbrev ask_from : AskParts → Ask
-ask_from None = ask.End
-ask_from (Some p) = action_from p.0 p.1.0 p.1.1
-
-pub ask_back : (a : Ask) → ask_from (ask_to a) ≡ a
-ask_back (ask.Fix slot region) = refl
-ask_back (ask.Unfix slot) = refl
-ask_back (ask.Latch slot mode.S) = refl
-ask_back (ask.Latch slot mode.X) = refl
-ask_back (ask.Unlatch slot) = refl
-ask_back (ask.Gather slot region) = refl
-ask_back (ask.Scatter slot) = refl
-ask_back (ask.Choose branches) = refl
-ask_back ask.End = refl
-
-abbrev coded_ask : Coded Ask
-coded_ask =
-    code_by AskParts (coded_option (coded× (coded_option coded_bool) (coded× coded_ℕ (coded_option coded_ℕ)))) ask_to
-    ask_from ask_back
+-- ---- a duty and a fault
 
 -- The page, and of a worker's duty the worker, the slot and the victim, if there is one.
 abbrev DutyParts : Type 0
