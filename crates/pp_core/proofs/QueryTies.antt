@@ -9,6 +9,7 @@ use Rattle.std.proofs.lemmas.List.{get_or_past}
 use Rattle.std.proofs.lemmas.List.FromFn.{length-map-range_with_len}
 use Rattle.std.proofs.lemmas.List.Sums.{sum_by-cons}
 use Rattle.pp_plan.specs.declared.action.Ask.{Ask}
+use Rattle.pp_cert.specs.declared.note.Held.{Held}
 use Rattle.pp_cert.specs.Held.{Holding, holding_at}
 use Rattle.pp_cert.specs.Accepted.{Acceptance}
 use Rattle.pp_frames.specs.Marks.{PageMarks, PageMap}
@@ -20,7 +21,7 @@ use Rattle.pp_model.specs.Pool.{frame_of, known_mark}
 use Rattle.pp_model.specs.Pool.{Flush as FlushInFlight, dirty_pages}
 use Rattle.pp_model.specs.Holders.{holdings}
 use Rattle.pp_model.specs.Outcome.{Outcome, off_plan}
-use Rattle.pp_model.specs.Moves.{act_by, act_in, seat_of}
+use Rattle.pp_model.specs.Moves.{asked_by, act_by, act_in, seat_of}
 use Rattle.pp_model.specs.Marks.{marks_at, marks}
 use Rattle.pp_model.proofs.MarkParts.{marks_is}
 use Rattle.pp_model.proofs.BoundSteps as numbers
@@ -34,7 +35,7 @@ use Rattle.pp_core.specs.Parts.{Parts}
 use Rattle.pp_core.specs.StandsFor.{FitsStage, FitsSeat, StandsFor, IsKept, in_flight_as, Asks, CannotAct}
 use Rattle.pp_core.specs.Queries.{idle_by, is_idle, leaves, leaving_by, is_leaving, ask_in, ask_by, ask_of, held_by}
 use Rattle.pp_core.specs.Queries.{own_of, own_hold, held_of, bundle_of, gathered_of, gathered_in, pending_by, pending_of}
-use Rattle.pp_core.specs.Queries.{pending_seat}
+use Rattle.pp_core.specs.Queries.{pending_seat, is_page_so, ask_holding, ask_at, ask_seat, ask_holding_seat}
 use Rattle.pp_core.specs.Gathered.{bundle_place, bundle_in}
 use Rattle.pp_core.proofs.SlotKinds.{none_past}
 use Rattle.pp_bundles.specs.Bundles.{pages_at}
@@ -114,6 +115,34 @@ module _ (plans : List Acceptance) where
   same_pending (Some (Some x)) (Some (Some r)) h =
       let leaves_so = same_leaves x.phase r.stage h.phase in
       λ i. if leaves_so i then None else Some (h.ask i)
+
+  same_ask : (x : Seat) (r : Running) (p : Phase) (g : Stage) → x.ask ≡ asked_by r → FitsStage p g
+      → ask_at x p ≡ ask_in r g
+  same_ask x r Acting acting e h = ap {B = Option Ask} Some e
+  same_ask x r Acting (writing t y v) e h = absurd h
+  same_ask x r Acting (reading t y) e h = absurd h
+  same_ask x r Acting (leaving given) e h = absurd h
+  same_ask x r (Writing slot page victim) acting e h = absurd h
+  same_ask x r (Writing slot page victim) (writing t y v) e h = refl
+  same_ask x r (Writing slot page victim) (reading t y) e h = absurd h
+  same_ask x r (Writing slot page victim) (leaving given) e h = absurd h
+  same_ask x r (Reading slot page) acting e h = absurd h
+  same_ask x r (Reading slot page) (writing t y v) e h = absurd h
+  same_ask x r (Reading slot page) (reading t y) e h = refl
+  same_ask x r (Reading slot page) (leaving given) e h = absurd h
+  same_ask x r Leaving acting e h = absurd h
+  same_ask x r Leaving (writing t y v) e h = absurd h
+  same_ask x r Leaving (reading t y) e h = absurd h
+  same_ask x r Leaving (leaving given) e h = refl
+
+  same_asking : (x : Option (Option Seat)) (y : Option (Option Running)) → FitsPlace plans x y → ask_seat x ≡ ask_by y
+  same_asking None None h = refl
+  same_asking None (Some y) h = absurd h
+  same_asking (Some x) None h = absurd h
+  same_asking (Some None) (Some None) h = refl
+  same_asking (Some None) (Some (Some r)) h = absurd h
+  same_asking (Some (Some x)) (Some None) h = absurd h
+  same_asking (Some (Some x)) (Some (Some r)) h = same_ask x r x.phase r.stage h.ask h.phase
 
   same_hold : (o : Option Holding) → own_hold (option_map hold_of o) ≡ own_of o
   same_hold None = refl
@@ -203,6 +232,14 @@ module _ (f : Parts) (s : State) (st : StandsFor f s) where
 
   pub held_told : (w slot : ℕ) → held_seat (slice_get f.seats w) slot ≡ held_of s w slot
   held_told w slot = same_held s.plans (slice_get f.seats w) (seat_of s w) slot (place f s w st)
+
+  pub asking_told : (w : ℕ) → ask_seat (slice_get f.seats w) ≡ ask_of s w
+  asking_told w = same_asking s.plans (slice_get f.seats w) (seat_of s w) (place f s w st)
+
+  pub holding_told : (w slot page : ℕ) (held : Held)
+      → ask_holding_seat (slice_get f.seats w) slot page held ≡ ask_holding s w slot page held
+  holding_told w slot page held =
+      λ i. if is_page_so page held (held_told w slot i) then asking_told w i else None
 
   -- The pages of a bundle are those of its stack; past the last slot and the last worker there are none.
   abbrev pub stacked : (w slot : ℕ) → List ℕ

@@ -1,9 +1,10 @@
 -- What a core tells of its state.
-use Rattle.std.specs.Prelude.{ℕ, nat_lt, ◌&&◌, Bool, true, false, if◌then◌else◌, Option, None, Some, option_map, unwrap_or}
+use Rattle.std.specs.Prelude.{ℕ, nat_lt, ◌&&◌, ◌==◌, Bool, true, false, if◌then◌else◌, Option, None, Some, option_map, unwrap_or}
 use Rattle.std.specs.Prelude.{List, length}
 use Rattle.pp_plan.specs.declared.action.Ask.{Ask}
 use Rattle.pp_cert.specs.declared.note.Held.{Held}
 use Rattle.pp_cert.specs.Held.{Holding, holding_at}
+use Rattle.pp_cert.specs.Notes.{same_held}
 use Rattle.pp_model.specs.Pool.{Stage, acting, writing, reading, leaving, Running, State}
 use Rattle.pp_model.specs.Holders.{holdings}
 use Rattle.pp_model.specs.Moves.{asked_by, seat_of}
@@ -69,6 +70,15 @@ held_by (Some (Some r)) slot = own_of (holding_at (holdings r) slot)
 
 abbrev pub held_of : State → (w slot : ℕ) → Option (ℕ × Held)
 held_of s w slot = held_by (seat_of s w) slot
+
+-- Whether what a slot holds, if it holds a page of its own, is this page, held so.
+abbrev pub is_page_so : (page : ℕ) → Held → Option (ℕ × Held) → Bool
+is_page_so page held None = false
+is_page_so page held (Some h) = (h.0 == page) && same_held h.1 held
+
+-- What the plan of worker w asks next, where the worker acts and its slot holds this page so.
+abbrev pub ask_holding : State → (w slot page : ℕ) → Held → Option Ask
+ask_holding s w slot page held = if is_page_so page held (held_of s w slot) then ask_of s w else None
 
 -- The pages that a slot of worker w has as a bundle, the one that was gathered last first; none of any other slot. And how
 -- many these are.
@@ -144,6 +154,20 @@ abbrev pub held_seat : Option (Option Seat) → (slot : ℕ) → Option (ℕ × 
 held_seat None slot = None
 held_seat (Some None) slot = None
 held_seat (Some (Some x)) slot = own_hold (hold_at x.slots slot)
+
+abbrev pub ask_at : Seat → Phase → Option Ask
+ask_at x Acting = Some x.ask
+ask_at x (Writing slot page victim) = None
+ask_at x (Reading slot page) = None
+ask_at x Leaving = None
+
+abbrev pub ask_seat : Option (Option Seat) → Option Ask
+ask_seat None = None
+ask_seat (Some None) = None
+ask_seat (Some (Some x)) = ask_at x x.phase
+
+abbrev pub ask_holding_seat : Option (Option Seat) → (slot page : ℕ) → Held → Option Ask
+ask_holding_seat o slot page held = if is_page_so page held (held_seat o slot) then ask_seat o else None
 
 -- How many pages stand in the stack of the slot; 0 of a slot or a worker that isn't there.
 abbrev pub gathered_in : PageStacks → (workers w slot : ℕ) → ℕ

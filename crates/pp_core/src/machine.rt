@@ -14,7 +14,7 @@ ghost use Rattle.pp_core.specs.Opening.{kept_of};
 ghost use Rattle.pp_core.specs.Submits.{TakesIn};
 ghost use Rattle.pp_core.specs.Runs.{MovesAll};
 ghost use Rattle.pp_core.specs.Draining.{host_of, IsOpenIn, CanBeMade, DecidesIn, Drains, Rests};
-ghost use Rattle.pp_core.specs.Queries.{is_idle, is_leaving, ask_of, held_of, gathered_of, errand_of, flushed_page, plan_count};
+ghost use Rattle.pp_core.specs.Queries.{is_idle, is_leaving, ask_of, held_of, ask_holding, gathered_of, errand_of, flushed_page, plan_count};
 ghost use Rattle.pp_core.specs.Headline.{HeadlineHolds};
 
 use crate::draining::Decide;
@@ -292,6 +292,15 @@ impl Core {
         ensures { (s : State) → StandsFor self.now s → result ≡ held_of s worker slot }
     {
         self.table.held(worker, slot)
+    }
+
+    /// What the plan of a worker that acts asks next, where the worker's slot holds this page so: what [`Core::ask`] and
+    /// [`Core::held`] tell, by one look. None where either isn't so.
+    #[inline(always)]
+    pub fn ask_holding(&self, worker: u32, slot: u32, page: u32, held: Held) -> Option<Ask>
+        ensures { (s : State) → StandsFor self.now s → result ≡ ask_holding s worker slot page held }
+    {
+        self.table.ask_holding(worker, slot, page, held)
     }
 
     /// How many pins the worker's slot has as a bundle: one for each page that was gathered, again for one that was

@@ -1,12 +1,17 @@
 //! A function for each move: a caller that knows which move comes spares the choice among twelve.
 
-ghost use Rattle.std.specs.Prelude.{◌≡◌, ◌+◌, ◌≤◌, IsTrue, if◌then◌else◌};
+ghost use Rattle.std.specs.Prelude.{◌≡◌, ◌+◌, ◌≤◌, IsTrue, Some, if◌then◌else◌};
+ghost use Rattle.pp_cert.specs.declared.note.Held.TheVariants.{Free};
+ghost use Rattle.pp_model.specs.Pool.{State};
 ghost use Rattle.pp_model.specs.Moves.{is_refusal};
-ghost use Rattle.pp_core.specs.StandsFor.{IsKept, Moves};
+ghost use Rattle.pp_core.specs.StandsFor.{StandsFor, IsKept, Moves};
+ghost use Rattle.pp_core.specs.Queries.{ask_holding};
 ghost use Rattle.pp_core.specs.Headline.{HeadlineHolds};
 
 use crate::machine::Core;
+use pp_cert::Held;
 use pp_model::{Came, Move, Reply};
+use pp_plan::{Ask, Mode};
 
 // Each of these does its move as `Core::step` does, or refuses it.
 impl Core {
@@ -90,6 +95,47 @@ impl Core {
         ensures budget { self.new.budget + (if is_refusal result then 0 else 1) ≤ self.old.budget }
     {
         self.table.unlatch(worker)
+    }
+
+    /// A worker gives back this page of this slot, as its plan asks: [`Move::Unfix`]. Who has asked [`Core::ask_holding`]
+    /// spares another look at what the slot holds.
+    #[inline(always)]
+    pub fn unfix_held(&mut self, worker: u32, slot: u8, page: u32) -> Reply
+        requires { (s : State) → StandsFor self.old s → ask_holding s worker slot page Free ≡ Some (Ask.Unfix slot) }
+        ensures moves { Moves self.old (Move.Unfix worker) result self.new }
+        ensures refusal { IsTrue (is_refusal result) → self.new ≡ self.old }
+        ensures kept { IsKept self.new }
+        ensures headline { HeadlineHolds self.new }
+        ensures budget { self.new.budget + (if is_refusal result then 0 else 1) ≤ self.old.budget }
+    {
+        self.table.unfix_held(worker, slot, page)
+    }
+
+    /// A worker latches this page of this slot in this mode, as its plan asks: [`Move::Latch`].
+    #[inline(always)]
+    pub fn latch_held(&mut self, worker: u32, slot: u8, page: u32, mode: Mode) -> Reply
+        requires { (s : State) → StandsFor self.old s
+            → ask_holding s worker slot page Free ≡ Some (Ask.Latch slot mode) }
+        ensures moves { Moves self.old (Move.Latch worker) result self.new }
+        ensures refusal { IsTrue (is_refusal result) → self.new ≡ self.old }
+        ensures kept { IsKept self.new }
+        ensures headline { HeadlineHolds self.new }
+        ensures budget { self.new.budget + (if is_refusal result then 0 else 1) ≤ self.old.budget }
+    {
+        self.table.latch_held(worker, slot, page, mode)
+    }
+
+    /// A worker takes the latch, which is of this kind, off this page of this slot, as its plan asks: [`Move::Unlatch`].
+    #[inline(always)]
+    pub fn unlatch_held(&mut self, worker: u32, slot: u8, page: u32, held: Held) -> Reply
+        requires { (s : State) → StandsFor self.old s → ask_holding s worker slot page held ≡ Some (Ask.Unlatch slot) }
+        ensures moves { Moves self.old (Move.Unlatch worker) result self.new }
+        ensures refusal { IsTrue (is_refusal result) → self.new ≡ self.old }
+        ensures kept { IsKept self.new }
+        ensures headline { HeadlineHolds self.new }
+        ensures budget { self.new.budget + (if is_refusal result then 0 else 1) ≤ self.old.budget }
+    {
+        self.table.unlatch_held(worker, slot, page, held)
     }
 
     /// A worker goes on with this branch of a choice: [`Move::Choose`].

@@ -1,11 +1,12 @@
 //! What the table tells.
 
 ghost use Rattle.std.specs.Prelude.{◌≡◌, ◌≤◌, length, slice_get, count_by};
-ghost use Rattle.pp_core.specs.Queries.{idle_seat, held_seat, gathered_in, errand_seat};
+ghost use Rattle.pp_core.specs.Queries.{idle_seat, held_seat, ask_holding_seat, gathered_in, errand_seat};
 
 use crate::seat::Phase;
 use crate::table::{Table, bundle_place};
 use pp_cert::Held;
+use pp_plan::Ask;
 
 impl Table {
     /// How many plans were submitted.
@@ -38,6 +39,17 @@ impl Table {
                 .flatten()
                 .filter(|hold| !hold.bundled)
                 .map(|hold| (hold.page, hold.held)),
+            _ => None,
+        }
+    }
+
+    /// What the worker's plan asks, where the worker acts and its slot holds this page so: one look at the seat.
+    #[inline(always)]
+    pub(crate) fn ask_holding(&self, worker: u32, slot: u32, page: u32, held: Held) -> Option<Ask>
+        ensures { result ≡ ask_holding_seat (slice_get self.now.seats.items worker) slot page held }
+    {
+        match self.seats.get(worker as usize) {
+            Some(Some(seat)) => seat.ask_holding(slot, page, held),
             _ => None,
         }
     }

@@ -6,6 +6,7 @@ ghost use Rattle.pp_plan.specs.Asked.{asked};
 ghost use Rattle.pp_plan.specs.declared.action.Action.{Action};
 ghost use Rattle.pp_plan.specs.declared.action.Action.TheVariants.{Gather};
 ghost use Rattle.pp_core.specs.Slots.{plain_hold, bundle_hold, count_after, held_as, first_filled};
+ghost use Rattle.pp_core.specs.Queries.{ask_holding_seat};
 ghost use Rattle.pp_core.specs.Seats.{IsBegun, FitsSlots, CanDo, Did, counted};
 
 use pp_cert::Held;
@@ -172,6 +173,29 @@ impl Seat {
     {
         if let Some(hold) = &mut self.slots[usize::from(slot)] {
             hold.held = held;
+        }
+    }
+
+    /// What the plan asks, where the worker acts and its slot holds this page so.
+    #[inline(always)]
+    pub(crate) fn ask_holding(&self, slot: u32, page: u32, held: Held) -> Option<Ask>
+        ensures { result ≡ ask_holding_seat (Some (Some self.now)) slot page held }
+    {
+        let Some(Some(hold)) = self.slots.get(slot as usize) else {
+            return None;
+        };
+        if hold.bundled {
+            return None;
+        }
+        if hold.page != page {
+            return None;
+        }
+        if hold.held != held {
+            return None;
+        }
+        match self.phase {
+            Phase::Acting => Some(self.ask),
+            _ => None,
         }
     }
 

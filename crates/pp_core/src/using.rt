@@ -89,8 +89,7 @@ impl Table {
         match ask {
             Ask::Unfix { slot } => {
                 let page = self.page_in(worker, slot);
-                self.give_back(worker, slot, page);
-                Reply::Did
+                self.unfix_held(worker, slot, page)
             }
             Ask::Scatter { slot } => {
                 self.give_bundle_back(worker, slot);
@@ -98,6 +97,19 @@ impl Table {
             }
             _ => Reply::OffPlan(Cause::NotAsked),
         }
+    }
+
+    /// A worker gives this page of the slot back, as its plan asks.
+    #[inline(always)]
+    pub(crate) fn unfix_held(&mut self, worker: u32, slot: u8, page: u32) -> Reply
+        requires kept { IsKept (parts_of self.old) }
+        requires asks { Asks (parts_of self.old) worker (Ask.Unfix slot) }
+        requires page { IsPageIn (parts_of self.old) worker slot page }
+        ensures moves { Moves (parts_of self.old) (Move.Unfix worker) result (parts_of self.new) }
+        ensures refusal { IsTrue (is_refusal result) → parts_of self.new ≡ parts_of self.old }
+    {
+        self.give_back(worker, slot, page);
+        Reply::Did
     }
 
     /// The scatter is done, and a pin goes off each page of the bundle.
@@ -140,6 +152,18 @@ impl Table {
             return Reply::OffPlan(Cause::NotAsked);
         };
         let page = self.page_in(worker, slot);
+        self.latch_held(worker, slot, page, mode)
+    }
+
+    /// A worker latches this page of the slot in this mode, as its plan asks.
+    #[inline(always)]
+    pub(crate) fn latch_held(&mut self, worker: u32, slot: u8, page: u32, mode: Mode) -> Reply
+        requires kept { IsKept (parts_of self.old) }
+        requires asks { Asks (parts_of self.old) worker (Ask.Latch slot mode) }
+        requires page { IsPageIn (parts_of self.old) worker slot page }
+        ensures moves { Moves (parts_of self.old) (Move.Latch worker) result (parts_of self.new) }
+        ensures refusal { IsTrue (is_refusal result) → parts_of self.new ≡ parts_of self.old }
+    {
         if !self.marks.grant(page, latch_mode(mode)) {
             return Reply::NotNow(Delay::LatchHeld);
         }
@@ -176,7 +200,21 @@ impl Table {
             return Reply::OffPlan(Cause::NotAsked);
         };
         let page = self.page_in(worker, slot);
-        self.release(self.held_in(worker, slot), page);
+        let held = self.held_in(worker, slot);
+        self.unlatch_held(worker, slot, page, held)
+    }
+
+    /// A worker takes the latch off this page of the slot, as its plan asks.
+    #[inline(always)]
+    pub(crate) fn unlatch_held(&mut self, worker: u32, slot: u8, page: u32, held: Held) -> Reply
+        requires kept { IsKept (parts_of self.old) }
+        requires asks { Asks (parts_of self.old) worker (Ask.Unlatch slot) }
+        requires page { IsPageIn (parts_of self.old) worker slot page }
+        requires held { IsHeldIn (parts_of self.old) worker slot held }
+        ensures moves { Moves (parts_of self.old) (Move.Unlatch worker) result (parts_of self.new) }
+        ensures refusal { IsTrue (is_refusal result) → parts_of self.new ≡ parts_of self.old }
+    {
+        self.release(held, page);
         self.spend(worker, Action::Unlatch { slot });
         Reply::Unlatched {
             mark: self.mark_at(page),

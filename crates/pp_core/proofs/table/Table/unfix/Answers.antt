@@ -1,7 +1,7 @@
 use Rattle.std.proofs.Common.{refl, subst}
 use Rattle.pp_core.specs.Parts.{parts_of}
 use Rattle.pp_core.specs.StandsFor.{Asks}
-use Rattle.pp_core.proofs.UsingMoves.{has_seat, can_unfix, unfix_moves, can_scatter, scatter_moves, unfix_unasked}
+use Rattle.pp_core.proofs.UsingMoves.{has_seat, can_scatter, scatter_moves, unfix_unasked}
 use Rattle.pp_core.proofs.table.Table.unfix.Goals as goal
 
 pub page_in-page-requires : goal.page_in-page-requires
@@ -9,11 +9,9 @@ page_in-page-requires c =
     let f = parts_of c.args.self.now in
     has_seat f c.args.worker c.in-Ok.ask c.requires c.in-Ok.ensures.asks
 
-pub give_back-requires : goal.give_back-requires
-give_back-requires c =
-    let f = parts_of c.args.self.now in
-    let asks = subst (Asks f c.args.worker) c.in-Unfix.is c.in-Ok.ensures.asks in
-    can_unfix f c.args.worker c.in-Unfix.slot c.page_in-page.result c.requires asks c.page_in-page.ensures
+pub unfix_held-requires-clause-asks : goal.unfix_held-requires-clause-asks
+unfix_held-requires-clause-asks c =
+    subst (Asks (parts_of c.args.self.now) c.args.worker) c.in-Unfix.is c.in-Ok.ensures.asks
 
 pub give_bundle_back-requires : goal.give_bundle_back-requires
 give_bundle_back-requires c =
@@ -27,13 +25,6 @@ returns-in-Scatter-clause-moves c =
     let asks = subst (Asks f c.args.worker) c.in-Scatter.is c.in-Ok.ensures.asks in
     scatter_moves f (parts_of c.give_bundle_back.new.self) c.args.worker c.in-Scatter.slot asks
     c.give_bundle_back.ensures
-
-pub returns-in-Unfix-clause-moves : goal.returns-in-Unfix-clause-moves
-returns-in-Unfix-clause-moves c =
-    let f = parts_of c.args.self.now in
-    let asks = subst (Asks f c.args.worker) c.in-Unfix.is c.in-Ok.ensures.asks in
-    unfix_moves f (parts_of c.give_back.new.self) c.args.worker c.in-Unfix.slot c.page_in-page.result asks
-    c.page_in-page.ensures c.give_back.ensures
 
 pub returns-in_default : goal.returns-in_default
 returns-in_default c = record {
