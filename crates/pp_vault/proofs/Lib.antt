@@ -17,6 +17,7 @@ pub mod SeatMoves
 pub mod OpeningFits
 pub mod Submitted
 pub mod FitTests
+mod Asked
 pub mod AfterSteps
 pub mod UseReplies
 pub mod Using

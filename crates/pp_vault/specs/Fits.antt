@@ -8,7 +8,7 @@ use Rattle.pp_cert.specs.declared.note.Held.{Held}
 use Rattle.pp_cert.specs.declared.note.Held.TheVariants.{Free, S, X}
 use Rattle.pp_model.specs.declared.moves.Move.TheVariants.{Take, Fix, Unfix, Latch, Unlatch, Choose, Unwind, Finish}
 use Rattle.pp_model.specs.Pool.{State}
-use Rattle.pp_core.specs.Queries.{is_idle, is_leaving, ask_of, held_of, gathered_of}
+use Rattle.pp_core.specs.Queries.{is_idle, is_leaving, ask_of, held_of, ask_holding, gathered_of}
 use Rattle.pp_vault.specs.Calls.{Call, stranger, unasked, asks}
 
 -- ---- workers
@@ -114,6 +114,10 @@ guard_call true true call = call
 -- Whether the session of worker w and a guard fit.
 abbrev pub fits_both : State → (w of slot page : ℕ) → Held → Bool
 fits_both s w of slot page held = is_acting s w && (of == w) && is_held_so s w slot page held
+
+-- What the plan of worker w asks, where the session of it and a guard fit.
+abbrev pub ask_fitting : State → (w of slot page : ℕ) → Held → Option Ask
+ask_fitting s w of slot page held = if of == w then ask_holding s w slot page held else None
 
 abbrev pub unfix_call : (w of slot page : ℕ) → State → Call
 unfix_call w of slot page s =

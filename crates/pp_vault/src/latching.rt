@@ -3,15 +3,16 @@
 ghost use Rattle.std.specs.Prelude.{◌≡◌, ◌<◌, ◌&&◌, true, Some, IfOk, IfErr, IfSome, IfNone, OnErr, length, slice_set};
 ghost use Rattle.pp_device.specs.Image.{with_head};
 ghost use Rattle.pp_model.specs.Pool.{State};
-ghost use Rattle.pp_cert.specs.declared.note.Held.TheVariants.{S, X};
+ghost use Rattle.pp_cert.specs.declared.note.Held.TheVariants.{Free, S, X};
 ghost use Rattle.pp_plan.specs.declared.mode.Mode.TheVariants as mode;
+ghost use Rattle.pp_core.specs.StandsFor.{StandsFor as CoreStandsFor};
 ghost use Rattle.pp_core.specs.Queries.{ask_of};
 ghost use Rattle.pp_vault.specs.Calls.{Call, refusal_of};
 ghost use Rattle.pp_vault.specs.Parts.{parts_of};
 ghost use Rattle.pp_vault.specs.StandsFor.{StandsFor, IsKept};
 ghost use Rattle.pp_vault.specs.Fits.{unfix_call, scatter_call, latch_call, unlatch_call, put_back_call, is_held_so};
-ghost use Rattle.pp_vault.specs.Fits.{is_gathered, bundle_fits, IsEmpty, guard_call};
-ghost use Rattle.pp_vault.specs.Fits.{fits_both as both_fit, asks_unfix as unfix_is_asked, asks_scatter as scatter_is_asked};
+ghost use Rattle.pp_vault.specs.Fits.{is_gathered, bundle_fits, IsEmpty, guard_call, ask_fitting};
+ghost use Rattle.pp_vault.specs.Fits.{fits_both as both_fit, asks_scatter as scatter_is_asked};
 ghost use Rattle.pp_vault.specs.Fits.{asks_latch as latch_is_asked, asks_unlatch as unlatch_is_asked};
 ghost use Rattle.pp_vault.specs.Steps.{told_mark};
 ghost use Rattle.pp_vault.specs.Events.{Refuses, Tells};
@@ -95,13 +96,99 @@ impl Store {
             && guard.image.len() == self.page_bytes
     }
 
-    /// Whether the worker's plan asks an unfix of the slot.
-    fn asks_unfix(&self, worker: u32, slot: u32) -> bool
-        ensures { (s : State) → StandsFor (parts_of self.now) s → result ≡ unfix_is_asked slot (ask_of s worker) }
+    /// What the plan asks, where a session and a guard fit: one look at the worker's seat.
+    #[inline(always)]
+    fn ask_fitting(&self, worker: u32, of: u32, slot: u32, page: u32, held: Held) -> Option<Ask>
+        ensures { (s : State) → CoreStandsFor (parts_of self.now).core s
+            → result ≡ ask_fitting s worker of slot page held }
     {
-        match self.core.ask(worker) {
-            Some(Ask::Unfix { slot: of }) => slot == u32::from(of),
-            _ => false,
+        if of != worker {
+            return None;
+        }
+        self.core.ask_holding(worker, slot, page, held)
+    }
+
+    /// The slot of a session and a guard, where they fit and the plan asks its unfix; else why an unfix is none.
+    #[inline(always)]
+    fn slot_to_unfix(&self, worker: u32, of: u32, slot: u32, page: u32) -> Result<u8, Refusal>
+        ensures ok { IfOk result (λ own. (own ≡ slot) × ((s : State)
+            → CoreStandsFor (parts_of self.now).core s → ask_fitting s worker of slot page Free ≡ Some (Ask.Unfix slot))) }
+        ensures err { IfErr result (λ why. Refuses (parts_of self.now) (unfix_call worker of slot page) why) }
+    {
+        let Some(ask) = self.ask_fitting(worker, of, slot, page, Held::Free) else {
+            return Err(Refusal::Stranger);
+        };
+        match ask {
+            Ask::Unfix { slot: own } => {
+                if slot != u32::from(own) {
+                    return Err(Refusal::OffPlan(Cause::NotAsked));
+                }
+                Ok(own)
+            }
+            _ => Err(Refusal::OffPlan(Cause::NotAsked)),
+        }
+    }
+
+    /// The slot of a session and a guard, where they fit and the plan asks its latch in this mode; else why a latch is none.
+    #[inline(always)]
+    fn slot_to_latch(
+        &self,
+        worker: u32,
+        of: u32,
+        slot: u32,
+        page: u32,
+        mode: Mode,
+    ) -> Result<u8, Refusal>
+        ensures ok { IfOk result (λ own. (own ≡ slot) × ((s : State)
+            → CoreStandsFor (parts_of self.now).core s
+            → ask_fitting s worker of slot page Free ≡ Some (Ask.Latch slot mode))) }
+        ensures err { IfErr result (λ why. Refuses (parts_of self.now) (latch_call mode worker of slot page) why) }
+    {
+        let Some(ask) = self.ask_fitting(worker, of, slot, page, Held::Free) else {
+            return Err(Refusal::Stranger);
+        };
+        match ask {
+            Ask::Latch {
+                slot: own,
+                mode: how,
+            } => {
+                if slot != u32::from(own) {
+                    return Err(Refusal::OffPlan(Cause::NotAsked));
+                }
+                if mode != how {
+                    return Err(Refusal::OffPlan(Cause::NotAsked));
+                }
+                Ok(own)
+            }
+            _ => Err(Refusal::OffPlan(Cause::NotAsked)),
+        }
+    }
+
+    /// The slot of a session and a guard, where they fit and the plan asks its unlatch; else why an unlatch is none.
+    #[inline(always)]
+    fn slot_to_unlatch(
+        &self,
+        worker: u32,
+        of: u32,
+        slot: u32,
+        page: u32,
+        held: Held,
+    ) -> Result<u8, Refusal>
+        ensures ok { IfOk result (λ own. (own ≡ slot) × ((s : State)
+            → CoreStandsFor (parts_of self.now).core s → ask_fitting s worker of slot page held ≡ Some (Ask.Unlatch slot))) }
+        ensures err { IfErr result (λ why. Refuses (parts_of self.now) (unlatch_call held worker of slot page) why) }
+    {
+        let Some(ask) = self.ask_fitting(worker, of, slot, page, held) else {
+            return Err(Refusal::Stranger);
+        };
+        match ask {
+            Ask::Unlatch { slot: own } => {
+                if slot != u32::from(own) {
+                    return Err(Refusal::OffPlan(Cause::NotAsked));
+                }
+                Ok(own)
+            }
+            _ => Err(Refusal::OffPlan(Cause::NotAsked)),
         }
     }
 
@@ -158,11 +245,11 @@ impl Store {
         ensures unchanged { OnErr result (parts_of self.new ≡ parts_of self.old) }
     {
         let worker = session.worker;
-        let fits = self.fits_both(worker, guard.worker, guard.slot, guard.page, Held::Free);
-        if let Some(refusal) = objection(fits, self.asks_unfix(worker, guard.slot)) {
-            return Err((session, guard, refusal));
-        }
-        match self.step_unfix(worker) {
+        let own = match self.slot_to_unfix(worker, guard.worker, guard.slot, guard.page) {
+            Ok(own) => own,
+            Err(refusal) => return Err((session, guard, refusal)),
+        };
+        match self.step_unfix_held(worker, own, guard.page) {
             Ok(reply) => {
                 let Session { worker, ask: _ } = session;
                 let PinGuard {
@@ -225,11 +312,11 @@ impl Store {
         ensures unchanged { OnErr result (parts_of self.new ≡ parts_of self.old) }
     {
         let worker = session.worker;
-        let fits = self.fits_both(worker, guard.worker, guard.slot, guard.page, Held::Free);
-        if let Some(refusal) = objection(fits, self.asks_latch(worker, guard.slot, Mode::S)) {
-            return Err((session, guard, refusal));
-        }
-        match self.step_latch(worker) {
+        let own = match self.slot_to_latch(worker, guard.worker, guard.slot, guard.page, Mode::S) {
+            Ok(own) => own,
+            Err(refusal) => return Err((session, guard, refusal)),
+        };
+        match self.step_latch_held(worker, own, guard.page, Mode::S) {
             Ok(reply) => {
                 let mark = mark_in(reply);
                 let Session { worker, ask: _ } = session;
@@ -320,11 +407,17 @@ impl Store {
         ensures unchanged { OnErr result (parts_of self.new ≡ parts_of self.old) }
     {
         let worker = session.worker;
-        let fits = self.fits_both(worker, guard.worker, guard.slot, guard.page, Held::S);
-        if let Some(refusal) = objection(fits, self.asks_unlatch(worker, guard.slot)) {
-            return Err((session, guard, refusal));
-        }
-        match self.step_unlatch(worker) {
+        let own = match self.slot_to_unlatch(
+            worker,
+            guard.worker,
+            guard.slot,
+            guard.page,
+            Held::S,
+        ) {
+            Ok(own) => own,
+            Err(refusal) => return Err((session, guard, refusal)),
+        };
+        match self.step_unlatch_held(worker, own, guard.page, Held::S) {
             Ok(reply) => {
                 let Session { worker, ask: _ } = session;
                 let ReadGuard {

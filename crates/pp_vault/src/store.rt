@@ -1,13 +1,18 @@
 //! What a vault keeps.
 
 ghost use Rattle.std.specs.Prelude.{◌≡◌, ◌<◌, None, Some, IsSome, IfOk, IfErr, length, slice_set};
+ghost use Rattle.pp_cert.specs.declared.note.Held.TheVariants.{Free};
+ghost use Rattle.pp_model.specs.Pool.{State};
+ghost use Rattle.pp_core.specs.StandsFor.{StandsFor as CoreStandsFor};
+ghost use Rattle.pp_core.specs.Queries.{ask_holding};
 ghost use Rattle.pp_vault.specs.Parts.{parts_of};
 ghost use Rattle.pp_vault.specs.StandsFor.{image_in};
 ghost use Rattle.pp_vault.specs.Steps.{Stepped, Refused, IsDone, IsRefusal};
 
 use crate::image::Image;
 use crate::refusal::Refusal;
-use pp_core::{Came, Core, Move, Reply};
+use pp_core::{Ask, Came, Core, Held, Move, Reply};
+use pp_plan::Mode;
 
 /// A pool's core, and the images of its pages.
 #[derive(Drop)]
@@ -87,6 +92,56 @@ impl Store {
         ensures refused { IfErr result (λ refusal. Refused (parts_of self.old) (parts_of self.new) (Move.Unlatch worker) refusal) }
     {
         answered(self.core.unlatch(worker))
+    }
+
+    /// Does the unfix of this page of this slot, which the plan asks, if it is possible.
+    #[inline(always)]
+    pub(crate) fn step_unfix_held(
+        &mut self,
+        worker: u32,
+        slot: u8,
+        page: u32,
+    ) -> Result<Reply, Refusal>
+        requires { (s : State) → CoreStandsFor (parts_of self.old).core s
+            → ask_holding s worker slot page Free ≡ Some (Ask.Unfix slot) }
+        ensures done { IfOk result (λ reply. Stepped (parts_of self.old) (parts_of self.new) (Move.Unfix worker) reply) }
+        ensures refused { IfErr result (λ refusal. Refused (parts_of self.old) (parts_of self.new) (Move.Unfix worker) refusal) }
+    {
+        answered(self.core.unfix_held(worker, slot, page))
+    }
+
+    /// Does the latch of this page of this slot, which the plan asks, if it is possible.
+    #[inline(always)]
+    pub(crate) fn step_latch_held(
+        &mut self,
+        worker: u32,
+        slot: u8,
+        page: u32,
+        mode: Mode,
+    ) -> Result<Reply, Refusal>
+        requires { (s : State) → CoreStandsFor (parts_of self.old).core s
+            → ask_holding s worker slot page Free ≡ Some (Ask.Latch slot mode) }
+        ensures done { IfOk result (λ reply. Stepped (parts_of self.old) (parts_of self.new) (Move.Latch worker) reply) }
+        ensures refused { IfErr result (λ refusal. Refused (parts_of self.old) (parts_of self.new) (Move.Latch worker) refusal) }
+    {
+        answered(self.core.latch_held(worker, slot, page, mode))
+    }
+
+    /// Does the unlatch of this page of this slot, which the plan asks, if it is possible.
+    #[inline(always)]
+    pub(crate) fn step_unlatch_held(
+        &mut self,
+        worker: u32,
+        slot: u8,
+        page: u32,
+        held: Held,
+    ) -> Result<Reply, Refusal>
+        requires { (s : State) → CoreStandsFor (parts_of self.old).core s
+            → ask_holding s worker slot page held ≡ Some (Ask.Unlatch slot) }
+        ensures done { IfOk result (λ reply. Stepped (parts_of self.old) (parts_of self.new) (Move.Unlatch worker) reply) }
+        ensures refused { IfErr result (λ refusal. Refused (parts_of self.old) (parts_of self.new) (Move.Unlatch worker) refusal) }
+    {
+        answered(self.core.unlatch_held(worker, slot, page, held))
     }
 
     /// Takes the image out of a frame that has one.
