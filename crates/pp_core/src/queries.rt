@@ -32,13 +32,7 @@ impl Table {
         ensures { result ≡ held_seat (slice_get self.now.seats.items worker) slot }
     {
         match self.seats.get(worker as usize) {
-            Some(Some(seat)) => seat
-                .slots
-                .get(slot as usize)
-                .copied()
-                .flatten()
-                .filter(|hold| !hold.bundled)
-                .map(|hold| (hold.page, hold.held)),
+            Some(Some(seat)) => seat.held(slot),
             _ => None,
         }
     }

@@ -5,8 +5,8 @@ ghost use Rattle.pp_plan.specs.Cursor.{StandsFor};
 ghost use Rattle.pp_plan.specs.Asked.{asked};
 ghost use Rattle.pp_plan.specs.declared.action.Action.{Action};
 ghost use Rattle.pp_plan.specs.declared.action.Action.TheVariants.{Gather};
-ghost use Rattle.pp_core.specs.Slots.{plain_hold, bundle_hold, count_after, held_as, first_filled};
-ghost use Rattle.pp_core.specs.Queries.{ask_holding_seat};
+ghost use Rattle.pp_core.specs.Slots.{hold_at, plain_hold, bundle_hold, count_after, held_as, first_filled};
+ghost use Rattle.pp_core.specs.Queries.{own_hold, ask_holding_seat};
 ghost use Rattle.pp_core.specs.Seats.{IsBegun, FitsSlots, CanDo, Did, counted};
 
 use pp_cert::Held;
@@ -174,6 +174,20 @@ impl Seat {
         if let Some(hold) = &mut self.slots[usize::from(slot)] {
             hold.held = held;
         }
+    }
+
+    /// The page of its own that a slot holds, and how.
+    #[inline(always)]
+    pub(crate) fn held(&self, slot: u32) -> Option<(u32, Held)>
+        ensures { result ≡ own_hold (hold_at self.now.slots slot) }
+    {
+        let Some(Some(hold)) = self.slots.get(slot as usize) else {
+            return None;
+        };
+        if hold.bundled {
+            return None;
+        }
+        Some((hold.page, hold.held))
     }
 
     /// What the plan asks, where the worker acts and its slot holds this page so.

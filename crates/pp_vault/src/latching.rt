@@ -59,7 +59,12 @@ impl Store {
         ensures { (s : State) → StandsFor (parts_of self.now) s → result ≡ is_held_so s worker slot page held }
     {
         match self.core.held(worker, slot) {
-            Some((other, how)) => other == page && how == held,
+            Some((other, how)) => {
+                if other != page {
+                    return false;
+                }
+                how == held
+            }
             None => false,
         }
     }
