@@ -1,6 +1,6 @@
 //! Eight small callers, to copy from: the checker of certificates alone, ARC's directory alone, marks alone, stacks of pages
-//! alone, a tiny cache of the directory and the marks together, devices alone, a vault over a device, and a script over a
-//! device in memory.
+//! alone, a tiny cache of the directory and the marks together, devices alone, a vault over a device, in one life and in
+//! two, and a script over a device in memory.
 //!
 //! Each stands in a file of its own, asks for nothing else of the pool, and is proved against the public contracts of
 //! the parts that it uses.
@@ -36,6 +36,11 @@ fn main(rt: HostRuntime) -> anyhow::Result<()> {
     println!(rt; "device: page 1 is read as {failed:?}, as {other:?}, and as {found:?}")?;
     if let Some(changed) = vault::changed_pages(rt.alloc())? {
         println!(rt; "vault: {changed} page is newer than the device's")?;
+    }
+    if let Some(changed) = vault::changed_pages_in_two_lives(rt.alloc())? {
+        println!(rt;
+            "vault: {changed} page is so after two lives, of which the second reads nothing"
+        )?;
     }
     if let Some(byte) = script::byte_read_again(rt.alloc())? {
         println!(rt;

@@ -1,4 +1,4 @@
-//! A vault alone: one worker fixes a page, latches it X, and gives everything back.
+//! A vault alone: one worker fixes a page, latches it X, and gives everything back; and once more in the vault's next life.
 
 ghost use Rattle.pp_vault.specs.Headline.{HeadlineHolds};
 
@@ -49,6 +49,55 @@ pub fn changed_pages(alloc: Global) -> anyhow::Result<Option<u32>> {
     };
     vault.scrap_with(hands, stopped);
     Ok(changed)
+}
+
+/// How many pages are newer than the device's after two lives of a vault, in each of which a worker has latched page 2 for
+/// writing; `None` where a call was refused.
+///
+/// The first life reads the page. In the second one it is still cached, so a device without pages serves as well.
+pub fn changed_pages_in_two_lives(alloc: Global) -> anyhow::Result<Option<u32>> {
+    let settings = Settings::from_text(alloc, SETTINGS)?;
+    let (first, second) = (accepted(alloc, &settings)?, accepted(alloc, &settings)?);
+    let mut device = SoloDevice::new(alloc, 4, 64)?;
+    let mut nothing = SoloDevice::new(alloc, 0, 64)?;
+    let (mut vault, mut hands) = Vault::new(alloc, &settings)?;
+    let Some(hand) = hands.part(0) else {
+        vault.scrap(hands);
+        return Ok(None);
+    };
+    let chair = match hand.chair() {
+        Ok(chair) => chair,
+        Err(_) => unreachable!(),
+    };
+    let Stopped { stage, guard } = run(&mut vault, &mut device, chair, first);
+    let stopped = match stage {
+        Some(Stage::Idle(chair)) => match guard {
+            None => run_in_next_life(&mut vault, &mut nothing, chair, second),
+            Some(guard) => Stopped::holding(Stage::Idle(chair), guard),
+        },
+        stage => Stopped { stage, guard },
+    };
+    let changed = match &stopped.stage {
+        Some(Stage::Idle(_)) => Some(vault.dirty()),
+        _ => None,
+    };
+    vault.scrap_with(hands, stopped);
+    Ok(changed)
+}
+
+/// The vault is renewed, and the same worker does the plan in its next life.
+fn run_in_next_life(
+    vault: &mut Vault,
+    device: &mut SoloDevice,
+    chair: Chair,
+    accepted: Accepted,
+) -> Stopped
+    ensures headline { HeadlineHolds vault.new }
+{
+    if vault.renew().is_err() {
+        return Stopped::at(Stage::Idle(chair));
+    }
+    run(vault, device, chair, accepted)
 }
 
 /// The plan, with a certificate that the checker takes.

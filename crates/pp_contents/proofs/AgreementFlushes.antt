@@ -13,6 +13,7 @@ use Rattle.pp_model.specs.Pool.{writing, Flush, State, is_dirty, known_mark, mar
 use Rattle.pp_model.specs.Holders.{latches_of}
 use Rattle.pp_model.specs.Flushing.{flush_begun, flush_where, flush_by}
 use Rattle.pp_model.specs.Submitting.{after_submit}
+use Rattle.pp_model.specs.Renewing.{renewed}
 use Rattle.pp_model.specs.Moves.{reply_of, next_of}
 use Rattle.pp_model.specs.Reached.{IsReached}
 use Rattle.pp_model.specs.Ready.{Standing, ready_at, is_still}
@@ -48,7 +49,7 @@ use Rattle.pp_contents.specs.Content.{or_other, first_given, written_in, victim_
 use Rattle.pp_contents.specs.Content.{image_here, content}
 use Rattle.pp_contents.specs.Agreeing.{flush_copy, Agrees}
 use Rattle.pp_contents.specs.ContentLaws.{Held, KeepsContents, returned_of, GivesBackImage, EmptyAgree, FlushesKeepContents}
-use Rattle.pp_contents.specs.ContentLaws.{FlushAnswersKeepContents, SubmitsKeepContents}
+use Rattle.pp_contents.specs.ContentLaws.{FlushAnswersKeepContents, SubmitsKeepContents, RenewalsKeepContents}
 use Rattle.pp_vault.proofs.FitTests.{none_some, some_some, both_hold}
 use Rattle.pp_contents.proofs.AgreementStates.{flushed_alone, loaded_clean, victims_dirty}
 use Rattle.pp_contents.proofs.AgreementImages.{shown, one_image, not_standing}
@@ -144,6 +145,26 @@ submits_keep old new s hands told a number held takes agrees =
             );
         copied = λ f image copy e known is out.
             agrees.copied f image copy (sym leaves.0 ∙ e) (sym (mark f.page) ∙ known) (sym (shows f.page) ∙ is) out;
+        answered = agrees.answered;
+        flush_answered = agrees.flush_answered;
+      };
+    }
+
+-- ---- renewals
+
+pub renewals_keep : RenewalsKeepContents
+renewals_keep old new s hands told held does agrees =
+    let t = renewed s in
+    let images : new.images ≡ old.images = ap (λ (v : Parts). v.images) does.parts in
+    let shows = ready_same old new s t images (λ q. refl) in
+    record {
+      stay = λ q. content_same old new s t images (λ p. refl) hands hands refl told told q (λ e. refl);
+      agrees = record {
+        clean = λ q image is clean. agrees.clean q image (sym (shows q) ∙ is) clean;
+        loaded = agrees.loaded;
+        victim = agrees.victim;
+        flushed = agrees.flushed;
+        copied = λ f image copy e known is out. agrees.copied f image copy e known (sym (shows f.page) ∙ is) out;
         answered = agrees.answered;
         flush_answered = agrees.flush_answered;
       };

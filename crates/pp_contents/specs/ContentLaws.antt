@@ -6,6 +6,7 @@ use Rattle.pp_cert.specs.Accepted.{Acceptance}
 use Rattle.pp_model.specs.Pool.{State}
 use Rattle.pp_model.specs.Moves.{next_of}
 use Rattle.pp_model.specs.Submitting.{after_submit}
+use Rattle.pp_model.specs.Renewing.{renewed}
 use Rattle.pp_arc.specs.FourLists.{is_cached}
 use Rattle.pp_core.specs.Queries.{errand_of}
 use Rattle.pp_device.specs.Answers.{Answer}
@@ -26,6 +27,7 @@ use Rattle.pp_vault.specs.Parts.{Parts}
 use Rattle.pp_vault.specs.StandsFor.{StandsFor}
 use Rattle.pp_vault.specs.Events.{Does, Tells}
 use Rattle.pp_vault.specs.Submits.{TakesIn}
+use Rattle.pp_vault.specs.Renewals.{Renews}
 use Rattle.pp_vault.specs.Flushes.{flush_call, IsImageOf, CopiesOut}
 use Rattle.pp_vault.specs.Answers.{answer_call, AnswerComesTo}
 use Rattle.pp_contents.specs.Told.{told_after}
@@ -83,6 +85,12 @@ SubmitsKeepContents =
     (old new : Parts) (s : State) (hands : Hands) (told : ℕ → List ℕ) (a : Acceptance) (number : ℕ)
     → Held old s hands → TakesIn old a number new → Agrees old s hands told
     → KeepsContents old s hands told new (after_submit s a) hands told
+
+-- And a renewal: the next life begins with all contents.
+abbrev pub RenewalsKeepContents : Type 0
+RenewalsKeepContents =
+    (old new : Parts) (s : State) (hands : Hands) (told : ℕ → List ℕ) → Held old s hands → Renews old new
+    → Agrees old s hands told → KeepsContents old s hands told new (renewed s) hands told
 
 -- A writer that changes its image sets the content of its page, and no other.
 pub record SetsContent (v : Parts) (s : State) (hands : Hands) (told : ℕ → List ℕ) (page : ℕ) (now : List ℕ)

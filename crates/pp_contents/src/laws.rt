@@ -2,7 +2,7 @@
 
 ghost use Rattle.pp_contents.specs.Told.{HonestTellsWhatItKeeps};
 ghost use Rattle.pp_contents.specs.ContentLaws.{EmptyAgree, CallsKeepContents, AnswersSetContents, FlushesKeepContents};
-ghost use Rattle.pp_contents.specs.ContentLaws.{FlushAnswersKeepContents, SubmitsKeepContents, WritersSetContents};
+ghost use Rattle.pp_contents.specs.ContentLaws.{FlushAnswersKeepContents, SubmitsKeepContents, RenewalsKeepContents, WritersSetContents};
 ghost use Rattle.pp_contents.specs.ContentLaws.{ContentsAreSeen, LoadedAreTold};
 
 use pp_device::Device;
@@ -14,7 +14,8 @@ use pp_device::Device;
 /// A reading sets the content of its page to the body that came, and a writer that changes its image sets that of its page.
 /// Nothing else changes a content. What a guard of a page that is latched shows is its content, and a page that is being
 /// read has the content that the device told. All this holds where the vault and its hands agree with what the device told.
-/// They do at the start, where nothing is cached and no errand is out, and each call keeps it so.
+/// They do at the start, where nothing is cached and no errand is out, and each call keeps it so, a renewal among them: the
+/// next life begins with all contents.
 pub fn contents_are_kept()
     ensures empty { EmptyAgree }
     ensures calls { CallsKeepContents }
@@ -22,6 +23,7 @@ pub fn contents_are_kept()
     ensures flushes { FlushesKeepContents }
     ensures flush_answers { FlushAnswersKeepContents }
     ensures submits { SubmitsKeepContents }
+    ensures renewals { RenewalsKeepContents }
     ensures writers { WritersSetContents }
     ensures seen { ContentsAreSeen }
     ensures loaded { LoadedAreTold }

@@ -24,6 +24,7 @@ mod OpeningTies
 mod SubmitTies
 mod RunTies
 mod QueryTies
+mod RenewTies
 pub mod HoldingTies
 pub mod Alike
 mod TurnTies

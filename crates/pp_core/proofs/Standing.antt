@@ -14,7 +14,7 @@ use Rattle.pp_model.proofs.FlushAlone.{one_errand}
 use Rattle.pp_model.proofs.LatchLaws.{in_order, latches_agree}
 use Rattle.pp_model.proofs.Room.{room}
 use Rattle.pp_model.proofs.Stuck.{none_stuck, flush_holds_alone, within_peaks}
-use Rattle.pp_model.proofs.ToldMarks.{marks_are_the_journals}
+use Rattle.pp_model.proofs.ToldMarks.{marks_are_the_journals, marks_follow}
 use Rattle.pp_model.proofs.Turns.{next_while_under_way, next_is_open}
 use Rattle.pp_core.specs.Parts.{Parts}
 use Rattle.pp_core.specs.StandsFor.{IsKept, Moves}
@@ -32,6 +32,7 @@ headline_of s h = record {
   one_errand_a_page = one_errand s h;
   plans_are_accounted = plans_are_accounted s h;
   known_marks_are_the_journals = marks_are_the_journals s h;
+  known_marks_follow = marks_follow s h;
   someone_moves_next = next_while_under_way s h;
   next_turn_is_open = next_is_open s h;
   bound_falls = bound_falls s h;

@@ -3,7 +3,7 @@ use Rattle.std.specs.Prelude.{◌≤◌}
 use Rattle.pp_model.specs.Pool.{State}
 use Rattle.pp_model.specs.Budget.{running_peaks}
 use Rattle.pp_model.specs.Laws.{NoneStuck, FlushHoldsAlone, InOrder, LatchesAgree, WithinPeaks, OneErrand, BoundFalls}
-use Rattle.pp_model.specs.Laws.{PlansAreAccounted, MarksAreTheJournals, NextWhileUnderWay, NextIsOpen}
+use Rattle.pp_model.specs.Laws.{PlansAreAccounted, MarksAreTheJournals, MarksFollow, NextWhileUnderWay, NextIsOpen}
 use Rattle.pp_core.specs.Parts.{Parts}
 use Rattle.pp_core.specs.StandsFor.{StandsFor}
 
@@ -24,8 +24,10 @@ pub record Headline (s : State) : Type 0 where
   pub one_errand_a_page : OneErrand s
   -- each plan that was taken is with one worker, or was ended once
   pub plans_are_accounted : PlansAreAccounted s
-  -- the known mark of each page is the one that any journal of the state tells of it
+  -- the known mark of each page is the one that any journal of the state tells of it, from the settings' opening state on
   pub known_marks_are_the_journals : MarksAreTheJournals s
+  -- from any reached state on, that of a life's beginning as well, it follows from the journal and the mark known there
+  pub known_marks_follow : MarksFollow s
   -- while a plan waits or isn't ended, or a flush is in flight, there is a next turn, and only then
   pub someone_moves_next : NextWhileUnderWay s
   -- the moves of the next turn are possible, whatever is decided in them

@@ -15,6 +15,7 @@ pub mod TakeEffects
 pub mod Headline
 pub mod Opening
 pub mod Submits
+pub mod Renewals
 pub mod Runs
 pub mod Queries
 pub mod Refusals

@@ -5,7 +5,9 @@ pub use draining::Decide;
 pub use error::CoreError;
 pub use machine::{Core, PlanId};
 pub use pp_cert::{Accepted, Held};
-pub use pp_model::{Came, Cause, Delay, Ending, Event, Failure, Move, Reply, SubmitError, Turn};
+pub use pp_model::{
+    Came, Cause, Delay, Ending, Event, Failure, Move, RenewError, Reply, SubmitError, Turn,
+};
 pub use pp_plan::Ask;
 
 mod answering;
@@ -21,6 +23,7 @@ mod moves;
 mod opening;
 mod queries;
 mod refusing;
+mod renewing;
 mod seat;
 mod submitting;
 mod table;

@@ -7,11 +7,13 @@ ghost use Rattle.pp_model.specs.Pool.{State, opening, frame_of, known_mark, dirt
 ghost use Rattle.pp_model.specs.Budget.{bound};
 ghost use Rattle.pp_model.specs.Marks.{marks};
 ghost use Rattle.pp_model.specs.Submitting.{submit_error};
+ghost use Rattle.pp_model.specs.Renewing.{renew_error};
 ghost use Rattle.pp_model.specs.Moves.{is_refusal};
 ghost use Rattle.pp_model.specs.Turns.{IsOpen, next_turn, IsUnderWay};
 ghost use Rattle.pp_core.specs.StandsFor.{StandsFor, IsKept, Moves};
 ghost use Rattle.pp_core.specs.Opening.{kept_of};
 ghost use Rattle.pp_core.specs.Submits.{TakesIn};
+ghost use Rattle.pp_core.specs.Renewals.{Renews};
 ghost use Rattle.pp_core.specs.Runs.{MovesAll};
 ghost use Rattle.pp_core.specs.Draining.{host_of, IsOpenIn, CanBeMade, DecidesIn, Drains, Rests};
 ghost use Rattle.pp_core.specs.Queries.{is_idle, is_leaving, ask_of, held_of, ask_holding, gathered_of, errand_of, flushed_page, plan_count};
@@ -23,7 +25,7 @@ use crate::table::Table;
 use pp_arc::Directory;
 use pp_cert::{Accepted, Held};
 use pp_frames::Marks;
-use pp_model::{Move, Reply, SubmitError, Turn};
+use pp_model::{Move, RenewError, Reply, SubmitError, Turn};
 use pp_plan::Ask;
 use pp_settings::Settings;
 use std::alloc::Global;
@@ -119,14 +121,14 @@ impl Core {
     /// Takes a plan in, which waits behind the others, and answers its number.
     ///
     /// Plans start in the order of submission: one whose peak doesn't fit yet holds up all behind it. Plans that were
-    /// ended still count among the 256, and keep their memory.
+    /// ended still count among the 256, and keep their memory, until the core is renewed ([`Core::renew`]).
     ///
     /// # Errors
     ///
     /// The first of these that applies: [`SubmitError::OtherSettings`] where the plan was accepted under another layout
-    /// than the pool's, [`SubmitError::TooManyPlans`] where 256 plans were submitted, [`SubmitError::JournalLimit`]
-    /// where the costs of all plans and twice the flushes would be more than 4,000,000. Then the plan comes back, and
-    /// nothing has changed.
+    /// than the pool's, [`SubmitError::TooManyPlans`] where 256 plans were submitted in this life,
+    /// [`SubmitError::JournalLimit`] where the costs of all plans of this life and twice the flushes would be more than
+    /// 4,000,000. Then the plan comes back, and nothing has changed.
     pub fn submit(&mut self, accepted: Accepted) -> Result<PlanId, (Accepted, SubmitError)>
         ensures ok { IfOk result (λ id. TakesIn self.old accepted id self.new) }
         ensures error { IfErr result (λ e. (s : State) → StandsFor self.old s → submit_error s accepted ≡ Some e.1) }
@@ -137,6 +139,28 @@ impl Core {
     {
         let number = self.table.submit(accepted)?;
         Ok(PlanId(number))
+    }
+
+    /// Begins the next life of a core at rest: its plans go, so 256 may be submitted again, numbered from 0, and all flushes
+    /// of its settings may begin again. All else stays as it is: what is cached, ARC's lists and target, which pages are newer
+    /// than the device's, and every known mark.
+    ///
+    /// It takes no memory, copies nothing, and reads each page's mark one time. The journal of the next life begins in the
+    /// state that the core stands for now.
+    ///
+    /// # Errors
+    ///
+    /// [`RenewError::NotAtRest`] where [`Core::next_possible`] names a turn: a plan waits, a worker isn't idle, or a flush is in
+    /// flight. Else [`RenewError::MarkTooHigh`] where a known mark is 2^63 or more, with the least such page. Then nothing has
+    /// changed.
+    pub fn renew(&mut self) -> Result<(), RenewError>
+        ensures ok { OnOk result (Renews self.old self.new) }
+        ensures error { IfErr result (λ e. (s : State) → StandsFor self.old s → renew_error s ≡ Some e) }
+        ensures unchanged { OnErr result (self.new ≡ self.old) }
+        ensures kept { IsKept self.new }
+        ensures headline { HeadlineHolds self.new }
+    {
+        self.table.renew()
     }
 
     /// Does the move and answers it; or refuses it, with the cause, and changes nothing.
@@ -246,7 +270,7 @@ impl Core {
     // ---- what the state has
 
     /// The bound on the moves that are left: each move that is done lowers it by 1 at least, and [`Core::submit`]
-    /// raises it by the plan's cost. A new core has twice the flushes.
+    /// raises it by the plan's cost. A new core has twice the flushes, and [`Core::renew`] sets it to that again.
     pub fn budget(&self) -> u64
         ensures bound { (s : State) → StandsFor self.now s → result ≡ bound s }
         ensures value { result ≡ self.now.budget }

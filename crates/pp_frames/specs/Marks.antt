@@ -133,6 +133,15 @@ is_free m frame = not (list_any (is_in frame) m.pages)
 abbrev pub least_free : PageMap → Option ℕ
 least_free m = least_below (is_free m) m.frames
 
+-- Whether the stamp is known, and is this one or a later one.
+abbrev pub has_reached : (limit : ℕ) → Option ℕ → Bool
+has_reached limit None = false
+has_reached limit (Some stamp) = nat_le limit stamp
+
+-- The least page whose stamp has reached this one, if there is one.
+abbrev pub first_stamped : PageMap → (limit : ℕ) → Option ℕ
+first_stamped m limit = least_below (λ page. has_reached limit (stamp_of m page)) (page_count m)
+
 -- Whether the page itself lets a flush begin: it is dirty, stands in a frame, and has no writer.
 abbrev pub is_flushable : PageMarks → Bool
 is_flushable marks = marks.dirty && is_some marks.frame && not (is_exclusive marks.latches)

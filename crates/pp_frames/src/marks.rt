@@ -71,7 +71,7 @@ impl Marks {
     ghost use Rattle.pp_frames.specs.Marks.{pins_of, latches_of, latch_count, is_dirty, is_flushable, stamp_of};
     ghost use Rattle.pp_frames.specs.Marks.{with_marks, with_frame, with_pins, with_latches, with_dirty, with_stamp};
     ghost use Rattle.pp_frames.specs.Marks.{all_pins, is_compatible, with_latch, has_latch, without_latch, least_free};
-    ghost use Rattle.pp_frames.specs.Marks.{least_flushable, dirty_from};
+    ghost use Rattle.pp_frames.specs.Marks.{least_flushable, dirty_from, has_reached, first_stamped};
     ghost use Rattle.pp_frames.specs.Least.{IsLeast};
     ghost use Rattle.pp_frames.specs.Kept.{marks_at, Fits};
 
@@ -448,6 +448,30 @@ impl Marks {
                 ..now
             },
         );
+    }
+
+    /// Whether the page's stamp is known, and is this one or a later one.
+    fn has_reached(&self, page: u32, limit: u64) -> bool
+        ensures { result ≡ has_reached limit (stamp_of self.now page) }
+    {
+        match self.stamp(page) {
+            Some(stamp) => limit <= stamp,
+            None => false,
+        }
+    }
+
+    /// The least page whose stamp is known, and is this one or a later one. It looks at every page.
+    pub fn first_stamped(&self, limit: u64) -> Option<u32>
+        ensures exact { result ≡ first_stamped self.now limit }
+        ensures sound { IsSound self.now }
+    {
+        let pages = self.pages();
+        for page in 0..pages {
+            if self.has_reached(page, limit) {
+                return Some(page);
+            }
+        }
+        None
     }
 
     /// The least page from this one on that lets a flush begin, if there is one.

@@ -20,6 +20,7 @@ use Rattle.pp_model.proofs.Changes.{Change}
 use Rattle.pp_model.proofs.Reaching.{IsKept, holds}
 use Rattle.pp_model.proofs.Journeys.{get_more}
 use Rattle.pp_model.proofs.Sums.{sum_by-slice_set}
+use Rattle.pp_model.proofs.Rest.{can_renew}
 
 -- ---- what a move does to plans
 
@@ -208,6 +209,14 @@ accounts_kept = record {
     submitted = omega (arith, length-append s.plans (a ∷ []), h.submitted);
     named = λ w x has. more_plans s.plans (a ∷ []) x (h.named w x has);
   };
+  renews = λ s ok e h.
+      let seats = (can_renew s e).rests.seats in
+      let n = length s.seats in
+      record {
+        once = λ k. omega (arith, ap (with_workers k) seats ∙ idle_counts k n, none_taken k);
+        submitted = omega arith;
+        named = subst (HaveTheirPlans []) (sym seats) (idle_plans n);
+      };
 }
 
 below : (k n sum : ℕ) → sum ≡ cond (nat_lt k n) 1 0 → k < n → sum ≡ 1

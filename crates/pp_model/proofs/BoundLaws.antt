@@ -19,7 +19,8 @@ use Rattle.pp_model.specs.Outcome.{with_seat, at_stage, having_done, released}
 use Rattle.pp_model.specs.Taking.{beginning}
 use Rattle.pp_model.specs.Moves.{next_of, is_possible, seat_of, asked_by}
 use Rattle.pp_model.specs.Submitting.{submitted, submitted_unless, after_submit}
-use Rattle.pp_model.specs.Runs.{Input, plan, move, run, state_after, count_done}
+use Rattle.pp_model.specs.Renewing.{after_renewal}
+use Rattle.pp_model.specs.Runs.{Input, plan, move, renewal, run, state_after, count_done}
 use Rattle.pp_model.specs.Reached.{IsReached}
 use Rattle.pp_model.specs.Laws.{BoundFalls, BoundRises, IsAcceptedInput}
 use Rattle.pp_model.specs.Fixing.{fixes}
@@ -29,7 +30,7 @@ use Rattle.pp_model.proofs.Changes.{Change, IsAsked, IsReal, done_by, refused_by
 use Rattle.pp_model.proofs.Reaching.{IsKept, holds}
 use Rattle.pp_model.proofs.Seats.{Sends, asks_now, good, GoodSeats}
 use Rattle.pp_model.proofs.ChangeTotals.{seat_at}
-use Rattle.pp_model.proofs.Journeys.{move_reached, plan_reached}
+use Rattle.pp_model.proofs.Journeys.{move_reached, plan_reached, renewal_reached}
 use Rattle.pp_model.proofs.Falls.{left_at, acts_left, loads_left, loses_left, gives_left, some_left}
 
 -- ---- sums
@@ -144,6 +145,8 @@ runs_reached s (plan a ∷ is) ok h =
     (plan_reached s a (ok 0 (plan a) (omega arith)) h)
 runs_reached s (move m ∷ is) ok h =
     runs_reached (next_of s m) is (λ k d lt. ok (suc k) d (omega (arith, lt))) (move_reached s m h)
+runs_reached s (renewal ∷ is) ok h =
+    runs_reached (after_renewal s) is (λ k d lt. ok (suc k) d (omega (arith, lt))) (renewal_reached s h)
 
 -- ---- plans
 
@@ -202,6 +205,7 @@ taken_kept = record {
   opens = λ k ok. omega arith;
   moves = taken_moves;
   submits = λ s a ok e h. omega (arith, length-append s.plans (a ∷ []), h);
+  renews = λ s ok e h. omega arith;
 }
 
 pub drop_more : (k : ℕ) (ps : List Acceptance) (a : Acceptance) → k ≤ length ps

@@ -27,6 +27,7 @@ use Rattle.pp_model.proofs.ChangeTotals.{released_seats}
 use Rattle.pp_model.proofs.Reaching.{IsKept, IsKeptUnder, both, holds}
 use Rattle.pp_model.proofs.Seats.{GoodSeats, good_kept}
 use Rattle.pp_model.proofs.BoundLaws.{falls, drop_more}
+use Rattle.pp_model.proofs.Rest.{can_renew, idle_left, bound_renews}
 
 -- ---- how the seats go on
 
@@ -283,6 +284,14 @@ counted_kept = record {
         numbers = λ w x has. more_numbered s.plans (s.plans ++ a ∷ []) s.taken s.taken x (kept_place s.plans a)
             (omega arith) (h.numbers w x has);
       };
+  renews = λ s ok e h. record {
+    taken = omega arith;
+    few = omega arith;
+    need = omega (arith, ok.flushes);
+    workers = h.workers;
+    flushes = omega arith;
+    numbers = subst (AreNumbered [] 0) (sym (can_renew s e).rests.seats) (idle_numbered (length s.seats));
+  };
 }
 
 pub counted : (s : State) → IsReached s → IsCounted s
@@ -301,11 +310,8 @@ counted_seats = both GoodSeats IsCounted good_kept (record {
   opens = counted_kept.opens;
   moves = λ s t c good h. counted_kept.moves s t c h;
   submits = λ s a ok e good h. counted_kept.submits s a ok e h;
+  renews = λ s ok e good h. counted_kept.renews s ok e h;
 })
-
-idle_left : (n : ℕ) → sum_by left_to (replicate n None) ≡ 0
-idle_left zero = refl
-idle_left (suc n) = omega (arith, sum_by-cons left_to None (replicate n None), idle_left n)
 
 -- No move raises the bound.
 never_rises : (s t : State) → GoodSeats s → Change s t → bound t ≤ bound s
@@ -328,6 +334,7 @@ bounded_under = record {
   moves = λ s t c good h. omega (arith, never_rises s t good.0 c, need_stays s t (advance s t c), h);
   submits = λ s a ok e good h.
       omega (arith, submit_raises s a good.1.taken, need_more s.settings s.plans a, h);
+  renews = λ s ok e good h. omega (arith, bound_renews s e);
 }
 
 pub bounded : (s : State) → IsReached s → bound s ≤ journal_need s.settings s.plans

@@ -116,3 +116,9 @@ turn s t (change.leaves w r given at none e) = turns w r None at.seat (ends refl
 turn s t (change.flushes page can e) = stays (ap crew_of e)
 turn s t (change.cleans f is e) = stays (ap crew_of e)
 turn s t (change.drops f is e) = stays (ap crew_of e)
+
+-- No move changes the plans or the settings.
+pub turn_plans : (c d : Crew) → Turn c d → (d.plans ≡ c.plans) × (d.settings ≡ c.settings)
+turn_plans c d (stays e) = (ap (λ x. x.plans) e, ap (λ x. x.settings) e)
+turn_plans c d (turns w r x has g e) = (ap (λ x. x.plans) e, ap (λ x. x.settings) e)
+turn_plans c d (takes w k a x idle next fits begun e) = (ap (λ x. x.plans) e, ap (λ x. x.settings) e)

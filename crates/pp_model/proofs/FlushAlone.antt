@@ -171,6 +171,7 @@ stands_under = record {
   opens = λ k ok q is. absurd (false≢true is);
   moves = λ s t c all h. turns s t c (flush_turn s t c) all h;
   submits = λ s a ok e all h q is. record { is_here = (h q is).is_here; loads = (h q is).loads };
+  renews = λ s ok e all h q is. record { is_here = (h q is).is_here; loads = (h q is).loads };
 }
 
 flush_stands : (s : State) → IsReached s → FlushStands s

@@ -94,6 +94,7 @@ notes_kept = record {
   moves = λ s t c h.
       let d = same_shape s t c in d.notes ∙ h ∙ ap (λ x. page_count x.layout) (sym d.settings);
   submits = λ s a ok e h. h;
+  renews = λ s ok e h. h;
 }
 
 pub notes_length : (s : State) → IsReached s → length s.notes ≡ page_count s.settings.layout
@@ -185,6 +186,7 @@ noted_under = record {
         flushed = λ f e. omega (arith, d.notes, flush_low s t (flush_turn s t c) sound.1 h f e);
       };
   submits = λ s a ok e sound h. record { notes = h.notes; flushed = h.flushed };
+  renews = λ s ok e sound h. record { notes = h.notes; flushed = h.flushed };
 }
 
 is_noted : (s : State) → IsReached s → IsNoted s
@@ -802,6 +804,7 @@ kept_under = record {
   opens = λ k ok. (fresh_placed k, fresh_clean k);
   moves = λ s t c ready h. (placed_moves s t c ready h.0, dirty_moves s t c ready h.1);
   submits = λ s a ok e ready h. h;
+  renews = λ s ok e ready h. h;
 }
 
 -- All of these together.

@@ -276,6 +276,7 @@ knows_under = record {
   opens = λ k ok. fresh_knows k;
   moves = λ s t c ready h q x. knows_next s t q c h (before s t c ready q x);
   submits = λ s a ok e ready h. h;
+  renews = λ s ok e ready h. h;
 }
 
 -- A page that is cached and not being loaded, or a victim that is written back, has a known mark.

@@ -227,6 +227,7 @@ agrees_under = record {
   opens = λ k ok q. inl (idle_weight (latched_on is_exclusive q) k.workers);
   moves = moves;
   submits = λ s a ok e good h. h;
+  renews = λ s ok e good h. h;
 }
 
 told : (r w r' w' : ℕ) → r' ≡ r → w' ≡ w → Agree r w → Agree r' w'

@@ -3,6 +3,7 @@ pub mod Rows
 pub mod Sums
 pub mod Changes
 pub mod Reaching
+pub mod Rest
 pub mod Crews
 pub mod Room
 pub mod Layouts
@@ -55,4 +56,5 @@ pub mod TurnsLeaving
 pub mod TurnsActing
 pub mod TurnsLatches
 pub mod Turns
+pub mod Quiet
 pub mod Dirties

@@ -1,5 +1,5 @@
 -- No mark is large: each begins below 2^62, and each move that is done raises it by one at most and lowers the bound.
-use Rattle.std.proofs.Common.{◌≡◌, ◌∙◌, ◌⊎◌, ℕ, zero, suc, ◌+◌, ◌^◌, ◌<◌, ◌≤◌, Bool, true, false, Option, Some, None}
+use Rattle.std.proofs.Common.{◌≡◌, ◌∙◌, ◌⊎◌, ℕ, zero, suc, ◌+◌, ◌*◌, ◌^◌, ◌<◌, ◌≤◌, Bool, true, false, Option, Some, None}
 use Rattle.std.proofs.Common.{List, [], ◌∷◌, ◌++◌, length, refl, sym, ap, subst, inl, inr, arith}
 use Rattle.std.specs.Prelude.{sum_by, replicate, nat_le, nat_lt, not, ◌==◌, unwrap_or}
 use Rattle.std.proofs.lemmas.Bool.{cases_lt}
@@ -18,17 +18,18 @@ use Rattle.pp_model.specs.Outcome.{with_note, with_frame, with_lists, released}
 use Rattle.pp_model.specs.Fixing.{free_frame}
 use Rattle.pp_model.specs.Answers.{is_other}
 use Rattle.pp_model.specs.Submitting.{submitted, error_where, most_events}
+use Rattle.pp_model.specs.Renewing.{renewed}
 use Rattle.pp_model.specs.Reached.{IsReached}
 use Rattle.pp_model.proofs.Changes as change
 use Rattle.pp_model.proofs.Changes.{Change}
 use Rattle.pp_model.proofs.Reaching.{IsKept, IsKeptUnder, both, holds}
-use Rattle.pp_model.proofs.Journeys.{turn_plans}
 use Rattle.pp_model.proofs.Seats.{GoodSeats, good_kept}
 use Rattle.pp_model.proofs.Requests.{Which, same, other, which}
 use Rattle.pp_model.proofs.BoundLaws.{falls, Taken, taken_kept, drop_more}
 use Rattle.pp_model.proofs.MarkChanges.{note_here, note_there}
 use Rattle.pp_model.proofs.Framed.{fresh_note}
-use Rattle.pp_model.proofs.Crews.{crew_of, turn}
+use Rattle.pp_model.proofs.Crews.{crew_of, turn, turn_plans}
+use Rattle.pp_model.proofs.Rest.{can_renew, idle_left, bound_renews}
 
 -- ---- the need of the journal
 
@@ -63,6 +64,7 @@ fits_kept = record {
         more_need s.settings s.plans a,
         not_less most_events (journal_need s.settings s.plans + cost_of a) (not_long _ _ _ e),
       );
+  renews = λ s ok e h. omega (arith, ok.flushes);
 }
 
 pub need_is_small : (s : State) → IsReached s → journal_need s.settings s.plans ≤ 4000000
@@ -124,11 +126,17 @@ stamped top s q stamp (Some k) e new old =
     same_stamp : (k stamp : ℕ) → not (k == stamp) ≡ false → k ≡ stamp
     same_stamp k stamp e = grind (arith, nat_tests)
 
+higher : (low top : ℕ) (s : State) (q m : ℕ) → low ≤ top → Rises low s q m → Rises top s q m
+higher low top s q m le (lasts e) = lasts e
+higher low top s q m le (read lt) = read (omega (arith, lt, le))
+higher low top s q m le (rises e) = rises e
+
 known_stamp : (s : State) (page stamp : ℕ) → is_other (known_mark s page) stamp ≡ false
-    → Rises (2 ^ 62) s page stamp
+    → Rises (2 ^ 63) s page stamp
 known_stamp s page stamp e =
-    stamped (2 ^ 62) s page stamp (known_mark s page) refl (λ f. sym (ap (λ o. is_other o stamp) f) ∙ e)
-    (λ k f. sym (ap (λ o. is_other o stamp) f) ∙ e)
+    higher (2 ^ 62) (2 ^ 63) s page stamp (omega arith)
+    (stamped (2 ^ 62) s page stamp (known_mark s page) refl (λ f. sym (ap (λ o. is_other o stamp) f) ∙ e)
+    (λ k f. sym (ap (λ o. is_other o stamp) f) ∙ e))
 
 moved_mark : (s : State) (a b : ℕ) (f g : Option ℕ) (q m : ℕ)
     → known_mark (with_frame (with_frame s a f) b g) q ≡ Some m → known_mark s q ≡ Some m
@@ -140,7 +148,7 @@ moved_mark s a b f g q m e =
 at_next : (s t u : State) (q m : ℕ) → t ≡ u → known_mark t q ≡ Some m → known_mark u q ≡ Some m
 at_next s t u q m e f = sym (ap (λ x. known_mark x q) e) ∙ f
 
-mark_turn : (s t : State) → Change s t → (q m : ℕ) → known_mark t q ≡ Some m → Rises (2 ^ 62) s q m
+mark_turn : (s t : State) → Change s t → (q m : ℕ) → known_mark t q ≡ Some m → Rises (2 ^ 63) s q m
 mark_turn s t (change.stays e) q m f = lasts (at_next s t _ q m e f)
 mark_turn s t (change.takes w a idle next fits e) q m f = lasts (at_next s t _ q m e f)
 mark_turn s t (change.hits w r slot page l asked is e) q m f = lasts (at_next s t _ q m e f)
@@ -162,19 +170,19 @@ mark_turn s t (change.forgets w r slot page at e) q m f =
 mark_turn s t (change.loads w r slot page stamp at known e) q m f =
     go (noted_mark s page (record (note_of s page) { mark = Some stamp }) q m (at_next s t _ q m e f))
   where
-    go : (known_mark s q ≡ Some m) ⊎ ((q ≡ page) × (Some stamp ≡ Some m)) → Rises (2 ^ 62) s q m
+    go : (known_mark s q ≡ Some m) ⊎ ((q ≡ page) × (Some stamp ≡ Some m)) → Rises (2 ^ 63) s q m
     go (inl a) = lasts a
     go (inr b) =
         let is : stamp ≡ m = let both = b.1 in cc in
-        subst (λ x. Rises (2 ^ 62) s q x) is
-        (subst (λ x. Rises (2 ^ 62) s x stamp) (sym b.0) (known_stamp s page stamp known))
+        subst (λ x. Rises (2 ^ 63) s q x) is
+        (subst (λ x. Rises (2 ^ 63) s x stamp) (sym b.0) (known_stamp s page stamp known))
 mark_turn s t (change.unfixes w r slot a back asked e) q m f = lasts (at_next s t _ q m e f)
 mark_turn s t (change.latches w r slot k asked goes e) q m f = lasts (at_next s t _ q m e f)
 mark_turn s t (change.unlatches w r slot asked e) q m f =
-    released_rises (2 ^ 62) s (held_in r slot) (page_in r slot) q m (at_next s t _ q m e f)
+    released_rises (2 ^ 63) s (held_in r slot) (page_in r slot) q m (at_next s t _ q m e f)
 mark_turn s t (change.chooses w r i asked e) q m f = lasts (at_next s t _ q m e f)
 mark_turn s t (change.unwinds w r slot given k at found e) q m f =
-    released_rises (2 ^ 62) s k.held k.page q m (at_next s t _ q m e f)
+    released_rises (2 ^ 63) s k.held k.page q m (at_next s t _ q m e f)
 mark_turn s t (change.ends w r at asked e) q m f = lasts (at_next s t _ q m e f)
 mark_turn s t (change.leaves w r given at none e) q m f = lasts (at_next s t _ q m e f)
 mark_turn s t (change.flushes page can e) q m f = lasts (at_next s t _ q m e f)
@@ -190,7 +198,7 @@ falls_or_stays s t c good = inr (falls s t good c tt)
 
 record Small (s : State) : Type 0 where
   pub fits : bound s ≤ journal_need s.settings s.plans
-  pub marks : (q m : ℕ) → known_mark s q ≡ Some m → m + bound s ≤ 2 ^ 62 + journal_need s.settings s.plans
+  pub marks : (q m : ℕ) → known_mark s q ≡ Some m → m + bound s ≤ 2 ^ 63 + journal_need s.settings s.plans
 
 -- A mark after a move that lowered the bound.
 carried : (top need now next q m : ℕ) (s : State) → Rises top s q m → next + 1 ≤ now → now ≤ need
@@ -212,14 +220,10 @@ small_next s t c h (inr less) = record {
   fits = omega (arith, less, h.fits, same_need s t c);
   marks = λ q m e.
       let need = journal_need s.settings s.plans in
-      let all = carried (2 ^ 62) need (bound s) (bound t) q m s (mark_turn s t c q m e) less
+      let all = carried (2 ^ 63) need (bound s) (bound t) q m s (mark_turn s t c q m e) less
       h.fits (λ k f. h.marks q k f) in
-      subst (λ n. m + bound t ≤ 2 ^ 62 + n) (sym (same_need s t c)) all;
+      subst (λ n. m + bound t ≤ 2 ^ 63 + n) (sym (same_need s t c)) all;
 }
-
-idle_left : (n : ℕ) → sum_by left_to (replicate n None) ≡ 0
-idle_left zero = refl
-idle_left (suc n) = omega (arith, sum_by-cons left_to None (replicate n None), idle_left n)
 
 -- The seats are good, and no more plans were taken than there are.
 abbrev Ordered : State → Type 0
@@ -231,6 +235,7 @@ ordered_kept =
       opens = taken_kept.opens;
       moves = λ s t c good h. taken_kept.moves s t c h;
       submits = λ s a ok e good h. taken_kept.submits s a ok e h;
+      renews = λ s ok e good h. taken_kept.renews s ok e h;
     })
 
 small_under : IsKeptUnder Ordered Small
@@ -248,18 +253,26 @@ small_under = record {
       record {
         fits = omega (arith, rises, need, h.fits);
         marks = λ q m f.
-            let all = more (2 ^ 62) m (bound s) (journal_need s.settings s.plans) (cost_of a) (bound (submitted s a))
+            let all = more (2 ^ 63) m (bound s) (journal_need s.settings s.plans) (cost_of a) (bound (submitted s a))
             (journal_need s.settings (s.plans ++ a ∷ [])) rises need (h.marks q m f) in
             all;
       };
+  renews = λ s ok e good h. record {
+    fits = omega (arith, bound_renews s e);
+    marks = λ q m f. begun (2 ^ 63) m (bound (renewed s)) (journal_need s.settings []) s.settings.flushes (bound_renews s e)
+        (omega arith) ((can_renew s e).low q m f);
+  };
 }
   where
+    begun : (top m now need flushes : ℕ) → now ≡ 2 * flushes → need ≡ 2 * flushes → m < top → m + now ≤ top + need
+    begun top m now need flushes e f lt = omega arith
+
     more : (top m now need cost next later : ℕ) → next ≡ now + cost → later ≡ need + cost → m + now ≤ top + need
         → m + next ≤ top + later
     more top m now need cost next later e f le = omega arith
 
 pub small_marks : (s : State) → IsReached s → (q m : ℕ) → known_mark s q ≡ Some m
-    → m + bound s ≤ 2 ^ 62 + journal_need s.settings s.plans
+    → m + bound s ≤ 2 ^ 63 + journal_need s.settings s.plans
 small_marks s h q m e =
     (holds (λ x. Ordered x × Small x) s (both Ordered Small ordered_kept small_under) h).1.marks q m e
 
@@ -270,6 +283,6 @@ within : (top m now need most : ℕ) → m + now ≤ top + need → need ≤ mos
 within top m now need most a b = omega arith
 
 pub marks_are_small : (s : State) → IsReached s → (q m : ℕ) → known_mark s q ≡ Some m
-    → m + bound s ≤ 2 ^ 62 + 4000000
+    → m + bound s ≤ 2 ^ 63 + 4000000
 marks_are_small s h q m e =
-    within (2 ^ 62) m (bound s) (journal_need s.settings s.plans) 4000000 (small_marks s h q m e) (need_is_small s h)
+    within (2 ^ 63) m (bound s) (journal_need s.settings s.plans) 4000000 (small_marks s h q m e) (need_is_small s h)

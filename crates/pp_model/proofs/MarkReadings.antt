@@ -83,7 +83,7 @@ small_at : (top most now : ℕ) (o : Option ℕ) → ((m : ℕ) → o ≡ Some m
 small_at top most now None all fits = omega arith
 small_at top most now (Some m) all fits = all m refl
 
-pub mark_at_is_small : (s : State) → IsReached s → (q : ℕ) → mark_at s q + bound s ≤ 2 ^ 62 + 4000000
+pub mark_at_is_small : (s : State) → IsReached s → (q : ℕ) → mark_at s q + bound s ≤ 2 ^ 63 + 4000000
 mark_at_is_small s h q =
-    small_at (2 ^ 62) 4000000 (bound s) (known_mark s q) (λ m e. marks_are_small s h q m e)
+    small_at (2 ^ 63) 4000000 (bound s) (known_mark s q) (λ m e. marks_are_small s h q m e)
     (omega (arith, bound_within s h, need_is_small s h))

@@ -52,6 +52,7 @@ kept = record {
   opens = λ k ok. omega (arith, idle_peaks k.workers);
   moves = λ s t c h. turn_room (crew_of s) (crew_of t) (turn s t c) h;
   submits = λ s a ok e h. h;
+  renews = λ s ok e h. h;
 }
 
 -- In a reached state the running peaks sum to at most the frames.

@@ -158,6 +158,7 @@ good_kept = record {
       let g = s.settings.layout in
       let plan : IsPlanOf g a = record { accepted = ok; layout = layouts_same g a.plan.layout same } in
       record { plans = pushed g s.plans a h.plans plan; seats = h.seats };
+  renews = λ s ok e h. record { plans = λ j a f. cc; seats = h.seats };
 }
 
 pub good : (s : State) → IsReached s → AreGood (crew_of s)

@@ -202,6 +202,15 @@ sound_under = record {
     cached = h.cached;
     away = h.away;
   };
+  renews = λ s ok e good h. record {
+    c = h.c;
+    pages = h.pages;
+    bounds = h.bounds;
+    alone = h.alone;
+    fresh = h.fresh;
+    cached = h.cached;
+    away = h.away;
+  };
 }
 
 -- Seats and lists together.

@@ -47,13 +47,13 @@ use Rattle.pp_model.specs.JournalMarks.{read_in as page_read_in, read_for, read_
 use Rattle.pp_model.specs.JournalMarks.{stamp_read}
 use Rattle.pp_model.specs.JournalMarks.{last_written, first_read}
 use Rattle.pp_model.specs.Reached.{IsReached}
-use Rattle.pp_model.specs.Laws.{MarksAreTheJournals}
+use Rattle.pp_model.specs.Laws.{MarksAreTheJournals, MarksFollow}
 use Rattle.pp_model.proofs.Changes.{IsAt}
 use Rattle.pp_model.proofs.Requests.{Which, same, other, which}
 use Rattle.pp_model.proofs.MarkChanges.{note_here, note_there}
 use Rattle.pp_model.proofs.MarkSteps.{held_low}
 use Rattle.pp_model.proofs.Framed.{fresh_note, loads_one, taken_low}
-use Rattle.pp_model.proofs.Journeys.{opening_reached, move_reached, plan_reached}
+use Rattle.pp_model.proofs.Journeys.{opening_reached, event_reached}
 
 -- ---- the first of two that there is
 
@@ -449,17 +449,6 @@ event_tells plans s (Step m reply) q h is =
     ≡ option_or (stamp_written s (Step m x) q) (option_or (known_mark s q) (stamp_read s (Step m x) q)))
     (sym is.1) (move_tells s h m q)
 
-event_reached : (plans : List Acceptance) (s : State) (e : Event) → All IsAccepted plans → IsReached s
-    → IsReached (after_event plans s e)
-event_reached plans s (Step m reply) all h = move_reached s m h
-event_reached plans s (Submit k) all h = go (slice_get plans k) refl
-  where
-    go : (o : Option Acceptance) → slice_get plans k ≡ o → IsReached (after_plan s o)
-    go None e = h
-    go (Some a) e =
-        plan_reached s a
-        (subst IsAccepted (get_or_from_slice_get plans k a a e) (all k a (slice_get_within plans k a e))) h
-
 -- ---- journals
 
 in_order : (later now known read next : Option ℕ)
@@ -490,3 +479,8 @@ marks_are_the_journals s h es q told =
     sym (ap (λ x. known_mark x q) told.leads_here)
     ∙ journal_tells s.plans (opening k) es q h.accepted (opening_reached k h.settings) told.is_true
     ∙ ap (λ o. option_or later (option_or o next)) (ap (λ (x : Note). x.mark) (fresh_note k q))
+
+-- From any reached state on, the marks follow from the journal and the marks that were known there.
+pub marks_follow : (s : State) → IsReached s → MarksFollow s
+marks_follow s h o es q from told =
+    sym (ap (λ x. known_mark x q) told.leads_here) ∙ journal_tells s.plans o es q h.accepted from told.is_true

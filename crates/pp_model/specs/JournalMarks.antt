@@ -12,7 +12,7 @@ use Rattle.pp_model.specs.declared.moves.Move.TheVariants.{ReadDone, Unlatch, Un
 use Rattle.pp_model.specs.declared.reply.Reply.TheVariants.{Loaded, Unlatched}
 use Rattle.pp_model.specs.declared.event.Event.{Event}
 use Rattle.pp_model.specs.declared.event.Event.TheVariants.{Step}
-use Rattle.pp_model.specs.Pool.{Stage, acting, writing, reading, leaving, Running, State}
+use Rattle.pp_model.specs.Pool.{Stage, acting, writing, reading, leaving, Running, State, known_mark}
 use Rattle.pp_model.specs.Holders.{is_exclusive, holdings}
 use Rattle.pp_model.specs.Moves.{asked_by, seat_of}
 use Rattle.pp_model.specs.Journals.{after_event}
@@ -89,6 +89,12 @@ first_read plans s [] page = None
 first_read plans s (e ∷ es) page =
     option_or (stamp_read s e page) (first_read plans (after_event plans s e) es page)
 
--- The mark of the page after these events, from this state on.
+-- The mark of the page after these events, from a state on in which no mark is known.
 abbrev pub journal_mark : List Acceptance → State → List Event → (page : ℕ) → Option ℕ
 journal_mark plans s es page = option_or (last_written plans s es page) (first_read plans s es page)
+
+-- The mark of the page after these events, from any state on: the stamp of the last unlatch or unwinding of X on it; else
+-- the mark that was known before; else the stamp of its first good reading.
+abbrev pub mark_after : List Acceptance → State → List Event → (page : ℕ) → Option ℕ
+mark_after plans s es page =
+    option_or (last_written plans s es page) (option_or (known_mark s page) (first_read plans s es page))

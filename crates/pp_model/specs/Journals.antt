@@ -42,8 +42,11 @@ abbrev pub IsTrueFrom : List Acceptance → State → List Event → Type 0
 IsTrueFrom plans s [] = Unit {0}
 IsTrueFrom plans s (e ∷ es) = IsTrueAt plans s e × IsTrueFrom plans (after_event plans s e) es
 
--- The events are a true journal of the state: from the opening state of its settings, and of its plans, they lead to
--- it.
-pub record IsJournalOf (s : State) (es : List Event) : Type 0 where
-  pub is_true : IsTrueFrom s.plans (opening s.settings) es
-  pub leads_here : replay s.plans (opening s.settings) es ≡ s
+-- The events are a true journal of the state from the state o on: from there, and of its plans, they lead to it.
+pub record IsJournalFrom (o s : State) (es : List Event) : Type 0 where
+  pub is_true : IsTrueFrom s.plans o es
+  pub leads_here : replay s.plans o es ≡ s
+
+-- They are a true journal of the state: from the opening state of its settings on.
+abbrev pub IsJournalOf : State → List Event → Type 0
+IsJournalOf s es = IsJournalFrom (opening s.settings) s es

@@ -1,5 +1,5 @@
 -- Laws of reached states, in the words of those who use a pool.
-use Rattle.std.specs.Prelude.{◌≡◌, ◌≢◌, ◌⊎◌, ◌↔◌, ℕ, ◌+◌, ◌^◌, ◌<◌, ◌≤◌, true, false, None, Some, List, [], ◌∷◌}
+use Rattle.std.specs.Prelude.{◌≡◌, ◌≢◌, ◌⊎◌, ◌↔◌, ℕ, ◌+◌, ◌*◌, ◌^◌, ◌<◌, ◌≤◌, true, false, None, Some, List, [], ◌∷◌}
 use Rattle.std.specs.Prelude.{◌++◌, ◌==◌, Bool, Option, length, count_by, filter, slice_get, All, IsTrue, IsSome}
 use Rattle.pp_settings.specs.Layout.{page_count}
 use Rattle.pp_plan.specs.declared.mode.Mode.{Mode}
@@ -18,16 +18,20 @@ use Rattle.pp_model.specs.declared.moves.Move.{Move}
 use Rattle.pp_model.specs.declared.moves.Move.TheVariants as moves
 use Rattle.pp_model.specs.declared.refusals.Delay.TheVariants.{FlushHolds}
 use Rattle.pp_model.specs.declared.reply.Reply.TheVariants.{NotNow}
-use Rattle.pp_model.specs.Pool.{acting, writing, Running, Finished, Flush, State, opening, frame_of, is_dirty}
+use Rattle.pp_model.specs.Pool.{acting, writing, Running, Finished, Flush, State, Settings, opening, frame_of, is_dirty}
 use Rattle.pp_model.specs.Pool.{known_mark, note_of, untouched}
 use Rattle.pp_model.specs.Holders.{holdings, loading, is_taken, is_in_flight, readers_of, writers_of, errands_of}
 use Rattle.pp_model.specs.Holders.{flushes_of}
 use Rattle.pp_model.specs.Budget.{cost_of, bound}
 use Rattle.pp_model.specs.Moves.{seat_of, reply_of, next_of, is_possible, IsPossible}
 use Rattle.pp_model.specs.Submitting.{most_events, submit_error, after_submit}
-use Rattle.pp_model.specs.Runs.{Input, plan, move, run, state_after, count_done}
-use Rattle.pp_model.specs.Journals.{IsJournalOf}
-use Rattle.pp_model.specs.JournalMarks.{journal_mark}
+use Rattle.pp_model.specs.declared.refusals.RenewError.{RenewError}
+use Rattle.pp_model.specs.declared.refusals.RenewError.TheVariants.{NotAtRest, MarkTooHigh}
+use Rattle.pp_model.specs.Renewing.{is_at_rest, renew_error, renewed, after_renewal}
+use Rattle.pp_model.specs.Lives.{Life, AreLives, after_lives}
+use Rattle.pp_model.specs.Runs.{Input, plan, move, renewal, run, state_after, count_done}
+use Rattle.pp_model.specs.Journals.{IsJournalOf, IsJournalFrom}
+use Rattle.pp_model.specs.JournalMarks.{journal_mark, mark_after}
 use Rattle.pp_model.specs.Reached.{IsReached}
 use Rattle.pp_model.specs.Marks.{marks_at, marks}
 use Rattle.pp_model.specs.Turns.{Asks, IsOpen, next_turn, IsUnderWay}
@@ -147,32 +151,49 @@ RefusedLeaves s = (m : Move) → is_possible s m ≡ false → next_of s m ≡ s
 abbrev pub BoundRises : State → Type 0
 BoundRises s = (a : Acceptance) → submit_error s a ≡ None → bound (after_submit s a) ≡ bound s + cost_of a
 
+-- After a renewal the bound is twice the flushes of the settings.
+abbrev pub RenewalSetsBound : State → Type 0
+RenewalSetsBound s = renew_error s ≡ None → bound (after_renewal s) ≡ 2 * s.settings.flushes
+
 -- A list of moves has at most as many done ones as the bound at its start.
 abbrev pub DoneWithinBound : State → Type 0
 DoneWithinBound s = (ms : List Move) → count_done s ms + bound (state_after s ms) ≤ bound s
 
 -- ---- going on
 
--- Whatever comes to the pool, a move that is possible or refused or a plan that the checker accepted, a reached state
--- follows.
+-- Whatever comes to the pool, a reached state follows: a move or a renewal, done or refused, or a plan that the checker
+-- accepted.
 abbrev pub IsAcceptedInput : Input → Type 0
 IsAcceptedInput (plan a) = IsAccepted a
 IsAcceptedInput (move m) = Unit {0}
+IsAcceptedInput renewal = Unit {0}
 
 abbrev pub StaysReached : State → Type 0
 StaysReached s = (inputs : List Input) → All IsAcceptedInput inputs → IsReached (run s inputs)
 
--- A journal of the state and a possible move, with its reply, are a journal of the next state.
+-- A journal of the state, from whichever state on, and a possible move, with its reply, are a journal of the next state.
 abbrev pub JournalGrows : State → Type 0
 JournalGrows s =
-    (es : List Event) (m : Move) → IsJournalOf s es → IsPossible s m
-    → IsJournalOf (next_of s m) (es ++ Step m (reply_of s m) ∷ [])
+    (o : State) (es : List Event) (m : Move) → IsJournalFrom o s es → IsPossible s m
+    → IsJournalFrom o (next_of s m) (es ++ Step m (reply_of s m) ∷ [])
 
 -- The same of a plan that is taken in.
 abbrev pub JournalTakesIn : State → Type 0
 JournalTakesIn s =
-    (es : List Event) (a : Acceptance) → IsJournalOf s es → submit_error s a ≡ None
-    → IsJournalOf (after_submit s a) (es ++ Submit (length s.plans) ∷ [])
+    (o : State) (es : List Event) (a : Acceptance) → IsJournalFrom o s es → submit_error s a ≡ None
+    → IsJournalFrom o (after_submit s a) (es ++ Submit (length s.plans) ∷ [])
+
+-- Where a reached pool is renewed, its plans and its journal become the last of the lives before, and the journal of the
+-- next life is empty.
+abbrev pub RenewalStaysReached : State → Type 0
+RenewalStaysReached s =
+    (h : IsReached s) → renew_error s ≡ None
+    → (g : IsReached (renewed s)) × (g.journal ≡ [])
+    × (g.before ≡ h.before ++ record { plans = s.plans; journal = h.journal } ∷ [])
+
+-- The opening state of each life is reached.
+abbrev pub LivesAreReached : Settings → Type 0
+LivesAreReached k = (ls : List Life) → AreLives (opening k) ls → IsReached (after_lives (opening k) ls)
 
 -- ---- the plans that were taken
 
@@ -244,16 +265,24 @@ abbrev pub LoadedAreKnown : State → Type 0
 LoadedAreKnown s =
     (page : ℕ) → IsTrue (is_cached s.lists page) → ¬ IsLoading s page → IsSome (known_mark s page)
 
--- The known mark of each page is the one that any journal of the state tells of it.
+-- The known mark of each page is the one that any journal of the state tells of it, from the opening state of the settings
+-- on. (Of later lives MarksFollow tells.)
 abbrev pub MarksAreTheJournals : State → Type 0
 MarksAreTheJournals s =
     (es : List Event) (page : ℕ) → IsJournalOf s es
     → known_mark s page ≡ journal_mark s.plans (opening s.settings) es page
 
--- No mark comes near 2^64: a mark and the bound on the moves that are left come together to at most 2^62 and the most
+-- The known mark of each page is what a journal of the state, from any reached state on, tells of it: the last writing comes
+-- first, then the mark that was known there, then the first good reading. So it is in every life, from its opening state on.
+abbrev pub MarksFollow : State → Type 0
+MarksFollow s =
+    (o : State) (es : List Event) (page : ℕ) → IsReached o → IsJournalFrom o s es
+    → known_mark s page ≡ mark_after s.plans o es page
+
+-- No mark comes near 2^64: a mark and the bound on the moves that are left come together to at most 2^63 and the most
 -- events of a journal.
 abbrev pub MarksAreSmall : State → Type 0
-MarksAreSmall s = (page mark : ℕ) → known_mark s page ≡ Some mark → mark + bound s ≤ 2 ^ 62 + most_events
+MarksAreSmall s = (page mark : ℕ) → known_mark s page ≡ Some mark → mark + bound s ≤ 2 ^ 63 + most_events
 
 -- ---- the marks of all pages
 
@@ -276,3 +305,47 @@ NextWhileUnderWay s = IsSome (next_turn s) ↔ IsUnderWay s
 -- The next turn is open: its moves are possible, whatever is decided in them.
 abbrev pub NextIsOpen : State → Type 0
 NextIsOpen s = (turn : Turn) → next_turn s ≡ Some turn → IsOpen s turn
+
+-- ---- rest
+
+-- A pool is at rest exactly where there is no next turn.
+abbrev pub RestHasNoTurn : State → Type 0
+RestHasNoTurn s = (is_at_rest s ≡ true) ↔ (next_turn s ≡ None)
+
+-- Where a pool is at rest, no slot holds or loads a page, and each page that is newer than the device's is cached.
+abbrev pub RestHoldsNothing : State → Type 0
+RestHoldsNothing s = is_at_rest s ≡ true → (page : ℕ) → is_taken s page ≡ false
+
+abbrev pub RestKeepsDirty : State → Type 0
+RestKeepsDirty s =
+    is_at_rest s ≡ true → (page : ℕ) → is_dirty s page ≡ true → IsTrue (is_cached s.lists page)
+
+-- ---- renewals
+
+-- When a pool is renewed, and why it isn't.
+pub record RenewalAnswers (s : State) : Type 0 where
+  -- it is done exactly where the pool is at rest and every known mark is below 2^63
+  pub done : (renew_error s ≡ None)
+      ↔ ((is_at_rest s ≡ true) × ((page mark : ℕ) → known_mark s page ≡ Some mark → mark < 2 ^ 63))
+  -- that the pool isn't at rest comes first
+  pub under_way : (renew_error s ≡ Some NotAtRest) ↔ (is_at_rest s ≡ false)
+  -- the page that is named is the least one whose known mark is 2^63 or more
+  pub high : (page : ℕ) → renew_error s ≡ Some (MarkTooHigh page)
+      → ((mark : ℕ) × (known_mark s page ≡ Some mark) × (2 ^ 63 ≤ mark))
+      × ((q mark : ℕ) → known_mark s q ≡ Some mark → 2 ^ 63 ≤ mark → page ≤ q)
+
+-- A renewal that is done leads to the opening state, but for ARC's lists and what is noted of pages, which stay. One that
+-- is refused leaves the state.
+pub record RenewalOpens (s : State) : Type 0 where
+  pub done : renew_error s ≡ None
+      → after_renewal s ≡ record (opening s.settings) { lists = s.lists; notes = s.notes }
+  pub refused : (error : RenewError) → renew_error s ≡ Some error → after_renewal s ≡ s
+
+-- A renewal, done or refused, changes nothing of pages and workers: the settings, the seats, the flush, ARC's lists and
+-- the notes stay.
+pub record RenewalLeaves (s : State) : Type 0 where
+  pub settings : (after_renewal s).settings ≡ s.settings
+  pub seats : (after_renewal s).seats ≡ s.seats
+  pub flush : (after_renewal s).flush ≡ s.flush
+  pub lists : (after_renewal s).lists ≡ s.lists
+  pub notes : (after_renewal s).notes ≡ s.notes

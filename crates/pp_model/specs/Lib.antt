@@ -13,9 +13,11 @@ pub mod Flushing
 pub mod Moves
 pub mod Submitting
 pub mod SubmitErrors
+pub mod Renewing
 pub mod Refusals
 pub mod Runs
 pub mod Journals
+pub mod Lives
 pub mod JournalMarks
 pub mod WorkerParts
 pub mod Turns

@@ -54,7 +54,7 @@ pub record Flush : Type 0 where
 
 -- ---- the pool
 
--- What a pool keeps of its settings: the layout, how many workers there are, and how many flushes one run may begin.
+-- What a pool keeps of its settings: the layout, how many workers there are, and how many flushes may begin in one life.
 pub record Settings : Type 0 where
   pub layout : Geometry
   pub workers : ℕ
@@ -62,12 +62,12 @@ pub record Settings : Type 0 where
 
 pub record State : Type 0 where
   pub settings : Settings
-  -- all plans that were submitted, in order, and how many of them were taken
+  -- all plans that were submitted in this life, in order, and how many of them were taken
   pub plans : List Acceptance
   pub taken : ℕ
   -- at place w worker w: in its plan, or idle
   pub seats : List (Option Running)
-  -- the plans that were ended, in order
+  -- the plans that were ended in this life, in order
   pub finished : List Finished
   -- ARC's lists and target
   pub lists : FourLists

@@ -21,6 +21,7 @@ use Rattle.pp_model.specs.Pool.{frame_at, mark_at}
 use Rattle.pp_model.specs.Holders.{times, holdings, loading, page_in, held_in, writers_of}
 use Rattle.pp_model.specs.Moves.{asked_by, seat_of, reply_of, next_of}
 use Rattle.pp_model.specs.Submitting.{after_submit}
+use Rattle.pp_model.specs.Renewing.{after_renewal}
 use Rattle.pp_model.specs.Laws.{IsWrittenBack}
 
 -- ---- ready pages
@@ -308,3 +309,7 @@ abbrev pub SubmitKeeps : State → Type 0
 SubmitKeeps s =
     (a : Acceptance) → Keeps s (after_submit s a) × ((after_submit s a).notes ≡ s.notes)
     × ((after_submit s a).seats ≡ s.seats)
+
+-- A renewal, done or refused, leaves the same pages ready, and the same frames with their images away.
+abbrev pub RenewalKeeps : State → Type 0
+RenewalKeeps s = Keeps s (after_renewal s)

@@ -1,4 +1,5 @@
-//! Laws of every reached state: of every state to which a true journal leads, over plans that the checker accepted.
+//! Laws of every reached state: of every state to which a true journal leads, in the first life of a pool or a later one, over
+//! plans that the checker accepted.
 
 ghost use Rattle.std.specs.Prelude.{◌≡◌, ◌≤◌, length};
 ghost use Rattle.pp_arc.specs.Bounds.{IsWithinBounds};
@@ -11,7 +12,9 @@ ghost use Rattle.pp_model.specs.Laws.{WithinPeaks, NoneStuck, FlushHoldsAlone, I
 ghost use Rattle.pp_model.specs.Laws.{BoundFalls, RefusedLeaves, BoundRises, DoneWithinBound, StaysReached};
 ghost use Rattle.pp_model.specs.Laws.{JournalGrows, JournalTakesIn, MarksTell, OnePageChanges, CachedAreFramed};
 ghost use Rattle.pp_model.specs.Laws.{FrameIsLeft, PinIsLeft, SlotsAreOfAKind, DirtyAreKept, HeldAreKnown, LoadedAreKnown};
-ghost use Rattle.pp_model.specs.Laws.{MarksAreTheJournals, MarksAreSmall, PlansAreAccounted};
+ghost use Rattle.pp_model.specs.Laws.{MarksAreTheJournals, MarksFollow, MarksAreSmall, PlansAreAccounted};
+ghost use Rattle.pp_model.specs.Laws.{RenewalSetsBound, RenewalStaysReached, LivesAreReached, RenewalLeaves, RenewalAnswers, RenewalOpens};
+ghost use Rattle.pp_model.specs.Laws.{RestHasNoTurn, RestHoldsNothing, RestKeepsDirty};
 ghost use Rattle.pp_model.specs.Laws.{NextWhileUnderWay, NextIsOpen};
 ghost use Rattle.pp_model.specs.Laws.{SeatsAreWorkers, PlansAreOfTheLayout, PagesAreOfTheLayout, DoneBeginsATrace};
 ghost use Rattle.pp_model.specs.Ready.{OpensEmpty, ReadyAreCached, ReadyStand, ReadyAreApart, FramedAreReadyOrAway};
@@ -19,7 +22,7 @@ ghost use Rattle.pp_model.specs.Ready.{AwayAreOfPages, AwayAreApart, SharedAreRe
 ghost use Rattle.pp_model.specs.Ready.{StillKeeps, ReadVacates, WriteLeaves, WrittenKeeps, UnwrittenEnters};
 ghost use Rattle.pp_model.specs.Ready.{LoadedEnters, UnreadReturns, SharedStays, ExclusiveLeaves, SharedGoes};
 ghost use Rattle.pp_model.specs.Ready.{ExclusiveEnters, UnwoundEnters, FlushedAreReady, SubmitKeeps, AwayKeep};
-ghost use Rattle.pp_model.specs.Ready.{VictimsKeep};
+ghost use Rattle.pp_model.specs.Ready.{VictimsKeep, RenewalKeeps};
 ghost use Rattle.pp_model.specs.Shapes.{RepliesFit};
 ghost use Rattle.pp_model.specs.Alone.{FlushStays, FlushStarts, FlushEnds, SettingsStay, OthersSit, AllSit};
 ghost use Rattle.pp_model.specs.Alone.{SubmitLeaves};
@@ -71,21 +74,26 @@ pub fn lists_are_bounded()
 {}
 
 /// Each move that is done lowers the bound by 1 at least, one that is refused leaves the state, and a plan that is
-/// taken in raises the bound by its cost. So a list of moves has at most as many done ones as the bound at its start.
+/// taken in raises the bound by its cost. So a list of moves has at most as many done ones as the bound at its start. After a
+/// renewal the bound is twice the flushes of the settings.
 pub fn moves_are_bounded()
     ensures falls { (s : State) → IsReached s → BoundFalls s }
     ensures refused { (s : State) → RefusedLeaves s }
     ensures rises { (s : State) → IsReached s → BoundRises s }
+    ensures renewals { (s : State) → RenewalSetsBound s }
     ensures lists { (s : State) → IsReached s → DoneWithinBound s }
 {}
 
-/// The opening state is reached, and so is whatever follows a reached state, also by moves and plans that are refused.
-/// A journal grows by what is done.
+/// The opening state is reached, and so is whatever follows a reached state, also by moves, plans and renewals that are
+/// refused. A journal grows by what is done, whichever state it begins in. Where a pool is renewed, a new life begins, whose
+/// journal is empty; and the opening state of each life is reached.
 pub fn runs_stay_reached()
     ensures opens { (k : Settings) → IsSettings k → IsReached (opening k) }
     ensures goes_on { (s : State) → IsReached s → StaysReached s }
     ensures steps { (s : State) → JournalGrows s }
     ensures submits { (s : State) → JournalTakesIn s }
+    ensures renews { (s : State) → RenewalStaysReached s }
+    ensures lives { (k : Settings) → IsSettings k → LivesAreReached k }
 {}
 
 /// The plans are accounted for: each that was taken is with exactly one worker, or was ended exactly once, and no other
@@ -105,15 +113,16 @@ pub fn frames_are_apart()
 {}
 
 /// A page that is newer than the device's is cached, or it is written back as a victim. A page that a slot holds has a
-/// known mark, and so has one that is cached and not being loaded. The known mark of a page is the one that any journal
-/// of the state tells of it: the stamp of the last unlatch or unwinding of X on it, else of its first good reading (the
-/// image names the page, and its stamp is below 2^62), else none. No mark comes near 2^64, now or after the moves that
-/// are left.
+/// known mark, and so has one that is cached and not being loaded. The known mark of a page is the one that any journal of
+/// the state tells of it: the stamp of the last unlatch or unwinding of X on it, else of its first good reading. A reading is
+/// good where the image names the page, and its stamp is below 2^62. In a later life the mark with which the life began comes
+/// before the reading. No mark comes near 2^64, now or after the moves that are left.
 pub fn marks_are_kept()
     ensures dirty { (s : State) → IsReached s → DirtyAreKept s }
     ensures held { (s : State) → IsReached s → HeldAreKnown s }
     ensures cached { (s : State) → IsReached s → LoadedAreKnown s }
     ensures journals { (s : State) → IsReached s → MarksAreTheJournals s }
+    ensures follow { (s : State) → IsReached s → MarksFollow s }
     ensures small { (s : State) → IsReached s → MarksAreSmall s }
 {}
 
@@ -152,6 +161,7 @@ pub fn fixes_move_images()
     ensures loaded { (s : State) → IsReached s → LoadedEnters s }
     ensures unread { (s : State) → IsReached s → UnreadReturns s }
     ensures submit { (s : State) → SubmitKeeps s }
+    ensures renewal { (s : State) → RenewalKeeps s }
 {}
 
 /// What latches and their ends do to them. Where a page gets latched, or its flush begins, it is ready; under X it
@@ -185,12 +195,14 @@ pub fn flushes_go_by_flushers()
 {}
 
 /// A worker's move leaves the seats of all others, one of the flusher's leaves all seats, and none changes the settings.
-/// A plan that is submitted leaves the seats, the flush and the settings.
+/// A plan that is submitted leaves the seats, the flush and the settings. A renewal leaves these, and all that is known of
+/// pages.
 pub fn moves_leave_others()
     ensures others { (s : State) → OthersSit s }
     ensures flusher { (s : State) → AllSit s }
     ensures settings { (s : State) → SettingsStay s }
     ensures submit { (s : State) → SubmitLeaves s }
+    ensures renewal { (s : State) → RenewalLeaves s }
 {}
 
 /// There is a next turn while a plan waits, a worker has a plan or a flush is in flight, and only then. It is open: its
@@ -207,4 +219,20 @@ pub fn dirty_pages_are_written()
     ensures rises { (s : State) → DirtyRises s }
     ensures falls { (s : State) → DirtyFalls s }
     ensures evicted { (s : State) → CleanAreEvicted s }
+{}
+
+/// A pool is at rest exactly where there is no next turn. Then no slot holds or loads a page, and each page that is newer
+/// than the device's is cached.
+pub fn rest_is_quiet()
+    ensures ends { (s : State) → IsReached s → RestHasNoTurn s }
+    ensures nothing { (s : State) → RestHoldsNothing s }
+    ensures dirty { (s : State) → IsReached s → RestKeepsDirty s }
+{}
+
+/// A pool is renewed exactly where it is at rest and every known mark is below 2^63; that it isn't at rest is told first, and
+/// else the least page whose mark is higher. A renewal leads to the opening state, but for ARC's lists and what is noted of
+/// pages; one that is refused leaves the state.
+pub fn renewals_go_by_rest()
+    ensures answers { (s : State) → RenewalAnswers s }
+    ensures opens { (s : State) → IsReached s → RenewalOpens s }
 {}

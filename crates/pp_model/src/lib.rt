@@ -9,7 +9,7 @@
 
 pub use event::Event;
 pub use moves::{Came, Move};
-pub use refusals::{Cause, Delay, SubmitError};
+pub use refusals::{Cause, Delay, RenewError, SubmitError};
 pub use reply::{Ending, Failure, Reply};
 pub use turn::Turn;
 

@@ -1,4 +1,4 @@
-//! Why a move or a plan is refused.
+//! Why a move, a plan or a renewal is refused.
 
 ghost use Rattle.std.specs.Prelude.{◌≡◌, Some};
 
@@ -145,7 +145,7 @@ pub enum SubmitError {
     /// It was accepted under another layout than the pool's.
     #[error("the plan was accepted under other settings")]
     OtherSettings,
-    /// As many plans were submitted as a pool keeps.
+    /// As many plans were submitted in this life as a pool keeps.
     #[error("as many plans were submitted as a pool keeps")]
     TooManyPlans,
     /// The events of all plans and flushes would not fit a journal.
@@ -181,4 +181,16 @@ impl SubmitError {
     {
         self.refusal().name
     }
+}
+
+/// Why a pool isn't renewed.
+#[derive(Clone, Copy, Debug, PartialEq, Eq, thiserror::Error)]
+pub enum RenewError {
+    /// A plan waits, a worker isn't idle, or a flush is in flight.
+    #[error("a plan waits, a worker isn't idle, or a flush is in flight")]
+    NotAtRest,
+    /// The known mark of this page is 2^63 or more; it is the least such page. Without this limit a mark could come to 2^64
+    /// over many lives.
+    #[error("the mark of page {page} is 2^63 or more")]
+    MarkTooHigh { page: u32 },
 }

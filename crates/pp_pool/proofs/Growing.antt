@@ -13,7 +13,7 @@ use Rattle.pp_model.specs.Pool.{State, Settings, opening}
 use Rattle.pp_model.specs.Budget.{cost_of, bound}
 use Rattle.pp_model.specs.Moves.{reply_of, next_of, is_possible, IsPossible}
 use Rattle.pp_model.specs.Submitting.{submit_error, submitted_unless, after_submit}
-use Rattle.pp_model.specs.Journals.{after_plan, replay, IsTrueFrom, IsJournalOf}
+use Rattle.pp_model.specs.Journals.{after_plan, replay, IsTrueFrom, IsJournalOf, IsJournalFrom}
 use Rattle.pp_model.proofs.Alone.{settings_stay, submit_leaves}
 use Rattle.pp_model.proofs.Changes.{refused_by}
 use Rattle.pp_model.proofs.Counts.{counted}
@@ -125,7 +125,9 @@ module _ (b : Parts) (k : IsBook b) (v : vault.Parts) where
       record {
         stands = st;
         workers = sym (ap (λ (j : Settings). j.workers) (settings_stay s m ∙ state_settings b));
-        told = step_told s b.journal m (book_told b k) p;
+        told =
+            subst (λ j. IsJournalFrom (opening j) (next_of s m) (b.journal ++ e ∷ [])) (sym (settings_stay s m))
+            (step_told s (opening s.settings) b.journal m (book_told b k) p);
         room = omega (arith, long, bound_falls s k.stands.core.reached m p, k.room);
         most = k.most ∙ ap greatest_cost (k.stands.core.plans ∙ sym (same_plans s m));
       }
@@ -247,7 +249,8 @@ module _ (b : Parts) (k : IsBook b) (a : Acceptance) (number : ℕ) (v : vault.P
       subst (IsJournalOf (after_submit (state_of b) a))
       (sym (grows ∙ ap (λ n. b.journal ++ Submit n ∷ []) numbered))
       (subst (λ o. IsJournalOf (submitted_unless o (state_of b) a) (b.journal ++ Submit (length (state_of b).plans) ∷ []))
-      (sym allowed) (submit_told (state_of b) b.journal a (book_told b k) allowed))
+      (sym allowed)
+      (submit_told (state_of b) (opening (state_of b).settings) b.journal a (book_told b k) allowed))
 
   leads_with : Leads book_with (after_submit (state_of b) a)
   leads_with =

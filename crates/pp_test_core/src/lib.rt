@@ -1,7 +1,8 @@
 //! Tests of the core by its public calls, in a crate of their own so that no library is proved twice.
 //!
 //! They are of what no clause says: that lists of moves get the replies that somebody worked out by hand, that plans
-//! are refused where they should be, that each refusal of each move comes in its turn, and whose turn is next.
+//! are refused where they should be, that each refusal of each move comes in its turn, whose turn is next, and what a
+//! core has after it was renewed.
 #![tactic(auto)]
 
 #[cfg(test)]
@@ -12,6 +13,8 @@ mod common;
 mod drains;
 #[cfg(test)]
 mod lists;
+#[cfg(test)]
+mod lives;
 #[cfg(test)]
 mod submits;
 #[cfg(test)]

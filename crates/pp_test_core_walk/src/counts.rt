@@ -1,4 +1,4 @@
-//! How often each kind of reply came, and each way of using a bundle.
+//! How often each kind of reply came, each way of using a bundle, and renewals that were done and refused.
 
 use crate::plain::Bundle;
 use pp_core::{Cause, Delay, Ending, Failure, Move, Reply};
@@ -14,13 +14,20 @@ const WAYS: usize = 8;
 pub struct Counts {
     counts: Vec<u32>,
     ways: Vec<u32>,
+    renewed: u32,
+    not_renewed: u32,
 }
 
 impl Counts {
     pub fn new(alloc: Global) -> Result<Counts, AllocError> {
         let counts = vec![in alloc; 0u32; KINDS]?;
         let ways = vec![in alloc; 0u32; WAYS]?;
-        Ok(Counts { counts, ways })
+        Ok(Counts {
+            counts,
+            ways,
+            renewed: 0,
+            not_renewed: 0,
+        })
     }
 
     pub fn count(&mut self, reply: Reply) {
@@ -36,6 +43,21 @@ impl Counts {
                 *count = count.saturating_add(1);
             }
         }
+    }
+
+    /// Counts a renewal that was done, or refused.
+    pub fn count_renewal(&mut self, is_done: bool) {
+        let count = if is_done {
+            &mut self.renewed
+        } else {
+            &mut self.not_renewed
+        };
+        *count = count.saturating_add(1);
+    }
+
+    /// Whether renewals were done a hundred times or more, and refused as often.
+    pub fn has_lives(&self) -> bool {
+        self.renewed >= 100 && self.not_renewed >= 100
     }
 
     /// How many replies came.

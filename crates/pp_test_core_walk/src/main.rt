@@ -2,8 +2,8 @@
 //! reply with that of a plain program, and then what each slot holds.
 //!
 //! The plain program keeps lists of what is held, cached, changed and known, and goes through them for each answer. It
-//! shares nothing with the core but the moves and the replies. A core is used until its 256 plans are, and then another
-//! is made.
+//! shares nothing with the core but the moves and the replies. Both are renewed again and again, after a few plans or all
+//! 256 of a life, and now and then another core is made.
 #![tactic(auto)]
 
 mod counts;
@@ -15,7 +15,7 @@ use crate::plain::Plain;
 use crate::plans::{KINDS, PLANS, Shape};
 use pp_annotate::annotate;
 use pp_cert::{Accepted, check};
-use pp_core::{Core, SubmitError};
+use pp_core::{Core, RenewError, SubmitError};
 use pp_plan::Plan;
 use pp_settings::Settings;
 use pp_test_plain::Chance;
@@ -76,7 +76,31 @@ fn see_slots(core: &Core, plain: &Plain) -> anyhow::Result<()> {
     Ok(())
 }
 
-/// Makes moves on a new core until its plans are used up, at most so many, and says how many were made.
+/// How many plans the next life has: a few, or as many as a life takes.
+fn plans_of_a_life(chance: &mut Chance) -> u32 {
+    if chance.below(48) == 0 {
+        256
+    } else {
+        chance.below(6)
+    }
+}
+
+/// Renews both, and sees that they answer the same.
+fn renew(core: &mut Core, plain: &mut Plain, counts: &mut Counts) -> anyhow::Result<()> {
+    let want = if plain.renew() {
+        Ok(())
+    } else {
+        Err(RenewError::NotAtRest)
+    };
+    let got = core.renew();
+    if got != want {
+        anyhow::bail!("a renewal is answered {got:?}, and plainly {want:?}");
+    }
+    counts.count_renewal(got.is_ok());
+    Ok(())
+}
+
+/// Makes moves on a new core, in life after life, at most so many, and says how many were made.
 fn walk(
     alloc: Global,
     settings: &Settings,
@@ -86,11 +110,18 @@ fn walk(
 ) -> anyhow::Result<u32> {
     let mut core = Core::new(alloc, settings)?;
     let mut plain = Plain::new(alloc, 3, 3, 40)?;
+    let mut plans = plans_of_a_life(chance);
     for made in 0..most {
-        if plain.is_used_up() {
-            return Ok(made);
+        if plain.is_used_up(plans) {
+            if chance.below(64) == 0 {
+                return Ok(made);
+            }
+            renew(&mut core, &mut plain, counts)?;
+            plans = plans_of_a_life(chance);
+        } else if !plain.is_at_rest() && chance.below(16) == 0 {
+            renew(&mut core, &mut plain, counts)?;
         }
-        if plain.wants_plans() {
+        if plain.wants_plans(plans) {
             let shape = &PLANS[chance.below(KINDS as u32) as usize % KINDS];
             if !submit(alloc, settings, &mut core, &mut plain, shape)? {
                 anyhow::bail!("a submit is answered otherwise");
@@ -131,5 +162,9 @@ fn main(rt: HostRuntime) -> anyhow::Result<()> {
     println!(rt; "each of {kinds} kinds of replies and refusals came ten times or more")?;
     let ways = counts.ways();
     println!(rt; "each of {ways} ways of using a bundle came ten times or more")?;
+    if !counts.has_lives() {
+        anyhow::bail!("there were too few renewals, or too few that were refused");
+    }
+    println!(rt; "renewals were done and refused a hundred times or more each")?;
     Ok(())
 }

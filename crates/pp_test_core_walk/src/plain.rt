@@ -44,6 +44,7 @@ pub struct Bundle {
 #[derive(Drop)]
 pub struct Plain {
     frames: u32,
+    flushes: u32,
     flushes_left: u32,
     /// The page that is being flushed, and its mark as that began.
     flush: Option<(u32, u64)>,
@@ -114,6 +115,7 @@ impl Plain {
     ) -> Result<Plain, AllocError> {
         let mut plain = Plain {
             frames,
+            flushes,
             flushes_left: flushes,
             flush: None,
             submitted: 0,
@@ -150,14 +152,32 @@ impl Plain {
         Ok(Some(number))
     }
 
-    /// Whether fewer than four plans wait, and others may be submitted.
-    pub fn wants_plans(&self) -> bool {
-        self.waiting.len() < 4 && self.submitted < 256
+    /// Whether fewer than four plans wait, and fewer than so many were submitted in this life.
+    pub fn wants_plans(&self, most: u32) -> bool {
+        self.waiting.len() < 4 && self.submitted < most
     }
 
-    /// Whether all plans are over, and one can be submitted no more.
-    pub fn is_used_up(&self) -> bool {
-        self.submitted >= 256 && self.waiting.is_empty() && self.running() == 0
+    // ---- lives
+
+    /// Whether no plan waits, no worker is in one, and no flush is in flight.
+    pub fn is_at_rest(&self) -> bool {
+        self.waiting.is_empty() && self.running() == 0 && self.flush.is_none()
+    }
+
+    /// Whether all of so many plans are over, and so is the flush.
+    pub fn is_used_up(&self, most: u32) -> bool {
+        self.submitted >= most && self.is_at_rest()
+    }
+
+    /// Begins another life, where all is over: plans are counted from 0 again, and the flushes come back.
+    pub fn renew(&mut self) -> bool {
+        if !self.is_at_rest() {
+            return false;
+        }
+        self.submitted = 0;
+        self.next = 0;
+        self.flushes_left = self.flushes;
+        true
     }
 
     // ---- what the state says

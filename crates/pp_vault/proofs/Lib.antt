@@ -16,6 +16,7 @@ pub mod Plain
 pub mod SeatMoves
 pub mod OpeningFits
 pub mod Submitted
+mod Renewed
 pub mod FitTests
 mod Asked
 pub mod AfterSteps
@@ -35,3 +36,4 @@ mod StillFits
 mod OpeningHands
 mod Bodies
 mod SubmitFits
+mod RenewFits

@@ -16,6 +16,7 @@ use Rattle.pp_vault.specs.Calls.{Call, stranger, refused, asks}
 use Rattle.pp_vault.specs.Fits.{is_gathered}
 use Rattle.pp_vault.specs.Events.{Does}
 use Rattle.pp_vault.specs.Submits.{TakesIn}
+use Rattle.pp_vault.specs.Renewals.{Renews}
 use Rattle.pp_vault.specs.Hands.{PlaceFits, HandFits, FlushingFits, HandsFit}
 
 -- The worker whose move a call is; none where it is no move, or the flusher's.
@@ -63,3 +64,8 @@ abbrev pub SubmitsStillFit : Type 0
 SubmitsStillFit =
     (old new : Parts) (a : Acceptance) (number : ℕ) → IsKept old → TakesIn old a number new → (hands : Hands)
     → HandsFit old hands → HandsFit new hands
+
+-- And after a renewal.
+abbrev pub RenewalsStillFit : Type 0
+RenewalsStillFit =
+    (old new : Parts) → IsKept old → Renews old new → (hands : Hands) → HandsFit old hands → HandsFit new hands

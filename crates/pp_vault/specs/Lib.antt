@@ -12,6 +12,7 @@ pub mod Coding
 pub mod ImageMoves
 pub mod Opening
 pub mod Submits
+pub mod Renewals
 pub mod Fixes
 pub mod Answers
 pub mod Looks

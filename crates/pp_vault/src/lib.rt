@@ -12,7 +12,7 @@ pub use hands::{Flushing, Hands, Workers};
 pub use places::Guards;
 pub use pp_core::{
     Accepted, Ask, Came, Cause, CoreError as VaultError, Delay, Ending, Failure, Held, Move,
-    PlanId, Reply, SubmitError, Turn,
+    PlanId, RenewError, Reply, SubmitError, Turn,
 };
 pub use pp_device::{Device, Fault};
 pub use refusal::Refusal;
@@ -35,6 +35,7 @@ mod looking;
 mod opening;
 mod places;
 mod refusal;
+mod renewing;
 mod seating;
 mod stage;
 mod stopped;

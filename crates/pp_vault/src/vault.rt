@@ -1,12 +1,14 @@
 //! The vault: its core's moves, with the images of the pages.
 
-ghost use Rattle.std.specs.Prelude.{◌≡◌, ◌↔◌, true, false, Some, None, IsSome, IfOk, IfErr, IfSome, OnErr, length};
+ghost use Rattle.std.specs.Prelude.{◌≡◌, ◌↔◌, true, false, Some, None, IsSome, IfOk, IfErr, IfSome, OnOk, OnErr, length};
 ghost use Rattle.std.specs.Option.{is_some};
 ghost use Rattle.pp_model.specs.Pool.{State, opening, dirty_pages};
 ghost use Rattle.pp_model.specs.Moves.{reply_of};
 ghost use Rattle.pp_model.specs.Budget.{bound};
 ghost use Rattle.pp_model.specs.Submitting.{submit_error};
+ghost use Rattle.pp_model.specs.Renewing.{renew_error};
 ghost use Rattle.pp_vault.specs.Submits.{TakesIn};
+ghost use Rattle.pp_vault.specs.Renewals.{Renews};
 ghost use Rattle.pp_model.specs.Turns.{next_turn, IsOpen, IsUnderWay};
 ghost use Rattle.pp_core.specs.Opening.{kept_of};
 ghost use Rattle.pp_core.specs.Queries.{is_idle, ask_of, errand_of};
@@ -38,7 +40,9 @@ use crate::refusal::{Refusal, refusal_by};
 use crate::stopped::Stopped;
 use crate::store::Store;
 use crate::tokens::{Chair, Errand, Leaver, Returned, Session};
-use pp_core::{Accepted, Ask, CoreError as VaultError, Move, PlanId, Reply, SubmitError, Turn};
+use pp_core::{
+    Accepted, Ask, CoreError as VaultError, Move, PlanId, RenewError, Reply, SubmitError, Turn,
+};
 use pp_settings::Settings;
 use std::alloc::Global;
 use std::marker::Model;
@@ -239,6 +243,26 @@ impl Vault {
         self.store.submit(accepted)
     }
 
+    /// Begins the next life of a vault at rest, as the core does: its plans go, all flushes may begin again, and all else
+    /// stays, each image in its frame. So pages stay cached, dirty and known, and the tokens of the old life, which are chairs,
+    /// are those of the next. The next life's journal begins in the state that the vault stands for now.
+    ///
+    /// It takes no memory and copies nothing.
+    ///
+    /// # Errors
+    ///
+    /// As the core's: [`RenewError::NotAtRest`] while [`Vault::next_possible`] names a turn, else [`RenewError::MarkTooHigh`]. Then
+    /// nothing has changed.
+    pub fn renew(&mut self) -> Result<(), RenewError>
+        ensures ok { OnOk result (Renews self.old self.new) }
+        ensures error { IfErr result (λ e. (s : State) → StandsFor self.old s → renew_error s ≡ Some e) }
+        ensures unchanged { OnErr result (self.new ≡ self.old) }
+        ensures kept { IsKept self.new }
+        ensures headline { HeadlineHolds self.new }
+    {
+        self.store.renew()
+    }
+
     /// Who moves next, as the core tells it: the device that answers a worker or the flusher, a worker in its plan or
     /// on its way out, or an idle worker where a plan waits. The moves of that turn are possible, whatever is decided
     /// in them.
@@ -253,7 +277,7 @@ impl Vault {
     }
 
     /// The bound on the moves that are left: each call that is done lowers it by 1 at least, and [`Vault::submit`] raises
-    /// it by the plan's cost.
+    /// it by the plan's cost. [`Vault::renew`] sets it to twice the flushes.
     pub fn budget(&self) -> u64
         ensures bound { (s : State) → StandsFor self.now s → result ≡ bound s }
         ensures value { result ≡ self.now.core.budget }

@@ -1,5 +1,5 @@
 use Rattle.pp_contents.proofs.Agreement.{step_agrees, answer_agrees}
-use Rattle.pp_contents.proofs.AgreementFlushes.{empty_agree, flushes_keep, flush_answers_keep, submits_keep}
+use Rattle.pp_contents.proofs.AgreementFlushes.{empty_agree, flushes_keep, flush_answers_keep, submits_keep, renewals_keep}
 use Rattle.pp_contents.proofs.ContentKept.{call_content, call_image, answer_content, answer_image}
 use Rattle.pp_contents.proofs.ContentWriters.{writers_set_contents, contents_are_seen, loaded_are_told}
 use Rattle.pp_contents.proofs.laws.contents_are_kept.Goals as goal
@@ -37,6 +37,9 @@ returns-clause-flush_answers c = flush_answers_keep
 
 pub returns-clause-submits : goal.returns-clause-submits
 returns-clause-submits c = submits_keep
+
+pub returns-clause-renewals : goal.returns-clause-renewals
+returns-clause-renewals c = renewals_keep
 
 pub returns-clause-writers : goal.returns-clause-writers
 returns-clause-writers c = writers_set_contents

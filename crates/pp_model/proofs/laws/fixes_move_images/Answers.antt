@@ -1,5 +1,6 @@
 use Rattle.pp_model.proofs.ReadyLaws.{still_keeps, read_vacates, write_leaves, submit_keeps}
 use Rattle.pp_model.proofs.ReadyAnswers.{written_keeps, unwritten_enters, loaded_enters, unread_returns}
+use Rattle.pp_model.proofs.Rest.{renewal_keeps}
 use Rattle.pp_model.proofs.laws.fixes_move_images.Goals as goal
 
 pub returns-clause-still : goal.returns-clause-still
@@ -25,3 +26,6 @@ returns-clause-unread c = unread_returns
 
 pub returns-clause-submit : goal.returns-clause-submit
 returns-clause-submit c = submit_keeps
+
+pub returns-clause-renewal : goal.returns-clause-renewal
+returns-clause-renewal c = renewal_keeps

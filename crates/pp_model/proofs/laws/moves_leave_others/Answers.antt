@@ -1,4 +1,5 @@
 use Rattle.pp_model.proofs.Alone.{others_sit, all_sit, settings_stay, submit_leaves}
+use Rattle.pp_model.proofs.Rest.{renewal_leaves}
 use Rattle.pp_model.proofs.laws.moves_leave_others.Goals as goal
 
 pub returns-clause-others : goal.returns-clause-others
@@ -12,3 +13,6 @@ returns-clause-settings c = settings_stay
 
 pub returns-clause-submit : goal.returns-clause-submit
 returns-clause-submit c = submit_leaves
+
+pub returns-clause-renewal : goal.returns-clause-renewal
+returns-clause-renewal c = renewal_leaves

@@ -1,5 +1,6 @@
 use Rattle.std.proofs.Common.{◌≡◌, refl, sym, subst, rules}
 use Rattle.pp_script.specs.declared.cue.Cue.TheVariants as cue
+use Rattle.pp_play.specs.Plays.{ComesTo}
 use Rattle.pp_play.specs.Exact.{Plays}
 use Rattle.pp_play.specs.AnyHands.{IsHandsLine}
 use Rattle.pp_play.proofs.Called.{quiet}
@@ -60,3 +61,8 @@ returns-in-Take-clause-over g c =
     (λ q. PlaysFromAll g.D.Device.read_gives g.D.Device.write_leaves c.args.vault.now c.args.hands.now
     c.args.device.now q c.by_worker.result c.by_worker.new.vault c.by_worker.new.hands c.by_worker.new.device)
     same c.by_worker.ensures.over
+
+pub returns-in-Take-clause-comes : goal.returns-in-Take-clause-comes
+returns-in-Take-clause-comes g c =
+    let same : c.in-Take.cue ≡ c.args.cue = search rules in
+    subst (λ q. ComesTo c.args.vault.now q c.by_worker.result c.by_worker.new.vault) same c.by_worker.ensures.comes

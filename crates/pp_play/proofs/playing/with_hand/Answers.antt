@@ -10,6 +10,12 @@ use Rattle.pp_play.specs.Moving.{hand_errand, DoesWith}
 use Rattle.pp_play.proofs.Moved.{byte_moves}
 use Rattle.pp_play.proofs.playing.with_hand.Goals as goal
 
+pub returns-in-Take-clause-comes : goal.returns-in-Take-clause-comes
+returns-in-Take-clause-comes g c =
+    let of = same _ _ (sym (ap cue_worker c.in-Take.is) ∙ c.requires.cue) in
+    subst (λ q. ComesTo c.args.vault.now q c.take.result.1 c.take.new.vault)
+    (ap (λ w. cue.Take w) (sym of) ∙ sym c.in-Take.is) c.take.ensures.comes
+
 pub returns-in-Fix-clause-comes : goal.returns-in-Fix-clause-comes
 returns-in-Fix-clause-comes g c =
     let of = same _ _ (sym (ap cue_worker c.in-Fix.is) ∙ c.requires.cue) in

@@ -1,4 +1,5 @@
 use Rattle.pp_vault.proofs.SubmitFits.{submits_still_fit}
+use Rattle.pp_vault.proofs.RenewFits.{renewals_still_fit}
 use Rattle.pp_vault.proofs.StillFits.{still_fits, slot_still_fits, flushing_still_fits}
 use Rattle.pp_vault.proofs.laws.hands_still_fit.Goals as goal
 
@@ -13,3 +14,6 @@ returns-clause-flushing c = flushing_still_fits
 
 pub returns-clause-submits : goal.returns-clause-submits
 returns-clause-submits c = submits_still_fit
+
+pub returns-clause-renewals : goal.returns-clause-renewals
+returns-clause-renewals c = renewals_still_fit

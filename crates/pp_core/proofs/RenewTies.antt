@@ -1,0 +1,99 @@
+-- Renewing, on the core's side and on the state's.
+use Rattle.std.proofs.Common.{◌≡◌, ◌∙◌, ℕ, suc, ◌+◌, ◌*◌, ◌&&◌, Bool, true, false, Option, Some, None, List, [], ◌∷◌}
+use Rattle.std.proofs.Common.{length, refl, sym, ap, subst, arith}
+use Rattle.std.specs.Prelude.{slice_get, nat_le, option_map, is_none, replicate}
+use Rattle.std.specs.List.{list_all}
+use Rattle.pp_cert.specs.Accepted.{Acceptance}
+use Rattle.pp_frames.specs.Least.{least_below}
+use Rattle.pp_frames.specs.Marks.{page_count, stamp_of, has_reached, first_stamped}
+use Rattle.pp_model.specs.declared.refusals.RenewError.{RenewError}
+use Rattle.pp_model.specs.Pool.{Running, Flush as FlushInFlight, State, known_mark}
+use Rattle.pp_model.specs.Turns.{is_idle}
+use Rattle.pp_model.specs.Renewing.{mark_limit, is_at_rest, first_high_page, renew_error_where, renew_error, renewed}
+use Rattle.pp_model.proofs.Journeys.{renewed_reached}
+use Rattle.pp_model.proofs.MarkChanges.{count_told}
+use Rattle.pp_model.proofs.Rest.{Rests, can_renew, bound_renews}
+use Rattle.pp_core.specs.declared.seat.Seat.{Seat}
+use Rattle.pp_core.specs.declared.table.Flush.{Flush}
+use Rattle.pp_core.specs.Parts.{Parts}
+use Rattle.pp_core.specs.StandsFor.{in_flight_as, FitsSeat, FitsCrew, StandsFor}
+use Rattle.pp_core.specs.Renewals.{is_resting, renew_fault, renewed_parts, Renews}
+use Rattle.pp_core.proofs.Gathered.{bundles_kept}
+use Rattle.pp_core.proofs.OpeningTies.{equal_places}
+use Rattle.pp_core.proofs.QueryTies.{mark_told}
+
+-- ---- why a core isn't renewed
+
+seat_idle : (ps : List Acceptance) (x : Option Seat) (y : Option Running) → FitsSeat ps x y → is_none x ≡ is_idle y
+seat_idle ps None None h = refl
+seat_idle ps None (Some r) h = absurd h
+seat_idle ps (Some x) None h = absurd h
+seat_idle ps (Some x) (Some r) h = refl
+
+seats_idle : (ps : List Acceptance) (xs : List (Option Seat)) (ys : List (Option Running)) → FitsCrew ps xs ys
+    → list_all is_none xs ≡ list_all is_idle ys
+seats_idle ps [] [] h = refl
+seats_idle ps [] (y ∷ ys) h = let size = h.size in absurd (omega (arith, size))
+seats_idle ps (x ∷ xs) [] h = let size = h.size in absurd (omega (arith, size))
+seats_idle ps (x ∷ xs) (y ∷ ys) h =
+    let rest : FitsCrew ps xs ys = record { size = omega (arith, h.size); each = λ w. h.each (suc w) } in
+    λ i. seat_idle ps x y (h.each 0 x y refl refl) i && seats_idle ps xs ys rest i
+
+flush_idle : (f : Option Flush) → is_none (option_map in_flight_as f) ≡ is_none f
+flush_idle None = refl
+flush_idle (Some x) = refl
+
+rests_alike : (f : Parts) (s : State) → StandsFor f s → is_at_rest s ≡ is_resting f
+rests_alike f s st = λ i.
+    nat_le (length (sym st.plans i)) (sym st.taken i) && sym (seats_idle s.plans f.seats s.seats st.seats) i
+    && (ap is_none (sym st.flush) ∙ flush_idle f.flush) i
+
+high_alike : (f : Parts) (s : State) → StandsFor f s → first_high_page s ≡ first_stamped f.marks mark_limit
+high_alike f s st =
+    (λ i. least_below (λ q. has_reached mark_limit (sym (mark_told f s st q) i)) (length s.notes))
+    ∙ ap (least_below (λ q. has_reached mark_limit (stamp_of f.marks q)))
+    (sym (count_told s) ∙ ap page_count (sym st.marks))
+
+pub fault_is : (f : Parts) (s : State) → StandsFor f s → renew_error s ≡ renew_fault f
+fault_is f s st = λ i. renew_error_where (rests_alike f s st i) (high_alike f s st i)
+
+-- ---- a core that is renewed
+
+empty_seat : (ps : List Acceptance) (x : Option Seat) → FitsSeat ps x None → FitsSeat [] x None
+empty_seat ps None h = tt
+empty_seat ps (Some x) h = absurd h
+
+empty_crew : (s : State) (xs : List (Option Seat)) → Rests s → FitsCrew s.plans xs s.seats → FitsCrew [] xs s.seats
+empty_crew s xs r h = record {
+  size = h.size;
+  each = λ w x y l e.
+      let idle : None ≡ y = equal_places (length s.seats) w None y (sym (ap (λ ys. slice_get ys w) r.seats) ∙ e) in
+      subst (FitsSeat [] x) idle (empty_seat s.plans x (subst (FitsSeat s.plans x) (sym idle) (h.each w x y l e)));
+}
+
+renewed_stands : (f : Parts) (s : State) → StandsFor f s → renew_error s ≡ None → StandsFor (renewed_parts f) (renewed s)
+renewed_stands f s st e = record {
+  reached = renewed_reached s st.reached e;
+  layout = st.layout;
+  flushes = st.flushes;
+  flushes_left = st.flushes;
+  plans = refl;
+  taken = refl;
+  seats = empty_crew s f.seats (can_renew s e).rests st.seats;
+  lists = st.lists;
+  marks = st.marks;
+  bundles = bundles_kept f.bundles s (renewed s) st.bundles refl refl;
+  pages = st.pages;
+  in_flight = st.in_flight;
+  flush = st.flush;
+  running = st.running;
+  need = omega (arith, st.flushes);
+  budget = omega (arith, st.flushes, bound_renews s e);
+}
+
+pub renews : (f g : Parts) → renew_fault f ≡ None → g ≡ renewed_parts f → Renews f g
+renews f g e is = record {
+  allowed = λ s st. fault_is f s st ∙ e;
+  stands = λ s st. subst (λ (h : Parts). StandsFor h (renewed s)) (sym is) (renewed_stands f s st (fault_is f s st ∙ e));
+  parts = is;
+}

@@ -1,0 +1,35 @@
+-- Renewing a core: why it isn't renewed, by what it keeps, and what is so after it was.
+use Rattle.std.specs.Prelude.{◌≡◌, ◌*◌, ◌&&◌, Bool, nat_le, Option, None, is_none, List, [], length}
+use Rattle.std.specs.List.{list_all}
+use Rattle.pp_frames.specs.Marks.{first_stamped}
+use Rattle.pp_model.specs.declared.refusals.RenewError.{RenewError}
+use Rattle.pp_model.specs.Pool.{State}
+use Rattle.pp_model.specs.Renewing.{mark_limit, renew_error_where, renew_error, renewed}
+use Rattle.pp_core.specs.Parts.{Parts}
+use Rattle.pp_core.specs.StandsFor.{StandsFor}
+
+-- No plan waits, each seat is empty, and no flush is in flight.
+abbrev pub is_resting : Parts → Bool
+is_resting f = nat_le (length f.plans) f.taken && list_all is_none f.seats && is_none f.flush
+
+-- Why it isn't renewed, by what it keeps; None where it is.
+abbrev pub renew_fault : Parts → Option RenewError
+renew_fault f = renew_error_where (is_resting f) (first_stamped f.marks mark_limit)
+
+-- What it keeps then: no plan, none taken, and all flushes; the rest as before.
+abbrev pub renewed_parts : Parts → Parts
+renewed_parts f =
+    record f {
+      flushes_left = f.flushes;
+      plans = [];
+      taken = 0;
+      need = 2 * f.flushes;
+      budget = 2 * f.flushes;
+    }
+
+-- From every state that the old parts stand for, the pool is renewed, and the new parts stand for the state in which the
+-- next life begins.
+pub record Renews (old new : Parts) : Type 0 where
+  pub allowed : (s : State) → StandsFor old s → renew_error s ≡ None
+  pub stands : (s : State) → StandsFor old s → StandsFor new (renewed s)
+  pub parts : new ≡ renewed_parts old
