@@ -1,5 +1,5 @@
 //! Plays a trace to a vault over pages in memory, on one thread: each operation fixes a page, latches it S, looks at
-//! eight bytes of it, unlatches it and unfixes it.
+//! eight bytes of it, unlatches it and unfixes it. Or it plays the trace in two lives of one vault.
 
 ghost use Rattle.std.specs.Prelude.{◌≡◌, true};
 ghost use Rattle.pp_vault.specs.Stages.{is_idle_hand};
@@ -10,7 +10,8 @@ use crate::words;
 use pp_bench_traces::{Kind, PAGES, Trace};
 use pp_device::{Device, SoloDevice, image};
 use pp_vault::{
-    Accepted, Answered, Chair, Errand, Fixed, Guard, Hand, PinGuard, Session, Stage, Stopped, Vault,
+    Accepted, Answered, Chair, Errand, Fixed, Guard, Hand, Hands, PinGuard, Session, Stage,
+    Stopped, Vault,
 };
 use std::alloc::Global;
 
@@ -36,6 +37,23 @@ pub fn play(rt: &HostRuntime, words: &[String]) -> Result<(), Trouble> {
     watch::tell(rt, nanos, ops, "an operation")
 }
 
+/// Plays the trace in one life, and then again in the next. Prints how many pages had to be read in each, and on standard
+/// error how many nanoseconds the renewal between them took.
+pub fn play_lives(rt: &HostRuntime, words: &[String]) -> Result<(), Trouble> {
+    let (kind, ops) = words::kind_and_ops(words)?;
+    let Lives { cold, warm, nanos } = run_lives(rt, kind, ops)?;
+    println!(rt; "{cold} {warm}")?;
+    watch::tell(rt, nanos, 1, "the renewal")
+}
+
+/// Two lives of a vault: how many pages each of them read, and how many nanoseconds the renewal between them took.
+#[derive(Drop)]
+struct Lives {
+    cold: u64,
+    warm: u64,
+    nanos: Option<u128>,
+}
+
 /// How many pages are read in so many operations of a trace of this kind, and how many nanoseconds the operations took.
 fn run(rt: &HostRuntime, kind: Kind, ops: u64) -> Result<(u64, Option<u128>), Trouble> {
     let alloc = rt.alloc();
@@ -50,20 +68,24 @@ fn run(rt: &HostRuntime, kind: Kind, ops: u64) -> Result<(u64, Option<u128>), Tr
         None => Err(Stopped::with_nothing()),
     };
     let nanos = watch.nanos(rt);
-    let Pool {
-        vault,
-        device: _device,
-    } = pool;
-    match played {
-        Ok((chair, misses)) => {
-            vault.scrap_with(hands, Stopped::at(Stage::Idle(chair)));
-            Ok((misses, nanos))
-        }
-        Err(stopped) => {
-            vault.scrap_with(hands, stopped);
-            Err(Trouble::Refused)
-        }
-    }
+    let misses = pool.end(hands, played)?;
+    Ok((misses, nanos))
+}
+
+/// What two lives read that play a trace of this kind, with so many operations each.
+fn run_lives(rt: &HostRuntime, kind: Kind, ops: u64) -> Result<Lives, Trouble> {
+    let alloc = rt.alloc();
+    let settings = pp_bench_traces::settings(alloc, 1)?;
+    let first = pp_bench_traces::accepted(alloc, &settings, ops)?;
+    let second = pp_bench_traces::accepted(alloc, &settings, ops)?;
+    let device = numbered(alloc)?;
+    let (vault, mut hands) = Vault::new(alloc, &settings).map_err(|_| Trouble::Memory)?;
+    let mut pool = Pool { vault, device };
+    let played = match hands.part(0) {
+        Some(hand) => pool.play_twice(rt, chair_of(hand), (first, second), kind, ops),
+        None => Err(Stopped::with_nothing()),
+    };
+    pool.end(hands, played)
 }
 
 /// The chair of an idle worker's hand.
@@ -97,6 +119,44 @@ fn is_at_front(body: &[u8], number: u64) -> bool {
 }
 
 impl Pool {
+    /// Gives the vault up with what the worker has, and tells what was played.
+    fn end<T: Drop>(self, hands: Hands, played: Result<(Chair, T), Stopped>) -> Result<T, Trouble> {
+        let Pool {
+            vault,
+            device: _device,
+        } = self;
+        match played {
+            Ok((chair, told)) => {
+                vault.scrap_with(hands, Stopped::at(Stage::Idle(chair)));
+                Ok(told)
+            }
+            Err(stopped) => {
+                vault.scrap_with(hands, stopped);
+                Err(Trouble::Refused)
+            }
+        }
+    }
+
+    /// Has a worker do the first plan on the trace, renews the vault, and has it do the second plan on the same trace.
+    fn play_twice(
+        &mut self,
+        rt: &HostRuntime,
+        chair: Chair,
+        (first, second): (Accepted, Accepted),
+        kind: Kind,
+        ops: u64,
+    ) -> Result<(Chair, Lives), Stopped> {
+        let (chair, cold) = self.play(chair, first, Trace::new(kind, 4096), ops)?;
+        let watch = Watch::start(rt);
+        let renewed = self.vault.renew();
+        let nanos = watch.nanos(rt);
+        if renewed.is_err() {
+            return Err(Stopped::at(Stage::Idle(chair)));
+        }
+        let (chair, warm) = self.play(chair, second, Trace::new(kind, 4096), ops)?;
+        Ok((chair, Lives { cold, warm, nanos }))
+    }
+
     /// Has a worker do the plan on the trace, and tells how many pages were read. Where a call is refused, what the
     /// worker has then comes back.
     fn play(
