@@ -1,7 +1,7 @@
 //! A vault with its journal.
 
-ghost use Rattle.std.specs.Prelude.{◌≡◌, ◌≤◌, ◌<◌, ◌↔◌, ◌++◌, true, false, [], None, Some, IsSome, IfOk, IfErr, OnErr};
-ghost use Rattle.std.specs.Prelude.{IfSome, length, option_map, vec_len, vec_capacity};
+ghost use Rattle.std.specs.Prelude.{◌≡◌, ◌≤◌, ◌<◌, ◌↔◌, ◌++◌, true, false, [], None, Some, IsSome, is_ok, IfOk, IfErr, OnOk};
+ghost use Rattle.std.specs.Prelude.{OnErr, IfSome, length, option_map, vec_len, vec_capacity};
 ghost use Rattle.std.specs.Option.{is_some};
 ghost use Rattle.pp_model.specs.declared.event.Event.TheVariants.{Step};
 ghost use Rattle.pp_model.specs.Pool.{dirty_pages};
@@ -10,7 +10,7 @@ ghost use Rattle.pp_model.specs.Turns.{next_turn, IsUnderWay, IsOpen};
 ghost use Rattle.pp_core.specs.Opening.{kept_of};
 ghost use Rattle.pp_vault.specs.Hands.{HandsFit};
 ghost use Rattle.pp_vault.specs.Stages.{AllIdle};
-ghost use Rattle.pp_vault.specs.Looks.{may_see, may_look, Shows, ShowsBody};
+ghost use Rattle.pp_vault.specs.Looks.{may_see, may_look, look_error, Shows, ShowsBody};
 ghost use Rattle.pp_pool.specs.Parts.{settings_of, plans_of, state_of};
 ghost use Rattle.pp_pool.specs.Books.{greatest_cost, IsBook, HeadlineHolds};
 ghost use Rattle.pp_pool.specs.Requests.{event_for, events_in};
@@ -25,7 +25,7 @@ use crate::request::Request;
 use crate::response::Response;
 use pp_model::{Event, SubmitError, Turn};
 use pp_settings::Settings;
-use pp_vault::{Accepted, Done, Hands, PlanId, ReadGuard, Vault, VaultError};
+use pp_vault::{Accepted, Done, Hands, LookError, PlanId, ReadGuard, Vault, VaultError};
 use std::alloc::Global;
 use std::marker::Model;
 
@@ -220,12 +220,18 @@ impl Book {
         self.workers
     }
 
-    /// Copies the image of a page that is latched S into the slice, and tells whether it did. It did not, and the slice
-    /// is as it was, where the guard isn't one of this state or the slice isn't as long as a page.
-    pub fn look(&self, guard: &ReadGuard, bytes: &mut [u8]) -> bool
-        ensures result { result ≡ may_look self.now.vault.page_bytes guard.now (length bytes.old) (state_of self.now) }
-        ensures shown { result ≡ true → Shows self.now.vault guard.now.page bytes.new }
-        ensures unchanged { result ≡ false → bytes.new ≡ bytes.old }
+    /// Copies the image of a page that is latched S into the slice.
+    ///
+    /// # Errors
+    ///
+    /// As [`Vault::look`]'s: [`LookError::Stranger`] comes before [`LookError::Length`]. Then the slice is as it was.
+    pub fn look(&self, guard: &ReadGuard, bytes: &mut [u8]) -> Result<(), LookError>
+        ensures ok { is_ok result
+            ≡ may_look self.now.vault.page_bytes guard.now (length bytes.old) (state_of self.now) }
+        ensures error { IfErr result (λ e.
+            look_error self.now.vault.page_bytes guard.now (length bytes.old) (state_of self.now) ≡ Some e) }
+        ensures shown { OnOk result (Shows self.now.vault guard.now.page bytes.new) }
+        ensures unchanged { OnErr result (bytes.new ≡ bytes.old) }
     {
         self.vault.look(guard, bytes)
     }

@@ -225,14 +225,16 @@ fn see_image(
 }
 
 /// Copies the image of the slot's page into the slice, where it is latched, and tells the page and the mark that the guard
-/// names. Of a writer's image the head is the one that is named.
+/// names. None where nothing is shown. Of a writer's image the head is the one that is named.
 fn show(vault: &Vault, guards: &mut Guards, slot: u32, shown: &mut [u8]) -> Option<(u32, u64)> {
     let guard = guards.take(slot)?;
     let named = match &guard {
         Guard::Pin(_) | Guard::Bundle(_) => None,
         Guard::Read(guard) => {
-            let _ = vault.look(guard, shown);
-            Some((guard.page(), guard.mark()))
+            match vault.look(guard, shown) {
+                Ok(()) => Some((guard.page(), guard.mark())),
+                Err(_) => None,
+            }
         }
         Guard::Write(guard) => {
             fill(shown, guard.page(), guard.mark(), guard.body());

@@ -1,6 +1,6 @@
 -- A page that a slot has latched S has its image in its frame, which names the page and its mark.
 use Rattle.std.proofs.Common.{◌≡◌, ◌∙◌, ℕ, true, Option, Some, None, List, refl, sym, ap, subst}
-use Rattle.std.specs.Prelude.{option_map, ◌==◌}
+use Rattle.std.specs.Prelude.{option_map}
 use Rattle.std.specs.Option.{is_some}
 use Rattle.std.proofs.lemmas.Bool.{false≢true}
 use Rattle.pp_cert.specs.declared.note.Held.TheVariants.{S}
@@ -17,8 +17,8 @@ use Rattle.pp_vault.specs.declared.guards.ReadGuard.{ReadGuard}
 use Rattle.pp_vault.specs.Parts.{Parts}
 use Rattle.pp_vault.specs.StandsFor.{StandsFor, IsKept, IsRight, image_in}
 use Rattle.pp_vault.specs.Flushes.{IsImageOf}
-use Rattle.pp_vault.specs.Looks.{may_see, may_look, CanSee, Shows, ShowsBody}
-use Rattle.pp_vault.proofs.FitTests.{both_hold, nat_is, slot_held, own_told}
+use Rattle.pp_vault.specs.Looks.{may_see, CanSee, Shows, ShowsBody}
+use Rattle.pp_vault.proofs.FitTests.{slot_held, own_told}
 use Rattle.pp_vault.proofs.Flushed.{same_frame, same_image}
 
 -- ---- the page is ready
@@ -93,16 +93,3 @@ module _ (v : Parts) (guard : ReadGuard) (fits : (s : State) → StandsFor v s �
 
     pub shows_body : (body : List ℕ) → body ≡ body_of bytes → ShowsBody v guard.page body
     shows_body body is = record { image = bytes; shown = shows; body_is = is }
-
--- ---- a look, which also says how long the slice is
-
-module _ (v : Parts) (guard : ReadGuard) (n : ℕ)
-    (fits : (s : State) → StandsFor v s → may_look v.page_bytes guard n s ≡ true) where
-  both : (s : State) → StandsFor v s → (may_see guard s ≡ true) × ((n == v.page_bytes) ≡ true)
-  both s st = both_hold (may_see guard s) (n == v.page_bytes) (fits s st)
-
-  pub seen : (s : State) → StandsFor v s → may_see guard s ≡ true
-  seen s st = (both s st).0
-
-  pub long : IsKept v → n ≡ v.page_bytes
-  long kept = nat_is n v.page_bytes (both kept.state kept.stands).1

@@ -9,6 +9,7 @@ pub use answering::Answered;
 pub use fixing::Fixed;
 pub use guards::{BundleGuard, Guard, PinGuard, ReadGuard, WriteGuard};
 pub use hands::{Flushing, Hands, Workers};
+pub use looking::LookError;
 pub use places::Guards;
 pub use pp_core::{
     Accepted, Ask, Came, Cause, CoreError as VaultError, Delay, Ending, Failure, Held, Move,

@@ -1,17 +1,40 @@
 //! Looking at a page that is latched S.
 
-ghost use Rattle.std.specs.Prelude.{◌≡◌, true, false, length, IfSome};
+ghost use Rattle.std.specs.Prelude.{◌≡◌, Some, length, is_ok, IfErr, IfSome, OnOk, OnErr};
 ghost use Rattle.std.specs.Option.{is_some};
 ghost use Rattle.pp_model.specs.Pool.{State};
 ghost use Rattle.pp_vault.specs.Parts.{parts_of};
 ghost use Rattle.pp_vault.specs.StandsFor.{StandsFor, IsKept};
 ghost use Rattle.pp_vault.specs.Flushes.{IsImageOf};
-ghost use Rattle.pp_vault.specs.Looks.{may_see, may_look, CanSee, Shows, ShowsBody};
+ghost use Rattle.pp_vault.specs.Looks.{may_see, may_look, look_error, CanSee, Shows, ShowsBody};
 
 use crate::guards::ReadGuard;
 use crate::image::Image;
 use crate::store::Store;
 use pp_core::Held;
+use std::fmt;
+
+/// Why a page's image isn't copied. The slice is as it was.
+#[derive(Clone, Copy, Debug, PartialEq, Eq)]
+pub enum LookError {
+    /// The guard isn't one of this state: its worker's slot doesn't hold its page latched S.
+    Stranger,
+    /// The guard is one of this state, but the slice isn't as long as a page.
+    Length,
+}
+
+impl fmt::Display for LookError {
+    ghost use Rattle.pp_vault.specs.Words.{look_error_words};
+
+    ghost output = { λ error. Some (look_error_words error) };
+
+    fn fmt<W: fmt::Write>(&self, f: &mut fmt::Formatter<W>) -> fmt::Result {
+        match self {
+            LookError::Stranger => f.write_str("the guard is not one of this state"),
+            LookError::Length => f.write_str("the slice is not as long as a page"),
+        }
+    }
+}
 
 impl Store {
     /// Whether the guard fits: its worker's slot has its page latched S.
@@ -19,14 +42,6 @@ impl Store {
         ensures { (s : State) → StandsFor (parts_of self.now) s → result ≡ may_see guard.now s }
     {
         self.holds_so(guard.worker, guard.slot, guard.page, Held::S)
-    }
-
-    /// Whether the guard fits, and so many bytes are those of a page.
-    fn may_look(&self, guard: &ReadGuard, bytes: usize) -> bool
-        ensures { (s : State) → StandsFor (parts_of self.now) s
-            → result ≡ may_look (parts_of self.now).page_bytes guard.now bytes s }
-    {
-        self.may_see(guard) && bytes == self.page_bytes
     }
 
     /// The image of a page that has one in its frame.
@@ -65,17 +80,22 @@ impl Store {
     }
 
     /// Copies the image of the guard's page into the slice, where the guard fits and the slice is as long as a page.
-    pub(crate) fn look(&self, guard: &ReadGuard, bytes: &mut [u8]) -> bool
+    pub(crate) fn look(&self, guard: &ReadGuard, bytes: &mut [u8]) -> Result<(), LookError>
         requires { IsKept (parts_of self.now) }
-        ensures result { (s : State) → StandsFor (parts_of self.now) s
-            → result ≡ may_look (parts_of self.now).page_bytes guard.now (length bytes.old) s }
-        ensures shown { result ≡ true → Shows (parts_of self.now) guard.now.page bytes.new }
-        ensures unchanged { result ≡ false → bytes.new ≡ bytes.old }
+        ensures ok { (s : State) → StandsFor (parts_of self.now) s
+            → is_ok result ≡ may_look (parts_of self.now).page_bytes guard.now (length bytes.old) s }
+        ensures error { IfErr result (λ e. (s : State) → StandsFor (parts_of self.now) s
+            → look_error (parts_of self.now).page_bytes guard.now (length bytes.old) s ≡ Some e) }
+        ensures shown { OnOk result (Shows (parts_of self.now) guard.now.page bytes.new) }
+        ensures unchanged { OnErr result (bytes.new ≡ bytes.old) }
     {
-        if !self.may_look(guard, bytes.len()) {
-            return false;
+        if !self.may_see(guard) {
+            return Err(LookError::Stranger);
+        }
+        if bytes.len() != self.page_bytes {
+            return Err(LookError::Length);
         }
         self.show(guard.page, bytes);
-        true
+        Ok(())
     }
 }

@@ -1,6 +1,6 @@
 //! The vault: its core's moves, with the images of the pages.
 
-ghost use Rattle.std.specs.Prelude.{◌≡◌, ◌↔◌, true, false, Some, None, IsSome, IfOk, IfErr, IfSome, OnOk, OnErr, length};
+ghost use Rattle.std.specs.Prelude.{◌≡◌, ◌↔◌, true, Some, None, is_ok, IsSome, IfOk, IfErr, IfSome, OnOk, OnErr, length};
 ghost use Rattle.std.specs.Option.{is_some};
 ghost use Rattle.pp_model.specs.Pool.{State, opening, dirty_pages};
 ghost use Rattle.pp_model.specs.Moves.{reply_of};
@@ -26,7 +26,7 @@ ghost use Rattle.pp_vault.specs.ImageMoves.{ImagesStay};
 ghost use Rattle.pp_vault.specs.Tokens.{is_long, SessionFits, HoldsNothing, ErrandFits};
 ghost use Rattle.pp_vault.specs.Flushes.{flush_call, next_call, CopiesOut, CopiesNext};
 ghost use Rattle.pp_vault.specs.Fixes.{FixAnswers};
-ghost use Rattle.pp_vault.specs.Looks.{may_see, may_look, Shows, ShowsBody};
+ghost use Rattle.pp_vault.specs.Looks.{may_see, may_look, look_error, Shows, ShowsBody};
 ghost use Rattle.pp_vault.specs.Answers.{answer_call, AnswerComesTo};
 ghost use Rattle.pp_cert.specs.declared.note.Held.TheVariants.{S};
 ghost use Rattle.pp_plan.specs.declared.mode.Mode.TheVariants as mode;
@@ -36,6 +36,7 @@ use crate::answering::Answered;
 use crate::fixing::Fixed;
 use crate::guards::{BundleGuard, Guard, PinGuard, ReadGuard, WriteGuard};
 use crate::hands::Hands;
+use crate::looking::LookError;
 use crate::refusal::{Refusal, refusal_by};
 use crate::stopped::Stopped;
 use crate::store::Store;
@@ -482,13 +483,19 @@ impl Vault {
         self.store.latch_exclusive(session, guard)
     }
 
-    /// Copies the image of a page that is latched S into the slice, and tells whether it did. It did not, and the slice
-    /// is as it was, where the guard isn't one of this state or the slice isn't as long as a page.
-    pub fn look(&self, guard: &ReadGuard, bytes: &mut [u8]) -> bool
-        ensures result { (s : State) → StandsFor self.now s
-            → result ≡ may_look self.now.page_bytes guard.now (length bytes.old) s }
-        ensures shown { result ≡ true → Shows self.now guard.now.page bytes.new }
-        ensures unchanged { result ≡ false → bytes.new ≡ bytes.old }
+    /// Copies the image of a page that is latched S into the slice.
+    ///
+    /// # Errors
+    ///
+    /// [`LookError::Stranger`] where the guard isn't one of this state; else [`LookError::Length`] where the slice isn't as
+    /// long as a page. Then the slice is as it was.
+    pub fn look(&self, guard: &ReadGuard, bytes: &mut [u8]) -> Result<(), LookError>
+        ensures ok { (s : State) → StandsFor self.now s
+            → is_ok result ≡ may_look self.now.page_bytes guard.now (length bytes.old) s }
+        ensures error { IfErr result (λ e. (s : State) → StandsFor self.now s
+            → look_error self.now.page_bytes guard.now (length bytes.old) s ≡ Some e) }
+        ensures shown { OnOk result (Shows self.now guard.now.page bytes.new) }
+        ensures unchanged { OnErr result (bytes.new ≡ bytes.old) }
     {
         self.store.look(guard, bytes)
     }
