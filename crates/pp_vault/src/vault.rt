@@ -42,7 +42,8 @@ use crate::stopped::Stopped;
 use crate::store::Store;
 use crate::tokens::{Chair, Errand, Leaver, Returned, Session};
 use pp_core::{
-    Accepted, Ask, CoreError as VaultError, Move, PlanId, RenewError, Reply, SubmitError, Turn,
+    Accepted, Ask, Core, CoreError as VaultError, Move, PlanId, RenewError, Reply, SubmitError,
+    Turn,
 };
 use pp_settings::Settings;
 use std::alloc::Global;
@@ -298,6 +299,13 @@ impl Vault {
         ensures { result ≡ self.now.page_bytes }
     {
         self.store.page_bytes
+    }
+
+    /// The vault's core: ARC's directory, and the frame and the mark of each page, by its calls.
+    pub fn core(&self) -> &Core
+        ensures { result.now ≡ self.now.core }
+    {
+        &self.store.core
     }
 
     /// The refusal that the core would give to the move; none where the move is possible. Nothing changes.
