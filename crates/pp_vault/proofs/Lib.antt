@@ -36,4 +36,5 @@ mod StillFits
 mod OpeningHands
 mod Bodies
 mod SubmitFits
+mod AllStill
 mod RenewFits
