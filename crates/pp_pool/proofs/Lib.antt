@@ -10,3 +10,5 @@ pub mod Placing
 pub mod Turning
 pub mod Keeping
 pub mod Flushed
+pub mod AtOnce
+pub mod ShortTurns

@@ -7,7 +7,9 @@ pub mod Submits
 pub mod BookErrors
 pub mod Replies
 pub mod Performs
+pub mod AtOnce
 pub mod Fronts
 pub mod Flushings
 pub mod FlushTurns
 pub mod Turns
+pub mod ShortTurns

@@ -302,6 +302,10 @@ abbrev pub is_shown : ReadGuard → (shown : Bool) → (bytes : List ℕ) → Bo
 is_shown guard shown bytes =
     shown && (((head_of bytes).0 == guard.page) && ((head_of bytes).1 == guard.mark))
 
+-- How far the work reaches, where that is known: one of the numbers that it can answer, or all bytes.
+abbrev pub IsReach : {W : Type 0} → Work.Ghosts W → (known : Option ℕ) → W → Type 0
+IsReach k known work = IfSome known (λ reach. k.reach_gives work reach ⊎ (reach ≡ all_bytes))
+
 -- After a latch S the site is asked to show the guard's page: as many bytes as the work reaches for, 64 at least, but no more
 -- than there is room for. If it was shown, the work sees exactly the bytes that the site showed; else it sees nothing, and
 -- the turn is broken.
@@ -341,6 +345,10 @@ Uses s k site room old out turned after new = (turned ≡ Done) × (after ≡ ou
 -- How many bytes of a page the worker has room for.
 abbrev pub room_of : {S D : Type 0} → Worker S D → ℕ
 room_of w = length w.seen.items
+
+-- How far the worker knows its work to reach, if it does.
+abbrev pub reach_of : {S D : Type 0} → Worker S D → Option ℕ
+reach_of w = w.reach
 
 -- What is added to a log: the event, unless the log had no room for it.
 abbrev pub logged_events : (is_logged : Bool) → Option Event → List Event

@@ -1,7 +1,7 @@
 //! A vault with its journal.
 
-ghost use Rattle.std.specs.Prelude.{◌≡◌, ◌≤◌, ◌<◌, ◌↔◌, ◌++◌, true, false, [], None, Some, IsSome, is_ok, IfOk, IfErr, OnOk};
-ghost use Rattle.std.specs.Prelude.{OnErr, IfSome, length, option_map, vec_len, vec_capacity};
+ghost use Rattle.std.specs.Prelude.{◌≡◌, ◌≤◌, ◌<◌, ◌↔◌, ◌++◌, ◌∷◌, true, false, [], None, Some, IsSome, is_ok, IfOk, IfErr};
+ghost use Rattle.std.specs.Prelude.{OnOk, OnErr, IfSome, length, option_map, vec_len, vec_capacity};
 ghost use Rattle.std.specs.Option.{is_some};
 ghost use Rattle.pp_model.specs.declared.event.Event.TheVariants.{Step};
 ghost use Rattle.pp_model.specs.Pool.{dirty_pages};
@@ -16,6 +16,9 @@ ghost use Rattle.pp_pool.specs.Books.{greatest_cost, IsBook, HeadlineHolds};
 ghost use Rattle.pp_pool.specs.Requests.{event_for, events_in};
 ghost use Rattle.pp_pool.specs.Performing.{ComesTo};
 ghost use Rattle.pp_pool.specs.Replies.{Replies};
+ghost use Rattle.pp_pool.specs.Performs.{Performs};
+ghost use Rattle.pp_pool.specs.AtOnce.{latched_shared, unlatched_shared, unfixed};
+ghost use Rattle.pp_pool.specs.declared.request.Request.TheVariants as request;
 ghost use Rattle.pp_pool.specs.Submits.{TakesIn, IsCause, HadRoom, HasRoom, LacksRoom};
 ghost use Rattle.pp_model.specs.Submitting.{submit_error};
 
@@ -23,9 +26,11 @@ use crate::asking::ask;
 use crate::error::BookError;
 use crate::request::Request;
 use crate::response::Response;
-use pp_model::{Event, SubmitError, Turn};
+use pp_model::{Event, Reply, SubmitError, Turn};
 use pp_settings::Settings;
-use pp_vault::{Accepted, Done, Hands, LookError, PlanId, ReadGuard, Vault, VaultError};
+use pp_vault::{
+    Accepted, Done, Hands, LookError, PinGuard, PlanId, ReadGuard, Session, Vault, VaultError,
+};
 use std::alloc::Global;
 use std::marker::Model;
 
@@ -185,6 +190,88 @@ impl Book {
         Response { event, answer }
     }
 
+    /// Performs [`Request::LatchShared`], where it is possible, and answers the tokens with the event's reply. No request and
+    /// no response are built for it.
+    ///
+    /// # Errors
+    ///
+    /// The tokens, exactly where the request would be refused. Nothing has changed.
+    pub fn latch_shared(
+        &mut self,
+        session: Session,
+        guard: PinGuard,
+    ) -> Result<(Session, ReadGuard, Reply), (Session, PinGuard)>
+        ensures ok { IfOk result (λ now. Performs self.old (request.LatchShared session guard) (latched_shared session now) self.new) }
+        ensures fits { IfOk result (λ now. Replies (request.LatchShared session guard) (latched_shared session now)) }
+        ensures err { OnErr result (event_for self.old (request.LatchShared session guard) ≡ None) }
+        ensures back { IfErr result (λ e. e ≡ (session, guard)) }
+        ensures unchanged { OnErr result (self.new ≡ self.old) }
+        ensures kept { IsBook self.new }
+        ensures headline { HeadlineHolds self.new }
+    {
+        match self.vault.latch_shared(session, guard) {
+            Ok((session, guard, done)) => {
+                let reply = added(done, &mut self.journal);
+                Ok((session, guard, reply))
+            }
+            Err((session, guard, _refusal)) => Err((session, guard)),
+        }
+    }
+
+    /// Performs [`Request::UnlatchShared`] so.
+    ///
+    /// # Errors
+    ///
+    /// The tokens, exactly where the request would be refused. Nothing has changed.
+    pub fn unlatch_shared(
+        &mut self,
+        session: Session,
+        guard: ReadGuard,
+    ) -> Result<(Session, PinGuard, Reply), (Session, ReadGuard)>
+        ensures ok { IfOk result (λ now. Performs self.old (request.UnlatchShared session guard) (unlatched_shared session now) self.new) }
+        ensures fits { IfOk result (λ now. Replies (request.UnlatchShared session guard) (unlatched_shared session now)) }
+        ensures err { OnErr result (event_for self.old (request.UnlatchShared session guard) ≡ None) }
+        ensures back { IfErr result (λ e. e ≡ (session, guard)) }
+        ensures unchanged { OnErr result (self.new ≡ self.old) }
+        ensures kept { IsBook self.new }
+        ensures headline { HeadlineHolds self.new }
+    {
+        match self.vault.unlatch_shared(session, guard) {
+            Ok((session, guard, done)) => {
+                let reply = added(done, &mut self.journal);
+                Ok((session, guard, reply))
+            }
+            Err((session, guard, _refusal)) => Err((session, guard)),
+        }
+    }
+
+    /// Performs [`Request::Unfix`] so.
+    ///
+    /// # Errors
+    ///
+    /// The tokens, exactly where the request would be refused. Nothing has changed.
+    pub fn unfix(
+        &mut self,
+        session: Session,
+        guard: PinGuard,
+    ) -> Result<(Session, Reply), (Session, PinGuard)>
+        ensures ok { IfOk result (λ now. Performs self.old (request.Unfix session guard) (unfixed session now) self.new) }
+        ensures fits { IfOk result (λ now. Replies (request.Unfix session guard) (unfixed session now)) }
+        ensures err { OnErr result (event_for self.old (request.Unfix session guard) ≡ None) }
+        ensures back { IfErr result (λ e. e ≡ (session, guard)) }
+        ensures unchanged { OnErr result (self.new ≡ self.old) }
+        ensures kept { IsBook self.new }
+        ensures headline { HeadlineHolds self.new }
+    {
+        match self.vault.unfix(session, guard) {
+            Ok((session, done)) => {
+                let reply = added(done, &mut self.journal);
+                Ok((session, reply))
+            }
+            Err((session, guard, _refusal)) => Err((session, guard)),
+        }
+    }
+
     /// Who moves next; see [`Vault::next_possible`].
     ///
     /// None if and only if no plan waits, every worker is idle, and no flush is in flight.
@@ -271,4 +358,16 @@ fn noted(done: Option<Done>, journal: &mut Vec<Event>) -> Option<Event>
     let event = Event::Step { did, reply };
     journal.push_reserved(event);
     Some(event)
+}
+
+/// Adds what the vault did to the journal, and tells its reply.
+fn added(done: Done, journal: &mut Vec<Event>) -> Reply
+    requires { length journal.old.items < vec_capacity journal.old }
+    ensures reply { result ≡ done.1 }
+    ensures journal { journal.new.items ≡ journal.old.items ++ Step done.0 done.1 ∷ [] }
+    ensures memory { vec_capacity journal.new ≡ vec_capacity journal.old }
+{
+    let (did, reply) = done;
+    journal.push_reserved(Event::Step { did, reply });
+    reply
 }

@@ -14,6 +14,7 @@ pub use worker::Worker;
 
 mod asked;
 mod asking;
+mod at_once;
 mod book;
 mod error;
 mod flusher;

@@ -1,18 +1,21 @@
 //! Where workers and the flusher ask.
 
-ghost use Rattle.std.specs.Prelude.{◌≡◌, ◌≤◌, ◌-◌, ◌&&◌, nat_le, ℕ, Bool, List, true, false, length, take};
+ghost use Rattle.std.specs.Prelude.{◌≡◌, ◌≤◌, ◌-◌, ◌&&◌, nat_le, ℕ, Bool, List, true, false, length, take, IfOk, IfErr, OnErr};
 ghost use Rattle.pp_device.specs.Image.{head_of, body_of};
 ghost use Rattle.pp_vault.specs.declared.guards.ReadGuard.{ReadGuard};
 ghost use Rattle.pp_pool.specs.declared.request.Request.{Request};
 ghost use Rattle.pp_pool.specs.declared.response.Response.{Response};
 ghost use Rattle.pp_pool.specs.Replies.{Replies};
+ghost use Rattle.pp_pool.specs.AtOnce.{latched_shared, unlatched_shared, unfixed};
+ghost use Rattle.pp_pool.specs.declared.request.Request.TheVariants as request;
 
 use crate::book::Book;
 use crate::request::Request;
 use crate::response::Response;
 use pp_device::image;
 use pp_device::image::HEAD;
-use pp_vault::ReadGuard;
+use pp_model::Reply;
+use pp_vault::{PinGuard, ReadGuard, Session};
 
 /// How many bytes of an image a work is shown at least.
 pub(crate) const SHORTEST: usize = 64;
@@ -52,6 +55,70 @@ pub trait Site {
     fn most(&mut self) -> u64
         ensures given { tells self.old result }
         ensures same { self.new ≡ self.old };
+
+    /// Tells that no call of this site comes next, but something that is the caller's own or takes time. A shared site that
+    /// kept its lock for the caller's next call lets it go. A site that keeps nothing does nothing.
+    fn let_go(&mut self)
+        ensures same { self.new ≡ self.old }
+    {}
+
+    /// Latches the page of a slot S, where that is possible at once, and answers the tokens with the event's reply: what
+    /// [`Site::perform`] does for [`Request::LatchShared`], without a request and a response. A site may leave this to
+    /// `perform`.
+    ///
+    /// # Errors
+    ///
+    /// The tokens, where it isn't possible at once, or is left to `perform`. Nothing has changed.
+    fn latch_shared(
+        &mut self,
+        session: Session,
+        guard: PinGuard,
+    ) -> Result<(Session, ReadGuard, Reply), (Session, PinGuard)>
+        ensures given { IfOk result (λ now. gives self.old (request.LatchShared session guard) (latched_shared session now)
+            self.new) }
+        ensures fits { IfOk result (λ now. Replies (request.LatchShared session guard) (latched_shared session now)) }
+        ensures back { IfErr result (λ e. e ≡ (session, guard)) }
+        ensures same { OnErr result (self.new ≡ self.old) }
+    {
+        Err((session, guard))
+    }
+
+    /// Takes a reader's latch off so.
+    ///
+    /// # Errors
+    ///
+    /// The tokens, as for [`Site::latch_shared`].
+    fn unlatch_shared(
+        &mut self,
+        session: Session,
+        guard: ReadGuard,
+    ) -> Result<(Session, PinGuard, Reply), (Session, ReadGuard)>
+        ensures given { IfOk result (λ now. gives self.old (request.UnlatchShared session guard)
+            (unlatched_shared session now) self.new) }
+        ensures fits { IfOk result (λ now. Replies (request.UnlatchShared session guard) (unlatched_shared session now)) }
+        ensures back { IfErr result (λ e. e ≡ (session, guard)) }
+        ensures same { OnErr result (self.new ≡ self.old) }
+    {
+        Err((session, guard))
+    }
+
+    /// Gives the page of a slot that isn't latched back so.
+    ///
+    /// # Errors
+    ///
+    /// The tokens, as for [`Site::latch_shared`].
+    fn unfix(
+        &mut self,
+        session: Session,
+        guard: PinGuard,
+    ) -> Result<(Session, Reply), (Session, PinGuard)>
+        ensures given { IfOk result (λ now. gives self.old (request.Unfix session guard) (unfixed session now) self.new) }
+        ensures fits { IfOk result (λ now. Replies (request.Unfix session guard) (unfixed session now)) }
+        ensures back { IfErr result (λ e. e ≡ (session, guard)) }
+        ensures same { OnErr result (self.new ≡ self.old) }
+    {
+        Err((session, guard))
+    }
 }
 
 /// Copies the front of the image that has this head and this body into the slice, as far as the slice goes, where that is
@@ -109,5 +176,29 @@ impl Site for OwnSite {
 
     fn most(&mut self) -> u64 {
         self.book.most()
+    }
+
+    fn latch_shared(
+        &mut self,
+        session: Session,
+        guard: PinGuard,
+    ) -> Result<(Session, ReadGuard, Reply), (Session, PinGuard)> {
+        self.book.latch_shared(session, guard)
+    }
+
+    fn unlatch_shared(
+        &mut self,
+        session: Session,
+        guard: ReadGuard,
+    ) -> Result<(Session, PinGuard, Reply), (Session, ReadGuard)> {
+        self.book.unlatch_shared(session, guard)
+    }
+
+    fn unfix(
+        &mut self,
+        session: Session,
+        guard: PinGuard,
+    ) -> Result<(Session, Reply), (Session, PinGuard)> {
+        self.book.unfix(session, guard)
     }
 }

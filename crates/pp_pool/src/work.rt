@@ -15,7 +15,8 @@ ghost use Rattle.pp_device.specs.Image.{head_of};
 /// | [`Work::change`] | once after each latch X |
 /// | [`Work::see`] | once after each latch S |
 ///
-/// [`Work::reach`] is asked besides, just before each look at a page, and may answer another number each time.
+/// [`Work::reach`] is asked besides, before each look at a page, and may answer another number each time. Where a worker's turns
+/// follow at once, it is asked with the page, or as a device has answered, and no other call of the work comes before the look.
 ///
 /// A fix or a gather may have to wait. A site of one's own refuses it then, and the worker's next turn asks `page` anew; a site
 /// that is shared waits, and asks for the same page again. So let `page` only tell the page, and go on in `see` or in

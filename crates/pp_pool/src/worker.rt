@@ -1,15 +1,18 @@
 //! A worker: it runs plans, one request a turn.
 
-ghost use Rattle.std.specs.Prelude.{◌≡◌, ◌<◌, ◌≤◌, ◌+◌, ◌==◌, if◌then◌else◌, ◌++◌, ℕ, max, true, false, [], OnOk, OnErr, IfOk, length};
+ghost use Rattle.std.specs.Prelude.{◌≡◌, ◌<◌, ◌≤◌, ◌+◌, ◌==◌, if◌then◌else◌, ◌++◌, ◌⊎◌, ℕ, max, true, false, [], None, OnOk, OnErr, IfOk, length};
 ghost use Rattle.std.specs.Prelude.{vec_len, vec_capacity};
 ghost use Rattle.pp_vault.specs.Stages.{is_chair, stage_worker};
 ghost use Rattle.pp_settings.specs.Settings.{geometry_of};
 ghost use Rattle.pp_pool.specs.declared.turned.Turned.TheVariants.{Broken};
-ghost use Rattle.pp_pool.specs.Turns.{TurnIs, TurnOf, MakesOne, MakesRoom, room_of, worker_with, Uses, LooksAt, IsLong};
+ghost use Rattle.pp_pool.specs.Turns.{TurnIs, TurnOf, MakesOne, MakesRoom, room_of, reach_of, worker_with, Uses, LooksAt};
+ghost use Rattle.pp_pool.specs.Turns.{IsLong, IsReach, all_bytes};
 ghost use Rattle.pp_pool.specs.Turns.{KeepsPlace, keeps_place, logged_events};
 ghost use Rattle.pp_pool.specs.Turns.{has_errand as errand_is_there, turned_by as turned_then};
 
 use crate::asked::next;
+use crate::at_once::at_once;
+use crate::request::Request;
 use crate::response::{BookAnswer, Response};
 use crate::site::{SHORTEST, Site};
 use crate::taken::stage_after;
@@ -18,8 +21,9 @@ use crate::work::Work;
 use core::mem;
 use pp_device::{Device, image};
 use pp_model::Event;
+use pp_plan::Ask;
 use pp_settings::{Layout, Settings};
-use pp_vault::{Delay, Guards, Hand, ReadGuard, Refusal, Stage};
+use pp_vault::{Delay, Guards, Hand, ReadGuard, Refusal, Session, Stage};
 use std::alloc::{AllocError, Global};
 
 /// A worker with its tokens, the site where it asks, the device that it calls, and a log of what it did.
@@ -38,6 +42,8 @@ pub struct Worker<S, D> {
     pub page_bytes: u32,
     // Room for one page; the front of it has what was shown last. Empty before a plan is taken.
     seen: Vec<u8>,
+    // How far the work reaches, where it was asked that before the hold of the lock in which it is shown the page.
+    reach: Option<usize>,
     alloc: Global,
 }
 
@@ -51,6 +57,7 @@ impl<S: Site, D: Device> Worker<S, D> {
         ensures layout { result.layout ≡ geometry_of settings.now }
         ensures page_bytes { result.page_bytes ≡ settings.now.page_bytes }
         ensures room { room_of result ≡ 0 }
+        ensures reach { reach_of result ≡ None }
     {
         Worker::over(
             alloc,
@@ -82,6 +89,7 @@ impl<S: Site, D: Device> Worker<S, D> {
         ensures layout { result.layout ≡ layout }
         ensures page_bytes { result.page_bytes ≡ page_bytes }
         ensures room { room_of result ≡ 0 }
+        ensures reach { reach_of result ≡ None }
     {
         Worker {
             site,
@@ -91,6 +99,7 @@ impl<S: Site, D: Device> Worker<S, D> {
             layout,
             page_bytes,
             seen: Vec::new(alloc),
+            reach: None,
             alloc,
         }
     }
@@ -115,6 +124,8 @@ impl<S: Site, D: Device> Worker<S, D> {
     /// and the log gets no room, the answer is [`Turned::Broken`], and nothing was asked.
     ///
     /// Over each turn the hand stays the same worker's.
+    ///
+    /// At its end the site is told that no call comes next ([`Site::let_go`]), so a shared one has let its lock go.
     pub fn turn<W: Work>(&mut self, work: &mut W) -> Turned
         ensures turn { TurnIs S.Site D.Device W.Work self.old work.old result self.new work.new }
         ensures errand { errand_is_there self.old.hand.stage ≡ true → KeepsPlace self.old.hand
@@ -124,6 +135,31 @@ impl<S: Site, D: Device> Worker<S, D> {
         ensures worker { stage_worker self.new.hand.stage ≡ stage_worker self.old.hand.stage }
         ensures layout { self.new.layout ≡ self.old.layout }
         ensures page_bytes { self.new.page_bytes ≡ self.old.page_bytes }
+    {
+        self.reach = None;
+        let turned = self.turn_on(work);
+        self.site.let_go();
+        turned
+    }
+
+    /// The same, where the next turn is made at once, with the same work. A shared site may keep its lock for that, but only
+    /// where the next request wants neither the work nor the device: while one of these is called it has let it go.
+    ///
+    /// How far the work reaches is asked with the page that it names, where that is, so that no work is called between the
+    /// fix and the look. A new worker knows of no reach, and after [`Worker::turn`] none is relied on.
+    ///
+    /// Who makes no turn more lets the site go: `worker.site.let_go()`.
+    pub fn turn_on<W: Work>(&mut self, work: &mut W) -> Turned
+        requires { IsReach W.Work (reach_of self.old) work.old }
+        ensures turn { TurnIs S.Site D.Device W.Work self.old work.old result self.new work.new }
+        ensures errand { errand_is_there self.old.hand.stage ≡ true → KeepsPlace self.old.hand
+            → MakesOne S.Site D.Device W.Work self.old work.old result self.new work.new }
+        ensures keeps { KeepsPlace self.old.hand → KeepsPlace self.new.hand }
+        ensures room { MakesRoom S.Site self.old result self.new }
+        ensures worker { stage_worker self.new.hand.stage ≡ stage_worker self.old.hand.stage }
+        ensures layout { self.new.layout ≡ self.old.layout }
+        ensures page_bytes { self.new.page_bytes ≡ self.old.page_bytes }
+        ensures reach { IsReach W.Work (reach_of self.new) work.new }
     {
         if self.make_room().is_err() {
             return Turned::NoMemory;
@@ -139,6 +175,7 @@ impl<S: Site, D: Device> Worker<S, D> {
             &mut self.device,
             &mut self.log,
             &mut self.seen,
+            &mut self.reach,
             work,
         )
     }
@@ -155,6 +192,7 @@ impl<S: Site, D: Device> Worker<S, D> {
             layout: _,
             page_bytes: _,
             seen: _seen,
+            reach: _,
             alloc: _,
         } = self;
         (site, device, hand, log)
@@ -171,6 +209,7 @@ impl<S: Site, D: Device> Worker<S, D> {
         ensures grown { vec_capacity self.old.log ≤ vec_capacity self.new.log }
         ensures layout { self.new.layout ≡ self.old.layout }
         ensures page_bytes { self.new.page_bytes ≡ self.old.page_bytes }
+        ensures reach { reach_of self.new ≡ reach_of self.old }
         ensures busy { is_chair self.old.hand.stage ≡ false → self.new ≡ self.old }
         ensures err { OnErr result (is_chair self.old.hand.stage ≡ true) }
         ensures room { OnOk result (is_chair self.old.hand.stage ≡ true
@@ -186,6 +225,7 @@ impl<S: Site, D: Device> Worker<S, D> {
             self.seen = vec![in self.alloc; 0; self.page_bytes as usize]?;
         }
         let most = self.site.most().max(1);
+        self.site.let_go();
         self.log.reserve(most as usize)
     }
 }
@@ -212,8 +252,7 @@ fn has_errand(stage: &Stage) -> bool
     matches!(stage, Stage::Out(_) | Stage::Back(_))
 }
 
-/// Makes the request, if the stage has one; the log has room for its event, or an errand is in hand. The stage alone goes out
-/// of its place for that, since it is small.
+/// Makes the request, if the stage has one; the log has room for its event, or an errand is in hand.
 fn ask<S: Site, D: Device, W: Work>(
     stage: &mut Stage,
     guards: &mut Guards,
@@ -222,9 +261,11 @@ fn ask<S: Site, D: Device, W: Work>(
     device: &mut D,
     log: &mut Vec<Event>,
     seen: &mut Vec<u8>,
+    reach: &mut Option<usize>,
     work: &mut W,
 ) -> Turned
-    requires { errand_is_there stage.old ≡ false → vec_len log.old < vec_capacity log.old }
+    requires room { errand_is_there stage.old ≡ false → vec_len log.old < vec_capacity log.old }
+    requires reach { IsReach W.Work reach.old work.old }
     ensures turn { TurnOf S.Site D.Device W.Work layout.now (length seen.old.items)
         (λ w. worker_with w stage.old guards.old site.old device.old log.old) work.old result
         (λ w. worker_with w stage.new guards.new site.new device.new log.new) work.new }
@@ -232,26 +273,62 @@ fn ask<S: Site, D: Device, W: Work>(
     ensures memory { vec_capacity log.new ≡ vec_capacity log.old }
     ensures seen { length seen.new.items ≡ length seen.old.items }
     ensures worker { stage_worker stage.new ≡ stage_worker stage.old }
+    ensures reach { IsReach W.Work reach.new work.new }
 {
-    let around = (guards, site, device, log, seen, work);
+    match at_once(stage, guards, site, log, seen, reach, work) {
+        Some(turned) => turned,
+        None => ask_by_value(stage, guards, layout, site, device, log, seen, reach, work),
+    }
+}
+
+/// The same by a request and a response. The stage alone goes out of its place for that, since it is small.
+// Not inlined, since the turns that are made at once would pay for its locals.
+#[inline(never)]
+fn ask_by_value<S: Site, D: Device, W: Work>(
+    stage: &mut Stage,
+    guards: &mut Guards,
+    layout: &Layout,
+    site: &mut S,
+    device: &mut D,
+    log: &mut Vec<Event>,
+    seen: &mut Vec<u8>,
+    reach: &mut Option<usize>,
+    work: &mut W,
+) -> Turned
+    requires room { errand_is_there stage.old ≡ false → vec_len log.old < vec_capacity log.old }
+    requires reach { IsReach W.Work reach.old work.old }
+    ensures turn { TurnOf S.Site D.Device W.Work layout.now (length seen.old.items)
+        (λ w. worker_with w stage.old guards.old site.old device.old log.old) work.old result
+        (λ w. worker_with w stage.new guards.new site.new device.new log.new) work.new }
+    ensures keeps { keeps_place guards.old stage.old ≡ true → keeps_place guards.new stage.new ≡ true }
+    ensures memory { vec_capacity log.new ≡ vec_capacity log.old }
+    ensures seen { length seen.new.items ≡ length seen.old.items }
+    ensures worker { stage_worker stage.new ≡ stage_worker stage.old }
+    ensures reach { IsReach W.Work reach.new work.new }
+{
+    let around = (guards, site, device, log, seen, reach, work);
     let (turned, around) = mem::replace_with(stage, around, |stage, around| {
-        let (guards, site, device, log, seen, work) = around;
-        let (stage, turned) = asked(stage, guards, layout, site, device, log, seen, work);
-        (stage, (turned, (guards, site, device, log, seen, work)))
+        let (guards, site, device, log, seen, reach, work) = around;
+        let (stage, turned) = asked(stage, guards, layout, site, device, log, seen, reach, work);
+        (
+            stage,
+            (turned, (guards, site, device, log, seen, reach, work)),
+        )
     });
-    let (guards, site, device, log, seen, work) = around;
+    let (guards, site, device, log, seen, reach, work) = around;
     taken_back(guards);
     taken_back(site);
     taken_back(device);
     taken_back(log);
     taken_back(seen);
+    taken_back(reach);
     taken_back(work);
     turned
 }
 
 /// It does nothing. Where a call was lent a reference and gave it back, a use of that tells the prover that the two are
 /// the same.
-fn taken_back<T>(lent: &mut T)
+pub(crate) fn taken_back<T>(lent: &mut T)
     ensures { lent.new ≡ lent.old }
 {}
 
@@ -265,9 +342,11 @@ fn asked<S: Site, D: Device, W: Work>(
     device: &mut D,
     log: &mut Vec<Event>,
     seen: &mut Vec<u8>,
+    reach: &mut Option<usize>,
     work: &mut W,
 ) -> (Stage, Turned)
-    requires { errand_is_there stage ≡ false → vec_len log.old < vec_capacity log.old }
+    requires room { errand_is_there stage ≡ false → vec_len log.old < vec_capacity log.old }
+    requires reach { IsReach W.Work reach.old work.old }
     ensures turn { TurnOf S.Site D.Device W.Work layout.now (length seen.old.items)
         (λ w. worker_with w stage guards.old site.old device.old log.old) work.old result.1
         (λ w. worker_with w result.0 guards.new site.new device.new log.new) work.new }
@@ -275,20 +354,60 @@ fn asked<S: Site, D: Device, W: Work>(
     ensures memory { vec_capacity log.new ≡ vec_capacity log.old }
     ensures seen { length seen.new.items ≡ length seen.old.items }
     ensures worker { stage_worker result.0 ≡ stage_worker stage }
+    ensures reach { IsReach W.Work reach.new work.new }
 {
+    let_go_unless_at_once(&stage, site);
+    *reach = None;
     match next(stage, guards, layout, device, work) {
         Ok(request) => {
+            ask_reach(&request, reach, work);
             let Response { event, answer } = site.perform(request);
             let is_logged = add(log, event);
-            let (answer, turned) = used(answer, site, seen, work);
-            (stage_after(guards, answer), ended(is_logged, turned))
+            let (answer, turned) = used(answer, site, seen, reach, work);
+            let stage = stage_after(guards, answer);
+            let_go_unless_at_once(&stage, site);
+            (stage, ended(is_logged, turned))
         }
         Err(stage) => (stage, Turned::Broken),
     }
 }
 
+/// Lets the site go, unless the stage's next request wants neither the work nor the device.
+fn let_go_unless_at_once<S: Site>(stage: &Stage, site: &mut S)
+    ensures { site.new ≡ site.old }
+{
+    match stage {
+        Stage::In(session) => let_go_unless_asked(session, site),
+        _ => site.let_go(),
+    }
+}
+
+/// Lets the site go where the session's plan asks something of the work: a page or a branch.
+pub(crate) fn let_go_unless_asked<S: Site>(session: &Session, site: &mut S)
+    ensures { site.new ≡ site.old }
+{
+    match session.ask() {
+        Ask::Fix { .. } => site.let_go(),
+        Ask::Gather { .. } => site.let_go(),
+        Ask::Choose { .. } => site.let_go(),
+        _ => {}
+    }
+}
+
+/// Asks the work how far it reaches, where a page may come of the request.
+fn ask_reach<W: Work>(request: &Request, reach: &mut Option<usize>, work: &W)
+    requires { IsReach W.Work reach.old work.now }
+    ensures { IsReach W.Work reach.new work.now }
+{
+    match request {
+        Request::Fix(_, _) => *reach = Some(work.reach()),
+        Request::Answer(_) => *reach = Some(work.reach()),
+        _ => {}
+    }
+}
+
 /// Adds the event, if there is one and the log has room for it. Tells whether none is left out.
-fn add(log: &mut Vec<Event>, event: Option<Event>) -> bool
+pub(crate) fn add(log: &mut Vec<Event>, event: Option<Event>) -> bool
     ensures items { log.new.items ≡ log.old.items ++ logged_events result event }
     ensures full { result ≡ false → vec_capacity log.old ≤ vec_len log.old }
     ensures memory { vec_capacity log.new ≡ vec_capacity log.old }
@@ -306,7 +425,7 @@ fn add(log: &mut Vec<Event>, event: Option<Event>) -> bool
 }
 
 /// How a turn ends: as its answer says, but broken where its event is left out.
-fn ended(is_logged: bool, turned: Turned) -> Turned
+pub(crate) fn ended(is_logged: bool, turned: Turned) -> Turned
     ensures { result ≡ (if is_logged then turned else Broken) }
 {
     if is_logged { turned } else { Turned::Broken }
@@ -317,20 +436,25 @@ fn used<S: Site, W: Work>(
     answer: BookAnswer,
     site: &mut S,
     seen: &mut [u8],
+    reach: &mut Option<usize>,
     work: &mut W,
 ) -> (BookAnswer, Turned)
-    requires { IsLong answer }
+    requires long { IsLong answer }
+    requires reach { IsReach W.Work reach.old work.old }
     ensures uses { Uses S.Site W.Work site.old (length seen.old) work.old answer result.1 result.0 work.new }
     ensures site { site.new ≡ site.old }
+    ensures reach { IsReach W.Work reach.new work.new }
 {
     match answer {
         BookAnswer::Exclusive(session, mut guard) => {
             let page = guard.page();
+            site.let_go();
+            *reach = None;
             work.change(page, guard.body_mut());
             (BookAnswer::Exclusive(session, guard), Turned::Done)
         }
         BookAnswer::Shared(session, guard) => {
-            let turned = see(site, &guard, seen, work);
+            let turned = see(site, &guard, seen, reach, work);
             (BookAnswer::Shared(session, guard), turned)
         }
         BookAnswer::No(request, refusal) => {
@@ -342,13 +466,23 @@ fn used<S: Site, W: Work>(
 }
 
 /// Looks at the guard's page as far as the work's reach goes, and shows that to the work.
-fn see<S: Site, W: Work>(site: &mut S, guard: &ReadGuard, seen: &mut [u8], work: &mut W) -> Turned
+pub(crate) fn see<S: Site, W: Work>(
+    site: &mut S,
+    guard: &ReadGuard,
+    seen: &mut [u8],
+    reach: &mut Option<usize>,
+    work: &mut W,
+) -> Turned
+    requires { IsReach W.Work reach.old work.old }
     ensures looks { LooksAt S.Site W.Work site.old (length seen.old) guard.now work.old result work.new }
     ensures site { site.new ≡ site.old }
+    ensures reach { IsReach W.Work reach.new work.new }
 {
-    let reach = work.reach().max(SHORTEST).min(seen.len());
+    let reach = reached(site, reach, work).max(SHORTEST).min(seen.len());
     let front = &mut seen[..reach];
-    if !site.look(guard, front) {
+    let is_shown = site.look(guard, front);
+    site.let_go();
+    if !is_shown {
         return Turned::Broken;
     }
     let (page, mark) = (guard.page(), guard.mark());
@@ -357,6 +491,23 @@ fn see<S: Site, W: Work>(site: &mut S, guard: &ReadGuard, seen: &mut [u8], work:
     }
     work.see(page, mark, front);
     Turned::Done
+}
+
+/// How far the work reaches: as far as is known, and else as it answers, for which the site is let go. Then it isn't known any
+/// more, since the work goes on.
+fn reached<S: Site, W: Work>(site: &mut S, reach: &mut Option<usize>, work: &W) -> usize
+    requires { IsReach W.Work reach.old work.now }
+    ensures reach { W.reach_gives work.now result ⊎ (result ≡ all_bytes) }
+    ensures site { site.new ≡ site.old }
+    ensures none { reach.new ≡ None }
+{
+    match reach.take() {
+        Some(known) => known,
+        None => {
+            site.let_go();
+            work.reach()
+        }
+    }
 }
 
 /// How a turn ends that was refused.

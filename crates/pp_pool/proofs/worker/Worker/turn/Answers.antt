@@ -1,29 +1,16 @@
-use Rattle.std.proofs.Common.{◌∙◌, ◌≤◌, refl, arith}
-use Rattle.std.specs.Prelude.{vec_capacity}
+use Rattle.std.proofs.Common.{refl, None, arith}
 use Rattle.pp_pool.proofs.Turning.{turn_from, errand_made}
+use Rattle.pp_pool.proofs.ShortTurns.{turn_let_go}
 use Rattle.pp_pool.proofs.worker.Worker.turn.Goals as goal
 
 pub returns-clause-turn : goal.returns-clause-turn
 returns-clause-turn g c =
-    let made = c.make_room.new.self in
-    let first = c.make_room.ensures.grown in
-    let then = c.has_room.ensures.grown in
-    let grown : vec_capacity c.args.self.now.log ≤ vec_capacity c.has_room.new.log = omega (arith, first, then) in
-    turn_from g.S.Site g.D.Device g.W.Work _ _ _ _ _ _
-    c.make_room.ensures.site c.make_room.ensures.device c.make_room.ensures.hand
-    (c.has_room.ensures.items ∙ c.make_room.ensures.log) c.make_room.ensures.layout
-    (c.has_room.ensures.len ∙ c.make_room.ensures.len) grown
-    (c.ask.ensures.turn
-    record {
-      site = c.ask.new.site;
-      device = c.ask.new.device;
-      hand = record { stage = c.ask.new.stage; guards = c.ask.new.guards };
-      log = c.ask.new.log;
-      layout = made.layout;
-      page_bytes = made.page_bytes;
-      seen = c.ask.new.seen;
-      alloc = made.alloc;
-    } refl c.ask.ensures.seen)
+    let mid = record c.args.self.now { reach = None } in
+    turn_from g.S.Site g.D.Device g.W.Work c.args.self.now mid
+    (record c.turn_on-turned.new.self { site = c.let_go.new.self }) c.args.work.now c.turn_on-turned.new.work
+    c.turn_on-turned.result refl refl refl refl refl refl (omega arith)
+    (turn_let_go g.S.Site g.D.Device g.W.Work mid c.turn_on-turned.new.self c.args.work.now c.turn_on-turned.new.work
+    c.turn_on-turned.result c.let_go.new.self c.let_go.ensures.same c.turn_on-turned.ensures.turn)
 
 pub returns-clause-errand : goal.returns-clause-errand
 returns-clause-errand g c has keeps =

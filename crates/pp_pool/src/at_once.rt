@@ -1,0 +1,314 @@
+//! Turns with a guard of the worker's own, where the site makes them at once: without a request and a response, and with the
+//! session in its place.
+
+ghost use Rattle.std.specs.Prelude.{◌≡◌, IfSome, IfNone, IfOk, IfErr, OnErr, length, vec_capacity};
+ghost use Rattle.pp_plan.specs.declared.action.Ask.TheVariants as plan_ask;
+ghost use Rattle.pp_plan.specs.declared.mode.Mode.TheVariants as modes;
+ghost use Rattle.pp_vault.specs.declared.stage.Stage.TheVariants as stages;
+ghost use Rattle.pp_pool.specs.declared.request.Request.TheVariants as request;
+ghost use Rattle.pp_pool.specs.Replies.{Replies};
+ghost use Rattle.pp_pool.specs.AtOnce.{latched_shared, unlatched_shared, unfixed as unfixed_so};
+ghost use Rattle.pp_pool.specs.Turns.{IsReach};
+ghost use Rattle.pp_pool.specs.ShortTurns.{TurnsAtOnce};
+
+use crate::asked::put;
+use crate::site::Site;
+use crate::turned::Turned;
+use crate::work::Work;
+use crate::worker::{add, ended, let_go_unless_asked, see, taken_back};
+use core::mem;
+use pp_model::{Event, Move, Reply};
+use pp_plan::{Ask, Mode};
+use pp_vault::{Guard, Guards, PinGuard, ReadGuard, Session, Stage};
+
+/// Makes the request, where the plan asks a latch S, its unlatch or an unfix, the guard is there, and the site does it at once.
+/// Else nothing has changed.
+pub(crate) fn at_once<S: Site, W: Work>(
+    stage: &mut Stage,
+    guards: &mut Guards,
+    site: &mut S,
+    log: &mut Vec<Event>,
+    seen: &mut Vec<u8>,
+    reach: &mut Option<usize>,
+    work: &mut W,
+) -> Option<Turned>
+    requires { IsReach W.Work reach.old work.old }
+    ensures turns { IfSome result (λ turned. TurnsAtOnce S.Site W.Work (length seen.old.items) stage.old guards.old site.old
+        log.old work.old turned stage.new guards.new site.new log.new work.new) }
+    ensures memory { vec_capacity log.new ≡ vec_capacity log.old }
+    ensures seen { length seen.new.items ≡ length seen.old.items }
+    ensures reach { IsReach W.Work reach.new work.new }
+    ensures stage { IfNone result (stage.new ≡ stage.old) }
+    ensures guards { IfNone result (guards.new ≡ guards.old) }
+    ensures site { IfNone result (site.new ≡ site.old) }
+    ensures log { IfNone result (log.new ≡ log.old) }
+    ensures work { IfNone result (work.new ≡ work.old) }
+{
+    match stage {
+        Stage::In(session) => match session.ask() {
+            Ask::Latch {
+                slot,
+                mode: Mode::S,
+            } => latched(session, slot, guards, site, log, seen, reach, work),
+            Ask::Unlatch { slot } => unlatched(session, slot, guards, site, log, work),
+            Ask::Unfix { slot } => unfixed(session, slot, guards, site, log, work),
+            _ => None,
+        },
+        _ => None,
+    }
+}
+
+/// A latch S, after which the page is shown to the work.
+fn latched<S: Site, W: Work>(
+    session: &mut Session,
+    slot: u8,
+    guards: &mut Guards,
+    site: &mut S,
+    log: &mut Vec<Event>,
+    seen: &mut Vec<u8>,
+    reach: &mut Option<usize>,
+    work: &mut W,
+) -> Option<Turned>
+    requires asks { session.old.ask ≡ plan_ask.Latch slot modes.S }
+    requires reach { IsReach W.Work reach.old work.old }
+    ensures turns { IfSome result (λ turned. TurnsAtOnce S.Site W.Work (length seen.old.items) (stages.In session.old)
+        guards.old site.old log.old work.old turned (stages.In session.new) guards.new site.new log.new work.new) }
+    ensures memory { vec_capacity log.new ≡ vec_capacity log.old }
+    ensures seen { length seen.new.items ≡ length seen.old.items }
+    ensures reach { IsReach W.Work reach.new work.new }
+    ensures session { IfNone result (session.new ≡ session.old) }
+    ensures guards { IfNone result (guards.new ≡ guards.old) }
+    ensures site { IfNone result (site.new ≡ site.old) }
+    ensures log { IfNone result (log.new ≡ log.old) }
+    ensures work { IfNone result (work.new ≡ work.old) }
+{
+    let worker = session.worker();
+    match guards.take(u32::from(slot)) {
+        Some(Guard::Pin(guard)) => match latch(session, guard, site) {
+            Ok((guard, reply)) => {
+                let did = Move::Latch { worker };
+                let is_logged = add(log, Some(Event::Step { did, reply }));
+                let turned = see(site, &guard, seen, reach, work);
+                put(guards, Guard::Read(guard));
+                Some(ended(is_logged, turned))
+            }
+            Err(guard) => {
+                put(guards, Guard::Pin(guard));
+                None
+            }
+        },
+        Some(guard) => {
+            put(guards, guard);
+            None
+        }
+        None => None,
+    }
+}
+
+/// The latch alone.
+fn latch<S: Site>(
+    session: &mut Session,
+    guard: PinGuard,
+    site: &mut S,
+) -> Result<(ReadGuard, Reply), PinGuard>
+    ensures given { IfOk result (λ now. S.gives site.old (request.LatchShared session.old guard)
+        (latched_shared session.old (session.new, now.0, now.1)) site.new) }
+    ensures fits { IfOk result (λ now. Replies (request.LatchShared session.old guard)
+        (latched_shared session.old (session.new, now.0, now.1))) }
+    ensures back { IfErr result (λ e. e ≡ guard) }
+    ensures kept { OnErr result (session.new ≡ session.old) }
+    ensures same { OnErr result (site.new ≡ site.old) }
+{
+    let around = (guard, site);
+    let (latched, site) = mem::replace_with(session, around, |session, around| {
+        let (guard, site) = around;
+        let (session, latched) = latched_with(session, guard, site);
+        (session, (latched, site))
+    });
+    taken_back(site);
+    latched
+}
+
+/// The same with a session that is handed on.
+fn latched_with<S: Site>(
+    session: Session,
+    guard: PinGuard,
+    site: &mut S,
+) -> (Session, Result<(ReadGuard, Reply), PinGuard>)
+    ensures given { IfOk result.1 (λ now. S.gives site.old (request.LatchShared session guard)
+        (latched_shared session (result.0, now.0, now.1)) site.new) }
+    ensures fits { IfOk result.1 (λ now. Replies (request.LatchShared session guard)
+        (latched_shared session (result.0, now.0, now.1))) }
+    ensures back { IfErr result.1 (λ e. e ≡ guard) }
+    ensures kept { OnErr result.1 (result.0 ≡ session) }
+    ensures same { OnErr result.1 (site.new ≡ site.old) }
+{
+    match site.latch_shared(session, guard) {
+        Ok((session, guard, reply)) => (session, Ok((guard, reply))),
+        Err((session, guard)) => (session, Err(guard)),
+    }
+}
+
+/// The unlatch of a reader.
+fn unlatched<S: Site, W: Work>(
+    session: &mut Session,
+    slot: u8,
+    guards: &mut Guards,
+    site: &mut S,
+    log: &mut Vec<Event>,
+    work: &W,
+) -> Option<Turned>
+    requires { session.old.ask ≡ plan_ask.Unlatch slot }
+    ensures turns { (room : _) → IfSome result (λ turned. TurnsAtOnce S.Site W.Work room (stages.In session.old)
+        guards.old site.old log.old work.now turned (stages.In session.new) guards.new site.new log.new work.now) }
+    ensures memory { vec_capacity log.new ≡ vec_capacity log.old }
+    ensures session { IfNone result (session.new ≡ session.old) }
+    ensures guards { IfNone result (guards.new ≡ guards.old) }
+    ensures site { IfNone result (site.new ≡ site.old) }
+    ensures log { IfNone result (log.new ≡ log.old) }
+{
+    let worker = session.worker();
+    match guards.take(u32::from(slot)) {
+        Some(Guard::Read(guard)) => match unlatch(session, guard, site) {
+            Ok((guard, reply)) => {
+                let_go_unless_asked(session, site);
+                let did = Move::Unlatch { worker };
+                let is_logged = add(log, Some(Event::Step { did, reply }));
+                put(guards, Guard::Pin(guard));
+                Some(ended(is_logged, Turned::Done))
+            }
+            Err(guard) => {
+                put(guards, Guard::Read(guard));
+                None
+            }
+        },
+        Some(guard) => {
+            put(guards, guard);
+            None
+        }
+        None => None,
+    }
+}
+
+/// The unlatch alone.
+fn unlatch<S: Site>(
+    session: &mut Session,
+    guard: ReadGuard,
+    site: &mut S,
+) -> Result<(PinGuard, Reply), ReadGuard>
+    ensures given { IfOk result (λ now. S.gives site.old (request.UnlatchShared session.old guard)
+        (unlatched_shared session.old (session.new, now.0, now.1)) site.new) }
+    ensures fits { IfOk result (λ now. Replies (request.UnlatchShared session.old guard)
+        (unlatched_shared session.old (session.new, now.0, now.1))) }
+    ensures back { IfErr result (λ e. e ≡ guard) }
+    ensures kept { OnErr result (session.new ≡ session.old) }
+    ensures same { OnErr result (site.new ≡ site.old) }
+{
+    let around = (guard, site);
+    let (unlatched, site) = mem::replace_with(session, around, |session, around| {
+        let (guard, site) = around;
+        let (session, unlatched) = unlatched_with(session, guard, site);
+        (session, (unlatched, site))
+    });
+    taken_back(site);
+    unlatched
+}
+
+/// The same with a session that is handed on.
+fn unlatched_with<S: Site>(
+    session: Session,
+    guard: ReadGuard,
+    site: &mut S,
+) -> (Session, Result<(PinGuard, Reply), ReadGuard>)
+    ensures given { IfOk result.1 (λ now. S.gives site.old (request.UnlatchShared session guard)
+        (unlatched_shared session (result.0, now.0, now.1)) site.new) }
+    ensures fits { IfOk result.1 (λ now. Replies (request.UnlatchShared session guard)
+        (unlatched_shared session (result.0, now.0, now.1))) }
+    ensures back { IfErr result.1 (λ e. e ≡ guard) }
+    ensures kept { OnErr result.1 (result.0 ≡ session) }
+    ensures same { OnErr result.1 (site.new ≡ site.old) }
+{
+    match site.unlatch_shared(session, guard) {
+        Ok((session, guard, reply)) => (session, Ok((guard, reply))),
+        Err((session, guard)) => (session, Err(guard)),
+    }
+}
+
+/// The unfix of a slot that isn't latched.
+fn unfixed<S: Site, W: Work>(
+    session: &mut Session,
+    slot: u8,
+    guards: &mut Guards,
+    site: &mut S,
+    log: &mut Vec<Event>,
+    work: &W,
+) -> Option<Turned>
+    requires { session.old.ask ≡ plan_ask.Unfix slot }
+    ensures turns { (room : _) → IfSome result (λ turned. TurnsAtOnce S.Site W.Work room (stages.In session.old)
+        guards.old site.old log.old work.now turned (stages.In session.new) guards.new site.new log.new work.now) }
+    ensures memory { vec_capacity log.new ≡ vec_capacity log.old }
+    ensures session { IfNone result (session.new ≡ session.old) }
+    ensures guards { IfNone result (guards.new ≡ guards.old) }
+    ensures site { IfNone result (site.new ≡ site.old) }
+    ensures log { IfNone result (log.new ≡ log.old) }
+{
+    let worker = session.worker();
+    match guards.take(u32::from(slot)) {
+        Some(Guard::Pin(guard)) => match unfix(session, guard, site) {
+            Ok(reply) => {
+                let_go_unless_asked(session, site);
+                let did = Move::Unfix { worker };
+                let is_logged = add(log, Some(Event::Step { did, reply }));
+                Some(ended(is_logged, Turned::Done))
+            }
+            Err(guard) => {
+                put(guards, Guard::Pin(guard));
+                None
+            }
+        },
+        Some(guard) => {
+            put(guards, guard);
+            None
+        }
+        None => None,
+    }
+}
+
+/// The unfix alone.
+fn unfix<S: Site>(session: &mut Session, guard: PinGuard, site: &mut S) -> Result<Reply, PinGuard>
+    ensures given { IfOk result (λ reply. S.gives site.old (request.Unfix session.old guard)
+        (unfixed_so session.old (session.new, reply)) site.new) }
+    ensures fits { IfOk result (λ reply. Replies (request.Unfix session.old guard)
+        (unfixed_so session.old (session.new, reply))) }
+    ensures back { IfErr result (λ e. e ≡ guard) }
+    ensures kept { OnErr result (session.new ≡ session.old) }
+    ensures same { OnErr result (site.new ≡ site.old) }
+{
+    let around = (guard, site);
+    let (unfixed, site) = mem::replace_with(session, around, |session, around| {
+        let (guard, site) = around;
+        let (session, unfixed) = unfixed_with(session, guard, site);
+        (session, (unfixed, site))
+    });
+    taken_back(site);
+    unfixed
+}
+
+/// The same with a session that is handed on.
+fn unfixed_with<S: Site>(
+    session: Session,
+    guard: PinGuard,
+    site: &mut S,
+) -> (Session, Result<Reply, PinGuard>)
+    ensures given { IfOk result.1 (λ reply. S.gives site.old (request.Unfix session guard)
+        (unfixed_so session (result.0, reply)) site.new) }
+    ensures fits { IfOk result.1 (λ reply. Replies (request.Unfix session guard) (unfixed_so session (result.0, reply))) }
+    ensures back { IfErr result.1 (λ e. e ≡ guard) }
+    ensures kept { OnErr result.1 (result.0 ≡ session) }
+    ensures same { OnErr result.1 (site.new ≡ site.old) }
+{
+    match site.unfix(session, guard) {
+        Ok((session, reply)) => (session, Ok(reply)),
+        Err((session, guard)) => (session, Err(guard)),
+    }
+}
