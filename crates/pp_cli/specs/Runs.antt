@@ -7,7 +7,7 @@ use Rattle.pp_judge.specs.declared.error.JudgeError.{JudgeError}
 use Rattle.pp_judge.specs.Judgement.{device_size_in, workload_in}
 use Rattle.pp_explain.specs.Paragraphs.{IsAbout}
 use Rattle.pp_run_command.specs.Runs.{MayRun}
-use Rattle.pp_judge.specs.Answers.{Answer, MayDraw, MaySimulate, audit_answer, certification_answer, judgement_answer}
+use Rattle.pp_judge.specs.Answers.{Answer, MayDraw, MaySimulate, audit_answer_of, certification_answer, judgement_answer}
 use Rattle.pp_judge.specs.Answers.{refused, shown, misused, status_of}
 use Rattle.pp_judge.specs.Answers.{formatted, out_of_memory, unread, unwritten}
 use Rattle.pp_words.specs.CommandLine.{Asked, Text, asked}
@@ -54,8 +54,8 @@ ComesOf (Asked.format settings device) answer = IsStopped (settings ∷ []) answ
 ComesOf (Asked.run journal settings device seed plans) answer = IsStopped (settings ∷ plans) answer
     ⊎ ((s : List ℕ) × (ps : List (List ℕ)) × (length ps ≡ length plans)
     × MayRun device journal (workload_in s ps) answer)
-ComesOf (Asked.audit settings journal plans) answer = IsStopped (settings ∷ journal ∷ plans) answer
-    ⊎ ((s j : List ℕ) × (ps : List (List ℕ)) × (length ps ≡ length plans) × (answer ≡ audit_answer s j ps))
+ComesOf (Asked.audit lives settings journal plans) answer = IsStopped (settings ∷ journal ∷ plans) answer
+    ⊎ ((s j : List ℕ) × (ps : List (List ℕ)) × (length ps ≡ length plans) × (answer ≡ audit_answer_of lives s j ps))
 ComesOf (Asked.draw settings journal plans) answer = IsStopped (settings ∷ journal ∷ plans) answer
     ⊎ ((s j : List ℕ) × (ps : List (List ℕ)) × (length ps ≡ length plans) × MayDraw s j ps answer)
 
@@ -66,7 +66,7 @@ files_of (Asked.annotate settings plan) = settings ∷ plan ∷ []
 files_of (Asked.simulate settings script plans) = settings ∷ script ∷ plans
 files_of (Asked.format settings device) = settings ∷ []
 files_of (Asked.run journal settings device seed plans) = settings ∷ plans
-files_of (Asked.audit settings journal plans) = settings ∷ journal ∷ plans
+files_of (Asked.audit lives settings journal plans) = settings ∷ journal ∷ plans
 files_of (Asked.draw settings journal plans) = settings ∷ journal ∷ plans
 
 -- what may explain the refusal of what words ask for: nothing, or a paragraph about one of its files

@@ -1,10 +1,10 @@
 //! Reading and writing the files that a job names, and what the job comes to.
 
-ghost use Rattle.std.specs.Prelude.{◌≡◌, ◌≤◌, ◌∷◌, [], IfOk, IfErr, IfSome, None, MatchResult, length, replicate, vec_len};
+ghost use Rattle.std.specs.Prelude.{◌≡◌, ◌≤◌, ◌∷◌, [], IfOk, IfErr, IfSome, None, MatchResult, length, map, replicate, vec_len};
 ghost use Rattle.std.specs.Io.KnownBytes.{Appends};
 ghost use Rattle.pp_explain.specs.Paragraphs.{IsAbout};
 ghost use Rattle.pp_format.specs.DeviceFile.{blank_file};
-ghost use Rattle.pp_judge.specs.Answers.{formatted, seen};
+ghost use Rattle.pp_judge.specs.Answers.{ComesTo, audit_answer_of, formatted, seen};
 ghost use Rattle.pp_words.specs.CommandLine.{asked_annotate, asked_audit, asked_by, asked_check, asked_draw};
 ghost use Rattle.pp_words.specs.CommandLine.{asked_format, asked_simulate, texts};
 ghost use Rattle.pp_cli.specs.Runs.{ComesOf, ComesOfWriting, IsStopped, files_of, stopped_by};
@@ -171,7 +171,7 @@ fn audit<'a, R: Files + AllocGlobal>(
         journal: journal.as_slice(),
         plans: plans.as_slice(),
     };
-    let exit = exit_of(rt.alloc(), Contents::Audit(files));
+    let exit = audited(rt.alloc(), paths.lives, files);
     let files = Texts {
         settings: source(paths.settings, &settings),
         other: Some(source(paths.journal, &journal)),
@@ -180,6 +180,18 @@ fn audit<'a, R: Files + AllocGlobal>(
     };
     *note = files.explained(rt.alloc(), &exit);
     Ok(exit)
+}
+
+/// What the contents of the files of `audit` come to, of one life or of several.
+fn audited<'a>(alloc: Global, lives: bool, files: AuditFiles<'_>) -> Exit<'a>
+    ensures { ComesTo (audit_answer_of lives files.entry.settings.now files.entry.journal.now
+        (map (λ plan. plan.items) files.entry.plans.now)) result }
+{
+    if lives {
+        exit_of(alloc, Contents::AuditLives(files))
+    } else {
+        exit_of(alloc, Contents::Audit(files))
+    }
 }
 
 /// What the files of `draw` come to, where all can be read.

@@ -28,6 +28,13 @@ pub(crate) fn journal_said(
             let what = format!(in alloc; "{line}: it tells `{told}`, and the pool tells `{due}`")?;
             Ok(Said::of_line(number, what))
         }
+        AuditError::NotRenewed(number, why, next) => {
+            let line = line_text(alloc, line_at(bytes, number))?;
+            let what = format!(in alloc;
+                "{line}: the pool can't be renewed there, since {why}; {next}"
+            )?;
+            Ok(Said::of_line(number, what))
+        }
         AuditError::Unfinished => Ok(Said::of(String::from_str(
             alloc,
             "all lines are true, and at the end a plan is not submitted or not ended, or a flush is in flight",

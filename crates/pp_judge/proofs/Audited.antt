@@ -3,9 +3,10 @@ use Rattle.std.proofs.Common.{◌≡◌, ℕ, false, List, Result, Ok, Err, refl
 use Rattle.pp_settings.specs.Settings.{Configuration}
 use Rattle.pp_cert.specs.Accepted.{Acceptance}
 use Rattle.pp_report.specs.Auditing.{auditing}
+use Rattle.pp_report.specs.AuditingLives.{auditing_lives}
 use Rattle.pp_judge.specs.declared.error.JudgeError.{JudgeError}
 use Rattle.pp_judge.specs.declared.error.JudgeError.TheVariants.{Audit}
-use Rattle.pp_judge.specs.Judgement.{accepted_all, audited_in, settings_in, workload_in}
+use Rattle.pp_judge.specs.Judgement.{accepted_all, audited_in, lives_audited_in, settings_in, workload_in}
 use Rattle.pp_judge.specs.Steps.{refusing}
 
 -- ---- the settings and the plans
@@ -37,3 +38,16 @@ pub audited : (settings journal : List ℕ) (plans : List (List ℕ)) (w : Confi
     → audited_in settings journal plans ≡ refusing Audit (auditing w.0 w.1 journal)
 unfolding audited_in
 audited settings journal plans w is = rw is refl
+
+-- ---- the journals of lives
+
+pub no_lives : (settings journals : List ℕ) (plans : List (List ℕ)) (e : JudgeError)
+    → workload_in settings plans ≡ Err e → lives_audited_in settings journals plans ≡ Err e
+unfolding lives_audited_in
+no_lives settings journals plans e refused = rw refused refl
+
+pub lives_audited : (settings journals : List ℕ) (plans : List (List ℕ)) (w : Configuration × List Acceptance)
+    → workload_in settings plans ≡ Ok w
+    → lives_audited_in settings journals plans ≡ refusing Audit (auditing_lives w.0 w.1 journals)
+unfolding lives_audited_in
+lives_audited settings journals plans w is = rw is refl

@@ -10,10 +10,10 @@ use Rattle.pp_model.specs.Submitting.{after_submits}
 use Rattle.pp_model.specs.declared.refusals.SubmitError.{SubmitError}
 use Rattle.pp_simulate.specs.Simulating.{Simulates}
 use Rattle.pp_simulate.specs.declared.error.SimulateError.TheVariants.{Submit}
-use Rattle.pp_judge.specs.Judgement.{Stage, audited_in, certification, judgement, staged_in}
+use Rattle.pp_judge.specs.Judgement.{Stage, audited_in, certification, judgement, lives_audited_in, staged_in}
 use Rattle.pp_judge.specs.Steps.{is_want_of_memory}
 use Rattle.pp_judge.specs.declared.contents.Contents.{Contents}
-use Rattle.pp_judge.specs.declared.contents.Contents.TheVariants.{Check, Annotate, Simulate, Audit, Draw}
+use Rattle.pp_judge.specs.declared.contents.Contents.TheVariants.{Check, Annotate, Simulate, Audit, AuditLives, Draw}
 use Rattle.pp_judge.specs.declared.error.JudgeError.{JudgeError}
 use Rattle.pp_judge.specs.declared.error.JudgeError.TheVariants as judge_error
 use Rattle.pp_judge.specs.declared.exit.Figures.{Figures}
@@ -128,6 +128,15 @@ answer_of_audit (Err refusal) = refused refusal
 abbrev pub audit_answer : (settings journal : List ℕ) → (plans : List (List ℕ)) → Answer
 audit_answer settings journal plans = answer_of_audit (audited_in settings journal plans)
 
+-- what the bytes of the files of `audit --lives` come to
+abbrev pub lives_answer : (settings journals : List ℕ) → (plans : List (List ℕ)) → Answer
+lives_answer settings journals plans = answer_of_audit (lives_audited_in settings journals plans)
+
+-- the one or the other, by whether `--lives` is given
+abbrev pub audit_answer_of : (lives : Bool) → (settings journal : List ℕ) → (plans : List (List ℕ)) → Answer
+audit_answer_of false settings journal plans = audit_answer settings journal plans
+audit_answer_of true settings journal plans = lives_answer settings journal plans
+
 -- what may be answered where this is the verdict on a journal that is to be drawn: some picture of a true one, whose text no
 -- clause says; and else the refusal
 abbrev pub IsDrawingAnswer : Result ℕ JudgeError → Answer → Type 0
@@ -176,6 +185,8 @@ MayAnswer (Simulate files) answer =
     MaySimulate files.settings.now files.script.now (map (λ plan. plan.items) files.plans.now) answer
 MayAnswer (Audit files) answer =
     answer ≡ audit_answer files.settings.now files.journal.now (map (λ plan. plan.items) files.plans.now)
+MayAnswer (AuditLives files) answer =
+    answer ≡ lives_answer files.settings.now files.journal.now (map (λ plan. plan.items) files.plans.now)
 MayAnswer (Draw files) answer =
     MayDraw files.settings.now files.journal.now (map (λ plan. plan.items) files.plans.now) answer
 

@@ -21,6 +21,7 @@ use Rattle.pp_script.specs.Scripts.{Scenario}
 use Rattle.pp_script.specs.Reading.{reading as read_script}
 use Rattle.pp_script.specs.declared.error.ScriptError.TheVariants.{NotACue}
 use Rattle.pp_report.specs.Auditing.{auditing}
+use Rattle.pp_report.specs.AuditingLives.{auditing_lives}
 use Rattle.pp_judge.specs.declared.judgement.Sources.{Sources}
 use Rattle.pp_judge.specs.declared.device.DeviceSize.{DeviceSize}
 use Rattle.pp_judge.specs.declared.error.JudgeError.{JudgeError}
@@ -135,3 +136,10 @@ unfoldable pub audited_in : (settings journal : List ℕ) → (plans : List (Lis
 audited_in settings journal plans = do
   w ← workload_in settings plans
   refusing Audit (auditing w.0 w.1 journal)
+
+-- The verdict on the bytes of the journals of a pool's lives, once the settings and the plans are read: how many lines they
+-- have, where they are those of whole lives with these plans, and else their first fault.
+unfoldable pub lives_audited_in : (settings journals : List ℕ) → (plans : List (List ℕ)) → Result ℕ JudgeError
+lives_audited_in settings journals plans = do
+  w ← workload_in settings plans
+  refusing Audit (auditing_lives w.0 w.1 journals)

@@ -2,7 +2,7 @@
 
 ghost use Rattle.std.specs.Prelude.{map};
 ghost use Rattle.pp_text.specs.Steps.{Gives};
-ghost use Rattle.pp_judge.specs.Judgement.{audited_in, workload_in};
+ghost use Rattle.pp_judge.specs.Judgement.{audited_in, lives_audited_in, workload_in};
 ghost use Rattle.pp_judge.specs.Steps.{is_want_of_memory};
 
 use crate::contents::AuditFiles;
@@ -25,4 +25,21 @@ pub fn audit(alloc: Global, files: AuditFiles<'_>) -> Result<Audited, JudgeError
 {
     let Workload { settings, plans } = Workload::read(alloc, files.settings, files.plans)?;
     Ok(pp_report::audit(alloc, &settings, plans, files.journal)?)
+}
+
+/// Reads the settings and the plans as [`audit`] does, and says whether the text is the true journals of a pool's lives, to
+/// their end. Between two journals stands the line `renew = renewed`. The plans are those of the first life, then those of
+/// the second, and so on.
+///
+/// # Errors
+///
+/// The first refusal in that order; then the first fault of the text.
+pub fn audit_lives(alloc: Global, files: AuditFiles<'_>) -> Result<Audited, JudgeError>
+    // What is answered is the verdict on the journals, unless memory ran out.
+    ensures { Gives is_want_of_memory (λ audited. audited.lines) result
+        (lives_audited_in files.entry.settings.now files.entry.journal.now
+        (map (λ plan. plan.items) files.entry.plans.now)) }
+{
+    let work = Workload::read(alloc, files.settings, files.plans)?;
+    Ok(pp_report::audit_lives(alloc, &work.settings, work.plans, files.journal)?)
 }

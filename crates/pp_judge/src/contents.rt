@@ -2,10 +2,10 @@
 
 ghost use Rattle.std.specs.Prelude.{map};
 ghost use Rattle.pp_judge.specs.Answers.{audit_answer, certification_answer, judgement_answer, ComesTo, IsDrawingAnswer};
-ghost use Rattle.pp_judge.specs.Answers.{MayAnswer, MayCome, IsSimulationAnswer};
+ghost use Rattle.pp_judge.specs.Answers.{MayAnswer, MayCome, IsSimulationAnswer, lives_answer};
 ghost use Rattle.pp_judge.specs.Judgement.{audited_in, staged_in};
 
-use crate::auditing::audit;
+use crate::auditing::{audit, audit_lives};
 use crate::drawing::draw;
 use crate::exit::{Exit, Figures};
 use crate::judgement::{certify, judge};
@@ -23,6 +23,8 @@ pub enum Contents<'a> {
     Simulate(SimulateFiles<'a>),
     /// A journal is audited.
     Audit(AuditFiles<'a>),
+    /// The journals of a pool's lives are audited, which stand in one text.
+    AuditLives(AuditFiles<'a>),
     /// A journal is drawn.
     Draw(AuditFiles<'a>),
 }
@@ -63,7 +65,7 @@ pub struct SimulateFiles<'a> {
 pub struct AuditFiles<'a> {
     /// The bytes of the settings.
     pub settings: &'a [u8],
-    /// The bytes of the journal.
+    /// The bytes of the journal, or of the journals of lives in one text.
     pub journal: &'a [u8],
     /// The bytes of the plans, in their order.
     pub plans: &'a [Vec<u8>],
@@ -79,6 +81,7 @@ pub fn exit_of<'a>(alloc: Global, contents: Contents<'_>) -> Exit<'a>
         Contents::Annotate(files) => annotated(alloc, files),
         Contents::Simulate(files) => simulated(alloc, files),
         Contents::Audit(files) => audited(alloc, files),
+        Contents::AuditLives(files) => lives_audited(alloc, files),
         Contents::Draw(files) => drawn(alloc, files),
     }
 }
@@ -123,6 +126,17 @@ fn audited<'a>(alloc: Global, files: AuditFiles<'_>) -> Exit<'a>
 {
     match audit(alloc, files) {
         Ok(audited) => Exit::Audited(audited.lines),
+        Err(refusal) => Exit::from(refusal),
+    }
+}
+
+/// What the files of `audit --lives` come to.
+fn lives_audited<'a>(alloc: Global, files: AuditFiles<'_>) -> Exit<'a>
+    ensures { ComesTo (lives_answer files.entry.settings.now files.entry.journal.now
+        (map (λ plan. plan.items) files.entry.plans.now)) result }
+{
+    match audit_lives(alloc, files) {
+        Ok(lives) => Exit::Audited(lives.lines),
         Err(refusal) => Exit::from(refusal),
     }
 }

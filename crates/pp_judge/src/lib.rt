@@ -11,7 +11,7 @@ mod judgement;
 mod rehearsal;
 mod workload;
 
-pub use auditing::audit;
+pub use auditing::{audit, audit_lives};
 pub use contents::{AnnotateFiles, AuditFiles, CheckFiles, Contents, SimulateFiles, exit_of};
 pub use device::{DeviceSize, device_size};
 pub use drawing::draw;

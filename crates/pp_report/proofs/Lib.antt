@@ -6,8 +6,13 @@ pub mod Splitting
 pub mod Same
 pub mod SameEvents
 pub mod Passing
+pub mod LivesPassing
 pub mod Verdicts
+pub mod LivesLines
+pub mod LivesPassed
+pub mod LivesAudited
 pub mod Whole
+pub mod LivesWhole
 pub mod Readback
 pub mod Columns
 pub mod OneMore

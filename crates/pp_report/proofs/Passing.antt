@@ -7,12 +7,12 @@ use Rattle.pp_report.specs.declared.error.AuditError.TheVariants.{Unfinished}
 use Rattle.pp_report.specs.Auditing.{Progress, pass_text, is_over, auditing_from}
 use Rattle.pp_report.specs.Auditors.{IsAt, Passes}
 
-passed : (a : Auditor) (r : Result Progress AuditError) (x : Unit {0}) → Passes a r (Ok x)
+pub passed : (a : Auditor) (r : Result Progress AuditError) (x : Unit {0}) → Passes a r (Ok x)
     → (q : Progress) × (r ≡ Ok q) × IsAt a q
 passed a (Ok q) x h = (q, refl, h)
 passed a (Err e) x h = absurd h
 
-stopped : (a : Auditor) (r : Result Progress AuditError) (e : AuditError) → Passes a r (Err e) → r ≡ Err e
+pub stopped : (a : Auditor) (r : Result Progress AuditError) (e : AuditError) → Passes a r (Err e) → r ≡ Err e
 stopped a (Ok q) e h = absurd h
 stopped a (Err d) e h = ap (λ x. Err x) (sym h)
 

@@ -44,10 +44,10 @@ line_bytes P given equals l fits =
     (given 32 refl, (equals, (given 32 refl, tt))))
     (all_plain P given (told_words l.told) (told_plain l.told fits.1))
 
-abbrev Lacks : List ℕ → Type 0
+abbrev pub Lacks : List ℕ → Type 0
 Lacks bs = AllByRecursion (λ b. b ≢ 10) bs
 
-one_line : (l : Line) → FitsLine l → Lacks (line_words l)
+pub one_line : (l : Line) → FitsLine l → Lacks (line_words l)
 one_line l fits = line_bytes (λ b. b ≢ 10) (λ b h. (plain_byte b h).1) (λ e. omega arith) l fits
 
 below : (bs : List ℕ) → AllByRecursion (λ b. b < 128) bs → (i : ℕ) → slice_index bs i < 128
@@ -147,7 +147,7 @@ not_text bytes h = by (line_in bytes) (λ l e. h (line_utf8 bytes l (line_found 
 
 -- ---- a journal's text has the lines of its events
 
-abbrev words_of : Event → List ℕ
+abbrev pub words_of : Event → List ℕ
 words_of e = line_words (line_of e)
 
 event_parts : (e : Event) (more : List ℕ) → event_words e ++ more ≡ words_of e ++ (10 ∷ more)
@@ -161,7 +161,7 @@ whole_lines (e ∷ es) h =
     ∙ ap (λ ls. words_of e ∷ ls) (whole_lines es h.1)
 
 -- what stands before a last byte is cut where the rest begins
-cut_front : (xs ys js : List ℕ) → js ≢ [] → xs ++ (10 ∷ []) ≡ ys ++ js
+pub cut_front : (xs ys js : List ℕ) → js ≢ [] → xs ++ (10 ∷ []) ≡ ys ++ js
     → (zs : List ℕ) × (xs ≡ ys ++ zs) × (zs ++ (10 ∷ []) ≡ js)
 cut_front xs [] js some e = (xs, refl, e)
 cut_front [] (y ∷ ys) js some e = absurd (some (nothing_behind ys js cc))
@@ -174,7 +174,7 @@ cut_front (x ∷ xs) (y ∷ ys) js some e =
     let (zs, f, g) = cut_front xs ys js some cc in
     (zs, ap (λ l. x ∷ l) f ∙ ap (λ z. z ∷ (ys ++ zs)) head, g)
 
-cancel : (xs ys : List ℕ) → xs ++ (10 ∷ []) ≡ ys ++ (10 ∷ []) → xs ≡ ys
+pub cancel : (xs ys : List ℕ) → xs ++ (10 ∷ []) ≡ ys ++ (10 ∷ []) → xs ≡ ys
 cancel xs ys e = let (zs, f, g) = cut_front xs ys (10 ∷ []) (λ e. absurd cc) e in
     f ∙ ap (λ l. ys ++ l) (empty zs g) ∙ append-nil ys
   where
@@ -184,7 +184,7 @@ cancel xs ys e = let (zs, f, g) = cut_front xs ys (10 ∷ []) (λ e. absurd cc) 
     empty (z ∷ y ∷ zs) g = absurd cc
 
 -- a line that fits has a byte
-has_byte : (line : List ℕ) → Lacks line → line ≢ [] → journal_lines line ≡ line ∷ []
+pub has_byte : (line : List ℕ) → Lacks line → line ≢ [] → journal_lines line ≡ line ∷ []
 has_byte [] h some = absurd (some refl)
 has_byte (b ∷ bs) h some = line_left b bs h
 
@@ -192,7 +192,7 @@ nonempty : (xs ys zs : List ℕ) (d : ℕ) → ((xs ++ (d ∷ ys)) ++ zs) ≢ []
 nonempty [] ys zs d e = absurd cc
 nonempty (x ∷ xs) ys zs d e = absurd cc
 
-words_some : (e : Event) → words_of e ≢ []
+pub words_some : (e : Event) → words_of e ≢ []
 words_some e = nonempty (asked_words (line_of e).asked) (61 ∷ 32 ∷ []) (told_words (line_of e).told) 32
 
 journal_some : (e : Event) (es : List Event) → journal_words (e ∷ es) ≢ []
@@ -222,11 +222,11 @@ spelled_lines text es h = by h.text_is
 
 -- ---- a text with the lines of events is theirs
 
-abbrev ended : List (List ℕ) → List ℕ
+abbrev pub ended : List (List ℕ) → List ℕ
 ended [] = []
 ended (line ∷ lines) = line ++ (10 ∷ ended lines)
 
-abbrev IsOf : List (List ℕ) → List ℕ → Type 0
+abbrev pub IsOf : List (List ℕ) → List ℕ → Type 0
 IsOf lines text = (text ≡ ended lines) ⊎ (text ++ (10 ∷ []) ≡ ended lines)
 
 grow : (b : ℕ) (bs : List ℕ) (lines : List (List ℕ)) → IsOf lines bs → IsOf ([] ∷ lines) (10 ∷ bs)
@@ -241,7 +241,7 @@ longer b (d ∷ bs) [] (inl e) = absurd cc
 longer b [] [] (inr e) = absurd cc
 longer b (d ∷ bs) [] (inr e) = absurd cc
 
-lines_of : (text : List ℕ) → IsOf (journal_lines text) text
+pub lines_of : (text : List ℕ) → IsOf (journal_lines text) text
 lines_of [] = inl refl
 lines_of (b ∷ bs) = by (lines_of bs) (b == 10) refl
   where
@@ -252,7 +252,7 @@ lines_of (b ∷ bs) = by (lines_of bs) (b == 10) refl
         rw ten (grow b bs (journal_lines bs) h)
     by h false is = longer b bs (journal_lines bs) h
 
-ended_words : (es : List Event) → ended (map words_of es) ≡ journal_words es
+pub ended_words : (es : List Event) → ended (map words_of es) ≡ journal_words es
 ended_words [] = refl
 ended_words (e ∷ es) =
     ap (λ l. words_of e ++ (10 ∷ l)) (ended_words es) ∙ sym (event_parts e (journal_words es))

@@ -1,18 +1,17 @@
 -- The plan that an auditor submits is the next one that waits.
-use Rattle.std.proofs.Common.{◌≡◌, ◌∙◌, ℕ, Bool, true, Option, Some, None, List, [], ◌∷◌, ◌++◌, length, reverse, refl, sym, ap, subst, arith}
+use Rattle.std.proofs.Common.{◌≡◌, ◌∙◌, ℕ, true, Option, Some, None, [], ◌∷◌, ◌++◌, length, reverse, refl, sym, ap, subst, arith}
 use Rattle.std.specs.Prelude.{◌==◌, if◌then◌else◌}
 use Rattle.std.proofs.lemmas.Bool.Decides.{nat_tests}
 use Rattle.std.proofs.lemmas.List.{reverse-append}
 use Rattle.pp_cert.specs.Accepted.{Acceptance}
 use Rattle.pp_model.specs.declared.refusals.SubmitError.{SubmitError}
-use Rattle.pp_model.specs.Submitting.{submit_error, after_submit}
+use Rattle.pp_model.specs.Submitting.{submit_error}
 use Rattle.pp_core.specs.StandsFor.{StandsFor}
 use Rattle.pp_core.specs.Submits.{TakesIn}
 use Rattle.pp_report.specs.declared.auditor.Auditor.{Auditor}
 use Rattle.pp_report.specs.declared.line.Asked.TheVariants as asked
-use Rattle.pp_report.specs.declared.line.Told.{Told}
 use Rattle.pp_report.specs.declared.line.Told.TheVariants.{Queued}
-use Rattle.pp_report.specs.Auditing.{Progress, told_unless, told_plan, told_to, after_next, after_asked}
+use Rattle.pp_report.specs.Auditing.{Progress, told_unless, told_plan, told_to, after_next}
 use Rattle.pp_report.specs.Auditors.{IsAt, IsAfter}
 
 module _ (was now : Auditor) (number : ℕ) (a : Acceptance) (pops : was.waiting.items ≡ now.waiting.items ++ a ∷ [])

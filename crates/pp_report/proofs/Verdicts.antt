@@ -27,8 +27,8 @@ use Rattle.pp_report.specs.declared.line.Told.{Told}
 use Rattle.pp_report.specs.declared.line.Told.TheVariants.{Queued, Answer}
 use Rattle.pp_report.specs.declared.line.Line.{Line}
 use Rattle.pp_report.specs.declared.error.AuditError.{AuditError}
-use Rattle.pp_report.specs.declared.error.AuditError.TheVariants.{NotALine, NotPossible, ReplyDiffers, Unfinished}
-use Rattle.pp_report.specs.declared.error.AuditError.TheVariants.{OutOfMemory}
+use Rattle.pp_report.specs.declared.error.AuditError.TheVariants.{NotALine, NotPossible, ReplyDiffers, NotRenewed}
+use Rattle.pp_report.specs.declared.error.AuditError.TheVariants.{Unfinished, OutOfMemory}
 use Rattle.pp_report.specs.Lines.{line_of, line_words, FitsAsked, FitsTold, FitsLine, FitsEvent, Says}
 use Rattle.pp_report.specs.Reading.{line_in}
 use Rattle.pp_report.specs.Journals.{journal_lines}
@@ -42,11 +42,11 @@ use Rattle.pp_report.proofs.Spoken.{line_found, line_again}
 use Rattle.pp_report.proofs.Splitting.{spelled_lines, lines_spelled}
 use Rattle.pp_report.proofs.Same.{same_told_is, same_told_same}
 
-abbrev words_of : Event → List ℕ
+abbrev pub words_of : Event → List ℕ
 words_of e = line_words (line_of e)
 
 -- The plans are those that were submitted, and those that wait.
-abbrev Waits : List Acceptance → Progress → Type 0
+abbrev pub Waits : List Acceptance → Progress → Type 0
 Waits plans p = plans ≡ p.state.plans ++ p.waiting
 
 -- ---- the next plan
@@ -165,7 +165,7 @@ told_due plans p (Do m) waits h = told_again (reply_of p.state m) h
 
 -- ---- a line that is passed
 
-record Passed (plans : List Acceptance) (p q : Progress) (text : List ℕ) : Type 0 where
+pub record Passed (plans : List Acceptance) (p q : Progress) (text : List ℕ) : Type 0 where
   pub event_is : Event
   pub fits : FitsEvent event_is
   pub text_is : text ≡ words_of event_is
@@ -210,7 +210,7 @@ line_passed plans p q number l waits fits e =
     subst (λ r. Passed plans p r (line_words l)) (ok_is (after_asked p l.asked) q i)
     (passed_by plans p l.asked l.told waits fits.0 fits.1 tells)
 
-text_passed : (plans : List Acceptance) (p q : Progress) (number : ℕ) (text : List ℕ) → Waits plans p
+pub text_passed : (plans : List Acceptance) (p q : Progress) (number : ℕ) (text : List ℕ) → Waits plans p
     → pass_text p number text ≡ Ok q → Passed plans p q text
 text_passed plans p q number text waits e =
     let (l, f, g) = bind_ok (ok_or (line_in text) (NotALine number)) (pass p number) q e in
@@ -242,7 +242,7 @@ two : (a b : Bool) → (a && b) ≡ true → (a ≡ true) × (b ≡ true)
 two true b e = (refl, e)
 two false b e = absurd cc
 
-over_is : (plans : List Acceptance) (p : Progress) → Waits plans p → is_over p ≡ true → IsOver plans p.state
+pub over_is : (plans : List Acceptance) (p : Progress) → Waits plans p → is_over p ≡ true → IsOver plans p.state
 over_is plans p waits e =
     let (a, b) = two (length p.waiting == 0) (is_none (next_turn p.state)) e in record {
       submitted = sym (waits ∙ ap (λ w. p.state.plans ++ w) (none_waits p.waiting a) ∙ append-nil p.state.plans);
@@ -252,7 +252,7 @@ over_is plans p waits e =
 short : (ps qs : List Acceptance) → ps ≡ ps ++ qs → (length qs == 0) ≡ true
 short ps qs e = equal_again (length qs) 0 (omega (arith, ap length e, length-append ps qs))
 
-over_again : (plans : List Acceptance) (p : Progress) → Waits plans p → IsOver plans p.state → is_over p ≡ true
+pub over_again : (plans : List Acceptance) (p : Progress) → Waits plans p → IsOver plans p.state → is_over p ≡ true
 over_again plans p waits h =
     ap (λ b. b && is_none (next_turn p.state)) (short p.state.plans p.waiting (h.submitted ∙ waits))
     ∙ ap is_none h.ended
@@ -286,7 +286,7 @@ found_from plans p n (text ∷ texts) lines waits e =
 
 -- ---- a true journal is passed
 
-event_passed : (plans : List Acceptance) (p : Progress) (n : ℕ) (e : Event) → Waits plans p → FitsEvent e
+pub event_passed : (plans : List Acceptance) (p : Progress) (n : ℕ) (e : Event) → Waits plans p → FitsEvent e
     → IsTrueAt plans p.state e
     → (q : Progress) × (pass_text p n (words_of e) ≡ Ok q) × (q.state ≡ after_event plans p.state e) × Waits plans q
 event_passed plans p n (event.Submit k) waits fits h =
@@ -326,14 +326,15 @@ again_from plans p n (e ∷ es) waits fits h over =
 
 -- ---- a line that isn't passed
 
-abbrev Wrongs : List Acceptance → State → List ℕ → ℕ → AuditError → Type 0
+abbrev pub Wrongs : List Acceptance → State → List ℕ → ℕ → AuditError → Type 0
 Wrongs plans s text number (NotALine n) = (n ≡ number) × IsNoLine s text
 Wrongs plans s text number (NotPossible n asked next) = (n ≡ number) × AsksImpossible plans asked next s text
 Wrongs plans s text number (ReplyDiffers n told right) = (n ≡ number) × TellsOther plans told right s text
+Wrongs plans s text number (NotRenewed n why next) = ⊥
 Wrongs plans s text number Unfinished = ⊥
 Wrongs plans s text number OutOfMemory = ⊥
 
-err_is : {A E : Type 0} (x y : E) → ◌≡◌ {A = Result A E} (Err x) (Err y) → x ≡ y
+pub err_is : {A E : Type 0} (x y : E) → ◌≡◌ {A = Result A E} (Err x) (Err y) → x ≡ y
 err_is x y e = cc
 
 line_wrong : (plans : List Acceptance) (p : Progress) (number : ℕ) (text : List ℕ) (l : Line) (e : AuditError)
@@ -367,7 +368,7 @@ line_wrong plans p number text l e waits says h =
         (refl, (l.told, says, (λ can. let tells = told_due plans p l.asked waits can in cc), refl))
     by (Some right) is h = differs right is (same_told l.told right) refl h
 
-text_wrong : (plans : List Acceptance) (p : Progress) (number : ℕ) (text : List ℕ) (e : AuditError) → Waits plans p
+pub text_wrong : (plans : List Acceptance) (p : Progress) (number : ℕ) (text : List ℕ) (e : AuditError) → Waits plans p
     → pass_text p number text ≡ Err e → Wrongs plans p.state text number e
 text_wrong plans p number text e waits h = by (line_in text) refl h
   where
@@ -402,6 +403,7 @@ abbrev Faults : List Acceptance → Progress → ℕ → List (List ℕ) → Aud
 Faults plans p n texts (NotALine k) = Stops plans p n texts k IsNoLine
 Faults plans p n texts (NotPossible k asked next) = Stops plans p n texts k (AsksImpossible plans asked next)
 Faults plans p n texts (ReplyDiffers k told right) = Stops plans p n texts k (TellsOther plans told right)
+Faults plans p n texts (NotRenewed k why next) = ⊥
 Faults plans p n texts Unfinished = Early plans p texts
 Faults plans p n texts OutOfMemory = Unit {0}
 
@@ -425,6 +427,7 @@ faults_here plans p n text texts (NotPossible k asked next) h =
     stops_here plans p n text texts k (AsksImpossible plans asked next) h.0 h.1
 faults_here plans p n text texts (ReplyDiffers k told right) h =
     stops_here plans p n text texts k (TellsOther plans told right) h.0 h.1
+faults_here plans p n text texts (NotRenewed k why next) h = absurd h
 faults_here plans p n text texts Unfinished h = absurd h
 faults_here plans p n text texts OutOfMemory h = absurd h
 
@@ -450,6 +453,7 @@ faults_later plans p q n text texts (NotPossible k asked next) here h =
     stops_later plans p q n text texts k (AsksImpossible plans asked next) here h
 faults_later plans p q n text texts (ReplyDiffers k told right) here h =
     stops_later plans p q n text texts k (TellsOther plans told right) here h
+faults_later plans p q n text texts (NotRenewed k why next) here h = absurd h
 faults_later plans p q n text texts Unfinished here h = record {
   events = here.event_is ∷ h.events;
   fits = (here.fits, h.fits);
@@ -492,7 +496,7 @@ first_fault plans p n (text ∷ texts) e waits h =
 
 -- ---- texts
 
-starts : (c : Configuration) (plans : List Acceptance) → Waits plans (outset c plans)
+pub starts : (c : Configuration) (plans : List Acceptance) → Waits plans (outset c plans)
 starts c plans = refl
 
 audited : (c : Configuration) (plans : List Acceptance) (text : List ℕ) (n : ℕ) → auditing c plans text ≡ Ok n
@@ -532,6 +536,7 @@ tells : (c : Configuration) (plans : List Acceptance) (text : List ℕ) (e : Aud
 tells c plans text (NotALine k) h = stops_at c plans text k IsNoLine h
 tells c plans text (NotPossible k asked next) h = stops_at c plans text k (AsksImpossible plans asked next) h
 tells c plans text (ReplyDiffers k told right) h = stops_at c plans text k (TellsOther plans told right) h
+tells c plans text (NotRenewed k why next) h = absurd h
 tells c plans text Unfinished h = record {
   events = h.events;
   spelled = lines_spelled text h.events h.fits h.texts_are;
@@ -568,6 +573,8 @@ verdict_first view c plans text (Err (NotPossible k asked next)) gives =
 verdict_first view c plans text (Err (ReplyDiffers k told right)) gives =
     tells c plans text (ReplyDiffers k told right)
     (first_fault plans (outset c plans) 0 (journal_lines text) (ReplyDiffers k told right) (starts c plans) gives)
+verdict_first view c plans text (Err (NotRenewed k why next)) gives =
+    absurd (first_fault plans (outset c plans) 0 (journal_lines text) (NotRenewed k why next) (starts c plans) gives)
 verdict_first view c plans text (Err Unfinished) gives =
     tells c plans text Unfinished
     (first_fault plans (outset c plans) 0 (journal_lines text) Unfinished (starts c plans) gives)

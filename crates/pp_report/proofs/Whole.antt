@@ -1,5 +1,5 @@
 -- The text of a whole journal is audited.
-use Rattle.std.proofs.Common.{◌≡◌, ◌∙◌, ◌<◌, ◌+◌, ℕ, true, false, List, [], ◌∷◌, length, drop, get_or, inl, refl, sym, ap, subst, add-one}
+use Rattle.std.proofs.Common.{◌≡◌, ◌∙◌, ◌<◌, ◌+◌, ℕ, true, List, [], ◌∷◌, length, drop, get_or, inl, refl, sym, ap, subst, add-one}
 use Rattle.std.specs.Prelude.{not, Ok}
 use Rattle.std.specs.List.{AllByRecursion}
 use Rattle.std.proofs.Math.Seq.{drop-cons}
@@ -41,7 +41,7 @@ true_fits plans s (Submit plan) h t = (h, tt)
 true_fits plans s (Step did reply) h t =
     (h.0, told_fits reply h.1 (subst (λ r. not (is_refusal r) ≡ true) (sym t.1) t.0))
 
-all_fit : (plans : List Acceptance) (s : State) (es : List Event) → AllByRecursion HasNumbers es → IsTrueFrom plans s es
+pub all_fit : (plans : List Acceptance) (s : State) (es : List Event) → AllByRecursion HasNumbers es → IsTrueFrom plans s es
     → AllByRecursion FitsEvent es
 all_fit plans s [] h t = tt
 all_fit plans s (e ∷ es) h t = (true_fits plans s e h.0 t.0, all_fit plans (after_event plans s e) es h.1 t.1)

@@ -16,8 +16,8 @@ use Rattle.pp_report.specs.declared.line.Told.TheVariants.{Queued, Answer}
 use Rattle.pp_report.specs.declared.line.Line.{Line}
 use Rattle.pp_report.specs.declared.error.Next.{Next}
 use Rattle.pp_report.specs.declared.error.AuditError.{AuditError}
-use Rattle.pp_report.specs.declared.error.AuditError.TheVariants.{NotALine, NotPossible, ReplyDiffers, Unfinished}
-use Rattle.pp_report.specs.declared.error.AuditError.TheVariants.{OutOfMemory}
+use Rattle.pp_report.specs.declared.error.AuditError.TheVariants.{NotALine, NotPossible, ReplyDiffers, NotRenewed}
+use Rattle.pp_report.specs.declared.error.AuditError.TheVariants.{Unfinished, OutOfMemory}
 use Rattle.pp_report.specs.Journals.{journal_lines}
 use Rattle.pp_report.specs.Lines.{line_of, line_words, FitsEvent, Says, Spells}
 
@@ -95,10 +95,11 @@ pub record EndsEarly (c : Configuration) (plans : List Acceptance) (text : List 
   pub is_true : IsTrue c plans events
   pub early : ¬ IsOver plans (reached c plans events)
 
--- The error tells the first fault of the text. Want of memory tells nothing.
+-- The error tells the first fault of the text. Want of memory tells nothing. A journal has no renewals, so none is refused.
 abbrev pub TellsFault : Configuration → List Acceptance → List ℕ → AuditError → Type 0
 TellsFault c plans text (NotALine n) = StopsAt c plans text n IsNoLine
 TellsFault c plans text (NotPossible n asked next) = StopsAt c plans text n (AsksImpossible plans asked next)
 TellsFault c plans text (ReplyDiffers n told right) = StopsAt c plans text n (TellsOther plans told right)
+TellsFault c plans text (NotRenewed n why next) = ⊥
 TellsFault c plans text Unfinished = EndsEarly c plans text
 TellsFault c plans text OutOfMemory = Unit {0}

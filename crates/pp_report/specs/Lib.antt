@@ -4,6 +4,8 @@ pub mod Journals
 pub mod Sameness
 pub mod Auditing
 pub mod Audits
+pub mod AuditingLives
+pub mod Lives
 pub mod Auditors
 pub mod Refusals
 pub mod Reports

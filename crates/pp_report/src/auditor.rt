@@ -7,6 +7,8 @@ ghost use Rattle.pp_report.specs.Journals.{journal_lines};
 ghost use Rattle.pp_report.specs.Reading.{line_in};
 ghost use Rattle.pp_report.specs.Sameness.{same_told};
 ghost use Rattle.pp_report.specs.Auditing.{Progress, outset, told_reply, pass, pass_text, is_over, auditing_from};
+ghost use Rattle.std.specs.Str.{bytes_eq};
+ghost use Rattle.pp_report.specs.AuditingLives.{renewal_line, pass_renewal, pass_in_lives, lives_from};
 ghost use Rattle.pp_report.specs.Auditors.{IsAt, Asks, Passes};
 
 use crate::error::{AuditError, Next};
@@ -16,6 +18,9 @@ use pp_core::{Core, CoreError};
 use pp_model::{Move, Reply};
 use pp_settings::Settings;
 use std::alloc::Global;
+
+/// The line between the journals of two lives of a pool, without its line feed. It is no line of a journal.
+pub const RENEWAL_LINE: &str = "renew = renewed";
 
 /// An audit that is under way: a core to which the lines so far were done, and the plans that no line has submitted yet.
 ///
@@ -104,6 +109,36 @@ impl Auditor {
         self.pass(number, line)
     }
 
+    /// Begins the next life, if the core can be renewed.
+    fn renew(&mut self, number: u64) -> Result<(), AuditError>
+        ensures { (p : Progress) → IsAt self.old p → Passes self.new (pass_renewal p number) result }
+    {
+        match self.core.renew() {
+            Ok(()) => Ok(()),
+            Err(why) => {
+                let next = Next {
+                    turn: self.core.next_possible(),
+                };
+                Err(AuditError::NotRenewed(number, why, next))
+            }
+        }
+    }
+
+    /// Passes a line of a text of lives, as [`Auditor::pass_text`] does. At [`RENEWAL_LINE`] the core is renewed, and the
+    /// plans that no line has submitted yet go into the next life.
+    ///
+    /// # Errors
+    ///
+    /// `NotRenewed` with this number at that line; else those of [`Auditor::pass_text`].
+    pub fn pass_in_lives(&mut self, number: u64, text: &[u8]) -> Result<(), AuditError>
+        ensures { (p : Progress) → IsAt self.old p → Passes self.new (pass_in_lives p number text.now) result }
+    {
+        if is_renewal(text) {
+            return self.renew(number);
+        }
+        self.pass_text(number, text)
+    }
+
     /// The core after the lines that were passed.
     pub fn core(&self) -> &Core
         ensures { (p : Progress) → IsAt self.now p → StandsFor result.now p.state }
@@ -135,6 +170,31 @@ impl Auditor {
         }
         Ok(lines)
     }
+
+    /// Passes the lines of a text of lives, and answers how many there are.
+    pub(crate) fn pass_lives(&mut self, journals: &[u8]) -> Result<u64, AuditError>
+        ensures { (p : Progress) → IsAt self.old p → result ≡ lives_from p 0 (journal_lines journals.now) }
+    {
+        let mut lines = 0;
+        let mut rest = journals;
+        while !rest.is_empty() {
+            let (line, behind) = first_line(rest);
+            lines += 1;
+            self.pass_in_lives(lines, line)?;
+            rest = behind;
+        }
+        if !self.is_over() {
+            return Err(AuditError::Unfinished);
+        }
+        Ok(lines)
+    }
+}
+
+/// Whether it is the line between two lives.
+fn is_renewal(line: &[u8]) -> bool
+    ensures { result ≡ bytes_eq line.now renewal_line }
+{
+    line == RENEWAL_LINE.as_bytes()
 }
 
 /// What a reply tells, if it isn't a refusal.

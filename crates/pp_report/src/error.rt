@@ -5,7 +5,7 @@ ghost use Rattle.pp_report.specs.declared.error.AuditError.TheVariants.{OutOfMem
 
 use crate::line::{Asked, Told};
 use pp_core::CoreError;
-use pp_model::Turn;
+use pp_model::{RenewError, Turn};
 use pp_text::{About, Refusal};
 use std::alloc::{AllocError, AllocFailed};
 use std::fmt;
@@ -42,6 +42,10 @@ pub enum AuditError {
     /// The line tells this, and the pool tells that.
     #[error("line {0} tells `{1}`, and the pool tells `{2}`")]
     ReplyDiffers(u64, Told, Told),
+    /// The line with this number is the one between two lives, and the pool can't be renewed there; why, and who could have
+    /// moved. [`audit`](crate::audit), which knows one life, never gives it.
+    #[error("line {0}: the pool can't be renewed there, since {1}; {2}")]
+    NotRenewed(u64, RenewError, Next),
     /// The lines are true, and a plan was not submitted or not ended, or a flush is in flight.
     #[error("the journal ends before all plans were submitted and ended")]
     Unfinished,
@@ -66,6 +70,7 @@ impl AuditError {
                 "ReplyDiffers",
                 About::At(line),
             ),
+            AuditError::NotRenewed(line, _, _) => Refusal::new(92, "NotPossible", About::At(line)),
             AuditError::Unfinished => Refusal::new(94, "Unfinished", About::Nothing),
             AuditError::OutOfMemory => Refusal::new(19, "OutOfMemory", About::Nothing),
         }

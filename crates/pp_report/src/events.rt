@@ -1,6 +1,6 @@
 //! Whose move an event is, whether two events are the same, and how large their numbers are.
 
-ghost use Rattle.std.specs.Prelude.{◌≡◌, ◌↔◌, true};
+ghost use Rattle.std.specs.Prelude.{◌≡◌, ◌↔◌, true, map};
 ghost use Rattle.std.specs.List.{AllByRecursion};
 ghost use Rattle.pp_model.specs.WorkerParts.{worker_of, names_worker};
 ghost use Rattle.pp_report.specs.Lines.{HasNumbers};
@@ -54,5 +54,14 @@ pub(crate) fn have_numbers(events: &[Event])
 {
     for event in events {
         has_numbers(*event);
+    }
+}
+
+/// The same of all events of these journals.
+pub(crate) fn each_has_numbers(journals: &[Vec<Event>])
+    ensures { AllByRecursion (AllByRecursion HasNumbers) (map (λ events. events.items) journals.now) }
+{
+    for events in journals {
+        have_numbers(events.as_slice());
     }
 }

@@ -1,16 +1,19 @@
 //! Laws of journals as texts, and of reports. The functions do nothing: their contracts are the laws.
 
-ghost use Rattle.std.specs.Prelude.{◌≡◌, ◌⊎◌, ◌++◌, ℕ, List, Ok, codes, length};
+ghost use Rattle.std.specs.Prelude.{◌≡◌, ◌⊎◌, ◌++◌, ℕ, List, Ok, codes, length, map};
 ghost use Rattle.std.specs.List.{AllByRecursion};
 ghost use Rattle.pp_settings.specs.Settings.{Configuration};
 ghost use Rattle.pp_cert.specs.Accepted.{Acceptance};
 ghost use Rattle.pp_model.specs.declared.event.Event.{Event};
+ghost use Rattle.pp_report.specs.declared.line.Line.{Line};
 ghost use Rattle.pp_report.specs.Auditing.{auditing};
+ghost use Rattle.pp_report.specs.AuditingLives.{renewal_line, auditing_lives};
 ghost use Rattle.pp_report.specs.Audits.{IsWhole, IsAudited};
 ghost use Rattle.pp_report.specs.Complete.{EachHasRow};
-ghost use Rattle.pp_report.specs.Lines.{journal_words, FitsEvent, Spells};
+ghost use Rattle.pp_report.specs.Lines.{journal_words, FitsEvent, Says, Spells};
+ghost use Rattle.pp_report.specs.Lives.{lives_words, lives_lines, AreWholeJournals, IsAuditedLives, HasNoRenewal};
 
-use crate::events::have_numbers;
+use crate::events::{each_has_numbers, have_numbers};
 use pp_model::Event;
 
 /// What is written is read: the text of events that may stand in a journal spells them, and no others. What is read is
@@ -41,3 +44,31 @@ pub fn whole_journals_are_audited(events: &[Event])
 {
     have_numbers(events);
 }
+
+/// Lives that were gone through to their end are accepted: where these are the journals of whole lives of a pool with some
+/// plans, the verdict of [`audit_lives`](crate::audit_lives) on their text is the number of its lines. The text has behind
+/// each journal but the last the line [`RENEWAL_LINE`](crate::RENEWAL_LINE).
+pub fn whole_lives_are_audited(journals: &[Vec<Event>], last: &[Event])
+    ensures text { (c : Configuration) (plans : List Acceptance)
+        → AreWholeJournals c plans (map (λ events. events.items) journals.now) last.now
+        → IsAuditedLives c plans (lives_words (map (λ events. events.items) journals.now) last.now)
+        (length (lives_lines (map (λ events. events.items) journals.now) last.now)) }
+    ensures verdict { (c : Configuration) (plans : List Acceptance)
+        → AreWholeJournals c plans (map (λ events. events.items) journals.now) last.now
+        → auditing_lives c plans (lives_words (map (λ events. events.items) journals.now) last.now)
+        ≡ Ok (length (lives_lines (map (λ events. events.items) journals.now) last.now)) }
+{
+    each_has_numbers(journals);
+    have_numbers(last);
+}
+
+/// One life is a case of several: without the line between two lives [`audit_lives`](crate::audit_lives) and
+/// [`audit`](crate::audit) say the same, and whatever journal the latter accepts has no such line. It is no line of a journal,
+/// so the latter refuses it as such.
+pub fn one_life_is_audited_alike()
+    ensures alike { (c : Configuration) (plans : List Acceptance) (text : List ℕ) → HasNoRenewal text
+        → auditing_lives c plans text ≡ auditing c plans text }
+    ensures accepted { (c : Configuration) (plans : List Acceptance) (text : List ℕ) (n : ℕ)
+        → IsAudited c plans text n → auditing_lives c plans text ≡ Ok n }
+    ensures apart { (line : Line) → Says renewal_line line → ⊥ }
+{}

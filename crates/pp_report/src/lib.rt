@@ -2,12 +2,13 @@
 #![tactic(auto)]
 
 pub use auditing::{Audited, audit};
-pub use auditor::{Auditor, first_line, line_in};
+pub use auditor::{Auditor, RENEWAL_LINE, first_line, line_in};
 pub use error::{AuditError, Next};
 pub use events::{is_same_event, names_worker, worker_of};
 pub use figure::{FIGURES, Figure};
 pub use journal::journal_text;
 pub use line::{Asked, Line, Told};
+pub use lives::audit_lives;
 pub use record::RunRecord;
 pub use reporting::report;
 
@@ -19,6 +20,7 @@ mod figure;
 mod journal;
 pub mod laws;
 mod line;
+mod lives;
 mod reading;
 mod record;
 mod reporting;

@@ -3,8 +3,8 @@
 use crate::row::{Command, Named, Row};
 use pp_explain::{Refused, Source, Sources, Stop, explain};
 use pp_judge::{
-    AnnotateFiles, AuditFiles, CheckFiles, JudgeError, SimulateFiles, audit, certify, judge,
-    rehearse,
+    AnnotateFiles, AuditFiles, CheckFiles, JudgeError, SimulateFiles, audit, audit_lives, certify,
+    judge, rehearse,
 };
 use pp_simulate::SimulateError;
 use std::alloc::Global;
@@ -69,11 +69,12 @@ fn files_of<'a>(command: Command, sources: &'a [Source<'a>]) -> Option<Sources<'
                 other: None,
                 plans,
             }),
-        (Command::Simulate | Command::Audit, [settings, other, plans @ ..]) => Some(Sources {
-            settings: *settings,
-            other: Some(*other),
-            plans,
-        }),
+        (Command::Simulate | Command::Audit | Command::AuditLives, [settings, other, plans @ ..]) =>
+            Some(Sources {
+                settings: *settings,
+                other: Some(*other),
+                plans,
+            }),
         _ => None,
     }
 }
@@ -120,6 +121,15 @@ fn refusal_of(
         )
         .err(),
         Command::Audit => audit(
+            alloc,
+            AuditFiles {
+                settings,
+                journal: other,
+                plans: &plans,
+            },
+        )
+        .err(),
+        Command::AuditLives => audit_lives(
             alloc,
             AuditFiles {
                 settings,

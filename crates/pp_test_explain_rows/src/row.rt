@@ -15,6 +15,8 @@ pub enum Command {
     Simulate,
     /// Whether the second file is a true journal.
     Audit,
+    /// Whether the second file is the journals of lives.
+    AuditLives,
     /// What is said of a run that stops since the log of a worker is another one.
     Mismatch,
     /// The same where a worker met a slip.
@@ -68,6 +70,7 @@ fn command_of(name: &str) -> anyhow::Result<Command> {
         "annotate" => Ok(Command::Annotate),
         "simulate" => Ok(Command::Simulate),
         "audit" => Ok(Command::Audit),
+        "lives" => Ok(Command::AuditLives),
         "mismatch" => Ok(Command::Mismatch),
         "broken" => Ok(Command::Broken),
         "nothread" => Ok(Command::NoThread),

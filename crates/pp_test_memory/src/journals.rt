@@ -1,8 +1,8 @@
 //! The calls that write journals and reports, and audit journals.
 
-use crate::samples::{JOURNAL, all_accepted, events, record};
+use crate::samples::{JOURNAL, LIVES, all_accepted, events, record};
 use crate::stand::{answer, call};
-use pp_report::{audit, journal_text, report};
+use pp_report::{audit, audit_lives, journal_text, report};
 use pp_settings::Settings;
 use pp_test_plain::samples::{SETTINGS, TOUCH};
 
@@ -12,6 +12,7 @@ pub fn case<R: AllocGlobal + Print>(rt: &R, call: &str) -> anyhow::Result<()> {
         "journal_text" => journal(rt),
         "report" => reports(rt),
         "audit" => audits(rt),
+        "audit_lives" => lives(rt),
         _ => anyhow::bail!("there is no such call"),
     }
 }
@@ -56,6 +57,24 @@ fn audits<R: AllocGlobal + Print>(rt: &R) -> anyhow::Result<()> {
         let plans = all_accepted(rt.alloc(), &settings, &[TOUCH])?;
         call(rt)?;
         let audited = audit(rt.alloc(), &settings, plans, JOURNAL.as_bytes());
+        answer(rt)?;
+        match audited {
+            Ok(audited) => {
+                println!(rt; "{} lines", audited.lines)?;
+                return Ok(());
+            }
+            Err(error) => println!(rt; "{}", error.refusal())?,
+        }
+    }
+    Ok(())
+}
+
+fn lives<R: AllocGlobal + Print>(rt: &R) -> anyhow::Result<()> {
+    let settings = Settings::from_text(rt.alloc(), SETTINGS)?;
+    for _time in 0..2 {
+        let plans = all_accepted(rt.alloc(), &settings, &[TOUCH, TOUCH])?;
+        call(rt)?;
+        let audited = audit_lives(rt.alloc(), &settings, plans, LIVES.as_bytes());
         answer(rt)?;
         match audited {
             Ok(audited) => {

@@ -1,6 +1,6 @@
 //! The calls that judge the bytes of files.
 
-use crate::samples::{JOURNAL, PIN, PIN_NOTES, SCRIPT};
+use crate::samples::{JOURNAL, LIVES, PIN, PIN_NOTES, SCRIPT};
 use crate::stand::{answer, call};
 use pp_judge::{
     AnnotateFiles, AuditFiles, CheckFiles, Contents, SimulateFiles, Workload, device_size, exit_of,
@@ -47,6 +47,11 @@ fn contents<'a>(row: &str, plans: &'a [Vec<u8>]) -> Contents<'a> {
             script: SCRIPT.as_bytes(),
             plans,
         }),
+        "audit_lives" => Contents::AuditLives(AuditFiles {
+            settings,
+            journal: LIVES.as_bytes(),
+            plans,
+        }),
         "draw" => Contents::Draw(AuditFiles {
             settings,
             journal: JOURNAL.as_bytes(),
@@ -61,11 +66,12 @@ fn contents<'a>(row: &str, plans: &'a [Vec<u8>]) -> Contents<'a> {
 }
 
 fn exit<R: AllocGlobal + Print>(rt: &R, row: &str) -> anyhow::Result<()> {
-    let text = match row {
-        "audit" | "draw" => TOUCH,
-        _ => WRITE,
+    let texts: &[&str] = match row {
+        "audit" | "draw" => &[TOUCH],
+        "audit_lives" => &[TOUCH, TOUCH],
+        _ => &[WRITE],
     };
-    let plans = bytes_of(rt.alloc(), &[text])?;
+    let plans = bytes_of(rt.alloc(), texts)?;
     for _time in 0..2 {
         let contents = contents(row, &plans);
         call(rt)?;

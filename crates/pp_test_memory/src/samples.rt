@@ -84,6 +84,21 @@ unfix 0 = did
 finish 0 = done
 ";
 
+/// The journals of two lives, in each of which that plan touches the page.
+pub const LIVES: &str = "submit 0 = queued
+take 0 = taken 0
+fix 0 1 = mustread 0
+came 0 1 0 = loaded 0
+unfix 0 = did
+finish 0 = done
+renew = renewed
+submit 0 = queued
+take 0 = taken 0
+fix 0 1 = hit 0 0
+unfix 0 = did
+finish 0 = done
+";
+
 /// The moves of that journal.
 pub static MOVES: [Move; 5] = [
     Move::Take { worker: 0 },

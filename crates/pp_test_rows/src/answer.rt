@@ -46,6 +46,14 @@ pub fn answer_to(alloc: Global, question: Question, texts: &[Vec<u8>]) -> anyhow
             };
             format!(in alloc; "{}", exit_of(alloc, Contents::Audit(files)))?
         }
+        (Question::AuditLives, [settings, journal, plans @ ..]) => {
+            let files = AuditFiles {
+                settings,
+                journal,
+                plans,
+            };
+            format!(in alloc; "{}", exit_of(alloc, Contents::AuditLives(files)))?
+        }
         (Question::Format, [settings]) => format_answer(alloc, settings)?,
         _ => anyhow::bail!("the row has too few texts or too many"),
     };

@@ -21,6 +21,8 @@ pub enum Question {
     Simulate,
     /// Whether the second text is a true journal of a pool with the plans of those behind it.
     Audit,
+    /// Whether the second text is the true journals of a pool's lives with the plans of those behind it.
+    AuditLives,
     /// The file of a device that is written anew under the settings.
     Format,
 }
@@ -71,6 +73,7 @@ fn question_of(name: &str) -> anyhow::Result<Question> {
         "script" => Ok(Question::Script),
         "simulate" => Ok(Question::Simulate),
         "audit" => Ok(Question::Audit),
+        "lives" => Ok(Question::AuditLives),
         "format" => Ok(Question::Format),
         _ => anyhow::bail!("no question is called {name}"),
     }

@@ -1,5 +1,5 @@
 -- The program's command line, as `clap` reads it.
-use Rattle.std.specs.Prelude.{◌≡◌, Bool, true, List, [], ◌∷◌, Option, Some, None, codes, unwrap_or, if◌then◌else◌, not}
+use Rattle.std.specs.Prelude.{◌≡◌, Bool, true, false, List, [], ◌∷◌, Option, Some, None, codes, unwrap_or, if◌then◌else◌, not}
 use Rattle.std.specs.Prelude.{ℕ, ◌<◌, ◌^◌, ◌==◌, map, option_map, pos}
 use Rattle.std.specs.Borrow.{Bor}
 use Rattle.std.specs.List.{All}
@@ -9,7 +9,7 @@ use Rattle.std.specs.Fmt.{decimal}
 use Rattle.std.specs.Option.{option_map_or}
 use Rattle.clap.specs.Walk.{Row, Rule, all_of, first_of, one_of}
 use Rattle.clap.specs.ValueTests.{is_unsigned_in}
-use Rattle.clap.specs.declared.builder.action.ArgAction.TheVariants.{Append}
+use Rattle.clap.specs.declared.builder.action.ArgAction.TheVariants.{Append, SetTrue}
 use Rattle.clap.specs.declared.builder.value_parser.ValueParser.TheVariants as value_parser
 pub use Rattle.clap.specs.Walk.{Text}
 use Rattle.clap.specs.Simple.{App, new_app, new_rule, on_top, subcommand_of, with_rule, with_subcommand}
@@ -36,6 +36,10 @@ paths_rule id = record (path_rule id) { action = Some Append }
 -- a path that may be given behind the option's name, which begins with two hyphens
 abbrev pub option_rule : Text → Rule
 option_rule id = record (new_rule id) { long = Some id; value_names = 1 }
+
+-- a flag, which is given by the option's name alone
+abbrev pub flag_rule : Text → Rule
+flag_rule id = record (new_rule id) { long = Some id; action = Some SetTrue }
 
 -- a number of 32 bits that has to be given, as a word of its own
 abbrev pub number_rule : Text → Rule
@@ -70,11 +74,11 @@ run_command =
     (path_rule (codes "settings"))) (path_rule (codes "device"))) (number_rule (codes "seed")))
     (paths_rule (codes "plans"))
 
--- `audit SETTINGS JOURNAL PLAN...`
+-- `audit [--lives] SETTINGS JOURNAL PLAN...`
 abbrev pub audit_command : App
 audit_command =
-    with_rule (with_rule (with_rule (new_app (codes "audit")) (path_rule (codes "settings")))
-    (path_rule (codes "journal"))) (paths_rule (codes "plans"))
+    with_rule (with_rule (with_rule (with_rule (new_app (codes "audit")) (path_rule (codes "settings")))
+    (path_rule (codes "journal"))) (paths_rule (codes "plans"))) (flag_rule (codes "lives"))
 
 -- `draw SETTINGS JOURNAL PLAN...`
 abbrev pub draw_command : App
@@ -104,7 +108,7 @@ pub data Asked : Type 0 where
   simulate : (settings script : Text) → (plans : List Text) → Asked
   format : (settings device : Text) → Asked
   run : (journal : Option Text) → (settings device : Text) → (seed : ℕ) → (plans : List Text) → Asked
-  audit : (settings journal : Text) → (plans : List Text) → Asked
+  audit : (lives : Bool) → (settings journal : Text) → (plans : List Text) → Asked
   draw : (settings journal : Text) → (plans : List Text) → Asked
 
 -- a check of three files
@@ -131,9 +135,9 @@ asked_format p = format p.settings.now p.device.now
 abbrev pub asked_run : RunPaths → Asked
 asked_run p = run (option_map (λ text. text.now) p.journal) p.settings.now p.device.now p.seed (texts p.plans.items)
 
--- a journal audited against the plans of some files
+-- a journal, or the journals of a pool's lives, audited against the plans of some files
 abbrev pub asked_audit : AuditPaths → Asked
-asked_audit p = audit p.settings.now p.journal.now (texts p.plans.items)
+asked_audit p = audit p.lives p.settings.now p.journal.now (texts p.plans.items)
 
 -- a journal drawn with the plans of some files
 abbrev pub asked_draw : DrawPaths → Asked
@@ -166,6 +170,10 @@ number_in text =
 abbrev pub number_among : List Row → Text → ℕ
 number_among rows id = option_map_or number_in (one_of id rows) 0
 
+-- whether a flag was given
+abbrev pub flag_among : List Row → Text → Bool
+flag_among rows id = option_map_or (λ text. bytes_eq text (codes "true")) (first_of id rows) false
+
 -- the values of the three arguments of `check`
 abbrev pub check_among : List Row → Asked
 check_among rows = check (value_among rows (codes "settings")) (value_among rows (codes "plan"))
@@ -189,10 +197,10 @@ abbrev pub run_among : List Row → Asked
 run_among rows = run (first_of (codes "journal") rows) (value_among rows (codes "settings"))
     (value_among rows (codes "device")) (number_among rows (codes "seed")) (values_among rows (codes "plans"))
 
--- the values of the arguments of `audit`
+-- the flag and the values of the arguments of `audit`
 abbrev pub audit_among : List Row → Asked
-audit_among rows = audit (value_among rows (codes "settings")) (value_among rows (codes "journal"))
-    (values_among rows (codes "plans"))
+audit_among rows = audit (flag_among rows (codes "lives")) (value_among rows (codes "settings"))
+    (value_among rows (codes "journal")) (values_among rows (codes "plans"))
 
 -- the values of the arguments of `draw`
 abbrev pub draw_among : List Row → Asked
@@ -252,7 +260,7 @@ pub record PlainWordsAreThePaths : Type 0 where
   pub audit : (name settings journal plan : Text) (plans : List Text) → is_plain_word settings ≡ true
       → is_plain_word journal ≡ true → is_plain_word plan ≡ true → All IsPlainWord plans
       → asked (name ∷ codes "audit" ∷ settings ∷ journal ∷ plan ∷ plans)
-      ≡ Some (audit settings journal (plan ∷ plans))
+      ≡ Some (audit false settings journal (plan ∷ plans))
   pub draw : (name settings journal plan : Text) (plans : List Text) → is_plain_word settings ≡ true
       → is_plain_word journal ≡ true → is_plain_word plan ≡ true → All IsPlainWord plans
       → asked (name ∷ codes "draw" ∷ settings ∷ journal ∷ plan ∷ plans)

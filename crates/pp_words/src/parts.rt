@@ -2,8 +2,8 @@
 
 ghost use Rattle.std.specs.Prelude.{◌≡◌, IfOk, true, false, codes, option_map};
 ghost use Rattle.clap.specs.Words.{first_of, found_of, rows_of, rule_of};
-ghost use Rattle.pp_words.specs.CommandLine.{number_among, number_rule, option_rule, path_rule, paths_rule, texts};
-ghost use Rattle.pp_words.specs.CommandLine.{value_among, values_among};
+ghost use Rattle.pp_words.specs.CommandLine.{flag_among, flag_rule, number_among, number_rule, option_rule, path_rule};
+ghost use Rattle.pp_words.specs.CommandLine.{paths_rule, texts, value_among, values_among};
 
 use clap::{Arg, ArgAction, ArgMatches};
 use std::alloc::{AllocError, Global};
@@ -100,6 +100,17 @@ pub fn option<'a>(alloc: Global, id: &'a str, name: &'a str, help: &'a str) -> A
     Arg::new(alloc, id).long(id).value_name(name).help(help)
 }
 
+/// An option without a value, under a name that begins with two hyphens.
+pub fn flag<'a>(alloc: Global, id: &'a str, help: &'a str) -> Arg<'a>
+    ensures rule { rule_of result ≡ flag_rule id.entry.now }
+    ensures local { result.global ≡ false }
+{
+    Arg::new(alloc, id)
+        .long(id)
+        .action(ArgAction::SetTrue)
+        .help(help)
+}
+
 /// An argument that is a number of 32 bits and has to be given.
 pub fn number<'a>(alloc: Global, id: &'a str, name: &'a str, help: &'a str) -> Arg<'a>
     ensures rule { rule_of result ≡ number_rule id.entry.now }
@@ -138,6 +149,16 @@ pub fn option_of<'a>(matches: &ArgMatches<'a>, id: &str) -> Option<&'a str>
     ensures { option_map (λ text. text.now) result ≡ first_of id.now (rows_of (found_of matches.now)) }
 {
     matches.get_str(id)
+}
+
+/// Whether a flag is given in the matches of a command.
+pub fn is_given(matches: &ArgMatches<'_>, id: &str) -> bool
+    ensures { result ≡ flag_among (rows_of (found_of matches.now)) id.now }
+{
+    match option_of(matches, id) {
+        Some(text) => text == "true",
+        None => false,
+    }
 }
 
 /// The number that is the value of an argument in the matches of a command; 0 where it has none, which no required

@@ -26,7 +26,7 @@ pub enum Job<'a> {
     Format(FormatPaths<'a>),
     /// Run plans over a device: `run [--journal FILE] SETTINGS DEVICE SEED PLAN...`.
     Run(RunPaths<'a>),
-    /// Say whether a journal is a true one: `audit SETTINGS JOURNAL PLAN...`.
+    /// Say whether a journal is a true one: `audit [--lives] SETTINGS JOURNAL PLAN...`.
     Audit(AuditPaths<'a>),
     /// Draw a true journal: `draw SETTINGS JOURNAL PLAN...`.
     Draw(DrawPaths<'a>),

@@ -1,6 +1,6 @@
 //! Files that are judged, and files that can't be read.
 
-use super::runs::Folder;
+use super::runs::{Folder, run};
 use std::test::Fail;
 
 /// Three frames, a region `root` of four pages of class 1 and a region `leaf` of eight pages of class 2.
@@ -35,6 +35,13 @@ pub const CERTIFICATE: &str = "{\"notes\":[{},{\"a\":[\"root\",\"-\"]},{\"a\":[\
 pub const JOURNAL: &str =
     "submit 0 = queued\ntake 0 = taken 0\nfix 0 3 = mustread 0\ncame 0 3 0 = loaded 0\n\
     latch 0 = latched 0\nunlatch 0 = unlatched 0\nunfix 0 = did\nfinish 0 = done\n";
+
+/// The journals of two lives of a pool, in each of which a worker runs that plan.
+const LIVES: &str =
+    "submit 0 = queued\ntake 0 = taken 0\nfix 0 3 = mustread 0\ncame 0 3 0 = loaded 0\n\
+    latch 0 = latched 0\nunlatch 0 = unlatched 0\nunfix 0 = did\nfinish 0 = done\nrenew = renewed\n\
+    submit 0 = queued\ntake 0 = taken 0\nfix 0 3 = hit 0 0\nlatch 0 = latched 0\n\
+    unlatch 0 = unlatched 0\nunfix 0 = did\nfinish 0 = done\n";
 
 /// The folder of the test with this name, with these texts, settings that are refused and a file that is no text.
 fn folder_of(rt: &HostRuntime, test: &str) -> Result<Folder, Fail> {
@@ -147,6 +154,28 @@ fn files_are_read_before_one_is_refused(rt: HostRuntime) -> Result<(), Fail> {
             .run(&rt, command, names)?
             .is_fault(&rt, &folder, "reading", file)?;
     }
+    folder.remove(&rt)?;
+    Ok(())
+}
+
+#[test]
+fn lives_are_audited_where_that_is_asked_for(rt: HostRuntime) -> Result<(), Fail> {
+    let files: [(&str, &[u8]); 3] = [
+        ("settings.toml", SETTINGS.as_bytes()),
+        ("plan.json", PLAN.as_bytes()),
+        ("lives.journal", LIVES.as_bytes()),
+    ];
+    let folder = Folder::new(&rt, "lives_are_audited", files.as_slice())?;
+    let names = ["settings.toml", "lives.journal", "plan.json", "plan.json"];
+    folder.run(&rt, "audit", &names)?.is_refusal(
+        &rt,
+        &folder,
+        "refused 91 NotALine at 9\n",
+        "lives.journal",
+    )?;
+    let mut words = folder.words(&rt, "audit", &names)?;
+    words.push(String::from_str(rt.alloc(), "--lives")?)?;
+    run(&rt, words.as_slice())?.is(&rt, 0, "audited 16 lines\n", "");
     folder.remove(&rt)?;
     Ok(())
 }

@@ -14,7 +14,7 @@ fn words_are_told(rt: HostRuntime) -> Result<(), Fail> {
             For more information, try '--help'.\n",
     );
     run(&rt, &["pinpool", "check", "--", "-a", "-b", "-c"])?.is(&rt, 3, "", "fault reading -a\n");
-    let rows: [(u8, &[&str], &str); 32] = [
+    let rows: [(u8, &[&str], &str); 33] = [
         (0, &["pinpool", "--help"], "Usage: pinpool <COMMAND>"),
         (0, &["pinpool", "help"], "\n  check "),
         (0, &["pinpool", "-h"], "\n  annotate "),
@@ -51,7 +51,7 @@ fn words_are_told(rt: HostRuntime) -> Result<(), Fail> {
         (
             0,
             &["pinpool", "audit", "--help"],
-            "Usage: pinpool audit <SETTINGS> <JOURNAL> <PLAN>...",
+            "Usage: pinpool audit [OPTIONS] <SETTINGS> <JOURNAL> <PLAN>...",
         ),
         (
             0,
@@ -95,6 +95,11 @@ fn words_are_told(rt: HostRuntime) -> Result<(), Fail> {
         ),
         (2, &["pinpool", "audit", "a"], "<JOURNAL>"),
         (2, &["pinpool", "audit", "a", "b"], "<PLAN>..."),
+        (
+            2,
+            &["pinpool", "audit", "--lives=all", "a", "b", "c"],
+            "'--lives'",
+        ),
         (2, &["pinpool", "draw", "a", "b"], "<PLAN>..."),
         (2, &["pinpool", "format", "a", "b", "c"], "'c'"),
     ];

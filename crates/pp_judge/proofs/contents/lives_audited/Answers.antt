@@ -1,0 +1,12 @@
+use Rattle.std.proofs.Common.{map, refl}
+use Rattle.pp_judge.specs.Answers.{answer_of_audit}
+use Rattle.pp_judge.specs.Judgement.{lives_audited_in}
+use Rattle.pp_judge.specs.Steps.{is_want_of_memory}
+use Rattle.pp_judge.proofs.Ended.{refused_from}
+use Rattle.pp_judge.proofs.contents.lives_audited.Goals as goal
+
+pub returns-in-Err : goal.returns-in-Err
+returns-in-Err c =
+    refused_from (is_want_of_memory c.in-Err.refusal) answer_of_audit
+    (lives_audited_in c.args.files.settings.now c.args.files.journal.now (map (λ plan. plan.items) c.args.files.plans.now))
+    c.in-Err.refusal c.from.result refl c.from.ensures c.in-Err.ensures
