@@ -11,3 +11,4 @@ pub mod Desks
 pub mod Taken
 pub mod Begun
 pub mod Judged
+pub mod Tried

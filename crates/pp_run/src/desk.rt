@@ -14,7 +14,7 @@ ghost use Rattle.pp_run.specs.Runs.{submits, coded_events};
 use pp_model::{Event, Reply};
 use pp_pool::{Book, OwnSite, Request, Response, Site};
 use pp_settings::{Layout, Settings};
-use pp_vault::{Flushing, Hand, Hands, ReadGuard};
+use pp_vault::{Flushing, Hand, Hands, PinGuard, ReadGuard, Session};
 use std::marker::{Brand, PhantomData};
 use std::sync::atomic::{AtomicU64, Ordering};
 
@@ -137,6 +137,30 @@ impl<'a, N: Naming> Site for RunDesk<'a, N> {
 
     fn most(&mut self) -> u64 {
         self.site.most()
+    }
+
+    fn latch_shared(
+        &mut self,
+        session: Session,
+        guard: PinGuard,
+    ) -> Result<(Session, ReadGuard, Reply), (Session, PinGuard)> {
+        self.site.latch_shared(session, guard)
+    }
+
+    fn unlatch_shared(
+        &mut self,
+        session: Session,
+        guard: ReadGuard,
+    ) -> Result<(Session, PinGuard, Reply), (Session, ReadGuard)> {
+        self.site.unlatch_shared(session, guard)
+    }
+
+    fn unfix(
+        &mut self,
+        session: Session,
+        guard: PinGuard,
+    ) -> Result<(Session, Reply), (Session, PinGuard)> {
+        self.site.unfix(session, guard)
     }
 }
 

@@ -7,6 +7,7 @@ ghost use Rattle.pp_pool.specs.Replies.{Replies};
 
 use crate::desk::Desk;
 use crate::locked::{Locked, WaitsFor};
+use crate::owed::Owed;
 use pp_model::{Event, Failure, Reply};
 use pp_pool::{BookAnswer, Request, Response, Site};
 use pp_settings::Layout;
@@ -68,8 +69,24 @@ impl<'a, B: Desk, R: Wait> LockedSite<'a, B, R> {
     fn perform_when_possible(&self, request: Request) -> Response
         ensures { Replies request result }
     {
+        let (response, locked, owed) = self.perform_under(request, self.hold(), Owed::nothing());
+        self.give_back(locked, owed);
+        response
+    }
+
+    /// The same under a hold of the lock, which comes back, with what is owed to those who wait. Whom something is owed is
+    /// woken before it waits itself, for which it lets the lock go.
+    pub(crate) fn perform_under(
+        &self,
+        request: Request,
+        locked: MutexGuard<'a, Locked<B>>,
+        owed: Owed,
+    ) -> (Response, MutexGuard<'a, Locked<B>>, Owed)
+        ensures { Replies request result.0 }
+    {
         let mut request = request;
-        let mut locked = self.hold();
+        let mut locked = locked;
+        let mut owed = owed;
         for _ in self.rt.forever() {
             let takes_writer_off = takes_writer_off(&request);
             let Response { event, answer } = locked.desk.perform(request);
@@ -77,35 +94,45 @@ impl<'a, B: Desk, R: Wait> LockedSite<'a, B, R> {
                 BookAnswer::No(back, refusal) => match locked.waits_for(refusal) {
                     WaitsFor::Nothing => {
                         let answer = BookAnswer::No(back, refusal);
-                        return Response { event, answer };
+                        return (Response { event, answer }, locked, owed);
                     }
                     WaitsFor::Move => {
                         request = back;
+                        self.wake(locked.waiters(), owed);
+                        owed = Owed::nothing();
                         locked.wait_for_move();
                         locked = self.moved.wait(self.rt, locked);
                         locked.moved();
                     }
                     WaitsFor::Change => {
                         request = back;
+                        self.wake(locked.waiters(), owed);
+                        owed = Owed::nothing();
                         locked.wait_for_change();
                         locked = self.changed.wait(self.rt, locked);
                         locked.changed();
                     }
                 },
                 answer => {
-                    let waiters = locked.waiters();
-                    drop(locked);
-                    self.wake(waiters, takes_writer_off || has_failed_to_write(event));
-                    return Response { event, answer };
+                    let lets_flush = takes_writer_off || has_failed_to_write(event);
+                    let owed = owed.and(lets_flush);
+                    return (Response { event, answer }, locked, owed);
                 }
             }
         }
         unreachable!()
     }
 
+    /// Gives the lock back, and then wakes whom something is owed.
+    pub(crate) fn give_back(&self, locked: MutexGuard<'a, Locked<B>>, owed: Owed) {
+        let waiters = locked.waiters();
+        drop(locked);
+        self.wake(waiters, owed);
+    }
+
     /// Takes the lock. Who has it mostly lets go sooner than a thread could fall asleep and be woken, so it is tried for a
     /// while first.
-    fn hold(&self) -> MutexGuard<'a, Locked<B>> {
+    pub(crate) fn hold(&self) -> MutexGuard<'a, Locked<B>> {
         for _ in 0..TRIES {
             if let Some(locked) = self.lock.try_lock() {
                 return locked;
@@ -117,13 +144,14 @@ impl<'a, B: Desk, R: Wait> LockedSite<'a, B, R> {
         self.lock.lock(self.rt)
     }
 
-    /// Wakes those that wait for a move, and those that wait for a page to be changed where the move lets one be flushed.
-    fn wake(&self, waiters: (u64, u64), lets_flush: bool) {
+    /// Wakes those that wait for a move, where one was done, and those that wait for a page to be changed where a move lets
+    /// one be flushed.
+    fn wake(&self, waiters: (u64, u64), owed: Owed) {
         let (waiting, idle) = waiters;
-        if waiting > 0 {
+        if waiting > 0 && owed.is_moved {
             self.moved.notify_all();
         }
-        if idle > 0 && lets_flush {
+        if idle > 0 && owed.lets_flush {
             self.changed.notify_all();
         }
     }

@@ -2,10 +2,12 @@
 
 ghost use Rattle.std.specs.Prelude.{◌≡◌, [], true, false, Some};
 ghost use Rattle.pp_vault.specs.Stages.{is_chair, stage_worker};
+ghost use Rattle.pp_pool.specs.Turns.{IsReach, reach_of};
 ghost use Rattle.pp_run.specs.Ends.{CountsBy, Unless, WorkedFrom};
 ghost use Rattle.pp_run.specs.Counted.{IsAtWork};
 
 use crate::desk::Desk;
+use crate::holding::WorkerSite;
 use crate::site::LockedSite;
 use crate::stop::{Stop, Worked};
 use pp_device::Device;
@@ -33,26 +35,29 @@ pub(crate) fn work_on<'a, B: Desk, D: Device, W: Work + Drop, R: Wait>(
     }
     let rt = site.rt;
     let (layout, page_bytes) = site.pages();
+    let site = WorkerSite::over(site);
     let mut worker = Worker::over(alloc, site, device, hand, layout, page_bytes);
     let mut work = work;
     let stop = turns(rt, &mut worker, &mut work);
     let (site, device, hand, log) = worker.end();
+    let site = site.end();
     site.put_back(hand);
     Worked { device, log, stop }
 }
 
-/// Turns until there is nothing more to do.
+/// Turns until there is nothing more to do. The next turn is made at once, so the site may keep its lock between two.
 fn turns<'a, B: Desk, D: Device, W: Work, R: Wait>(
     rt: &R,
-    worker: &mut Worker<LockedSite<'a, B, R>, D>,
+    worker: &mut Worker<WorkerSite<'a, B, R>, D>,
     work: &mut W,
 ) -> Stop
-    requires { IsAtWork worker.old.hand.stage }
+    requires at_work { IsAtWork worker.old.hand.stage }
+    requires reach { IsReach W.Work (reach_of worker.old) work.old }
     ensures { Unless result (CountsBy D.calls D.failures worker.old.device worker.old.log.items worker.new.device
         worker.new.log.items) }
 {
     for _ in rt.forever() {
-        match worker.turn(work) {
+        match worker.turn_on(work) {
             Turned::Done => {}
             Turned::NoMemory => return Stop::NoMemory,
             Turned::Ended => {

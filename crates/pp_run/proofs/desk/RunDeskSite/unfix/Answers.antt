@@ -1,0 +1,22 @@
+use Rattle.std.proofs.Common.{ap}
+use Rattle.pp_pool.specs.declared.request.Request.TheVariants.{Unfix}
+use Rattle.pp_pool.specs.AtOnce.{unfixed}
+use Rattle.pp_run.proofs.Desks.{same_desk}
+use Rattle.pp_run.proofs.Tried.{IsOfRun, tried_kept, on_error}
+use Rattle.pp_run.proofs.desk.RunDeskSite.unfix.Goals as goal
+
+pub invariant_of-self : goal.invariant_of-self
+invariant_of-self g c =
+    let d = c.args.self.now in
+    let k : IsOfRun g.N.Naming.settings g.N.Naming.plans c.unfix.new.self.book
+    = tried_kept g.N.Naming.settings g.N.Naming.plans d.site (Unfix c.args.session c.args.guard)
+    (unfixed c.args.session) c.unfix.new.self c.unfix.result c.unfix.ensures.given c.unfix.ensures.same
+    record { settings = d.settings; taken = d.plans; begun = d.begun; moving = d.moving } in
+    record { settings = k.settings; plans = k.taken; begun = k.begun; moving = k.moving }
+
+pub returns-clause-same : goal.returns-clause-same
+returns-clause-same g c =
+    let d = c.args.self.now in
+    on_error c.unfix.result
+    (λ same. same_desk g.row.N g.N.Naming _ d (ap (λ s. (s, (d.hands, (d.pages, (d.of, (d.finished, tt)))))) same))
+    c.unfix.ensures.same
