@@ -1,34 +1,19 @@
 -- A turn that is made at once is a turn.
-use Rattle.std.proofs.Common.{◌≡◌, ◌∙◌, ◌<◌, ◌≤◌, ◌++◌, ℕ, Bool, true, false, Option, Some, None, List, refl, sym, ap, subst}
-use Rattle.std.specs.Prelude.{slice_set, vec_len, vec_capacity, if◌then◌else◌}
+use Rattle.std.proofs.Common.{◌≡◌, ◌∙◌, ◌<◌, ℕ, true, false, Option, Some, None, List, refl, sym, ap, subst}
+use Rattle.std.specs.Prelude.{slice_set, vec_len, vec_capacity}
 use Rattle.std.specs.Global.{Vec}
 use Rattle.pp_settings.specs.Layout.{Geometry}
-use Rattle.pp_plan.specs.declared.mode.Mode.TheVariants as mode
-use Rattle.pp_plan.specs.declared.action.Ask.TheVariants as ask
-use Rattle.pp_model.specs.declared.reply.Reply.{Reply}
 use Rattle.pp_model.specs.declared.event.Event.{Event}
 use Rattle.pp_device.specs.declared.device.Device as Device
-use Rattle.pp_vault.specs.declared.tokens.Session.{Session}
-use Rattle.pp_vault.specs.declared.guards.PinGuard.{PinGuard}
-use Rattle.pp_vault.specs.declared.guards.ReadGuard.{ReadGuard}
 use Rattle.pp_vault.specs.declared.guards.Guard.{Guard}
-use Rattle.pp_vault.specs.declared.guards.Guard.TheVariants as guard
 use Rattle.pp_vault.specs.declared.stage.Stage.{Stage}
-use Rattle.pp_vault.specs.declared.stage.Stage.TheVariants as stage
 use Rattle.pp_vault.specs.Stages.{stage_worker}
 use Rattle.pp_vault.specs.Holding.{placed, slot_by}
-use Rattle.pp_pool.specs.declared.request.Request.{Request}
-use Rattle.pp_pool.specs.declared.request.Request.TheVariants as request
-use Rattle.pp_pool.specs.declared.response.BookAnswer.TheVariants as answer
-use Rattle.pp_pool.specs.declared.response.Response.{Response}
 use Rattle.pp_pool.specs.declared.turned.Turned.{Turned}
-use Rattle.pp_pool.specs.declared.turned.Turned.TheVariants.{Done, Broken}
 use Rattle.pp_pool.specs.declared.worker.Worker.{Worker}
 use Rattle.pp_pool.specs.declared.site.Site as Site
 use Rattle.pp_pool.specs.declared.work.Work as Work
-use Rattle.pp_pool.specs.Replies.{Replies}
-use Rattle.pp_pool.specs.AtOnce.{latched_shared, unlatched_shared, unfixed}
-use Rattle.pp_pool.specs.Turns.{Asks, TurnIs, TurnOf, worker_with, has_errand, keeps_place, logged_events, LooksAt}
+use Rattle.pp_pool.specs.Turns.{Asks, TurnIs, TurnOf, worker_with, has_errand, keeps_place}
 use Rattle.pp_pool.specs.ShortTurns.{TurnsAtOnce}
 use Rattle.pp_pool.proofs.Placing.{back_same}
 use Rattle.pp_pool.proofs.Turning.{turns}

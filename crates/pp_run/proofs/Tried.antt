@@ -1,5 +1,5 @@
 -- What a call leaves that is done at once, or changes nothing.
-use Rattle.std.proofs.Common.{◌≡◌, ◌∙◌, ℕ, true, List, length, take, drop, sym, ap, subst}
+use Rattle.std.proofs.Common.{◌≡◌, ◌∙◌, true, List, length, take, drop, sym, subst}
 use Rattle.std.specs.Prelude.{Result, Ok, Err, IfOk, OnErr}
 use Rattle.std.specs.List.{list_all}
 use Rattle.pp_cert.specs.Accepted.{Acceptance}

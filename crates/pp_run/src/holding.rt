@@ -1,7 +1,5 @@
 //! The site of a worker's thread, whose requests may come one after another under one hold of the lock.
 
-ghost use Rattle.std.specs.Prelude.{◌≡◌};
-
 use crate::desk::Desk;
 use crate::locked::Locked;
 use crate::owed::Owed;
