@@ -69,6 +69,7 @@ module _ (b : Parts) (k : IsBook b) (asked : Request) (out : BookAnswer) (v : va
           settings =
               settings_then b k asked v (Some done) is_noted (Some (Step done.0 done.1)) refl journal grows capacity same;
           plans = plans_then b k asked v (Some done) is_noted (Some (Step done.0 done.1)) refl journal grows capacity same;
+          outset = refl;
           kept = kept_at_once;
         }
 

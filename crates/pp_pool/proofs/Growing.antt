@@ -9,22 +9,24 @@ use Rattle.pp_model.specs.declared.moves.Move.{Move}
 use Rattle.pp_model.specs.declared.reply.Reply.{Reply}
 use Rattle.pp_model.specs.declared.event.Event.{Event}
 use Rattle.pp_model.specs.declared.event.Event.TheVariants.{Submit, Step}
-use Rattle.pp_model.specs.Pool.{State, Settings, opening}
+use Rattle.pp_model.specs.Pool.{State, Settings}
 use Rattle.pp_model.specs.Budget.{cost_of, bound}
 use Rattle.pp_model.specs.Moves.{reply_of, next_of, is_possible, IsPossible}
 use Rattle.pp_model.specs.Submitting.{submit_error, submitted_unless, after_submit}
-use Rattle.pp_model.specs.Journals.{after_plan, replay, IsTrueFrom, IsJournalOf, IsJournalFrom}
+use Rattle.pp_model.specs.Journals.{after_plan, replay, IsTrueFrom, IsJournalFrom}
+use Rattle.pp_model.specs.Reached.{IsReached}
 use Rattle.pp_model.proofs.Alone.{settings_stay, submit_leaves}
 use Rattle.pp_model.proofs.Changes.{refused_by}
 use Rattle.pp_model.proofs.Counts.{counted}
 use Rattle.pp_model.proofs.Journeys.{same_plans, step_told, submit_told}
 use Rattle.pp_model.proofs.BoundLaws.{bound_falls, bound_rises}
+use Rattle.pp_outset.specs.Outsets.{opens_with}
 use Rattle.pp_vault.specs.Parts as vault
 use Rattle.pp_vault.specs.Submits as vault_submits
 use Rattle.pp_vault.proofs.Kept.{headline}
 use Rattle.pp_vault.specs.StandsFor.{StandsFor}
 use Rattle.pp_vault.specs.Calls.{Call, stranger, refused, asks, after_call, told}
-use Rattle.pp_pool.specs.Parts.{Parts, settings_of, plans_of, state_of}
+use Rattle.pp_pool.specs.Parts.{Parts, settings_of, plans_of, opening_of, state_of}
 use Rattle.pp_pool.specs.Books.{greatest_from, greatest_cost, IsBook, HeadlineHolds}
 use Rattle.pp_pool.specs.declared.request.Request.{Request}
 use Rattle.pp_pool.specs.Requests.{call_of, event_of, event_for, events_in}
@@ -44,53 +46,61 @@ replay_settings plans s (Submit k ∷ es) =
     replay_settings plans (after_plan s (slice_get plans k)) es ∙ plan_settings s (slice_get plans k)
 
 pub state_settings : (b : Parts) → (state_of b).settings ≡ settings_of b
-state_settings b = replay_settings (plans_of b) (opening (settings_of b)) b.journal
+state_settings b = replay_settings (plans_of b) (opening_of b) b.journal
 
-pub book_told : (b : Parts) → IsBook b → IsJournalOf (state_of b) b.journal
-book_told b k =
-    let settings = sym (state_settings b) in
+-- The journal is one of the state, from the opening state of the book's life on.
+told_here : (b : Parts) → IsBook b → IsJournalFrom (opening_of b) (state_of b) b.journal
+told_here b k =
     let plans : plans_of b ≡ (state_of b).plans = k.stands.core.plans in
     record {
-      is_true =
-          subst (λ ps. IsTrueFrom ps (opening (state_of b).settings) b.journal) plans
-          (subst (λ j. IsTrueFrom (plans_of b) (opening j) b.journal) settings k.is_true);
-      leads_here =
-          sym (ap (λ j. replay (plans_of b) (opening j) b.journal) settings
-          ∙ ap (λ ps. replay ps (opening (state_of b).settings) b.journal) plans);
+      is_true = subst (λ ps. IsTrueFrom ps (opening_of b) b.journal) plans k.is_true;
+      leads_here = ap (λ ps. replay ps (opening_of b) b.journal) (sym plans);
     }
+
+pub book_told : (b : Parts) → IsBook b
+    → IsJournalFrom (opens_with (state_of b).settings b.began) (state_of b) b.journal
+book_told b k =
+    subst (λ j. IsJournalFrom (opens_with j b.began) (state_of b) b.journal) (sym (state_settings b)) (told_here b k)
+
+book_opened : (b : Parts) → IsBook b → IsReached (opens_with (state_of b).settings b.began)
+book_opened b k = subst (λ j. IsReached (opens_with j b.began)) (sym (state_settings b)) k.opened
 
 abbrev settings_by : Geometry → (workers flushes : ℕ) → Settings
 settings_by layout workers flushes = record { layout = layout; workers = workers; flushes = flushes }
 
--- The settings that a vault's core keeps.
-kept_settings : (v : vault.Parts) (w : ℕ) (s : State) → StandsFor v s → w ≡ s.settings.workers
-    → settings_by v.core.layout w v.core.flushes ≡ s.settings
-kept_settings v w s st e =
-    ap (λ l. settings_by l w v.core.flushes) st.core.layout ∙ ap (λ n. settings_by s.settings.layout n v.core.flushes) e
-    ∙ ap (λ n. settings_by s.settings.layout s.settings.workers n) st.core.flushes
+-- The settings that a vault's core and a book keep.
+kept_settings : (v : vault.Parts) (w f : ℕ) (s : State) → StandsFor v s → w ≡ s.settings.workers → f ≡ s.settings.flushes
+    → settings_by v.core.layout w f ≡ s.settings
+kept_settings v w f s st e g =
+    ap (λ l. settings_by l w f) st.core.layout ∙ ap (λ n. settings_by s.settings.layout n f) e
+    ∙ ap (λ n. settings_by s.settings.layout s.settings.workers n) g
 
 -- What is told of a state to which a book's journal leads makes it a book.
 pub record Leads (b : Parts) (s : State) : Type 0 where
   pub stands : StandsFor b.vault s
   pub workers : b.workers ≡ s.settings.workers
-  pub told : IsJournalOf s b.journal
+  pub flushes : b.flushes ≡ s.settings.flushes
+  pub opened : IsReached (opens_with s.settings b.began)
+  pub told : IsJournalFrom (opens_with s.settings b.began) s b.journal
   pub room : length b.journal + bound s ≤ b.capacity
   pub most : b.most ≡ greatest_cost s.plans
 
 pub state_is : (b : Parts) (s : State) → Leads b s → state_of b ≡ s
 state_is b s h =
-    ap (λ j. replay (plans_of b) (opening j) b.journal) (kept_settings b.vault b.workers s h.stands h.workers)
-    ∙ ap (λ ps. replay ps (opening s.settings) b.journal) h.stands.core.plans ∙ h.told.leads_here
+    ap (λ j. replay (plans_of b) (opens_with j b.began) b.journal)
+    (kept_settings b.vault b.workers b.flushes s h.stands h.workers h.flushes)
+    ∙ ap (λ ps. replay ps (opens_with s.settings b.began) b.journal) h.stands.core.plans ∙ h.told.leads_here
 
 pub book_is : (b : Parts) (s : State) → Leads b s → IsBook b
 book_is b s h =
-    let settings = sym (kept_settings b.vault b.workers s h.stands h.workers) in
+    let settings = sym (kept_settings b.vault b.workers b.flushes s h.stands h.workers h.flushes) in
     let plans : s.plans ≡ plans_of b = sym h.stands.core.plans in
     let here = sym (state_is b s h) in
     record {
+      opened = subst (λ j. IsReached (opens_with j b.began)) settings h.opened;
       is_true =
-          subst (λ j. IsTrueFrom (plans_of b) (opening j) b.journal) settings
-          (subst (λ ps. IsTrueFrom ps (opening s.settings) b.journal) plans h.told.is_true);
+          subst (λ j. IsTrueFrom (plans_of b) (opens_with j b.began) b.journal) settings
+          (subst (λ ps. IsTrueFrom ps (opens_with s.settings b.began) b.journal) plans h.told.is_true);
       stands = subst (StandsFor b.vault) here h.stands;
       room = subst (λ t. length b.journal + bound t ≤ b.capacity) here h.room;
       most = h.most ∙ ap greatest_cost plans;
@@ -110,7 +120,9 @@ module _ (b : Parts) (k : IsBook b) (v : vault.Parts) where
       record {
         stands = st;
         workers = sym (ap (λ (j : Settings). j.workers) (state_settings b));
-        told = subst (IsJournalOf (state_of b)) same (book_told b k);
+        flushes = sym (ap (λ (j : Settings). j.flushes) (state_settings b));
+        opened = book_opened b k;
+        told = subst (IsJournalFrom (opens_with (state_of b).settings b.began) (state_of b)) same (book_told b k);
         room = subst (λ (es : List Event). length es + bound (state_of b) ≤ b.capacity) same k.room;
         most = k.most ∙ ap greatest_cost k.stands.core.plans;
       }
@@ -125,9 +137,11 @@ module _ (b : Parts) (k : IsBook b) (v : vault.Parts) where
       record {
         stands = st;
         workers = sym (ap (λ (j : Settings). j.workers) (settings_stay s m ∙ state_settings b));
+        flushes = sym (ap (λ (j : Settings). j.flushes) (settings_stay s m ∙ state_settings b));
+        opened = subst (λ j. IsReached (opens_with j b.began)) (sym (settings_stay s m)) (book_opened b k);
         told =
-            subst (λ j. IsJournalFrom (opening j) (next_of s m) (b.journal ++ e ∷ [])) (sym (settings_stay s m))
-            (step_told s (opening s.settings) b.journal m (book_told b k) p);
+            subst (λ j. IsJournalFrom (opens_with j b.began) (next_of s m) (b.journal ++ e ∷ [])) (sym (settings_stay s m))
+            (step_told s (opens_with s.settings b.began) b.journal m (book_told b k) p);
         room = omega (arith, long, bound_falls s k.stands.core.reached m p, k.room);
         most = k.most ∙ ap greatest_cost (k.stands.core.plans ∙ sym (same_plans s m));
       }
@@ -211,7 +225,7 @@ module _ (b : Parts) (k : IsBook b) (asked : Request) (v : vault.Parts)
 
   pub settings_then : settings_of book_then ≡ settings_of b
   settings_then =
-      kept_settings v b.workers state_then leads_then.stands leads_then.workers
+      kept_settings v b.workers b.flushes state_then leads_then.stands leads_then.workers leads_then.flushes
       ∙ after_settings (state_of b) (call_of b.vault asked (state_of b)) ∙ state_settings b
 
   pub plans_then : v.core.plans ≡ plans_of b
@@ -244,13 +258,14 @@ module _ (b : Parts) (k : IsBook b) (a : Acceptance) (number : ℕ) (v : vault.P
   plans_after : (after_submit (state_of b) a).plans ≡ (state_of b).plans ++ a ∷ []
   plans_after = ap (λ o. (submitted_unless o (state_of b) a).plans) allowed
 
-  told_after : IsJournalOf (after_submit (state_of b) a) journal
+  told_after : IsJournalFrom (opens_with (after_submit (state_of b) a).settings b.began) (after_submit (state_of b) a) journal
   told_after =
-      subst (IsJournalOf (after_submit (state_of b) a))
+      let s = state_of b in
+      subst (IsJournalFrom (opens_with (after_submit s a).settings b.began) (after_submit s a))
       (sym (grows ∙ ap (λ n. b.journal ++ Submit n ∷ []) numbered))
-      (subst (λ o. IsJournalOf (submitted_unless o (state_of b) a) (b.journal ++ Submit (length (state_of b).plans) ∷ []))
-      (sym allowed)
-      (submit_told (state_of b) (opening (state_of b).settings) b.journal a (book_told b k) allowed))
+      (subst (λ o. IsJournalFrom (opens_with (submitted_unless o s a).settings b.began) (submitted_unless o s a)
+      (b.journal ++ Submit (length s.plans) ∷ [])) (sym allowed)
+      (submit_told s (opens_with s.settings b.began) b.journal a (book_told b k) allowed))
 
   leads_with : Leads book_with (after_submit (state_of b) a)
   leads_with =
@@ -258,6 +273,8 @@ module _ (b : Parts) (k : IsBook b) (a : Acceptance) (number : ℕ) (v : vault.P
       record {
         stands = t.stands s k.stands;
         workers = sym (ap (λ (j : Settings). j.workers) ((submit_leaves s a).1 ∙ state_settings b));
+        flushes = sym (ap (λ (j : Settings). j.flushes) ((submit_leaves s a).1 ∙ state_settings b));
+        opened = subst (λ j. IsReached (opens_with j b.began)) (sym (submit_leaves s a).1) (book_opened b k);
         told = told_after;
         room =
             omega (
@@ -285,8 +302,9 @@ module _ (b : Parts) (k : IsBook b) (a : Acceptance) (number : ℕ) (v : vault.P
         plans =
             leads_with.stands.core.plans ∙ plans_after ∙ ap (λ ps. ps ++ a ∷ []) (sym k.stands.core.plans);
         settings =
-            kept_settings v b.workers (after_submit s a) leads_with.stands leads_with.workers ∙ (submit_leaves s a).1
-            ∙ state_settings b;
+            kept_settings v b.workers b.flushes (after_submit s a) leads_with.stands leads_with.workers leads_with.flushes
+            ∙ (submit_leaves s a).1 ∙ state_settings b;
+        outset = refl;
         state = state_is book_with (after_submit s a) leads_with ∙ ap (λ o. submitted_unless o s a) allowed;
         few =
             let counts = counted (after_submit s a) leads_with.stands.core.reached in

@@ -1,19 +1,34 @@
 -- A turn that is made at once is a turn.
-use Rattle.std.proofs.Common.{◌≡◌, ◌∙◌, ◌<◌, ℕ, true, false, Option, Some, None, List, refl, sym, ap, subst}
-use Rattle.std.specs.Prelude.{slice_set, vec_len, vec_capacity}
+use Rattle.std.proofs.Common.{◌≡◌, ◌∙◌, ◌<◌, ◌≤◌, ◌++◌, ℕ, Bool, true, false, inl, inr, Option, Some, None, List, refl, sym, ap, subst}
+use Rattle.std.specs.Prelude.{slice_set, vec_len, vec_capacity, if◌then◌else◌}
 use Rattle.std.specs.Global.{Vec}
 use Rattle.pp_settings.specs.Layout.{Geometry}
+use Rattle.pp_plan.specs.declared.mode.Mode.TheVariants as mode
+use Rattle.pp_plan.specs.declared.action.Ask.TheVariants as ask
+use Rattle.pp_model.specs.declared.reply.Reply.{Reply}
 use Rattle.pp_model.specs.declared.event.Event.{Event}
 use Rattle.pp_device.specs.declared.device.Device as Device
+use Rattle.pp_vault.specs.declared.tokens.Session.{Session}
+use Rattle.pp_vault.specs.declared.guards.PinGuard.{PinGuard}
+use Rattle.pp_vault.specs.declared.guards.ReadGuard.{ReadGuard}
 use Rattle.pp_vault.specs.declared.guards.Guard.{Guard}
+use Rattle.pp_vault.specs.declared.guards.Guard.TheVariants as guard
 use Rattle.pp_vault.specs.declared.stage.Stage.{Stage}
+use Rattle.pp_vault.specs.declared.stage.Stage.TheVariants as stage
 use Rattle.pp_vault.specs.Stages.{stage_worker}
 use Rattle.pp_vault.specs.Holding.{placed, slot_by}
+use Rattle.pp_pool.specs.declared.request.Request.{Request}
+use Rattle.pp_pool.specs.declared.request.Request.TheVariants as request
+use Rattle.pp_pool.specs.declared.response.BookAnswer.TheVariants as answer
+use Rattle.pp_pool.specs.declared.response.Response.{Response}
 use Rattle.pp_pool.specs.declared.turned.Turned.{Turned}
+use Rattle.pp_pool.specs.declared.turned.Turned.TheVariants.{Done, Broken}
 use Rattle.pp_pool.specs.declared.worker.Worker.{Worker}
 use Rattle.pp_pool.specs.declared.site.Site as Site
 use Rattle.pp_pool.specs.declared.work.Work as Work
-use Rattle.pp_pool.specs.Turns.{Asks, TurnIs, TurnOf, worker_with, has_errand, keeps_place}
+use Rattle.pp_pool.specs.Replies.{Replies}
+use Rattle.pp_pool.specs.AtOnce.{latched_shared, unlatched_shared, unfixed}
+use Rattle.pp_pool.specs.Turns.{Asks, Makes, TurnIs, TurnOf, worker_with, has_errand, keeps_place, logged_events, LooksAt}
 use Rattle.pp_pool.specs.ShortTurns.{TurnsAtOnce}
 use Rattle.pp_pool.proofs.Placing.{back_same}
 use Rattle.pp_pool.proofs.Turning.{turns}
@@ -70,6 +85,49 @@ pub turn_let_go : {S D W : Type 0} (s : Site.Ghosts S) (d : Device.Ghosts D) (k 
     → TurnIs s d k old before turned (record new { site = site }) left
 turn_let_go s d k old new before left turned site same t =
     subst (λ x. TurnIs s d k old before turned (record new { site = x }) left) (sym same) t
+
+-- After a turn the worker may forget how far the work reaches.
+forgets : {S D W : Type 0} (s : Site.Ghosts S) (d : Device.Ghosts D) (k : Work.Ghosts W) (old new : Worker S D)
+    (before left : W) (is_logged : Bool) (ends : Turned) (reach : Option ℕ) → Makes s d k is_logged old before ends new left
+    → Makes s d k is_logged old before ends (record new { reach = reach }) left
+forgets s d k old new before left is_logged ends reach t = record {
+  asked = t.asked;
+  response = t.response;
+  after = t.after;
+  between = t.between;
+  asks = t.asks;
+  consults = t.consults;
+  own = t.own;
+  finds = t.finds;
+  none = t.none;
+  given = t.given;
+  fits = t.fits;
+  log = t.log;
+  uses = t.uses;
+  stage = t.stage;
+  guards = t.guards;
+}
+
+pub turn_forgets : {S D W : Type 0} (s : Site.Ghosts S) (d : Device.Ghosts D) (k : Work.Ghosts W) (old new : Worker S D)
+    (before left : W) (turned : Turned) (reach : Option ℕ) → TurnIs s d k old before turned new left
+    → TurnIs s d k old before turned (record new { reach = reach }) left
+turn_forgets s d k old new before left turned reach (inl (inl t)) =
+    inl (inl (forgets s d k old new before left true turned reach t))
+turn_forgets s d k old new before left turned reach (inl (inr t)) = inl (inr (record {
+  errand = t.errand;
+  full = t.full;
+  ends = t.ends;
+  makes = forgets s d k old new before left false t.ends reach t.makes;
+  broken = t.broken;
+}))
+turn_forgets s d k old new before left turned reach (inr w) = inr (record {
+  may = w.may;
+  site = w.site;
+  device = w.device;
+  hand = w.hand;
+  log = w.log;
+  work = w.work;
+})
 
 -- ---- a guard that goes back
 

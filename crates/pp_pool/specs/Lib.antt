@@ -4,6 +4,7 @@ pub mod Books
 pub mod Requests
 pub mod Performing
 pub mod Submits
+pub mod Renewals
 pub mod BookErrors
 pub mod Replies
 pub mod Performs

@@ -16,4 +16,5 @@ pub record Performs (old : Parts) (asked : Request) (response : Response) (new :
   pub answer : ComesTo old.vault asked response.answer new.vault
   pub settings : settings_of new ≡ settings_of old
   pub plans : plans_of new ≡ plans_of old
+  pub outset : new.began ≡ old.began
   pub kept : IsBook new

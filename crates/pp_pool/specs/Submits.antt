@@ -17,6 +17,7 @@ pub record TakesIn (old : Parts) (a : Acceptance) (number : ℕ) (new : Parts) :
   pub journal : new.journal ≡ old.journal ++ Submit number ∷ []
   pub plans : plans_of new ≡ plans_of old ++ a ∷ []
   pub settings : settings_of new ≡ settings_of old
+  pub outset : new.began ≡ old.began
   pub state : state_of new ≡ submitted (state_of old) a
   pub few : number < most_plans
   pub vault : vault.TakesIn old.vault a number new.vault

@@ -8,11 +8,12 @@ ghost use Rattle.pp_model.specs.Pool.{dirty_pages};
 ghost use Rattle.pp_model.specs.Budget.{cost_of};
 ghost use Rattle.pp_model.specs.Turns.{next_turn, IsUnderWay, IsOpen};
 ghost use Rattle.pp_core.specs.Opening.{kept_of};
+ghost use Rattle.pp_outset.specs.Outsets.{new_outset};
 ghost use Rattle.pp_vault.specs.Hands.{HandsFit};
 ghost use Rattle.pp_vault.specs.Stages.{AllIdle};
 ghost use Rattle.pp_vault.specs.Looks.{may_see, may_look, look_error, Shows, ShowsBody};
 ghost use Rattle.pp_pool.specs.Parts.{settings_of, plans_of, state_of};
-ghost use Rattle.pp_pool.specs.Books.{greatest_cost, IsBook, HeadlineHolds};
+ghost use Rattle.pp_pool.specs.Books.{greatest_cost, IsBook, HeadlineHolds, MarksAreTold};
 ghost use Rattle.pp_pool.specs.Requests.{event_for, events_in};
 ghost use Rattle.pp_pool.specs.Performing.{ComesTo};
 ghost use Rattle.pp_pool.specs.Replies.{Replies};
@@ -20,6 +21,7 @@ ghost use Rattle.pp_pool.specs.Performs.{Performs};
 ghost use Rattle.pp_pool.specs.AtOnce.{latched_shared, unlatched_shared, unfixed};
 ghost use Rattle.pp_pool.specs.declared.request.Request.TheVariants as request;
 ghost use Rattle.pp_pool.specs.Submits.{TakesIn, IsCause, HadRoom, HasRoom, LacksRoom};
+ghost use Rattle.pp_pool.specs.Renewals.{HasLifeRoom};
 ghost use Rattle.pp_model.specs.Submitting.{submit_error};
 
 use crate::asking::ask;
@@ -27,6 +29,7 @@ use crate::error::BookError;
 use crate::request::Request;
 use crate::response::Response;
 use pp_model::{Event, Reply, SubmitError, Turn};
+use pp_outset::Outset;
 use pp_settings::Settings;
 use pp_vault::{
     Accepted, Done, Hands, LookError, PinGuard, PlanId, ReadGuard, Session, Vault, VaultError,
@@ -38,14 +41,19 @@ use std::marker::Model;
 ///
 /// Contracts see it as the record `Parts`. Of every book it holds (`IsBook`) that its journal is true, each event
 /// possible at its point and answered as the model answers it; that its vault stands for the state that the journal
-/// leads to from the opening state of the settings; and that there is memory for every event that can still come. Of
+/// leads to from the opening state of its life; and that there is memory for every event that can still come. Of
 /// that state the headline holds.
+///
+/// A new book's life begins in the opening state of the settings. [`Book::renew`] begins the next one, which opens with what
+/// the life before left ([`Book::began`]).
 #[derive(Drop)]
 pub struct Book {
-    vault: Vault,
+    pub(crate) vault: Vault,
     workers: u32,
-    journal: Vec<Event>,
-    most: u64,
+    pub(crate) journal: Vec<Event>,
+    pub(crate) most: u64,
+    pub(crate) flushes: u32,
+    pub(crate) began: Outset,
 }
 
 impl Model for Book {
@@ -57,15 +65,16 @@ impl Model for Book {
 
     ghost coded = { coded_parts };
 
-    ghost view = { λ b. parts_with b.vault b.workers b.journal b.most };
+    ghost view = { λ b. parts_with b.vault b.workers b.journal b.most b.flushes b.began };
 
-    ghost invariant = { λ b. IsBook (parts_with b.vault b.workers b.journal b.most) };
+    ghost invariant = { λ b. IsBook (parts_with b.vault b.workers b.journal b.most b.flushes b.began) };
 }
 
 impl Book {
     /// A book with these settings, in which nothing was done yet, and the hands of its vault.
     ///
-    /// It gets all memory that the vault ever needs, and room in the journal for twice the flushes of the settings.
+    /// It gets all memory that the vault and the outsets of all lives ever need, and room in the journal for twice the flushes of
+    /// the settings.
     ///
     /// # Errors
     ///
@@ -74,12 +83,15 @@ impl Book {
         ensures settings { IfOk result (λ made. settings_of made.0 ≡ kept_of settings.now) }
         ensures no_plan { IfOk result (λ made. plans_of made.0 ≡ []) }
         ensures nothing_done { IfOk result (λ made. made.0.journal ≡ []) }
+        ensures outset { IfOk result (λ made. made.0.began ≡ new_outset (kept_of settings.now)) }
         ensures idle { IfOk result (λ made. AllIdle settings.now.workers made.1.workers) }
         ensures no_flush { IfOk result (λ made. made.1.flushing ≡ None) }
         ensures fit { IfOk result (λ made. HandsFit made.0.vault made.1) }
         ensures page_bytes { IfOk result (λ made. made.0.vault.page_bytes ≡ settings.now.page_bytes) }
+        ensures room { IfOk result (λ made. HasLifeRoom made.0 made.0.capacity) }
         ensures kept { IfOk result (λ made. IsBook made.0) }
     {
+        let began = Outset::new(alloc, settings)?;
         let (vault, hands) = Vault::new(alloc, settings)?;
         let room = vault.budget() as usize;
         match Vec::with_capacity(alloc, room) {
@@ -89,6 +101,8 @@ impl Book {
                     workers: settings.workers(),
                     journal,
                     most: 0,
+                    flushes: settings.flushes(),
+                    began,
                 };
                 Ok((book, hands))
             }
@@ -99,10 +113,12 @@ impl Book {
         }
     }
 
-    /// Does nothing. It tells what holds of every book, and that the headline holds of its state.
+    /// Does nothing. It tells what holds of every book, that the headline holds of its state, and what the journal tells of
+    /// each page's mark.
     pub fn known(&self)
         ensures kept { IsBook self.now }
         ensures headline { HeadlineHolds self.now }
+        ensures marks { MarksAreTold self.now }
     {
         self.vault.known();
     }
@@ -122,6 +138,7 @@ impl Book {
         ensures room { IfErr result (λ e. HadRoom self.new accepted e.1) }
         ensures back { IfErr result (λ e. e.0 ≡ accepted) }
         ensures unchanged { OnErr result (self.new ≡ record self.old { capacity = self.new.capacity }) }
+        ensures grown { self.old.capacity ≤ self.new.capacity }
         ensures kept { IsBook self.new }
     {
         let cost = accepted.cost();
@@ -140,6 +157,7 @@ impl Book {
         ensures room { result ≡ true → HasRoom self.new cost }
         ensures no_room { result ≡ false → LacksRoom self.old cost }
         ensures same { self.new ≡ record self.old { capacity = self.new.capacity } }
+        ensures grown { self.old.capacity ≤ self.new.capacity }
         ensures kept { IsBook self.new }
     {
         let room = self.vault.budget() + cost + 1;
@@ -153,6 +171,7 @@ impl Book {
         ensures error { IfErr result (λ e. submit_error (state_of self.old) accepted ≡ Some e.1) }
         ensures back { IfErr result (λ e. e.0 ≡ accepted) }
         ensures unchanged { OnErr result (self.new ≡ self.old) }
+        ensures memory { self.new.capacity ≡ self.old.capacity }
         ensures kept { IsBook self.new }
     {
         let cost = accepted.cost();
@@ -181,6 +200,7 @@ impl Book {
         ensures fits { Replies request result }
         ensures settings { settings_of self.new ≡ settings_of self.old }
         ensures plans { plans_of self.new ≡ plans_of self.old }
+        ensures outset { self.new.began ≡ self.old.began }
         ensures memory { self.new.capacity ≡ self.old.capacity }
         ensures kept { IsBook self.new }
         ensures headline { HeadlineHolds self.new }
@@ -300,6 +320,13 @@ impl Book {
         self.most
     }
 
+    /// What the book's life began with besides its settings: of a new book, an outset in which nothing was done yet.
+    pub fn began(&self) -> &Outset
+        ensures { result.now ≡ self.now.began }
+    {
+        &self.began
+    }
+
     /// How many workers the pool has.
     pub fn workers(&self) -> u32
         ensures { result ≡ (settings_of self.now).workers }
@@ -341,6 +368,8 @@ impl Book {
             workers: _,
             journal,
             most: _,
+            flushes: _,
+            began: _,
         } = self;
         vault.scrap(hands);
         journal

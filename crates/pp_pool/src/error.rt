@@ -1,8 +1,8 @@
-//! Why a plan isn't taken in.
+//! Why a plan isn't taken in, and why a book isn't renewed.
 
 ghost use Rattle.std.specs.Prelude.{◌≡◌};
 
-use pp_model::SubmitError;
+use pp_model::{RenewError, SubmitError};
 use pp_text::{About, Refusal};
 
 /// Why a book doesn't take a plan in.
@@ -12,6 +12,17 @@ pub enum BookError {
     #[error(transparent)]
     Refused(SubmitError),
     /// Memory ran out. It says nothing of the plan.
+    #[error("out of memory")]
+    OutOfMemory,
+}
+
+/// Why a book isn't renewed.
+#[derive(Clone, Copy, Debug, PartialEq, Eq, thiserror::Error)]
+pub enum BookRenewError {
+    /// The core refuses it.
+    #[error(transparent)]
+    Refused(RenewError),
+    /// Memory ran out for the next life's journal. It says nothing of the book.
     #[error("out of memory")]
     OutOfMemory,
 }

@@ -1,6 +1,7 @@
 //! The flusher: it begins a flush or ends one, one request a turn.
 
 ghost use Rattle.std.specs.Prelude.{◌≡◌, ◌≤◌, ◌<◌, ◌+◌, None};
+ghost use Rattle.pp_pool.specs.Replies.{Replies};
 ghost use Rattle.pp_pool.specs.Flushings.{IsFlush, AsksFlush, IsFlushersAsk, IsFlushers, most_ended};
 ghost use Rattle.pp_pool.specs.Flushings.{ends_in, failures_in, flushing_asked, flushing_after, flush_turned, flush_turned_by};
 ghost use Rattle.pp_pool.specs.Flushings.{from_after as from_then};
@@ -98,7 +99,7 @@ impl<S: Site, D: Device> Flusher<S, D> {
             from,
         } = self;
         let request = next_request(flushing, from, &mut device);
-        let Response { event, answer } = site.perform(request);
+        let Response { event, answer } = performed(&mut site, request);
         count(event, &mut ended, &mut failed);
         let (flushing, turned) = in_hand(answer);
         let flusher = Flusher {
@@ -125,6 +126,16 @@ fn next_request<D: Device>(flushing: Option<Flushing>, from: u32, device: &mut D
         Some(Flushing::Back(returned)) => Request::Answer(returned),
         None => Request::FlushNext(from),
     }
+}
+
+/// Performs the request, and lets the site go: the device is called next, or nothing.
+fn performed<S: Site>(site: &mut S, request: Request) -> Response
+    ensures given { S.gives site.old request result site.new }
+    ensures fits { Replies request result }
+{
+    let response = site.perform(request);
+    site.let_go();
+    response
 }
 
 /// Counts the end of a flush.

@@ -2,9 +2,10 @@
 #![tactic(auto)]
 
 pub use book::Book;
-pub use error::BookError;
+pub use error::{BookError, BookRenewError};
 pub use flusher::Flusher;
 pub use pp_model::Event;
+pub use pp_outset::Outset;
 pub use request::Request;
 pub use response::{BookAnswer, Response};
 pub use site::{OwnSite, Site};
@@ -18,6 +19,7 @@ mod at_once;
 mod book;
 mod error;
 mod flusher;
+mod renewing;
 mod request;
 mod response;
 mod site;

@@ -135,9 +135,11 @@ impl<S: Site, D: Device> Worker<S, D> {
         ensures worker { stage_worker self.new.hand.stage ≡ stage_worker self.old.hand.stage }
         ensures layout { self.new.layout ≡ self.old.layout }
         ensures page_bytes { self.new.page_bytes ≡ self.old.page_bytes }
+        ensures reach { reach_of self.new ≡ None }
     {
         self.reach = None;
         let turned = self.turn_on(work);
+        self.reach = None;
         self.site.let_go();
         turned
     }
@@ -458,6 +460,8 @@ fn used<S: Site, W: Work>(
             (BookAnswer::Shared(session, guard), turned)
         }
         BookAnswer::No(request, refusal) => {
+            // Who was refused may wait before it turns again.
+            site.let_go();
             let turned = turned_by(refusal);
             (BookAnswer::No(request, refusal), turned)
         }

@@ -1,5 +1,5 @@
 -- A run answers the verdict on what its threads gave back.
-use Rattle.std.proofs.Common.{◌≡◌, ◌∙◌, ℕ, ◌≤◌, true, List, [], ◌∷◌, ◌++◌, length, take, drop, get_or, sym, ap, subst, inl, inr, arith}
+use Rattle.std.proofs.Common.{◌≡◌, ◌∙◌, ℕ, ◌+◌, ◌≤◌, true, List, [], ◌∷◌, ◌++◌, length, take, drop, get_or, sym, ap, subst, inl, inr, arith}
 use Rattle.std.specs.Prelude.{◌⊎◌, is_none, IsOk}
 use Rattle.std.specs.List.{list_all}
 use Rattle.std.proofs.lemmas.List.{take_all, take-append-le}
@@ -7,11 +7,14 @@ use Rattle.std.proofs.Math.Seq.{get_or-append_seam}
 use Rattle.pp_cert.specs.Accepted.{Acceptance}
 use Rattle.pp_model.specs.declared.event.Event.{Event}
 use Rattle.pp_model.specs.Pool.{State, Settings, opening, dirty_pages}
+use Rattle.pp_model.specs.Journals.{IsTrueFrom, replay}
 use Rattle.pp_model.specs.Submitting.{after_submits}
 use Rattle.pp_model.specs.Turns.{next_turn}
-use Rattle.pp_pool.specs.Parts.{Parts, settings_of, plans_of, state_of}
+use Rattle.pp_outset.specs.Outsets.{new_outset}
+use Rattle.pp_pool.specs.Parts.{Parts, settings_of, plans_of, opening_of, state_of}
 use Rattle.pp_pool.specs.Books.{IsBook}
 use Rattle.pp_report.specs.Reports.{is_move}
+use Rattle.pp_run.proofs.Ran.{opened_new}
 use Rattle.pp_run.specs.declared.error.RunError.{RunError}
 use Rattle.pp_run.specs.declared.error.RunError.TheVariants.{Refused, OutOfMemory, Mismatch, Broken, NoThread}
 use Rattle.pp_run.specs.declared.judging.Left.{Left}
@@ -25,7 +28,7 @@ use Rattle.pp_run.specs.Verdicts.{IsFirstBroken, IsFirstMismatch, IsMiscounted, 
 
 -- What the threads gave back, where the book has these settings and plans.
 joined_of : {D : Type 0} (calls failures : D → ℕ) (b : Parts) (front : List D) (last : D) (devices : List D)
-    (worked : List (Worked D)) (f : Flushed D) (left : Left) → IsBook b
+    (worked : List (Worked D)) (f : Flushed D) (left : Left) → IsBook b → opening_of b ≡ opening (settings_of b)
     → take (length (plans_of b)) b.journal ≡ submits 0 (length (plans_of b))
     → list_all is_move (drop (length (plans_of b)) b.journal) ≡ true
     → length front ≡ (settings_of b).workers → devices ≡ front ++ last ∷ []
@@ -33,40 +36,42 @@ joined_of : {D : Type 0} (calls failures : D → ℕ) (b : Parts) (front : List 
     → left.over ≡ is_none (next_turn (state_of b)) → left.dirty ≡ dirty_pages (state_of b)
     → left.flushes ≡ (settings_of b).flushes
     → IsJoined calls failures (settings_of b) (plans_of b) devices worked f b.journal left
-joined_of calls failures b front last devices worked f left book first moves long given ends ending over dirty flushes =
+joined_of calls failures b front last devices worked f left book new first moves long given ends ending over dirty flushes =
     let workers = (settings_of b).workers in
+    let at : (P : State → Type 0) → P (state_of b) → P (replay (plans_of b) (opening (settings_of b)) b.journal)
+    = λ P h. subst (λ o. P (replay (plans_of b) o b.journal)) new h in
     let fronts : take workers devices ≡ front
     = ap (take workers) given ∙ (take-append-le workers front (last ∷ []) (omega (arith, long))
     ∙ take_all workers front (omega (arith, long))) in
     record {
-      is_true = book.is_true;
+      is_true = subst (λ o. IsTrueFrom (plans_of b) o b.journal) new book.is_true;
       submits_first = first;
       then_moves = moves;
-      submitted = sym book.stands.core.plans;
+      submitted = at (λ s. s.plans ≡ plans_of b) (sym book.stands.core.plans);
       count = ends.0 ∙ long;
       workers = subst (λ ds. AllWorkedFrom calls failures ds worked) (sym fronts) ends;
       flusher = λ d.
           subst (λ e. FlushedFrom calls failures e f) (sym (ap (λ xs. get_or xs workers d) given
           ∙ (ap (λ n. get_or (front ++ last ∷ []) n d) (sym long) ∙ get_or-append_seam front last [] d))) ending;
-      over = over;
-      dirty = dirty;
+      over = at (λ s. left.over ≡ is_none (next_turn s)) over;
+      dirty = at (λ s. left.dirty ≡ dirty_pages s) dirty;
       flushes = flushes;
     }
 
 pub joined : {D : Type 0} (calls failures : D → ℕ) (k : Settings) (plans : List Acceptance) (b : Parts) (front : List D)
     (last : D) (devices : List D) (worked : List (Worked D)) (f : Flushed D) (events : List Event) (left : Left)
-    → settings_of b ≡ k → plans_of b ≡ plans → b.journal ≡ events → IsBook b
+    → settings_of b ≡ k → plans_of b ≡ plans → b.began ≡ new_outset k → b.journal ≡ events → IsBook b
     → take (length plans) b.journal ≡ submits 0 (length plans)
     → list_all is_move (drop (length plans) b.journal) ≡ true
     → length front ≡ k.workers → devices ≡ front ++ last ∷ []
     → AllWorkedFrom calls failures front worked → FlushedFrom calls failures last f
     → left.over ≡ is_none (next_turn (state_of b)) → left.dirty ≡ dirty_pages (state_of b) → left.flushes ≡ k.flushes
     → IsJoined calls failures k plans devices worked f events left
-joined calls failures k plans b front last devices worked f events left of_settings of_plans journal book first moves long given ends ending over dirty flushes =
+joined calls failures k plans b front last devices worked f events left of_settings of_plans began journal book first moves long given ends ending over dirty flushes =
     subst (λ es. IsJoined calls failures k plans devices worked f es left) journal
     (subst (λ j. IsJoined calls failures j plans devices worked f b.journal left) of_settings
     (subst (λ ps. IsJoined calls failures (settings_of b) ps devices worked f b.journal left) of_plans
-    (joined_of calls failures b front last devices worked f left book
+    (joined_of calls failures b front last devices worked f left book (opened_new k b of_settings began)
     (subst (λ ps. take (length ps) b.journal ≡ submits 0 (length ps)) (sym of_plans) first)
     (subst (λ ps. list_all is_move (drop (length ps) b.journal) ≡ true) (sym of_plans) moves)
     (long ∙ ap (λ j. j.workers) (sym of_settings)) given ends ending over dirty
@@ -100,6 +105,16 @@ unstarted calls failures k plans devices threads OutOfMemory h = tt
 unstarted calls failures k plans devices threads (NoThread w) h = tt
 unstarted calls failures k plans devices threads (Mismatch w) h = absurd h
 unstarted calls failures k plans devices threads (Broken w) h = absurd h
+
+-- A thread that isn't started is one of the run.
+pub unstarted_run : (k : Settings) (plans : List Acceptance) (threads : ℕ) (error : RunError)
+    → IsOk (after_submits (opening k) plans) → threads ≤ k.workers + 1 → IsUnstarted threads error
+    → IsRunError k plans error
+unstarted_run k plans threads (Refused error) taken few h = absurd h
+unstarted_run k plans threads OutOfMemory taken few h = tt
+unstarted_run k plans threads (NoThread w) taken few h = record { taken = taken; within = omega (arith, few, h) }
+unstarted_run k plans threads (Mismatch w) taken few h = absurd h
+unstarted_run k plans threads (Broken w) taken few h = absurd h
 
 -- What is wrong with the logs of a run that is sound is the verdict.
 pub unlike_verdict : {D : Type 0} (worked : List (Worked D)) (f : Flushed D) (events : List Event) (left : Left)

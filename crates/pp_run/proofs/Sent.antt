@@ -15,6 +15,7 @@ use Rattle.pp_frames.proofs.page.Page.TheSendSync as page
 use Rattle.pp_frames.proofs.number_set.NumberSet.TheLaws.TheKnot as numbers
 use Rattle.pp_plan.proofs.stmt.Body.TheLaws.TheKnot as body
 use Rattle.pp_core.proofs.seat.Seat.TheSendSync as seat
+use Rattle.pp_outset.proofs.outset.Outset.TheSendSync as outset
 use Rattle.pp_vault.proofs.hands.Hands.TheSendSync as hands
 use Rattle.pp_core.proofs.table.Flush.TheSendSync as flush
 use Rattle.pp_frames.specs.contracts.marks.Marks.{the_row as marks_row}
@@ -69,7 +70,7 @@ pub vault_send : IsSend vault_row
 vault_send = search (vault_inside_send, sendable)
 
 pub book_inside_send : IsSend book_inside
-book_inside_send = search (vault_send, event_send, sendable, crosses) depth 24 fits 5000
+book_inside_send = search (vault_send, event_send, outset.the_send, sendable, crosses) depth 24 fits 5000
 
 pub book_send : IsSend book_row
 book_send = search (book_inside_send, sendable)

@@ -5,6 +5,7 @@ ghost use Rattle.std.specs.Coded.{Coded-set, coded_list};
 ghost use Rattle.std.specs.List.{list_all};
 ghost use Rattle.pp_cert.specs.Accepted.{coded_acceptance};
 ghost use Rattle.pp_device.specs.Image.{head_of};
+ghost use Rattle.pp_outset.specs.Coding.{coded_outset};
 ghost use Rattle.pp_vault.specs.Stages.{stage_worker};
 ghost use Rattle.pp_pool.specs.Parts.{settings_of, plans_of};
 ghost use Rattle.pp_pool.specs.Replies.{Replies};
@@ -46,18 +47,22 @@ pub trait Desk: Site {
         ensures { IfErr result (λ back. back ≡ flushing) };
 }
 
-/// Whose journal a run's book has: of these settings, and of these plans, which were all submitted. Each run picks it.
+/// Whose journal a run's book has: of these settings, of these plans, which were all submitted, and of a life that began with
+/// this outset. Each run picks it.
 pub(crate) trait Naming {
     ghost use Rattle.std.specs.Prelude.{List};
     ghost use Rattle.pp_cert.specs.Accepted.{Acceptance};
     ghost use Rattle.pp_model.specs.Pool.{Settings};
+    ghost use Rattle.pp_outset.specs.Outsets.{Outset};
 
     ghost settings: { Settings };
 
     ghost plans: { List Acceptance };
+
+    ghost outset: { Outset };
 }
 
-/// The book of a run, of these settings and plans, with its tokens. It counts the plans that end. Its journal begins with
+/// The book of a run, of these settings, plans and outset, with its tokens. It counts the plans that end. Its journal begins with
 /// the submits of all plans, and each event behind these is a move.
 ///
 /// The compiler refuses code that lets it fall.
@@ -69,6 +74,7 @@ pub(crate) struct RunDesk<'a, N: Naming> {
     finished: &'a AtomicU64,
     ghost settings: { settings_of site.book ≡ N.settings },
     ghost plans: { plans_of site.book ≡ N.plans } by { Coded-set (coded_list coded_acceptance) (plans_of site.book) N.plans },
+    ghost outset: { site.book.began ≡ N.outset } by { Coded-set coded_outset site.book.began N.outset },
     ghost begun: { take (length N.plans) site.book.journal ≡ submits 0 (length N.plans) } by { Coded-set coded_events (take (length N.plans) site.book.journal) (submits 0 (length N.plans)) },
     ghost moving: { list_all is_move (drop (length N.plans) site.book.journal) ≡ true },
 }
@@ -83,6 +89,7 @@ impl<'a, N: Naming> RunDesk<'a, N> {
     ) -> RunDesk<'a, N>
         requires settings { settings_of book ≡ N.settings }
         requires plans { plans_of book ≡ N.plans }
+        requires outset { book.began ≡ N.outset }
         requires journal { book.journal ≡ submits 0 (length N.plans) }
     {
         RunDesk {
@@ -98,6 +105,7 @@ impl<'a, N: Naming> RunDesk<'a, N> {
     pub(crate) fn into_parts(self) -> (Book, Hands)
         ensures settings { settings_of result.0 ≡ N.settings }
         ensures plans { plans_of result.0 ≡ N.plans }
+        ensures outset { result.0.began ≡ N.outset }
         ensures submits { take (length N.plans) result.0.journal ≡ submits 0 (length N.plans) }
         ensures moves { list_all is_move (drop (length N.plans) result.0.journal) ≡ true }
     {
@@ -202,8 +210,11 @@ fn ends_plan(event: Option<&Event>) -> bool {
 impl Naming for Brand {
     ghost use Rattle.std.specs.Prelude.{[]};
     ghost use Rattle.pp_run.specs.Runs.{no_settings};
+    ghost use Rattle.pp_outset.specs.Outsets.{new_outset};
 
     ghost settings = { no_settings };
 
     ghost plans = { [] };
+
+    ghost outset = { new_outset no_settings };
 }

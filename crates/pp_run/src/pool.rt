@@ -5,6 +5,7 @@ ghost use Rattle.pp_core.specs.Opening.{kept_of};
 ghost use Rattle.pp_model.specs.Pool.{dirty_pages, opening};
 ghost use Rattle.pp_model.specs.Submitting.{after_submits};
 ghost use Rattle.pp_model.specs.Turns.{IsUnderWay, next_turn};
+ghost use Rattle.pp_outset.specs.Outsets.{new_outset};
 ghost use Rattle.pp_pool.specs.Parts.{settings_of, plans_of, state_of};
 ghost use Rattle.pp_pool.specs.Books.{IsBook, HeadlineHolds};
 ghost use Rattle.pp_report.specs.Auditing.{auditing};
@@ -104,7 +105,7 @@ impl Pool {
     }
 }
 
-/// As [`Pool::run_watched`], with a name for the settings and the plans.
+/// As [`Pool::run_watched`], with a name for the settings, the plans and the outset.
 fn run_named<
     N: Naming + Send,
     D: Device + Drop + Send,
@@ -121,6 +122,7 @@ fn run_named<
 ) -> Result<(RunRecord, Vec<D>), RunError>
     requires settings { N.settings ≡ kept_of settings.now }
     requires plans { N.plans ≡ plans.items }
+    requires outset { N.outset ≡ new_outset (kept_of settings.now) }
     requires ends { vec_len devices ≡ settings.now.workers + 1 }
     requires works { vec_len works ≡ settings.now.workers }
     ensures journal { IfOk result (λ r. IsRun (kept_of settings.now) plans.items r.0) }
@@ -170,6 +172,7 @@ fn opened(
 ) -> Result<(Book, Hands, u16), RunError>
     ensures settings { IfOk result (λ made. settings_of made.0 ≡ kept_of settings.now) }
     ensures plans { IfOk result (λ made. plans_of made.0 ≡ plans.items) }
+    ensures outset { IfOk result (λ made. made.0.began ≡ new_outset (kept_of settings.now)) }
     ensures count { IfOk result (λ made. made.2 ≡ vec_len plans) }
     ensures journal { IfOk result (λ made. made.0.journal ≡ submits 0 (length plans.items)) }
     ensures taken { IfOk result (λ made. after_submits (opening (kept_of settings.now)) plans.items ≡ Ok (state_of made.0)) }
@@ -194,6 +197,7 @@ fn submit_all(book: &mut Book, plans: Vec<Accepted>) -> Result<u16, RunError>
     ensures taken { OnOk result (after_submits (state_of book.old) plans.items ≡ Ok (state_of book.new)) }
     ensures error { IfErr result (IsNotTakenIn (state_of book.old) plans.items) }
     ensures settings { settings_of book.new ≡ settings_of book.old }
+    ensures outset { book.new.began ≡ book.old.began }
 {
     let mut count = 0u16;
     for plan in plans {

@@ -1,8 +1,8 @@
-use Rattle.std.proofs.Common.{◌≡◌, ◌∙◌, ◌++◌, true, [], ◌∷◌, length, take, drop, Ok, sym, ap, subst, rules}
+use Rattle.std.proofs.Common.{◌≡◌, ◌∙◌, ◌++◌, true, [], ◌∷◌, length, take, drop, Ok, sym, ap, subst, arith, rules}
 use Rattle.std.specs.List.{list_all}
 use denote.Exit.{no}
 use denote.Param.Send.{param_send, arg_send}
-use Rattle.std.specs.Prelude.{IsOk}
+use Rattle.std.specs.Prelude.{IsOk, vec_len}
 use Rattle.pp_core.specs.Opening.{kept_of}
 use Rattle.pp_model.specs.Pool.{opening}
 use Rattle.pp_model.specs.Submitting.{after_submits}
@@ -15,7 +15,7 @@ use Rattle.pp_report.specs.Reports.{is_move}
 use Rattle.pp_run.specs.Calling.{begun_flushes_in}
 use Rattle.pp_run.specs.Joins.{IsAnswer}
 use Rattle.pp_run.specs.Runs.{submits, IsRunError}
-use Rattle.pp_run.proofs.Judged.{unopened, unstarted, joined, judged, names_thread}
+use Rattle.pp_run.proofs.Judged.{unopened, unstarted, unstarted_run, joined, judged, names_thread}
 use Rattle.pp_run.proofs.Ran.{ran, left_whole}
 use Rattle.pp_run.proofs.Sent.{desk_send}
 use Rattle.pp_run.proofs.pool.run_named.Goals as goal
@@ -25,7 +25,7 @@ returns-clause-journal g c =
     let b = c.into_parts-book.result.0 in
     ran (kept_of c.args.settings.now) c.args.plans.items b _
     (c.into_parts-book.ensures.settings ∙ c.requires.settings) (c.into_parts-book.ensures.plans ∙ c.requires.plans)
-    c.closed-events.ensures.kept (c.closed-events.ensures.over c.in_ok-back.ensures.over)
+    (c.into_parts-book.ensures.outset ∙ c.requires.outset) c.closed-events.ensures.kept (c.closed-events.ensures.over c.in_ok-back.ensures.over)
     (sym c.closed-events.ensures.journal)
     (subst (λ ps. take (length ps) b.journal ≡ submits 0 (length ps)) c.requires.plans c.into_parts-book.ensures.submits)
     (subst (λ ps. list_all is_move (drop (length ps) b.journal) ≡ true) c.requires.plans c.into_parts-book.ensures.moves)
@@ -41,8 +41,8 @@ returns-clause-audited g c =
     let value = c.as_slice-journal.ensures.value in
     let whole : IsWhole k plans b.journal
     = left_whole k plans b (c.into_parts-book.ensures.settings ∙ c.requires.settings)
-    (c.into_parts-book.ensures.plans ∙ c.requires.plans) c.closed-events.ensures.kept
-    (sym c.closed-events.ensures.ended ∙ c.in_ok-back.ensures.over) in
+    (c.into_parts-book.ensures.plans ∙ c.requires.plans) (c.into_parts-book.ensures.outset ∙ c.requires.outset)
+    c.closed-events.ensures.kept (sym c.closed-events.ensures.ended ∙ c.in_ok-back.ensures.over) in
     subst (λ es. auditing k plans (journal_words es) ≡ Ok (length es)) value
     (c.whole_journals_are_audited.ensures.verdict k plans
     (subst (λ es. IsWhole k plans es) (sym c.closed-events.ensures.journal ∙ sym value) whole))
@@ -80,6 +80,15 @@ returns-in_err-worked-clause-verdict g c =
     _ c.in_err-worked.field-0.0 c.in_err-worked.ensures.error in
     search rules
 
+pub returns-in_err-worked-clause-error : goal.returns-in_err-worked-clause-error
+returns-in_err-worked-clause-error g c =
+    let k = kept_of c.args.settings.now in
+    let taken : IsOk (after_submits (opening k) c.args.plans.items) = search rules in
+    let few : vec_len c.pop.new.self ≡ c.args.settings.now.workers = search rules in
+    let said : IsRunError k c.args.plans.items c.in_err-worked.field-0.0
+    = unstarted_run k c.args.plans.items _ c.in_err-worked.field-0.0 taken (omega (arith, few)) c.in_err-worked.ensures.error in
+    search rules
+
 pub returns-in_err-back-clause-verdict : goal.returns-in_err-back-clause-verdict
 returns-in_err-back-clause-verdict g c =
     let b = c.into_parts-book.result.0 in
@@ -95,7 +104,7 @@ returns-in_err-back-clause-verdict g c =
     (joined g.D.Device.calls g.D.Device.failures k c.args.plans.items b c.pop.new.self.items c.in-Some.last
     c.args.devices.items c.in_ok-worked.worked.items c.in_ok-worked.flushed c.as_slice-journal.result.now
     c.closed-events.result.0 (c.into_parts-book.ensures.settings ∙ c.requires.settings)
-    (c.into_parts-book.ensures.plans ∙ c.requires.plans)
+    (c.into_parts-book.ensures.plans ∙ c.requires.plans) (c.into_parts-book.ensures.outset ∙ c.requires.outset)
     (sym c.closed-events.ensures.journal ∙ sym c.as_slice-journal.ensures.value) c.closed-events.ensures.kept
     (subst (λ ps. take (length ps) b.journal ≡ submits 0 (length ps)) c.requires.plans c.into_parts-book.ensures.submits)
     (subst (λ ps. list_all is_move (drop (length ps) b.journal) ≡ true) c.requires.plans c.into_parts-book.ensures.moves)

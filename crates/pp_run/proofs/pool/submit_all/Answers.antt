@@ -28,4 +28,5 @@ loop-plan-preserved c =
           ∙ (taken_next (state_of book) c.in-Some.plan rest taken.allowed ∙ ap (λ s. after_submits s rest) (sym taken.state))),
       omega (arith, longer, was.4),
       submit_next book.journal _ _ _ _ _ _ _ taken.numbered taken.journal (ap length taken.plans ∙ length-append (plans_of book) (c.in-Some.plan ∷ [])) (search rules) was.5,
+      taken.outset ∙ was.6,
     )

@@ -16,3 +16,4 @@ invariant-loop-plan l =
     × (l.count ≤ length (plans_of l.book))
     × (l.fn.book.journal ++ submits (length (plans_of l.fn.book)) (into_iter_len l.initial.plan-iterator)
     ≡ l.book.journal ++ submits (length (plans_of l.book)) (into_iter_len l.plan-iterator))
+    × (l.book.began ≡ l.fn.book.began)

@@ -7,20 +7,20 @@ use Rattle.pp_pool.proofs.book.Book.add.Goals as goal
 
 pub invariant_of-self : goal.invariant_of-self
 invariant_of-self c =
-    book_taken (parts_with c.self.inside.vault c.self.inside.workers c.self.inside.journal c.self.inside.most)
+    book_taken (parts_with c.self.inside.vault c.self.inside.workers c.self.inside.journal c.self.inside.most c.self.inside.flushes c.self.inside.began)
     c.self.invariant c.args.accepted c.in-Ok.id c.submit.new.self c.in-Ok.ensures.ok c.push_reserved.new.self.items
     (search rules) (vec_capacity c.push_reserved.new.self) (search rules) c.max-self-inside.result (search rules)
 
 pub returns-in-Ok-clause-ok : goal.returns-in-Ok-clause-ok
 returns-in-Ok-clause-ok c =
     subst (λ b. TakesIn b c.args.accepted c.in-Ok.id
-    (parts_with c.submit.new.self c.self.inside.workers c.push_reserved.new.self c.max-self-inside.result)) c.self.view_is
-    (taken_in (parts_with c.self.inside.vault c.self.inside.workers c.self.inside.journal c.self.inside.most)
+    (parts_with c.submit.new.self c.self.inside.workers c.push_reserved.new.self c.max-self-inside.result c.self.inside.flushes c.self.inside.began)) c.self.view_is
+    (taken_in (parts_with c.self.inside.vault c.self.inside.workers c.self.inside.journal c.self.inside.most c.self.inside.flushes c.self.inside.began)
     c.self.invariant c.args.accepted c.in-Ok.id c.submit.new.self c.in-Ok.ensures.ok c.push_reserved.new.self.items
     (search rules) (vec_capacity c.push_reserved.new.self) (search rules) c.max-self-inside.result (search rules))
 
 pub returns-in-Ok-clause-kept : goal.returns-in-Ok-clause-kept
 returns-in-Ok-clause-kept c =
-    book_taken (parts_with c.self.inside.vault c.self.inside.workers c.self.inside.journal c.self.inside.most)
+    book_taken (parts_with c.self.inside.vault c.self.inside.workers c.self.inside.journal c.self.inside.most c.self.inside.flushes c.self.inside.began)
     c.self.invariant c.args.accepted c.in-Ok.id c.submit.new.self c.in-Ok.ensures.ok c.push_reserved.new.self.items
     (search rules) (vec_capacity c.push_reserved.new.self) (search rules) c.max-self-inside.result (search rules)

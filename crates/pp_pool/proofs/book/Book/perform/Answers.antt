@@ -9,13 +9,13 @@ use Rattle.pp_pool.proofs.book.Book.perform.Goals as goal
 
 pub noted-event-requires : goal.noted-event-requires
 noted-event-requires c =
-    room_in (parts_with c.self.inside.vault c.self.inside.workers c.self.inside.journal c.self.inside.most)
+    room_in (parts_with c.self.inside.vault c.self.inside.workers c.self.inside.journal c.self.inside.most c.self.inside.flushes c.self.inside.began)
     c.self.invariant c.args.request c.ask-answer.new.vault c.ask-answer.result.1 (noted c.self.inside.vault c.ask-answer.new.vault c.args.request c.ask-answer.result.0 c.ask-answer.result.1
     c.ask-answer.ensures.comes c.ask-answer.ensures.does c.ask-answer.ensures.done)
 
 pub invariant_of-self : goal.invariant_of-self
 invariant_of-self c =
-    performed (parts_with c.self.inside.vault c.self.inside.workers c.self.inside.journal c.self.inside.most)
+    performed (parts_with c.self.inside.vault c.self.inside.workers c.self.inside.journal c.self.inside.most c.self.inside.flushes c.self.inside.began)
     c.self.invariant c.args.request c.ask-answer.new.vault c.ask-answer.result.1 (noted c.self.inside.vault c.ask-answer.new.vault c.args.request c.ask-answer.result.0 c.ask-answer.result.1
     c.ask-answer.ensures.comes c.ask-answer.ensures.does c.ask-answer.ensures.done) c.noted-event.result
     c.noted-event.ensures.event c.noted-event.new.journal.items c.noted-event.ensures.journal
@@ -24,14 +24,14 @@ invariant_of-self c =
 pub returns-clause-event : goal.returns-clause-event
 returns-clause-event c =
     subst (λ b. c.noted-event.result ≡ event_for b c.args.request) c.self.view_is
-    (event_in (parts_with c.self.inside.vault c.self.inside.workers c.self.inside.journal c.self.inside.most)
+    (event_in (parts_with c.self.inside.vault c.self.inside.workers c.self.inside.journal c.self.inside.most c.self.inside.flushes c.self.inside.began)
     c.self.invariant c.args.request c.ask-answer.new.vault c.ask-answer.result.1 (noted c.self.inside.vault c.ask-answer.new.vault c.args.request c.ask-answer.result.0 c.ask-answer.result.1
     c.ask-answer.ensures.comes c.ask-answer.ensures.does c.ask-answer.ensures.done) c.noted-event.result
     c.noted-event.ensures.event)
 
 pub returns-clause-settings : goal.returns-clause-settings
 returns-clause-settings c =
-    settings_then (parts_with c.self.inside.vault c.self.inside.workers c.self.inside.journal c.self.inside.most)
+    settings_then (parts_with c.self.inside.vault c.self.inside.workers c.self.inside.journal c.self.inside.most c.self.inside.flushes c.self.inside.began)
     c.self.invariant c.args.request c.ask-answer.new.vault c.ask-answer.result.1 (noted c.self.inside.vault c.ask-answer.new.vault c.args.request c.ask-answer.result.0 c.ask-answer.result.1
     c.ask-answer.ensures.comes c.ask-answer.ensures.does c.ask-answer.ensures.done) c.noted-event.result
     c.noted-event.ensures.event c.noted-event.new.journal.items c.noted-event.ensures.journal
@@ -40,7 +40,7 @@ returns-clause-settings c =
 
 pub returns-clause-plans : goal.returns-clause-plans
 returns-clause-plans c =
-    plans_then (parts_with c.self.inside.vault c.self.inside.workers c.self.inside.journal c.self.inside.most)
+    plans_then (parts_with c.self.inside.vault c.self.inside.workers c.self.inside.journal c.self.inside.most c.self.inside.flushes c.self.inside.began)
     c.self.invariant c.args.request c.ask-answer.new.vault c.ask-answer.result.1 (noted c.self.inside.vault c.ask-answer.new.vault c.args.request c.ask-answer.result.0 c.ask-answer.result.1
     c.ask-answer.ensures.comes c.ask-answer.ensures.does c.ask-answer.ensures.done) c.noted-event.result
     c.noted-event.ensures.event c.noted-event.new.journal.items c.noted-event.ensures.journal
@@ -49,7 +49,7 @@ returns-clause-plans c =
 
 pub returns-clause-kept : goal.returns-clause-kept
 returns-clause-kept c =
-    performed (parts_with c.self.inside.vault c.self.inside.workers c.self.inside.journal c.self.inside.most)
+    performed (parts_with c.self.inside.vault c.self.inside.workers c.self.inside.journal c.self.inside.most c.self.inside.flushes c.self.inside.began)
     c.self.invariant c.args.request c.ask-answer.new.vault c.ask-answer.result.1 (noted c.self.inside.vault c.ask-answer.new.vault c.args.request c.ask-answer.result.0 c.ask-answer.result.1
     c.ask-answer.ensures.comes c.ask-answer.ensures.does c.ask-answer.ensures.done) c.noted-event.result
     c.noted-event.ensures.event c.noted-event.new.journal.items c.noted-event.ensures.journal
@@ -57,14 +57,14 @@ returns-clause-kept c =
 
 pub returns-clause-fits : goal.returns-clause-fits
 returns-clause-fits c =
-    replies (parts_with c.self.inside.vault c.self.inside.workers c.self.inside.journal c.self.inside.most)
+    replies (parts_with c.self.inside.vault c.self.inside.workers c.self.inside.journal c.self.inside.most c.self.inside.flushes c.self.inside.began)
     c.self.invariant c.args.request c.ask-answer.result.0 c.ask-answer.new.vault c.ask-answer.ensures.comes
     c.ask-answer.ensures.does c.ask-answer.result.1 c.ask-answer.ensures.done c.noted-event.result c.noted-event.ensures.event c.ask-answer.ensures.tokens
 
 pub returns-clause-headline : goal.returns-clause-headline
 returns-clause-headline c =
     book_headline _
-    (performed (parts_with c.self.inside.vault c.self.inside.workers c.self.inside.journal c.self.inside.most)
+    (performed (parts_with c.self.inside.vault c.self.inside.workers c.self.inside.journal c.self.inside.most c.self.inside.flushes c.self.inside.began)
     c.self.invariant c.args.request c.ask-answer.new.vault c.ask-answer.result.1 (noted c.self.inside.vault c.ask-answer.new.vault c.args.request c.ask-answer.result.0 c.ask-answer.result.1
     c.ask-answer.ensures.comes c.ask-answer.ensures.does c.ask-answer.ensures.done) c.noted-event.result
     c.noted-event.ensures.event c.noted-event.new.journal.items c.noted-event.ensures.journal

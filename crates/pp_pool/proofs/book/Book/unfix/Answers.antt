@@ -13,14 +13,14 @@ use Rattle.pp_pool.proofs.book.Book.unfix.Goals as goal
 
 pub added-reply-requires : goal.added-reply-requires
 added-reply-requires c =
-    room_at_once (parts_with c.self.inside.vault c.self.inside.workers c.self.inside.journal c.self.inside.most)
+    room_at_once (parts_with c.self.inside.vault c.self.inside.workers c.self.inside.journal c.self.inside.most c.self.inside.flushes c.self.inside.began)
     c.self.invariant (Unfix c.args.session c.args.guard) (Acts c.in-Ok.session) c.unfix.new.self
     c.in-Ok.ensures.ok (λ _. c.in-Ok.ensures.ok.does) c.in-Ok.done c.in-Ok.ensures.done
     c.in-Ok.ensures.ok.session.worker
 
 pub invariant_of-self : goal.invariant_of-self
 invariant_of-self c =
-    kept_at_once (parts_with c.self.inside.vault c.self.inside.workers c.self.inside.journal c.self.inside.most)
+    kept_at_once (parts_with c.self.inside.vault c.self.inside.workers c.self.inside.journal c.self.inside.most c.self.inside.flushes c.self.inside.began)
     c.self.invariant (Unfix c.args.session c.args.guard) (Acts c.in-Ok.session) c.unfix.new.self
     c.in-Ok.ensures.ok (λ _. c.in-Ok.ensures.ok.does) c.in-Ok.done c.in-Ok.ensures.done
     c.in-Ok.ensures.ok.session.worker
@@ -31,15 +31,15 @@ pub returns-in-Ok-clause-ok : goal.returns-in-Ok-clause-ok
 returns-in-Ok-clause-ok c =
     subst (λ b. Performs b (Unfix c.args.session c.args.guard)
     (unfixed c.args.session (c.in-Ok.session, c.added-reply.result))
-    (parts_with c.unfix.new.self c.self.inside.workers c.added-reply.new.journal c.self.inside.most)) c.self.view_is
-    (performs_at_once (parts_with c.self.inside.vault c.self.inside.workers c.self.inside.journal c.self.inside.most)
+    (parts_with c.unfix.new.self c.self.inside.workers c.added-reply.new.journal c.self.inside.most c.self.inside.flushes c.self.inside.began)) c.self.view_is
+    (performs_at_once (parts_with c.self.inside.vault c.self.inside.workers c.self.inside.journal c.self.inside.most c.self.inside.flushes c.self.inside.began)
     c.self.invariant (Unfix c.args.session c.args.guard) (Acts c.in-Ok.session) c.unfix.new.self
     c.in-Ok.ensures.ok (λ _. c.in-Ok.ensures.ok.does) c.in-Ok.done c.in-Ok.ensures.done
     c.in-Ok.ensures.ok.session.worker
     c.added-reply.new.journal.items c.added-reply.ensures.journal (vec_capacity c.added-reply.new.journal)
     c.added-reply.ensures.memory
     (move.Unfix c.args.session.worker) c.added-reply.result
-    (move_at_once (parts_with c.self.inside.vault c.self.inside.workers c.self.inside.journal c.self.inside.most)
+    (move_at_once (parts_with c.self.inside.vault c.self.inside.workers c.self.inside.journal c.self.inside.most c.self.inside.flushes c.self.inside.began)
     c.self.invariant (Unfix c.args.session c.args.guard) (Acts c.in-Ok.session) c.unfix.new.self
     c.in-Ok.ensures.ok (λ _. c.in-Ok.ensures.ok.does) c.in-Ok.done c.in-Ok.ensures.done
     c.in-Ok.ensures.ok.session.worker)
@@ -47,12 +47,12 @@ returns-in-Ok-clause-ok c =
 
 pub returns-in-Ok-clause-fits : goal.returns-in-Ok-clause-fits
 returns-in-Ok-clause-fits c =
-    replies_at_once (parts_with c.self.inside.vault c.self.inside.workers c.self.inside.journal c.self.inside.most)
+    replies_at_once (parts_with c.self.inside.vault c.self.inside.workers c.self.inside.journal c.self.inside.most c.self.inside.flushes c.self.inside.began)
     c.self.invariant (Unfix c.args.session c.args.guard) (Acts c.in-Ok.session) c.unfix.new.self
     c.in-Ok.ensures.ok (λ _. c.in-Ok.ensures.ok.does) c.in-Ok.done c.in-Ok.ensures.done
     c.in-Ok.ensures.ok.session.worker
     (move.Unfix c.args.session.worker) c.added-reply.result
-    (move_at_once (parts_with c.self.inside.vault c.self.inside.workers c.self.inside.journal c.self.inside.most)
+    (move_at_once (parts_with c.self.inside.vault c.self.inside.workers c.self.inside.journal c.self.inside.most c.self.inside.flushes c.self.inside.began)
     c.self.invariant (Unfix c.args.session c.args.guard) (Acts c.in-Ok.session) c.unfix.new.self
     c.in-Ok.ensures.ok (λ _. c.in-Ok.ensures.ok.does) c.in-Ok.done c.in-Ok.ensures.done
     c.in-Ok.ensures.ok.session.worker)
@@ -60,7 +60,7 @@ returns-in-Ok-clause-fits c =
 
 pub returns-in-Ok-clause-kept : goal.returns-in-Ok-clause-kept
 returns-in-Ok-clause-kept c =
-    kept_at_once (parts_with c.self.inside.vault c.self.inside.workers c.self.inside.journal c.self.inside.most)
+    kept_at_once (parts_with c.self.inside.vault c.self.inside.workers c.self.inside.journal c.self.inside.most c.self.inside.flushes c.self.inside.began)
     c.self.invariant (Unfix c.args.session c.args.guard) (Acts c.in-Ok.session) c.unfix.new.self
     c.in-Ok.ensures.ok (λ _. c.in-Ok.ensures.ok.does) c.in-Ok.done c.in-Ok.ensures.done
     c.in-Ok.ensures.ok.session.worker
@@ -69,7 +69,7 @@ returns-in-Ok-clause-kept c =
 
 pub returns-in-Ok-clause-headline : goal.returns-in-Ok-clause-headline
 returns-in-Ok-clause-headline c =
-    headline_at_once (parts_with c.self.inside.vault c.self.inside.workers c.self.inside.journal c.self.inside.most)
+    headline_at_once (parts_with c.self.inside.vault c.self.inside.workers c.self.inside.journal c.self.inside.most c.self.inside.flushes c.self.inside.began)
     c.self.invariant (Unfix c.args.session c.args.guard) (Acts c.in-Ok.session) c.unfix.new.self
     c.in-Ok.ensures.ok (λ _. c.in-Ok.ensures.ok.does) c.in-Ok.done c.in-Ok.ensures.done
     c.in-Ok.ensures.ok.session.worker
@@ -79,5 +79,5 @@ returns-in-Ok-clause-headline c =
 pub returns-in-Err-clause-err : goal.returns-in-Err-clause-err
 returns-in-Err-clause-err c =
     subst (λ b. event_for b (Unfix c.args.session c.args.guard) ≡ None) c.self.view_is
-    (refused_none (parts_with c.self.inside.vault c.self.inside.workers c.self.inside.journal c.self.inside.most)
+    (refused_none (parts_with c.self.inside.vault c.self.inside.workers c.self.inside.journal c.self.inside.most c.self.inside.flushes c.self.inside.began)
     c.self.invariant (Unfix c.args.session c.args.guard) _ c.in-Err.ensures.err)

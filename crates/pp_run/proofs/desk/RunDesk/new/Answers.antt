@@ -8,6 +8,7 @@ invariant_of-result g c =
     record {
       settings = c.requires.settings;
       plans = c.requires.plans;
+      outset = c.requires.outset;
       begun = begins_with_submits n c.args.book.journal c.requires.journal;
       moving = ends_with_submits n c.args.book.journal c.requires.journal;
     }

@@ -11,6 +11,7 @@ invariant_of-self g c =
     record {
       settings = p.settings ∙ d.settings;
       plans = p.plans ∙ d.plans;
+      outset = p.outset ∙ d.outset;
       begun = performs_submits n d.site.book c.args.request c.perform-response.result new p d.begun;
       moving = performs_moves n d.site.book c.args.request c.perform-response.result new p d.begun d.moving;
     }
