@@ -1,12 +1,15 @@
 //! Tests of the pool on one thread by its public calls, in a crate of their own so that no library is proved twice.
 //!
-//! They are of what no clause says: that a turn does its work, which events a plan comes to, and what the work is shown.
+//! They are of what no clause says: that a turn does its work, which events a plan comes to, what the work is shown, and what
+//! a renewed book begins with.
 #![tactic(auto)]
 
 #[cfg(test)]
 mod common;
 #[cfg(test)]
 mod fails;
+#[cfg(test)]
+mod lives;
 #[cfg(test)]
 mod pairs;
 #[cfg(test)]

@@ -11,7 +11,7 @@ use std::process::Abort;
 use std::test::*;
 
 /// What the worker does that writes a leaf.
-static WRITTEN: &[Event] = &[
+pub static WRITTEN: &[Event] = &[
     Event::Step {
         did: Move::Take { worker: 0 },
         reply: Reply::Taken { plan: 0 },
@@ -49,7 +49,7 @@ static WRITTEN: &[Event] = &[
 ];
 
 /// What the flusher does then.
-static FLUSHED: &[Event] = &[
+pub static FLUSHED: &[Event] = &[
     Event::Step {
         did: Move::FlushBegin { page: 16 },
         reply: Reply::Flushing { mark: 1 },
