@@ -18,6 +18,7 @@ pub fn case<R: AllocGlobal + Print>(rt: &R, call: &str) -> anyhow::Result<()> {
     match call {
         "Book::new" => opens(rt),
         "Book::submit" => submits(rt),
+        "Book::renew" => renews(rt),
         "Worker::turn" => turns(rt, Whose::Worker),
         "Flusher::turn" => turns(rt, Whose::Flusher),
         _ => anyhow::bail!("there is no such call"),
@@ -76,6 +77,62 @@ fn submits_to<R: AllocGlobal + Print>(
             Err((back, error)) => {
                 println!(rt; "{}", error.refusal())?;
                 plan = back;
+            }
+        }
+    }
+    Ok(())
+}
+
+/// A worker does a plan, and then the book is renewed.
+fn renews<R: AllocGlobal + Print>(rt: &R) -> anyhow::Result<()> {
+    let settings = Settings::from_text(rt.alloc(), SETTINGS)?;
+    let plan = accepted(rt.alloc(), &settings, WRITE)?;
+    let device = SoloDevice::new(rt.alloc(), 24, 64)?;
+    let (mut book, mut hands) = Book::new(rt.alloc(), &settings)?;
+    let queued = book.submit(plan).is_ok();
+    let hand = match hands.part(0) {
+        Some(hand) => hand,
+        None => unreachable!(),
+    };
+    let mut worker = Worker::new(rt.alloc(), OwnSite { book }, device, hand, &settings);
+    let turned = turns_of_worker(rt, &mut worker, Whose::Flusher);
+    let (site, _device, hand, _log) = worker.end();
+    let OwnSite { mut book } = site;
+    let done = renews_it(rt, &mut book);
+    let journal = book.close(together(hands, hand, None));
+    turned?;
+    done?;
+    println!(rt; "queued {queued}, journal {journal:?}")?;
+    Ok(())
+}
+
+fn renews_it<R: AllocGlobal + Print>(rt: &R, book: &mut Book) -> anyhow::Result<()> {
+    let mut empty = Vec::new(rt.alloc());
+    for _time in 0..2 {
+        println!(rt;
+            "stand: most {}, {} dirty, began with mark {:?}, {} events given",
+            book.most(),
+            book.dirty(),
+            book.began().mark(16),
+            empty.len()
+        )?;
+        call(rt)?;
+        let renewed = book.renew(empty);
+        answer(rt)?;
+        match renewed {
+            Ok(journal) => {
+                println!(rt;
+                    "{} events, most {}, {} dirty, began with mark {:?}",
+                    journal.len(),
+                    book.most(),
+                    book.dirty(),
+                    book.began().mark(16)
+                )?;
+                return Ok(());
+            }
+            Err((back, error)) => {
+                println!(rt; "{error}")?;
+                empty = back;
             }
         }
     }

@@ -1,4 +1,4 @@
-//! The calls that make a directory, marks, stacks of pages, a core, a device and a vault, and a run of a core.
+//! The calls that make a directory, marks, stacks of pages, a core, an outset, a device and a vault, and a run of a core.
 
 use crate::samples::{MOVES, accepted};
 use crate::stand::{answer, call};
@@ -8,6 +8,7 @@ use pp_core::Core;
 use pp_device::{Device, SoloDevice};
 use pp_frames::Marks;
 use pp_model::Reply;
+use pp_outset::Outset;
 use pp_settings::Settings;
 use pp_test_plain::samples::{SETTINGS, TOUCH};
 use pp_vault::{Hands, Vault};
@@ -21,6 +22,7 @@ pub fn case<R: AllocGlobal + Print>(rt: &R, library: &str, call: &str) -> anyhow
         ("pp_device", "SoloDevice::new") => solo(rt),
         ("pp_core", "Core::new") => core_of(rt),
         ("pp_core", "Core::run") => core_runs(rt),
+        ("pp_outset", "Outset::new") => outset(rt),
         ("pp_vault", "Vault::new") => vault(rt),
         _ => anyhow::bail!("there is no such call"),
     }
@@ -134,6 +136,28 @@ fn core_runs<R: AllocGlobal + Print>(rt: &R) -> anyhow::Result<()> {
                 return Ok(());
             }
             Err(error) => println!(rt; "{}", error.refusal())?,
+        }
+    }
+    Ok(())
+}
+
+fn outset<R: AllocGlobal + Print>(rt: &R) -> anyhow::Result<()> {
+    let settings = Settings::from_text(rt.alloc(), SETTINGS)?;
+    for _time in 0..2 {
+        call(rt)?;
+        let made = Outset::new(rt.alloc(), &settings);
+        answer(rt)?;
+        match made {
+            Ok(outset) => {
+                println!(rt;
+                    "target {}, {} pages, mark {:?}",
+                    outset.target(),
+                    outset.pages(List::B2).len(),
+                    outset.mark(16)
+                )?;
+                return Ok(());
+            }
+            Err(error) => println!(rt; "{error}")?,
         }
     }
     Ok(())
