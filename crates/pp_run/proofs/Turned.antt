@@ -20,7 +20,6 @@ use Rattle.pp_pool.specs.declared.request.Request.{Request}
 use Rattle.pp_pool.specs.declared.request.Request.TheVariants as request
 use Rattle.pp_pool.specs.declared.response.BookAnswer.{BookAnswer}
 use Rattle.pp_pool.specs.declared.response.BookAnswer.TheVariants as answer
-use Rattle.pp_pool.specs.declared.response.Response.{Response}
 use Rattle.pp_pool.specs.declared.site.Site as Site
 use Rattle.pp_pool.specs.declared.work.Work as Work
 use Rattle.pp_pool.specs.declared.turned.Turned.{Turned}
