@@ -41,5 +41,6 @@ pub fn audit_lives(alloc: Global, files: AuditFiles<'_>) -> Result<Audited, Judg
         (map (λ plan. plan.items) files.entry.plans.now)) }
 {
     let work = Workload::read(alloc, files.settings, files.plans)?;
-    Ok(pp_report::audit_lives(alloc, &work.settings, work.plans, files.journal)?)
+    let Workload { settings, plans } = work;
+    Ok(pp_report::audit_lives(alloc, &settings, plans, files.journal)?)
 }
