@@ -1,10 +1,8 @@
 //! What the tests share: settings of some sizes, cores with plans that wait, and how replies are compared.
 
-use pp_annotate::annotate;
-use pp_cert::{Accepted, check};
 use pp_core::{Core, Move, Reply, Turn};
-use pp_plan::Plan;
 use pp_settings::Settings;
+use pp_test_plain::accepted;
 use pp_test_plain::samples::REGIONS;
 use std::alloc::Global;
 use std::process::Abort;
@@ -23,21 +21,6 @@ pub fn settings_of(alloc: Global, frames: u32, flushes: u32) -> Result<Settings,
     Ok(Settings::from_text(alloc, &text)?)
 }
 
-/// The plan of this text, with its certificate accepted.
-pub fn accepted(
-    rt: &impl Abort,
-    alloc: Global,
-    settings: &Settings,
-    text: &str,
-) -> Result<Accepted, Fail> {
-    let plan = Plan::from_text(alloc, settings, text)?;
-    let certificate = annotate(alloc, settings, &plan)?;
-    match check(settings, plan, &certificate) {
-        Ok(accepted) => Ok(accepted),
-        Err(_) => panic!(rt; "not accepted: {text}"),
-    }
-}
-
 /// A new core in which these plans wait.
 pub fn core_with(
     rt: &impl Abort,
@@ -47,7 +30,7 @@ pub fn core_with(
 ) -> Result<Core, Fail> {
     let mut core = Core::new(alloc, settings)?;
     for text in plans {
-        let accepted = accepted(rt, alloc, settings, text)?;
+        let accepted = accepted(alloc, settings, text)?;
         let is_taken_in = core.submit(accepted).is_ok();
         assert!(rt; is_taken_in, "not taken in: {text}");
     }

@@ -1,6 +1,6 @@
 //! Cores that are renewed: what the next life has of the one before, and when there is none.
 
-use crate::common::{accepted, core_with, follow, same_left, settings_of};
+use crate::common::{core_with, follow, same_left, settings_of};
 use pp_core::Came::Image;
 use pp_core::Ending::{Done, Gone};
 use pp_core::Failure::Misread;
@@ -13,6 +13,7 @@ use pp_core::Reply::{
 };
 use pp_core::{Core, Move, RenewError, Reply};
 use pp_settings::Settings;
+use pp_test_plain::accepted;
 use pp_test_plain::samples::{NOTHING, READ, TOUCH, WRITE};
 use std::alloc::Global;
 use std::process::Abort;
@@ -56,7 +57,7 @@ fn submits(
     settings: &Settings,
     (text, number): (&str, u32),
 ) -> Result<(), Fail> {
-    let plan = accepted(rt, alloc, settings, text)?;
+    let plan = accepted(alloc, settings, text)?;
     let is_it = core.submit(plan).is_ok_and(|id| id.number() == number);
     assert!(rt; is_it, "not taken in as plan {number}: {text}");
     Ok(())
@@ -138,7 +139,7 @@ fn each_life_takes_as_many_plans(rt: HostRuntime) -> Result<(), Fail> {
         for number in 0..256 {
             submits(&rt, rt.alloc(), &mut core, &settings, (NOTHING, number))?;
         }
-        let plan = accepted(&rt, rt.alloc(), &settings, NOTHING)?;
+        let plan = accepted(rt.alloc(), &settings, NOTHING)?;
         let is_one_too_many = core.submit(plan).is_err();
         assert!(rt; is_one_too_many, "a life took 257 plans");
         for plan in 0..256 {

@@ -1,12 +1,13 @@
 //! Plans that are refused, and those that are taken in up to the limits.
 
-use crate::common::{accepted, core_with, replies, same_replies, settings_of};
+use crate::common::{core_with, replies, same_replies, settings_of};
 use crate::lists::{TOUCH_MOVES, TOUCH_REPLIES};
 use pp_cert::Accepted;
 use pp_core::Cause::NoWorker;
 use pp_core::Move::Take;
 use pp_core::Reply::{OffPlan, Taken};
 use pp_core::{Core, SubmitError};
+use pp_test_plain::accepted;
 use pp_test_plain::samples::{NOTHING, TOUCH};
 use std::process::Abort;
 use std::test::*;
@@ -40,7 +41,7 @@ fn as_many_plans_as_a_pool_keeps(rt: HostRuntime) -> Result<(), Fail> {
     let settings = settings_of(rt.alloc(), 3, 4)?;
     let mut core = core_with(&rt, rt.alloc(), &settings, &[LOOPS])?;
     for number in 1..256 {
-        let plan = accepted(&rt, rt.alloc(), &settings, NOTHING)?;
+        let plan = accepted(rt.alloc(), &settings, NOTHING)?;
         same_answer(&rt, submit(&mut core, plan), Answer::Number(number));
     }
     for (frames, text, error, steps) in [
@@ -49,7 +50,7 @@ fn as_many_plans_as_a_pool_keeps(rt: HostRuntime) -> Result<(), Fail> {
         (1, LOOPS, SubmitError::OtherSettings, 1_000_000),
     ] {
         let settings = settings_of(rt.alloc(), frames, 4)?;
-        let plan = accepted(&rt, rt.alloc(), &settings, text)?;
+        let plan = accepted(rt.alloc(), &settings, text)?;
         same_answer(&rt, submit(&mut core, plan), Answer::Refused(error, steps));
     }
     Ok(())
@@ -66,7 +67,7 @@ fn a_journal_has_room_for_one_of_a_million_steps(rt: HostRuntime) -> Result<(), 
         (TOUCH, Answer::Number(1)),
         (LOOPS, refused),
     ] {
-        let plan = accepted(&rt, rt.alloc(), &settings, text)?;
+        let plan = accepted(rt.alloc(), &settings, text)?;
         same_answer(&rt, submit(&mut core, plan), want);
     }
     Ok(())
@@ -80,7 +81,7 @@ fn plans_of_other_settings(rt: HostRuntime) -> Result<(), Fail> {
     let refused = Answer::Refused(SubmitError::OtherSettings, 2);
     for (frames, flushes, want) in [(1, 4, refused), (4, 4, refused), (3, 1, Answer::Number(0))] {
         let others = settings_of(rt.alloc(), frames, flushes)?;
-        let plan = accepted(&rt, rt.alloc(), &others, TOUCH)?;
+        let plan = accepted(rt.alloc(), &others, TOUCH)?;
         same_answer(&rt, submit(&mut core, plan), want);
     }
     Ok(())
@@ -101,7 +102,7 @@ fn refused(rt: &impl Abort, core: &mut Core, accepted: Accepted, want: SubmitErr
 #[test]
 fn a_refused_plan_is_taken_in_later(rt: HostRuntime) -> Result<(), Fail> {
     let settings = settings_of(rt.alloc(), 3, 4)?;
-    let plan = accepted(&rt, rt.alloc(), &settings, TOUCH)?;
+    let plan = accepted(rt.alloc(), &settings, TOUCH)?;
     let mut other = core_with(&rt, rt.alloc(), &settings_of(rt.alloc(), 1, 4)?, &[])?;
     let back = refused(&rt, &mut other, plan, SubmitError::OtherSettings);
     let mut core = core_with(&rt, rt.alloc(), &settings, &[])?;

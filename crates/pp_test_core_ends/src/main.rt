@@ -7,13 +7,11 @@
 mod ends;
 
 use crate::ends::{drain_to_the_end, step_to_the_end};
-use pp_annotate::annotate;
-use pp_cert::{Accepted, check};
+use pp_cert::Accepted;
 use pp_core::Core;
-use pp_plan::Plan;
 use pp_settings::Settings;
-use pp_test_plain::Chance;
-use pp_test_plain::samples::{GAPS, SCAN};
+use pp_test_plain::samples::{DESCENT, GAPS, SCAN};
+use pp_test_plain::{Chance, accepted};
 use std::alloc::Global;
 
 /// How many cores are driven to their end: a hundred in each of the two ways.
@@ -21,12 +19,6 @@ const CORES: u32 = 200;
 
 /// How many plans each core has: four for each worker, so that workers take new ones while others are in theirs.
 const PLANS: u32 = 12;
-
-/// From a root to a leaf, which is written.
-const DESCENT: &str =
-    "{\"body\":[{\"fix\":\"a\",\"region\":\"root\"},{\"latch\":\"a\",\"mode\":\"S\"},\
-{\"fix\":\"b\",\"region\":\"leaf\"},{\"latch\":\"b\",\"mode\":\"X\"},{\"unlatch\":\"b\"},{\"unlatch\":\"a\"},\
-{\"unfix\":\"b\"},{\"unfix\":\"a\"}],\"version\":1}";
 
 /// Three pages, two of them latched as the third is fixed.
 const SPLIT: &str =
@@ -54,12 +46,7 @@ fn some_plan(alloc: Global, settings: &Settings, chance: &mut Chance) -> anyhow:
         2 => SPLIT,
         _ => EITHER,
     };
-    let plan = Plan::from_text(alloc, settings, text)?;
-    let certificate = annotate(alloc, settings, &plan)?;
-    match check(settings, plan, &certificate) {
-        Ok(accepted) => Ok(accepted),
-        Err((_plan, error)) => Err(anyhow::Error::from(error)),
-    }
+    accepted(alloc, settings, text)
 }
 
 /// A new core in which plans wait.

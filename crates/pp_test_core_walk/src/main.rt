@@ -13,13 +13,10 @@ mod plans;
 use crate::counts::Counts;
 use crate::plain::Plain;
 use crate::plans::{KINDS, PLANS, Shape};
-use pp_annotate::annotate;
-use pp_cert::{Accepted, check};
 use pp_core::{Core, RenewError, SubmitError};
-use pp_plan::Plan;
 use pp_settings::Settings;
-use pp_test_plain::Chance;
 use pp_test_plain::samples::GAPS;
+use pp_test_plain::{Chance, accepted};
 use std::alloc::Global;
 
 /// How many moves are made: each kind of reply and refusal comes ten times or more.
@@ -29,16 +26,6 @@ const MOVES: u32 = 20_000;
 fn eight_pages(alloc: Global) -> anyhow::Result<Settings> {
     let text = format!(in alloc; "frames = 3\npage_bytes = 64\nworkers = 3\nflushes = 40\n{GAPS}")?;
     Ok(Settings::from_text(alloc, &text)?)
-}
-
-/// The plan of this text, with its certificate accepted.
-fn accepted(alloc: Global, settings: &Settings, text: &str) -> anyhow::Result<Accepted> {
-    let plan = Plan::from_text(alloc, settings, text)?;
-    let certificate = annotate(alloc, settings, &plan)?;
-    match check(settings, plan, &certificate) {
-        Ok(accepted) => Ok(accepted),
-        Err((_plan, error)) => Err(anyhow::Error::from(error)),
-    }
 }
 
 /// Submits a plan to both, and says whether they answer the same.

@@ -1,5 +1,7 @@
 //! The plans of the walk, as texts for the core and as plain statements beside them.
 
+use pp_test_plain::samples::DESCENT;
+
 /// A plain statement. Slots are those of the text's names in their order, from `a`.
 #[derive(Clone, Copy)]
 pub enum Word {
@@ -37,9 +39,7 @@ pub const KINDS: usize = 13;
 pub static PLANS: [Shape; KINDS] = [
     // From a root to a leaf, which is written.
     Shape {
-        text: "{\"body\":[{\"fix\":\"a\",\"region\":\"root\"},{\"latch\":\"a\",\"mode\":\"S\"},\
-{\"fix\":\"b\",\"region\":\"leaf\"},{\"latch\":\"b\",\"mode\":\"X\"},{\"unlatch\":\"b\"},{\"unlatch\":\"a\"},\
-{\"unfix\":\"b\"},{\"unfix\":\"a\"}],\"version\":1}",
+        text: DESCENT,
         peak: 2,
         words: &[
             Fix(0, Root),

@@ -1,12 +1,11 @@
 //! Scripts with their settings and plans.
 
 use crate::shape::Shape;
-use pp_annotate::annotate;
-use pp_cert::{Accepted, check};
+use pp_cert::Accepted;
 use pp_device::Trouble;
-use pp_plan::Plan;
 use pp_script::{Cue, Script};
 use pp_settings::Settings;
+use pp_test_plain::accepted;
 use std::alloc::{AllocError, Global};
 use std::fs;
 use std::rt::Files;
@@ -96,14 +95,4 @@ fn push_readers(
         }
     }
     Ok(())
-}
-
-/// The plan of this text, with its certificate accepted.
-fn accepted(alloc: Global, settings: &Settings, text: &str) -> anyhow::Result<Accepted> {
-    let plan = Plan::from_text(alloc, settings, text)?;
-    let certificate = annotate(alloc, settings, &plan)?;
-    match check(settings, plan, &certificate) {
-        Ok(accepted) => Ok(accepted),
-        Err((_plan, error)) => Err(anyhow::Error::from(error)),
-    }
 }

@@ -1,11 +1,9 @@
 //! Audits of journals.
 
-use pp_annotate::annotate;
-use pp_cert::{Accepted, check};
-use pp_plan::Plan;
+use pp_cert::Accepted;
 use pp_report::{AuditError, Audited, audit, audit_lives};
 use pp_settings::Settings;
-use std::alloc::Global;
+use pp_test_plain::accepted;
 use std::fs;
 use std::rt::Files;
 
@@ -78,18 +76,8 @@ fn plans_of<R: Files + AllocGlobal>(
         let (name, times) = name.split_once("*").unwrap_or((name, "1"));
         let text = fs::read_to_string(rt, name)?;
         for _ in 0..times.parse::<u16>()? {
-            plans.push(accepted_in(rt.alloc(), settings, text.as_str())?)?;
+            plans.push(accepted(rt.alloc(), settings, text.as_str())?)?;
         }
     }
     Ok(plans)
-}
-
-/// The plan that the text spells, accepted with the certificate that is made for it.
-fn accepted_in(alloc: Global, settings: &Settings, text: &str) -> anyhow::Result<Accepted> {
-    let plan = Plan::from_text(alloc, settings, text)?;
-    let certificate = annotate(alloc, settings, &plan)?;
-    match check(settings, plan, &certificate) {
-        Ok(accepted) => Ok(accepted),
-        Err((_, error)) => Err(error)?,
-    }
 }

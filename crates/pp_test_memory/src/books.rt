@@ -3,13 +3,13 @@
 ghost use Rattle.std.specs.Prelude.{◌≡◌, true, None, Some};
 ghost use Rattle.pp_vault.specs.Stages.{stage_worker, is_free_for};
 
-use crate::samples::accepted;
 use crate::stand::{answer, call};
 use pp_cert::Accepted;
 use pp_device::SoloDevice;
 use pp_pool::{Book, Flusher, OwnSite, Turned, Worker};
 use pp_run_command::Rounds;
 use pp_settings::Settings;
+use pp_test_plain::accepted;
 use pp_test_plain::samples::{SETTINGS, WRITE};
 use pp_vault::{Flushing, Hand, Hands};
 

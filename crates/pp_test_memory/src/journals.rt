@@ -1,10 +1,11 @@
 //! The calls that write journals and reports, and audit journals.
 
-use crate::samples::{JOURNAL, LIVES, all_accepted, events, record};
+use crate::samples::{LIVES, events, record};
 use crate::stand::{answer, call};
 use pp_report::{audit, audit_lives, journal_text, report};
 use pp_settings::Settings;
-use pp_test_plain::samples::{SETTINGS, TOUCH};
+use pp_test_plain::all_accepted;
+use pp_test_plain::samples::{SETTINGS, TOUCH, TOUCHED};
 
 /// Does the case of this call.
 pub fn case<R: AllocGlobal + Print>(rt: &R, call: &str) -> anyhow::Result<()> {
@@ -56,7 +57,7 @@ fn audits<R: AllocGlobal + Print>(rt: &R) -> anyhow::Result<()> {
     for _time in 0..2 {
         let plans = all_accepted(rt.alloc(), &settings, &[TOUCH])?;
         call(rt)?;
-        let audited = audit(rt.alloc(), &settings, plans, JOURNAL.as_bytes());
+        let audited = audit(rt.alloc(), &settings, plans, TOUCHED.as_bytes());
         answer(rt)?;
         match audited {
             Ok(audited) => {

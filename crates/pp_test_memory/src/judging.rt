@@ -1,11 +1,11 @@
 //! The calls that judge the bytes of files.
 
-use crate::samples::{JOURNAL, LIVES, PIN, PIN_NOTES, SCRIPT};
+use crate::samples::{LIVES, PIN, PIN_NOTES, SCRIPT};
 use crate::stand::{answer, call};
 use pp_judge::{
     AnnotateFiles, AuditFiles, CheckFiles, Contents, SimulateFiles, Workload, device_size, exit_of,
 };
-use pp_test_plain::samples::{SETTINGS, TOUCH, WRITE};
+use pp_test_plain::samples::{SETTINGS, TOUCH, TOUCHED, WRITE};
 use std::alloc::Global;
 
 /// Does the case of this call and this row.
@@ -54,12 +54,12 @@ fn contents<'a>(row: &str, plans: &'a [Vec<u8>]) -> Contents<'a> {
         }),
         "draw" => Contents::Draw(AuditFiles {
             settings,
-            journal: JOURNAL.as_bytes(),
+            journal: TOUCHED.as_bytes(),
             plans,
         }),
         _ => Contents::Audit(AuditFiles {
             settings,
-            journal: JOURNAL.as_bytes(),
+            journal: TOUCHED.as_bytes(),
             plans,
         }),
     }

@@ -1,6 +1,6 @@
 //! The calls that make a directory, marks, stacks of pages, a core, an outset, a device and a vault, and a run of a core.
 
-use crate::samples::{MOVES, accepted};
+use crate::samples::MOVES;
 use crate::stand::{answer, call};
 use pp_arc::{Directory, List};
 use pp_bundles::Bundles;
@@ -10,6 +10,7 @@ use pp_frames::Marks;
 use pp_model::Reply;
 use pp_outset::Outset;
 use pp_settings::Settings;
+use pp_test_plain::accepted;
 use pp_test_plain::samples::{SETTINGS, TOUCH};
 use pp_vault::{Hands, Vault};
 

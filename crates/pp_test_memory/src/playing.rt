@@ -1,6 +1,6 @@
 //! The calls that play a script.
 
-use crate::samples::{SCRIPT, accepted, all_accepted};
+use crate::samples::SCRIPT;
 use crate::stand::{answer, call};
 use pp_device::SoloDevice;
 use pp_play::play;
@@ -8,6 +8,7 @@ use pp_script::{Cue, Script};
 use pp_settings::Settings;
 use pp_simulate::simulate;
 use pp_test_plain::samples::{SETTINGS, WRITE};
+use pp_test_plain::{accepted, all_accepted};
 use pp_vault::{Hands, Vault};
 
 /// Does the case of this call.

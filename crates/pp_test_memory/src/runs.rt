@@ -1,6 +1,6 @@
 //! The calls that run plans on threads, and what is told of a run.
 
-use crate::samples::{all_accepted, record};
+use crate::samples::record;
 use crate::stand::{answer, call};
 use pp_judge::Workload;
 use pp_report::RunRecord;
@@ -8,6 +8,7 @@ use pp_run::{Pool, RunError};
 use pp_run_command::{Rounds, progress_line, run, stopped_line, told};
 use pp_settings::Settings;
 use pp_shared::SharedDevice;
+use pp_test_plain::all_accepted;
 use pp_test_plain::samples::{SETTINGS, TOUCH, WRITE};
 use std::alloc::{AllocError, Global};
 use std::fs::File;

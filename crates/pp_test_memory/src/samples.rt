@@ -1,11 +1,7 @@
 //! Sample plans and other texts, beside those that tests share, and what is made of them.
 
-use pp_annotate::annotate;
-use pp_cert::{Accepted, check};
 use pp_model::{Came, Ending, Event, Move, Reply};
-use pp_plan::Plan;
 use pp_report::RunRecord;
-use pp_settings::Settings;
 use std::alloc::Global;
 
 /// No frame, and no region.
@@ -75,15 +71,6 @@ pub const NO_CUE: &str = "take 0
 take
 ";
 
-/// The journal of `TOUCH`.
-pub const JOURNAL: &str = "submit 0 = queued
-take 0 = taken 0
-fix 0 1 = mustread 0
-came 0 1 0 = loaded 0
-unfix 0 = did
-finish 0 = done
-";
-
 /// The journals of two lives, in each of which that plan touches the page.
 pub const LIVES: &str = "submit 0 = queued
 take 0 = taken 0
@@ -99,7 +86,7 @@ unfix 0 = did
 finish 0 = done
 ";
 
-/// The moves of that journal.
+/// The moves of the journal `TOUCHED`.
 pub static MOVES: [Move; 5] = [
     Move::Take { worker: 0 },
     Move::Fix { worker: 0, page: 1 },
@@ -140,27 +127,4 @@ pub fn record(alloc: Global) -> anyhow::Result<RunRecord> {
         events: events(alloc)?,
         dirty: 0,
     })
-}
-
-/// The plan of this text, accepted with the certificate that is made for it.
-pub fn accepted(alloc: Global, settings: &Settings, text: &str) -> anyhow::Result<Accepted> {
-    let plan = Plan::from_text(alloc, settings, text)?;
-    let certificate = annotate(alloc, settings, &plan)?;
-    match check(settings, plan, &certificate) {
-        Ok(accepted) => Ok(accepted),
-        Err((_plan, error)) => Err(anyhow::Error::from(error)),
-    }
-}
-
-/// The plans of these texts.
-pub fn all_accepted(
-    alloc: Global,
-    settings: &Settings,
-    texts: &[&str],
-) -> anyhow::Result<Vec<Accepted>> {
-    let mut plans = Vec::new(alloc);
-    for text in texts {
-        plans.push(accepted(alloc, settings, text)?)?;
-    }
-    Ok(plans)
 }

@@ -1,15 +1,13 @@
 //! A run of moves of the core, and its journal.
 
-use pp_annotate::annotate;
-use pp_cert::{Accepted, check};
 use pp_core::Core;
 use pp_model::Came::Image;
 use pp_model::Move::{Finish, Fix, ReadDone, Take, Unfix};
 use pp_model::{Event, Move, Reply};
-use pp_plan::Plan;
 use pp_report::journal_text;
 use pp_settings::Settings;
-use pp_test_plain::samples::{SETTINGS, TOUCH};
+use pp_test_plain::accepted;
+use pp_test_plain::samples::{SETTINGS, TOUCH, TOUCHED};
 use std::alloc::{AllocError, Global};
 use std::process::Abort;
 use std::test::Fail;
@@ -26,29 +24,11 @@ static MOVES: [Move; 5] = [
     Finish { worker: 0 },
 ];
 
-const JOURNAL: &str = "submit 0 = queued
-take 0 = taken 0
-fix 0 1 = mustread 0
-came 0 1 0 = loaded 0
-unfix 0 = did
-finish 0 = done
-";
-
-/// The plan, with its certificate accepted.
-fn accepted(rt: &impl Abort, alloc: Global, settings: &Settings) -> Result<Accepted, Fail> {
-    let plan = Plan::from_text(alloc, settings, TOUCH)?;
-    let certificate = annotate(alloc, settings, &plan)?;
-    match check(settings, plan, &certificate) {
-        Ok(accepted) => Ok(accepted),
-        Err(_) => panic!(rt; "not accepted"),
-    }
-}
-
 /// The number that the core gives the plan, and its replies to the moves.
 fn run(rt: &impl Abort, alloc: Global) -> Result<(u32, Vec<Reply>), Fail> {
     let settings = Settings::from_text(alloc, SETTINGS)?;
     let mut core = Core::new(alloc, &settings)?;
-    let Ok(id) = core.submit(accepted(rt, alloc, &settings)?) else {
+    let Ok(id) = core.submit(accepted(alloc, &settings, TOUCH)?) else {
         panic!(rt; "not taken in")
     };
     let mut replies = Vec::new(alloc);
@@ -74,6 +54,6 @@ fn a_run_of_moves_has_its_journal(rt: HostRuntime) -> Result<(), Fail> {
     let (plan, replies) = run(&rt, rt.alloc())?;
     let events = events_of(rt.alloc(), plan, &replies)?;
     let text = journal_text(rt.alloc(), &events)?;
-    assert!(rt; text.as_str() == JOURNAL, "got {text}");
+    assert!(rt; text.as_str() == TOUCHED, "got {text}");
     Ok(())
 }

@@ -2,6 +2,7 @@
 
 use pp_model::Event;
 use pp_report::{Asked, Line, RunRecord, Told, report};
+use pp_test_plain::samples::WRITTEN;
 use std::alloc::Global;
 use std::process::Abort;
 use std::test::*;
@@ -49,17 +50,7 @@ fn reports(
     Ok(())
 }
 
-/// One worker writes a leaf, and nothing is flushed.
-const WRITTEN: &str = "submit 0 = queued
-take 0 = taken 0
-fix 0 16 = mustread 0
-came 0 16 0 = loaded 0
-latch 0 = latched 0
-unlatch 0 = unlatched 1
-unfix 0 = did
-finish 0 = done
-";
-
+/// The report of [`WRITTEN`]: one worker writes a leaf, and nothing is flushed.
 const WRITTEN_REPORT: &str = " plan worker    steps     hits    loads  outcome
     0      0        4        0        1  done
 moves               7

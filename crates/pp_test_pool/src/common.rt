@@ -1,11 +1,10 @@
 //! What the tests share: a work that picks first pages, and a run of one plan.
 
-use pp_annotate::annotate;
-use pp_cert::{Accepted, check};
+use pp_cert::Accepted;
 use pp_device::{SoloDevice, image};
-use pp_plan::Plan;
 use pp_pool::{Book, Event, Flusher, OwnSite, Turned, Work, Worker};
 use pp_settings::Settings;
+use pp_test_plain::accepted;
 use pp_test_plain::samples::SETTINGS;
 use std::alloc::Global;
 use std::process::Abort;
@@ -63,25 +62,10 @@ pub struct Run {
     pub work: FirstPages,
 }
 
-/// The plan of this text, with its certificate accepted.
-pub fn accepted(
-    rt: &impl Abort,
-    alloc: Global,
-    settings: &Settings,
-    text: &str,
-) -> Result<Accepted, Fail> {
-    let plan = Plan::from_text(alloc, settings, text)?;
-    let certificate = annotate(alloc, settings, &plan)?;
-    match check(settings, plan, &certificate) {
-        Ok(accepted) => Ok(accepted),
-        Err(_) => panic!(rt; "not accepted: {text}"),
-    }
-}
-
 /// One worker runs the plan in eight turns, and then the flusher takes three.
 pub fn do_plan(rt: &impl Abort, alloc: Global, text: &str) -> Result<Run, Fail> {
     let settings = Settings::from_text(alloc, SETTINGS)?;
-    let accepted = accepted(rt, alloc, &settings, text)?;
+    let accepted = accepted(alloc, &settings, text)?;
     do_accepted(rt, alloc, &settings, accepted)
 }
 

@@ -1,10 +1,11 @@
 //! A worker whose device fails at each call in turn.
 
-use crate::common::{accepted, part, same_events};
+use crate::common::{part, same_events};
 use pp_cert::Accepted;
 use pp_device::{Device, Failing, SoloDevice, Trouble};
 use pp_pool::{Book, Event, OwnSite, Turned, Work, Worker};
 use pp_settings::Settings;
+use pp_test_plain::accepted;
 use pp_test_plain::samples::SETTINGS;
 use pp_vault::{Ending, Failure, Reply};
 use std::alloc::Global;
@@ -102,7 +103,7 @@ fn driven<D: Device + Drop>(
 /// The plan is run over a device that fails at this call, counted from 1.
 fn troubled(rt: &impl Abort, alloc: Global, call: u32) -> Result<Noted, Fail> {
     let settings = Settings::from_text(alloc, SETTINGS)?;
-    let accepted = accepted(rt, alloc, &settings, FIVE)?;
+    let accepted = accepted(alloc, &settings, FIVE)?;
     let troubles = vec![in alloc; (call, Trouble::Fail)]?;
     let device = Failing::new(SoloDevice::new(alloc, 24, 64)?, troubles);
     driven(rt, alloc, &settings, accepted, device)

@@ -1,11 +1,11 @@
 //! Two workers on one thread, turn by turn.
 
-use crate::common::accepted;
 use core::mem;
 use pp_cert::Accepted;
 use pp_device::SoloDevice;
 use pp_pool::{Book, Event, OwnSite, Turned, Work, Worker};
 use pp_settings::Settings;
+use pp_test_plain::accepted;
 use pp_test_plain::samples::{SCAN, SETTINGS};
 use pp_vault::{Ending, Hands, Reply};
 use std::alloc::Global;
@@ -167,11 +167,11 @@ fn filled(
 }
 
 /// The plans, by turns of either kind.
-fn all_plans(rt: &impl Abort, alloc: Global, settings: &Settings) -> Result<Vec<Accepted>, Fail> {
+fn all_plans(alloc: Global, settings: &Settings) -> Result<Vec<Accepted>, Fail> {
     let mut plans = Vec::new(alloc);
     for number in 0..PLANS {
         let text = if number % 2 == 0 { DOWN } else { SCAN };
-        plans.push(accepted(rt, alloc, settings, text)?)?;
+        plans.push(accepted(alloc, settings, text)?)?;
     }
     Ok(plans)
 }
@@ -220,7 +220,7 @@ fn two_workers_do_twenty_plans(rt: HostRuntime) -> Result<(), Fail> {
         SoloDevice::new(alloc, 24, 64)?,
         SoloDevice::new(alloc, 24, 64)?,
     );
-    let plans = all_plans(&rt, alloc, &settings)?;
+    let plans = all_plans(alloc, &settings)?;
     let book = filled(&rt, alloc, &settings, plans)?;
     let notes = do_plans(&rt, alloc, &settings, book, devices);
     assert!(rt; done_in(&notes.journal) == 20, "a plan isn't done");

@@ -2,10 +2,10 @@
 
 ghost use Rattle.std.specs.Prelude.{◌≡◌};
 
-use crate::common::accepted;
 use pp_device::{SoloDevice, image};
 use pp_pool::{Book, OwnSite, Turned, Work, Worker};
 use pp_settings::Settings;
+use pp_test_plain::accepted;
 use pp_test_plain::samples::{READ, WRITE};
 use std::alloc::Global;
 use std::process::Abort;
@@ -78,8 +78,8 @@ impl Work for Reaching {
 /// One worker writes a leaf and then reads it. How many bytes it was shown, and whether they were right.
 fn shown(rt: &impl Abort, alloc: Global, reach: usize) -> Result<(usize, bool), Fail> {
     let settings = Settings::from_text(alloc, SETTINGS)?;
-    let writes = accepted(rt, alloc, &settings, WRITE)?;
-    let reads = accepted(rt, alloc, &settings, READ)?;
+    let writes = accepted(alloc, &settings, WRITE)?;
+    let reads = accepted(alloc, &settings, READ)?;
     let device = SoloDevice::new(alloc, 24, 256)?;
     let (mut book, mut hands) = Book::new(alloc, &settings)?;
     let are_taken_in = book.submit(writes).is_ok() && book.submit(reads).is_ok();

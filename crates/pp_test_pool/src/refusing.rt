@@ -1,9 +1,10 @@
 //! A worker whose site doesn't show a page, or shows it with another mark.
 
-use crate::common::{FirstPages, accepted, same_turns};
+use crate::common::{FirstPages, same_turns};
 use pp_device::{SoloDevice, image};
 use pp_pool::{Book, OwnSite, Request, Response, Site, Turned, Worker};
 use pp_settings::Settings;
+use pp_test_plain::accepted;
 use pp_test_plain::samples::{READ, SETTINGS};
 use pp_vault::ReadGuard;
 use std::alloc::Global;
@@ -63,7 +64,7 @@ impl<'a, R: Abort> Site for Odd<'a, R> {
 /// How the turns ended of a worker that reads a leaf where the site has this habit, and how many images its work saw.
 fn read(rt: &impl Abort, alloc: Global, habit: Habit) -> Result<([Turned; 8], u8), Fail> {
     let settings = Settings::from_text(alloc, SETTINGS)?;
-    let plan = accepted(rt, alloc, &settings, READ)?;
+    let plan = accepted(alloc, &settings, READ)?;
     let device = SoloDevice::new(alloc, 24, 64)?;
     let (mut book, mut hands) = Book::new(alloc, &settings)?;
     let is_taken_in = book.submit(plan).is_ok();

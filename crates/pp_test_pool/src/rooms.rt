@@ -1,10 +1,11 @@
 //! A worker that is refused room for its log, and one whose log is taken out.
 
-use crate::common::{FirstPages, accepted, part, same_events};
+use crate::common::{FirstPages, part, same_events};
 use pp_cert::Accepted;
 use pp_device::SoloDevice;
 use pp_pool::{Book, Event, OwnSite, Request, Response, Site, Turned, Worker};
 use pp_settings::Settings;
+use pp_test_plain::accepted;
 use pp_test_plain::samples::{SETTINGS, WRITE};
 use pp_vault::{Hand, Hands, ReadGuard, Stage};
 use std::alloc::Global;
@@ -127,7 +128,7 @@ fn run(rt: &impl Abort, alloc: Global, settings: &Settings, plan: Accepted) -> R
 fn a_worker_without_room_stops_with_its_chair(rt: HostRuntime) -> Result<(), Fail> {
     let alloc = rt.alloc();
     let settings = Settings::from_text(alloc, SETTINGS)?;
-    let plan = accepted(&rt, alloc, &settings, WRITE)?;
+    let plan = accepted(alloc, &settings, WRITE)?;
     let noted = run(&rt, alloc, &settings, plan)?;
     assert!(rt; noted.refused == Turned::NoMemory, "there was room");
     assert!(rt; noted.is_idle, "it did something all the same");
@@ -218,7 +219,7 @@ fn run_on(
 fn an_errand_is_sent_though_the_log_was_taken_out(rt: HostRuntime) -> Result<(), Fail> {
     let alloc = rt.alloc();
     let settings = Settings::from_text(alloc, SETTINGS)?;
-    let plan = accepted(&rt, alloc, &settings, WRITE)?;
+    let plan = accepted(alloc, &settings, WRITE)?;
     let came = run_on(&rt, alloc, &settings, plan)?;
     assert!(rt; came.is_answered, "the errand was not sent");
     assert!(rt;

@@ -1,9 +1,9 @@
 //! A work notes all that it is asked and handed.
 
-use crate::common::accepted;
 use pp_device::{SoloDevice, image};
 use pp_pool::{Book, OwnSite, Turned, Work, Worker};
 use pp_settings::Settings;
+use pp_test_plain::accepted;
 use std::alloc::Global;
 use std::process::Abort;
 use std::test::*;
@@ -112,7 +112,7 @@ fn called(rt: &impl Abort, alloc: Global, bytes: u32) -> Result<[Call; 12], Fail
 [[region]]\nname = \"leaf\"\nfirst = 40\ncount = 9\nclass = 3\n"
     )?;
     let settings = Settings::from_text(alloc, &text)?;
-    let plan = accepted(rt, alloc, &settings, PLAN)?;
+    let plan = accepted(alloc, &settings, PLAN)?;
     let device = SoloDevice::new(alloc, 49, (bytes as usize).max(64))?;
     let (mut book, mut hands) = Book::new(alloc, &settings)?;
     let is_taken_in = book.submit(plan).is_ok();

@@ -1,9 +1,10 @@
 //! A turn does its work.
 
-use crate::common::{accepted, do_accepted, do_plan, part, same_events, same_turns};
+use crate::common::{do_accepted, do_plan, part, same_events, same_turns};
 use pp_cert::Accepted;
 use pp_pool::{Book, Event, Turned};
 use pp_settings::Settings;
+use pp_test_plain::accepted;
 use pp_test_plain::samples::{READ, REGIONS, SETTINGS, WRITE};
 use pp_vault::{Came, Ending, Move, Reply};
 use std::alloc::Global;
@@ -124,7 +125,7 @@ fn refused(rt: &impl Abort, alloc: Global, plan: Accepted) -> Result<Accepted, F
 #[test]
 fn a_refused_plan_is_done_later(rt: HostRuntime) -> Result<(), Fail> {
     let settings = Settings::from_text(rt.alloc(), SETTINGS)?;
-    let plan = accepted(&rt, rt.alloc(), &settings, WRITE)?;
+    let plan = accepted(rt.alloc(), &settings, WRITE)?;
     let back = refused(&rt, rt.alloc(), plan)?;
     let run = do_accepted(&rt, rt.alloc(), &settings, back)?;
     same_events(&rt, &run.log, WRITTEN);

@@ -2,14 +2,13 @@
 
 ghost use Rattle.std.specs.Prelude.{◌≡◌, ◌+◌, vec_len};
 
-use pp_annotate::annotate;
-use pp_cert::{Accepted, check};
+use pp_cert::Accepted;
 use pp_device::{Device, image};
-use pp_plan::Plan;
 use pp_pool::Work;
 use pp_run::{Pool, RunError, RunRecord};
 use pp_settings::Settings;
 use pp_shared::SharedDevice;
+use pp_test_plain::all_accepted;
 use pp_test_plain::samples::REGIONS;
 use std::alloc::Global;
 use std::process::Abort;
@@ -98,35 +97,6 @@ impl<'a> Work for Counting<'a> {
 /// Whether the image has this page and this mark in its head, and the mark as the first byte of its body.
 fn tells(image: &[u8], page: u32, mark: u64) -> bool {
     image.len() == 64 && image::head(image) == (page, mark) && u64::from(image[12]) == mark
-}
-
-/// The plan of this text, with its certificate accepted.
-pub fn accepted(
-    rt: &impl Abort,
-    alloc: Global,
-    settings: &Settings,
-    text: &str,
-) -> Result<Accepted, Fail> {
-    let plan = Plan::from_text(alloc, settings, text)?;
-    let certificate = annotate(alloc, settings, &plan)?;
-    match check(settings, plan, &certificate) {
-        Ok(accepted) => Ok(accepted),
-        Err(_) => panic!(rt; "not accepted: {text}"),
-    }
-}
-
-/// The plans of these texts.
-pub fn all_accepted(
-    rt: &impl Abort,
-    alloc: Global,
-    settings: &Settings,
-    texts: &[&str],
-) -> Result<Vec<Accepted>, Fail> {
-    let mut plans = Vec::new(alloc);
-    for text in texts {
-        plans.push(accepted(rt, alloc, settings, text)?)?;
-    }
-    Ok(plans)
 }
 
 /// A work for each worker, that picks first pages.
@@ -237,7 +207,7 @@ pub fn run<R: AllocGlobal + Abort + Threads + Wait + Clock + Copy + Drop + Sync 
 ) -> Result<RunRecord, Fail> {
     let alloc = rt.alloc();
     let settings = settings_of(alloc, workers, flushes)?;
-    let plans = all_accepted(rt, alloc, &settings, texts)?;
+    let plans = all_accepted(alloc, &settings, texts)?;
     let devices = SharedDevice::over_memory(*rt, alloc, 24, 64, workers as usize + 1)?;
     let works = works_of(alloc, workers, seen)?;
     match run_over(rt, alloc, &settings, plans, devices, works) {

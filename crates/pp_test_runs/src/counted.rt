@@ -1,7 +1,8 @@
 //! A run counts the plans that have ended, for who watches it.
 
-use crate::common::{Seen, all_accepted, run_counted, settings_of, works_of};
+use crate::common::{Seen, run_counted, settings_of, works_of};
 use pp_shared::SharedDevice;
+use pp_test_plain::all_accepted;
 use pp_test_plain::samples::{READ, TOUCH, WRITE};
 use std::process::Abort;
 use std::sync::atomic::{AtomicU64, Ordering};
@@ -13,7 +14,7 @@ fn each_plan_is_counted(rt: HostRuntime) -> Result<(), Fail> {
     let alloc = rt.alloc();
     let seen = Seen::new();
     let settings = settings_of(alloc, 2, 4)?;
-    let plans = all_accepted(&rt, alloc, &settings, &[WRITE, READ, TOUCH, WRITE])?;
+    let plans = all_accepted(alloc, &settings, &[WRITE, READ, TOUCH, WRITE])?;
     let devices = SharedDevice::over_memory(rt, alloc, 24, 64, 3)?;
     let works = works_of(alloc, 2, &seen)?;
     let finished = AtomicU64::new(0);

@@ -1,9 +1,10 @@
 //! What a run leaves on its devices.
 
-use crate::common::{Seen, all_accepted, run_over, settings_of, works_of};
+use crate::common::{Seen, run_over, settings_of, works_of};
 use pp_device::{Device, image};
 use pp_run::RunRecord;
 use pp_shared::SharedDevice;
+use pp_test_plain::all_accepted;
 use pp_test_plain::samples::WRITE;
 use std::alloc::Global;
 use std::process::Abort;
@@ -26,7 +27,7 @@ fn write_on<R: AllocGlobal + Abort + Threads + Wait + Clock + Copy + Drop + Sync
     let alloc = rt.alloc();
     let seen = Seen::new();
     let settings = settings_of(alloc, 1, 4)?;
-    let plans = all_accepted(rt, alloc, &settings, &[WRITE])?;
+    let plans = all_accepted(alloc, &settings, &[WRITE])?;
     let works = works_of(alloc, 1, &seen)?;
     match run_over(rt, alloc, &settings, plans, devices, works) {
         Ok(ran) => Ok(ran),

@@ -1,10 +1,11 @@
 //! What a fault of the device makes free wakes who waits for it.
 
-use crate::common::{all_accepted, run_over, settings_with};
+use crate::common::{run_over, settings_with};
 use crate::waking::Told;
 use pp_device::{Count, Device, Fault, image};
 use pp_pool::Work;
 use pp_run::RunRecord;
+use pp_test_plain::all_accepted;
 use pp_test_plain::samples::{TOUCH, WRITE};
 use std::marker::Model;
 use std::process::Abort;
@@ -139,7 +140,7 @@ fn run_case<R: AllocGlobal + Abort + Threads + Wait + Clock + Copy + Drop + Sync
     let told = Told::new();
     let failed = AtomicU64::new(0);
     let settings = settings_with(alloc, case.frames, case.workers, case.flushes)?;
-    let plans = all_accepted(rt, alloc, &settings, texts)?;
+    let plans = all_accepted(alloc, &settings, texts)?;
     let mut devices = Vec::new(alloc);
     let mut works = Vec::new(alloc);
     for end in 0..case.workers.saturating_add(1) {

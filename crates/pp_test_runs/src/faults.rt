@@ -1,12 +1,13 @@
 //! Runs of which one end of the device fails at its first call.
 
-use crate::common::{Counting, Seen, all_accepted, run_over, settings_of};
+use crate::common::{Counting, Seen, run_over, settings_of};
 use crate::rows::count;
 use pp_device::{Failing, Trouble};
 use pp_pool::Event;
 use pp_report::{audit, journal_text, report};
 use pp_run::RunRecord;
 use pp_shared::SharedDevice;
+use pp_test_plain::all_accepted;
 use pp_test_plain::samples::{TOUCH, WRITE};
 use pp_vault::{Ending, Move, Reply};
 use std::process::Abort;
@@ -35,7 +36,7 @@ fn run_failing<R: AllocGlobal + Abort + Threads + Wait + Clock + Copy + Drop + S
 ) -> Result<RunRecord, Fail> {
     let alloc = rt.alloc();
     let settings = settings_of(alloc, case.workers, case.flushes)?;
-    let plans = all_accepted(rt, alloc, &settings, texts)?;
+    let plans = all_accepted(alloc, &settings, texts)?;
     let ends = SharedDevice::over_memory(*rt, alloc, 24, 64, case.workers as usize + 1)?;
     let mut devices = Vec::new(alloc);
     for (number, end) in ends.into_iter().enumerate() {
@@ -61,7 +62,7 @@ fn run_failing<R: AllocGlobal + Abort + Threads + Wait + Clock + Copy + Drop + S
         seen.bad.load(Ordering::SeqCst) == 0,
         "a bad image was seen"
     );
-    let plans = all_accepted(rt, alloc, &settings, texts)?;
+    let plans = all_accepted(alloc, &settings, texts)?;
     let text = journal_text(alloc, &record.events)?;
     match audit(alloc, &settings, plans, text.as_bytes()) {
         Ok(audited) => assert!(rt; audited.lines == record.events.len() as u64, "other lines"),

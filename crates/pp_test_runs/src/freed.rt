@@ -1,10 +1,11 @@
 //! A page that was read or written, and a frame that was let go, wake who waits for them.
 
-use crate::common::{all_accepted, comes_to, run_over, settings_with};
+use crate::common::{comes_to, run_over, settings_with};
 use crate::waking::WRITE_THEN_TOUCH;
 use pp_device::{Count, Device, Fault, image};
 use pp_pool::Work;
 use pp_run::RunRecord;
+use pp_test_plain::all_accepted;
 use std::marker::Model;
 use std::process::Abort;
 use std::sync::Wait;
@@ -214,7 +215,7 @@ fn run_case<R: AllocGlobal + Abort + Threads + Wait + Clock + Copy + Drop + Sync
     let alloc = rt.alloc();
     let told = Told::new();
     let settings = settings_with(alloc, case.frames, 2, case.flushes)?;
-    let plans = all_accepted(rt, alloc, &settings, texts)?;
+    let plans = all_accepted(alloc, &settings, texts)?;
     let mut devices = Vec::new(alloc);
     let mut works = Vec::new(alloc);
     for _end in 0..3 {

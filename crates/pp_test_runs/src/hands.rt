@@ -1,9 +1,10 @@
 //! A run's many hands: each work and each end of the device goes to its own worker, and is asked what the plans ask.
 
-use crate::common::{all_accepted, comes_to, run_counted, run_over, settings_of};
+use crate::common::{comes_to, run_counted, run_over, settings_of};
 use pp_device::{Count, Device, Fault, image};
 use pp_pool::{Event, Work};
 use pp_shared::SharedDevice;
+use pp_test_plain::all_accepted;
 use pp_test_plain::samples::WRITE;
 use pp_vault::Move;
 use std::marker::Model;
@@ -152,7 +153,7 @@ fn run_apart<R: AllocGlobal + Abort + Threads + Wait + Clock + Copy + Drop + Syn
 ) -> Result<(), Fail> {
     let alloc = rt.alloc();
     let settings = settings_of(alloc, 3, 0)?;
-    let plans = all_accepted(rt, alloc, &settings, &[OTHER, OTHER, OTHER, CROSSED, OTHER])?;
+    let plans = all_accepted(alloc, &settings, &[OTHER, OTHER, OTHER, CROSSED, OTHER])?;
     let mut devices = Vec::new(alloc);
     let mut works = Vec::new(alloc);
     for number in 0..3 {
@@ -238,7 +239,7 @@ fn plans_are_counted_as_they_end(rt: HostRuntime) -> Result<(), Fail> {
     let asked = Asked::new();
     let finished = AtomicU64::new(0);
     let settings = settings_of(alloc, 1, 0)?;
-    let plans = all_accepted(&rt, alloc, &settings, &[WRITE; 4])?;
+    let plans = all_accepted(alloc, &settings, &[WRITE; 4])?;
     let devices = SharedDevice::over_memory(rt, alloc, 24, 64, 2)?;
     let mut works = Vec::new(alloc);
     works.push(Watching {

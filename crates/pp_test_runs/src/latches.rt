@@ -1,9 +1,10 @@
 //! Of several threads that wait each is woken by what it waits for, whoever waits longer.
 
-use crate::common::{all_accepted, comes_to, run_over};
+use crate::common::{comes_to, run_over};
 use pp_pool::Work;
 use pp_settings::Settings;
 use pp_shared::SharedDevice;
+use pp_test_plain::all_accepted;
 use std::sync::atomic::{AtomicU64, Ordering};
 use std::test::*;
 use std::thread;
@@ -167,7 +168,7 @@ fn each_latch_wakes_who_waits_for_it(rt: HostRuntime) -> Result<(), Fail> {
     let alloc = rt.alloc();
     let stages = Stages::new();
     let settings = Settings::from_text(alloc, SETTINGS)?;
-    let plans = all_accepted(&rt, alloc, &settings, &[HOLD, CHANGE_TWO, CHANGE_ONE])?;
+    let plans = all_accepted(alloc, &settings, &[HOLD, CHANGE_TWO, CHANGE_ONE])?;
     let devices = SharedDevice::over_memory(rt, alloc, 24, 64, 4)?;
     let mut works = Vec::new(alloc);
     for _worker in 0..3 {

@@ -2,7 +2,7 @@
 
 ghost use Rattle.std.specs.Prelude.{◌≡◌, ◌^◌, ◌<◌, vec_len};
 
-use crate::common::{Counting, Seen, all_accepted, run_over, settings_of, watch, works_of};
+use crate::common::{Counting, Seen, run_over, settings_of, watch, works_of};
 use crate::rows::{count, is_done, is_loading};
 use crate::scarce::Scarce;
 use pp_cert::Accepted;
@@ -11,6 +11,7 @@ use pp_pool::Book;
 use pp_run::{Desk, Flushed, Locked, LockedSite, RunError, Stop, Worked, judge, run_all};
 use pp_settings::Settings;
 use pp_shared::SharedDevice;
+use pp_test_plain::all_accepted;
 use pp_test_plain::samples::{READ, TOUCH, WRITE};
 use std::alloc::Global;
 use std::process::Abort;
@@ -96,7 +97,7 @@ fn run_with<R: Abort + Threads + Wait + Clock + AllocGlobal + Copy + Drop + Sync
     let alloc = rt.alloc();
     let seen = Seen::new();
     let settings = settings_of(alloc, 2, 4)?;
-    let plans = all_accepted(rt, alloc, &settings, &[WRITE, READ, WRITE])?;
+    let plans = all_accepted(alloc, &settings, &[WRITE, READ, WRITE])?;
     let mut devices = SharedDevice::over_memory(*rt, alloc, 24, 64, 3)?;
     let works = works_of(alloc, 2, &seen)?;
     let Some(last) = devices.pop() else {
@@ -162,7 +163,7 @@ fn memory_is_there(rt: HostRuntime) -> Result<(), Fail> {
     let alloc = rt.alloc();
     let seen = Seen::new();
     let settings = Settings::from_text(alloc, LARGE)?;
-    let plans = all_accepted(&rt, alloc, &settings, &[TOUCH; 256])?;
+    let plans = all_accepted(alloc, &settings, &[TOUCH; 256])?;
     let devices = SharedDevice::over_memory(rt, alloc, 65_536, 64, 33)?;
     let works = works_of(alloc, 32, &seen)?;
     match run_over(&rt, alloc, &settings, plans, devices, works) {

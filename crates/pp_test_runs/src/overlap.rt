@@ -1,9 +1,10 @@
 //! Two workers are at work at once.
 
-use crate::common::{Counting, Seen, all_accepted, run_over, settings_of};
+use crate::common::{Counting, Seen, run_over, settings_of};
 use pp_device::{Count, Device, Fault, image};
 use pp_model::{Ending, Reply};
 use pp_pool::Event;
+use pp_test_plain::all_accepted;
 use pp_test_plain::samples::TOUCH;
 use std::marker::Model;
 use std::sync::atomic::{AtomicBool, Ordering};
@@ -92,7 +93,7 @@ fn workers_really_overlap(rt: HostRuntime) -> Result<(), Fail> {
     };
     let seen = Seen::new();
     let settings = settings_of(alloc, 2, 4)?;
-    let plans = all_accepted(&rt, alloc, &settings, &[TOUCH, TOUCH])?;
+    let plans = all_accepted(alloc, &settings, &[TOUCH, TOUCH])?;
     let mut devices = Vec::new(alloc);
     let mut works = Vec::new(alloc);
     for behind in 1..3 {

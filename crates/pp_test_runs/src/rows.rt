@@ -3,21 +3,10 @@
 use crate::common::{Seen, run, same_text};
 use pp_pool::Event;
 use pp_report::journal_text;
-use pp_test_plain::samples::{READ, TOUCH, WRITE};
+use pp_test_plain::samples::{READ, TOUCH, WRITE, WRITTEN};
 use pp_vault::{Ending, Reply};
 use std::sync::atomic::Ordering;
 use std::test::*;
-
-/// The journal of a worker that writes a leaf.
-const WRITTEN: &str = "submit 0 = queued
-take 0 = taken 0
-fix 0 16 = mustread 0
-came 0 16 0 = loaded 0
-latch 0 = latched 0
-unlatch 0 = unlatched 1
-unfix 0 = did
-finish 0 = done
-";
 
 /// One worker, no flush: eight events, a hundred times the same, and the page stays newer than the device's.
 #[test]

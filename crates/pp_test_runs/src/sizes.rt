@@ -1,10 +1,11 @@
 //! Runs over pages of other sizes, whose last byte is changed and seen.
 
-use crate::common::{Seen, all_accepted, run_over};
+use crate::common::{Seen, run_over};
 use pp_device::{Device, image};
 use pp_pool::Work;
 use pp_settings::Settings;
 use pp_shared::SharedDevice;
+use pp_test_plain::all_accepted;
 use pp_test_plain::samples::{READ, REGIONS, WRITE};
 use std::alloc::Global;
 use std::process::Abort;
@@ -75,7 +76,7 @@ fn run_with<R: AllocGlobal + Abort + Threads + Wait + Clock + Copy + Drop + Sync
     let seen = Seen::new();
     let settings = settings_with(alloc, page_bytes)?;
     let texts = [WRITE, READ, WRITE, READ, WRITE, READ];
-    let plans = all_accepted(rt, alloc, &settings, &texts)?;
+    let plans = all_accepted(alloc, &settings, &texts)?;
     let devices = SharedDevice::over_memory(*rt, alloc, 24, page_bytes.max(image::HEAD), 3)?;
     let mut works = Vec::new(alloc);
     for _worker in 0..2 {

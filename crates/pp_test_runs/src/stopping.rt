@@ -1,12 +1,13 @@
 //! A thread that stops wakes all that wait, also where it stops without an event.
 
-use crate::common::{Seen, all_accepted, settings_of, works_of};
+use crate::common::{Seen, settings_of, works_of};
 use crate::memory::threads_over;
 use crate::patient::{Patient, Told, Until};
 use crate::waiting::Slow;
 use pp_pool::Book;
 use pp_run::{Locked, Stop};
 use pp_shared::SharedDevice;
+use pp_test_plain::all_accepted;
 use pp_test_plain::samples::WRITE;
 use std::process::Abort;
 use std::sync::{Mutex, Wait};
@@ -39,7 +40,7 @@ fn run_patiently<R: Abort + Threads + Wait + Clock + AllocGlobal + Copy + Drop +
     let alloc = rt.alloc();
     let seen = Seen::new();
     let settings = settings_of(alloc, 2, 4)?;
-    let plans = all_accepted(rt, alloc, &settings, texts)?;
+    let plans = all_accepted(alloc, &settings, texts)?;
     let mut devices = Vec::new(alloc);
     for device in SharedDevice::over_memory(*rt, alloc, 24, 64, 3)? {
         devices.push(Slow { rt: *rt, device })?;

@@ -1,6 +1,6 @@
 //! Many plans by many workers over few frames, on a device that fails and lies.
 
-use crate::common::{Seen, all_accepted, run_over, settings_with};
+use crate::common::{Seen, run_over, settings_with};
 use pp_device::{Device, Failing, Trouble, image};
 use pp_model::Reply;
 use pp_pool::{Event, Work};
@@ -8,6 +8,7 @@ use pp_report::{audit, journal_text};
 use pp_run::RunRecord;
 use pp_settings::Settings;
 use pp_shared::SharedDevice;
+use pp_test_plain::all_accepted;
 use std::alloc::Global;
 use std::process::Abort;
 use std::sync::Wait;
@@ -122,7 +123,7 @@ fn run_many<R: AllocGlobal + Abort + Threads + Wait + Clock + Copy + Drop + Sync
 ) -> Result<(RunRecord, SharedDevice<R>), Fail> {
     let alloc = rt.alloc();
     let settings = sample(alloc)?;
-    let plans = all_accepted(rt, alloc, &settings, texts)?;
+    let plans = all_accepted(alloc, &settings, texts)?;
     let mut devices = Vec::new(alloc);
     for end in SharedDevice::over_memory(*rt, alloc, 24, 64, 9)? {
         devices.push(troubled(alloc, end)?)?;
@@ -148,7 +149,7 @@ fn is_audited<R: AllocGlobal + Abort>(
 ) -> Result<(), Fail> {
     let alloc = rt.alloc();
     let settings = sample(alloc)?;
-    let plans = all_accepted(rt, alloc, &settings, texts)?;
+    let plans = all_accepted(alloc, &settings, texts)?;
     let journal = journal_text(alloc, events)?;
     match audit(alloc, &settings, plans, journal.as_bytes()) {
         Ok(audited) => assert!(rt; audited.lines == events.len() as u64, "other lines"),

@@ -1,9 +1,10 @@
 //! Threads that wait are woken. A hang fails a test after some seconds.
 
-use crate::common::{Seen, all_accepted, run_over, settings_of, works_of};
+use crate::common::{Seen, run_over, settings_of, works_of};
 use pp_device::{Device, Fault};
 use pp_pool::Work;
 use pp_shared::SharedDevice;
+use pp_test_plain::all_accepted;
 use pp_test_plain::samples::{TOUCH, WRITE};
 use std::marker::Model;
 use std::sync::atomic::Ordering;
@@ -44,7 +45,7 @@ fn closing_wakes_the_flusher(rt: HostRuntime) -> Result<(), Fail> {
     let alloc = rt.alloc();
     let seen = Seen::new();
     let settings = settings_of(alloc, 1, 4)?;
-    let plans = all_accepted(&rt, alloc, &settings, &[TOUCH])?;
+    let plans = all_accepted(alloc, &settings, &[TOUCH])?;
     let mut devices = Vec::new(alloc);
     for device in SharedDevice::over_memory(rt, alloc, 24, 64, 2)? {
         devices.push(Slow { rt, device })?;
@@ -91,7 +92,7 @@ fn workers_that_wait_for_a_latch_are_woken(rt: HostRuntime) -> Result<(), Fail> 
     let alloc = rt.alloc();
     let seen = Seen::new();
     let settings = settings_of(alloc, 4, 4)?;
-    let plans = all_accepted(&rt, alloc, &settings, &[WRITE; 3])?;
+    let plans = all_accepted(alloc, &settings, &[WRITE; 3])?;
     let devices = SharedDevice::over_memory(rt, alloc, 24, 64, 5)?;
     let mut works = Vec::new(alloc);
     for _worker in 0..4 {

@@ -1,9 +1,10 @@
 //! Each wake-up is needed: who waits is woken by the very move that lets it go on, and not only when a worker ends.
 
-use crate::common::{all_accepted, comes_to, run_over, settings_of, settings_with};
+use crate::common::{comes_to, run_over, settings_of, settings_with};
 use pp_device::{Device, Failing, Fault, Trouble};
 use pp_pool::Work;
 use pp_shared::SharedDevice;
+use pp_test_plain::all_accepted;
 use std::marker::Model;
 use std::process::Abort;
 use std::sync::Wait;
@@ -127,7 +128,7 @@ fn an_unlatch_wakes_who_waits_for_it(rt: HostRuntime) -> Result<(), Fail> {
     let alloc = rt.alloc();
     let told = Told::new();
     let settings = settings_with(alloc, 4, 2, 0)?;
-    let plans = all_accepted(&rt, alloc, &settings, &[WRITE_AND_TOUCH; 2])?;
+    let plans = all_accepted(alloc, &settings, &[WRITE_AND_TOUCH; 2])?;
     let devices = SharedDevice::over_memory(rt, alloc, 24, 64, 3)?;
     let mut works = Vec::new(alloc);
     for _worker in 0..2 {
@@ -155,7 +156,7 @@ fn an_unlatch_wakes_the_flusher(rt: HostRuntime) -> Result<(), Fail> {
     let alloc = rt.alloc();
     let told = Told::new();
     let settings = settings_of(alloc, 1, 4)?;
-    let plans = all_accepted(&rt, alloc, &settings, &[WRITE_THEN_TOUCH])?;
+    let plans = all_accepted(alloc, &settings, &[WRITE_THEN_TOUCH])?;
     let mut devices = Vec::new(alloc);
     for device in SharedDevice::over_memory(rt, alloc, 24, 64, 2)? {
         devices.push(Telling {
@@ -191,7 +192,7 @@ fn run_in_one_frame<R: AllocGlobal + Abort + Threads + Wait + Clock + Copy + Dro
     let alloc = rt.alloc();
     let told = Told::new();
     let settings = settings_with(alloc, 1, 1, flushes)?;
-    let plans = all_accepted(rt, alloc, &settings, &[WRITE_THEN_TOUCH])?;
+    let plans = all_accepted(alloc, &settings, &[WRITE_THEN_TOUCH])?;
     let mut devices = Vec::new(alloc);
     for (number, end) in SharedDevice::over_memory(*rt, alloc, 24, 64, 2)?
         .into_iter()
