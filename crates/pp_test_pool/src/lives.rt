@@ -1,6 +1,6 @@
 //! A book in several lives: what it gives at the end of one, and what the next begins with.
 
-use crate::common::{FirstPages, accepted, same_events};
+use crate::common::{FirstPages, same_events};
 use crate::turns::{FLUSHED, WRITTEN};
 use pp_arc::List;
 use pp_cert::Accepted;
@@ -10,6 +10,7 @@ use pp_pool::{
 };
 use pp_report::{audit, journal_text};
 use pp_settings::Settings;
+use pp_test_plain::accepted;
 use pp_test_plain::samples::{NOTHING, READ, REGIONS, SETTINGS, TOUCH, WRITE};
 use pp_vault::{Came, Ending, Errand, Failure, Hands, Move, RenewError, Reply, Returned};
 use std::alloc::Global;
@@ -148,8 +149,8 @@ fn is_audited(
 #[test]
 fn a_written_page_is_a_hit_in_the_next_life(rt: HostRuntime) -> Result<(), Fail> {
     let settings = Settings::from_text(rt.alloc(), SETTINGS)?;
-    let first = accepted(&rt, rt.alloc(), &settings, WRITE)?;
-    let second = accepted(&rt, rt.alloc(), &settings, WRITE)?;
+    let first = accepted(rt.alloc(), &settings, WRITE)?;
+    let second = accepted(rt.alloc(), &settings, WRITE)?;
     let mut stand = stand_of(rt.alloc(), &settings)?;
     let is_new = stand.book.began().mark(16).is_none()
         && stand.book.began().pages(List::T1).is_empty();
@@ -192,7 +193,7 @@ fn a_written_page_is_a_hit_in_the_next_life(rt: HostRuntime) -> Result<(), Fail>
 
 /// The plan of this text; it is accepted.
 fn plan_of(rt: &impl Abort, alloc: Global, settings: &Settings, text: &str) -> Accepted {
-    match accepted(rt, alloc, settings, text) {
+    match accepted(alloc, settings, text) {
         Ok(plan) => plan,
         Err(_) => panic!(rt; "no memory, or not accepted: {text}"),
     }
@@ -255,7 +256,7 @@ fn flushed(rt: &impl Abort, book: &mut Book, returned: Returned) -> bool {
 #[test]
 fn a_flush_is_awaited(rt: HostRuntime) -> Result<(), Fail> {
     let settings = Settings::from_text(rt.alloc(), SETTINGS)?;
-    let plan = accepted(&rt, rt.alloc(), &settings, WRITE)?;
+    let plan = accepted(rt.alloc(), &settings, WRITE)?;
     let mut stand = stand_of(rt.alloc(), &settings)?;
     submits(&rt, &mut stand.book, plan, 0);
     let (mut stand, _log) = works(&rt, rt.alloc(), &settings, stand);
