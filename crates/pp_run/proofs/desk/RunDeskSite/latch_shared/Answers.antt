@@ -8,11 +8,11 @@ use Rattle.pp_run.proofs.desk.RunDeskSite.latch_shared.Goals as goal
 pub invariant_of-self : goal.invariant_of-self
 invariant_of-self g c =
     let d = c.args.self.now in
-    let k : IsOfRun g.N.Naming.settings g.N.Naming.plans c.latch_shared.new.self.book
-    = tried_kept g.N.Naming.settings g.N.Naming.plans d.site (LatchShared c.args.session c.args.guard)
+    let k : IsOfRun g.N.Naming.settings g.N.Naming.plans g.N.Naming.outset c.latch_shared.new.self.book
+    = tried_kept g.N.Naming.settings g.N.Naming.plans g.N.Naming.outset d.site (LatchShared c.args.session c.args.guard)
     (latched_shared c.args.session) c.latch_shared.new.self c.latch_shared.result c.latch_shared.ensures.given c.latch_shared.ensures.same
-    record { settings = d.settings; taken = d.plans; begun = d.begun; moving = d.moving } in
-    record { settings = k.settings; plans = k.taken; begun = k.begun; moving = k.moving }
+    record { settings = d.settings; taken = d.plans; outset = d.outset; begun = d.begun; moving = d.moving } in
+    record { settings = k.settings; plans = k.taken; outset = k.outset; begun = k.begun; moving = k.moving }
 
 pub returns-clause-same : goal.returns-clause-same
 returns-clause-same g c =
