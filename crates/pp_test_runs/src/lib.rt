@@ -10,6 +10,8 @@ mod common;
 #[cfg(test)]
 mod counted;
 #[cfg(test)]
+mod crossing;
+#[cfg(test)]
 mod devices;
 #[cfg(test)]
 mod failing;
@@ -21,6 +23,8 @@ mod freed;
 mod hands;
 #[cfg(test)]
 mod latches;
+#[cfg(test)]
+mod meanwhile;
 #[cfg(test)]
 mod memory;
 #[cfg(test)]
