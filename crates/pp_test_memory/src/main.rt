@@ -56,7 +56,12 @@ fn case<
         "pp_settings" | "pp_plan" | "pp_cert" | "pp_annotate" | "pp_script" => texts::case(
             rt, call, row,
         ),
-        "pp_arc" | "pp_frames" | "pp_bundles" | "pp_core" | "pp_outset" | "pp_device"
+        "pp_arc"
+        | "pp_frames"
+        | "pp_bundles"
+        | "pp_core"
+        | "pp_outset"
+        | "pp_device"
         | "pp_vault" => parts::case(rt, library, call),
         "pp_cache" => caches::case(rt, call),
         "pp_shared" => shared::case(rt, call),
