@@ -4,6 +4,7 @@ use pp_cert::Accepted;
 use pp_report::{AuditError, Audited, audit, audit_lives};
 use pp_settings::Settings;
 use pp_test_plain::accepted;
+use std::alloc::Global;
 use std::fs;
 use std::rt::Files;
 
