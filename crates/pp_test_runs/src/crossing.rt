@@ -62,11 +62,11 @@ struct Crossing<'a, R> {
     goes_back: bool,
 }
 
-impl<'a, R: Clock> Crossing<'a, R> {
-    /// Waits until the page was latched so often.
-    fn wait_for(&self, counter: &AtomicU64) {
-        if !comes_to(&self.rt, counter, 1) {
-            self.latched.in_vain.fetch_add(1, Ordering::SeqCst);
+impl Latched {
+    /// Waits until the page with this counter was latched.
+    fn wait_for(&self, rt: &impl Clock, counter: &AtomicU64) {
+        if !comes_to(rt, counter, 1) {
+            self.in_vain.fetch_add(1, Ordering::SeqCst);
         }
     }
 }
@@ -77,7 +77,8 @@ impl<'a, R: Clock> Work for Crossing<'a, R> {
             self.is_begun = true;
             self.goes_back = region == 1;
             if !self.goes_back {
-                self.wait_for(&self.latched.two);
+                let latched = self.latched;
+                latched.wait_for(&self.rt, &latched.two);
             }
         }
         first
@@ -88,13 +89,14 @@ impl<'a, R: Clock> Work for Crossing<'a, R> {
     }
 
     fn change(&mut self, page: u32, _body: &mut [u8]) {
+        let latched = self.latched;
         if page == 16 {
-            self.latched.one.fetch_add(1, Ordering::SeqCst);
+            latched.one.fetch_add(1, Ordering::SeqCst);
             return;
         }
-        self.latched.two.fetch_add(1, Ordering::SeqCst);
+        latched.two.fetch_add(1, Ordering::SeqCst);
         if self.goes_back {
-            self.wait_for(&self.latched.one);
+            latched.wait_for(&self.rt, &latched.one);
             let _slept = thread::sleep(&self.rt, Duration::from_millis(50));
         }
     }

@@ -1,5 +1,7 @@
 //! While a work is called, nobody has the lock: another worker takes a plan, does it, and ends it meanwhile.
 
+ghost use Rattle.std.specs.Prelude.{◌≡◌};
+
 use crate::common::{comes_to, run_counted, settings_of};
 use pp_pool::Work;
 use pp_shared::SharedDevice;
@@ -81,6 +83,8 @@ struct Meanwhile<'a, R> {
 }
 
 impl<'a, R: Clock> Work for Meanwhile<'a, R> {
+    ghost reach_gives = { λ work bytes. bytes ≡ 64 };
+
     fn page(&mut self, region: u8, first: u32, _count: u32) -> u32 {
         self.asks = region == 1;
         if self.asks {
