@@ -9,8 +9,6 @@ mod common;
 #[cfg(test)]
 mod fails;
 #[cfg(test)]
-mod keeping;
-#[cfg(test)]
 mod lives;
 #[cfg(test)]
 mod pairs;
