@@ -6,9 +6,14 @@ use Rattle.pp_model.specs.declared.reply.Reply.{Reply}
 use Rattle.pp_model.specs.declared.event.Event.{Event}
 use Rattle.pp_model.specs.declared.event.Event.TheVariants.{Step}
 use Rattle.pp_vault.specs.declared.refusal.Refusal.{Refusal}
+use Rattle.pp_vault.specs.declared.fixing.Fixed.{Fixed}
+use Rattle.pp_vault.specs.declared.fixing.Fixed.TheVariants as fixed
+use Rattle.pp_vault.specs.declared.tokens.Session.{Session}
+use Rattle.pp_vault.specs.Fixes.{FixAnswers}
 use Rattle.pp_vault.specs.Parts as vault
 use Rattle.pp_vault.specs.Events.{Refuses}
 use Rattle.pp_pool.specs.declared.request.Request.{Request}
+use Rattle.pp_pool.specs.declared.request.Request.TheVariants as request
 use Rattle.pp_pool.specs.declared.response.BookAnswer.{BookAnswer}
 use Rattle.pp_pool.specs.declared.response.Response.{Response}
 use Rattle.pp_pool.specs.Parts.{Parts, state_of}
@@ -17,6 +22,8 @@ use Rattle.pp_pool.specs.Requests.{call_of, event_for}
 use Rattle.pp_pool.specs.Performing.{ComesTo, DoesUnless, TellsOf}
 use Rattle.pp_pool.specs.Performs.{Performs}
 use Rattle.pp_pool.specs.Replies.{IsMoveOf, TokensFit, Replies}
+use Rattle.pp_pool.specs.AtOnce.{fix_answer}
+use Rattle.pp_pool.proofs.Tokens.{sent_worker}
 use Rattle.pp_pool.proofs.Noted.{IsNoted, noted, refused_call}
 use Rattle.pp_pool.proofs.Replying.{replies}
 use Rattle.pp_pool.proofs.Growing.{book_headline, room_in, event_in, performed, settings_then, plans_then}
@@ -85,3 +92,26 @@ pub refused_none : (b : Parts) → IsBook b → (asked : Request) (why : Refusal
 refused_none b k asked why h =
     ap (option_map (λ (t : Move × Reply). Step t.0 t.1))
     (refused_call (state_of b) (call_of b.vault asked (state_of b)) why (h (state_of b) k.stands)).1
+
+-- ---- a fix
+
+module _ (old new : vault.Parts) (x : Session) (page : ℕ) where
+  -- What it comes to is what its request comes to.
+  pub fix_comes : (f : Fixed) → FixAnswers old x page f new → ComesTo old (request.Fix x page) (fix_answer f) new
+  fix_comes (fixed.Got y g) h = h
+  fix_comes (fixed.Opened y g) h = h
+  fix_comes (fixed.Joined y) h = h
+  fix_comes (fixed.Away errand) h = h
+
+  pub fix_does : (f : Fixed) → FixAnswers old x page f new → DoesUnless old (request.Fix x page) (fix_answer f) new
+  fix_does (fixed.Got y g) h done = h.0
+  fix_does (fixed.Opened y g) h done = h.0
+  fix_does (fixed.Joined y) h done = h.0
+  fix_does (fixed.Away errand) h done = h.0
+
+  -- Its tokens are of the session's worker.
+  pub fix_fits : (f : Fixed) → FixAnswers old x page f new → TokensFit (request.Fix x page) (fix_answer f)
+  fix_fits (fixed.Got y g) h = (h.1.session.worker, h.1.guard.worker, h.1.of_page, h.2)
+  fix_fits (fixed.Opened y g) h = (h.1.session.worker, h.1.guard.worker, h.2)
+  fix_fits (fixed.Joined y) h = h.1.session.worker
+  fix_fits (fixed.Away errand) h = sent_worker old new x.worker page errand.image errand.duty h.1

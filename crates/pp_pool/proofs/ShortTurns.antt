@@ -13,12 +13,15 @@ use Rattle.pp_vault.specs.declared.guards.PinGuard.{PinGuard}
 use Rattle.pp_vault.specs.declared.guards.ReadGuard.{ReadGuard}
 use Rattle.pp_vault.specs.declared.guards.Guard.{Guard}
 use Rattle.pp_vault.specs.declared.guards.Guard.TheVariants as guard
+use Rattle.pp_vault.specs.declared.fixing.Fixed.{Fixed}
+use Rattle.pp_vault.specs.declared.fixing.Fixed.TheVariants as fixed
 use Rattle.pp_vault.specs.declared.stage.Stage.{Stage}
 use Rattle.pp_vault.specs.declared.stage.Stage.TheVariants as stage
 use Rattle.pp_vault.specs.Stages.{stage_worker}
 use Rattle.pp_vault.specs.Holding.{placed, slot_by}
 use Rattle.pp_pool.specs.declared.request.Request.{Request}
 use Rattle.pp_pool.specs.declared.request.Request.TheVariants as request
+use Rattle.pp_pool.specs.declared.response.BookAnswer.{BookAnswer}
 use Rattle.pp_pool.specs.declared.response.BookAnswer.TheVariants as answer
 use Rattle.pp_pool.specs.declared.response.Response.{Response}
 use Rattle.pp_pool.specs.declared.turned.Turned.{Turned}
@@ -27,42 +30,83 @@ use Rattle.pp_pool.specs.declared.worker.Worker.{Worker}
 use Rattle.pp_pool.specs.declared.site.Site as Site
 use Rattle.pp_pool.specs.declared.work.Work as Work
 use Rattle.pp_pool.specs.Replies.{Replies}
-use Rattle.pp_pool.specs.AtOnce.{latched_shared, unlatched_shared, unfixed}
-use Rattle.pp_pool.specs.Turns.{Asks, Makes, TurnIs, TurnOf, worker_with, has_errand, keeps_place, logged_events, LooksAt}
-use Rattle.pp_pool.specs.ShortTurns.{TurnsAtOnce}
+use Rattle.pp_pool.specs.AtOnce.{fix_answer, latched_shared, unlatched_shared, unfixed}
+use Rattle.pp_pool.specs.Turns.{Asks, Consults, Makes, TurnIs, TurnOf, worker_with, has_errand, keeps_place, logged_events, LooksAt, Uses, stage_in, guard_in, places_with}
+use Rattle.pp_pool.specs.ShortTurns.{Comes, TurnsAtOnce}
 use Rattle.pp_pool.proofs.Placing.{back_same}
 use Rattle.pp_pool.proofs.Turning.{turns}
 use Rattle.pp_pool.proofs.Keeping.{keeps_worker, keeps_after}
+
+-- ---- what comes of a request
+
+module _ {S W : Type 0} (s : Site.Ghosts S) (k : Work.Ghosts W) (room : ℕ) (asked : Request) (rest : List (Option Guard))
+    (site mid site' : S) (log : Vec Event) (between : W) (turned : Turned) (new : Stage) (places' : List (Option Guard))
+    (log' : Vec Event) (left : W) where
+  -- The site that is let go is the same.
+  pub comes_of : (response : Response) (after : BookAnswer) (is_logged : Bool) (ends : Turned)
+      → s.gives site asked response mid → Replies asked response → site' ≡ mid
+      → log'.items ≡ log.items ++ logged_events is_logged response.event
+      → (is_logged ≡ false → vec_capacity log ≤ vec_len log)
+      → Uses s k mid room between response.answer ends after left → stage_in after ≡ Some new
+      → places' ≡ places_with rest (guard_in after) → turned ≡ (if is_logged then ends else Broken)
+      → Comes s k room asked rest site log between turned new places' site' log' left
+  comes_of response after is_logged ends given fits same grows full uses stages guards ended =
+      record {
+        response = response;
+        after = after;
+        is_logged = is_logged;
+        ends = ends;
+        given = subst (s.gives site asked response) (sym same) given;
+        fits = fits;
+        grows = grows;
+        full = full;
+        uses = subst (λ t. Uses s k t room between response.answer ends after left) (sym same) uses;
+        stage = stages;
+        guards = guards;
+        ended = ended;
+      }
+
+-- The work uses nothing of what a fix comes to.
+pub fix_uses : {S W : Type 0} (s : Site.Ghosts S) (k : Work.Ghosts W) (site : S) (room : ℕ) (work : W) (f : Fixed)
+    → Uses s k site room work (fix_answer f) Done (fix_answer f) work
+fix_uses s k site room work (fixed.Got y g) = (refl, refl, refl)
+fix_uses s k site room work (fixed.Opened y g) = (refl, refl, refl)
+fix_uses s k site room work (fixed.Joined y) = (refl, refl, refl)
+fix_uses s k site room work (fixed.Away errand) = (refl, refl, refl)
 
 -- ---- it is a turn of the worker
 
 module _ {S D W : Type 0} (s : Site.Ghosts S) (d : Device.Ghosts D) (k : Work.Ghosts W) (room : ℕ) (old : Stage)
     (places : List (Option Guard)) (site : S) (log : Vec Event) (before : W) (turned : Turned) (new : Stage)
     (places' : List (Option Guard)) (site' : S) (log' : Vec Event) (left : W)
-    (t : TurnsAtOnce s k room old places site log before turned new places' site' log' left) (device : D) where
-  asks_in : (layout : Geometry) → Asks d.read_gives d.write_leaves d.calls d.failures layout old device t.asked device
-  asks_in layout =
+    (layout : Geometry)
+    (t : TurnsAtOnce s k layout room old places site log before turned new places' site' log' left) (device : D) where
+  asks_in : Asks d.read_gives d.write_leaves d.calls d.failures layout old device t.asked device
+  asks_in =
       subst (λ (x : Stage). Asks d.read_gives d.write_leaves d.calls d.failures layout x device t.asked device) (sym t.acts)
-      (t.step layout, refl)
+      (t.step, refl)
 
-  pub short_turn : (layout : Geometry) → (has_errand old ≡ false → vec_len log < vec_capacity log)
+  pub short_turn : (has_errand old ≡ false → vec_len log < vec_capacity log)
       → TurnOf s d k layout room (λ w. worker_with w old places site device log) before turned
       (λ w. worker_with w new places' site' device log') left
-  short_turn layout has_room w at long =
-      turns s d k (worker_with w old places site device log) (worker_with w new places' site' device log') before before left
-      t.asked t.response t.after t.rest site' room t.is_logged t.ends turned (asks_in w.layout) (t.consults w.layout)
-      t.prepares t.given t.fits refl t.grows long t.uses t.stage t.guards has_room t.full t.ended
+  short_turn has_room w at long =
+      turns s d k (worker_with w old places site device log) (worker_with w new places' site' device log') before t.between left
+      t.asked t.comes.response t.comes.after t.rest site' room t.comes.is_logged t.comes.ends turned
+      (subst (λ l. Asks d.read_gives d.write_leaves d.calls d.failures l old device t.asked device) (sym at) asks_in)
+      (subst (λ l. Consults k l before t.asked t.between) (sym at) t.consults)
+      t.prepares t.comes.given t.comes.fits refl t.comes.grows long t.comes.uses t.comes.stage t.comes.guards has_room
+      t.comes.full t.comes.ended
 
-  -- Its tokens stay the worker's, and no errand comes into hand.
-  pub short_worker : (layout : Geometry) → stage_worker new ≡ stage_worker old
-  short_worker layout =
-      keeps_worker s k d.read_gives d.write_leaves d.calls d.failures layout old new device t.asked device t.response site' room
-      before t.ends t.after left (asks_in layout) t.fits t.uses t.stage
+  -- Its tokens stay the worker's, and an errand that comes into hand keeps its place.
+  pub short_worker : stage_worker new ≡ stage_worker old
+  short_worker =
+      keeps_worker s k d.read_gives d.write_leaves d.calls d.failures layout old new device t.asked device t.comes.response
+      site' room t.between t.comes.ends t.comes.after left asks_in t.comes.fits t.comes.uses t.comes.stage
 
   pub short_keeps : keeps_place places' new ≡ true
   short_keeps =
-      keeps_after s k site' room before t.ends left places t.rest t.asked t.prepares t.response.answer t.after new places'
-      t.fits.tokens t.fits.slot t.uses t.stage t.guards
+      keeps_after s k site' room t.between t.comes.ends left places t.rest t.asked t.prepares t.comes.response.answer
+      t.comes.after new places' t.comes.fits.tokens t.comes.fits.slot t.comes.uses t.comes.stage t.comes.guards
 
 -- A turn from where nothing has changed.
 pub turn_back : {S D W : Type 0} (s : Site.Ghosts S) (d : Device.Ghosts D) (k : Work.Ghosts W) (layout : Geometry) (room : ℕ)

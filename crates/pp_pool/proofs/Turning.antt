@@ -321,11 +321,11 @@ stage_after s k site room old turned new asked out after h fit uses =
     subst IsSome (sym (used_stage s k site room old turned new out after uses)) (stage_there asked out h fit)
 
 pub placed_after : {S W : Type 0} (s : Site.Ghosts S) (k : Work.Ghosts W) (site : S) (room : ℕ) (old : W) (turned : Turned)
-    (new : W) (places rest : List (Option Guard)) (asked : Request) (out after : BookAnswer) → Prepares places asked rest
+    (new : W) (rest : List (Option Guard)) (asked : Request) (out after : BookAnswer) → FindsPlace rest asked
     → TokensFit asked out → Uses s k site room old out turned after new
     → IfSome (guard_in after) (λ g. is_free rest (slot_by g) ≡ true)
-placed_after s k site room old turned new places rest asked out after p fit uses =
-    used_placed s k site room old turned new rest out after uses (guard_placed rest asked out p.finds fit)
+placed_after s k site room old turned new rest asked out after finds fit uses =
+    used_placed s k site room old turned new rest out after uses (guard_placed rest asked out finds fit)
 
 module _ {S D W : Type 0} (s : Site.Ghosts S) (d : Device.Ghosts D) (k : Work.Ghosts W) (old new : Worker S D)
     (before between left : W) (asked : Request) (response : Response) (after : BookAnswer) (rest : List (Option Guard)) (site : S)

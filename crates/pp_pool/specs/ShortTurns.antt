@@ -1,4 +1,4 @@
--- What a turn does with a guard of the worker's own, where that is possible at once.
+-- What comes of a request, and what a turn does that wants no device, where that is possible at once.
 use Rattle.std.specs.Prelude.{◌≡◌, ◌≤◌, ◌++◌, if◌then◌else◌, ℕ, Bool, false, List, Option, Some, vec_len, vec_capacity}
 use Rattle.std.specs.Global.{Vec}
 use Rattle.pp_settings.specs.Layout.{Geometry}
@@ -17,28 +17,35 @@ use Rattle.pp_pool.specs.declared.work.Work as Work
 use Rattle.pp_pool.specs.Replies.{Replies}
 use Rattle.pp_pool.specs.Turns.{IsStep, Consults, Prepares, Uses, logged_events, stage_in, guard_in, places_with}
 
--- The worker acts in its plan, and makes the request that the plan asks, which wants neither the work nor a device. The site
--- gives a response that fits; the log grows by its event, if that is logged; the work sees what it may; and what comes is in
--- hand.
-pub record TurnsAtOnce {S W : Type 0} (s : Site.Ghosts S) (k : Work.Ghosts W) (room : ℕ) (old : Stage)
-    (places : List (Option Guard)) (site : S) (log : Vec Event) (before : W) (turned : Turned) (new : Stage)
+-- What comes of a request that is made: the site gives a response that fits; the log grows by its event, if that is logged; the
+-- work does what it may; and what comes is in hand, with these guards beside.
+pub record Comes {S W : Type 0} (s : Site.Ghosts S) (k : Work.Ghosts W) (room : ℕ) (asked : Request)
+    (rest : List (Option Guard)) (site : S) (log : Vec Event) (between : W) (turned : Turned) (new : Stage)
     (places' : List (Option Guard)) (site' : S) (log' : Vec Event) (left : W) : Type 0 where
-  pub asked : Request
   pub response : Response
   pub after : BookAnswer
-  pub rest : List (Option Guard)
   pub is_logged : Bool
   pub ends : Turned
-  pub session : Session
-  pub acts : old ≡ stage.In session
-  pub step : (layout : Geometry) → IsStep layout session asked
-  pub consults : (layout : Geometry) → Consults k layout before asked before
-  pub prepares : Prepares places asked rest
   pub given : s.gives site asked response site'
   pub fits : Replies asked response
   pub grows : log'.items ≡ log.items ++ logged_events is_logged response.event
   pub full : is_logged ≡ false → vec_capacity log ≤ vec_len log
-  pub uses : Uses s k site' room before response.answer ends after left
+  pub uses : Uses s k site' room between response.answer ends after left
   pub stage : stage_in after ≡ Some new
   pub guards : places' ≡ places_with rest (guard_in after)
   pub ended : turned ≡ (if is_logged then ends else Broken)
+
+-- The worker acts in its plan, and makes the request that the plan asks, which wants no device. The work is asked for what the
+-- request wants.
+pub record TurnsAtOnce {S W : Type 0} (s : Site.Ghosts S) (k : Work.Ghosts W) (layout : Geometry) (room : ℕ) (old : Stage)
+    (places : List (Option Guard)) (site : S) (log : Vec Event) (before : W) (turned : Turned) (new : Stage)
+    (places' : List (Option Guard)) (site' : S) (log' : Vec Event) (left : W) : Type 0 where
+  pub asked : Request
+  pub rest : List (Option Guard)
+  pub between : W
+  pub session : Session
+  pub acts : old ≡ stage.In session
+  pub step : IsStep layout session asked
+  pub consults : Consults k layout before asked between
+  pub prepares : Prepares places asked rest
+  pub comes : Comes s k room asked rest site log between turned new places' site' log' left

@@ -2,6 +2,7 @@
 
 ghost use Rattle.std.specs.Prelude.{◌≡◌, ◌<◌, ℕ, List, Option, true, false, None, Some, IfOk, IfErr, IfSome, IfNone, OnErr, nat_lt, slice_set};
 ghost use Rattle.pp_plan.specs.declared.action.Ask.TheVariants as plan_ask;
+ghost use Rattle.pp_pool.specs.declared.request.Request.TheVariants as request;
 ghost use Rattle.pp_vault.specs.Duties.{duty_slot};
 ghost use Rattle.pp_vault.specs.Holding.{slot_by, placed, is_free};
 ghost use Rattle.pp_vault.specs.declared.guards.Guard.{Guard};
@@ -112,7 +113,6 @@ fn in_plan<W: Work>(
 }
 
 /// A fix of a page of the region, where the place of its slot is free.
-#[tactic(auto, using(crate::proofs::Placing::fix_step, crate::proofs::Turning::fix_consults, crate::proofs::Placing::fix_prepared))]
 fn fix<W: Work>(
     session: Session,
     guards: &Guards,
@@ -129,13 +129,36 @@ fn fix<W: Work>(
     ensures back { IfErr result (λ e. e ≡ session) }
     ensures work { OnErr result (work.new ≡ work.old) }
 {
+    match page_for(&session, guards, slot, region, layout, work) {
+        Some(page) => Ok(Request::Fix(session, page)),
+        None => Err(session),
+    }
+}
+
+/// The page that the work names for a fix, where there is the region, and the place of the slot is free.
+#[tactic(auto, using(crate::proofs::Placing::fix_step, crate::proofs::Turning::fix_consults, crate::proofs::Placing::fix_prepared))]
+pub(crate) fn page_for<W: Work>(
+    session: &Session,
+    guards: &Guards,
+    slot: u8,
+    region: u8,
+    layout: &Layout,
+    work: &mut W,
+) -> Option<u32>
+    requires { session.now.ask ≡ plan_ask.Fix slot region }
+    ensures step { IfSome result (λ page. IsStep layout.now session.now (request.Fix session.now page)) }
+    ensures consults { IfSome result (λ page. Consults W.Work layout.now work.old (request.Fix session.now page) work.new) }
+    ensures prepares { IfSome result (λ page. Prepares guards.now (request.Fix session.now page) guards.now) }
+    ensures none { IfNone result (can_step layout.now guards.now (plan_ask.Fix slot region) ≡ false) }
+    ensures work { IfNone result (work.new ≡ work.old) }
+{
     let _extents = layout.extents();
     match layout.extent(region) {
         Some(extent) if guards.is_free(u32::from(slot)) => {
             let page = work.page(region, extent.first, extent.count);
-            Ok(Request::Fix(session, page))
+            Some(page)
         }
-        _ => Err(session),
+        _ => None,
     }
 }
 

@@ -1,31 +1,34 @@
-//! Turns with a guard of the worker's own, where the site makes them at once: without a request and a response, and with the
-//! session in its place.
+//! Turns that the site makes at once: without a request and a response.
 
-ghost use Rattle.std.specs.Prelude.{◌≡◌, IfSome, IfNone, IfOk, IfErr, OnErr, length, vec_capacity};
+ghost use Rattle.std.specs.Prelude.{◌≡◌, true, Some, IfSome, IfNone, IfOk, IfErr, OnErr, length, vec_capacity};
 ghost use Rattle.pp_plan.specs.declared.action.Ask.TheVariants as plan_ask;
 ghost use Rattle.pp_plan.specs.declared.mode.Mode.TheVariants as modes;
 ghost use Rattle.pp_vault.specs.declared.stage.Stage.TheVariants as stages;
+ghost use Rattle.pp_vault.specs.Holding.{slot_by, is_free};
 ghost use Rattle.pp_pool.specs.declared.request.Request.TheVariants as request;
 ghost use Rattle.pp_pool.specs.Replies.{Replies};
-ghost use Rattle.pp_pool.specs.AtOnce.{latched_shared, unlatched_shared, unfixed as unfixed_so};
-ghost use Rattle.pp_pool.specs.Turns.{IsReach};
-ghost use Rattle.pp_pool.specs.ShortTurns.{TurnsAtOnce};
+ghost use Rattle.pp_pool.specs.AtOnce.{fix_answer, latched_shared, unlatched_shared, unfixed as unfixed_so};
+ghost use Rattle.pp_pool.specs.Turns.{IsReach, Prepares, stage_in, guard_in, places_with};
+ghost use Rattle.pp_pool.specs.ShortTurns.{Comes, TurnsAtOnce};
 
-use crate::asked::put;
+use crate::asked::{page_for, put};
+use crate::request::Request;
 use crate::site::Site;
 use crate::turned::Turned;
 use crate::work::Work;
-use crate::worker::{add, ended, let_go_unless_asked, see, taken_back};
+use crate::worker::{add, ended, let_go_unless_asked, made, see, taken_back};
 use core::mem;
 use pp_model::{Event, Move, Reply};
 use pp_plan::{Ask, Mode};
-use pp_vault::{Guard, Guards, PinGuard, ReadGuard, Session, Stage};
+use pp_settings::Layout;
+use pp_vault::{Fixed, Guard, Guards, PinGuard, ReadGuard, Session, Stage};
 
-/// Makes the request, where the plan asks a latch S, its unlatch or an unfix, the guard is there, and the site does it at once.
-/// Else nothing has changed.
+/// Makes the request, where the plan asks a fix, and there are the region and a free place; or where it asks a latch S, its
+/// unlatch or an unfix, the guard is there, and the site does it at once. Else nothing has changed.
 pub(crate) fn at_once<S: Site, W: Work>(
     stage: &mut Stage,
     guards: &mut Guards,
+    layout: &Layout,
     site: &mut S,
     log: &mut Vec<Event>,
     seen: &mut Vec<u8>,
@@ -33,8 +36,8 @@ pub(crate) fn at_once<S: Site, W: Work>(
     work: &mut W,
 ) -> Option<Turned>
     requires { IsReach W.Work reach.old work.old }
-    ensures turns { IfSome result (λ turned. TurnsAtOnce S.Site W.Work (length seen.old.items) stage.old guards.old site.old
-        log.old work.old turned stage.new guards.new site.new log.new work.new) }
+    ensures turns { IfSome result (λ turned. TurnsAtOnce S.Site W.Work layout.now (length seen.old.items) stage.old guards.old
+        site.old log.old work.old turned stage.new guards.new site.new log.new work.new) }
     ensures memory { vec_capacity log.new ≡ vec_capacity log.old }
     ensures seen { length seen.new.items ≡ length seen.old.items }
     ensures reach { IsReach W.Work reach.new work.new }
@@ -46,6 +49,7 @@ pub(crate) fn at_once<S: Site, W: Work>(
 {
     match stage {
         Stage::In(session) => match session.ask() {
+            Ask::Fix { .. } => fixed(stage, guards, layout, site, log, seen, reach, work),
             Ask::Latch {
                 slot,
                 mode: Mode::S,
@@ -55,6 +59,152 @@ pub(crate) fn at_once<S: Site, W: Work>(
             _ => None,
         },
         _ => None,
+    }
+}
+
+/// A fix of a page that the work names.
+fn fixed<S: Site, W: Work>(
+    stage: &mut Stage,
+    guards: &mut Guards,
+    layout: &Layout,
+    site: &mut S,
+    log: &mut Vec<Event>,
+    seen: &mut Vec<u8>,
+    reach: &mut Option<usize>,
+    work: &mut W,
+) -> Option<Turned>
+    requires { IsReach W.Work reach.old work.old }
+    ensures turns { IfSome result (λ turned. TurnsAtOnce S.Site W.Work layout.now (length seen.old.items) stage.old guards.old
+        site.old log.old work.old turned stage.new guards.new site.new log.new work.new) }
+    ensures memory { vec_capacity log.new ≡ vec_capacity log.old }
+    ensures seen { length seen.new.items ≡ length seen.old.items }
+    ensures reach { IsReach W.Work reach.new work.new }
+    ensures stage { IfNone result (stage.new ≡ stage.old) }
+    ensures guards { IfNone result (guards.new ≡ guards.old) }
+    ensures site { IfNone result (site.new ≡ site.old) }
+    ensures log { IfNone result (log.new ≡ log.old) }
+    ensures work { IfNone result (work.new ≡ work.old) }
+{
+    let around = (guards, site, log, seen, reach, work);
+    let (turned, around) = mem::replace_with(stage, around, |stage, around| {
+        let (guards, site, log, seen, reach, work) = around;
+        let (stage, turned) = fixed_from(stage, guards, layout, site, log, seen, reach, work);
+        (stage, (turned, (guards, site, log, seen, reach, work)))
+    });
+    let (guards, site, log, seen, reach, work) = around;
+    taken_back(guards);
+    taken_back(site);
+    taken_back(log);
+    taken_back(seen);
+    taken_back(reach);
+    taken_back(work);
+    turned
+}
+
+/// The same with a stage that is handed on, since a miss leaves another. The site is let go before the work is asked.
+fn fixed_from<S: Site, W: Work>(
+    stage: Stage,
+    guards: &mut Guards,
+    layout: &Layout,
+    site: &mut S,
+    log: &mut Vec<Event>,
+    seen: &mut Vec<u8>,
+    reach: &mut Option<usize>,
+    work: &mut W,
+) -> (Stage, Option<Turned>)
+    requires { IsReach W.Work reach.old work.old }
+    ensures turns { IfSome result.1 (λ turned. TurnsAtOnce S.Site W.Work layout.now (length seen.old.items) stage guards.old
+        site.old log.old work.old turned result.0 guards.new site.new log.new work.new) }
+    ensures memory { vec_capacity log.new ≡ vec_capacity log.old }
+    ensures seen { length seen.new.items ≡ length seen.old.items }
+    ensures reach { IsReach W.Work reach.new work.new }
+    ensures stage { IfNone result.1 (result.0 ≡ stage) }
+    ensures guards { IfNone result.1 (guards.new ≡ guards.old) }
+    ensures site { IfNone result.1 (site.new ≡ site.old) }
+    ensures log { IfNone result.1 (log.new ≡ log.old) }
+    ensures work { IfNone result.1 (work.new ≡ work.old) }
+{
+    match stage {
+        Stage::In(session) => match session.ask() {
+            Ask::Fix { slot, region } => {
+                site.let_go();
+                match page_for(&session, guards, slot, region, layout, work) {
+                    Some(page) => {
+                        *reach = Some(work.reach());
+                        let (stage, turned) = fix(
+                            session, page, guards, site, log, seen, reach, work,
+                        );
+                        (stage, Some(turned))
+                    }
+                    None => (Stage::In(session), None),
+                }
+            }
+            _ => (Stage::In(session), None),
+        },
+        stage => (stage, None),
+    }
+}
+
+/// A fix of this page: by the site's own call, and where that refuses it, by a request for the same page, which may wait.
+fn fix<S: Site, W: Work>(
+    session: Session,
+    page: u32,
+    guards: &mut Guards,
+    site: &mut S,
+    log: &mut Vec<Event>,
+    seen: &mut Vec<u8>,
+    reach: &mut Option<usize>,
+    work: &mut W,
+) -> (Stage, Turned)
+    requires prepares { Prepares guards.old (request.Fix session page) guards.old }
+    requires reach { IsReach W.Work reach.old work.old }
+    ensures comes { Comes S.Site W.Work (length seen.old.items) (request.Fix session page) guards.old site.old log.old work.old
+        result.1 result.0 guards.new site.new log.new work.new }
+    ensures memory { vec_capacity log.new ≡ vec_capacity log.old }
+    ensures seen { length seen.new.items ≡ length seen.old.items }
+    ensures reach { IsReach W.Work reach.new work.new }
+{
+    let worker = session.worker();
+    match site.fix(session, page) {
+        Ok((fixed, reply)) => {
+            let did = Move::Fix { worker, page };
+            let is_logged = add(log, Some(Event::Step { did, reply }));
+            let stage = in_hand(fixed, guards, site);
+            (stage, ended(is_logged, Turned::Done))
+        }
+        Err(session) => {
+            let request = Request::Fix(session, page);
+            made(request, guards, site, log, seen, reach, work)
+        }
+    }
+}
+
+/// The stage of what a fix came to. Its guard, if there is one, comes into its place.
+fn in_hand<S: Site>(fixed: Fixed, guards: &mut Guards, site: &mut S) -> Stage
+    requires { IfSome (guard_in (fix_answer fixed)) (λ guard. is_free guards.old (slot_by guard) ≡ true) }
+    ensures stage { stage_in (fix_answer fixed) ≡ Some result }
+    ensures guards { guards.new ≡ places_with guards.old (guard_in (fix_answer fixed)) }
+    ensures site { site.new ≡ site.old }
+{
+    match fixed {
+        Fixed::Got(session, guard) => {
+            let_go_unless_asked(&session, site);
+            put(guards, Guard::Pin(guard));
+            Stage::In(session)
+        }
+        Fixed::Opened(session, guard) => {
+            let_go_unless_asked(&session, site);
+            put(guards, Guard::Bundle(guard));
+            Stage::In(session)
+        }
+        Fixed::Joined(session) => {
+            let_go_unless_asked(&session, site);
+            Stage::In(session)
+        }
+        Fixed::Away(errand) => {
+            site.let_go();
+            Stage::Out(errand)
+        }
     }
 }
 
@@ -71,8 +221,9 @@ fn latched<S: Site, W: Work>(
 ) -> Option<Turned>
     requires asks { session.old.ask ≡ plan_ask.Latch slot modes.S }
     requires reach { IsReach W.Work reach.old work.old }
-    ensures turns { IfSome result (λ turned. TurnsAtOnce S.Site W.Work (length seen.old.items) (stages.In session.old)
-        guards.old site.old log.old work.old turned (stages.In session.new) guards.new site.new log.new work.new) }
+    ensures turns { (layout : _) → IfSome result (λ turned. TurnsAtOnce S.Site W.Work layout (length seen.old.items)
+        (stages.In session.old) guards.old site.old log.old work.old turned (stages.In session.new) guards.new site.new log.new
+        work.new) }
     ensures memory { vec_capacity log.new ≡ vec_capacity log.old }
     ensures seen { length seen.new.items ≡ length seen.old.items }
     ensures reach { IsReach W.Work reach.new work.new }
@@ -159,8 +310,9 @@ fn unlatched<S: Site, W: Work>(
     work: &W,
 ) -> Option<Turned>
     requires { session.old.ask ≡ plan_ask.Unlatch slot }
-    ensures turns { (room : _) → IfSome result (λ turned. TurnsAtOnce S.Site W.Work room (stages.In session.old)
-        guards.old site.old log.old work.now turned (stages.In session.new) guards.new site.new log.new work.now) }
+    ensures turns { (layout : _) (room : _) → IfSome result (λ turned. TurnsAtOnce S.Site W.Work layout room
+        (stages.In session.old) guards.old site.old log.old work.now turned (stages.In session.new) guards.new site.new log.new
+        work.now) }
     ensures memory { vec_capacity log.new ≡ vec_capacity log.old }
     ensures session { IfNone result (session.new ≡ session.old) }
     ensures guards { IfNone result (guards.new ≡ guards.old) }
@@ -244,8 +396,9 @@ fn unfixed<S: Site, W: Work>(
     work: &W,
 ) -> Option<Turned>
     requires { session.old.ask ≡ plan_ask.Unfix slot }
-    ensures turns { (room : _) → IfSome result (λ turned. TurnsAtOnce S.Site W.Work room (stages.In session.old)
-        guards.old site.old log.old work.now turned (stages.In session.new) guards.new site.new log.new work.now) }
+    ensures turns { (layout : _) (room : _) → IfSome result (λ turned. TurnsAtOnce S.Site W.Work layout room
+        (stages.In session.old) guards.old site.old log.old work.now turned (stages.In session.new) guards.new site.new log.new
+        work.now) }
     ensures memory { vec_capacity log.new ≡ vec_capacity log.old }
     ensures session { IfNone result (session.new ≡ session.old) }
     ensures guards { IfNone result (guards.new ≡ guards.old) }

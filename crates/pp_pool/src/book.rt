@@ -18,7 +18,7 @@ ghost use Rattle.pp_pool.specs.Requests.{event_for, events_in};
 ghost use Rattle.pp_pool.specs.Performing.{ComesTo};
 ghost use Rattle.pp_pool.specs.Replies.{Replies};
 ghost use Rattle.pp_pool.specs.Performs.{Performs};
-ghost use Rattle.pp_pool.specs.AtOnce.{latched_shared, unlatched_shared, unfixed};
+ghost use Rattle.pp_pool.specs.AtOnce.{fixed, latched_shared, unlatched_shared, unfixed};
 ghost use Rattle.pp_pool.specs.declared.request.Request.TheVariants as request;
 ghost use Rattle.pp_pool.specs.Submits.{TakesIn, IsCause, HadRoom, HasRoom, LacksRoom};
 ghost use Rattle.pp_pool.specs.Renewals.{HasLifeRoom};
@@ -32,7 +32,8 @@ use pp_model::{Event, Reply, SubmitError, Turn};
 use pp_outset::Outset;
 use pp_settings::Settings;
 use pp_vault::{
-    Accepted, Done, Hands, LookError, PinGuard, PlanId, ReadGuard, Session, Vault, VaultError,
+    Accepted, Done, Fixed, Hands, LookError, PinGuard, PlanId, ReadGuard, Session, Vault,
+    VaultError,
 };
 use std::alloc::Global;
 use std::marker::Model;
@@ -208,6 +209,30 @@ impl Book {
         let (answer, done) = ask(&mut self.vault, request);
         let event = noted(done, &mut self.journal);
         Response { event, answer }
+    }
+
+    /// Performs [`Request::Fix`], where it is possible, and answers what it comes to with the event's reply. No request and no
+    /// response are built for it.
+    ///
+    /// # Errors
+    ///
+    /// The session, exactly where the request would be refused. Nothing has changed.
+    pub fn fix(&mut self, session: Session, page: u32) -> Result<(Fixed, Reply), Session>
+        ensures ok { IfOk result (λ now. Performs self.old (request.Fix session page) (fixed session page now) self.new) }
+        ensures fits { IfOk result (λ now. Replies (request.Fix session page) (fixed session page now)) }
+        ensures err { OnErr result (event_for self.old (request.Fix session page) ≡ None) }
+        ensures back { IfErr result (λ e. e ≡ session) }
+        ensures unchanged { OnErr result (self.new ≡ self.old) }
+        ensures kept { IsBook self.new }
+        ensures headline { HeadlineHolds self.new }
+    {
+        match self.vault.fix(session, page) {
+            Ok((fixed, done)) => {
+                let reply = added(done, &mut self.journal);
+                Ok((fixed, reply))
+            }
+            Err((session, _refusal)) => Err(session),
+        }
     }
 
     /// Performs [`Request::LatchShared`], where it is possible, and answers the tokens with the event's reply. No request and

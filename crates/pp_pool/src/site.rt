@@ -6,7 +6,7 @@ ghost use Rattle.pp_vault.specs.declared.guards.ReadGuard.{ReadGuard};
 ghost use Rattle.pp_pool.specs.declared.request.Request.{Request};
 ghost use Rattle.pp_pool.specs.declared.response.Response.{Response};
 ghost use Rattle.pp_pool.specs.Replies.{Replies};
-ghost use Rattle.pp_pool.specs.AtOnce.{latched_shared, unlatched_shared, unfixed};
+ghost use Rattle.pp_pool.specs.AtOnce.{fixed, latched_shared, unlatched_shared, unfixed};
 ghost use Rattle.pp_pool.specs.declared.request.Request.TheVariants as request;
 
 use crate::book::Book;
@@ -15,7 +15,7 @@ use crate::response::Response;
 use pp_device::image;
 use pp_device::image::HEAD;
 use pp_model::Reply;
-use pp_vault::{PinGuard, ReadGuard, Session};
+use pp_vault::{Fixed, PinGuard, ReadGuard, Session};
 
 /// How many bytes of an image a work is shown at least.
 pub(crate) const SHORTEST: usize = 64;
@@ -61,6 +61,22 @@ pub trait Site {
     fn let_go(&mut self)
         ensures same { self.new ≡ self.old }
     {}
+
+    /// Fixes a page into the slot that the session's plan names, or gathers it into the bundle there, where that is possible at
+    /// once, and answers what it comes to with the event's reply: what [`Site::perform`] does for [`Request::Fix`], without a
+    /// request and a response. A site may leave this to `perform`.
+    ///
+    /// # Errors
+    ///
+    /// The session, where it isn't possible at once, or is left to `perform`. Nothing has changed.
+    fn fix(&mut self, session: Session, page: u32) -> Result<(Fixed, Reply), Session>
+        ensures given { IfOk result (λ now. gives self.old (request.Fix session page) (fixed session page now) self.new) }
+        ensures fits { IfOk result (λ now. Replies (request.Fix session page) (fixed session page now)) }
+        ensures back { IfErr result (λ e. e ≡ session) }
+        ensures same { OnErr result (self.new ≡ self.old) }
+    {
+        Err(session)
+    }
 
     /// Latches the page of a slot S, where that is possible at once, and answers the tokens with the event's reply: what
     /// [`Site::perform`] does for [`Request::LatchShared`], without a request and a response. A site may leave this to
@@ -176,6 +192,10 @@ impl Site for OwnSite {
 
     fn most(&mut self) -> u64 {
         self.book.most()
+    }
+
+    fn fix(&mut self, session: Session, page: u32) -> Result<(Fixed, Reply), Session> {
+        self.book.fix(session, page)
     }
 
     fn latch_shared(

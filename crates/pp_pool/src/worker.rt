@@ -7,7 +7,8 @@ ghost use Rattle.pp_settings.specs.Settings.{geometry_of};
 ghost use Rattle.pp_pool.specs.declared.turned.Turned.TheVariants.{Broken};
 ghost use Rattle.pp_pool.specs.Turns.{TurnIs, TurnOf, MakesOne, MakesRoom, room_of, reach_of, worker_with, Uses, LooksAt};
 ghost use Rattle.pp_pool.specs.Turns.{IsLong, IsReach, all_bytes};
-ghost use Rattle.pp_pool.specs.Turns.{KeepsPlace, keeps_place, logged_events};
+ghost use Rattle.pp_pool.specs.Turns.{KeepsPlace, keeps_place, logged_events, IsWorkers, FindsPlace};
+ghost use Rattle.pp_pool.specs.ShortTurns.{Comes};
 ghost use Rattle.pp_pool.specs.Turns.{has_errand as errand_is_there, turned_by as turned_then};
 
 use crate::asked::next;
@@ -277,7 +278,7 @@ fn ask<S: Site, D: Device, W: Work>(
     ensures worker { stage_worker stage.new ≡ stage_worker stage.old }
     ensures reach { IsReach W.Work reach.new work.new }
 {
-    match at_once(stage, guards, site, log, seen, reach, work) {
+    match at_once(stage, guards, layout, site, log, seen, reach, work) {
         Some(turned) => turned,
         None => ask_by_value(stage, guards, layout, site, device, log, seen, reach, work),
     }
@@ -335,7 +336,6 @@ pub(crate) fn taken_back<T>(lent: &mut T)
 {}
 
 /// The stage after the request, if this stage has one.
-#[tactic(auto, using(crate::proofs::Turning::long_by, crate::proofs::Turning::turns))]
 fn asked<S: Site, D: Device, W: Work>(
     stage: Stage,
     guards: &mut Guards,
@@ -363,15 +363,40 @@ fn asked<S: Site, D: Device, W: Work>(
     match next(stage, guards, layout, device, work) {
         Ok(request) => {
             ask_reach(&request, reach, work);
-            let Response { event, answer } = site.perform(request);
-            let is_logged = add(log, event);
-            let (answer, turned) = used(answer, site, seen, reach, work);
-            let stage = stage_after(guards, answer);
-            let_go_unless_at_once(&stage, site);
-            (stage, ended(is_logged, turned))
+            made(request, guards, site, log, seen, reach, work)
         }
         Err(stage) => (stage, Turned::Broken),
     }
+}
+
+/// Makes the request, whose guard is out of its place. The stage after it, and how the turn ends.
+// Not inlined, since a fix that is done at once would pay for its locals.
+#[tactic(auto, using(crate::proofs::Turning::long_by))]
+#[inline(never)]
+pub(crate) fn made<S: Site, W: Work>(
+    request: Request,
+    guards: &mut Guards,
+    site: &mut S,
+    log: &mut Vec<Event>,
+    seen: &mut Vec<u8>,
+    reach: &mut Option<usize>,
+    work: &mut W,
+) -> (Stage, Turned)
+    requires workers { IsWorkers request }
+    requires finds { FindsPlace guards.old request }
+    requires reach { IsReach W.Work reach.old work.old }
+    ensures comes { Comes S.Site W.Work (length seen.old.items) request guards.old site.old log.old work.old result.1 result.0
+        guards.new site.new log.new work.new }
+    ensures memory { vec_capacity log.new ≡ vec_capacity log.old }
+    ensures seen { length seen.new.items ≡ length seen.old.items }
+    ensures reach { IsReach W.Work reach.new work.new }
+{
+    let Response { event, answer } = site.perform(request);
+    let is_logged = add(log, event);
+    let (answer, turned) = used(answer, site, seen, reach, work);
+    let stage = stage_after(guards, answer);
+    let_go_unless_at_once(&stage, site);
+    (stage, ended(is_logged, turned))
 }
 
 /// Lets the site go, unless the stage's next request wants neither the work nor the device.

@@ -15,7 +15,7 @@ ghost use Rattle.pp_run.specs.Runs.{submits, coded_events};
 use pp_model::{Event, Reply};
 use pp_pool::{Book, OwnSite, Request, Response, Site};
 use pp_settings::{Layout, Settings};
-use pp_vault::{Flushing, Hand, Hands, PinGuard, ReadGuard, Session};
+use pp_vault::{Fixed, Flushing, Hand, Hands, PinGuard, ReadGuard, Session};
 use std::marker::{Brand, PhantomData};
 use std::sync::atomic::{AtomicU64, Ordering};
 
@@ -145,6 +145,10 @@ impl<'a, N: Naming> Site for RunDesk<'a, N> {
 
     fn most(&mut self) -> u64 {
         self.site.most()
+    }
+
+    fn fix(&mut self, session: Session, page: u32) -> Result<(Fixed, Reply), Session> {
+        self.site.fix(session, page)
     }
 
     fn latch_shared(

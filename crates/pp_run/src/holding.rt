@@ -6,7 +6,7 @@ use crate::owed::Owed;
 use crate::site::LockedSite;
 use pp_model::Reply;
 use pp_pool::{Request, Response, Site};
-use pp_vault::{PinGuard, ReadGuard, Session};
+use pp_vault::{Fixed, PinGuard, ReadGuard, Session};
 use std::marker::Model;
 use std::sync::{MutexGuard, Wait};
 
@@ -102,6 +102,13 @@ impl<'a, B: Desk, R: Wait> Site for WorkerSite<'a, B, R> {
             self.site.give_back(locked, self.owed);
             self.owed = Owed::nothing();
         }
+    }
+
+    fn fix(&mut self, session: Session, page: u32) -> Result<(Fixed, Reply), Session> {
+        let mut locked = self.hold();
+        let fixed = locked.desk.fix(session, page);
+        self.keep(locked, fixed.is_ok());
+        fixed
     }
 
     fn latch_shared(
