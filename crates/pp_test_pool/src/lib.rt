@@ -9,6 +9,8 @@ mod common;
 #[cfg(test)]
 mod fails;
 #[cfg(test)]
+mod fixing;
+#[cfg(test)]
 mod lives;
 #[cfg(test)]
 mod pairs;
