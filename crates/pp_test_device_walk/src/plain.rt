@@ -5,7 +5,7 @@ use pp_device::Trouble;
 use pp_plan::Mode;
 use pp_settings::{Extent, Settings};
 use pp_test_plain::{Answer, Lists};
-use pp_vault::{Came, Cause, Delay, Ending, Failure, Held, Move, Reply};
+use pp_vault::{Came, Cause, Delay, Ending, Failure, Held, Move, RenewError, Reply};
 use std::alloc::{AllocError, Global};
 
 /// What of an image may differ from that of a new device: its stamp and the first byte of its body.
@@ -88,6 +88,8 @@ pub struct Plain<'a> {
     pub lists: Lists,
     /// The page that is being flushed, and its image as that began.
     pub flush: Option<(u32, Image)>,
+    /// How many flushes a life begins at most, and how many of them are left.
+    pub flushes: u32,
     pub flushes_left: u32,
     pub troubles: Vec<(u32, Trouble)>,
     /// The calls of the device.
@@ -132,13 +134,76 @@ impl<'a> Plain<'a> {
             next: 0,
             lists: Lists::new(alloc, settings.frames()),
             flush: None,
+            flushes: settings.flushes(),
             flushes_left: settings.flushes(),
             troubles,
             calls: Vec::new(alloc),
         })
     }
 
+    // ---- lives
+
+    /// How many plans were submitted in this life.
+    pub fn submitted(&self) -> u32 {
+        self.next.saturating_add(self.waiting.len() as u32)
+    }
+
+    /// Whether each worker is idle.
+    pub fn are_idle(&self) -> bool {
+        self.workers
+            .iter()
+            .all(|worker| worker.stage == Stage::Idle)
+    }
+
+    /// Whether no plan waits, each worker is idle, and no flush is in flight.
+    pub fn is_at_rest(&self) -> bool {
+        self.waiting.is_empty() && self.are_idle() && self.flush.is_none()
+    }
+
+    /// Why the pool isn't renewed, if it isn't. No test brings a mark to 2^63: a stamp of 2^62 isn't taken.
+    pub fn renew_error(&self) -> Option<RenewError> {
+        if !self.is_at_rest() {
+            return Some(RenewError::NotAtRest);
+        }
+        for page in 0..self.size {
+            if self.mark_or_zero(page) >= 1 << 63 {
+                return Some(RenewError::MarkTooHigh { page });
+            }
+        }
+        None
+    }
+
+    /// Begins another life, where nothing is left to do: plans are counted from 0 again, and the flushes come back. Nothing else
+    /// changes.
+    pub fn renew(&mut self) -> Result<(), RenewError> {
+        if let Some(error) = self.renew_error() {
+            return Err(error);
+        }
+        self.next = 0;
+        self.flushes_left = self.flushes;
+        Ok(())
+    }
+
     // ---- what the state says
+
+    /// How many pages are dirty.
+    pub fn dirty(&self) -> u32 {
+        let mut dirty: u32 = 0;
+        for page in &self.pages {
+            if page.dirty {
+                dirty = dirty.saturating_add(1);
+            }
+        }
+        dirty
+    }
+
+    /// Whether the page is loaded for some worker.
+    pub fn is_loaded(&self, asked: u32) -> bool {
+        self.workers.iter().any(|worker| match worker.stage {
+            Stage::Writing { page, .. } | Stage::Reading { page, .. } => page == asked,
+            _ => false,
+        })
+    }
 
     /// The stage of the worker, if there is one of this number.
     pub fn stage(&self, worker: u32) -> Option<Stage> {
@@ -234,7 +299,7 @@ impl<'a> Plain<'a> {
         self.mark(page).unwrap_or(0)
     }
 
-    fn frame(&self, page: u32) -> Option<u32> {
+    pub fn frame(&self, page: u32) -> Option<u32> {
         self.pages.get(page as usize)?.frame
     }
 
@@ -244,7 +309,7 @@ impl<'a> Plain<'a> {
         }
     }
 
-    fn is_dirty(&self, page: u32) -> bool {
+    pub fn is_dirty(&self, page: u32) -> bool {
         match self.pages.get(page as usize) {
             Some(page) => page.dirty,
             None => false,
@@ -537,7 +602,7 @@ impl<'a> Plain<'a> {
     // ---- the device, and what its answers come to
 
     /// The trouble of the last call: the last one that is planted at it.
-    fn trouble(&self) -> Option<Trouble> {
+    pub fn trouble(&self) -> Option<Trouble> {
         let mut found = None;
         for (call, trouble) in &self.troubles {
             if *call as usize == self.calls.len() {

@@ -85,6 +85,14 @@ impl<'a> Plain<'a> {
         }
     }
 
+    /// The stage of the worker for which the device is to work by this cue.
+    pub fn stage_for(&self, cue: Cue) -> Option<Stage> {
+        match cue {
+            Cue::Device { worker } => self.stage(worker),
+            _ => None,
+        }
+    }
+
     // ---- turns
 
     /// Whether the worker's plan asks a latch that isn't possible now.
@@ -139,7 +147,7 @@ impl<'a> Plain<'a> {
     }
 
     /// The worker lets go of its least slot, or ends.
-    fn leave(&self, worker: u32) -> Cue {
+    pub fn leave(&self, worker: u32) -> Cue {
         for slot in 0..32 {
             if self.holding(worker, slot).is_some() {
                 return Cue::Unwind { worker, slot };
@@ -149,7 +157,7 @@ impl<'a> Plain<'a> {
     }
 
     /// The worker does what its plan asks, and fixes first pages.
-    fn act(&self, worker: u32) -> Cue {
+    pub fn act(&self, worker: u32) -> Cue {
         match self.word(worker) {
             Some(Word::Fix(_, region) | Word::Gather(_, region)) => {
                 let extent = self.regions.get(usize::from(region));

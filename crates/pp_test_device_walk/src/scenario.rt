@@ -36,6 +36,17 @@ impl Scenario {
         for name in names.split(" ") {
             texts.push(fs::read_to_string(rt, name)?)?;
         }
+        Scenario::with(alloc, settings, cues, troubles, texts)
+    }
+
+    /// The scenario of these cues, troubles and plans' texts.
+    pub fn with(
+        alloc: Global,
+        settings: Settings,
+        cues: Vec<Cue>,
+        troubles: Vec<(u32, Trouble)>,
+        mut texts: Vec<String>,
+    ) -> anyhow::Result<Scenario> {
         let plans = texts.len();
         push_readers(alloc, &settings, &mut texts)?;
         let mut shapes = Vec::new(alloc);

@@ -1,6 +1,8 @@
 //! A vault beside the plain program.
 
+use crate::counts::Counts;
 use crate::facts::{image_of, see};
+use crate::kept::see_kept;
 use crate::plain::{Call, Plain};
 use crate::scenario::Scenario;
 use pp_device::image::HEAD;
@@ -16,7 +18,7 @@ pub struct Stand<'a> {
     vault: Vault,
     hands: Hands,
     device: Failing<SoloDevice>,
-    plain: Plain<'a>,
+    pub plain: Plain<'a>,
 }
 
 /// Plays the script with one more trouble, then all plans to their ends, and then reads each page. Tells the calls of the
@@ -26,32 +28,11 @@ pub fn play_with(
     scenario: &Scenario,
     planted: Option<(u32, Trouble)>,
 ) -> anyhow::Result<Vec<Call>> {
-    let settings = &scenario.settings;
-    let troubles = scenario.troubles_with(alloc, planted)?;
-    let plain = Plain::new(alloc, settings, &scenario.shapes, troubles)?;
-    let troubles = scenario.troubles_with(alloc, planted)?;
-    let memory = SoloDevice::new(alloc, settings.pages(), settings.page_bytes() as usize)?;
-    let device = Failing::new(memory, troubles);
-    let (vault, hands) = Vault::new(alloc, settings)?;
-    let mut stand = Stand {
-        alloc,
-        vault,
-        hands,
-        device,
-        plain,
-    };
+    let mut stand = Stand::new(alloc, scenario, planted)?;
     let played = stand.play_all(scenario);
-    let Stand {
-        alloc: _,
-        vault,
-        hands,
-        device,
-        plain,
-    } = stand;
-    let page_bytes = vault.page_bytes();
-    vault.scrap(hands);
+    let ended = stand.end();
     let calls = played?;
-    see_device(alloc, page_bytes, device.into_inner(), &plain)?;
+    ended?;
     Ok(calls)
 }
 
@@ -75,6 +56,61 @@ fn see_device(
 }
 
 impl<'a> Stand<'a> {
+    /// A new vault with the scenario's settings over a device with its troubles, and one more where one is planted.
+    pub fn new(
+        alloc: Global,
+        scenario: &'a Scenario,
+        planted: Option<(u32, Trouble)>,
+    ) -> anyhow::Result<Stand<'a>> {
+        let settings = &scenario.settings;
+        let troubles = scenario.troubles_with(alloc, planted)?;
+        let plain = Plain::new(alloc, settings, &scenario.shapes, troubles)?;
+        let troubles = scenario.troubles_with(alloc, planted)?;
+        let memory = SoloDevice::new(alloc, settings.pages(), settings.page_bytes() as usize)?;
+        let device = Failing::new(memory, troubles);
+        let (vault, hands) = Vault::new(alloc, settings)?;
+        Ok(Stand {
+            alloc,
+            vault,
+            hands,
+            device,
+            plain,
+        })
+    }
+
+    /// The same over a device that keeps what it has, and has no trouble any more.
+    pub fn mended(self) -> Stand<'a> {
+        let Stand {
+            alloc,
+            vault,
+            hands,
+            device,
+            mut plain,
+        } = self;
+        plain.troubles.clear();
+        Stand {
+            alloc,
+            vault,
+            hands,
+            device: Failing::new(device.into_inner(), Vec::new(alloc)),
+            plain,
+        }
+    }
+
+    /// Gives the vault up, and sees that the device has what the plain program's device has.
+    pub fn end(self) -> anyhow::Result<()> {
+        let Stand {
+            alloc,
+            vault,
+            hands,
+            device,
+            plain,
+        } = self;
+        let page_bytes = vault.page_bytes();
+        vault.scrap(hands);
+        see_device(alloc, page_bytes, device.into_inner(), &plain)
+    }
+
     fn play_all(&mut self, scenario: &'a Scenario) -> anyhow::Result<Vec<Call>> {
         for number in 0..scenario.plans {
             self.submit(scenario, number)?;
@@ -89,18 +125,42 @@ impl<'a> Stand<'a> {
     }
 
     /// Submits the plan of this number to both.
-    fn submit(&mut self, scenario: &'a Scenario, number: usize) -> anyhow::Result<()> {
+    pub fn submit(&mut self, scenario: &'a Scenario, number: usize) -> anyhow::Result<()> {
         let accepted = scenario.accepted(self.alloc, number)?;
-        match self.vault.submit(accepted) {
-            Ok(_) => {}
+        let want = self.plain.submitted();
+        let got = match self.vault.submit(accepted) {
+            Ok(id) => id.number(),
             Err((_plan, error)) => return Err(anyhow::Error::from(error)),
+        };
+        if got != want {
+            anyhow::bail!("a plan has number {got}, and plainly {want}");
         }
         self.plain.waiting.push(number)?;
         Ok(())
     }
 
+    /// Renews both, and sees that they answer the same. After a renewal as after one that is refused, the vault keeps what is
+    /// kept plainly.
+    pub fn renew(&mut self, counts: &mut Counts) -> anyhow::Result<()> {
+        counts.count_renewal(&self.plain)?;
+        let want = self.plain.renew();
+        let got = self.vault.renew();
+        if got != want {
+            anyhow::bail!("a renewal is answered {got:?}, and plainly {want:?}");
+        }
+        see(self.alloc, &self.vault, &mut self.hands, &self.plain)?;
+        see_kept(self.alloc, &self.vault, &self.plain)
+    }
+
     /// Plays a cue on both, and sees that they come to the same, and what holds then.
     fn play(&mut self, cue: Cue) -> anyhow::Result<Line> {
+        let line = self.step(cue)?;
+        see(self.alloc, &self.vault, &mut self.hands, &self.plain)?;
+        Ok(line)
+    }
+
+    /// Plays a cue on both, and sees that they come to the same.
+    pub fn step(&mut self, cue: Cue) -> anyhow::Result<Line> {
         let mut lines = Vec::new(self.alloc);
         play(
             &mut self.vault,
@@ -111,15 +171,13 @@ impl<'a> Stand<'a> {
         )?;
         let want = self.plain.play(cue)?;
         match lines.first() {
-            Some(got) if *got == want => {}
+            Some(got) if *got == want => Ok(want),
             got => anyhow::bail!("{cue} comes to {got:?}, and plainly to {want:?}"),
         }
-        see(self.alloc, &self.vault, &mut self.hands, &self.plain)?;
-        Ok(want)
     }
 
     /// Plays the cues of those whose turn is next, until nothing is left to do.
-    fn play_to_the_end(&mut self) -> anyhow::Result<()> {
+    pub fn play_to_the_end(&mut self) -> anyhow::Result<()> {
         for _ in 0..self.plain.budget() {
             match self.plain.next_cue() {
                 Some(cue) => match self.play(cue)? {
@@ -136,7 +194,7 @@ impl<'a> Stand<'a> {
     }
 
     /// Reads each page of each region.
-    fn read_all(&mut self, scenario: &'a Scenario) -> anyhow::Result<()> {
+    pub fn read_all(&mut self, scenario: &'a Scenario) -> anyhow::Result<()> {
         let mut plan = scenario.plans;
         for extent in scenario.settings.layout().extents() {
             for behind in 0..extent.count {
