@@ -11,14 +11,8 @@ use std::alloc::{AllocError, Global};
 /// How many plans a pool's lives choose from.
 const PLANS: u32 = 10;
 
-/// How many bytes pages have, one number after the other.
-const PAGE_BYTES: [u32; 3] = [64, 512, 1000];
-
 /// A page that isn't known is taken for read with a stamp below this.
 const KNOWN_BELOW: u64 = 1 << 62;
-
-/// Stamps of lies: those that pages may come to, and some that are too great.
-const STAMPS: [u64; 7] = [0, 1, 2, 3, KNOWN_BELOW, 1 << 63, u64::MAX];
 
 /// How many of the device's calls may have a trouble.
 const CALLS: u32 = 800;
@@ -37,7 +31,11 @@ pub fn pool_of(alloc: Global, chance: &mut Chance, number: u32) -> anyhow::Resul
 
 fn settings_of(alloc: Global, chance: &mut Chance, number: u32) -> anyhow::Result<Settings> {
     let workers = (number % 8).saturating_add(1);
-    let page_bytes = PAGE_BYTES[(number / 8 % 3) as usize];
+    let page_bytes: u32 = match number / 8 % 3 {
+        0 => 64,
+        1 => 512,
+        _ => 1000,
+    };
     let (frames, flushes) = (chance.below(5).saturating_add(1), chance.below(7));
     let mut text = format!(in alloc;
         "frames = {frames}\npage_bytes = {page_bytes}\nworkers = {workers}\nflushes = {flushes}\n"
@@ -244,11 +242,18 @@ fn troubles_of(
     Ok(troubles)
 }
 
-/// A lie: as often as not of this page, with the greatest stamp that is taken for a page that isn't known.
+/// A lie: as often as not of this page, with the greatest stamp that is taken for a page that isn't known. Else of any page, with
+/// a stamp that pages may come to, or one that is too great.
 fn lie_of(chance: &mut Chance, pages: u32, liar: u32) -> Trouble {
     if chance.below(2) == 0 {
         return Trouble::Lie(liar, KNOWN_BELOW - 1);
     }
     let page = chance.below(pages);
-    Trouble::Lie(page, STAMPS[chance.below(7) as usize])
+    let stamp = match chance.below(7) {
+        4 => KNOWN_BELOW,
+        5 => 1 << 63,
+        6 => u64::MAX,
+        small => u64::from(small),
+    };
+    Trouble::Lie(page, stamp)
 }
