@@ -141,7 +141,7 @@ impl Counts {
             if page.dirty {
                 self.changed.push(number)?;
             }
-            is_high = is_high || page.mark.unwrap_or(0) >= 1 << 62;
+            is_high = is_high || page.mark.unwrap_or(0) >= 4_611_686_018_427_387_904;
             number = number.saturating_add(1);
         }
         let remembers = !plain.lists.b1.is_empty() || !plain.lists.b2.is_empty();

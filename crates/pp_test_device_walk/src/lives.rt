@@ -2,6 +2,7 @@
 
 use crate::counts::Counts;
 use crate::picking::pick;
+use crate::pools::PLANS;
 use crate::scenario::Scenario;
 use crate::stand::Stand;
 use pp_test_plain::Chance;
@@ -64,7 +65,7 @@ fn walk<'a>(
     for _ in 0..CUES {
         let is_submitted = stand.plain.submitted() >= plans;
         if !is_submitted && chance.below(3) == 0 {
-            let plan = chance.below(scenario.plans as u32);
+            let plan = chance.below(PLANS);
             stand.submit(scenario, plan as usize)?;
         }
         if stand.plain.is_at_rest() {

@@ -47,7 +47,7 @@ fn act(chance: &mut Chance, plain: &Plain, worker: u32) -> Cue {
     if chance.below(3) == 0 {
         for holding in &plain.holdings {
             if holding.worker == worker && holding.held == Held::X {
-                let (slot, byte) = (holding.slot, chance.below(256) as u8);
+                let (slot, byte) = (holding.slot, byte_of(chance));
                 return Cue::Write { worker, slot, byte };
             }
             if holding.worker == worker && holding.held == Held::S {
@@ -63,6 +63,10 @@ fn act(chance: &mut Chance, plain: &Plain, worker: u32) -> Cue {
         }
         _ => plain.act(worker),
     }
+}
+
+fn byte_of(chance: &mut Chance) -> u8 {
+    chance.below(256).min(255) as u8
 }
 
 /// Some page of the region, the first one more often than others.
@@ -81,7 +85,7 @@ fn any(chance: &mut Chance, plain: &Plain) -> Cue {
     let page = chance.below(plain.size.saturating_add(2));
     let slot = chance.below(8);
     let branch = chance.below(3);
-    let byte = chance.below(256) as u8;
+    let byte = byte_of(chance);
     match chance.below(13) {
         0 => Cue::Take { worker },
         1 => Cue::Fix { worker, page },

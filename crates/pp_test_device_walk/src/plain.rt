@@ -145,7 +145,11 @@ impl<'a> Plain<'a> {
 
     /// How many plans were submitted in this life.
     pub fn submitted(&self) -> u32 {
-        self.next.saturating_add(self.waiting.len() as u32)
+        let mut submitted = self.next;
+        for _ in &self.waiting {
+            submitted = submitted.saturating_add(1);
+        }
+        submitted
     }
 
     /// Whether each worker is idle.
@@ -166,7 +170,7 @@ impl<'a> Plain<'a> {
             return Some(RenewError::NotAtRest);
         }
         for page in 0..self.size {
-            if self.mark_or_zero(page) >= 1 << 63 {
+            if self.mark_or_zero(page) >= 9_223_372_036_854_775_808 {
                 return Some(RenewError::MarkTooHigh { page });
             }
         }

@@ -9,10 +9,10 @@ use pp_test_plain::Chance;
 use std::alloc::{AllocError, Global};
 
 /// How many plans a pool's lives choose from.
-const PLANS: u32 = 10;
+pub const PLANS: u32 = 10;
 
-/// A page that isn't known is taken for read with a stamp below this.
-const KNOWN_BELOW: u64 = 1 << 62;
+/// The greatest stamp with which a page that isn't known is taken for read.
+const GREATEST: u64 = 4_611_686_018_427_387_903;
 
 /// How many of the device's calls may have a trouble.
 const CALLS: u32 = 800;
@@ -80,9 +80,10 @@ fn plan_of(alloc: Global, chance: &mut Chance, settings: &Settings) -> Result<St
 
 /// The number and the class of some region.
 fn region_of(chance: &mut Chance, regions: &[Extent]) -> (u8, u8) {
-    let number = chance.below(regions.len() as u32);
-    match regions.get(number as usize) {
-        Some(extent) => (number as u8, extent.class),
+    let count = regions.len().min(64) as u32;
+    let number = chance.below(count).min(63) as u8;
+    match regions.get(usize::from(number)) {
+        Some(extent) => (number, extent.class),
         None => (0, 0),
     }
 }
@@ -246,12 +247,12 @@ fn troubles_of(
 /// a stamp that pages may come to, or one that is too great.
 fn lie_of(chance: &mut Chance, pages: u32, liar: u32) -> Trouble {
     if chance.below(2) == 0 {
-        return Trouble::Lie(liar, KNOWN_BELOW - 1);
+        return Trouble::Lie(liar, GREATEST);
     }
     let page = chance.below(pages);
     let stamp = match chance.below(7) {
-        4 => KNOWN_BELOW,
-        5 => 1 << 63,
+        4 => 4_611_686_018_427_387_904,
+        5 => 9_223_372_036_854_775_808,
         6 => u64::MAX,
         small => u64::from(small),
     };
