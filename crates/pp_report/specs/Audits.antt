@@ -36,12 +36,14 @@ pub record IsOver (plans : List Acceptance) (s : State) : Type 0 where
   pub submitted : s.plans ≡ plans
   pub ended : next_turn s ≡ None
 
--- The events are a whole journal of these plans: a true one, at whose end they are all submitted and ended.
+-- The events are a whole journal of these plans: a true one, at whose end they are all submitted and ended, and no flush is
+-- in flight.
 pub record IsWhole (c : Configuration) (plans : List Acceptance) (es : List Event) : Type 0 where
   pub is_true : IsTrue c plans es
   pub over : IsOver plans (reached c plans es)
 
--- The text is a true journal of these plans with so many lines, at whose end they are all submitted and ended.
+-- The text is a true journal of these plans with so many lines, at whose end they are all submitted and ended, and no flush
+-- is in flight.
 pub record IsAudited (c : Configuration) (plans : List Acceptance) (text : List ℕ) (lines : ℕ) : Type 0 where
   pub events : List Event
   pub spelled : Spells text events
@@ -88,7 +90,7 @@ TellsOther plans told right s text =
     (asked : Asked) × Says text (record { asked = asked; told = told }) × CanAsk plans s asked × (right ≡ due s asked)
     × (told ≢ right)
 
--- All lines are true, and some plan isn't submitted or ended.
+-- All lines are true, and some plan isn't submitted or ended, or a flush is in flight.
 pub record EndsEarly (c : Configuration) (plans : List Acceptance) (text : List ℕ) : Type 0 where
   pub events : List Event
   pub spelled : Spells text events

@@ -68,7 +68,7 @@ abbrev pub lives_end : Configuration → List Life → (present : Life) → Stat
 lives_end c lives present = life_end (next_opening c lives) present
 
 -- They are the whole lives of a pool with these plans: true ones, and at the end of the last one its plans are all
--- submitted and ended.
+-- submitted and ended, and no flush is in flight.
 pub record AreWholeLives (c : Configuration) (plans : List Acceptance) (lives : List Life) (last : Life) : Type 0 where
   pub are_true : AreTrueLives c plans lives last
   pub over : IsOver last.plans (lives_end c lives last)
@@ -118,7 +118,7 @@ abbrev pub CannotRenew : RenewError → Next → List Acceptance → State → L
 CannotRenew why next plans s text =
     (text ≡ renewal_line) × (renew_error s ≡ Some why) × (next.turn ≡ next_turn s)
 
--- All lines are those of true lives, and in the last one some plan isn't submitted or ended.
+-- All lines are those of true lives, and in the last one some plan isn't submitted or ended, or a flush is in flight.
 pub record LivesEndEarly (c : Configuration) (plans : List Acceptance) (text : List ℕ) : Type 0 where
   pub lives : List Life
   pub last : Life
