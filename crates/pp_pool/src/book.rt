@@ -352,6 +352,13 @@ impl Book {
         &self.began
     }
 
+    /// How many flushes may begin in one life.
+    pub fn flushes(&self) -> u32
+        ensures { result ≡ (settings_of self.now).flushes }
+    {
+        self.flushes
+    }
+
     /// How many workers the pool has.
     pub fn workers(&self) -> u32
         ensures { result ≡ (settings_of self.now).workers }

@@ -63,6 +63,13 @@ impl Book {
         }
     }
 
+    /// The journal of the present life: all events, the first one first.
+    pub fn journal(&self) -> &[Event]
+        ensures { result.now ≡ self.now.journal }
+    {
+        self.journal.as_slice()
+    }
+
     /// Begins the next life with an empty journal that has room for it.
     fn begin_anew(&mut self, empty: Vec<Event>) -> Result<Vec<Event>, (Vec<Event>, RenewError)>
         requires empty { empty.items ≡ [] }
