@@ -8,7 +8,7 @@ use crate::words::Asked;
 use pp_bench_traces::{PAGES, Trace};
 use pp_cert::Accepted;
 use pp_model::{Event, Reply};
-use pp_run::Pool;
+use pp_run::{Journal, Pool};
 use pp_settings::Settings;
 use pp_shared::SharedDevice;
 use std::alloc::{AllocError, Global};
@@ -48,7 +48,7 @@ pub fn run<R: AllocGlobal + Threads + Wait + Clock + Copy + Drop + Sync + Send>(
     let (record, _devices) = ran.map_err(Trouble::Failed)?;
     let operations = u64::from(workers) * asked.ops;
     Ok(Ran {
-        misses: misses(record.events.as_slice()),
+        misses: misses(&record.events),
         operations,
         events: operations.saturating_mul(4),
         nanos: span.nanos(),
@@ -84,17 +84,25 @@ fn works<'a, R: Clock + Copy + Drop>(
 }
 
 /// How many of the events are of a page that was read.
-fn misses(events: &[Event]) -> usize
-    ensures { result ≤ length events.now }
+fn misses(events: &Journal) -> usize
+    ensures { result ≤ length events.now.items }
 {
-    let is_loaded = |event: &&Event| {
-        matches!(
-            event,
-            Event::Step {
-                reply: Reply::Loaded { .. },
-                ..
-            }
-        )
-    };
-    events.iter().filter(is_loaded).count()
+    let mut count = 0;
+    for place in 0..events.len() {
+        if is_loaded(events.event(place)) {
+            count += 1;
+        }
+    }
+    count
+}
+
+/// Whether the event is of a page that was read.
+fn is_loaded(event: Event) -> bool {
+    matches!(
+        event,
+        Event::Step {
+            reply: Reply::Loaded { .. },
+            ..
+        }
+    )
 }

@@ -13,8 +13,7 @@ use crate::fault::fault;
 use crate::files::{Unread, contents, contents_of_all};
 use pp_explain::{Refused, Stop};
 use pp_judge::{Exit, Workload};
-use pp_model::Event;
-use pp_report::{RunRecord, journal_text};
+use pp_report::{Journal, RunRecord, packed_journal_text};
 use pp_run::RunError;
 use pp_run_command::{RunCommandError, stopped_line, told, write_journal};
 use pp_words::RunPaths;
@@ -127,11 +126,11 @@ fn ended<'a, R: Files + AllocGlobal>(rt: &R, done: &RunRecord, journal: Option<&
 fn keep_journal<'a, R: Files + AllocGlobal>(
     rt: &R,
     path: &'a str,
-    events: &[Event],
+    events: &Journal,
 ) -> Result<(), Exit<'a>>
     ensures { IfErr result (λ exit. IsUnwritten path.entry.now (seen exit)) }
 {
-    let Ok(text) = journal_text(rt.alloc(), events) else {
+    let Ok(text) = packed_journal_text(rt.alloc(), events) else {
         return Err(Exit::OutOfMemory);
     };
     let written = match fs::create(rt, path) {

@@ -66,7 +66,7 @@ fn main(rt: HostRuntime) -> anyhow::Result<()> {
         .into_iter()
         .map(|(query, plan)| query.ask(&mut pool, plan))
         .collect(alloc);
-    let journal = pool.close(&settings);
+    let journal = pool.close(&settings).to_events(alloc)?;
     for answer in answers? {
         println!(rt; "{answer}")?;
     }

@@ -5,7 +5,7 @@ ghost use Rattle.pp_vault.specs.Stages.{stage_worker, is_free_for};
 
 use pp_cert::Accepted;
 use pp_device::SoloDevice;
-use pp_pool::{Book, BookError, Event, Flusher, OwnSite, Turned, Work, Worker};
+use pp_pool::{Book, BookError, Flusher, Journal, OwnSite, Turned, Work, Worker};
 use pp_settings::Settings;
 use pp_vault::{Flushing, Hand, Hands};
 use std::alloc::Global;
@@ -56,7 +56,7 @@ impl Pool {
 
     /// Has the flusher write changed pages, until there is none or the settings allow no flush more. Then gives the pool
     /// up, and gives its journal.
-    pub fn close(self, settings: &Settings) -> Vec<Event> {
+    pub fn close(self, settings: &Settings) -> Journal {
         let Pool { worker, hands } = self;
         let (site, device, hand, _log) = worker.end();
         let mut flusher = Flusher::new(site, device);

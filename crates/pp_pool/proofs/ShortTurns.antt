@@ -1,12 +1,11 @@
 -- A turn that is made at once is a turn.
-use Rattle.std.proofs.Common.{◌≡◌, ◌∙◌, ◌<◌, ◌≤◌, ◌++◌, ℕ, Bool, true, false, inl, inr, Option, Some, None, List, refl, sym, ap, subst}
-use Rattle.std.specs.Prelude.{slice_set, vec_len, vec_capacity, if◌then◌else◌}
-use Rattle.std.specs.Global.{Vec}
+use Rattle.std.proofs.Common.{◌≡◌, ◌∙◌, ◌<◌, ◌≤◌, ◌++◌, ℕ, Bool, true, false, inl, inr, Option, Some, None, List, length, refl, sym, ap, subst}
+use Rattle.std.specs.Prelude.{slice_set, if◌then◌else◌}
 use Rattle.pp_settings.specs.Layout.{Geometry}
 use Rattle.pp_plan.specs.declared.mode.Mode.TheVariants as mode
 use Rattle.pp_plan.specs.declared.action.Ask.TheVariants as ask
 use Rattle.pp_model.specs.declared.reply.Reply.{Reply}
-use Rattle.pp_model.specs.declared.event.Event.{Event}
+use Rattle.pp_journal.specs.Events.{Events}
 use Rattle.pp_device.specs.declared.device.Device as Device
 use Rattle.pp_vault.specs.declared.tokens.Session.{Session}
 use Rattle.pp_vault.specs.declared.guards.PinGuard.{PinGuard}
@@ -40,13 +39,13 @@ use Rattle.pp_pool.proofs.Keeping.{keeps_worker, keeps_after}
 -- ---- what comes of a request
 
 module _ {S W : Type 0} (s : Site.Ghosts S) (k : Work.Ghosts W) (room : ℕ) (asked : Request) (rest : List (Option Guard))
-    (site mid site' : S) (log : Vec Event) (between : W) (turned : Turned) (new : Stage) (places' : List (Option Guard))
-    (log' : Vec Event) (left : W) where
+    (site mid site' : S) (log : Events) (between : W) (turned : Turned) (new : Stage) (places' : List (Option Guard))
+    (log' : Events) (left : W) where
   -- The site that is let go is the same.
   pub comes_of : (response : Response) (after : BookAnswer) (is_logged : Bool) (ends : Turned)
       → s.gives site asked response mid → Replies asked response → site' ≡ mid
       → log'.items ≡ log.items ++ logged_events is_logged response.event
-      → (is_logged ≡ false → vec_capacity log ≤ vec_len log)
+      → (is_logged ≡ false → log.capacity ≤ length log.items)
       → Uses s k mid room between response.answer ends after left → stage_in after ≡ Some new
       → places' ≡ places_with rest (guard_in after) → turned ≡ (if is_logged then ends else Broken)
       → Comes s k room asked rest site log between turned new places' site' log' left
@@ -77,8 +76,8 @@ fix_uses s k site room work (fixed.Away errand) = (refl, refl, refl)
 -- ---- it is a turn of the worker
 
 module _ {S D W : Type 0} (s : Site.Ghosts S) (d : Device.Ghosts D) (k : Work.Ghosts W) (room : ℕ) (old : Stage)
-    (places : List (Option Guard)) (site : S) (log : Vec Event) (before : W) (turned : Turned) (new : Stage)
-    (places' : List (Option Guard)) (site' : S) (log' : Vec Event) (left : W)
+    (places : List (Option Guard)) (site : S) (log : Events) (before : W) (turned : Turned) (new : Stage)
+    (places' : List (Option Guard)) (site' : S) (log' : Events) (left : W)
     (layout : Geometry)
     (t : TurnsAtOnce s k layout room old places site log before turned new places' site' log' left) (device : D) where
   asks_in : Asks d.read_gives d.write_leaves d.calls d.failures layout old device t.asked device
@@ -86,7 +85,7 @@ module _ {S D W : Type 0} (s : Site.Ghosts S) (d : Device.Ghosts D) (k : Work.Gh
       subst (λ (x : Stage). Asks d.read_gives d.write_leaves d.calls d.failures layout x device t.asked device) (sym t.acts)
       (t.step, refl)
 
-  pub short_turn : (has_errand old ≡ false → vec_len log < vec_capacity log)
+  pub short_turn : (has_errand old ≡ false → length log.items < log.capacity)
       → TurnOf s d k layout room (λ w. worker_with w old places site device log) before turned
       (λ w. worker_with w new places' site' device log') left
   short_turn has_room w at long =
@@ -110,7 +109,7 @@ module _ {S D W : Type 0} (s : Site.Ghosts S) (d : Device.Ghosts D) (k : Work.Gh
 
 -- A turn from where nothing has changed.
 pub turn_back : {S D W : Type 0} (s : Site.Ghosts S) (d : Device.Ghosts D) (k : Work.Ghosts W) (layout : Geometry) (room : ℕ)
-    (old mid : Stage) (places places' : List (Option Guard)) (site site' : S) (device : D) (log log' : Vec Event)
+    (old mid : Stage) (places places' : List (Option Guard)) (site site' : S) (device : D) (log log' : Events)
     (before between : W) (turned : Turned) (new : Worker S D → Worker S D) (left : W) → mid ≡ old → places' ≡ places
     → site' ≡ site → log' ≡ log → between ≡ before
     → TurnOf s d k layout room (λ w. worker_with w mid places' site' device log') between turned new left

@@ -1,6 +1,6 @@
 -- What a worker has in hand after an answer that fits its request.
 use Rattle.std.proofs.Common.{◌≡◌, ◌∙◌, ◌++◌, ◌<◌, ◌≤◌, length, ℕ, Bool, true, false, inl, inr, arith, Option, Some, None, List, refl, sym, ap, subst}
-use Rattle.std.specs.Prelude.{IfSome, IsSome, IfOk, Result, Ok, Err, slice_get, vec_len, vec_capacity, if◌then◌else◌}
+use Rattle.std.specs.Prelude.{IfSome, IsSome, IfOk, Result, Ok, Err, slice_get, if◌then◌else◌}
 use Rattle.std.proofs.lemmas.Bool.{false≢true, true_from_ne_false}
 use Rattle.pp_vault.specs.declared.tokens.Session.{Session}
 use Rattle.pp_vault.specs.declared.guards.PinGuard.{PinGuard}
@@ -361,8 +361,8 @@ module _ {S D W : Type 0} (s : Site.Ghosts S) (d : Device.Ghosts D) (k : Work.Gh
 
   -- The event is logged, or there was an errand in hand, since any other turn had room.
   makes_one : (is_logged : Bool) (ends : Turned) → Makes s d k is_logged old before ends new left
-      → (has_errand old.hand.stage ≡ false → vec_len old.log < vec_capacity old.log)
-      → (is_logged ≡ false → vec_capacity old.log ≤ vec_len old.log)
+      → (has_errand old.hand.stage ≡ false → length old.log.items < old.log.capacity)
+      → (is_logged ≡ false → old.log.capacity ≤ length old.log.items)
       → MakesOne s d k old before (if is_logged then ends else Broken) new left
   makes_one true ends m has_room full = inl m
   makes_one false ends m has_room full =
@@ -380,8 +380,8 @@ module _ {S D W : Type 0} (s : Site.Ghosts S) (d : Device.Ghosts D) (k : Work.Gh
       → new.log.items ≡ old.log.items ++ logged_events is_logged response.event → room_of new ≡ room
       → Uses s k site room between response.answer ends after left
       → stage_in after ≡ Some new.hand.stage → new.hand.guards ≡ places_with rest (guard_in after)
-      → (has_errand old.hand.stage ≡ false → vec_len old.log < vec_capacity old.log)
-      → (is_logged ≡ false → vec_capacity old.log ≤ vec_len old.log)
+      → (has_errand old.hand.stage ≡ false → length old.log.items < old.log.capacity)
+      → (is_logged ≡ false → old.log.capacity ≤ length old.log.items)
       → turned ≡ (if is_logged then ends else Broken) → TurnIs s d k old before turned new left
   turns is_logged ends turned asks consults prepares given fits same log long uses stage guards has_room full ended =
       inl (subst (λ t. MakesOne s d k old before t new left) (sym ended)
@@ -479,9 +479,9 @@ consults_at k layout old new (Err e) h = tt
 module _ {S D W : Type 0} (s : Site.Ghosts S) (d : Device.Ghosts D) (k : Work.Ghosts W) (old mid new : Worker S D)
     (before left : W) (turned : Turned) (site : mid.site ≡ old.site)
     (device : mid.device ≡ old.device) (hand : mid.hand ≡ old.hand) (log : mid.log.items ≡ old.log.items)
-    (layout : mid.layout ≡ old.layout) (len : vec_len mid.log ≡ vec_len old.log)
-    (grown : vec_capacity old.log ≤ vec_capacity mid.log) where
-  full_from : vec_capacity mid.log ≤ vec_len mid.log → vec_capacity old.log ≤ vec_len old.log
+    (layout : mid.layout ≡ old.layout) (len : length mid.log.items ≡ length old.log.items)
+    (grown : old.log.capacity ≤ mid.log.capacity) where
+  full_from : mid.log.capacity ≤ length mid.log.items → old.log.capacity ≤ length old.log.items
   full_from full = omega (arith, len, grown, full)
 
   makes_from : (is_logged : Bool) (ends : Turned) → Makes s d k is_logged mid before ends new left

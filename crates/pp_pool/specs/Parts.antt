@@ -1,8 +1,8 @@
 -- What clauses see of a book: what it keeps.
-use Rattle.std.specs.Prelude.{ℕ, List, vec_capacity}
-use Rattle.std.specs.Global.{Vec}
+use Rattle.std.specs.Prelude.{ℕ, List}
 use Rattle.pp_cert.specs.Accepted.{Acceptance}
 use Rattle.pp_model.specs.declared.event.Event.{Event}
+use Rattle.pp_journal.specs.Events.{Events}
 use Rattle.pp_model.specs.Pool.{State, Settings}
 use Rattle.pp_model.specs.Journals.{replay}
 use Rattle.pp_outset.specs.Outsets.{Outset, opens_with}
@@ -41,13 +41,13 @@ opening_of b = opens_with (settings_of b) b.began
 abbrev pub state_of : Parts → State
 state_of b = replay (plans_of b) (opening_of b) b.journal
 
--- What is kept, with the journal as the vector that it is.
-abbrev pub parts_with : vault.Parts → (workers : ℕ) → Vec Event → (most flushes : ℕ) → Outset → Parts
+-- What is kept, with the journal as its events and for how many there is memory.
+abbrev pub parts_with : vault.Parts → (workers : ℕ) → Events → (most flushes : ℕ) → Outset → Parts
 parts_with v workers journal most flushes began = record {
   vault = v;
   workers = workers;
   journal = journal.items;
-  capacity = vec_capacity journal;
+  capacity = journal.capacity;
   most = most;
   flushes = flushes;
   began = began;

@@ -1,8 +1,7 @@
 -- What comes of a request, and what a turn does that wants no device, where that is possible at once.
-use Rattle.std.specs.Prelude.{◌≡◌, ◌≤◌, ◌++◌, if◌then◌else◌, ℕ, Bool, false, List, Option, Some, vec_len, vec_capacity}
-use Rattle.std.specs.Global.{Vec}
+use Rattle.std.specs.Prelude.{◌≡◌, ◌≤◌, ◌++◌, if◌then◌else◌, ℕ, Bool, false, List, length, Option, Some}
 use Rattle.pp_settings.specs.Layout.{Geometry}
-use Rattle.pp_model.specs.declared.event.Event.{Event}
+use Rattle.pp_journal.specs.Events.{Events}
 use Rattle.pp_vault.specs.declared.tokens.Session.{Session}
 use Rattle.pp_vault.specs.declared.guards.Guard.{Guard}
 use Rattle.pp_vault.specs.declared.stage.Stage.{Stage}
@@ -20,8 +19,8 @@ use Rattle.pp_pool.specs.Turns.{IsStep, Consults, Prepares, Uses, logged_events,
 -- What comes of a request that is made: the site gives a response that fits; the log grows by its event, if that is logged; the
 -- work does what it may; and what comes is in hand, with these guards beside.
 pub record Comes {S W : Type 0} (s : Site.Ghosts S) (k : Work.Ghosts W) (room : ℕ) (asked : Request)
-    (rest : List (Option Guard)) (site : S) (log : Vec Event) (between : W) (turned : Turned) (new : Stage)
-    (places' : List (Option Guard)) (site' : S) (log' : Vec Event) (left : W) : Type 0 where
+    (rest : List (Option Guard)) (site : S) (log : Events) (between : W) (turned : Turned) (new : Stage)
+    (places' : List (Option Guard)) (site' : S) (log' : Events) (left : W) : Type 0 where
   pub response : Response
   pub after : BookAnswer
   pub is_logged : Bool
@@ -29,7 +28,7 @@ pub record Comes {S W : Type 0} (s : Site.Ghosts S) (k : Work.Ghosts W) (room : 
   pub given : s.gives site asked response site'
   pub fits : Replies asked response
   pub grows : log'.items ≡ log.items ++ logged_events is_logged response.event
-  pub full : is_logged ≡ false → vec_capacity log ≤ vec_len log
+  pub full : is_logged ≡ false → log.capacity ≤ length log.items
   pub uses : Uses s k site' room between response.answer ends after left
   pub stage : stage_in after ≡ Some new
   pub guards : places' ≡ places_with rest (guard_in after)
@@ -38,8 +37,8 @@ pub record Comes {S W : Type 0} (s : Site.Ghosts S) (k : Work.Ghosts W) (room : 
 -- The worker acts in its plan, and makes the request that the plan asks, which wants no device. The work is asked for what the
 -- request wants.
 pub record TurnsAtOnce {S W : Type 0} (s : Site.Ghosts S) (k : Work.Ghosts W) (layout : Geometry) (room : ℕ) (old : Stage)
-    (places : List (Option Guard)) (site : S) (log : Vec Event) (before : W) (turned : Turned) (new : Stage)
-    (places' : List (Option Guard)) (site' : S) (log' : Vec Event) (left : W) : Type 0 where
+    (places : List (Option Guard)) (site : S) (log : Events) (before : W) (turned : Turned) (new : Stage)
+    (places' : List (Option Guard)) (site' : S) (log' : Events) (left : W) : Type 0 where
   pub asked : Request
   pub rest : List (Option Guard)
   pub between : W

@@ -1,9 +1,8 @@
 -- What a turn of a worker does.
 use Rattle.std.specs.Prelude.{◌≡◌, ◌≢◌, ◌⊎◌, ◌==◌, if◌then◌else◌, ℕ, ◌+◌, ◌-◌, ◌^◌, ◌<◌, ◌≤◌, nat_lt, min, max, Bool, true, false, ◌&&◌, ◌||◌}
 use Rattle.std.specs.Prelude.{List, [], length, ◌++◌, slice_get, slice_set}
-use Rattle.std.specs.Prelude.{Option, None, Some, IfSome, IsSome, vec_len, vec_capacity}
+use Rattle.std.specs.Prelude.{Option, None, Some, IfSome, IsSome}
 use Rattle.std.specs.Option.{is_some}
-use Rattle.std.specs.Global.{Vec}
 use Rattle.pp_settings.specs.Layout.{Geometry, HasPage}
 use Rattle.pp_settings.specs.declared.extent.Extent.{Extent}
 use Rattle.pp_plan.specs.declared.mode.Mode.TheVariants as mode
@@ -11,6 +10,7 @@ use Rattle.pp_plan.specs.declared.action.Ask.{Ask}
 use Rattle.pp_plan.specs.declared.action.Ask.TheVariants as ask
 use Rattle.pp_core.specs.Fixing.{wanted}
 use Rattle.pp_model.specs.declared.event.Event.{Event}
+use Rattle.pp_journal.specs.Events.{Events}
 use Rattle.pp_model.specs.declared.refusals.Delay.TheVariants.{NothingWaiting}
 use Rattle.pp_device.specs.declared.device.Device as Device
 use Rattle.pp_device.specs.Answers.{Answer as DeviceAnswer}
@@ -385,7 +385,7 @@ Turns s d k old before turned new left = Makes s d k true old before turned new 
 pub record TurnsUnlogged {S D W : Type 0} (s : Site.Ghosts S) (d : Device.Ghosts D) (k : Work.Ghosts W) (old : Worker S D)
     (before : W) (turned : Turned) (new : Worker S D) (left : W) : Type 0 where
   pub errand : has_errand old.hand.stage ≡ true
-  pub full : vec_capacity old.log ≤ vec_len old.log
+  pub full : old.log.capacity ≤ length old.log.items
   pub ends : Turned
   pub makes : Makes s d k false old before ends new left
   pub broken : turned ≡ Broken
@@ -402,7 +402,7 @@ abbrev pub MayWait : {S D : Type 0} → Worker S D → Turned → Type 0
 MayWait old NoMemory = is_chair old.hand.stage ≡ true
 MayWait old Broken =
     (can_ask old.layout old.hand ≡ false)
-    ⊎ ((has_errand old.hand.stage ≡ false) × (vec_capacity old.log ≤ vec_len old.log))
+    ⊎ ((has_errand old.hand.stage ≡ false) × (old.log.capacity ≤ length old.log.items))
 MayWait old _ = ⊥
 
 -- Nothing is asked: the site, the device, the tokens, the log and the work are as they were.
@@ -427,18 +427,18 @@ TurnIs s d k old before turned new left =
 -- its log was full.
 pub record MakesRoom {S D : Type 0} (s : Site.Ghosts S) (old : Worker S D) (turned : Turned) (new : Worker S D) : Type 0 where
   pub log : is_chair old.hand.stage ≡ true → turned ≢ NoMemory
-      → (most : ℕ) × s.tells old.site most × (vec_len old.log + max most 1 ≤ vec_capacity new.log)
+      → (most : ℕ) × s.tells old.site most × (length old.log.items + max most 1 ≤ new.log.capacity)
   pub page : is_chair old.hand.stage ≡ true → turned ≢ NoMemory
       → room_of new ≡ (if room_of old == 0 then old.page_bytes else room_of old)
-  pub log_kept : is_chair old.hand.stage ≡ false → vec_len old.log < vec_capacity old.log
-      → vec_capacity new.log ≡ vec_capacity old.log
-  pub log_grown : vec_capacity old.log ≤ vec_capacity new.log
+  pub log_kept : is_chair old.hand.stage ≡ false → length old.log.items < old.log.capacity
+      → new.log.capacity ≡ old.log.capacity
+  pub log_grown : old.log.capacity ≤ new.log.capacity
   pub page_kept : is_chair old.hand.stage ≡ false → room_of new ≡ room_of old
 
 -- ---- a turn by what it changes
 
 -- The worker with these tokens, this site and device, and this log.
-abbrev pub worker_with : {S D : Type 0} → Worker S D → Stage → List (Option Guard) → S → D → Vec Event → Worker S D
+abbrev pub worker_with : {S D : Type 0} → Worker S D → Stage → List (Option Guard) → S → D → Events → Worker S D
 worker_with w stage guards site device log =
     record w { site = site; device = device; hand = record { stage = stage; guards = guards }; log = log }
 

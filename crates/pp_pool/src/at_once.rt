@@ -1,6 +1,6 @@
 //! Turns that the site makes at once: without a request and a response.
 
-ghost use Rattle.std.specs.Prelude.{◌≡◌, true, Some, IfSome, IfNone, IfOk, IfErr, OnErr, length, vec_capacity};
+ghost use Rattle.std.specs.Prelude.{◌≡◌, true, Some, IfSome, IfNone, IfOk, IfErr, OnErr, length};
 ghost use Rattle.pp_plan.specs.declared.action.Ask.TheVariants as plan_ask;
 ghost use Rattle.pp_plan.specs.declared.mode.Mode.TheVariants as modes;
 ghost use Rattle.pp_vault.specs.declared.stage.Stage.TheVariants as stages;
@@ -16,8 +16,9 @@ use crate::request::Request;
 use crate::site::Site;
 use crate::turned::Turned;
 use crate::work::Work;
-use crate::worker::{add, ended, let_go_unless_asked, made, see, taken_back};
+use crate::worker::{add, add_fix, ended, let_go_unless_asked, made, see, taken_back};
 use core::mem;
+use pp_journal::Journal;
 use pp_model::{Event, Move, Reply};
 use pp_plan::{Ask, Mode};
 use pp_settings::Layout;
@@ -30,7 +31,7 @@ pub(crate) fn at_once<S: Site, W: Work>(
     guards: &mut Guards,
     layout: &Layout,
     site: &mut S,
-    log: &mut Vec<Event>,
+    log: &mut Journal,
     seen: &mut Vec<u8>,
     reach: &mut Option<usize>,
     work: &mut W,
@@ -38,7 +39,7 @@ pub(crate) fn at_once<S: Site, W: Work>(
     requires { IsReach W.Work reach.old work.old }
     ensures turns { IfSome result (λ turned. TurnsAtOnce S.Site W.Work layout.now (length seen.old.items) stage.old guards.old
         site.old log.old work.old turned stage.new guards.new site.new log.new work.new) }
-    ensures memory { vec_capacity log.new ≡ vec_capacity log.old }
+    ensures memory { log.new.capacity ≡ log.old.capacity }
     ensures seen { length seen.new.items ≡ length seen.old.items }
     ensures reach { IsReach W.Work reach.new work.new }
     ensures stage { IfNone result (stage.new ≡ stage.old) }
@@ -68,7 +69,7 @@ fn fixed<S: Site, W: Work>(
     guards: &mut Guards,
     layout: &Layout,
     site: &mut S,
-    log: &mut Vec<Event>,
+    log: &mut Journal,
     seen: &mut Vec<u8>,
     reach: &mut Option<usize>,
     work: &mut W,
@@ -76,7 +77,7 @@ fn fixed<S: Site, W: Work>(
     requires { IsReach W.Work reach.old work.old }
     ensures turns { IfSome result (λ turned. TurnsAtOnce S.Site W.Work layout.now (length seen.old.items) stage.old guards.old
         site.old log.old work.old turned stage.new guards.new site.new log.new work.new) }
-    ensures memory { vec_capacity log.new ≡ vec_capacity log.old }
+    ensures memory { log.new.capacity ≡ log.old.capacity }
     ensures seen { length seen.new.items ≡ length seen.old.items }
     ensures reach { IsReach W.Work reach.new work.new }
     ensures stage { IfNone result (stage.new ≡ stage.old) }
@@ -107,7 +108,7 @@ fn fixed_from<S: Site, W: Work>(
     guards: &mut Guards,
     layout: &Layout,
     site: &mut S,
-    log: &mut Vec<Event>,
+    log: &mut Journal,
     seen: &mut Vec<u8>,
     reach: &mut Option<usize>,
     work: &mut W,
@@ -115,7 +116,7 @@ fn fixed_from<S: Site, W: Work>(
     requires { IsReach W.Work reach.old work.old }
     ensures turns { IfSome result.1 (λ turned. TurnsAtOnce S.Site W.Work layout.now (length seen.old.items) stage guards.old
         site.old log.old work.old turned result.0 guards.new site.new log.new work.new) }
-    ensures memory { vec_capacity log.new ≡ vec_capacity log.old }
+    ensures memory { log.new.capacity ≡ log.old.capacity }
     ensures seen { length seen.new.items ≡ length seen.old.items }
     ensures reach { IsReach W.Work reach.new work.new }
     ensures stage { IfNone result.1 (result.0 ≡ stage) }
@@ -151,7 +152,7 @@ fn fix<S: Site, W: Work>(
     page: u32,
     guards: &mut Guards,
     site: &mut S,
-    log: &mut Vec<Event>,
+    log: &mut Journal,
     seen: &mut Vec<u8>,
     reach: &mut Option<usize>,
     work: &mut W,
@@ -160,7 +161,7 @@ fn fix<S: Site, W: Work>(
     requires reach { IsReach W.Work reach.old work.old }
     ensures comes { Comes S.Site W.Work (length seen.old.items) (request.Fix session page) guards.old site.old log.old work.old
         result.1 result.0 guards.new site.new log.new work.new }
-    ensures memory { vec_capacity log.new ≡ vec_capacity log.old }
+    ensures memory { log.new.capacity ≡ log.old.capacity }
     ensures seen { length seen.new.items ≡ length seen.old.items }
     ensures reach { IsReach W.Work reach.new work.new }
 {
@@ -168,7 +169,7 @@ fn fix<S: Site, W: Work>(
     match site.fix(session, page) {
         Ok((fixed, reply)) => {
             let did = Move::Fix { worker, page };
-            let is_logged = add(log, Some(Event::Step { did, reply }));
+            let is_logged = add_fix(log, Some(Event::Step { did, reply }));
             let stage = in_hand(fixed, guards, site);
             (stage, ended(is_logged, Turned::Done))
         }
@@ -214,7 +215,7 @@ fn latched<S: Site, W: Work>(
     slot: u8,
     guards: &mut Guards,
     site: &mut S,
-    log: &mut Vec<Event>,
+    log: &mut Journal,
     seen: &mut Vec<u8>,
     reach: &mut Option<usize>,
     work: &mut W,
@@ -224,7 +225,7 @@ fn latched<S: Site, W: Work>(
     ensures turns { (layout : _) → IfSome result (λ turned. TurnsAtOnce S.Site W.Work layout (length seen.old.items)
         (stages.In session.old) guards.old site.old log.old work.old turned (stages.In session.new) guards.new site.new log.new
         work.new) }
-    ensures memory { vec_capacity log.new ≡ vec_capacity log.old }
+    ensures memory { log.new.capacity ≡ log.old.capacity }
     ensures seen { length seen.new.items ≡ length seen.old.items }
     ensures reach { IsReach W.Work reach.new work.new }
     ensures session { IfNone result (session.new ≡ session.old) }
@@ -306,14 +307,14 @@ fn unlatched<S: Site, W: Work>(
     slot: u8,
     guards: &mut Guards,
     site: &mut S,
-    log: &mut Vec<Event>,
+    log: &mut Journal,
     work: &W,
 ) -> Option<Turned>
     requires { session.old.ask ≡ plan_ask.Unlatch slot }
     ensures turns { (layout : _) (room : _) → IfSome result (λ turned. TurnsAtOnce S.Site W.Work layout room
         (stages.In session.old) guards.old site.old log.old work.now turned (stages.In session.new) guards.new site.new log.new
         work.now) }
-    ensures memory { vec_capacity log.new ≡ vec_capacity log.old }
+    ensures memory { log.new.capacity ≡ log.old.capacity }
     ensures session { IfNone result (session.new ≡ session.old) }
     ensures guards { IfNone result (guards.new ≡ guards.old) }
     ensures site { IfNone result (site.new ≡ site.old) }
@@ -392,14 +393,14 @@ fn unfixed<S: Site, W: Work>(
     slot: u8,
     guards: &mut Guards,
     site: &mut S,
-    log: &mut Vec<Event>,
+    log: &mut Journal,
     work: &W,
 ) -> Option<Turned>
     requires { session.old.ask ≡ plan_ask.Unfix slot }
     ensures turns { (layout : _) (room : _) → IfSome result (λ turned. TurnsAtOnce S.Site W.Work layout room
         (stages.In session.old) guards.old site.old log.old work.now turned (stages.In session.new) guards.new site.new log.new
         work.now) }
-    ensures memory { vec_capacity log.new ≡ vec_capacity log.old }
+    ensures memory { log.new.capacity ≡ log.old.capacity }
     ensures session { IfNone result (session.new ≡ session.old) }
     ensures guards { IfNone result (guards.new ≡ guards.old) }
     ensures site { IfNone result (site.new ≡ site.old) }

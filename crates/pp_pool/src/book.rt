@@ -1,7 +1,7 @@
 //! A vault with its journal.
 
 ghost use Rattle.std.specs.Prelude.{◌≡◌, ◌≤◌, ◌<◌, ◌↔◌, ◌++◌, ◌∷◌, true, false, [], None, Some, IsSome, is_ok, IfOk, IfErr};
-ghost use Rattle.std.specs.Prelude.{OnOk, OnErr, IfSome, length, option_map, vec_len, vec_capacity};
+ghost use Rattle.std.specs.Prelude.{OnOk, OnErr, IfSome, length, option_map};
 ghost use Rattle.std.specs.Option.{is_some};
 ghost use Rattle.pp_model.specs.declared.event.Event.TheVariants.{Step};
 ghost use Rattle.pp_model.specs.Pool.{dirty_pages};
@@ -28,7 +28,8 @@ use crate::asking::ask;
 use crate::error::BookError;
 use crate::request::Request;
 use crate::response::Response;
-use pp_model::{Event, Reply, SubmitError, Turn};
+use pp_journal::Journal;
+use pp_model::{Event, Move, Reply, SubmitError, Turn};
 use pp_outset::Outset;
 use pp_settings::Settings;
 use pp_vault::{
@@ -51,7 +52,7 @@ use std::marker::Model;
 pub struct Book {
     pub(crate) vault: Vault,
     workers: u32,
-    pub(crate) journal: Vec<Event>,
+    pub(crate) journal: Journal,
     pub(crate) most: u64,
     pub(crate) flushes: u32,
     pub(crate) began: Outset,
@@ -95,7 +96,7 @@ impl Book {
         let began = Outset::new(alloc, settings)?;
         let (vault, hands) = Vault::new(alloc, settings)?;
         let room = vault.budget() as usize;
-        match Vec::with_capacity(alloc, room) {
+        match Journal::with_capacity(alloc, room) {
             Ok(journal) => {
                 let book = Book {
                     vault,
@@ -161,6 +162,7 @@ impl Book {
         ensures grown { self.old.capacity ≤ self.new.capacity }
         ensures kept { IsBook self.new }
     {
+        self.journal.known();
         let room = self.vault.budget() + cost + 1;
         self.journal.reserve(room as usize).is_ok()
     }
@@ -228,7 +230,7 @@ impl Book {
     {
         match self.vault.fix(session, page) {
             Ok((fixed, done)) => {
-                let reply = added(done, &mut self.journal);
+                let reply = added_fix(done, &mut self.journal);
                 Ok((fixed, reply))
             }
             Err((session, _refusal)) => Err(session),
@@ -256,7 +258,7 @@ impl Book {
     {
         match self.vault.latch_shared(session, guard) {
             Ok((session, guard, done)) => {
-                let reply = added(done, &mut self.journal);
+                let reply = added_latch(done, &mut self.journal);
                 Ok((session, guard, reply))
             }
             Err((session, guard, _refusal)) => Err((session, guard)),
@@ -283,7 +285,7 @@ impl Book {
     {
         match self.vault.unlatch_shared(session, guard) {
             Ok((session, guard, done)) => {
-                let reply = added(done, &mut self.journal);
+                let reply = added_unlatch(done, &mut self.journal);
                 Ok((session, guard, reply))
             }
             Err((session, guard, _refusal)) => Err((session, guard)),
@@ -310,7 +312,7 @@ impl Book {
     {
         match self.vault.unfix(session, guard) {
             Ok((session, done)) => {
-                let reply = added(done, &mut self.journal);
+                let reply = added_unfix(done, &mut self.journal);
                 Ok((session, reply))
             }
             Err((session, guard, _refusal)) => Err((session, guard)),
@@ -392,7 +394,7 @@ impl Book {
     }
 
     /// Gives the book up with the tokens of its vault, and gives the journal.
-    pub fn close(self, hands: Hands) -> Vec<Event>
+    pub fn close(self, hands: Hands) -> Journal
         ensures { result.items ≡ self.journal }
     {
         let Book {
@@ -409,26 +411,104 @@ impl Book {
 }
 
 /// Adds what the vault did to the journal, its move with the reply, where it did one.
-fn noted(done: Option<Done>, journal: &mut Vec<Event>) -> Option<Event>
-    requires { IsSome done → length journal.old.items < vec_capacity journal.old }
+fn noted(done: Option<Done>, journal: &mut Journal) -> Option<Event>
+    requires { IsSome done → length journal.old.items < journal.old.capacity }
     ensures event { result ≡ option_map (λ t. Step t.0 t.1) done }
     ensures journal { journal.new.items ≡ journal.old.items ++ events_in result }
-    ensures memory { vec_capacity journal.new ≡ vec_capacity journal.old }
+    ensures memory { journal.new.capacity ≡ journal.old.capacity }
 {
     let (did, reply) = done?;
-    let event = Event::Step { did, reply };
-    journal.push_reserved(event);
-    Some(event)
+    let reply = added_any((did, reply), journal);
+    Some(Event::Step { did, reply })
 }
 
-/// Adds what the vault did to the journal, and tells its reply.
-fn added(done: Done, journal: &mut Vec<Event>) -> Reply
-    requires { length journal.old.items < vec_capacity journal.old }
+/// Adds what the vault did to the journal, and tells its reply. Where the kind of the move is known, little is left of the
+/// packing.
+#[inline(always)]
+fn added(done: Done, journal: &mut Journal) -> Reply
+    requires { length journal.old.items < journal.old.capacity }
     ensures reply { result ≡ done.1 }
     ensures journal { journal.new.items ≡ journal.old.items ++ Step done.0 done.1 ∷ [] }
-    ensures memory { vec_capacity journal.new ≡ vec_capacity journal.old }
+    ensures memory { journal.new.capacity ≡ journal.old.capacity }
 {
     let (did, reply) = done;
     journal.push_reserved(Event::Step { did, reply });
     reply
+}
+
+/// The same, where the kind isn't known.
+#[inline(never)]
+fn added_any(done: Done, journal: &mut Journal) -> Reply
+    requires { length journal.old.items < journal.old.capacity }
+    ensures reply { result ≡ done.1 }
+    ensures journal { journal.new.items ≡ journal.old.items ++ Step done.0 done.1 ∷ [] }
+    ensures memory { journal.new.capacity ≡ journal.old.capacity }
+{
+    added(done, journal)
+}
+
+/// The same for a fix that hits.
+fn added_fix(done: Done, journal: &mut Journal) -> Reply
+    requires { length journal.old.items < journal.old.capacity }
+    ensures reply { result ≡ done.1 }
+    ensures journal { journal.new.items ≡ journal.old.items ++ Step done.0 done.1 ∷ [] }
+    ensures memory { journal.new.capacity ≡ journal.old.capacity }
+{
+    match done {
+        (Move::Fix { worker, page }, Reply::Hit { frame, mark }) => {
+            added(
+                (Move::Fix { worker, page }, Reply::Hit { frame, mark }),
+                journal,
+            )
+        }
+        done => added_any(done, journal),
+    }
+}
+
+/// The same for a latch.
+fn added_latch(done: Done, journal: &mut Journal) -> Reply
+    requires { length journal.old.items < journal.old.capacity }
+    ensures reply { result ≡ done.1 }
+    ensures journal { journal.new.items ≡ journal.old.items ++ Step done.0 done.1 ∷ [] }
+    ensures memory { journal.new.capacity ≡ journal.old.capacity }
+{
+    match done {
+        (Move::Latch { worker }, Reply::Latched { mark }) => {
+            added((Move::Latch { worker }, Reply::Latched { mark }), journal)
+        }
+        done => added_any(done, journal),
+    }
+}
+
+/// The same for an unlatch.
+fn added_unlatch(done: Done, journal: &mut Journal) -> Reply
+    requires { length journal.old.items < journal.old.capacity }
+    ensures reply { result ≡ done.1 }
+    ensures journal { journal.new.items ≡ journal.old.items ++ Step done.0 done.1 ∷ [] }
+    ensures memory { journal.new.capacity ≡ journal.old.capacity }
+{
+    match done {
+        (Move::Unlatch { worker }, Reply::Unlatched { mark }) => {
+            added(
+                (Move::Unlatch { worker }, Reply::Unlatched { mark }),
+                journal,
+            )
+        }
+        done => added_any(done, journal),
+    }
+}
+
+/// The same for an unfix.
+fn added_unfix(done: Done, journal: &mut Journal) -> Reply
+    requires { length journal.old.items < journal.old.capacity }
+    ensures reply { result ≡ done.1 }
+    ensures journal { journal.new.items ≡ journal.old.items ++ Step done.0 done.1 ∷ [] }
+    ensures memory { journal.new.capacity ≡ journal.old.capacity }
+{
+    match done {
+        (Move::Unfix { worker }, Reply::Did) => {
+            added((Move::Unfix { worker }, Reply::Did), journal)
+        }
+        done => added_any(done, journal),
+    }
 }

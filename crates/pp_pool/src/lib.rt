@@ -4,6 +4,7 @@
 pub use book::Book;
 pub use error::{BookError, BookRenewError};
 pub use flusher::Flusher;
+pub use pp_journal::Journal;
 pub use pp_model::Event;
 pub use pp_outset::Outset;
 pub use request::Request;

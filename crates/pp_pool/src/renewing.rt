@@ -1,6 +1,6 @@
 //! Renewing a book that is at rest.
 
-ghost use Rattle.std.specs.Prelude.{◌≡◌, ◌*◌, ◌≤◌, [], Some, IfOk, IfErr, OnOk, OnErr, vec_capacity};
+ghost use Rattle.std.specs.Prelude.{◌≡◌, ◌*◌, ◌≤◌, [], Some, IfOk, IfErr, OnOk, OnErr};
 ghost use Rattle.pp_model.specs.Renewing.{renew_error, renewed};
 ghost use Rattle.pp_outset.specs.Outsets.{outset_of};
 ghost use Rattle.pp_vault.specs.Renewals.{Renews};
@@ -11,7 +11,8 @@ ghost use Rattle.pp_pool.specs.Renewals.{IsRenewCause, HasLifeRoom, HadLifeRoom}
 
 use crate::book::Book;
 use crate::error::BookRenewError;
-use pp_model::{Event, RenewError};
+use pp_journal::Journal;
+use pp_model::RenewError;
 
 impl Book {
     /// Ends the life of a book at rest, gives its journal, and begins the next life. The vault is renewed
@@ -19,9 +20,9 @@ impl Book {
     /// cached, which pages are dirty, and every known mark stay. The tokens of the life that is over, which are chairs, are those
     /// of the next.
     ///
-    /// The vector becomes the journal of the next life; what stands in it is let go first. It gets room for twice the flushes,
+    /// The empty journal becomes that of the next life; what stands in it is let go first. It gets room for twice the flushes,
     /// before anything is given away. The journal that comes back keeps its room, and a book's journal always has that much. So
-    /// two vectors serve in turn with no memory more, and one can be audited while the other fills.
+    /// two journals serve in turn with no memory more, and one can be audited while the other fills.
     ///
     /// The plans and the journal of the life that is over are a whole life of the pool, as an audit of lives wants them.
     ///
@@ -30,9 +31,9 @@ impl Book {
     /// # Errors
     ///
     /// [`BookRenewError::OutOfMemory`] where that room can't be had; else [`BookRenewError::Refused`] with what the core refuses:
-    /// that a plan waits, a worker isn't idle or a flush is in flight, or that a mark is 2^63 or more. Then the vector comes
-    /// back, empty, and the book is as it was.
-    pub fn renew(&mut self, empty: Vec<Event>) -> Result<Vec<Event>, (Vec<Event>, BookRenewError)>
+    /// that a plan waits, a worker isn't idle or a flush is in flight, or that a mark is 2^63 or more. Then what was
+    /// given comes back, empty, and the book is as it was.
+    pub fn renew(&mut self, empty: Journal) -> Result<Journal, (Journal, BookRenewError)>
         ensures journal { IfOk result (λ told. told.items ≡ self.old.journal) }
         ensures fresh { OnOk result ((self.new.journal ≡ []) × (plans_of self.new ≡ [])
             × (settings_of self.new ≡ settings_of self.old)) }
@@ -41,12 +42,12 @@ impl Book {
         ensures vault { OnOk result (Renews self.old.vault self.new.vault) }
         ensures life { OnOk result (IsLife (opening_of self.old)
             (record { plans = plans_of self.old; journal = self.old.journal })) }
-        ensures spare { IfOk result (λ told. vec_capacity told ≡ self.old.capacity) }
+        ensures spare { IfOk result (λ told. told.capacity ≡ self.old.capacity) }
         ensures memory { OnOk result (HasLifeRoom self.new self.new.capacity) }
-        ensures error { IfErr result (λ e. IsRenewCause self.old (vec_capacity empty) e.1) }
-        ensures room { IfErr result (λ e. HadLifeRoom self.old (vec_capacity e.0) e.1) }
+        ensures error { IfErr result (λ e. IsRenewCause self.old (empty.capacity) e.1) }
+        ensures room { IfErr result (λ e. HadLifeRoom self.old (e.0.capacity) e.1) }
         ensures back { IfErr result (λ e. e.0.items ≡ []) }
-        ensures returned { IfErr result (λ e. vec_capacity empty ≤ vec_capacity e.0) }
+        ensures returned { IfErr result (λ e. empty.capacity ≤ e.0.capacity) }
         ensures unchanged { OnErr result (self.new ≡ self.old) }
         ensures kept { IsBook self.new }
         ensures headline { HeadlineHolds self.new }
@@ -64,16 +65,17 @@ impl Book {
     }
 
     /// The journal of the present life: all events, the first one first.
-    pub fn journal(&self) -> &[Event]
-        ensures { result.now ≡ self.now.journal }
+    pub fn journal(&self) -> &Journal
+        ensures items { result.now.items ≡ self.now.journal }
+        ensures capacity { result.now.capacity ≡ self.now.capacity }
     {
-        self.journal.as_slice()
+        &self.journal
     }
 
     /// Begins the next life with an empty journal that has room for it.
-    fn begin_anew(&mut self, empty: Vec<Event>) -> Result<Vec<Event>, (Vec<Event>, RenewError)>
+    fn begin_anew(&mut self, empty: Journal) -> Result<Journal, (Journal, RenewError)>
         requires empty { empty.items ≡ [] }
-        requires room { HasLifeRoom self.old (vec_capacity empty) }
+        requires room { HasLifeRoom self.old (empty.capacity) }
         ensures journal { IfOk result (λ told. told.items ≡ self.old.journal) }
         ensures fresh { OnOk result ((self.new.journal ≡ []) × (plans_of self.new ≡ [])
             × (settings_of self.new ≡ settings_of self.old)) }
@@ -82,7 +84,7 @@ impl Book {
         ensures vault { OnOk result (Renews self.old.vault self.new.vault) }
         ensures life { OnOk result (IsLife (opening_of self.old)
             (record { plans = plans_of self.old; journal = self.old.journal })) }
-        ensures spare { IfOk result (λ told. vec_capacity told ≡ self.old.capacity) }
+        ensures spare { IfOk result (λ told. told.capacity ≡ self.old.capacity) }
         ensures memory { OnOk result (HasLifeRoom self.new self.new.capacity) }
         ensures error { IfErr result (λ e. renew_error (state_of self.old) ≡ Some e.1) }
         ensures back { IfErr result (λ e. e.0 ≡ empty) }

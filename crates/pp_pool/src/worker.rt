@@ -1,7 +1,6 @@
 //! A worker: it runs plans, one request a turn.
 
 ghost use Rattle.std.specs.Prelude.{◌≡◌, ◌<◌, ◌≤◌, ◌+◌, ◌==◌, if◌then◌else◌, ◌++◌, ◌⊎◌, ℕ, max, true, false, [], None, OnOk, OnErr, IfOk, length};
-ghost use Rattle.std.specs.Prelude.{vec_len, vec_capacity};
 ghost use Rattle.pp_vault.specs.Stages.{is_chair, stage_worker};
 ghost use Rattle.pp_settings.specs.Settings.{geometry_of};
 ghost use Rattle.pp_pool.specs.declared.turned.Turned.TheVariants.{Broken};
@@ -21,7 +20,8 @@ use crate::turned::Turned;
 use crate::work::Work;
 use core::mem;
 use pp_device::{Device, image};
-use pp_model::Event;
+use pp_journal::Journal;
+use pp_model::{Event, Move, Reply};
 use pp_plan::Ask;
 use pp_settings::{Layout, Settings};
 use pp_vault::{Delay, Guards, Hand, ReadGuard, Refusal, Session, Stage};
@@ -36,7 +36,7 @@ pub struct Worker<S, D> {
     /// Its tokens.
     pub hand: Hand,
     /// The events of its moves, the first of them first.
-    pub log: Vec<Event>,
+    pub log: Journal,
     /// Where the regions of the plans lie.
     pub layout: Layout,
     /// How many bytes a page has.
@@ -96,7 +96,7 @@ impl<S: Site, D: Device> Worker<S, D> {
             site,
             device,
             hand,
-            log: Vec::new(alloc),
+            log: Journal::new(alloc),
             layout,
             page_bytes,
             seen: Vec::new(alloc),
@@ -184,7 +184,7 @@ impl<S: Site, D: Device> Worker<S, D> {
     }
 
     /// Ends the worker: its site, its device, its tokens and its log.
-    pub fn end(self) -> (S, D, Hand, Vec<Event>)
+    pub fn end(self) -> (S, D, Hand, Journal)
         ensures { result ≡ (self.site, self.device, self.hand, self.log) }
     {
         let Worker {
@@ -208,15 +208,15 @@ impl<S: Site, D: Device> Worker<S, D> {
         ensures device { self.new.device ≡ self.old.device }
         ensures hand { self.new.hand ≡ self.old.hand }
         ensures log { self.new.log.items ≡ self.old.log.items }
-        ensures len { vec_len self.new.log ≡ vec_len self.old.log }
-        ensures grown { vec_capacity self.old.log ≤ vec_capacity self.new.log }
+        ensures len { length self.new.log.items ≡ length self.old.log.items }
+        ensures grown { self.old.log.capacity ≤ self.new.log.capacity }
         ensures layout { self.new.layout ≡ self.old.layout }
         ensures page_bytes { self.new.page_bytes ≡ self.old.page_bytes }
         ensures reach { reach_of self.new ≡ reach_of self.old }
         ensures busy { is_chair self.old.hand.stage ≡ false → self.new ≡ self.old }
         ensures err { OnErr result (is_chair self.old.hand.stage ≡ true) }
         ensures room { OnOk result (is_chair self.old.hand.stage ≡ true
-            → (most : ℕ) × S.tells self.old.site most × (vec_len self.old.log + max most 1 ≤ vec_capacity self.new.log)) }
+            → (most : ℕ) × S.tells self.old.site most × (length self.old.log.items + max most 1 ≤ self.new.log.capacity)) }
         ensures page { OnOk result (is_chair self.old.hand.stage ≡ true
             → room_of self.new ≡ (if room_of self.old == 0 then self.old.page_bytes else room_of self.old)) }
     {
@@ -234,13 +234,13 @@ impl<S: Site, D: Device> Worker<S, D> {
 }
 
 /// Whether the log has room for an event. A full one gets room first, where there is memory.
-fn has_room(log: &mut Vec<Event>) -> bool
+fn has_room(log: &mut Journal) -> bool
     ensures items { log.new.items ≡ log.old.items }
-    ensures len { vec_len log.new ≡ vec_len log.old }
-    ensures room { result ≡ true → vec_len log.new < vec_capacity log.new }
-    ensures full { result ≡ false → vec_capacity log.old ≤ vec_len log.old }
-    ensures kept { vec_len log.old < vec_capacity log.old → vec_capacity log.new ≡ vec_capacity log.old }
-    ensures grown { vec_capacity log.old ≤ vec_capacity log.new }
+    ensures len { length log.new.items ≡ length log.old.items }
+    ensures room { result ≡ true → length log.new.items < log.new.capacity }
+    ensures full { result ≡ false → log.old.capacity ≤ length log.old.items }
+    ensures kept { length log.old.items < log.old.capacity → log.new.capacity ≡ log.old.capacity }
+    ensures grown { log.old.capacity ≤ log.new.capacity }
 {
     if log.len() < log.capacity() {
         return true;
@@ -262,18 +262,18 @@ fn ask<S: Site, D: Device, W: Work>(
     layout: &Layout,
     site: &mut S,
     device: &mut D,
-    log: &mut Vec<Event>,
+    log: &mut Journal,
     seen: &mut Vec<u8>,
     reach: &mut Option<usize>,
     work: &mut W,
 ) -> Turned
-    requires room { errand_is_there stage.old ≡ false → vec_len log.old < vec_capacity log.old }
+    requires room { errand_is_there stage.old ≡ false → length log.old.items < log.old.capacity }
     requires reach { IsReach W.Work reach.old work.old }
     ensures turn { TurnOf S.Site D.Device W.Work layout.now (length seen.old.items)
         (λ w. worker_with w stage.old guards.old site.old device.old log.old) work.old result
         (λ w. worker_with w stage.new guards.new site.new device.new log.new) work.new }
     ensures keeps { keeps_place guards.old stage.old ≡ true → keeps_place guards.new stage.new ≡ true }
-    ensures memory { vec_capacity log.new ≡ vec_capacity log.old }
+    ensures memory { log.new.capacity ≡ log.old.capacity }
     ensures seen { length seen.new.items ≡ length seen.old.items }
     ensures worker { stage_worker stage.new ≡ stage_worker stage.old }
     ensures reach { IsReach W.Work reach.new work.new }
@@ -293,18 +293,18 @@ fn ask_by_value<S: Site, D: Device, W: Work>(
     layout: &Layout,
     site: &mut S,
     device: &mut D,
-    log: &mut Vec<Event>,
+    log: &mut Journal,
     seen: &mut Vec<u8>,
     reach: &mut Option<usize>,
     work: &mut W,
 ) -> Turned
-    requires room { errand_is_there stage.old ≡ false → vec_len log.old < vec_capacity log.old }
+    requires room { errand_is_there stage.old ≡ false → length log.old.items < log.old.capacity }
     requires reach { IsReach W.Work reach.old work.old }
     ensures turn { TurnOf S.Site D.Device W.Work layout.now (length seen.old.items)
         (λ w. worker_with w stage.old guards.old site.old device.old log.old) work.old result
         (λ w. worker_with w stage.new guards.new site.new device.new log.new) work.new }
     ensures keeps { keeps_place guards.old stage.old ≡ true → keeps_place guards.new stage.new ≡ true }
-    ensures memory { vec_capacity log.new ≡ vec_capacity log.old }
+    ensures memory { log.new.capacity ≡ log.old.capacity }
     ensures seen { length seen.new.items ≡ length seen.old.items }
     ensures worker { stage_worker stage.new ≡ stage_worker stage.old }
     ensures reach { IsReach W.Work reach.new work.new }
@@ -342,18 +342,18 @@ fn asked<S: Site, D: Device, W: Work>(
     layout: &Layout,
     site: &mut S,
     device: &mut D,
-    log: &mut Vec<Event>,
+    log: &mut Journal,
     seen: &mut Vec<u8>,
     reach: &mut Option<usize>,
     work: &mut W,
 ) -> (Stage, Turned)
-    requires room { errand_is_there stage ≡ false → vec_len log.old < vec_capacity log.old }
+    requires room { errand_is_there stage ≡ false → length log.old.items < log.old.capacity }
     requires reach { IsReach W.Work reach.old work.old }
     ensures turn { TurnOf S.Site D.Device W.Work layout.now (length seen.old.items)
         (λ w. worker_with w stage guards.old site.old device.old log.old) work.old result.1
         (λ w. worker_with w result.0 guards.new site.new device.new log.new) work.new }
     ensures keeps { keeps_place guards.old stage ≡ true → keeps_place guards.new result.0 ≡ true }
-    ensures memory { vec_capacity log.new ≡ vec_capacity log.old }
+    ensures memory { log.new.capacity ≡ log.old.capacity }
     ensures seen { length seen.new.items ≡ length seen.old.items }
     ensures worker { stage_worker result.0 ≡ stage_worker stage }
     ensures reach { IsReach W.Work reach.new work.new }
@@ -377,7 +377,7 @@ pub(crate) fn made<S: Site, W: Work>(
     request: Request,
     guards: &mut Guards,
     site: &mut S,
-    log: &mut Vec<Event>,
+    log: &mut Journal,
     seen: &mut Vec<u8>,
     reach: &mut Option<usize>,
     work: &mut W,
@@ -387,12 +387,12 @@ pub(crate) fn made<S: Site, W: Work>(
     requires reach { IsReach W.Work reach.old work.old }
     ensures comes { Comes S.Site W.Work (length seen.old.items) request guards.old site.old log.old work.old result.1 result.0
         guards.new site.new log.new work.new }
-    ensures memory { vec_capacity log.new ≡ vec_capacity log.old }
+    ensures memory { log.new.capacity ≡ log.old.capacity }
     ensures seen { length seen.new.items ≡ length seen.old.items }
     ensures reach { IsReach W.Work reach.new work.new }
 {
     let Response { event, answer } = site.perform(request);
-    let is_logged = add(log, event);
+    let is_logged = add_any(log, event);
     let (answer, turned) = used(answer, site, seen, reach, work);
     let stage = stage_after(guards, answer);
     let_go_unless_at_once(&stage, site);
@@ -434,10 +434,12 @@ fn ask_reach<W: Work>(request: &Request, reach: &mut Option<usize>, work: &W)
 }
 
 /// Adds the event, if there is one and the log has room for it. Tells whether none is left out.
-pub(crate) fn add(log: &mut Vec<Event>, event: Option<Event>) -> bool
+// Inlined, since little is left of the packing where the kind of the move is known.
+#[inline(always)]
+pub(crate) fn add(log: &mut Journal, event: Option<Event>) -> bool
     ensures items { log.new.items ≡ log.old.items ++ logged_events result event }
-    ensures full { result ≡ false → vec_capacity log.old ≤ vec_len log.old }
-    ensures memory { vec_capacity log.new ≡ vec_capacity log.old }
+    ensures full { result ≡ false → log.old.capacity ≤ length log.old.items }
+    ensures memory { log.new.capacity ≡ log.old.capacity }
 {
     match event {
         Some(event) => {
@@ -449,6 +451,36 @@ pub(crate) fn add(log: &mut Vec<Event>, event: Option<Event>) -> bool
         }
         None => true,
     }
+}
+
+/// The same of the event of a fix. One that hits is packed at once.
+pub(crate) fn add_fix(log: &mut Journal, event: Option<Event>) -> bool
+    ensures items { log.new.items ≡ log.old.items ++ logged_events result event }
+    ensures full { result ≡ false → log.old.capacity ≤ length log.old.items }
+    ensures memory { log.new.capacity ≡ log.old.capacity }
+{
+    match event {
+        Some(
+            Event::Step {
+                did: Move::Fix { worker, page },
+                reply: Reply::Hit { frame, mark },
+            },
+        ) => {
+            let (did, reply) = (Move::Fix { worker, page }, Reply::Hit { frame, mark });
+            add(log, Some(Event::Step { did, reply }))
+        }
+        event => add_any(log, event),
+    }
+}
+
+/// The same, where the kind isn't known.
+#[inline(never)]
+fn add_any(log: &mut Journal, event: Option<Event>) -> bool
+    ensures items { log.new.items ≡ log.old.items ++ logged_events result event }
+    ensures full { result ≡ false → log.old.capacity ≤ length log.old.items }
+    ensures memory { log.new.capacity ≡ log.old.capacity }
+{
+    add(log, event)
 }
 
 /// How a turn ends: as its answer says, but broken where its event is left out.

@@ -1,17 +1,19 @@
 -- What one event more tells of a worker's turn.
 use Rattle.std.proofs.Common.{◌≡◌, refl, sym, ap, ◌∙◌, ℕ, suc, ◌+◌, ◌<◌, ◌≤◌, Bool, true, false, not, cond}
 use Rattle.std.proofs.Common.{Option, None, Some, List, [], ◌∷◌, length, take, drop, map, flat_map, ◌++◌, count_by, slice_index_or, arith}
+use Rattle.std.specs.Prelude.{option_and_then}
 use Rattle.std.specs.Int.{from_bool}
 use Rattle.std.specs.List.{prefix_len, range_with_len}
 use Rattle.std.specs.Option.{option_or}
 use Rattle.std.proofs.lemmas.List.{drop_more, ext_get_or}
+use Rattle.std.proofs.Math.Seq.{take-append_seam}
 use Rattle.std.proofs.lemmas.List.Folds.{flat_map-map}
 use Rattle.std.proofs.lemmas.List.Sums.{sum_by-cons}
 use Rattle.std.proofs.lemmas.List.FromFn.{get_or-map-range_with_len, length-map-range_with_len}
 use Rattle.pp_model.specs.declared.event.Event.{Event}
 use Rattle.pp_model.specs.WorkerParts.{names_worker, part_of}
 use Rattle.pp_report.specs.declared.row.Row.{Row}
-use Rattle.pp_report.specs.Reports.{is_turn_end, turn_of, ending_of, ending_in, row_of, row_line, plan_lines}
+use Rattle.pp_report.specs.Reports.{is_turn_end, turn_of, ending_of, ending_in, row_after, row_of, taker, row_line, plan_lines}
 
 -- An event of others is passed over.
 pub passed_over : (w : ℕ) (e : Event) (es : List Event) → names_worker w e ≡ false
@@ -67,6 +69,46 @@ ends_so w es i d here names goes =
 or_none : (o : Option Row) → option_or o None ≡ o
 or_none None = refl
 or_none (Some r) = refl
+
+-- What is had first of three is the same whichever two are asked first.
+or_first : (a b c : Option Row) → option_or a (option_or b c) ≡ option_or (option_or a b) c
+or_first (Some r) b c = refl
+or_first None b c = refl
+
+-- With the event at this place noted, each plan has its row by what was noted and the events after it.
+one_noted : (k : ℕ) (es : List Event) (i : ℕ) (d event : Event) (was now : Option Row) → i < length es
+    → slice_index_or es i d ≡ event → row_of k es ≡ option_or was (row_of k (drop i es))
+    → now ≡ option_or was (option_and_then (λ worker. row_after k worker (drop (i + 1) es)) (taker k event))
+    → row_of k es ≡ option_or now (row_of k (drop (i + 1) es))
+one_noted k es i d event was now here is so_far noted =
+    let rest = drop (i + 1) es in
+    let first = λ (e : Event). option_and_then (λ worker. row_after k worker rest) (taker k e) in
+    so_far
+    ∙ ap (λ xs. option_or was (row_of k xs)) (drop_more es i d here)
+    ∙ ap (λ e. option_or was (option_or (first e) (row_of k rest))) is
+    ∙ or_first was (first event) (row_of k rest)
+    ∙ ap (λ o. option_or o (row_of k rest)) (sym noted)
+
+-- What stands in a list of this length once as many rows are put in the place of its own.
+pub replaced : (rows new : List (Option Row)) (len : ℕ) → length new ≡ len → take len (new ++ drop (length new) rows) ≡ new
+replaced rows new len whole =
+    ap (λ (n : ℕ). take n (new ++ drop (length new) rows)) (sym whole) ∙ take-append_seam new (drop (length new) rows)
+
+-- So it is of all rows at once.
+pub each_noted : (plans : ℕ) (es : List Event) (i : ℕ) (event : Event) (rows old new now : List (Option Row)) → i < length es
+    → event ≡ slice_index_or es i event → old ≡ rows → now ≡ new → length rows ≡ plans
+    → ((k : ℕ) → k < length old
+    → slice_index_or new k None
+    ≡ option_or (slice_index_or old k None)
+    (option_and_then (λ worker. row_after k worker (drop (i + 1) es)) (taker k event)))
+    → ((k : ℕ) → k < plans → row_of k es ≡ option_or (slice_index_or rows k None) (row_of k (drop i es)))
+    → (k : ℕ) → k < plans → row_of k es ≡ option_or (slice_index_or now k None) (row_of k (drop (i + 1) es))
+each_noted plans es i event rows old new now here is same stands each noted so_far k below =
+    one_noted k es i event event (slice_index_or old k None) (slice_index_or new k None) here (sym is)
+    (so_far k below
+    ∙ ap (λ (xs : List (Option Row)). option_or (slice_index_or xs k None) (row_of k (drop i es))) (sym same))
+    (noted k (omega (arith, below, each, ap length same)))
+    ∙ ap (λ (xs : List (Option Row)). option_or (slice_index_or xs k None) (row_of k (drop (i + 1) es))) (sym stands)
 
 -- Once all events were noted, each plan has its row.
 pub all_noted : (es left : List Event) (plans : ℕ) (rows : List (Option Row)) → length left ≡ 0 → length rows ≡ plans

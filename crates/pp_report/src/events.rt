@@ -5,6 +5,7 @@ ghost use Rattle.std.specs.List.{AllByRecursion};
 ghost use Rattle.pp_model.specs.WorkerParts.{worker_of, names_worker};
 ghost use Rattle.pp_report.specs.Lines.{HasNumbers};
 
+use pp_journal::Journal;
 use pp_model::{Event, Move};
 
 /// The worker that the move names, if any.
@@ -48,20 +49,20 @@ fn has_numbers(_event: Event)
     ensures { HasNumbers _event }
 {}
 
-/// The same of all these events.
-pub(crate) fn have_numbers(events: &[Event])
-    ensures { AllByRecursion HasNumbers events.now }
+/// The same of all events of a journal.
+pub(crate) fn have_numbers(events: &Journal)
+    ensures { AllByRecursion HasNumbers events.now.items }
 {
-    for event in events {
-        has_numbers(*event);
+    for place in 0..events.len() {
+        has_numbers(events.event(place));
     }
 }
 
 /// The same of all events of these journals.
-pub(crate) fn each_has_numbers(journals: &[Vec<Event>])
+pub(crate) fn each_has_numbers(journals: &[Journal])
     ensures { AllByRecursion (AllByRecursion HasNumbers) (map (λ events. events.items) journals.now) }
 {
     for events in journals {
-        have_numbers(events.as_slice());
+        have_numbers(events);
     }
 }

@@ -97,8 +97,9 @@ impl Figure {
             return run.dirty as usize;
         }
         let mut number = 0;
-        for event in &run.events {
-            number += usize::from(self.counts(*event));
+        let events = &run.events;
+        for place in 0..events.len() {
+            number += usize::from(self.counts(events.event(place)));
         }
         number
     }

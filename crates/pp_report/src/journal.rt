@@ -4,6 +4,7 @@ ghost use Rattle.std.specs.Prelude.{◌≡◌, ◌++◌, IfOk, OnOk, string_byte
 ghost use Rattle.pp_report.specs.Lines.{event_words, journal_words};
 
 use crate::line::Line;
+use pp_journal::Journal;
 use pp_model::Event;
 use std::alloc::{AllocError, Global};
 
@@ -18,6 +19,21 @@ pub fn journal_text(alloc: Global, events: &[Event]) -> Result<String, AllocErro
     let mut text = String::new(alloc);
     for event in events {
         push_event(alloc, &mut text, *event)?;
+    }
+    Ok(text)
+}
+
+/// The text of a journal that is packed: the same as [`journal_text`]'s of its events.
+///
+/// # Errors
+///
+/// Only where memory runs out.
+pub fn packed_journal_text(alloc: Global, journal: &Journal) -> Result<String, AllocError>
+    ensures { IfOk result (λ text. string_bytes text ≡ journal_words journal.now.items) }
+{
+    let mut text = String::new(alloc);
+    for place in 0..journal.len() {
+        push_event(alloc, &mut text, journal.event(place))?;
     }
     Ok(text)
 }

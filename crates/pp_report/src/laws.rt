@@ -14,7 +14,7 @@ ghost use Rattle.pp_report.specs.Lines.{journal_words, FitsEvent, Says, Spells};
 ghost use Rattle.pp_report.specs.Lives.{lives_words, lives_lines, AreWholeJournals, IsAuditedLives, HasNoRenewal};
 
 use crate::events::{each_has_numbers, have_numbers};
-use pp_model::Event;
+use pp_journal::Journal;
 
 /// What is written is read: the text of events that may stand in a journal spells them, and no others. What is read is
 /// written again: a text that spells events is their text, or lacks its last line feed.
@@ -36,11 +36,11 @@ pub fn reports_are_complete()
 /// writes of them is their number.
 ///
 /// It is handed the events since a text has no number of more bits than an event has.
-pub fn whole_journals_are_audited(events: &[Event])
-    ensures text { (c : Configuration) (plans : List Acceptance) → IsWhole c plans events.now
-        → IsAudited c plans (journal_words events.now) (length events.now) }
-    ensures verdict { (c : Configuration) (plans : List Acceptance) → IsWhole c plans events.now
-        → auditing c plans (journal_words events.now) ≡ Ok (length events.now) }
+pub fn whole_journals_are_audited(events: &Journal)
+    ensures text { (c : Configuration) (plans : List Acceptance) → IsWhole c plans events.now.items
+        → IsAudited c plans (journal_words events.now.items) (length events.now.items) }
+    ensures verdict { (c : Configuration) (plans : List Acceptance) → IsWhole c plans events.now.items
+        → auditing c plans (journal_words events.now.items) ≡ Ok (length events.now.items) }
 {
     have_numbers(events);
 }
@@ -48,15 +48,15 @@ pub fn whole_journals_are_audited(events: &[Event])
 /// Lives that were gone through to their end are accepted: where these are the journals of whole lives of a pool with some
 /// plans, the verdict of [`audit_lives`](crate::audit_lives) on their text is the number of its lines. The text has behind
 /// each journal but the last the line [`RENEWAL_LINE`](crate::RENEWAL_LINE).
-pub fn whole_lives_are_audited(journals: &[Vec<Event>], last: &[Event])
+pub fn whole_lives_are_audited(journals: &[Journal], last: &Journal)
     ensures text { (c : Configuration) (plans : List Acceptance)
-        → AreWholeJournals c plans (map (λ events. events.items) journals.now) last.now
-        → IsAuditedLives c plans (lives_words (map (λ events. events.items) journals.now) last.now)
-        (length (lives_lines (map (λ events. events.items) journals.now) last.now)) }
+        → AreWholeJournals c plans (map (λ events. events.items) journals.now) last.now.items
+        → IsAuditedLives c plans (lives_words (map (λ events. events.items) journals.now) last.now.items)
+        (length (lives_lines (map (λ events. events.items) journals.now) last.now.items)) }
     ensures verdict { (c : Configuration) (plans : List Acceptance)
-        → AreWholeJournals c plans (map (λ events. events.items) journals.now) last.now
-        → auditing_lives c plans (lives_words (map (λ events. events.items) journals.now) last.now)
-        ≡ Ok (length (lives_lines (map (λ events. events.items) journals.now) last.now)) }
+        → AreWholeJournals c plans (map (λ events. events.items) journals.now) last.now.items
+        → auditing_lives c plans (lives_words (map (λ events. events.items) journals.now) last.now.items)
+        ≡ Ok (length (lives_lines (map (λ events. events.items) journals.now) last.now.items)) }
 {
     each_has_numbers(journals);
     have_numbers(last);

@@ -6,9 +6,10 @@ pub use auditor::{Auditor, RENEWAL_LINE, first_line, line_in};
 pub use error::{AuditError, Next};
 pub use events::{is_same_event, names_worker, worker_of};
 pub use figure::{FIGURES, Figure};
-pub use journal::journal_text;
+pub use journal::{journal_text, packed_journal_text};
 pub use line::{Asked, Line, Told};
 pub use lives::audit_lives;
+pub use pp_journal::Journal;
 pub use record::RunRecord;
 pub use reporting::report;
 

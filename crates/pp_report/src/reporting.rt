@@ -25,7 +25,7 @@ pub fn report(alloc: Global, run: &RunRecord) -> Result<String, AllocError>
     ensures text { IfOk result (λ text. string_bytes text ≡ report_text run.now) }
     ensures plans { IfOk result (λ text. TellsEachPlan run.now (string_bytes text)) }
 {
-    let rows = rows(alloc, run.plans, run.events.as_slice())?;
+    let rows = rows(alloc, run.plans, &run.events)?;
     let mut text = String::from_str(alloc, " plan worker    steps     hits    loads  outcome\n")?;
     push_rows(alloc, &mut text, rows.as_slice())?;
     push_figures(alloc, &mut text, run, &FIGURES)?;

@@ -1,6 +1,6 @@
 //! The turns of workers at plans.
 
-ghost use Rattle.std.specs.Prelude.{◌≡◌, ℕ, ◌<◌, None, IfOk, EachIndex, length, map, slice_index_or};
+ghost use Rattle.std.specs.Prelude.{◌≡◌, ℕ, ◌<◌, None, IfOk, EachIndex, length, drop, map, slice_index_or};
 ghost use Rattle.std.specs.Prelude.{option_and_then};
 ghost use Rattle.std.specs.List.{range_with_len};
 ghost use Rattle.std.specs.Option.{option_or};
@@ -9,6 +9,7 @@ ghost use Rattle.pp_report.specs.Reports.{is_step, is_turn_end, taker, ending_in
 use crate::events::names_worker;
 use crate::figure::Figure;
 use crate::row::Row;
+use pp_journal::Journal;
 use pp_model::{Ending, Event, Move, Reply};
 use std::alloc::{AllocError, Global};
 
@@ -55,17 +56,18 @@ fn ending_in(event: Event) -> Option<Ending>
     }
 }
 
-/// The row of the plan that the worker takes before these events, if its turn ends.
-fn row_after(plan: u32, worker: u32, after: &[Event]) -> Option<Row>
-    ensures { result ≡ row_after plan worker after.now }
+/// The row of the plan that the worker takes before the events from this place on, if its turn ends.
+fn row_after(plan: u32, worker: u32, events: &Journal, from: usize) -> Option<Row>
+    ensures { result ≡ row_after plan worker (drop from events.now.items) }
 {
     let (mut steps, mut hits, mut loads) = (0, 0, 0);
-    for event in after {
-        if !names_worker(worker, *event) {
+    for place in from..events.len() {
+        let event = events.event(place);
+        if !names_worker(worker, event) {
             continue;
         }
-        if is_turn_end(*event) {
-            let ending = ending_in(*event)?;
+        if is_turn_end(event) {
+            let ending = ending_in(event)?;
             return Some(Row {
                 plan,
                 worker,
@@ -75,19 +77,20 @@ fn row_after(plan: u32, worker: u32, after: &[Event]) -> Option<Row>
                 ending,
             });
         }
-        steps += usize::from(is_step(*event));
-        hits += usize::from(Figure::Hits.counts(*event));
-        loads += usize::from(Figure::Loads.counts(*event));
+        steps += usize::from(is_step(event));
+        hits += usize::from(Figure::Hits.counts(event));
+        loads += usize::from(Figure::Loads.counts(event));
     }
     None
 }
 
-/// Where the event is the take of a plan that has no row yet, puts the plan's row in its place.
-fn note(rows: &mut [Option<Row>], event: Event, after: &[Event])
+/// Where the event is the take of a plan that has no row yet, puts the plan's row in its place. The events after it are those
+/// from this place on.
+fn note(rows: &mut [Option<Row>], event: Event, events: &Journal, after: usize)
     ensures same_len { length rows.new ≡ length rows.old }
     ensures noted { EachIndex rows.old (λ k. slice_index_or rows.new k None
         ≡ option_or (slice_index_or rows.old k None)
-        (option_and_then (λ worker. row_after k worker after.now) (taker k event))) }
+        (option_and_then (λ worker. row_after k worker (drop after events.now.items)) (taker k event))) }
 {
     let Event::Step {
         did: Move::Take { worker },
@@ -98,7 +101,7 @@ fn note(rows: &mut [Option<Row>], event: Event, after: &[Event])
     };
     let place = plan as usize;
     if place < rows.len() && rows[place].is_none() {
-        rows[place] = row_after(plan, worker, after);
+        rows[place] = row_after(plan, worker, events, after);
     }
 }
 
@@ -106,15 +109,13 @@ fn note(rows: &mut [Option<Row>], event: Event, after: &[Event])
 pub(crate) fn rows(
     alloc: Global,
     plans: u16,
-    events: &[Event],
+    events: &Journal,
 ) -> Result<Vec<Option<Row>>, AllocError>
-    ensures { IfOk result (λ rows. rows.items ≡ map (λ k. row_of k events.now) (range_with_len 0 plans)) }
+    ensures { IfOk result (λ rows. rows.items ≡ map (λ k. row_of k events.now.items) (range_with_len 0 plans)) }
 {
     let mut rows = vec![in alloc; None; usize::from(plans)]?;
-    let mut left = events;
-    while let Some((event, after)) = left.split_first() {
-        note(&mut rows, *event, after);
-        left = after;
+    for place in 0..events.len() {
+        note(&mut rows, events.event(place), events, place + 1);
     }
     Ok(rows)
 }

@@ -10,7 +10,7 @@ use Rattle.pp_run.specs.declared.stop.Stop.TheVariants.{Ended, NoMemory, Broken}
 use Rattle.pp_run.specs.declared.stop.Worked.{Worked}
 use Rattle.pp_run.specs.declared.stop.Flushed.{Flushed}
 use Rattle.pp_run.specs.Calling.{calls_in, failed_calls_in, ended_flushes_in, failed_flushes_in}
-use Rattle.pp_run.specs.Ends.{CountsBy, FlushesBy, Unless, WorkedFrom, FlushedFrom, AllWorkedFrom, SettledAt, Settled, FlushSettled}
+use Rattle.pp_run.specs.Ends.{CountsBy, FlushesBy, Unless, WorkedFrom, FlushedFrom, AllWorkedFrom, SettledAt, Settled, FlushSettled, GivesBack}
 use Rattle.pp_run.specs.Runs.{HasCalled, AllCalled}
 
 opened : (s : Stop) (fact : Type 0) → Unless s fact → s ≢ Broken → fact
@@ -29,7 +29,7 @@ has_called calls failures device x events w back ends settled =
       failed = omega (arith, counts.failed, ap failures settled.back, ap failed_calls_in settled.log);
     }
 
-pub flusher_called : {D : Type 0} (calls failures : D → ℕ) (device : D) (f : Flushed D) (events : List Event)
+flusher_called : {D : Type 0} (calls failures : D → ℕ) (device : D) (f : Flushed D) (events : List Event)
     → FlushedFrom calls failures device f → FlushSettled f events
     → HasCalled calls failures device (ended_flushes_in events) (failed_flushes_in events) f.device
 flusher_called calls failures device f events ends settled =
@@ -57,7 +57,7 @@ each_called calls failures devices (x ∷ xs) events back ends settled w d e low
     at_end calls failures devices (x ∷ xs) events back ends settled x w d e low
 
 -- All ends: those of the workers, and that of the flusher behind them.
-pub all_called : {D : Type 0} (calls failures : D → ℕ) (workers : ℕ) (devices : List D) (last : D) (worked : List (Worked D))
+all_called : {D : Type 0} (calls failures : D → ℕ) (workers : ℕ) (devices : List D) (last : D) (worked : List (Worked D))
     (f : Flushed D) (events : List Event) (back all given : List D) → length devices ≡ workers
     → AllWorkedFrom calls failures devices worked → FlushedFrom calls failures last f
     → Settled worked events back → FlushSettled f events
@@ -91,3 +91,11 @@ all_called calls failures workers devices last worked f events back all given lo
             failed = ap failures new ∙ (here.failed ∙ ap (λ n. failures n + failed_flushes_in events) (sym old));
           };
     }
+
+pub gives_called : {D : Type 0} (calls failures : D → ℕ) (workers : ℕ) (front : List D) (last : D) (worked : List (Worked D))
+    (f : Flushed D) (events : List Event) (all given : List D) → length front ≡ workers
+    → AllWorkedFrom calls failures front worked → FlushedFrom calls failures last f → GivesBack worked f events all
+    → given ≡ front ++ last ∷ [] → AllCalled calls failures workers given events all
+gives_called calls failures workers front last worked f events all given long ends ending gives is =
+    all_called calls failures workers front last worked f events gives.back all given long ends ending gives.workers
+    gives.flusher is gives.all_are

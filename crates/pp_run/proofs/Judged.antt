@@ -1,53 +1,52 @@
 -- A run answers the verdict on what its threads gave back.
-use Rattle.std.proofs.Common.{◌≡◌, ◌∙◌, ℕ, ◌+◌, ◌≤◌, true, List, [], ◌∷◌, ◌++◌, length, take, drop, get_or, sym, ap, subst, inl, inr, arith}
+use Rattle.std.proofs.Common.{◌≡◌, ◌≢◌, ◌∙◌, ℕ, ◌+◌, ◌≤◌, true, List, [], ◌∷◌, ◌++◌, length, take, drop, get_or, sym, ap, subst, inl, inr, arith}
 use Rattle.std.specs.Prelude.{◌⊎◌, is_none, IsOk}
 use Rattle.std.specs.List.{list_all}
 use Rattle.std.proofs.lemmas.List.{take_all, take-append-le}
 use Rattle.std.proofs.Math.Seq.{get_or-append_seam}
 use Rattle.pp_cert.specs.Accepted.{Acceptance}
 use Rattle.pp_model.specs.declared.event.Event.{Event}
-use Rattle.pp_model.specs.Pool.{State, Settings, opening, dirty_pages}
-use Rattle.pp_model.specs.Journals.{IsTrueFrom, replay}
+use Rattle.pp_model.specs.Pool.{State, dirty_pages}
+use Rattle.pp_model.specs.Journals.{replay}
 use Rattle.pp_model.specs.Submitting.{after_submits}
 use Rattle.pp_model.specs.Turns.{next_turn}
-use Rattle.pp_outset.specs.Outsets.{new_outset}
 use Rattle.pp_pool.specs.Parts.{Parts, settings_of, plans_of, opening_of, state_of}
 use Rattle.pp_pool.specs.Books.{IsBook}
 use Rattle.pp_report.specs.Reports.{is_move}
-use Rattle.pp_run.proofs.Ran.{opened_new}
+use Rattle.pp_run.proofs.Ran.{same_end, all_submitted, true_from}
 use Rattle.pp_run.specs.declared.error.RunError.{RunError}
 use Rattle.pp_run.specs.declared.error.RunError.TheVariants.{Refused, OutOfMemory, Mismatch, Broken, NoThread}
 use Rattle.pp_run.specs.declared.judging.Left.{Left}
 use Rattle.pp_run.specs.declared.stop.Flushed.{Flushed}
 use Rattle.pp_run.specs.declared.stop.Worked.{Worked}
 use Rattle.pp_run.specs.Ends.{AllSound, AllWorkedFrom, FlushedFrom, IsUnstarted}
-use Rattle.pp_run.specs.Joins.{IsJoined, IsAnswer}
-use Rattle.pp_run.specs.Runs.{submits, IsNotTakenIn, IsRunError}
+use Rattle.pp_run.specs.Joins.{IsJoinedFrom, IsAnswerFrom}
+use Rattle.pp_run.specs.Runs.{submits, IsRunErrorFrom}
 use Rattle.pp_run.specs.Calling.{begun_flushes_in}
 use Rattle.pp_run.specs.Verdicts.{IsFirstBroken, IsFirstMismatch, IsMiscounted, IsSound, IsUnlike, IsUnsettled, IsVerdict}
 
--- What the threads gave back, where the book has these settings and plans.
-joined_of : {D : Type 0} (calls failures : D → ℕ) (b : Parts) (front : List D) (last : D) (devices : List D)
-    (worked : List (Worked D)) (f : Flushed D) (left : Left) → IsBook b → opening_of b ≡ opening (settings_of b)
-    → take (length (plans_of b)) b.journal ≡ submits 0 (length (plans_of b))
-    → list_all is_move (drop (length (plans_of b)) b.journal) ≡ true
-    → length front ≡ (settings_of b).workers → devices ≡ front ++ last ∷ []
+-- What the threads gave back, beside a book that began its life in this state with these plans.
+pub joined : {D : Type 0} (calls failures : D → ℕ) (o : State) (plans : List Acceptance) (b : Parts) (front : List D)
+    (last : D) (devices : List D) (worked : List (Worked D)) (f : Flushed D) (left : Left) → IsBook b → opening_of b ≡ o
+    → plans_of b ≡ plans → take (length plans) b.journal ≡ submits 0 (length plans)
+    → list_all is_move (drop (length plans) b.journal) ≡ true
+    → length front ≡ o.settings.workers → devices ≡ front ++ last ∷ []
     → AllWorkedFrom calls failures front worked → FlushedFrom calls failures last f
     → left.over ≡ is_none (next_turn (state_of b)) → left.dirty ≡ dirty_pages (state_of b)
     → left.flushes ≡ (settings_of b).flushes
-    → IsJoined calls failures (settings_of b) (plans_of b) devices worked f b.journal left
-joined_of calls failures b front last devices worked f left book new first moves long given ends ending over dirty flushes =
-    let workers = (settings_of b).workers in
-    let at : (P : State → Type 0) → P (state_of b) → P (replay (plans_of b) (opening (settings_of b)) b.journal)
-    = λ P h. subst (λ o. P (replay (plans_of b) o b.journal)) new h in
+    → IsJoinedFrom calls failures o plans devices worked f b.journal left
+joined calls failures o plans b front last devices worked f left book opened planned first moves long given ends ending over dirty flushes =
+    let workers = o.settings.workers in
+    let at : (P : State → Type 0) → P (state_of b) → P (replay plans o b.journal)
+    = λ P h. subst P (same_end o plans b opened planned) h in
     let fronts : take workers devices ≡ front
     = ap (take workers) given ∙ (take-append-le workers front (last ∷ []) (omega (arith, long))
     ∙ take_all workers front (omega (arith, long))) in
     record {
-      is_true = subst (λ o. IsTrueFrom (plans_of b) o b.journal) new book.is_true;
+      is_true = true_from o plans b opened planned book;
       submits_first = first;
       then_moves = moves;
-      submitted = at (λ s. s.plans ≡ plans_of b) (sym book.stands.core.plans);
+      submitted = all_submitted o plans b opened planned book;
       count = ends.0 ∙ long;
       workers = subst (λ ds. AllWorkedFrom calls failures ds worked) (sym fronts) ends;
       flusher = λ d.
@@ -55,66 +54,40 @@ joined_of calls failures b front last devices worked f left book new first moves
           ∙ (ap (λ n. get_or (front ++ last ∷ []) n d) (sym long) ∙ get_or-append_seam front last [] d))) ending;
       over = at (λ s. left.over ≡ is_none (next_turn s)) over;
       dirty = at (λ s. left.dirty ≡ dirty_pages s) dirty;
-      flushes = flushes;
+      flushes = flushes ∙ ap (λ s. s.settings.flushes) opened;
     }
 
-pub joined : {D : Type 0} (calls failures : D → ℕ) (k : Settings) (plans : List Acceptance) (b : Parts) (front : List D)
-    (last : D) (devices : List D) (worked : List (Worked D)) (f : Flushed D) (events : List Event) (left : Left)
-    → settings_of b ≡ k → plans_of b ≡ plans → b.began ≡ new_outset k → b.journal ≡ events → IsBook b
-    → take (length plans) b.journal ≡ submits 0 (length plans)
-    → list_all is_move (drop (length plans) b.journal) ≡ true
-    → length front ≡ k.workers → devices ≡ front ++ last ∷ []
-    → AllWorkedFrom calls failures front worked → FlushedFrom calls failures last f
-    → left.over ≡ is_none (next_turn (state_of b)) → left.dirty ≡ dirty_pages (state_of b) → left.flushes ≡ k.flushes
-    → IsJoined calls failures k plans devices worked f events left
-joined calls failures k plans b front last devices worked f events left of_settings of_plans began journal book first moves long given ends ending over dirty flushes =
-    subst (λ es. IsJoined calls failures k plans devices worked f es left) journal
-    (subst (λ j. IsJoined calls failures j plans devices worked f b.journal left) of_settings
-    (subst (λ ps. IsJoined calls failures (settings_of b) ps devices worked f b.journal left) of_plans
-    (joined_of calls failures b front last devices worked f left book (opened_new k b of_settings began)
-    (subst (λ ps. take (length ps) b.journal ≡ submits 0 (length ps)) (sym of_plans) first)
-    (subst (λ ps. list_all is_move (drop (length ps) b.journal) ≡ true) (sym of_plans) moves)
-    (long ∙ ap (λ j. j.workers) (sym of_settings)) given ends ending over dirty
-    (flushes ∙ ap (λ j. j.flushes) (sym of_settings)))))
-
-pub judged : {D : Type 0} (calls failures : D → ℕ) (k : Settings) (plans : List Acceptance) (devices : List D)
+pub judged : {D : Type 0} (calls failures : D → ℕ) (o : State) (plans : List Acceptance) (devices : List D)
     (worked : List (Worked D)) (f : Flushed D) (events : List Event) (left : Left) (error : RunError)
-    → IsJoined calls failures k plans devices worked f events left → IsVerdict worked f events left error
-    → IsAnswer calls failures k plans devices error
-judged calls failures k plans devices worked f events left (Refused error) joined verdict = tt
-judged calls failures k plans devices worked f events left OutOfMemory joined verdict = tt
-judged calls failures k plans devices worked f events left (NoThread w) joined verdict = tt
-judged calls failures k plans devices worked f events left (Mismatch w) joined verdict =
-    record { worked = worked; flushed = f; events = events; left = left; joined = joined; verdict = verdict }
-judged calls failures k plans devices worked f events left (Broken w) joined verdict =
-    record { worked = worked; flushed = f; events = events; left = left; joined = joined; verdict = verdict }
+    → IsJoinedFrom calls failures o plans devices worked f events left
+    → (error ≢ OutOfMemory → IsVerdict worked f events left error)
+    → IsAnswerFrom calls failures o plans devices error
+judged calls failures o plans devices worked f events left (Refused error) joined verdict = tt
+judged calls failures o plans devices worked f events left OutOfMemory joined verdict = tt
+judged calls failures o plans devices worked f events left (NoThread w) joined verdict = tt
+judged calls failures o plans devices worked f events left (Mismatch w) joined verdict =
+    record { worked = worked; flushed = f; events = events; left = left; joined = joined; verdict = verdict (λ e. cc) }
+judged calls failures o plans devices worked f events left (Broken w) joined verdict =
+    record { worked = worked; flushed = f; events = events; left = left; joined = joined; verdict = verdict (λ e. cc) }
 
 -- Before the threads are joined.
-pub unopened : {D : Type 0} (calls failures : D → ℕ) (k : Settings) (plans : List Acceptance) (devices : List D) (s : State)
-    (error : RunError) → IsNotTakenIn s plans error → IsAnswer calls failures k plans devices error
-unopened calls failures k plans devices s (Refused error) h = tt
-unopened calls failures k plans devices s OutOfMemory h = tt
-unopened calls failures k plans devices s (NoThread w) h = absurd h
-unopened calls failures k plans devices s (Mismatch w) h = absurd h
-unopened calls failures k plans devices s (Broken w) h = absurd h
-
-pub unstarted : {D : Type 0} (calls failures : D → ℕ) (k : Settings) (plans : List Acceptance) (devices : List D) (threads : ℕ)
-    (error : RunError) → IsUnstarted threads error → IsAnswer calls failures k plans devices error
-unstarted calls failures k plans devices threads (Refused error) h = absurd h
-unstarted calls failures k plans devices threads OutOfMemory h = tt
-unstarted calls failures k plans devices threads (NoThread w) h = tt
-unstarted calls failures k plans devices threads (Mismatch w) h = absurd h
-unstarted calls failures k plans devices threads (Broken w) h = absurd h
+pub unstarted : {D : Type 0} (calls failures : D → ℕ) (o : State) (plans : List Acceptance) (devices : List D) (threads : ℕ)
+    (error : RunError) → IsUnstarted threads error → IsAnswerFrom calls failures o plans devices error
+unstarted calls failures o plans devices threads (Refused error) h = absurd h
+unstarted calls failures o plans devices threads OutOfMemory h = tt
+unstarted calls failures o plans devices threads (NoThread w) h = tt
+unstarted calls failures o plans devices threads (Mismatch w) h = absurd h
+unstarted calls failures o plans devices threads (Broken w) h = absurd h
 
 -- A thread that isn't started is one of the run.
-pub unstarted_run : (k : Settings) (plans : List Acceptance) (threads : ℕ) (error : RunError)
-    → IsOk (after_submits (opening k) plans) → threads ≤ k.workers + 1 → IsUnstarted threads error
-    → IsRunError k plans error
-unstarted_run k plans threads (Refused error) taken few h = absurd h
-unstarted_run k plans threads OutOfMemory taken few h = tt
-unstarted_run k plans threads (NoThread w) taken few h = record { taken = taken; within = omega (arith, few, h) }
-unstarted_run k plans threads (Mismatch w) taken few h = absurd h
-unstarted_run k plans threads (Broken w) taken few h = absurd h
+pub unstarted_run : (o : State) (plans : List Acceptance) (threads : ℕ) (error : RunError)
+    → IsOk (after_submits o plans) → threads ≤ o.settings.workers + 1 → IsUnstarted threads error
+    → IsRunErrorFrom o plans error
+unstarted_run o plans threads (Refused error) taken few h = absurd h
+unstarted_run o plans threads OutOfMemory taken few h = tt
+unstarted_run o plans threads (NoThread w) taken few h = record { taken = taken; within = omega (arith, few, h) }
+unstarted_run o plans threads (Mismatch w) taken few h = absurd h
+unstarted_run o plans threads (Broken w) taken few h = absurd h
 
 -- What is wrong with the logs of a run that is sound is the verdict.
 pub unlike_verdict : {D : Type 0} (worked : List (Worked D)) (f : Flushed D) (events : List Event) (left : Left)
@@ -137,13 +110,14 @@ mismatch_within : {D : Type 0} (worked : List (Worked D)) (events : List Event) 
 mismatch_within worked events w B (inl first) = let b = first.within in omega (arith, b)
 mismatch_within worked events w B (inr last) = let e = last.0 in omega (arith, e)
 
-pub names_thread : {D : Type 0} (k : Settings) (plans : List Acceptance) (worked : List (Worked D)) (f : Flushed D)
-    (events : List Event) (left : Left) (error : RunError) → IsOk (after_submits (opening k) plans)
-    → length worked ≡ k.workers → IsVerdict worked f events left error → IsRunError k plans error
-names_thread k plans worked f events left (Refused error) taken long h = absurd h
-names_thread k plans worked f events left OutOfMemory taken long h = tt
-names_thread k plans worked f events left (NoThread w) taken long h = absurd h
-names_thread k plans worked f events left (Mismatch w) taken long h =
-    let low = mismatch_within worked events w (IsMiscounted worked f events) h.1 in record { taken = taken; within = omega (arith, low, long) }
-names_thread k plans worked f events left (Broken w) taken long h =
-    let low = broken_within worked w (AllSound worked) (IsUnsettled f left (begun_flushes_in events)) h.1 in record { taken = taken; within = omega (arith, low, long) }
+pub names_thread : {D : Type 0} (o : State) (plans : List Acceptance) (worked : List (Worked D)) (f : Flushed D)
+    (events : List Event) (left : Left) (error : RunError) → IsOk (after_submits o plans)
+    → length worked ≡ o.settings.workers → (error ≢ OutOfMemory → IsVerdict worked f events left error)
+    → IsRunErrorFrom o plans error
+names_thread o plans worked f events left (Refused error) taken long h = absurd (h (λ e. cc))
+names_thread o plans worked f events left OutOfMemory taken long h = tt
+names_thread o plans worked f events left (NoThread w) taken long h = absurd (h (λ e. cc))
+names_thread o plans worked f events left (Mismatch w) taken long h =
+    let low = mismatch_within worked events w (IsMiscounted worked f events) (h (λ e. cc)).1 in record { taken = taken; within = omega (arith, low, long) }
+names_thread o plans worked f events left (Broken w) taken long h =
+    let low = broken_within worked w (AllSound worked) (IsUnsettled f left (begun_flushes_in events)) (h (λ e. cc)).1 in record { taken = taken; within = omega (arith, low, long) }

@@ -12,3 +12,7 @@ pub mod Taken
 pub mod Begun
 pub mod Judged
 pub mod Tried
+pub mod Places
+pub mod Lived
+pub mod Rests
+pub mod RunsOn

@@ -1,79 +1,99 @@
 -- A book that is over leaves a run.
-use Rattle.std.proofs.Common.{◌≡◌, ◌<◌, true, Option, None, Some, List, length, take, drop, refl, sym, subst, ap, ◌∙◌}
+use Rattle.std.proofs.Common.{◌≡◌, ◌∙◌, ℕ, ◌<◌, true, Option, None, Some, List, length, take, drop, refl, sym, subst, ap}
 use Rattle.std.specs.Prelude.{is_none}
 use Rattle.std.specs.List.{list_all}
 use Rattle.pp_cert.specs.Accepted.{Acceptance}
-use Rattle.pp_model.specs.Pool.{Settings, opening, dirty_pages}
+use Rattle.pp_model.specs.Pool.{State, Settings, opening, dirty_pages}
 use Rattle.pp_model.specs.Journals.{IsTrueFrom, replay}
 use Rattle.pp_model.specs.Turns.{next_turn, IsUnderWay}
-use Rattle.pp_outset.specs.Outsets.{new_outset, opens_with}
+use Rattle.pp_outset.specs.Outsets.{Outset, new_outset, opens_with}
 use Rattle.pp_pool.specs.Parts.{Parts, settings_of, plans_of, opening_of, state_of}
 use Rattle.pp_pool.specs.Books.{IsBook}
 use Rattle.pp_settings.specs.Settings.{Configuration}
 use Rattle.pp_core.specs.Opening.{kept_of}
 use Rattle.pp_report.specs.declared.record.RunRecord.{RunRecord}
-use Rattle.pp_report.specs.Audits.{IsWhole}
+use Rattle.pp_report.specs.Audits.{IsOver, IsWhole}
 use Rattle.pp_report.specs.Reports.{is_move}
 use Rattle.pp_run.specs.Calling.{begun_flushes_in}
-use Rattle.pp_run.specs.Runs.{end_of, submits, IsRun}
+use Rattle.pp_run.specs.Rested.{Rested, IsEnd}
+use Rattle.pp_run.specs.Rested as rested
+use Rattle.pp_run.specs.Runs.{submits, IsRunFrom}
+use Rattle.pp_run.specs.declared.judging.Left.{Left}
 
--- The life of a book that began with a new pool's outset began in the opening state of its settings.
-pub opened_new : (k : Settings) (b : Parts) → settings_of b ≡ k → b.began ≡ new_outset k
-    → opening_of b ≡ opening (settings_of b)
-opened_new k b of_settings began = ap (opens_with (settings_of b)) (began ∙ ap new_outset (sym of_settings))
+-- The life of a pool with a new pool's outset begins in the opening state of its settings.
+pub opened_new : (k : Settings) (p : Rested) → p.settings ≡ k → p.began ≡ new_outset k → rested.opening_of p ≡ opening k
+opened_new k p of_settings began = ap (opens_with p.settings) began ∙ ap (λ j. opens_with j (new_outset k)) of_settings
 
-left_run : (b : Parts) (r : RunRecord) → IsBook b → opening_of b ≡ opening (settings_of b) → (IsUnderWay (state_of b) → ⊥) → b.journal ≡ r.events.items
-    → take (length (plans_of b)) b.journal ≡ submits 0 (length (plans_of b))
-    → list_all is_move (drop (length (plans_of b)) b.journal) ≡ true
-    → r.plans ≡ length (plans_of b) → r.dirty ≡ dirty_pages (state_of b)
-    → (0 < r.dirty → begun_flushes_in r.events.items ≡ (settings_of b).flushes) → IsRun (settings_of b) (plans_of b) r
-left_run b r book new over journal first moves count dirty flushed =
-    let same : state_of b ≡ end_of (settings_of b) (plans_of b) r.events.items
-    = ap (λ o. replay (plans_of b) o b.journal) new
-    ∙ ap (λ es. replay (plans_of b) (opening (settings_of b)) es) journal in
+-- What a book is replayed to, from the state and with the plans that are named.
+pub same_end : (o : State) (plans : List Acceptance) (b : Parts) → opening_of b ≡ o → plans_of b ≡ plans
+    → state_of b ≡ replay plans o b.journal
+same_end o plans b opened planned =
+    ap (λ s. replay (plans_of b) s b.journal) opened ∙ ap (λ ps. replay ps o b.journal) planned
+
+pub true_from : (o : State) (plans : List Acceptance) (b : Parts) → opening_of b ≡ o → plans_of b ≡ plans → IsBook b
+    → IsTrueFrom plans o b.journal
+true_from o plans b opened planned book =
+    subst (λ ps. IsTrueFrom ps o b.journal) planned
+    (subst (λ s. IsTrueFrom (plans_of b) s b.journal) opened book.is_true)
+
+pub all_submitted : (o : State) (plans : List Acceptance) (b : Parts) → opening_of b ≡ o → plans_of b ≡ plans → IsBook b
+    → (replay plans o b.journal).plans ≡ plans
+all_submitted o plans b opened planned book =
+    ap (λ s. s.plans) (sym (same_end o plans b opened planned)) ∙ (sym book.stands.core.plans ∙ planned)
+
+pub ran : (o : State) (plans : List Acceptance) (b : Parts) (dirty : ℕ) (r : RunRecord) → IsEnd o plans b dirty → IsBook b
+    → r.events.items ≡ b.journal → r.plans ≡ length plans → r.dirty ≡ dirty → IsRunFrom o plans r
+ran o plans b dirty r end book journal count dirt =
+    let same = same_end o plans b end.opened end.planned in
     record {
-      is_true = subst (λ es. IsTrueFrom (plans_of b) (opening (settings_of b)) es) journal
-          (subst (λ o. IsTrueFrom (plans_of b) o b.journal) new book.is_true);
-      submits_first = ap (take (length (plans_of b))) (sym journal) ∙ first;
-      then_moves = ap (λ es. list_all is_move (drop (length (plans_of b)) es)) (sym journal) ∙ moves;
-      submitted = ap (λ s. s.plans) (sym same) ∙ sym book.stands.core.plans;
-      over = subst (λ s. IsUnderWay s → ⊥) same over;
+      is_true = subst (λ es. IsTrueFrom plans o es) (sym journal) (true_from o plans b end.opened end.planned book);
+      submits_first = ap (take (length plans)) journal ∙ end.submits_first;
+      then_moves = ap (λ es. list_all is_move (drop (length plans) es)) journal ∙ end.then_moves;
+      submitted = ap (λ es. (replay plans o es).plans) journal ∙ all_submitted o plans b end.opened end.planned book;
+      over = subst (λ s. IsUnderWay s → ⊥) (same ∙ ap (replay plans o) (sym journal)) end.over;
       count = count;
-      dirty = dirty ∙ ap dirty_pages same;
-      flushed = flushed;
+      dirty = dirt ∙ (end.newer ∙ ap dirty_pages (same ∙ ap (replay plans o) (sym journal)));
+      flushed = λ some. ap begun_flushes_in journal ∙ end.flushed (subst (λ d. 0 < d) dirt some);
     }
 
-pub ran : (k : Settings) (plans : List Acceptance) (b : Parts) (r : RunRecord) → settings_of b ≡ k → plans_of b ≡ plans
-    → b.began ≡ new_outset k → IsBook b → (IsUnderWay (state_of b) → ⊥) → b.journal ≡ r.events.items
-    → take (length plans) b.journal ≡ submits 0 (length plans)
-    → list_all is_move (drop (length plans) b.journal) ≡ true → r.plans ≡ length plans
-    → r.dirty ≡ dirty_pages (state_of b) → (0 < r.dirty → begun_flushes_in r.events.items ≡ k.flushes) → IsRun k plans r
-ran k plans b r of_settings of_plans began book over journal first moves count dirty flushed =
-    subst (λ j. IsRun j plans r) of_settings (subst (λ ps. IsRun (settings_of b) ps r) of_plans
-    (left_run b r book (opened_new k b of_settings began) over journal
-    (subst (λ ps. take (length ps) b.journal ≡ submits 0 (length ps)) (sym of_plans) first)
-    (subst (λ ps. list_all is_move (drop (length ps) b.journal) ≡ true) (sym of_plans) moves) (count ∙ ap length (sym of_plans)) dirty
-    (λ some. flushed some ∙ ap (λ j. j.flushes) (sym of_settings))))
+-- Its plans are all submitted and ended.
+pub ran_over : (o : State) (plans : List Acceptance) (b : Parts) (dirty : ℕ) → IsEnd o plans b dirty → IsBook b
+    → IsOver plans (replay plans o b.journal)
+ran_over o plans b dirty end book = record {
+  submitted = all_submitted o plans b end.opened end.planned book;
+  ended = ap next_turn (sym (same_end o plans b end.opened end.planned)) ∙ end.ended;
+}
 
-none : {A : Type 0} (o : Option A) → is_none o ≡ true → o ≡ None
+-- Of a new pool its journal is whole.
+pub ran_whole : (c : Configuration) (plans : List Acceptance) (b : Parts) (dirty : ℕ) → IsEnd (opening (kept_of c)) plans b dirty
+    → IsBook b → IsWhole c plans b.journal
+ran_whole c plans b dirty end book = record {
+  is_true = true_from (opening (kept_of c)) plans b end.opened end.planned book;
+  over = ran_over (opening (kept_of c)) plans b dirty end book;
+}
+
+pub none : {A : Type 0} (o : Option A) → is_none o ≡ true → o ≡ None
 none None h = refl
 none (Some x) h = absurd cc
 
--- Its journal is whole.
-pub left_whole : (c : Configuration) (plans : List Acceptance) (b : Parts) → settings_of b ≡ kept_of c
-    → plans_of b ≡ plans → b.began ≡ new_outset (kept_of c) → IsBook b → is_none (next_turn (state_of b)) ≡ true
-    → IsWhole c plans b.journal
-left_whole c plans b of_settings of_plans began book ended =
-    let new = opened_new (kept_of c) b of_settings began in
-    let same : state_of b ≡ replay plans (opening (kept_of c)) b.journal
-    = ap (λ o. replay (plans_of b) o b.journal) new ∙ ap (λ k. replay (plans_of b) (opening k) b.journal) of_settings
-    ∙ ap (λ ps. replay ps (opening (kept_of c)) b.journal) of_plans in
-    record {
-      is_true = subst (λ ps. IsTrueFrom ps (opening (kept_of c)) b.journal) of_plans
-          (subst (λ k. IsTrueFrom (plans_of b) (opening k) b.journal) of_settings
-          (subst (λ o. IsTrueFrom (plans_of b) o b.journal) new book.is_true));
-      over = record {
-        submitted = ap (λ s. s.plans) (sym same) ∙ (sym book.stands.core.plans ∙ of_plans);
-        ended = none (next_turn (replay plans (opening (kept_of c)) b.journal)) (ap (λ s. is_none (next_turn s)) (sym same) ∙ ended);
-      };
-    }
+-- A book whose threads are joined is at its end.
+pub ended : (o : State) (plans : List Acceptance) (b : Parts) (left : Left) → opening_of b ≡ o → plans_of b ≡ plans
+    → take (length plans) b.journal ≡ submits 0 (length plans)
+    → list_all is_move (drop (length plans) b.journal) ≡ true → left.over ≡ true
+    → left.over ≡ is_none (next_turn (state_of b)) → (left.over ≡ true → IsUnderWay (state_of b) → ⊥)
+    → left.dirty ≡ dirty_pages (state_of b) → left.flushes ≡ (settings_of b).flushes
+    → (0 < left.dirty → begun_flushes_in b.journal ≡ left.flushes) → IsEnd o plans b left.dirty
+ended o plans b left opened planned first moves over is under dirty flushes flushed = record {
+  opened = opened;
+  planned = planned;
+  submits_first = first;
+  then_moves = moves;
+  ended = none (next_turn (state_of b)) (sym is ∙ over);
+  over = under over;
+  newer = dirty;
+  flushed = λ some. flushed some ∙ (flushes ∙ ap (λ s. s.settings.flushes) opened);
+}
+
+-- The opening state of a book's life, by its settings and its outset.
+pub opened_as : (k : Settings) (o : Outset) (b : Parts) → settings_of b ≡ k → b.began ≡ o → opening_of b ≡ opens_with k o
+opened_as k o b of_settings began = ap (λ x. opens_with x b.began) of_settings ∙ ap (opens_with k) began

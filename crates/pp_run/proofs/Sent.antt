@@ -7,7 +7,6 @@ use Rattle.std.proofs.Crossing.{crosses}
 use Rattle.std.proofs.MapsCrossing.{crosses as maps}
 use Rattle.pp_model.specs.contracts.moves.Move.{the_row as move_row}
 use Rattle.pp_model.specs.contracts.reply.Reply.{the_row as reply_row}
-use Rattle.pp_model.specs.contracts.event.Event.{the_row as event_row}
 use Rattle.pp_settings.proofs.layout.Layout.TheSendSync as layout
 use Rattle.pp_arc.proofs.directory.Directory.TheSendSync as directory
 use Rattle.pp_bundles.proofs.bundles.Bundles.TheSendSync as bundles
@@ -18,6 +17,7 @@ use Rattle.pp_core.proofs.seat.Seat.TheSendSync as seat
 use Rattle.pp_outset.proofs.outset.Outset.TheSendSync as outset
 use Rattle.pp_vault.proofs.hands.Hands.TheSendSync as hands
 use Rattle.pp_core.proofs.table.Flush.TheSendSync as flush
+use Rattle.pp_journal.proofs.journal.Journal.TheSendSync as journal
 use Rattle.pp_frames.specs.contracts.marks.Marks.{the_row as marks_row}
 use Rattle.pp_plan.specs.contracts.flat.FlatStep.{the_row as step_row}
 use Rattle.pp_plan.specs.contracts.plan.Plan.{the_row as plan_row}
@@ -38,9 +38,6 @@ move_send = search sendable depth 40 fits 50000
 
 pub reply_send : IsSend reply_row
 reply_send = search sendable depth 40 fits 50000
-
-pub event_send : IsSend event_row
-event_send = search sendable depth 40 fits 50000
 
 pub marks_send : IsSend marks_row
 marks_send = search (page.the_send, numbers.send-NumberSet, sendable, crosses) depth 24 fits 5000
@@ -70,7 +67,7 @@ pub vault_send : IsSend vault_row
 vault_send = search (vault_inside_send, sendable)
 
 pub book_inside_send : IsSend book_inside
-book_inside_send = search (vault_send, event_send, outset.the_send, sendable, crosses) depth 24 fits 5000
+book_inside_send = search (vault_send, journal.the_send, outset.the_send, sendable, crosses) depth 24 fits 5000
 
 pub book_send : IsSend book_row
 book_send = search (book_inside_send, sendable)

@@ -1,5 +1,5 @@
 -- What the threads give back.
-use Rattle.std.specs.Prelude.{◌≡◌, ◌≢◌, ℕ, ◌+◌, ◌<◌, ⊤, List, [], length, slice_index_or}
+use Rattle.std.specs.Prelude.{◌≡◌, ◌≢◌, ℕ, ◌+◌, ◌<◌, ⊤, List, [], ◌∷◌, ◌++◌, length, slice_index_or}
 use Rattle.pp_model.specs.declared.event.Event.{Event}
 use Rattle.pp_model.specs.WorkerParts.{part_of}
 use Rattle.pp_run.specs.declared.error.RunError.{RunError}
@@ -68,6 +68,13 @@ pub record FlushSettled {D : Type 0} (f : Flushed D) (events : List Event) : Typ
   pub ended : f.ended ≡ ended_flushes_in events
   pub failed : f.failed ≡ failed_flushes_in events
   pub sound : f.stop ≢ Broken
+
+-- All devices come back: those of the workers, and the flusher's behind them.
+pub record GivesBack {D : Type 0} (worked : List (Worked D)) (f : Flushed D) (events : List Event) (all : List D) : Type 0 where
+  pub back : List D
+  pub workers : Settled worked events back
+  pub flusher : FlushSettled f events
+  pub all_are : all ≡ back ++ f.device ∷ []
 
 -- No slip ended any worker.
 abbrev pub AllSound : {D : Type 0} → List (Worked D) → Type 0

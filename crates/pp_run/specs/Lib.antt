@@ -5,4 +5,6 @@ pub mod Agreeing
 pub mod Verdicts
 pub mod Counted
 pub mod Runs
+pub mod Rested
+pub mod RunLives
 pub mod Joins

@@ -31,18 +31,22 @@ submits first count = map Submit (range_with_len first count)
 abbrev pub coded_events : Coded (List Event)
 coded_events = coded_list event_row.coded
 
--- The events are a true journal of these settings and plans. It begins with the submits of all plans, in their order,
--- and each event behind these is a move. At its end no plan waits or is unfinished, and no flush is in flight. A page is
--- newer than the device's only where all flushes of the settings were begun.
-pub record IsRun (k : Settings) (plans : List Acceptance) (r : RunRecord) : Type 0 where
-  pub is_true : IsTrueFrom plans (opening k) r.events.items
+-- From this opening state of a life on, the events are a true journal of these plans. It begins with the submits of all plans,
+-- in their order, and each event behind these is a move. At its end no plan waits or is unfinished, and no flush is in flight.
+-- A page is newer than the device's only where all flushes of the settings were begun.
+pub record IsRunFrom (o : State) (plans : List Acceptance) (r : RunRecord) : Type 0 where
+  pub is_true : IsTrueFrom plans o r.events.items
   pub submits_first : take (length plans) r.events.items ≡ submits 0 (length plans)
   pub then_moves : list_all is_move (drop (length plans) r.events.items) ≡ true
-  pub submitted : (end_of k plans r.events.items).plans ≡ plans
-  pub over : IsUnderWay (end_of k plans r.events.items) → ⊥
+  pub submitted : (replay plans o r.events.items).plans ≡ plans
+  pub over : IsUnderWay (replay plans o r.events.items) → ⊥
   pub count : r.plans ≡ length plans
-  pub dirty : r.dirty ≡ dirty_pages (end_of k plans r.events.items)
-  pub flushed : 0 < r.dirty → begun_flushes_in r.events.items ≡ k.flushes
+  pub dirty : r.dirty ≡ dirty_pages (replay plans o r.events.items)
+  pub flushed : 0 < r.dirty → begun_flushes_in r.events.items ≡ o.settings.flushes
+
+-- The same of a new pool of these settings.
+abbrev pub IsRun : Settings → List Acceptance → RunRecord → Type 0
+IsRun k plans r = IsRunFrom (opening k) plans r
 
 -- ---- no record
 
@@ -52,19 +56,23 @@ IsNotTakenIn s plans (Refused error) = after_submits s plans ≡ Err error
 IsNotTakenIn s plans OutOfMemory = ⊤
 IsNotTakenIn s plans _ = ⊥
 
--- All plans are taken in by a new pool of these settings, and the number is that of a worker, or of the flusher.
-pub record IsOfThread (k : Settings) (plans : List Acceptance) (w : ℕ) : Type 0 where
-  pub taken : IsOk (after_submits (opening k) plans)
-  pub within : w ≤ k.workers
+-- All plans are taken in from this opening state, and the number is that of a worker, or of the flusher.
+pub record IsOfThread (o : State) (plans : List Acceptance) (w : ℕ) : Type 0 where
+  pub taken : IsOk (after_submits o plans)
+  pub within : w ≤ o.settings.workers
 
--- The error is the refusal of the first plan that a new pool of these settings doesn't take in, or it names a thread of
--- the run, or memory ran out.
+-- The error is the refusal of the first plan that isn't taken in from this opening state, or it names a thread of the run, or
+-- memory ran out.
+abbrev pub IsRunErrorFrom : State → List Acceptance → RunError → Type 0
+IsRunErrorFrom o plans (Refused error) = after_submits o plans ≡ Err error
+IsRunErrorFrom o plans OutOfMemory = ⊤
+IsRunErrorFrom o plans (Mismatch w) = IsOfThread o plans w
+IsRunErrorFrom o plans (Broken w) = IsOfThread o plans w
+IsRunErrorFrom o plans (NoThread w) = IsOfThread o plans w
+
+-- The same of a new pool of these settings.
 abbrev pub IsRunError : Settings → List Acceptance → RunError → Type 0
-IsRunError k plans (Refused error) = after_submits (opening k) plans ≡ Err error
-IsRunError k plans OutOfMemory = ⊤
-IsRunError k plans (Mismatch w) = IsOfThread k plans w
-IsRunError k plans (Broken w) = IsOfThread k plans w
-IsRunError k plans (NoThread w) = IsOfThread k plans w
+IsRunError k plans error = IsRunErrorFrom (opening k) plans error
 
 -- ---- the devices
 

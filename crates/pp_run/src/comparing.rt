@@ -1,12 +1,13 @@
 //! Whether the logs of workers are their parts of a journal, which is gone over once for all of them.
 
-ghost use Rattle.std.specs.Prelude.{◌≡◌, ◌↔◌, ◌+◌, ◌<◌, ℕ, List, true, Some, slice_get, slice_index_or, length};
+ghost use Rattle.std.specs.Prelude.{◌≡◌, ◌↔◌, ◌+◌, ◌^◌, ◌<◌, ℕ, List, true, Some, slice_get, slice_index_or, length};
 ghost use Rattle.pp_model.specs.declared.event.Event.{Event};
 ghost use Rattle.pp_model.specs.WorkerParts.{part_of, names_worker};
 ghost use Rattle.pp_run.specs.Agreeing.{Agrees, AllAgree};
 
 use crate::stop::Worked;
 use pp_model::Event;
+use pp_pool::Journal;
 use pp_report::{is_same_event, names_worker, worker_of};
 
 /// How many logs are compared in one pass: as many as a pool may have workers.
@@ -16,27 +17,29 @@ const TOGETHER: usize = 32;
 pub(crate) type Agreement = [Option<usize>; TOGETHER];
 
 /// How far the logs agree with their workers' parts of these events.
-pub(crate) fn agreement<D>(worked: &[Worked<D>], events: &[Event]) -> Agreement
-    ensures { AllAgree result worked.now events.now (length events.now) }
+pub(crate) fn agreement<D>(worked: &[Worked<D>], events: &Journal) -> Agreement
+    ensures { AllAgree result worked.now events.now.items (length events.now.items) }
 {
     let mut counts = [Some(0); TOGETHER];
-    for event in events {
-        compare(&mut counts, worked, *event);
+    for place in 0..events.len() {
+        compare(&mut counts, worked, events, place);
     }
     counts
 }
 
-/// Compares one more event with the log of its worker.
-fn compare<D>(counts: &mut Agreement, worked: &[Worked<D>], event: Event)
-    ensures { (events : List Event) (place : ℕ) → slice_get events place ≡ Some event
-        → AllAgree counts.old worked.now events place → AllAgree counts.new worked.now events (place + 1) }
+/// Compares one more event, which stands at this place, with the log of its worker.
+fn compare<D>(counts: &mut Agreement, worked: &[Worked<D>], events: &Journal, place: usize)
+    requires { place < length events.now.items }
+    ensures { AllAgree counts.old worked.now events.now.items place
+        → AllAgree counts.new worked.now events.now.items (place + 1) }
 {
+    let event = events.event(place);
     let Some(worker) = worker_in(event) else {
         return;
     };
     let worker = worker as usize;
     if worker < TOGETHER && worker < worked.len() {
-        counts[worker] = after(counts[worker], worked[worker].log.as_slice(), event);
+        counts[worker] = after(counts[worker], &worked[worker].log, events, place);
     }
 }
 
@@ -50,24 +53,24 @@ fn worker_in(event: Event) -> Option<u32>
     }
 }
 
-/// How far the log agrees with its worker's part after one more event of that part.
-fn after(count: Option<usize>, log: &[Event], event: Event) -> Option<usize>
-    ensures { (worker : ℕ) (events : List Event) (place : ℕ) → slice_get events place ≡ Some event
-        → names_worker worker event ≡ true → Agrees count log.now worker events place
-        → Agrees result log.now worker events (place + 1) }
+/// How far the log agrees with its worker's part after one more event of that part, which stands at this place.
+fn after(count: Option<usize>, log: &Journal, events: &Journal, place: usize) -> Option<usize>
+    ensures { (worker : ℕ) (event : Event) → slice_get events.now.items place ≡ Some event
+        → names_worker worker event ≡ true → Agrees count log.now.items worker events.now.items place
+        → Agrees result log.now.items worker events.now.items (place + 1) }
 {
     match count {
-        Some(next) if stands_at(log, next, event) => Some(next + 1),
+        Some(next) if stands_at(log, next, events, place) => Some(next + 1),
         _ => None,
     }
 }
 
 /// Whether the log is the worker's part of these events. No settings have more workers than are compared together; the log
 /// of a later one is compared alone.
-pub(crate) fn is_part(counts: &Agreement, log: &[Event], events: &[Event], worker: u32) -> bool
+pub(crate) fn is_part(counts: &Agreement, log: &Journal, events: &Journal, worker: u32) -> bool
     requires { (c : _) → worker < length counts.now
-        → Agrees (slice_index_or counts.now worker c) log.now worker events.now (length events.now) }
-    ensures { (result ≡ true) ↔ (log.now ≡ part_of worker events.now) }
+        → Agrees (slice_index_or counts.now worker c) log.now.items worker events.now.items (length events.now.items) }
+    ensures { (result ≡ true) ↔ (log.now.items ≡ part_of worker events.now.items) }
 {
     match counts.get(worker as usize) {
         Some(count) => *count == Some(log.len()),
@@ -76,13 +79,14 @@ pub(crate) fn is_part(counts: &Agreement, log: &[Event], events: &[Event], worke
 }
 
 /// Whether the log has the events that name the worker, in their order, and nothing else.
-fn is_part_alone(log: &[Event], events: &[Event], worker: u32) -> bool
-    ensures { (result ≡ true) ↔ (log.now ≡ part_of worker events.now) }
+fn is_part_alone(log: &Journal, events: &Journal, worker: u32) -> bool
+    ensures { (result ≡ true) ↔ (log.now.items ≡ part_of worker events.now.items) }
 {
     let mut next = 0;
-    for event in events {
-        if names_worker(worker, *event) {
-            if !stands_at(log, next, *event) {
+    for place in 0..events.len() {
+        let event = events.event(place);
+        if names_worker(worker, event) {
+            if !stands_at(log, next, events, place) {
                 return false;
             }
             next += 1;
@@ -91,12 +95,26 @@ fn is_part_alone(log: &[Event], events: &[Event], worker: u32) -> bool
     next == log.len()
 }
 
-/// Whether this event stands at this place of the log.
-fn stands_at(log: &[Event], at: usize, event: Event) -> bool
-    ensures { (result ≡ true) ↔ (slice_get log.now at ≡ Some event) }
+/// Whether the event at a place of the journal stands at this place of the log. Mostly that is seen as they are packed.
+fn stands_at(log: &Journal, at: usize, events: &Journal, place: usize) -> bool
+    ensures same { (event : Event) → slice_get events.now.items place ≡ Some event
+        → (result ≡ true) ↔ (slice_get log.now.items at ≡ Some event) }
+    ensures counted { result ≡ true → at + 1 < 2 ^ 64 }
 {
-    match log.get(at) {
-        Some(found) => is_same_event(*found, event),
-        None => false,
+    log.known();
+    log.is_seen_same(at, events, place) || is_same_unpacked(log, at, events, place)
+}
+
+/// The same by the events themselves.
+// Not inlined, since events that are the same are mostly packed alike.
+#[inline(never)]
+fn is_same_unpacked(log: &Journal, at: usize, events: &Journal, place: usize) -> bool
+    ensures same { (event : Event) → slice_get events.now.items place ≡ Some event
+        → (result ≡ true) ↔ (slice_get log.now.items at ≡ Some event) }
+    ensures counted { result ≡ true → at < length log.now.items }
+{
+    match (log.get(at), events.get(place)) {
+        (Some(left), Some(right)) => is_same_event(left, right),
+        _ => false,
     }
 }

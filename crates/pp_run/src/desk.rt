@@ -14,7 +14,7 @@ ghost use Rattle.pp_run.specs.Runs.{submits, coded_events};
 
 use pp_model::{Event, Reply};
 use pp_pool::{Book, OwnSite, Request, Response, Site};
-use pp_settings::{Layout, Settings};
+use pp_settings::Layout;
 use pp_vault::{Fixed, Flushing, Hand, Hands, PinGuard, ReadGuard, Session};
 use std::marker::{Brand, PhantomData};
 use std::sync::atomic::{AtomicU64, Ordering};
@@ -84,7 +84,7 @@ impl<'a, N: Naming> RunDesk<'a, N> {
     pub(crate) fn new(
         book: Book,
         hands: Hands,
-        settings: &Settings,
+        pages: &(Layout, u32),
         finished: &'a AtomicU64,
     ) -> RunDesk<'a, N>
         requires settings { settings_of book ≡ N.settings }
@@ -95,7 +95,7 @@ impl<'a, N: Naming> RunDesk<'a, N> {
         RunDesk {
             site: OwnSite { book },
             hands,
-            pages: (settings.layout(), settings.page_bytes()),
+            pages: *pages,
             of: PhantomData,
             finished,
         }

@@ -13,7 +13,7 @@ use crate::comparing::{agreement, is_part};
 use crate::counting::{FlushCounts, flush_counts};
 use crate::error::RunError;
 use crate::stop::{Flushed, Worked};
-use pp_model::Event;
+use pp_pool::Journal;
 use std::alloc::Global;
 
 /// What is left of a book when all threads are joined.
@@ -38,15 +38,15 @@ pub fn judge<D: Drop>(
     alloc: Global,
     worked: Vec<Worked<D>>,
     flushed: &Flushed<D>,
-    events: &[Event],
+    events: &Journal,
     left: Left,
 ) -> Result<Vec<D>, RunError>
     requires { vec_len worked < 2 ^ 32 }
     ensures over { OnOk result (left.over ≡ true) }
-    ensures flushed { OnOk result (0 < left.dirty → begun_flushes_in events.now ≡ left.flushes) }
-    ensures flusher { OnOk result (FlushSettled flushed.now events.now) }
-    ensures workers { IfOk result (λ back. Settled worked.items events.now back.items) }
-    ensures error { IfErr result (IsVerdict worked.items flushed.now events.now left) }
+    ensures flushed { OnOk result (0 < left.dirty → begun_flushes_in events.now.items ≡ left.flushes) }
+    ensures flusher { OnOk result (FlushSettled flushed.now events.now.items) }
+    ensures workers { IfOk result (λ back. Settled worked.items events.now.items back.items) }
+    ensures error { IfErr result (IsVerdict worked.items flushed.now events.now.items left) }
     ensures starved { IsStarved worked.items left → result ≡ Err run_errors.OutOfMemory }
 {
     let flusher = worked.len() as u32;
@@ -122,12 +122,12 @@ fn is_counted<D>(flushed: &Flushed<D>, counts: FlushCounts) -> bool
 fn settle<D: Drop>(
     alloc: Global,
     worked: Vec<Worked<D>>,
-    events: &[Event],
+    events: &Journal,
 ) -> Result<Vec<D>, RunError>
     requires few { vec_len worked < 2 ^ 32 }
     requires sound { AllSound worked.items }
-    ensures ok { IfOk result (λ back. Settled worked.items events.now back.items) }
-    ensures error { IfErr result (IsUnlike worked.items events.now) }
+    ensures ok { IfOk result (λ back. Settled worked.items events.now.items back.items) }
+    ensures error { IfErr result (IsUnlike worked.items events.now.items) }
 {
     let counts = agreement(worked.as_slice(), events);
     let mut back = Vec::new(alloc);
@@ -138,7 +138,7 @@ fn settle<D: Drop>(
             log,
             stop: _,
         } = end;
-        if !is_part(&counts, log.as_slice(), events, worker) {
+        if !is_part(&counts, &log, events, worker) {
             return Err(RunError::Mismatch(worker));
         }
         if back.push(device).is_err() {

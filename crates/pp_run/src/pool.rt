@@ -1,36 +1,30 @@
 //! All plans at once, on threads.
 
-ghost use Rattle.std.specs.Prelude.{◌≡◌, ◌+◌, ◌++◌, true, [], Ok, is_none, IfOk, IfErr, OnOk, length, vec_len};
+ghost use Rattle.std.specs.Prelude.{◌≡◌, ◌⊎◌, ◌+◌, Ok, IfOk, IfErr, length, vec_len};
 ghost use Rattle.pp_core.specs.Opening.{kept_of};
-ghost use Rattle.pp_model.specs.Pool.{dirty_pages, opening};
-ghost use Rattle.pp_model.specs.Submitting.{after_submits};
-ghost use Rattle.pp_model.specs.Turns.{IsUnderWay, next_turn};
-ghost use Rattle.pp_outset.specs.Outsets.{new_outset};
-ghost use Rattle.pp_pool.specs.Parts.{settings_of, plans_of, state_of};
-ghost use Rattle.pp_pool.specs.Books.{IsBook, HeadlineHolds};
+ghost use Rattle.pp_model.specs.Journals.{replay};
+ghost use Rattle.pp_model.specs.Lives.{IsLife};
+ghost use Rattle.pp_pool.specs.Parts as parts;
 ghost use Rattle.pp_report.specs.Auditing.{auditing};
+ghost use Rattle.pp_report.specs.Audits.{IsOver};
 ghost use Rattle.pp_report.specs.Lines.{journal_words};
-ghost use Rattle.pp_run.specs.Joins.{IsAnswer};
-ghost use Rattle.pp_run.specs.Runs.{AllCalled, IsNotTakenIn, IsRun, IsRunError, submits};
+ghost use Rattle.pp_run.specs.Joins.{IsAnswer, IsAnswerFrom};
+ghost use Rattle.pp_run.specs.Rested.{opening_of, ComesBack, IsNotRenewed};
+ghost use Rattle.pp_run.specs.Runs.{AllCalled, IsRun, IsRunFrom, IsRunError, IsRunErrorFrom};
 
-use crate::desk::{Naming, RunDesk};
 use crate::error::RunError;
-use crate::judging::{Left, judge};
-use crate::locked::Locked;
-use crate::site::LockedSite;
-use crate::threads::run_all;
+use crate::life::live;
+use crate::rested::{RestedPool, Stalled};
 use pp_cert::Accepted;
 use pp_device::Device;
-use pp_model::Event;
-use pp_pool::{Book, Work};
+use pp_pool::{Journal, Work};
 use pp_report::RunRecord;
 use pp_report::laws::whole_journals_are_audited;
 use pp_settings::Settings;
-use pp_vault::Hands;
 use std::alloc::Global;
 use std::marker::Brand;
+use std::sync::Wait;
 use std::sync::atomic::AtomicU64;
-use std::sync::{Condvar, Mutex, Wait};
 use std::thread::Threads;
 
 /// A pool that lives as long as one run.
@@ -45,7 +39,7 @@ impl Pool {
     /// meanwhile, and goes on when all are done while a page is newer than the device's and a flush is left.
     ///
     /// What a run leaves is accepted: the verdict of [`audit`](pp_report::audit) on the text of the events, as
-    /// [`journal_text`](pp_report::journal_text) writes it, is their number.
+    /// [`packed_journal_text`](pp_report::packed_journal_text) writes it, is their number.
     ///
     /// # Errors
     ///
@@ -101,129 +95,98 @@ impl Pool {
         ensures error { IfErr result (IsRunError (kept_of settings.now) plans.items) }
         ensures verdict { IfErr result (IsAnswer D.calls D.failures (kept_of settings.now) plans.items devices.items) }
     {
-        run_named::<Brand, D, W, R>(rt, alloc, settings, plans, devices, works, finished)
-    }
-}
-
-/// As [`Pool::run_watched`], with a name for the settings, the plans and the outset.
-fn run_named<
-    N: Naming + Send,
-    D: Device + Drop + Send,
-    W: Work + Drop + Send,
-    R: Threads + Wait + Sync,
->(
-    rt: &R,
-    alloc: Global,
-    settings: &Settings,
-    plans: Vec<Accepted>,
-    devices: Vec<D>,
-    works: Vec<W>,
-    finished: &AtomicU64,
-) -> Result<(RunRecord, Vec<D>), RunError>
-    requires settings { N.settings ≡ kept_of settings.now }
-    requires plans { N.plans ≡ plans.items }
-    requires outset { N.outset ≡ new_outset (kept_of settings.now) }
-    requires ends { vec_len devices ≡ settings.now.workers + 1 }
-    requires works { vec_len works ≡ settings.now.workers }
-    ensures journal { IfOk result (λ r. IsRun (kept_of settings.now) plans.items r.0) }
-    ensures devices { IfOk result (λ r. AllCalled D.calls D.failures settings.now.workers devices.items
-        r.0.events.items r.1.items) }
-    ensures audited { IfOk result (λ r. auditing settings.now plans.items (journal_words r.0.events.items)
-        ≡ Ok (length r.0.events.items)) }
-    ensures error { IfErr result (IsRunError (kept_of settings.now) plans.items) }
-    ensures verdict { IfErr result (IsAnswer D.calls D.failures (kept_of settings.now) plans.items devices.items) }
-{
-    let (book, hands, plans) = opened(alloc, settings, plans)?;
-    let mut devices = devices;
-    let Some(last) = devices.pop() else {
-        unreachable!();
-    };
-    let desk = RunDesk::<N>::new(book, hands, settings, finished);
-    let lock = Mutex::new(Locked::new(desk));
-    let (moved, changed) = (Condvar::new(), Condvar::new());
-    let site = LockedSite {
-        rt,
-        lock: &lock,
-        moved: &moved,
-        changed: &changed,
-    };
-    let joined = run_all(site, alloc, devices, last, works);
-    let (book, hands) = lock.into_inner().into_desk().into_parts();
-    let (left, events) = closed(book, hands, settings);
-    let (worked, flushed) = joined?;
-    let journal = events.as_slice();
-    let mut back = judge(alloc, worked, &flushed, journal, left)?;
-    whole_journals_are_audited(journal);
-    back.reserve(1)?;
-    back.push_reserved(flushed.device);
-    let record = RunRecord {
-        plans,
-        events,
-        dirty: left.dirty,
-    };
-    Ok((record, back))
-}
-
-/// A book with all plans submitted, its tokens, and how many plans there are.
-fn opened(
-    alloc: Global,
-    settings: &Settings,
-    plans: Vec<Accepted>,
-) -> Result<(Book, Hands, u16), RunError>
-    ensures settings { IfOk result (λ made. settings_of made.0 ≡ kept_of settings.now) }
-    ensures plans { IfOk result (λ made. plans_of made.0 ≡ plans.items) }
-    ensures outset { IfOk result (λ made. made.0.began ≡ new_outset (kept_of settings.now)) }
-    ensures count { IfOk result (λ made. made.2 ≡ vec_len plans) }
-    ensures journal { IfOk result (λ made. made.0.journal ≡ submits 0 (length plans.items)) }
-    ensures taken { IfOk result (λ made. after_submits (opening (kept_of settings.now)) plans.items ≡ Ok (state_of made.0)) }
-    ensures error { IfErr result (IsNotTakenIn (opening (kept_of settings.now)) plans.items) }
-{
-    let (mut book, hands) = Book::new(alloc, settings)?;
-    match submit_all(&mut book, plans) {
-        Ok(count) => Ok((book, hands, count)),
-        Err(error) => {
-            book.close(hands);
-            Err(error)
+        let pool = RestedPool::open(alloc, settings)?;
+        match live::<Brand, D, W, R>(rt, alloc, pool, plans, devices, works, finished) {
+            Ok(ended) => {
+                ended.book.known();
+                let (record, devices) = ended.closed();
+                whole_journals_are_audited(&record.events);
+                Ok((record, devices))
+            }
+            Err((error, stalled)) => {
+                stalled.close();
+                Err(error)
+            }
         }
     }
 }
 
-/// Submits the plans in their order, up to the first that isn't taken in, and answers how many there are.
-fn submit_all(book: &mut Book, plans: Vec<Accepted>) -> Result<u16, RunError>
-    ensures plans { OnOk result (plans_of book.new ≡ plans_of book.old ++ plans.items) }
-    ensures count { IfOk result (λ count. count ≡ vec_len plans) }
-    ensures journal { OnOk result (book.new.journal ≡ book.old.journal
-        ++ submits (length (plans_of book.old)) (length plans.items)) }
-    ensures taken { OnOk result (after_submits (state_of book.old) plans.items ≡ Ok (state_of book.new)) }
-    ensures error { IfErr result (IsNotTakenIn (state_of book.old) plans.items) }
-    ensures settings { settings_of book.new ≡ settings_of book.old }
-    ensures outset { book.new.began ≡ book.old.began }
-{
-    let mut count = 0u16;
-    for plan in plans {
-        if let Err((_plan, error)) = book.submit(plan) {
-            return Err(RunError::from(error));
-        }
-        count += 1;
+impl Pool {
+    /// As [`Pool::run`], over a pool that is kept from the run before, and gives it back beside the record: renewed, with all
+    /// that it has cached. So a page that one run read is a hit in the next.
+    ///
+    /// The record's events are the whole life's, true from the state in which the pool was handed over. There are as many devices
+    /// as the pool has workers, and one more; and as many works as workers. The devices are over what the run before left.
+    ///
+    /// What the runs over one pool leave is accepted: the journals of all of them are audited together by
+    /// [`audit_lives`](pp_report::audit_lives). [`lives_are_audited`](crate::laws::lives_are_audited) tells so from the clauses
+    /// `life`, `over` and `pool` of each run.
+    ///
+    /// # Errors
+    ///
+    /// Those of [`Pool::run`], in its order. Where the run itself is sound, [`RunError::OutOfMemory`] where there is none for the
+    /// next life's journal, and [`RunError::Broken`] with the flusher's number where a mark has come to 2^63 or a token isn't
+    /// back in its place, so that the pool isn't renewed. What is left of the pool comes with the error: its dirty pages are
+    /// nowhere else.
+    pub fn run_on<D: Device + Drop + Send, W: Work + Drop + Send, R: Threads + Wait + Sync>(
+        rt: &R,
+        alloc: Global,
+        pool: RestedPool,
+        plans: Vec<Accepted>,
+        devices: Vec<D>,
+        works: Vec<W>,
+    ) -> Result<(RunRecord, RestedPool, Vec<D>), (RunError, Stalled)>
+        requires ends { vec_len devices ≡ pool.settings.workers + 1 }
+        requires works { vec_len works ≡ pool.settings.workers }
+        ensures journal { IfOk result (λ r. IsRunFrom (opening_of pool) plans.items r.0) }
+        ensures life { IfOk result (λ r. IsLife (opening_of pool)
+            (record { plans = plans.items; journal = r.0.events.items })) }
+        ensures over { IfOk result (λ r. IsOver plans.items (replay plans.items (opening_of pool) r.0.events.items)) }
+        ensures pool { IfOk result (λ r. ComesBack pool plans.items r.0.events.items r.1) }
+        ensures devices { IfOk result (λ r. AllCalled D.calls D.failures pool.settings.workers devices.items
+            r.0.events.items r.2.items) }
+        ensures error { IfErr result (λ e. IsRunErrorFrom (opening_of pool) plans.items e.0) }
+        ensures verdict { IfErr result (λ e.
+            IsAnswerFrom D.calls D.failures (opening_of pool) plans.items devices.items e.0
+            ⊎ IsNotRenewed (opening_of pool) plans.items e.1.book e.1.hands e.0) }
+        ensures stalled { IfErr result (λ e. parts.opening_of e.1.book ≡ opening_of pool) }
+    {
+        let finished = AtomicU64::new(0);
+        Pool::run_on_watched(rt, alloc, pool, plans, devices, works, &finished)
     }
-    Ok(count)
-}
 
-/// What is left, and the journal.
-fn closed(book: Book, hands: Hands, settings: &Settings) -> (Left, Vec<Event>)
-    ensures over { result.0.over ≡ true → IsUnderWay (state_of book) → ⊥ }
-    ensures ended { result.0.over ≡ is_none (next_turn (state_of book)) }
-    ensures dirty { result.0.dirty ≡ dirty_pages (state_of book) }
-    ensures flushes { result.0.flushes ≡ settings.now.flushes }
-    ensures journal { result.1.items ≡ book.journal }
-    ensures kept { IsBook book }
-    ensures headline { HeadlineHolds book }
-{
-    book.known();
-    let left = Left {
-        over: book.next_possible().is_none(),
-        dirty: book.dirty(),
-        flushes: settings.flushes(),
-    };
-    (left, book.close(hands))
+    /// As [`Pool::run_on`], and adds 1 to `finished` as each plan ends, as [`Pool::run_watched`] does.
+    ///
+    /// # Errors
+    ///
+    /// Those of [`Pool::run_on`].
+    pub fn run_on_watched<D: Device + Drop + Send, W: Work + Drop + Send, R: Threads + Wait + Sync>(
+        rt: &R,
+        alloc: Global,
+        pool: RestedPool,
+        plans: Vec<Accepted>,
+        devices: Vec<D>,
+        works: Vec<W>,
+        finished: &AtomicU64,
+    ) -> Result<(RunRecord, RestedPool, Vec<D>), (RunError, Stalled)>
+        requires ends { vec_len devices ≡ pool.settings.workers + 1 }
+        requires works { vec_len works ≡ pool.settings.workers }
+        ensures journal { IfOk result (λ r. IsRunFrom (opening_of pool) plans.items r.0) }
+        ensures life { IfOk result (λ r. IsLife (opening_of pool)
+            (record { plans = plans.items; journal = r.0.events.items })) }
+        ensures over { IfOk result (λ r. IsOver plans.items (replay plans.items (opening_of pool) r.0.events.items)) }
+        ensures pool { IfOk result (λ r. ComesBack pool plans.items r.0.events.items r.1) }
+        ensures devices { IfOk result (λ r. AllCalled D.calls D.failures pool.settings.workers devices.items
+            r.0.events.items r.2.items) }
+        ensures error { IfErr result (λ e. IsRunErrorFrom (opening_of pool) plans.items e.0) }
+        ensures verdict { IfErr result (λ e.
+            IsAnswerFrom D.calls D.failures (opening_of pool) plans.items devices.items e.0
+            ⊎ IsNotRenewed (opening_of pool) plans.items e.1.book e.1.hands e.0) }
+        ensures stalled { IfErr result (λ e. parts.opening_of e.1.book ≡ opening_of pool) }
+    {
+        let ended = live::<Brand, D, W, R>(rt, alloc, pool, plans, devices, works, finished)?;
+        ended.book.known();
+        let (record, pool, devices) = ended.renewed(Journal::new(alloc))?;
+        Ok((record, pool, devices))
+    }
 }

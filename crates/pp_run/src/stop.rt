@@ -4,7 +4,7 @@ ghost use Rattle.std.specs.Prelude.{◌≡◌, ◌↔◌, true};
 ghost use Rattle.pp_run.specs.declared.stop.Stop.TheVariants.{Broken};
 ghost use Rattle.pp_run.specs.Verdicts.{is_no_memory};
 
-use pp_model::Event;
+use pp_pool::Journal;
 
 /// Why a worker or the flusher stopped.
 #[derive(Clone, Copy, Debug, PartialEq, Eq)]
@@ -37,7 +37,7 @@ impl Stop {
 #[derive(Drop)]
 pub struct Worked<D> {
     pub device: D,
-    pub log: Vec<Event>,
+    pub log: Journal,
     pub stop: Stop,
 }
 

@@ -11,7 +11,7 @@ use crate::holding::WorkerSite;
 use crate::site::LockedSite;
 use crate::stop::{Stop, Worked};
 use pp_device::Device;
-use pp_pool::{Turned, Work, Worker};
+use pp_pool::{Journal, Turned, Work, Worker};
 use pp_vault::Stage;
 use std::alloc::Global;
 use std::sync::Wait;
@@ -78,7 +78,7 @@ fn broken<D: Device>(alloc: Global, device: D) -> Worked<D>
 {
     Worked {
         device,
-        log: Vec::new(alloc),
+        log: Journal::new(alloc),
         stop: Stop::Broken,
     }
 }

@@ -8,7 +8,7 @@ ghost use Rattle.pp_run_command.specs.Endings.{is_trouble, stopped_line, went_we
 
 use pp_judge::RunReport;
 use pp_model::{Ending, Event, Move, Reply};
-use pp_report::{RunRecord, report};
+use pp_report::{Journal, RunRecord, report};
 use pp_run::RunError;
 use std::alloc::{AllocError, Global};
 use std::io;
@@ -43,15 +43,20 @@ pub fn stopped_line(alloc: Global, error: RunError) -> Result<String, AllocError
 }
 
 /// Whether no plan was left and no flush failed.
-fn went_well(events: &[Event]) -> bool
-    ensures { result ≡ went_well events.now }
+fn went_well(events: &Journal) -> bool
+    ensures { result ≡ went_well events.now.items }
 {
-    events.iter().all(|event| !is_trouble(event))
+    for place in 0..events.len() {
+        if is_trouble(events.event(place)) {
+            return false;
+        }
+    }
+    true
 }
 
 /// Whether a plan was left, or a flush failed.
-fn is_trouble(event: &Event) -> bool
-    ensures { result ≡ is_trouble event.now }
+fn is_trouble(event: Event) -> bool
+    ensures { result ≡ is_trouble event }
 {
     matches!(
         event,
@@ -65,7 +70,7 @@ fn is_trouble(event: &Event) -> bool
     )
 }
 
-/// Writes the text of a journal, which [`pp_report::journal_text`] gives, so that memory for it can be had before there is
+/// Writes the text of a journal, which [`pp_report::packed_journal_text`] gives, so that memory for it can be had before there is
 /// a file.
 ///
 /// # Errors

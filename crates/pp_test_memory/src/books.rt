@@ -6,7 +6,7 @@ ghost use Rattle.pp_vault.specs.Stages.{stage_worker, is_free_for};
 use crate::stand::{answer, call};
 use pp_cert::Accepted;
 use pp_device::SoloDevice;
-use pp_pool::{Book, Flusher, OwnSite, Turned, Worker};
+use pp_pool::{Book, Flusher, Journal, OwnSite, Turned, Worker};
 use pp_run_command::Rounds;
 use pp_settings::Settings;
 use pp_test_plain::accepted;
@@ -50,7 +50,7 @@ fn submits<R: AllocGlobal + Print>(rt: &R) -> anyhow::Result<()> {
     let (mut book, hands) = Book::new(rt.alloc(), &settings)?;
     let done = submits_to(rt, &mut book, plan);
     let journal = book.close(hands);
-    println!(rt; "journal {journal:?}")?;
+    println!(rt; "journal {:?}", journal.to_events(rt.alloc())?)?;
     done
 }
 
@@ -99,7 +99,9 @@ fn renews<R: AllocGlobal + Print>(rt: &R) -> anyhow::Result<()> {
     let (site, _device, hand, _log) = worker.end();
     let OwnSite { mut book } = site;
     let done = renews_it(rt, &mut book);
-    let journal = book.close(together(hands, hand, None));
+    let journal = book
+        .close(together(hands, hand, None))
+        .to_events(rt.alloc())?;
     turned?;
     done?;
     println!(rt; "queued {queued}, journal {journal:?}")?;
@@ -107,7 +109,7 @@ fn renews<R: AllocGlobal + Print>(rt: &R) -> anyhow::Result<()> {
 }
 
 fn renews_it<R: AllocGlobal + Print>(rt: &R, book: &mut Book) -> anyhow::Result<()> {
-    let mut empty = Vec::new(rt.alloc());
+    let mut empty = Journal::new(rt.alloc());
     for _time in 0..2 {
         println!(rt;
             "stand: most {}, {} dirty, began with mark {:?}, {} events given",

@@ -2,7 +2,7 @@
 
 use crate::samples::{LIVES, events, record};
 use crate::stand::{answer, call};
-use pp_report::{audit, audit_lives, journal_text, report};
+use pp_report::{Journal, audit, audit_lives, journal_text, packed_journal_text, report};
 use pp_settings::Settings;
 use pp_test_plain::all_accepted;
 use pp_test_plain::samples::{SETTINGS, TOUCH, TOUCHED};
@@ -11,6 +11,9 @@ use pp_test_plain::samples::{SETTINGS, TOUCH, TOUCHED};
 pub fn case<R: AllocGlobal + Print>(rt: &R, call: &str) -> anyhow::Result<()> {
     match call {
         "journal_text" => journal(rt),
+        "packed_journal_text" => packed_journal(rt),
+        "from_events" => packed(rt),
+        "to_events" => unpacked(rt),
         "report" => reports(rt),
         "audit" => audits(rt),
         "audit_lives" => lives(rt),
@@ -27,6 +30,57 @@ fn journal<R: AllocGlobal + Print>(rt: &R) -> anyhow::Result<()> {
         match written {
             Ok(text) => {
                 println!(rt; "{text}")?;
+                return Ok(());
+            }
+            Err(error) => println!(rt; "{error}")?,
+        }
+    }
+    Ok(())
+}
+
+fn packed_journal<R: AllocGlobal + Print>(rt: &R) -> anyhow::Result<()> {
+    let record = record(rt.alloc())?;
+    for _time in 0..2 {
+        call(rt)?;
+        let written = packed_journal_text(rt.alloc(), &record.events);
+        answer(rt)?;
+        match written {
+            Ok(text) => {
+                println!(rt; "{text}")?;
+                return Ok(());
+            }
+            Err(error) => println!(rt; "{error}")?,
+        }
+    }
+    Ok(())
+}
+
+fn packed<R: AllocGlobal + Print>(rt: &R) -> anyhow::Result<()> {
+    let events = events(rt.alloc())?;
+    for _time in 0..2 {
+        call(rt)?;
+        let made = Journal::from_events(rt.alloc(), &events);
+        answer(rt)?;
+        match made {
+            Ok(journal) => {
+                println!(rt; "{} events", journal.len())?;
+                return Ok(());
+            }
+            Err(error) => println!(rt; "{error}")?,
+        }
+    }
+    Ok(())
+}
+
+fn unpacked<R: AllocGlobal + Print>(rt: &R) -> anyhow::Result<()> {
+    let record = record(rt.alloc())?;
+    for _time in 0..2 {
+        call(rt)?;
+        let given = record.events.to_events(rt.alloc());
+        answer(rt)?;
+        match given {
+            Ok(events) => {
+                println!(rt; "{events:?}")?;
                 return Ok(());
             }
             Err(error) => println!(rt; "{error}")?,

@@ -67,7 +67,7 @@ fn case<
         "pp_shared" => shared::case(rt, call),
         "pp_play" | "pp_simulate" => playing::case(rt, call),
         "pp_pool" => books::case(rt, call),
-        "pp_report" => journals::case(rt, call),
+        "pp_journal" | "pp_report" => journals::case(rt, call),
         "pp_judge" => judging::case(rt, call, row),
         "pp_run" | "pp_run_command" => runs::case(rt, library, call),
         "pp_words" => words::case(rt, row),

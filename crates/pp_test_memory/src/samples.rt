@@ -1,7 +1,7 @@
 //! Sample plans and other texts, beside those that tests share, and what is made of them.
 
 use pp_model::{Came, Ending, Event, Move, Reply};
-use pp_report::RunRecord;
+use pp_report::{Journal, RunRecord};
 use std::alloc::Global;
 
 /// No frame, and no region.
@@ -124,7 +124,7 @@ pub fn events(alloc: Global) -> anyhow::Result<Vec<Event>> {
 pub fn record(alloc: Global) -> anyhow::Result<RunRecord> {
     Ok(RunRecord {
         plans: 1,
-        events: events(alloc)?,
+        events: Journal::from_events(alloc, &events(alloc)?)?,
         dirty: 0,
     })
 }

@@ -1,7 +1,7 @@
 //! Journals with their reports, worked out by hand.
 
 use pp_model::Event;
-use pp_report::{Asked, Line, RunRecord, Told, report};
+use pp_report::{Asked, Journal, Line, RunRecord, Told, report};
 use pp_test_plain::samples::WRITTEN;
 use std::alloc::Global;
 use std::process::Abort;
@@ -37,7 +37,7 @@ fn reports(
     journal: &str,
     want: &str,
 ) -> Result<(), Fail> {
-    let events = events_of(rt, alloc, journal)?;
+    let events = Journal::from_events(alloc, &events_of(rt, alloc, journal)?)?;
     let got = report(
         alloc,
         &RunRecord {

@@ -110,12 +110,13 @@ pub fn do_accepted(
         Err(_) => panic!(rt; "the hand has no place"),
     }
     let OwnSite { book } = site;
+    let journal = book.close(hands);
     Ok(Run {
         turns,
         flushes,
         counts: (ended, failed),
-        log,
-        journal: book.close(hands),
+        log: log.to_events(alloc)?,
+        journal: journal.to_events(alloc)?,
         work,
     })
 }

@@ -93,10 +93,11 @@ fn driven<D: Device + Drop>(
         Err(_) => panic!(rt; "the hand has no place"),
     }
     let OwnSite { book } = site;
+    let journal = book.close(hands);
     Ok(Noted {
         last,
-        log,
-        journal: book.close(hands),
+        log: log.to_events(alloc)?,
+        journal: journal.to_events(alloc)?,
     })
 }
 

@@ -157,6 +157,6 @@ fn a_fix_misses_is_refused_and_hits(rt: HostRuntime) -> Result<(), Fail> {
     let first = hits(&rt, &mut book, first, 17);
     gives_back(&rt, &mut hands, first, guards);
     gives_back(&rt, &mut hands, second, places);
-    same_events(&rt, &book.close(hands), FIXED);
+    same_events(&rt, &book.close(hands).to_events(rt.alloc())?, FIXED);
     Ok(())
 }

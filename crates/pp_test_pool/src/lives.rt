@@ -8,7 +8,7 @@ use pp_device::SoloDevice;
 use pp_pool::{
     Book, BookAnswer, BookRenewError, Event, OwnSite, Request, Response, Turned, Worker,
 };
-use pp_report::{audit, journal_text};
+use pp_report::{Journal, audit, packed_journal_text};
 use pp_settings::Settings;
 use pp_test_plain::accepted;
 use pp_test_plain::samples::{NOTHING, READ, REGIONS, SETTINGS, TOUCH, WRITE};
@@ -75,7 +75,7 @@ fn submits(rt: &impl Abort, book: &mut Book, plan: Accepted, number: u32) {
 }
 
 /// Worker 0 takes turns until nothing is left for it, and gives its log.
-fn works(rt: &impl Abort, alloc: Global, settings: &Settings, stand: Stand) -> (Stand, Vec<Event>) {
+fn works(rt: &impl Abort, alloc: Global, settings: &Settings, stand: Stand) -> (Stand, Journal) {
     let Stand {
         book,
         mut hands,
@@ -112,16 +112,16 @@ fn works(rt: &impl Abort, alloc: Global, settings: &Settings, stand: Stand) -> (
     )
 }
 
-/// Renews the book with this vector, and gives the journal of the life that is over.
-fn renewed(rt: &impl Abort, book: &mut Book, empty: Vec<Event>) -> Vec<Event> {
+/// Renews the book with this journal, and gives the journal of the life that is over.
+fn renewed(rt: &impl Abort, book: &mut Book, empty: Journal) -> Journal {
     match book.renew(empty) {
         Ok(journal) => journal,
         Err((_back, error)) => panic!(rt; "not renewed: {error}"),
     }
 }
 
-/// The book isn't at rest, so the vector comes back without what stood in it.
-fn refuses(rt: &impl Abort, book: &mut Book, given: Vec<Event>) {
+/// The book isn't at rest, so the journal comes back without what stood in it.
+fn refuses(rt: &impl Abort, book: &mut Book, given: Journal) {
     match book.renew(given) {
         Ok(_) => panic!(rt; "renewed"),
         Err((back, error)) => {
@@ -136,9 +136,9 @@ fn is_audited(
     alloc: Global,
     settings: &Settings,
     plan: Accepted,
-    events: &[Event],
+    events: &Journal,
 ) -> Result<bool, Fail> {
-    let text = journal_text(alloc, events)?;
+    let text = packed_journal_text(alloc, events)?;
     let mut plans = Vec::new(alloc);
     plans.push(plan)?;
     Ok(audit(alloc, settings, plans, text.as_bytes()).is_ok())
@@ -155,9 +155,9 @@ fn a_written_page_is_a_hit_in_the_next_life(rt: HostRuntime) -> Result<(), Fail>
     let is_new = stand.book.began().mark(16).is_none()
         && stand.book.began().pages(List::T1).is_empty();
     submits(&rt, &mut stand.book, first, 0);
-    refuses(&rt, &mut stand.book, Vec::new(rt.alloc()));
+    refuses(&rt, &mut stand.book, Journal::new(rt.alloc()));
     let (mut stand, log) = works(&rt, rt.alloc(), &settings, stand);
-    let journal = renewed(&rt, &mut stand.book, Vec::new(rt.alloc()));
+    let journal = renewed(&rt, &mut stand.book, Journal::new(rt.alloc()));
     let began = stand.book.began();
     let of_page = (began.frame_of(16), began.is_dirty(16), began.mark(16));
     let (is_named, target) = (began.pages(List::T1) == [16].as_slice(), began.target());
@@ -171,22 +171,24 @@ fn a_written_page_is_a_hit_in_the_next_life(rt: HostRuntime) -> Result<(), Fail>
     } = stand;
     let next = book.close(hands);
     assert!(rt; is_new, "a new book's outset has page 16");
-    same_events(&rt, &log, WRITTEN);
+    same_events(&rt, &log.to_events(rt.alloc())?, WRITTEN);
     assert!(rt;
-        journal.first() == Some(&SUBMITTED) && journal.len() == 8,
-        "{journal:?}"
+        journal.get(0) == Some(SUBMITTED) && journal.len() == 8,
+        "{} events",
+        journal.len()
     );
-    same_events(&rt, &journal[1..], WRITTEN);
+    same_events(&rt, &journal.to_events(rt.alloc())?[1..], WRITTEN);
     assert!(rt; of_page == (Some(0), true, Some(1)), "{of_page:?}");
     assert!(rt;
         is_named && target == 0,
         "ARC's lists are others, with target {target}"
     );
     assert!(rt; left == (1, 0), "{left:?}");
-    same_events(&rt, &log_again, WRITTEN_AGAIN);
+    same_events(&rt, &log_again.to_events(rt.alloc())?, WRITTEN_AGAIN);
     assert!(rt;
-        next.first() == Some(&SUBMITTED) && next.len() == 7,
-        "{next:?}"
+        next.get(0) == Some(SUBMITTED) && next.len() == 7,
+        "{} events",
+        next.len()
     );
     Ok(())
 }
@@ -205,11 +207,11 @@ fn two_journals(
     alloc: Global,
     settings: &Settings,
     text: &str,
-) -> Result<(Vec<Event>, Vec<Event>), Fail> {
+) -> Result<(Journal, Journal), Fail> {
     let mut stand = stand_of(alloc, settings)?;
     submits(rt, &mut stand.book, plan_of(rt, alloc, settings, text), 0);
     let (mut stand, _log) = works(rt, alloc, settings, stand);
-    let journal = renewed(rt, &mut stand.book, Vec::new(alloc));
+    let journal = renewed(rt, &mut stand.book, Journal::new(alloc));
     submits(rt, &mut stand.book, plan_of(rt, alloc, settings, text), 0);
     let (stand, _log) = works(rt, alloc, settings, stand);
     let Stand {
@@ -229,8 +231,8 @@ fn the_first_journal_is_a_new_pools(rt: HostRuntime) -> Result<(), Fail> {
     let is_first_audited = is_audited(rt.alloc(), &settings, plan, &first)?;
     let plan = plan_of(&rt, rt.alloc(), &settings, WRITE);
     let is_second_audited = is_audited(rt.alloc(), &settings, plan, &second)?;
-    assert!(rt; is_first_audited, "not audited: {first:?}");
-    assert!(rt; !is_second_audited, "audited: {second:?}");
+    assert!(rt; is_first_audited, "not audited: {} events", first.len());
+    assert!(rt; !is_second_audited, "audited: {} events", second.len());
     Ok(())
 }
 
@@ -261,10 +263,10 @@ fn a_flush_is_awaited(rt: HostRuntime) -> Result<(), Fail> {
     submits(&rt, &mut stand.book, plan, 0);
     let (mut stand, _log) = works(&rt, rt.alloc(), &settings, stand);
     let errand = begun(&rt, &mut stand.book);
-    refuses(&rt, &mut stand.book, Vec::new(rt.alloc()));
+    refuses(&rt, &mut stand.book, Journal::new(rt.alloc()));
     let returned = errand.carry_out(&mut stand.device);
     let is_clean = flushed(&rt, &mut stand.book, returned);
-    let journal = renewed(&rt, &mut stand.book, Vec::new(rt.alloc()));
+    let journal = renewed(&rt, &mut stand.book, Journal::new(rt.alloc()));
     let began = stand.book.began();
     let of_page = (began.frame_of(16), began.is_dirty(16), began.mark(16));
     let Stand {
@@ -273,19 +275,19 @@ fn a_flush_is_awaited(rt: HostRuntime) -> Result<(), Fail> {
         device: _,
     } = stand;
     let next = book.close(hands);
-    assert!(rt; is_clean && journal.len() == 10, "{journal:?}");
-    same_events(&rt, &journal[8..], FLUSHED);
+    assert!(rt; is_clean && journal.len() == 10, "{} events", journal.len());
+    same_events(&rt, &journal.to_events(rt.alloc())?[8..], FLUSHED);
     assert!(rt; of_page == (Some(0), false, Some(1)), "{of_page:?}");
-    assert!(rt; next.is_empty(), "{next:?}");
+    assert!(rt; next.is_empty(), "{} events", next.len());
     Ok(())
 }
 
-/// 256 plans are all that one life takes, and the next takes as many. Two vectors are the journals in turn.
+/// 256 plans are all that one life takes, and the next takes as many. Two journals serve in turn.
 #[test]
 fn each_life_takes_as_many_plans(rt: HostRuntime) -> Result<(), Fail> {
     let settings = Settings::from_text(rt.alloc(), SETTINGS)?;
     let mut stand = stand_of(rt.alloc(), &settings)?;
-    let mut spare = Vec::new(rt.alloc());
+    let mut spare = Journal::new(rt.alloc());
     for _ in 0..2 {
         for number in 0..256 {
             let plan = plan_of(&rt, rt.alloc(), &settings, NOTHING);
@@ -309,7 +311,7 @@ fn each_life_takes_as_many_plans(rt: HostRuntime) -> Result<(), Fail> {
         device: _,
     } = stand;
     let last = book.close(hands);
-    assert!(rt; last.is_empty(), "{last:?}");
+    assert!(rt; last.is_empty(), "{} events", last.len());
     Ok(())
 }
 
@@ -361,7 +363,7 @@ fn a_stale_page_is_found_in_the_next_life(rt: HostRuntime) -> Result<(), Fail> {
         1,
     );
     let (mut stand, _log) = works(&rt, rt.alloc(), &settings, stand);
-    let _journal = renewed(&rt, &mut stand.book, Vec::new(rt.alloc()));
+    let _journal = renewed(&rt, &mut stand.book, Journal::new(rt.alloc()));
     let began = stand.book.began();
     let of_page = (began.frame_of(16), began.is_dirty(16), began.mark(16));
     submits(
@@ -388,6 +390,6 @@ fn a_stale_page_is_found_in_the_next_life(rt: HostRuntime) -> Result<(), Fail> {
     } = stand;
     let _next = book.close(hands);
     assert!(rt; of_page == (None, false, Some(1)), "{of_page:?}");
-    same_events(&rt, &log, MISREAD);
+    same_events(&rt, &log.to_events(rt.alloc())?, MISREAD);
     Ok(())
 }

@@ -3,7 +3,7 @@
 use core::mem;
 use pp_cert::Accepted;
 use pp_device::SoloDevice;
-use pp_pool::{Book, Event, OwnSite, Turned, Work, Worker};
+use pp_pool::{Book, Event, Journal, OwnSite, Turned, Work, Worker};
 use pp_settings::Settings;
 use pp_test_plain::accepted;
 use pp_test_plain::samples::{SCAN, SETTINGS};
@@ -106,7 +106,7 @@ fn ended(
     rt: &impl Abort,
     worker: Worker<OwnSite, SoloDevice>,
     hands: &mut Hands,
-) -> (Book, Vec<Event>) {
+) -> (Book, Journal) {
     let (site, _device, hand, log) = worker.end();
     match hands.join(hand) {
         Ok(()) => {}
@@ -123,7 +123,7 @@ fn do_plans(
     settings: &Settings,
     book: (Book, Hands),
     devices: (SoloDevice, SoloDevice),
-) -> Notes {
+) -> Result<Notes, Fail> {
     let (book, mut hands) = book;
     let Ok((unused, unused_hands)) = Book::new(alloc, settings) else {
         panic!(rt; "no memory")
@@ -144,11 +144,12 @@ fn do_plans(
     let (book, first) = ended(rt, first, &mut hands);
     let (unused, second) = ended(rt, second, &mut hands);
     let _nothing = unused.close(unused_hands);
-    Notes {
-        journal: book.close(hands),
-        first,
-        second,
-    }
+    let journal = book.close(hands);
+    Ok(Notes {
+        journal: journal.to_events(alloc)?,
+        first: first.to_events(alloc)?,
+        second: second.to_events(alloc)?,
+    })
 }
 
 /// A book in which the plans wait.
@@ -222,7 +223,7 @@ fn two_workers_do_twenty_plans(rt: HostRuntime) -> Result<(), Fail> {
     );
     let plans = all_plans(alloc, &settings)?;
     let book = filled(&rt, alloc, &settings, plans)?;
-    let notes = do_plans(&rt, alloc, &settings, book, devices);
+    let notes = do_plans(&rt, alloc, &settings, book, devices)?;
     assert!(rt; done_in(&notes.journal) == 20, "a plan isn't done");
     assert!(rt;
         done_in(&notes.first) > 0 && done_in(&notes.second) > 0,

@@ -3,7 +3,7 @@
 use crate::common::{FirstPages, part, same_events};
 use pp_cert::Accepted;
 use pp_device::SoloDevice;
-use pp_pool::{Book, Event, OwnSite, Request, Response, Site, Turned, Worker};
+use pp_pool::{Book, Event, Journal, OwnSite, Request, Response, Site, Turned, Worker};
 use pp_settings::Settings;
 use pp_test_plain::accepted;
 use pp_test_plain::samples::{SETTINGS, WRITE};
@@ -73,7 +73,7 @@ fn turned(
     device: SoloDevice,
     book: Book,
     hands: Hands,
-) -> Noted {
+) -> Result<Noted, Fail> {
     let mut hands = hands;
     let Some(hand) = hands.part(0) else {
         panic!(rt; "no hand")
@@ -105,13 +105,14 @@ fn turned(
         site: OwnSite { book },
         is_honest: _,
     } = site;
-    Noted {
+    let journal = book.close(hands);
+    Ok(Noted {
         refused,
         is_idle,
         last,
-        log,
-        journal: book.close(hands),
-    }
+        log: log.to_events(alloc)?,
+        journal: journal.to_events(alloc)?,
+    })
 }
 
 /// A book in which the plan waits.
@@ -120,7 +121,7 @@ fn run(rt: &impl Abort, alloc: Global, settings: &Settings, plan: Accepted) -> R
     let (mut book, hands) = Book::new(alloc, settings)?;
     let is_taken_in = book.submit(plan).is_ok();
     assert!(rt; is_taken_in, "not taken in");
-    Ok(turned(rt, alloc, settings, device, book, hands))
+    turned(rt, alloc, settings, device, book, hands)
 }
 
 /// A worker that is refused room has asked nothing and still has its chair; once there is room it does the plan.
@@ -160,7 +161,7 @@ fn log_taken(
     device: SoloDevice,
     book: Book,
     hands: Hands,
-) -> WithoutLog {
+) -> Result<WithoutLog, Fail> {
     let mut hands = hands;
     let Some(hand) = hands.part(0) else {
         panic!(rt; "no hand")
@@ -177,7 +178,7 @@ fn log_taken(
         assert!(rt; turned == Turned::Done, "{turned:?} before the errand");
     }
     let is_out = matches!(&worker.hand.stage, Stage::Out(_));
-    let before = mem::replace(&mut worker.log, Vec::new(alloc));
+    let before = mem::replace(&mut worker.log, Journal::new(alloc));
     let turned = worker.turn(&mut work);
     let sent = (turned, worker.log.len());
     let is_answered = is_out && matches!(&worker.hand.stage, Stage::In(_));
@@ -190,13 +191,14 @@ fn log_taken(
         Ok(()) => {}
         Err(_) => panic!(rt; "the hand has no place"),
     }
-    WithoutLog {
+    let journal = book.close(hands);
+    Ok(WithoutLog {
         sent,
         is_answered,
         last,
-        logs: (before, after),
-        journal: book.close(hands),
-    }
+        logs: (before.to_events(alloc)?, after.to_events(alloc)?),
+        journal: journal.to_events(alloc)?,
+    })
 }
 
 /// The same with a new book in which the plan waits.
@@ -210,7 +212,7 @@ fn run_on(
     let (mut book, hands) = Book::new(alloc, settings)?;
     let is_taken_in = book.submit(plan).is_ok();
     assert!(rt; is_taken_in, "not taken in");
-    Ok(log_taken(rt, alloc, settings, device, book, hands))
+    log_taken(rt, alloc, settings, device, book, hands)
 }
 
 /// An errand in hand is sent though the log has no room. Its event is in the log where there is memory for it; where there

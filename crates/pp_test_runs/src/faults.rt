@@ -4,7 +4,7 @@ use crate::common::{Counting, Seen, run_over, settings_of};
 use crate::rows::count;
 use pp_device::{Failing, Trouble};
 use pp_pool::Event;
-use pp_report::{audit, journal_text, report};
+use pp_report::{audit, packed_journal_text, report};
 use pp_run::RunRecord;
 use pp_shared::SharedDevice;
 use pp_test_plain::all_accepted;
@@ -63,7 +63,7 @@ fn run_failing<R: AllocGlobal + Abort + Threads + Wait + Clock + Copy + Drop + S
         "a bad image was seen"
     );
     let plans = all_accepted(alloc, &settings, texts)?;
-    let text = journal_text(alloc, &record.events)?;
+    let text = packed_journal_text(alloc, &record.events)?;
     match audit(alloc, &settings, plans, text.as_bytes()) {
         Ok(audited) => assert!(rt; audited.lines == record.events.len() as u64, "other lines"),
         Err(error) => panic!(rt; "not audited: {error}"),

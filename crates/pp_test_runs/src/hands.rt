@@ -1,6 +1,7 @@
 //! A run's many hands: each work and each end of the device goes to its own worker, and is asked what the plans ask.
 
 use crate::common::{comes_to, run_counted, run_over, settings_of};
+use crate::rows::count;
 use pp_device::{Count, Device, Fault, image};
 use pp_pool::{Event, Work};
 use pp_shared::SharedDevice;
@@ -177,7 +178,7 @@ fn run_apart<R: AllocGlobal + Abort + Threads + Wait + Clock + Copy + Drop + Syn
         Ok(ran) => ran,
         Err(error) => panic!(rt; "refused: {error}"),
     };
-    assert!(rt; !record.events.iter().any(strays), "another work's page");
+    assert!(rt; count(&record.events, strays) == 0, "another work's page");
     for (at, device) in devices.iter().enumerate() {
         assert!(rt;
             device.number as usize == at,

@@ -24,6 +24,8 @@ mod hands;
 #[cfg(test)]
 mod latches;
 #[cfg(test)]
+mod lives;
+#[cfg(test)]
 mod meanwhile;
 #[cfg(test)]
 mod memory;

@@ -115,7 +115,7 @@ fn run_with<R: Abort + Threads + Wait + Clock + AllocGlobal + Copy + Drop + Sync
     let is_without_memory = |end: &&Worked<SharedDevice<R>>| end.stop == Stop::NoMemory;
     let without_memory = worked.iter().filter(is_without_memory).count();
     let done = count(&events, is_done);
-    let judged = judge(alloc, worked, &flushed, events.as_slice(), left).map(|_back| ());
+    let judged = judge(alloc, worked, &flushed, &events, left).map(|_back| ());
     Ok(Ran {
         without_memory,
         done,

@@ -1,6 +1,7 @@
 //! Two workers are at work at once.
 
 use crate::common::{Counting, Seen, run_over, settings_of};
+use crate::rows::count;
 use pp_device::{Count, Device, Fault, image};
 use pp_model::{Ending, Reply};
 use pp_pool::Event;
@@ -111,7 +112,7 @@ fn workers_really_overlap(rt: HostRuntime) -> Result<(), Fail> {
     }
     match run_over(&rt, alloc, &settings, plans, devices, works) {
         Ok((record, _devices)) => {
-            let done = record.events.iter().filter(|event| is_done(event)).count();
+            let done = count(&record.events, is_done);
             assert!(rt; done == 2, "a plan was not done");
         }
         Err(error) => panic!(rt; "refused: {error}"),

@@ -1,6 +1,6 @@
 //! A desk on which one worker goes on, and the other waits until something comes back.
 
-use pp_pool::{Book, BookAnswer, Event, OwnSite, Request, Response, Site};
+use pp_pool::{Book, BookAnswer, Journal, OwnSite, Request, Response, Site};
 use pp_run::Desk;
 use pp_settings::{Layout, Settings};
 use pp_vault::{Cause, Delay, Flushing, Hand, Hands, ReadGuard, Refusal};
@@ -61,7 +61,7 @@ impl Patient {
     }
 
     /// Whether what the worker waited for is back, and the journal.
-    pub fn close(self) -> (bool, Vec<Event>) {
+    pub fn close(self) -> (bool, Journal) {
         let Patient {
             site: OwnSite { book },
             hands,

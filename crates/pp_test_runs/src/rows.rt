@@ -2,7 +2,7 @@
 
 use crate::common::{Seen, run, same_text};
 use pp_pool::Event;
-use pp_report::journal_text;
+use pp_report::{Journal, packed_journal_text};
 use pp_test_plain::samples::{READ, TOUCH, WRITE, WRITTEN};
 use pp_vault::{Ending, Reply};
 use std::sync::atomic::Ordering;
@@ -14,7 +14,7 @@ fn a_run_ends_well(rt: HostRuntime) -> Result<(), Fail> {
     for _again in 0..100 {
         let seen = Seen::new();
         let record = run(&rt, 1, 0, &[WRITE], &seen)?;
-        let journal = journal_text(rt.alloc(), &record.events)?;
+        let journal = packed_journal_text(rt.alloc(), &record.events)?;
         same_text(&rt, &journal, WRITTEN);
         assert!(rt; record.dirty == 1 && record.plans == 1, "other figures");
     }
@@ -22,12 +22,12 @@ fn a_run_ends_well(rt: HostRuntime) -> Result<(), Fail> {
 }
 
 /// How many events there are of a kind.
-pub fn count(events: &[Event], is_counted: fn(&Event) -> bool) -> usize
+pub fn count(events: &Journal, is_counted: fn(&Event) -> bool) -> usize
     requires { IsAlwaysCallable is_counted }
 {
     let mut count = 0usize;
     for event in events {
-        if is_counted(event) {
+        if is_counted(&event) {
             count = count.saturating_add(1);
         }
     }
@@ -80,7 +80,7 @@ fn two_workers_touch_a_page(rt: HostRuntime) -> Result<(), Fail> {
 }
 
 /// The mark at the last unlatch, where each unlatch tells the mark of the one before, or one more.
-fn last_mark(events: &[Event]) -> Option<u64> {
+fn last_mark(events: &Journal) -> Option<u64> {
     let mut last = 0u64;
     for event in events {
         if let Event::Step {
@@ -88,10 +88,10 @@ fn last_mark(events: &[Event]) -> Option<u64> {
             ..
         } = event
         {
-            if *mark != last && *mark != last.saturating_add(1) {
+            if mark != last && mark != last.saturating_add(1) {
                 return None;
             }
-            last = *mark;
+            last = mark;
         }
     }
     Some(last)

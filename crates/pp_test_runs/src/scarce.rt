@@ -1,6 +1,6 @@
 //! A desk that has no room for the logs of some workers.
 
-use pp_pool::{Book, Event, OwnSite, Request, Response, Site};
+use pp_pool::{Book, Journal, OwnSite, Request, Response, Site};
 use pp_run::{Desk, Left};
 use pp_settings::{Layout, Settings};
 use pp_vault::{Flushing, Hand, Hands, ReadGuard, Stage};
@@ -30,7 +30,7 @@ impl Scarce {
     }
 
     /// What is left, and the journal. The test fails where a worker's chair isn't there, or a flush is in hand.
-    pub fn close(self, rt: &impl Abort, settings: &Settings) -> (Left, Vec<Event>) {
+    pub fn close(self, rt: &impl Abort, settings: &Settings) -> (Left, Journal) {
         let Scarce {
             site: OwnSite { book },
             mut hands,

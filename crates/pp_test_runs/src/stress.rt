@@ -4,7 +4,7 @@ use crate::common::{Seen, run_over, settings_with};
 use pp_device::{Device, Failing, Trouble, image};
 use pp_model::Reply;
 use pp_pool::{Event, Work};
-use pp_report::{audit, journal_text};
+use pp_report::{Journal, audit, packed_journal_text};
 use pp_run::RunRecord;
 use pp_settings::Settings;
 use pp_shared::SharedDevice;
@@ -23,14 +23,14 @@ fn sample(alloc: Global) -> Result<Settings, Fail> {
 }
 
 /// Five times: a leaf is written below a root that is read, or a leaf is read.
-const DESCENT: &str = "{\"body\":[{\"body\":[{\"choice\":[\
+pub const DESCENT: &str = "{\"body\":[{\"body\":[{\"choice\":[\
 [{\"fix\":\"a\",\"region\":\"root\"},{\"latch\":\"a\",\"mode\":\"S\"},{\"fix\":\"b\",\"region\":\"leaf\"},\
 {\"latch\":\"b\",\"mode\":\"X\"},{\"unlatch\":\"a\"},{\"unfix\":\"a\"},{\"unlatch\":\"b\"},{\"unfix\":\"b\"}],\
 [{\"fix\":\"a\",\"region\":\"leaf\"},{\"latch\":\"a\",\"mode\":\"S\"},{\"unlatch\":\"a\"},{\"unfix\":\"a\"}]\
 ]}],\"loop\":5}],\"version\":1}";
 
 /// Five times: a leaf is written beside one that a bundle keeps, or leaves are gathered below a root that is read, and behind it.
-const KEEPING: &str = "{\"body\":[{\"body\":[{\"choice\":[\
+pub const KEEPING: &str = "{\"body\":[{\"body\":[{\"choice\":[\
 [{\"gather\":\"g\",\"region\":\"leaf\"},{\"fix\":\"a\",\"region\":\"leaf\"},{\"latch\":\"a\",\"mode\":\"X\"},\
 {\"unlatch\":\"a\"},{\"unfix\":\"a\"},{\"gather\":\"g\",\"region\":\"leaf\"},{\"scatter\":\"g\"}],\
 [{\"fix\":\"a\",\"region\":\"root\"},{\"latch\":\"a\",\"mode\":\"S\"},{\"gather\":\"g\",\"region\":\"leaf\"},\
@@ -40,9 +40,10 @@ const KEEPING: &str = "{\"body\":[{\"body\":[{\"choice\":[\
 /// Picks pages and branches by a running number, adds 1 to the first byte of a body, and compares what it sees with the
 /// mark.
 #[derive(Drop)]
-struct Walking<'a> {
-    seen: &'a Seen,
-    at: u32,
+pub struct Walking<'a> {
+    pub seen: &'a Seen,
+    /// Where the numbers begin.
+    pub at: u32,
 }
 
 impl<'a> Walking<'a> {
@@ -90,8 +91,8 @@ where
 }
 
 /// How many plans ended, done or gone.
-fn ended(events: &[Event]) -> usize {
-    let is_end = |event: &&Event| {
+fn ended(events: &Journal) -> usize {
+    let is_end = |event: &Event| {
         matches!(
             event,
             Event::Step {
@@ -145,12 +146,12 @@ fn run_many<R: AllocGlobal + Abort + Threads + Wait + Clock + Copy + Drop + Sync
 fn is_audited<R: AllocGlobal + Abort>(
     rt: &R,
     texts: &[&str],
-    events: &[Event],
+    events: &Journal,
 ) -> Result<(), Fail> {
     let alloc = rt.alloc();
     let settings = sample(alloc)?;
     let plans = all_accepted(alloc, &settings, texts)?;
-    let journal = journal_text(alloc, events)?;
+    let journal = packed_journal_text(alloc, events)?;
     match audit(alloc, &settings, plans, journal.as_bytes()) {
         Ok(audited) => assert!(rt; audited.lines == events.len() as u64, "other lines"),
         Err(error) => panic!(rt; "not audited: {error}"),

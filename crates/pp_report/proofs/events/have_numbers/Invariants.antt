@@ -3,6 +3,6 @@ use Rattle.std.specs.List.{AllByRecursion}
 use Rattle.pp_report.specs.Lines.{HasNumbers}
 use Rattle.pp_report.proofs.events.have_numbers.Given as goal
 
-abbrev pub invariant-loop-event : goal.invariant-loop-event
-invariant-loop-event l =
-    AllByRecursion HasNumbers (drop l.event-index l.events) → AllByRecursion HasNumbers l.events
+abbrev pub invariant-loop-place : goal.invariant-loop-place
+invariant-loop-place l =
+    AllByRecursion HasNumbers (drop l.place l.events.items) → AllByRecursion HasNumbers l.events.items

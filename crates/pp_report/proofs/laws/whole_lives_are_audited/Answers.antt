@@ -3,8 +3,8 @@ use Rattle.pp_report.proofs.laws.whole_lives_are_audited.Goals as goal
 
 pub returns-clause-text : goal.returns-clause-text
 returns-clause-text c = λ k plans.
-    whole_spelled k plans _ c.args.last.now c.each_has_numbers.ensures c.have_numbers.ensures
+    whole_spelled k plans _ c.args.last.now.items c.each_has_numbers.ensures c.have_numbers.ensures
 
 pub returns-clause-verdict : goal.returns-clause-verdict
 returns-clause-verdict c = λ k plans.
-    whole_audited k plans _ c.args.last.now c.each_has_numbers.ensures c.have_numbers.ensures
+    whole_audited k plans _ c.args.last.now.items c.each_has_numbers.ensures c.have_numbers.ensures

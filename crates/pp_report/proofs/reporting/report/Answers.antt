@@ -1,6 +1,5 @@
-use Rattle.std.proofs.Common.{ap, ◌∙◌, map}
-use Rattle.std.specs.List.{range_with_len}
-use Rattle.pp_report.specs.Reports.{heading, row_of, figures, figure_lines}
+use Rattle.std.proofs.Common.{◌∙◌}
+use Rattle.pp_report.specs.Reports.{heading, figures, figure_lines}
 use Rattle.pp_report.proofs.Complete.{tells_each_plan}
 use Rattle.pp_report.proofs.OneMore.{together}
 use Rattle.pp_report.proofs.reporting.report.Goals as goal
@@ -9,8 +8,7 @@ pub returns-clause-text : goal.returns-clause-text
 returns-clause-text c =
     let run = c.args.run.now in
     together _ _ _ heading _ run.plans run.events.items (figure_lines run figures) c.in_ok-text.ensures.ok
-    (c.as_slice-2.ensures.value ∙ c.in_ok-rows.ensures
-    ∙ ap (λ es. map (λ k. row_of k es) (range_with_len 0 run.plans)) c.as_slice.ensures.value)
+    (c.as_slice.ensures.value ∙ c.in_ok-rows.ensures)
     c.in_ok-push_rows.ensures c.in_ok-push_figures.ensures
 
 pub returns-clause-plans : goal.returns-clause-plans

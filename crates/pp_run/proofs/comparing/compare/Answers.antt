@@ -1,6 +1,8 @@
-use Rattle.std.proofs.Common.{◌≡◌, ◌+◌, None, Some, get_or, slice_set, inl, inr, ap, sym, subst, ◌∙◌, arith}
+use Rattle.std.proofs.Common.{◌≡◌, ◌+◌, length, refl, None, Some, get_or, slice_set, inl, inr, ap, sym, subst, ◌∙◌, arith}
 use Rattle.std.proofs.lemmas.Bool.Decides.{eqb_tells}
+use Rattle.std.proofs.lemmas.Option.{slice_get_read}
 use Rattle.std.proofs.lemmas.List.{get_or-set_same, get_or-set_other, get_or_default}
+use Rattle.std.specs.Prelude.{slice_get}
 use Rattle.pp_model.specs.WorkerParts.{names_worker}
 use Rattle.pp_run.specs.Agreeing.{Agrees}
 use Rattle.pp_run.specs.declared.stop.Worked.{Worked}
@@ -9,24 +11,29 @@ use Rattle.pp_run.proofs.comparing.compare.Goals as goal
 use Rattle.pp_run.proofs.comparing.compare.Goals.{else-worker-lt-TOGETHER-via-then-worker-lt-TOGETHER+else-worker-worked, else-worker-lt-TOGETHER-via-else-worker-lt-TOGETHER}
 
 pub returns-in_default : goal.returns-in_default
-returns-in_default g c events place here all w count x low long =
-    agrees_other (get_or c.args.counts.now w count) (get_or c.args.worked.now w x).log.items w events place c.args.event here
-    (else_false (names_worker w c.args.event) (λ is. c.in_default.not-Some w ((c.worker_in.ensures w).0 is)))
+returns-in_default g c all w count x low long =
+    let events = c.args.events.now.items in let place = c.args.place in
+    let here : slice_get events place ≡ Some c.event-event.result
+    = slice_get_read events (length events) place c.event-event.result refl c.requires c.event-event.ensures in
+    agrees_other (get_or c.args.counts.now w count) (get_or c.args.worked.now w x).log.items w events place c.event-event.result here
+    (else_false (names_worker w c.event-event.result) (λ is. c.in_default.not-Some w ((c.worker_in.ensures w).0 is)))
     (all w count x low long)
 
 pub returns-then-worker-worked : goal.returns-then-worker-worked
-returns-then-worker-worked g c events place here all w count x low long =
+returns-then-worker-worked g c all w count x low long =
+    let events = c.args.events.now.items in let place = c.args.place in
+    let here : slice_get events place ≡ Some c.event-event.result
+    = slice_get_read events (length events) place c.event-event.result refl c.requires c.event-event.ensures in
     let v = c.in-Some.worker in
     let counts = c.args.counts.now in
     elim (eqb_tells v w) [
       | inl t ↦
-          let mine : Agrees c.after.result c.as_slice.result.now v events (place + 1) =
-          c.after.ensures v events place here ((c.worker_in.ensures v).1 c.in-Some.is)
-          (subst (λ log. Agrees (get_or counts v None) log v events place) (sym c.as_slice.ensures.value)
+          let mine : Agrees c.after.result (get_or c.args.worked.now v c.index-worked-worker.result).log.items v events (place + 1) =
+          c.after.ensures v c.event-event.result here ((c.worker_in.ensures v).1 c.in-Some.is)
           (all v None c.index-worked-worker.result (omega (arith, c.told-counts, c.if-worker-lt-TOGETHER.true))
-          c.if-worker-worked.true)) in
-          let log : c.as_slice.result.now ≡ (get_or c.args.worked.now v x).log.items =
-          c.as_slice.ensures.value ∙ ap (λ (y : Worked g.row.D.Denot). y.log.items)
+          c.if-worker-worked.true) in
+          let log : (get_or c.args.worked.now v c.index-worked-worker.result).log.items ≡ (get_or c.args.worked.now v x).log.items =
+          ap (λ (y : Worked g.row.D.Denot). y.log.items)
           (get_or_default c.args.worked.now v c.index-worked-worker.result x c.if-worker-worked.true) in
           let set_now : get_or (slice_set counts v c.after.result) v count ≡ c.after.result =
           get_or-set_same counts v c.after.result count (omega (arith, c.told-counts, c.if-worker-lt-TOGETHER.true)) in
@@ -36,16 +43,19 @@ returns-then-worker-worked g c events place here all w count x low long =
           (subst (λ items. Agrees c.after.result items v events (place + 1)) log mine))
       | inr t ↦
           rw (get_or-set_other counts v w c.after.result count (λ e. t.1 (sym e))) (agrees_other (get_or counts w count) (get_or c.args.worked.now w x).log.items w events
-          place c.args.event here
-          (else_false (names_worker w c.args.event)
+          place c.event-event.result here
+          (else_false (names_worker w c.event-event.result)
           (λ is. let same : Some v ≡ Some w = sym c.in-Some.is ∙ (c.worker_in.ensures w).0 is in t.1 (cc)))
           (all w count x (omega (arith, low, c.told-counts, c.after.array_long)) long))
     ]
 
 pub returns-else-worker-lt-TOGETHER : goal.returns-else-worker-lt-TOGETHER
-returns-else-worker-lt-TOGETHER g c events place here all w count x low long =
-    agrees_other (get_or c.args.counts.now w count) (get_or c.args.worked.now w x).log.items w events place c.args.event here
-    (else_false (names_worker w c.args.event)
+returns-else-worker-lt-TOGETHER g c all w count x low long =
+    let events = c.args.events.now.items in let place = c.args.place in
+    let here : slice_get events place ≡ Some c.event-event.result
+    = slice_get_read events (length events) place c.event-event.result refl c.requires c.event-event.ensures in
+    agrees_other (get_or c.args.counts.now w count) (get_or c.args.worked.now w x).log.items w events place c.event-event.result here
+    (else_false (names_worker w c.event-event.result)
     (λ is. let same : Some c.in-Some.worker ≡ Some w = sym c.in-Some.is ∙ (c.worker_in.ensures w).0 is in
     elim c.else-worker-lt-TOGETHER.branch [
       | else-worker-lt-TOGETHER-via-then-worker-lt-TOGETHER+else-worker-worked v ↦

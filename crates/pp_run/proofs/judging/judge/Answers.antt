@@ -7,8 +7,8 @@ use Rattle.pp_run.proofs.judging.judge.Goals as goal
 
 pub returns-then-not-is_counted-clause-error : goal.returns-then-not-is_counted-clause-error
 returns-then-not-is_counted-clause-error g c =
-    let settled : Settled c.args.worked.items c.args.events.now c.in_ok-back.back.items = search rules in
-    let sound : IsSound c.args.worked.items c.args.flushed.now c.args.events.now c.args.left = record {
+    let settled : Settled c.args.worked.items c.args.events.now.items c.in_ok-back.back.items = search rules in
+    let sound : IsSound c.args.worked.items c.args.flushed.now c.args.events.now.items c.args.left = record {
       workers = search rules;
       flusher = search rules;
       over = search rules;
@@ -26,13 +26,13 @@ returns-then-not-is_counted-clause-error g c =
 
 pub returns-in_err-back-clause-error : goal.returns-in_err-back-clause-error
 returns-in_err-back-clause-error g c =
-    let sound : IsSound c.args.worked.items c.args.flushed.now c.args.events.now c.args.left = record {
+    let sound : IsSound c.args.worked.items c.args.flushed.now c.args.events.now.items c.args.left = record {
       workers = search rules;
       flusher = search rules;
       over = search rules;
       flushed = search rules;
     } in
-    let said : IsVerdict c.args.worked.items c.args.flushed.now c.args.events.now c.args.left c.in_err-back.field-0.0
-    = unlike_verdict c.args.worked.items c.args.flushed.now c.args.events.now c.args.left c.in_err-back.field-0.0 sound
+    let said : IsVerdict c.args.worked.items c.args.flushed.now c.args.events.now.items c.args.left c.in_err-back.field-0.0
+    = unlike_verdict c.args.worked.items c.args.flushed.now c.args.events.now.items c.args.left c.in_err-back.field-0.0 sound
     c.in_err-back.ensures.error in
     search rules

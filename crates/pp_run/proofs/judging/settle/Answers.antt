@@ -15,11 +15,11 @@ loop-end-preserved g c =
     let worked = into_iter_items c.into_iter-end-iterator.result in
     let given = c.into_iter-end-iterator.ensures.into_iter_gives in
     let same : worked ≡ c.args.worked.items = search rules in
-    let log : c.in-Some.end.log.items ≡ part_of done c.args.events.now = search rules in (
+    let log : c.in-Some.end.log.items ≡ part_of done c.args.events.now.items = search rules in (
       search rules,
       search rules,
       (λ k e below. let h = was.2 (k + 1) e in grind rules),
-      λ k e d below. below_more (λ i. SettledAt (get_or worked i e) c.args.events.now i (get_or all i d)) done
+      λ k e d below. below_more (λ i. SettledAt (get_or worked i e) c.args.events.now.items i (get_or all i d)) done
           (λ i low. let old = was.3 i e d low in record {
             log = old.log;
             sound = old.sound;
@@ -31,9 +31,9 @@ loop-end-preserved g c =
           (c.requires.sound done e (search rules)) in
           let mine : get_or all done d ≡ c.in-Some.end.device
           = ap (λ n. get_or all n d) (sym was.1) ∙ pushed.ensures.by_index.1 d (search rules) in
-          let here : SettledAt c.in-Some.end c.args.events.now done (get_or all done d)
+          let here : SettledAt c.in-Some.end c.args.events.now.items done (get_or all done d)
           = record { log = log; sound = sound; back = mine } in
-          subst (λ (x : Worked g.row.D.Denot). SettledAt x c.args.events.now done (get_or all done d)) next here) k
+          subst (λ (x : Worked g.row.D.Denot). SettledAt x c.args.events.now.items done (get_or all done d)) next here) k
           (omega arith),
     )
 
@@ -46,7 +46,7 @@ returns-then-not-is_part-clause-error g c =
       within = search rules;
       other = λ x is.
           let next : c.in-Some.end ≡ get_or worked done x = let h = was.2 0 x in grind rules in
-          let log : c.in-Some.end.log.items ≡ part_of done c.args.events.now
+          let log : c.in-Some.end.log.items ≡ part_of done c.args.events.now.items
           = ap (λ (e : Worked g.row.D.Denot). e.log.items) (next ∙ ap (λ xs. get_or xs done x) same) ∙ is in
           false≢true (sym c.if-not-is_part.true ∙ c.is_part.ensures.1 (let l = log in grind rules));
       before = λ v x low.
@@ -58,11 +58,11 @@ returns-then-is_err-clause-error g c =
     let was = c.loop-end.invariant in let done = c.loop-end.worker in
     let worked = into_iter_items c.into_iter-end-iterator.result in
     let same : worked ≡ c.args.worked.items = search rules in
-    let log : c.in-Some.end.log.items ≡ part_of done c.args.events.now = search rules in
+    let log : c.in-Some.end.log.items ≡ part_of done c.args.events.now.items = search rules in
     record {
       worker = done;
       within = search rules;
-      logs = λ v x low. below_more (λ i. (get_or c.args.worked.items i x).log.items ≡ part_of i c.args.events.now) done
+      logs = λ v x low. below_more (λ i. (get_or c.args.worked.items i x).log.items ≡ part_of i c.args.events.now.items) done
           (λ i less. ap (λ xs. (get_or xs i x).log.items) (sym same) ∙ (was.3 i x c.in-Some.end.device less).log)
           (let next : c.in-Some.end ≡ get_or worked done x = let h = was.2 0 x in grind rules in
           ap (λ xs. (get_or xs done x).log.items) (sym same)
@@ -77,8 +77,8 @@ is_part-requires g c count low =
     let given = c.into_iter-end-iterator.ensures.into_iter_gives in
     let same : worked ≡ c.args.worked.items = search rules in
     let next : end ≡ get_or worked done end = let h = was.2 0 end in grind rules in
-    let log : (get_or c.as_slice.result.now done end).log.items ≡ c.as_slice-in-loop-end.result.now
+    let log : (get_or c.as_slice.result.now done end).log.items ≡ end.log.items
     = ap (λ xs. (get_or xs done end).log.items) (c.as_slice.ensures.value ∙ sym same)
-    ∙ (ap (λ (e : Worked g.row.D.Denot). e.log.items) (sym next) ∙ sym c.as_slice-in-loop-end.ensures.value) in
-    subst (λ items. Agrees (get_or c.agreement-counts.result done count) items done c.args.events.now
-    (length c.args.events.now)) log (c.agreement-counts.ensures done count end low (search rules))
+    ∙ ap (λ (e : Worked g.row.D.Denot). e.log.items) (sym next) in
+    subst (λ items. Agrees (get_or c.agreement-counts.result done count) items done c.args.events.now.items
+    (length c.args.events.now.items)) log (c.agreement-counts.ensures done count end low (search rules))

@@ -9,4 +9,4 @@ invariant-loop-end g l =
     (l.worker + into_iter_len rest ≡ into_iter_len l.initial.end-iterator)
     × (vec_len l.back ≡ l.worker)
     × ((k : ℕ) (x : _) → k < into_iter_len rest → get_or (into_iter_items rest) k x ≡ get_or worked (l.worker + k) x)
-    × ((k : ℕ) (x : _) (d : _) → k < l.worker → SettledAt (get_or worked k x) l.events k (get_or (vec_items l.back) k d))
+    × ((k : ℕ) (x : _) (d : _) → k < l.worker → SettledAt (get_or worked k x) l.events.items k (get_or (vec_items l.back) k d))

@@ -1,5 +1,4 @@
 use Rattle.std.proofs.Common.{subst, rules}
-use Rattle.std.specs.Prelude.{vec_capacity}
 use Rattle.pp_pool.specs.Parts.{parts_with}
 use Rattle.pp_pool.specs.Submits.{TakesIn}
 use Rattle.pp_pool.proofs.Growing.{book_taken, taken_in}
@@ -9,7 +8,7 @@ pub invariant_of-self : goal.invariant_of-self
 invariant_of-self c =
     book_taken (parts_with c.self.inside.vault c.self.inside.workers c.self.inside.journal c.self.inside.most c.self.inside.flushes c.self.inside.began)
     c.self.invariant c.args.accepted c.in-Ok.id c.submit.new.self c.in-Ok.ensures.ok c.push_reserved.new.self.items
-    (search rules) (vec_capacity c.push_reserved.new.self) (search rules) c.max-self-inside.result (search rules)
+    (search rules) c.push_reserved.new.self.capacity (search rules) c.max-self-inside.result (search rules)
 
 pub returns-in-Ok-clause-ok : goal.returns-in-Ok-clause-ok
 returns-in-Ok-clause-ok c =
@@ -17,10 +16,10 @@ returns-in-Ok-clause-ok c =
     (parts_with c.submit.new.self c.self.inside.workers c.push_reserved.new.self c.max-self-inside.result c.self.inside.flushes c.self.inside.began)) c.self.view_is
     (taken_in (parts_with c.self.inside.vault c.self.inside.workers c.self.inside.journal c.self.inside.most c.self.inside.flushes c.self.inside.began)
     c.self.invariant c.args.accepted c.in-Ok.id c.submit.new.self c.in-Ok.ensures.ok c.push_reserved.new.self.items
-    (search rules) (vec_capacity c.push_reserved.new.self) (search rules) c.max-self-inside.result (search rules))
+    (search rules) c.push_reserved.new.self.capacity (search rules) c.max-self-inside.result (search rules))
 
 pub returns-in-Ok-clause-kept : goal.returns-in-Ok-clause-kept
 returns-in-Ok-clause-kept c =
     book_taken (parts_with c.self.inside.vault c.self.inside.workers c.self.inside.journal c.self.inside.most c.self.inside.flushes c.self.inside.began)
     c.self.invariant c.args.accepted c.in-Ok.id c.submit.new.self c.in-Ok.ensures.ok c.push_reserved.new.self.items
-    (search rules) (vec_capacity c.push_reserved.new.self) (search rules) c.max-self-inside.result (search rules)
+    (search rules) c.push_reserved.new.self.capacity (search rules) c.max-self-inside.result (search rules)

@@ -1,5 +1,4 @@
 use Rattle.std.proofs.Common.{◌≡◌, ◌∙◌, ap, subst}
-use Rattle.std.specs.Prelude.{vec_capacity}
 use Rattle.pp_pool.specs.Parts.{parts_with, settings_of, plans_of}
 use Rattle.pp_pool.specs.Requests.{event_for}
 use Rattle.pp_pool.proofs.Noted.{noted}
@@ -19,7 +18,7 @@ invariant_of-self c =
     c.self.invariant c.args.request c.ask-answer.new.vault c.ask-answer.result.1 (noted c.self.inside.vault c.ask-answer.new.vault c.args.request c.ask-answer.result.0 c.ask-answer.result.1
     c.ask-answer.ensures.comes c.ask-answer.ensures.does c.ask-answer.ensures.done) c.noted-event.result
     c.noted-event.ensures.event c.noted-event.new.journal.items c.noted-event.ensures.journal
-    (vec_capacity c.noted-event.new.journal) c.noted-event.ensures.memory
+    c.noted-event.new.journal.capacity c.noted-event.ensures.memory
 
 pub returns-clause-event : goal.returns-clause-event
 returns-clause-event c =
@@ -35,7 +34,7 @@ returns-clause-settings c =
     c.self.invariant c.args.request c.ask-answer.new.vault c.ask-answer.result.1 (noted c.self.inside.vault c.ask-answer.new.vault c.args.request c.ask-answer.result.0 c.ask-answer.result.1
     c.ask-answer.ensures.comes c.ask-answer.ensures.does c.ask-answer.ensures.done) c.noted-event.result
     c.noted-event.ensures.event c.noted-event.new.journal.items c.noted-event.ensures.journal
-    (vec_capacity c.noted-event.new.journal) c.noted-event.ensures.memory
+    c.noted-event.new.journal.capacity c.noted-event.ensures.memory
     ∙ ap settings_of c.self.view_is
 
 pub returns-clause-plans : goal.returns-clause-plans
@@ -44,7 +43,7 @@ returns-clause-plans c =
     c.self.invariant c.args.request c.ask-answer.new.vault c.ask-answer.result.1 (noted c.self.inside.vault c.ask-answer.new.vault c.args.request c.ask-answer.result.0 c.ask-answer.result.1
     c.ask-answer.ensures.comes c.ask-answer.ensures.does c.ask-answer.ensures.done) c.noted-event.result
     c.noted-event.ensures.event c.noted-event.new.journal.items c.noted-event.ensures.journal
-    (vec_capacity c.noted-event.new.journal) c.noted-event.ensures.memory
+    c.noted-event.new.journal.capacity c.noted-event.ensures.memory
     ∙ ap plans_of c.self.view_is
 
 pub returns-clause-kept : goal.returns-clause-kept
@@ -53,7 +52,7 @@ returns-clause-kept c =
     c.self.invariant c.args.request c.ask-answer.new.vault c.ask-answer.result.1 (noted c.self.inside.vault c.ask-answer.new.vault c.args.request c.ask-answer.result.0 c.ask-answer.result.1
     c.ask-answer.ensures.comes c.ask-answer.ensures.does c.ask-answer.ensures.done) c.noted-event.result
     c.noted-event.ensures.event c.noted-event.new.journal.items c.noted-event.ensures.journal
-    (vec_capacity c.noted-event.new.journal) c.noted-event.ensures.memory
+    c.noted-event.new.journal.capacity c.noted-event.ensures.memory
 
 pub returns-clause-fits : goal.returns-clause-fits
 returns-clause-fits c =
@@ -68,4 +67,4 @@ returns-clause-headline c =
     c.self.invariant c.args.request c.ask-answer.new.vault c.ask-answer.result.1 (noted c.self.inside.vault c.ask-answer.new.vault c.args.request c.ask-answer.result.0 c.ask-answer.result.1
     c.ask-answer.ensures.comes c.ask-answer.ensures.does c.ask-answer.ensures.done) c.noted-event.result
     c.noted-event.ensures.event c.noted-event.new.journal.items c.noted-event.ensures.journal
-    (vec_capacity c.noted-event.new.journal) c.noted-event.ensures.memory)
+    c.noted-event.new.journal.capacity c.noted-event.ensures.memory)

@@ -1,5 +1,5 @@
 use Rattle.std.proofs.Common.{subst}
-use Rattle.std.specs.Prelude.{◌≡◌, None, vec_capacity}
+use Rattle.std.specs.Prelude.{◌≡◌, None}
 use Rattle.pp_model.specs.declared.moves.Move.TheVariants as move
 use Rattle.pp_pool.specs.declared.request.Request.TheVariants.{Unfix}
 use Rattle.pp_pool.specs.declared.response.BookAnswer.TheVariants.{Acts}
@@ -11,8 +11,8 @@ use Rattle.pp_pool.proofs.AtOnce.{room_at_once, move_at_once, replies_at_once, p
 use Rattle.pp_pool.proofs.AtOnce.{headline_at_once, refused_none}
 use Rattle.pp_pool.proofs.book.Book.unfix.Goals as goal
 
-pub added-reply-requires : goal.added-reply-requires
-added-reply-requires c =
+pub added_unfix-reply-requires : goal.added_unfix-reply-requires
+added_unfix-reply-requires c =
     room_at_once (parts_with c.self.inside.vault c.self.inside.workers c.self.inside.journal c.self.inside.most c.self.inside.flushes c.self.inside.began)
     c.self.invariant (Unfix c.args.session c.args.guard) (Acts c.in-Ok.session) c.unfix.new.self
     c.in-Ok.ensures.ok (λ _. c.in-Ok.ensures.ok.does) c.in-Ok.done c.in-Ok.ensures.done
@@ -24,26 +24,26 @@ invariant_of-self c =
     c.self.invariant (Unfix c.args.session c.args.guard) (Acts c.in-Ok.session) c.unfix.new.self
     c.in-Ok.ensures.ok (λ _. c.in-Ok.ensures.ok.does) c.in-Ok.done c.in-Ok.ensures.done
     c.in-Ok.ensures.ok.session.worker
-    c.added-reply.new.journal.items c.added-reply.ensures.journal (vec_capacity c.added-reply.new.journal)
-    c.added-reply.ensures.memory
+    c.added_unfix-reply.new.journal.items c.added_unfix-reply.ensures.journal c.added_unfix-reply.new.journal.capacity
+    c.added_unfix-reply.ensures.memory
 
 pub returns-in-Ok-clause-ok : goal.returns-in-Ok-clause-ok
 returns-in-Ok-clause-ok c =
     subst (λ b. Performs b (Unfix c.args.session c.args.guard)
-    (unfixed c.args.session (c.in-Ok.session, c.added-reply.result))
-    (parts_with c.unfix.new.self c.self.inside.workers c.added-reply.new.journal c.self.inside.most c.self.inside.flushes c.self.inside.began)) c.self.view_is
+    (unfixed c.args.session (c.in-Ok.session, c.added_unfix-reply.result))
+    (parts_with c.unfix.new.self c.self.inside.workers c.added_unfix-reply.new.journal c.self.inside.most c.self.inside.flushes c.self.inside.began)) c.self.view_is
     (performs_at_once (parts_with c.self.inside.vault c.self.inside.workers c.self.inside.journal c.self.inside.most c.self.inside.flushes c.self.inside.began)
     c.self.invariant (Unfix c.args.session c.args.guard) (Acts c.in-Ok.session) c.unfix.new.self
     c.in-Ok.ensures.ok (λ _. c.in-Ok.ensures.ok.does) c.in-Ok.done c.in-Ok.ensures.done
     c.in-Ok.ensures.ok.session.worker
-    c.added-reply.new.journal.items c.added-reply.ensures.journal (vec_capacity c.added-reply.new.journal)
-    c.added-reply.ensures.memory
-    (move.Unfix c.args.session.worker) c.added-reply.result
+    c.added_unfix-reply.new.journal.items c.added_unfix-reply.ensures.journal c.added_unfix-reply.new.journal.capacity
+    c.added_unfix-reply.ensures.memory
+    (move.Unfix c.args.session.worker) c.added_unfix-reply.result
     (move_at_once (parts_with c.self.inside.vault c.self.inside.workers c.self.inside.journal c.self.inside.most c.self.inside.flushes c.self.inside.began)
     c.self.invariant (Unfix c.args.session c.args.guard) (Acts c.in-Ok.session) c.unfix.new.self
     c.in-Ok.ensures.ok (λ _. c.in-Ok.ensures.ok.does) c.in-Ok.done c.in-Ok.ensures.done
     c.in-Ok.ensures.ok.session.worker)
-    c.added-reply.ensures.reply)
+    c.added_unfix-reply.ensures.reply)
 
 pub returns-in-Ok-clause-fits : goal.returns-in-Ok-clause-fits
 returns-in-Ok-clause-fits c =
@@ -51,12 +51,12 @@ returns-in-Ok-clause-fits c =
     c.self.invariant (Unfix c.args.session c.args.guard) (Acts c.in-Ok.session) c.unfix.new.self
     c.in-Ok.ensures.ok (λ _. c.in-Ok.ensures.ok.does) c.in-Ok.done c.in-Ok.ensures.done
     c.in-Ok.ensures.ok.session.worker
-    (move.Unfix c.args.session.worker) c.added-reply.result
+    (move.Unfix c.args.session.worker) c.added_unfix-reply.result
     (move_at_once (parts_with c.self.inside.vault c.self.inside.workers c.self.inside.journal c.self.inside.most c.self.inside.flushes c.self.inside.began)
     c.self.invariant (Unfix c.args.session c.args.guard) (Acts c.in-Ok.session) c.unfix.new.self
     c.in-Ok.ensures.ok (λ _. c.in-Ok.ensures.ok.does) c.in-Ok.done c.in-Ok.ensures.done
     c.in-Ok.ensures.ok.session.worker)
-    c.added-reply.ensures.reply
+    c.added_unfix-reply.ensures.reply
 
 pub returns-in-Ok-clause-kept : goal.returns-in-Ok-clause-kept
 returns-in-Ok-clause-kept c =
@@ -64,8 +64,8 @@ returns-in-Ok-clause-kept c =
     c.self.invariant (Unfix c.args.session c.args.guard) (Acts c.in-Ok.session) c.unfix.new.self
     c.in-Ok.ensures.ok (λ _. c.in-Ok.ensures.ok.does) c.in-Ok.done c.in-Ok.ensures.done
     c.in-Ok.ensures.ok.session.worker
-    c.added-reply.new.journal.items c.added-reply.ensures.journal (vec_capacity c.added-reply.new.journal)
-    c.added-reply.ensures.memory
+    c.added_unfix-reply.new.journal.items c.added_unfix-reply.ensures.journal c.added_unfix-reply.new.journal.capacity
+    c.added_unfix-reply.ensures.memory
 
 pub returns-in-Ok-clause-headline : goal.returns-in-Ok-clause-headline
 returns-in-Ok-clause-headline c =
@@ -73,8 +73,8 @@ returns-in-Ok-clause-headline c =
     c.self.invariant (Unfix c.args.session c.args.guard) (Acts c.in-Ok.session) c.unfix.new.self
     c.in-Ok.ensures.ok (λ _. c.in-Ok.ensures.ok.does) c.in-Ok.done c.in-Ok.ensures.done
     c.in-Ok.ensures.ok.session.worker
-    c.added-reply.new.journal.items c.added-reply.ensures.journal (vec_capacity c.added-reply.new.journal)
-    c.added-reply.ensures.memory
+    c.added_unfix-reply.new.journal.items c.added_unfix-reply.ensures.journal c.added_unfix-reply.new.journal.capacity
+    c.added_unfix-reply.ensures.memory
 
 pub returns-in-Err-clause-err : goal.returns-in-Err-clause-err
 returns-in-Err-clause-err c =

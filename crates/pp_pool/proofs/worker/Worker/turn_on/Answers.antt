@@ -1,5 +1,4 @@
 use Rattle.std.proofs.Common.{◌∙◌, ◌≤◌, refl, arith}
-use Rattle.std.specs.Prelude.{vec_capacity}
 use Rattle.pp_pool.proofs.Turning.{turn_from, errand_made}
 use Rattle.pp_pool.proofs.worker.Worker.turn_on.Goals as goal
 
@@ -8,7 +7,7 @@ returns-clause-turn g c =
     let made = c.make_room.new.self in
     let first = c.make_room.ensures.grown in
     let then = c.has_room.ensures.grown in
-    let grown : vec_capacity c.args.self.now.log ≤ vec_capacity c.has_room.new.log = omega (arith, first, then) in
+    let grown : c.args.self.now.log.capacity ≤ c.has_room.new.log.capacity = omega (arith, first, then) in
     turn_from g.S.Site g.D.Device g.W.Work _ _ _ _ _ _
     c.make_room.ensures.site c.make_room.ensures.device c.make_room.ensures.hand
     (c.has_room.ensures.items ∙ c.make_room.ensures.log) c.make_room.ensures.layout

@@ -3,7 +3,7 @@ use Rattle.std.specs.Vec.Iter.{into_iter_items, into_iter_len}
 use Rattle.pp_model.specs.Submitting.{after_submits}
 use Rattle.pp_pool.specs.Parts.{settings_of, plans_of, state_of}
 use Rattle.pp_run.specs.Runs.{submits}
-use Rattle.pp_run.proofs.pool.submit_all.Given as goal
+use Rattle.pp_run.proofs.life.submit_all.Given as goal
 
 abbrev pub invariant-loop-plan : goal.invariant-loop-plan
 invariant-loop-plan l =

@@ -4,7 +4,7 @@ use Rattle.pp_model.specs.Submitting.{after_submits}
 use Rattle.pp_pool.specs.Parts.{plans_of, state_of}
 use Rattle.pp_run.proofs.Begun.{submit_next}
 use Rattle.pp_run.proofs.Taken.{taken_next}
-use Rattle.pp_run.proofs.pool.submit_all.Goals as goal
+use Rattle.pp_run.proofs.life.submit_all.Goals as goal
 
 pub overflow_add-count : goal.overflow_add-count
 overflow_add-count c =

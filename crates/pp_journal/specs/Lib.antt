@@ -1,0 +1,4 @@
+pub mod Events
+pub mod Coding
+pub mod Entries
+pub mod Packing

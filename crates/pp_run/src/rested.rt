@@ -1,0 +1,119 @@
+//! A pool between two runs.
+
+ghost use Rattle.std.specs.Prelude.{◌≡◌, IfOk, IfErr};
+ghost use Rattle.pp_core.specs.Opening.{kept_of};
+ghost use Rattle.pp_model.specs.Pool.{dirty_pages};
+ghost use Rattle.pp_model.specs.Reached.{IsReached};
+ghost use Rattle.pp_outset.specs.Outsets.{new_outset};
+ghost use Rattle.pp_pool.specs.Parts.{state_of};
+ghost use Rattle.pp_run.specs.Rested.{opening_of};
+ghost use Rattle.pp_run.specs.declared.error.RunError.TheVariants as run_errors;
+
+use crate::error::RunError;
+use pp_pool::{Book, Journal};
+use pp_settings::{Layout, Settings};
+use pp_vault::Hands;
+use std::alloc::Global;
+use std::marker::Model;
+
+/// A pool between two runs: no plan waits or runs, and no flush is in flight. What it has cached, ARC's lists and target, which
+/// pages are dirty, and every known mark are there for the next run ([`Pool::run_on`](crate::Pool::run_on)).
+///
+/// Contracts see it as the record `Rested`: its settings, the bytes of a page, and what its next life begins with.
+///
+/// The compiler refuses code that lets it fall: its dirty pages are nowhere else. [`RestedPool::close`] gives it up.
+pub struct RestedPool {
+    pub(crate) book: Book,
+    pub(crate) hands: Hands,
+    pub(crate) layout: Layout,
+    pub(crate) page_bytes: u32,
+}
+
+impl Model for RestedPool {
+    ghost use Rattle.pp_run.specs.Rested.{Rested, rested_in, IsRested};
+
+    ghost Value = { Rested };
+
+    ghost view = { λ p. rested_in p.book p.page_bytes };
+
+    ghost invariant = { λ p. IsRested p.book p.hands p.layout };
+}
+
+impl RestedPool {
+    /// A pool with these settings, in which nothing was done yet. It gets all memory that its vault ever needs, and room in the
+    /// journal for twice the flushes.
+    ///
+    /// # Errors
+    ///
+    /// [`RunError::OutOfMemory`] where that memory can't be had.
+    pub fn open(alloc: Global, settings: &Settings) -> Result<RestedPool, RunError>
+        ensures settings { IfOk result (λ pool. pool.settings ≡ kept_of settings.now) }
+        ensures page_bytes { IfOk result (λ pool. pool.page_bytes ≡ settings.now.page_bytes) }
+        ensures outset { IfOk result (λ pool. pool.began ≡ new_outset (kept_of settings.now)) }
+        ensures error { IfErr result (λ e. e ≡ run_errors.OutOfMemory) }
+    {
+        let (book, hands) = Book::new(alloc, settings)?;
+        let pool = RestedPool {
+            book,
+            hands,
+            layout: settings.layout(),
+            page_bytes: settings.page_bytes(),
+        };
+        Ok(pool)
+    }
+
+    /// Does nothing. It tells that the opening state of the pool's next life can be reached.
+    pub fn known(&self)
+        ensures { IsReached (opening_of self.now) }
+    {
+        self.book.known();
+    }
+
+    /// How many workers it has: so many works, and one more device, are wanted for a run.
+    pub fn workers(&self) -> u32
+        ensures { result ≡ self.now.settings.workers }
+    {
+        self.book.workers()
+    }
+
+    /// How many pages are newer than the device's.
+    pub fn dirty(&self) -> u32
+        ensures { result ≡ dirty_pages (opening_of self.now) }
+    {
+        self.book.dirty()
+    }
+
+    /// Gives the pool up, and answers how many pages were newer than the device's: what was changed in them is lost.
+    pub fn close(self) -> u32
+        ensures { result ≡ dirty_pages (opening_of self) }
+    {
+        let RestedPool {
+            book,
+            hands,
+            layout: _,
+            page_bytes: _,
+        } = self;
+        let dirty = book.dirty();
+        book.close(hands);
+        dirty
+    }
+}
+
+/// A pool whose run gave no record, as its threads left it: its book, and the tokens that are back in their places. Its dirty
+/// pages are nowhere else, so the compiler refuses code that lets it fall; [`Stalled::close`] gives it up.
+pub struct Stalled {
+    pub book: Book,
+    pub hands: Hands,
+}
+
+impl Stalled {
+    /// Gives the pool up: the journal of the life that wasn't ended, and how many pages were newer than the device's.
+    pub fn close(self) -> (Journal, u32)
+        ensures journal { result.0.items ≡ self.book.journal }
+        ensures dirty { result.1 ≡ dirty_pages (state_of self.book) }
+    {
+        let Stalled { book, hands } = self;
+        let dirty = book.dirty();
+        (book.close(hands), dirty)
+    }
+}
