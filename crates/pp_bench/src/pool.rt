@@ -60,7 +60,9 @@ fn run(rt: &HostRuntime, kind: Kind, ops: u64) -> Result<(u64, Option<u128>), Tr
     let settings = pp_bench_traces::settings(alloc, 1)?;
     let accepted = pp_bench_traces::accepted(alloc, &settings, ops)?;
     let device = numbered(alloc)?;
-    let (vault, mut hands) = Vault::new(alloc, &settings).map_err(|_| Trouble::Memory)?;
+    let Ok((vault, mut hands)) = Vault::new(alloc, &settings) else {
+        return Err(Trouble::Memory);
+    };
     let mut pool = Pool { vault, device };
     let watch = Watch::start(rt);
     let played = match hands.part(0) {
@@ -79,7 +81,9 @@ fn run_lives(rt: &HostRuntime, kind: Kind, ops: u64) -> Result<Lives, Trouble> {
     let first = pp_bench_traces::accepted(alloc, &settings, ops)?;
     let second = pp_bench_traces::accepted(alloc, &settings, ops)?;
     let device = numbered(alloc)?;
-    let (vault, mut hands) = Vault::new(alloc, &settings).map_err(|_| Trouble::Memory)?;
+    let Ok((vault, mut hands)) = Vault::new(alloc, &settings) else {
+        return Err(Trouble::Memory);
+    };
     let mut pool = Pool { vault, device };
     let played = match hands.part(0) {
         Some(hand) => pool.play_twice(rt, chair_of(hand), (first, second), kind, ops),

@@ -1,6 +1,6 @@
 //! A vault alone: one worker fixes a page, latches it X, and gives everything back; and once more in the vault's next life.
 
-ghost use Rattle.pp_vault.specs.Headline.{HeadlineHolds};
+ghost use Rattle.pp_vault.specs.Headline.{Holds};
 
 use pp_annotate::annotate;
 use pp_cert::{Accepted, check};
@@ -92,7 +92,7 @@ fn run_in_next_life(
     chair: Chair,
     accepted: Accepted,
 ) -> Stopped
-    ensures headline { HeadlineHolds vault.new }
+    ensures holds { Holds vault.new }
 {
     if vault.renew().is_err() {
         return Stopped::at(Stage::Idle(chair));
@@ -114,7 +114,7 @@ pub(crate) fn accepted(alloc: Global, settings: &Settings) -> anyhow::Result<Acc
 ///
 /// Whatever was refused, and whatever the device did: nobody is stuck in the vault that is left.
 fn run(vault: &mut Vault, device: &mut SoloDevice, chair: Chair, accepted: Accepted) -> Stopped
-    ensures headline { HeadlineHolds vault.new }
+    ensures holds { Holds vault.new }
 {
     if vault.submit(accepted).is_err() {
         return Stopped::at(Stage::Idle(chair));
@@ -153,7 +153,7 @@ fn load(
     device: &mut SoloDevice,
     errand: Errand,
 ) -> Result<(Session, PinGuard), Stopped>
-    ensures headline { HeadlineHolds vault.new }
+    ensures holds { Holds vault.new }
 {
     let answered = match vault.answer(errand.carry_out(device)) {
         Ok((answered, _done)) => answered,
@@ -171,7 +171,7 @@ fn load(
 
 /// A bundle is given back, all its pages at once.
 fn scatter(vault: &mut Vault, session: Session, guard: BundleGuard) -> Stopped
-    ensures headline { HeadlineHolds vault.new }
+    ensures holds { Holds vault.new }
 {
     match vault.scatter(session, guard) {
         Ok((session, _done)) => Stopped::at(Stage::In(session)),
@@ -184,7 +184,7 @@ fn scatter(vault: &mut Vault, session: Session, guard: BundleGuard) -> Stopped
 
 /// The page is latched X and unlatched, and then given back.
 fn write(vault: &mut Vault, session: Session, guard: PinGuard) -> Result<Session, Stopped>
-    ensures headline { HeadlineHolds vault.new }
+    ensures holds { Holds vault.new }
 {
     let (session, guard) = match vault.latch_exclusive(session, guard) {
         Ok((session, guard, _done)) => (session, guard),

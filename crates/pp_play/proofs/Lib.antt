@@ -10,6 +10,7 @@ pub mod Exactly
 pub mod Fitting
 pub mod Seating
 pub mod Unfit
+pub mod Acting
 pub mod AllHands
 pub mod Scripts
 pub mod Errands
@@ -27,6 +28,7 @@ pub mod Held
 pub mod UsePlays
 pub mod UnwindPlays
 pub mod OffPlan
+pub mod Using
 pub mod Putting
 pub mod Latching
 pub mod Leaves

@@ -1,7 +1,8 @@
 -- What the functions that move the guards of a worker tell one another.
-use Rattle.std.specs.Prelude.{◌≡◌, ℕ, false, Option, Some, List}
+use Rattle.std.specs.Prelude.{◌≡◌, ℕ, false, Option, None, Some, List, slice_set}
 use Rattle.pp_cert.specs.declared.note.Held.TheVariants.{S}
 use Rattle.pp_plan.specs.declared.action.Ask.{Ask}
+use Rattle.pp_plan.specs.declared.action.Ask.TheVariants as ask
 use Rattle.pp_model.specs.Pool.{State}
 use Rattle.pp_core.specs.Queries.{ask_of}
 use Rattle.pp_vault.specs.declared.tokens.Session.{Session}
@@ -17,7 +18,9 @@ use Rattle.pp_vault.specs.Fits.{unlatch_call, put_back_call}
 use Rattle.pp_vault.specs.Tokens.{is_long, SessionFits}
 use Rattle.pp_vault.specs.Hands.{GuardFits}
 use Rattle.pp_vault.specs.HandLaws.{FitsIn}
+use Rattle.pp_vault.specs.Holding.{slot_by}
 use Rattle.pp_script.specs.declared.cue.Cue.{Cue}
+use Rattle.pp_script.specs.declared.cue.Cue.TheVariants.{Unfix, Latch, Unlatch}
 use Rattle.pp_play.specs.declared.line.Line.{Line}
 use Rattle.pp_play.specs.Doing.{has_room, slot_wanted, HandPlays}
 
@@ -34,6 +37,26 @@ abbrev pub FixLacksPlace : Parts → (w : ℕ) → List (Option Guard) → Type 
 FixLacksPlace v w places =
     (s : State) → StandsFor v s
     → (a : Ask) × (slot : ℕ) × (ask_of s w ≡ Some a) × (slot_wanted a ≡ Some slot) × (has_room s w places slot ≡ false)
+
+-- The worker of a cue that uses a slot which the plan names, by an unfix, a latch or an unlatch.
+abbrev pub uses_slot : Cue → Option ℕ
+uses_slot (Unfix w) = Some w
+uses_slot (Latch w) = Some w
+uses_slot (Unlatch w) = Some w
+uses_slot cue = None
+
+-- The slot of which a plan asks what the cue does; None where it asks something else.
+abbrev pub slot_asked : Cue → Ask → Option ℕ
+slot_asked (Unfix w) (ask.Unfix slot) = Some slot
+slot_asked (Unfix w) (ask.Scatter slot) = Some slot
+slot_asked (Latch w) (ask.Latch slot mode) = Some slot
+slot_asked (Unlatch w) (ask.Unlatch slot) = Some slot
+slot_asked cue a = None
+
+-- The places once a guard, if there is one, was put into its own.
+abbrev pub put_left : List (Option Guard) → Option Guard → List (Option Guard)
+put_left places None = places
+put_left places (Some g) = slice_set places (slot_by g) (Some g)
 
 -- The call that takes the latch off the page of a guard; a guard that isn't of a latch is a stranger's.
 abbrev pub unlatch_with : Parts → Session → Guard → State → Call

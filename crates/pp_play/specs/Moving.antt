@@ -1,5 +1,5 @@
 -- What the functions that play one cue tell one another of the tokens that they move, and of the device that they ask.
-use Rattle.std.specs.Prelude.{◌≡◌, ℕ, Bool, true, false, Option, None, Some, List}
+use Rattle.std.specs.Prelude.{◌≡◌, ℕ, Bool, true, false, Option, None, Some, IfSome, List, slice_set}
 use Rattle.pp_model.specs.declared.moves.Move.{Move}
 use Rattle.pp_model.specs.declared.reply.Reply.{Reply}
 use Rattle.pp_model.specs.Pool.{State}
@@ -12,7 +12,9 @@ use Rattle.pp_vault.specs.declared.tokens.Session.{Session}
 use Rattle.pp_vault.specs.declared.guards.Guard.{Guard}
 use Rattle.pp_vault.specs.declared.guards.Guard.TheVariants.{Pin, Read, Write, Bundle}
 use Rattle.pp_vault.specs.declared.guards.PinGuard.{PinGuard}
-use Rattle.pp_vault.specs.declared.stage.Stage.TheVariants.{Back}
+use Rattle.pp_vault.specs.declared.stage.Stage.{Stage}
+use Rattle.pp_vault.specs.declared.stage.Stage.TheVariants.{In, Back}
+use Rattle.pp_vault.specs.Stages.{stage_worker}
 use Rattle.pp_vault.specs.declared.stage.Hand.{Hand}
 use Rattle.pp_vault.specs.declared.hands.Hands.{Hands}
 use Rattle.pp_vault.specs.declared.answering.Answered.TheVariants.{Flushed}
@@ -25,13 +27,18 @@ use Rattle.pp_vault.specs.Answers.{answer_call, AnswerComesTo}
 use Rattle.pp_vault.specs.Carrying.{CarriesOut}
 use Rattle.pp_contents.specs.HandMoves.{HandMoves, call_in}
 use Rattle.pp_vault.specs.Hands.{HandsFit}
+use Rattle.pp_vault.specs.Holding.{slot_by, placed}
+use Rattle.pp_vault.specs.declared.refusal.Refusal.{Refusal}
 use Rattle.pp_vault.specs.Uses.{LatchesShared, LatchesExclusive, UnlatchesShared, UnlatchesExclusive}
 use Rattle.pp_contents.specs.ContentLaws.{returned_of, KeepsContents}
 use Rattle.pp_contents.specs.Agreeing.{Agrees}
 use Rattle.pp_script.specs.declared.cue.Cue.{Cue}
-use Rattle.pp_script.specs.declared.cue.Cue.TheVariants.{Device}
+use Rattle.pp_script.specs.declared.cue.Cue.TheVariants.{Device, Take, Choose, Finish}
 use Rattle.pp_play.specs.declared.line.Line.{Line}
-use Rattle.pp_play.specs.declared.line.Line.TheVariants.{Did}
+use Rattle.pp_play.specs.declared.line.Line.TheVariants.{Did, Refused}
+use Rattle.pp_play.specs.Doing.{IsDone}
+use Rattle.pp_play.specs.Guarding.{hand_of, PlaysHand}
+use Rattle.pp_play.specs.Calling.{is_back}
 use Rattle.pp_play.specs.Plays.{Tells}
 use Rattle.pp_play.specs.Following.{errand_at, answer_move, FlusherFollows, PlaysOver}
 
@@ -71,6 +78,49 @@ UnlatchesWith old x (Write g) done new y h =
     UnlatchesExclusive old x g new y h
     × event.Tells old (put_back_call (is_long old g.image) x.worker g.worker g.slot g.page) done
 UnlatchesWith old x (Bundle g) done new y h = ⊥
+
+-- The worker of a cue that needs no page: it takes a plan, goes on with a branch, or is done.
+abbrev pub acts_by : Cue → Option ℕ
+acts_by (Take w) = Some w
+acts_by (Choose w branch) = Some w
+acts_by (Finish w) = Some w
+acts_by cue = None
+
+-- A call of the vault was done with the token of worker w, as the cue asks it, and gave the worker another. Whatever guards are in
+-- the hand, the cue was played so.
+pub record ActsWith (old : Parts) (w : ℕ) (stage : Stage) (cue : Cue) (did : Move × Reply) (new : Parts)
+    (now : Stage) : Type 0 where
+  pub of : stage_worker now ≡ Some w
+  pub forth : is_back now ≡ false
+  pub is_done : IsDone old cue did new
+  pub plays : (guards : List (Option Guard))
+      → PlaysHand old w (hand_of stage guards) cue (Did did.0 did.1) new (hand_of now guards)
+  pub moves : (guards : List (Option Guard)) → CallsWith old (hand_of stage guards) did new (hand_of now guards)
+
+-- It was refused so. Whatever guards are in the hand, the cue was played.
+abbrev pub RefusesStage : (old : Parts) → (w : ℕ) → Stage → Cue → Refusal → Type 0
+RefusesStage old w stage cue why =
+    (guards : List (Option Guard))
+    → PlaysHand old w (hand_of stage guards) cue (Refused cue why) old (hand_of stage guards)
+
+-- A call of the vault was done with this guard, as the cue asks it, and gave a session and a guard of the slot, or none. Where
+-- the guard stood in its place, and what the call gave stands there now, the cue was played so.
+pub record UsesGuard (old : Parts) (x : Session) (g : Guard) (cue : Cue) (did : Move × Reply) (new : Parts) (y : Session)
+    (h : Option Guard) : Type 0 where
+  pub of : y.worker ≡ x.worker
+  pub slot : IfSome h (λ left. slot_by left ≡ slot_by g)
+  pub is_done : IsDone old cue did new
+  pub plays : (places : List (Option Guard)) → placed places (slot_by g) ≡ Some g
+      → PlaysHand old x.worker (hand_of (In x) places) cue (Did did.0 did.1) new
+      (hand_of (In y) (slice_set places (slot_by g) h))
+  pub moves : (places : List (Option Guard)) → placed places (slot_by g) ≡ Some g
+      → CallsWith old (hand_of (In x) places) did new (hand_of (In y) (slice_set places (slot_by g) h))
+
+-- It was refused so. Where the guard stood in its place, the cue was played.
+abbrev pub RefusesGuard : (old : Parts) → Session → Guard → Cue → Refusal → Type 0
+RefusesGuard old x g cue why =
+    (places : List (Option Guard)) → placed places (slot_by g) ≡ Some g
+    → PlaysHand old x.worker (hand_of (In x) places) cue (Refused cue why) old (hand_of (In x) places)
 
 -- ---- a device
 

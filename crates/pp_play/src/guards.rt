@@ -1,8 +1,7 @@
 //! Fix, unfix, latch, unlatch and unwind: cues of a worker that move the guards of its slots. A fix is a gather where the
 //! plan asks one, and an unfix a scatter.
 
-ghost use Rattle.std.specs.Prelude.{◌≡◌, true, false, Some, IfOk, IfErr, OnErr, slice_set};
-ghost use Rattle.pp_plan.specs.declared.action.Ask.TheVariants as ask;
+ghost use Rattle.std.specs.Prelude.{◌≡◌, true, false, Some, IfSome, IfOk, IfErr, OnErr, slice_set};
 ghost use Rattle.pp_model.specs.Pool.{State};
 ghost use Rattle.pp_vault.specs.Holding.{slot_by, is_free};
 ghost use Rattle.pp_vault.specs.Stages.{stage_worker};
@@ -17,7 +16,8 @@ ghost use Rattle.pp_play.specs.Plays.{ComesTo};
 ghost use Rattle.pp_play.specs.Calling.{is_back};
 ghost use Rattle.pp_play.specs.Doing.{slot_wanted, has_room, FixHasPlace, IsDone, HandPlays};
 ghost use Rattle.pp_play.specs.Guarding.{hand_of, PlaysHand, FixLacksPlace, unlatch_with, ChangesGuard};
-ghost use Rattle.pp_play.specs.Moving.{MovesHand, LatchesWith, UnlatchesWith};
+ghost use Rattle.pp_play.specs.Guarding.{uses_slot, slot_asked, put_left};
+ghost use Rattle.pp_play.specs.Moving.{MovesHand, LatchesWith, UnlatchesWith, UsesGuard, RefusesGuard};
 
 use crate::line::{Line, did, off_plan};
 use pp_plan::Mode;
@@ -145,190 +145,140 @@ fn fix_in(
     }
 }
 
-/// A worker gives the page of the slot back that its plan names, or all pages of the bundle.
-pub(crate) fn unfix(vault: &mut Vault, hand: Hand, worker: u32) -> (Hand, Line)
-    requires { stage_worker hand.stage ≡ Some worker }
+/// A worker uses the slot that its plan names: it gives the page back, or all pages of the bundle; it latches the page, in the
+/// mode that the plan names; or it takes the latch off.
+pub(crate) fn use_slot(vault: &mut Vault, hand: Hand, cue: Cue, worker: u32) -> (Hand, Line)
+    requires of { stage_worker hand.stage ≡ Some worker }
+    requires uses { uses_slot cue ≡ Some worker }
     ensures of { stage_worker result.0.stage ≡ Some worker }
-    ensures comes { ComesTo vault.old (cue.Unfix worker) result.1 vault.new }
-    ensures plays { FitsIn vault.old worker hand
-        → HandPlays vault.old worker hand (cue.Unfix worker) result.1 vault.new result.0 }
+    ensures comes { ComesTo vault.old cue result.1 vault.new }
+    ensures plays { FitsIn vault.old worker hand → HandPlays vault.old worker hand cue result.1 vault.new result.0 }
     ensures moves { MovesHand vault.old hand result.1 vault.new result.0 }
     ensures forth { is_back hand.stage ≡ false → is_back result.0.stage ≡ false }
 {
     vault.known();
-    let cue = Cue::Unfix { worker };
     let Hand { stage, mut guards } = hand;
     match stage {
-        Stage::In(session) => match session.ask() {
-            Ask::Unfix { slot } => {
-                let (stage, line) = unfix_slot(vault, session, &mut guards, slot, worker);
-                (Hand { stage, guards }, line)
-            }
-            Ask::Scatter { slot } => {
-                let (stage, line) = scatter_slot(vault, session, &mut guards, slot, worker);
-                (Hand { stage, guards }, line)
-            }
-            _ => (
-                Hand {
-                    stage: Stage::In(session),
-                    guards,
-                },
-                off_plan(cue, Cause::NotAsked),
-            ),
-        },
+        Stage::In(session) => {
+            let (stage, line) = use_asked(vault, session, &mut guards, cue, worker);
+            (Hand { stage, guards }, line)
+        }
         stage => (Hand { stage, guards }, off_plan(cue, Cause::NotActing)),
     }
 }
 
-/// The unfix of a slot, which the plan asks.
-fn unfix_slot(
+/// The worker acts: where its plan asks what the cue does, that is done with the guard of the slot.
+fn use_asked(
     vault: &mut Vault,
     session: Session,
     guards: &mut Guards,
-    slot: u8,
+    cue: Cue,
     worker: u32,
 ) -> (Stage, Line)
     requires kept { IsKept vault.old }
     requires of { session.worker ≡ worker }
-    requires asks { session.ask ≡ ask.Unfix slot }
+    requires uses { uses_slot cue ≡ Some worker }
     ensures of { stage_worker result.0 ≡ Some worker }
-    ensures comes { ComesTo vault.old (cue.Unfix worker) result.1 vault.new }
-    ensures plays { PlaysHand vault.old worker (hand_of (In session) guards.old) (cue.Unfix worker) result.1
-        vault.new (hand_of result.0 guards.new) }
+    ensures comes { ComesTo vault.old cue result.1 vault.new }
+    ensures plays { PlaysHand vault.old worker (hand_of (In session) guards.old) cue result.1 vault.new
+        (hand_of result.0 guards.new) }
     ensures moves { MovesHand vault.old (hand_of (In session) guards.old) result.1 vault.new
         (hand_of result.0 guards.new) }
     ensures forth { is_back result.0 ≡ false }
 {
-    hands_still_fit();
-    let cue = Cue::Unfix { worker };
-    match guards.take(u32::from(slot)) {
-        Some(guard) => match guard {
-            Guard::Pin(guard) => match vault.unfix(session, guard) {
-                Ok((session, done)) => (Stage::In(session), did(done)),
-                Err((session, guard, refusal)) => {
-                    put(guards, Guard::Pin(guard));
-                    (Stage::In(session), Line::Refused(cue, refusal))
-                }
-            },
-            guard => {
-                put(guards, guard);
-                (Stage::In(session), Line::Refused(cue, Refusal::Stranger))
-            }
-        },
-        None => (Stage::In(session), Line::Refused(cue, Refusal::Stranger)),
-    }
-}
-
-/// The scatter of a bundle, which the plan asks.
-fn scatter_slot(
-    vault: &mut Vault,
-    session: Session,
-    guards: &mut Guards,
-    slot: u8,
-    worker: u32,
-) -> (Stage, Line)
-    requires kept { IsKept vault.old }
-    requires of { session.worker ≡ worker }
-    requires asks { session.ask ≡ ask.Scatter slot }
-    ensures of { stage_worker result.0 ≡ Some worker }
-    ensures comes { ComesTo vault.old (cue.Unfix worker) result.1 vault.new }
-    ensures plays { PlaysHand vault.old worker (hand_of (In session) guards.old) (cue.Unfix worker) result.1
-        vault.new (hand_of result.0 guards.new) }
-    ensures moves { MovesHand vault.old (hand_of (In session) guards.old) result.1 vault.new
-        (hand_of result.0 guards.new) }
-    ensures forth { is_back result.0 ≡ false }
-{
-    hands_still_fit();
-    let cue = Cue::Unfix { worker };
-    match guards.take(u32::from(slot)) {
-        Some(guard) => match guard {
-            Guard::Bundle(guard) => match vault.scatter(session, guard) {
-                Ok((session, done)) => (Stage::In(session), did(done)),
-                Err((session, guard, refusal)) => {
-                    put(guards, Guard::Bundle(guard));
-                    (Stage::In(session), Line::Refused(cue, refusal))
-                }
-            },
-            guard => {
-                put(guards, guard);
-                (Stage::In(session), Line::Refused(cue, Refusal::Stranger))
-            }
-        },
-        None => (Stage::In(session), Line::Refused(cue, Refusal::Stranger)),
-    }
-}
-
-/// A worker latches the page of the slot that its plan names, in the mode that it names.
-pub(crate) fn latch(vault: &mut Vault, hand: Hand, worker: u32) -> (Hand, Line)
-    requires { stage_worker hand.stage ≡ Some worker }
-    ensures of { stage_worker result.0.stage ≡ Some worker }
-    ensures comes { ComesTo vault.old (cue.Latch worker) result.1 vault.new }
-    ensures plays { FitsIn vault.old worker hand
-        → HandPlays vault.old worker hand (cue.Latch worker) result.1 vault.new result.0 }
-    ensures moves { MovesHand vault.old hand result.1 vault.new result.0 }
-    ensures forth { is_back hand.stage ≡ false → is_back result.0.stage ≡ false }
-{
-    vault.known();
-    let cue = Cue::Latch { worker };
-    let Hand { stage, mut guards } = hand;
-    match stage {
-        Stage::In(session) => match session.ask() {
-            Ask::Latch { slot, mode } => {
-                let (stage, line) = latch_slot(vault, session, &mut guards, slot, mode, worker);
-                (Hand { stage, guards }, line)
-            }
-            _ => (
-                Hand {
-                    stage: Stage::In(session),
-                    guards,
-                },
-                off_plan(cue, Cause::NotAsked),
-            ),
-        },
-        stage => (Hand { stage, guards }, off_plan(cue, Cause::NotActing)),
-    }
-}
-
-/// The latch of a slot, which the plan asks.
-fn latch_slot(
-    vault: &mut Vault,
-    session: Session,
-    guards: &mut Guards,
-    slot: u8,
-    mode: Mode,
-    worker: u32,
-) -> (Stage, Line)
-    requires kept { IsKept vault.old }
-    requires of { session.worker ≡ worker }
-    requires asks { session.ask ≡ ask.Latch slot mode }
-    ensures of { stage_worker result.0 ≡ Some worker }
-    ensures comes { ComesTo vault.old (cue.Latch worker) result.1 vault.new }
-    ensures plays { PlaysHand vault.old worker (hand_of (In session) guards.old) (cue.Latch worker) result.1
-        vault.new (hand_of result.0 guards.new) }
-    ensures moves { MovesHand vault.old (hand_of (In session) guards.old) result.1 vault.new
-        (hand_of result.0 guards.new) }
-    ensures forth { is_back result.0 ≡ false }
-{
-    hands_still_fit();
-    let cue = Cue::Latch { worker };
-    match guards.take(u32::from(slot)) {
-        Some(guard) => match guard {
-            Guard::Pin(guard) => match latched(vault, session, guard, mode) {
+    match slot_asked(cue, session.ask()) {
+        Some(slot) => match guards.take(slot) {
+            Some(guard) => match used(vault, session, guard, cue) {
                 Ok((session, guard, done)) => {
-                    put(guards, guard);
+                    put_left(guards, guard);
                     (Stage::In(session), did(done))
                 }
                 Err((session, guard, refusal)) => {
-                    put(guards, Guard::Pin(guard));
+                    put(guards, guard);
                     (Stage::In(session), Line::Refused(cue, refusal))
                 }
             },
-            guard => {
-                put(guards, guard);
-                (Stage::In(session), Line::Refused(cue, Refusal::Stranger))
-            }
+            None => (Stage::In(session), Line::Refused(cue, Refusal::Stranger)),
         },
-        None => (Stage::In(session), Line::Refused(cue, Refusal::Stranger)),
+        None => (Stage::In(session), off_plan(cue, Cause::NotAsked)),
+    }
+}
+
+/// The slot of which the plan asks what the cue does.
+fn slot_asked(cue: Cue, ask: Ask) -> Option<u32>
+    ensures { result ≡ slot_asked cue ask }
+{
+    match cue {
+        Cue::Unfix { .. } => match ask {
+            Ask::Unfix { slot } | Ask::Scatter { slot } => Some(u32::from(slot)),
+            _ => None,
+        },
+        Cue::Latch { .. } => match ask {
+            Ask::Latch { slot, .. } => Some(u32::from(slot)),
+            _ => None,
+        },
+        Cue::Unlatch { .. } => match ask {
+            Ask::Unlatch { slot } => Some(u32::from(slot)),
+            _ => None,
+        },
+        _ => None,
+    }
+}
+
+/// Puts a guard, if there is one, into its place, which is free.
+fn put_left(guards: &mut Guards, guard: Option<Guard>)
+    requires { IfSome guard (λ g. is_free guards.old (slot_by g) ≡ true) }
+    ensures { guards.new ≡ put_left guards.old guard }
+{
+    match guard {
+        Some(guard) => put(guards, guard),
+        None => {}
+    }
+}
+
+/// The call of the vault that the plan asks, for this guard of the slot. One of another kind is a stranger's.
+fn used(
+    vault: &mut Vault,
+    session: Session,
+    guard: Guard,
+    cue: Cue,
+) -> Result<(Session, Option<Guard>, Done), (Session, Guard, Refusal)>
+    requires kept { IsKept vault.old }
+    requires uses { uses_slot cue ≡ Some session.worker }
+    requires asks { slot_asked cue session.ask ≡ Some (slot_by guard) }
+    ensures ok { IfOk result (λ now. UsesGuard vault.old session guard cue now.2 vault.new now.0 now.1) }
+    ensures err { IfErr result (λ e. RefusesGuard vault.old session guard cue e.2) }
+    ensures back { IfErr result (λ e. (e.0 ≡ session) × (e.1 ≡ guard)) }
+    ensures unchanged { OnErr result (vault.new ≡ vault.old) }
+{
+    hands_still_fit();
+    match session.ask() {
+        Ask::Unfix { .. } => match guard {
+            Guard::Pin(guard) => match vault.unfix(session, guard) {
+                Ok((session, done)) => Ok((session, None, done)),
+                Err((session, guard, refusal)) => Err((session, Guard::Pin(guard), refusal)),
+            },
+            other => Err((session, other, Refusal::Stranger)),
+        },
+        Ask::Scatter { .. } => match guard {
+            Guard::Bundle(guard) => match vault.scatter(session, guard) {
+                Ok((session, done)) => Ok((session, None, done)),
+                Err((session, guard, refusal)) => Err((session, Guard::Bundle(guard), refusal)),
+            },
+            other => Err((session, other, Refusal::Stranger)),
+        },
+        Ask::Latch { mode, .. } => match guard {
+            Guard::Pin(guard) => match latched(vault, session, guard, mode) {
+                Ok((session, guard, done)) => Ok((session, Some(guard), done)),
+                Err((session, guard, refusal)) => Err((session, Guard::Pin(guard), refusal)),
+            },
+            other => Err((session, other, Refusal::Stranger)),
+        },
+        Ask::Unlatch { .. } => match unlatched(vault, session, guard) {
+            Ok((session, guard, done)) => Ok((session, Some(Guard::Pin(guard)), done)),
+            Err(kept) => Err(kept),
+        },
+        _ => unreachable!(),
     }
 }
 
@@ -361,73 +311,6 @@ fn latched(
             Ok((session, guard, done)) => Ok((session, Guard::Write(guard), done)),
             Err(kept) => Err(kept),
         },
-    }
-}
-
-/// A worker takes the latch off the page of the slot that its plan names.
-pub(crate) fn unlatch(vault: &mut Vault, hand: Hand, worker: u32) -> (Hand, Line)
-    requires { stage_worker hand.stage ≡ Some worker }
-    ensures of { stage_worker result.0.stage ≡ Some worker }
-    ensures comes { ComesTo vault.old (cue.Unlatch worker) result.1 vault.new }
-    ensures plays { FitsIn vault.old worker hand
-        → HandPlays vault.old worker hand (cue.Unlatch worker) result.1 vault.new result.0 }
-    ensures moves { MovesHand vault.old hand result.1 vault.new result.0 }
-    ensures forth { is_back hand.stage ≡ false → is_back result.0.stage ≡ false }
-{
-    vault.known();
-    let cue = Cue::Unlatch { worker };
-    let Hand { stage, mut guards } = hand;
-    match stage {
-        Stage::In(session) => match session.ask() {
-            Ask::Unlatch { slot } => {
-                let (stage, line) = unlatch_slot(vault, session, &mut guards, slot, worker);
-                (Hand { stage, guards }, line)
-            }
-            _ => (
-                Hand {
-                    stage: Stage::In(session),
-                    guards,
-                },
-                off_plan(cue, Cause::NotAsked),
-            ),
-        },
-        stage => (Hand { stage, guards }, off_plan(cue, Cause::NotActing)),
-    }
-}
-
-/// The unlatch of a slot, which the plan asks.
-fn unlatch_slot(
-    vault: &mut Vault,
-    session: Session,
-    guards: &mut Guards,
-    slot: u8,
-    worker: u32,
-) -> (Stage, Line)
-    requires kept { IsKept vault.old }
-    requires of { session.worker ≡ worker }
-    requires asks { session.ask ≡ ask.Unlatch slot }
-    ensures of { stage_worker result.0 ≡ Some worker }
-    ensures comes { ComesTo vault.old (cue.Unlatch worker) result.1 vault.new }
-    ensures plays { PlaysHand vault.old worker (hand_of (In session) guards.old) (cue.Unlatch worker) result.1
-        vault.new (hand_of result.0 guards.new) }
-    ensures moves { MovesHand vault.old (hand_of (In session) guards.old) result.1 vault.new
-        (hand_of result.0 guards.new) }
-    ensures forth { is_back result.0 ≡ false }
-{
-    hands_still_fit();
-    let cue = Cue::Unlatch { worker };
-    match guards.take(u32::from(slot)) {
-        Some(guard) => match unlatched(vault, session, guard) {
-            Ok((session, guard, done)) => {
-                put(guards, Guard::Pin(guard));
-                (Stage::In(session), did(done))
-            }
-            Err((session, guard, refusal)) => {
-                put(guards, guard);
-                (Stage::In(session), Line::Refused(cue, refusal))
-            }
-        },
-        None => (Stage::In(session), Line::Refused(cue, Refusal::Stranger)),
     }
 }
 

@@ -214,15 +214,15 @@ fn with_hand<D: Device>(
         result.0 device.new }
 {
     match cue {
-        Cue::Take { .. } => workers::take(vault, hand, worker),
+        Cue::Take { .. } => workers::act(vault, hand, cue, worker),
         Cue::Fix { page, .. } => guards::fix(vault, hand, worker, page),
         Cue::Device { .. } => devices::work(vault, hand, device, worker),
-        Cue::Unfix { .. } => guards::unfix(vault, hand, worker),
-        Cue::Latch { .. } => guards::latch(vault, hand, worker),
-        Cue::Unlatch { .. } => guards::unlatch(vault, hand, worker),
-        Cue::Choose { branch, .. } => workers::choose(vault, hand, worker, branch),
+        Cue::Unfix { .. } => guards::use_slot(vault, hand, cue, worker),
+        Cue::Latch { .. } => guards::use_slot(vault, hand, cue, worker),
+        Cue::Unlatch { .. } => guards::use_slot(vault, hand, cue, worker),
+        Cue::Choose { .. } => workers::act(vault, hand, cue, worker),
         Cue::Unwind { slot, .. } => guards::unwind(vault, hand, worker, slot),
-        Cue::Finish { .. } => workers::finish(vault, hand, worker),
+        Cue::Finish { .. } => workers::act(vault, hand, cue, worker),
         Cue::Write { slot, byte, .. } => bytes::write(hand, slot, byte),
         Cue::Look { slot, .. } => bytes::look(vault, hand, slot),
         Cue::Flush { .. } | Cue::FlushDevice => unreachable!(),

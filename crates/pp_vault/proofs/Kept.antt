@@ -8,7 +8,7 @@ use Rattle.pp_model.proofs.ReadyLaws.{ready_are_cached, ready_stand}
 use Rattle.pp_core.proofs.Standing.{headline_of}
 use Rattle.pp_vault.specs.Parts.{Parts}
 use Rattle.pp_vault.specs.StandsFor.{StandsFor, IsKept, IsRight}
-use Rattle.pp_vault.specs.Headline.{ReadyFramesAreRight, HeadlineHolds}
+use Rattle.pp_vault.specs.Headline.{ReadyFramesAreRight, HeadlineHolds, Holds}
 use Rattle.pp_vault.specs.Calls.{Call, after_call}
 use Rattle.pp_vault.specs.Events.{Does}
 
@@ -37,6 +37,9 @@ ready_frames_are_right v s st page cached loaded free =
 pub headline : (v : Parts) → HeadlineHolds v
 headline v s st =
     record { core = headline_of s st.core.reached; ready_frames_are_right = ready_frames_are_right v s st }
+
+pub holds : (v : Parts) → IsKept v → Holds v
+holds v k = record { kept = k; headline = headline v }
 
 -- What is done leads from what is kept to what is kept, and so does what changes nothing.
 pub kept_after : (old new : Parts) (call : State → Call) → IsKept old → Does old call new → IsKept new

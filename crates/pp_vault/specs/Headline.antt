@@ -6,7 +6,7 @@ use Rattle.pp_model.specs.Ready.{is_loading, is_written}
 use Rattle.pp_core.specs.Headline as core
 use Rattle.pp_device.specs.Image.{head_of}
 use Rattle.pp_vault.specs.Parts.{Parts}
-use Rattle.pp_vault.specs.StandsFor.{StandsFor, image_in}
+use Rattle.pp_vault.specs.StandsFor.{StandsFor, IsKept, image_in}
 
 -- The page has a frame, which is one of the pool's, and a known mark. In that frame is an image, and its head names the
 -- page and the mark.
@@ -34,3 +34,8 @@ pub record Headline (v : Parts) (s : State) : Type 0 where
 -- It holds of each state that the vault stands for.
 abbrev pub HeadlineHolds : Parts → Type 0
 HeadlineHolds v = (s : State) → StandsFor v s → Headline v s
+
+-- What every call of a vault keeps: there is a state that it stands for, and the whole sentence holds of each such state.
+pub record Holds (v : Parts) : Type 0 where
+  pub kept : IsKept v
+  pub headline : HeadlineHolds v

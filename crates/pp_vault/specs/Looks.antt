@@ -1,5 +1,5 @@
 -- Looking at a page that is latched S: its image is copied, or its body lent.
-use Rattle.std.specs.Prelude.{◌≡◌, ℕ, Bool, ◌&&◌, ◌==◌, Option, Some, None, List, option_map, if◌then◌else◌}
+use Rattle.std.specs.Prelude.{◌≡◌, ℕ, Bool, ◌==◌, Option, Some, None, is_none, List, option_map, if◌then◌else◌}
 use Rattle.pp_cert.specs.declared.note.Held.TheVariants.{S}
 use Rattle.pp_model.specs.Pool.{State, known_mark}
 use Rattle.pp_device.specs.Image.{head_of, body_of}
@@ -15,14 +15,14 @@ use Rattle.pp_vault.specs.Fits.{is_held_so}
 abbrev pub may_see : ReadGuard → State → Bool
 may_see guard s = is_held_so s guard.worker guard.slot guard.page S
 
--- Whether the guard fits, and so many bytes are as many as a page has.
-abbrev pub may_look : (page_bytes : ℕ) → ReadGuard → (bytes : ℕ) → State → Bool
-may_look page_bytes guard bytes s = may_see guard s && (bytes == page_bytes)
-
 -- Why a slice of so many bytes isn't looked into, where it isn't: the guard is asked about first, then the length.
 abbrev pub look_error : (page_bytes : ℕ) → ReadGuard → (bytes : ℕ) → State → Option LookError
 look_error page_bytes guard bytes s =
     if may_see guard s then (if bytes == page_bytes then None else Some Length) else Some Stranger
+
+-- Whether nothing speaks against a look: the guard fits, and so many bytes are as many as a page has.
+abbrev pub may_look : (page_bytes : ℕ) → ReadGuard → (bytes : ℕ) → State → Bool
+may_look page_bytes guard bytes s = is_none (look_error page_bytes guard bytes s)
 
 -- The page's image is there.
 pub record CanSee (v : Parts) (page : ℕ) : Type 0 where

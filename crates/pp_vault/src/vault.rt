@@ -16,9 +16,9 @@ ghost use Rattle.pp_vault.specs.Stages.{AllIdle};
 ghost use Rattle.pp_vault.specs.Hands.{HandsFit};
 ghost use Rattle.pp_vault.specs.Holding.{slot_by};
 ghost use Rattle.pp_vault.specs.Leaves.{GivesBack, give_back_call};
-ghost use Rattle.pp_vault.specs.StandsFor.{StandsFor, IsKept};
+ghost use Rattle.pp_vault.specs.StandsFor.{StandsFor};
 ghost use Rattle.pp_vault.specs.Calls.{refusal_in};
-ghost use Rattle.pp_vault.specs.Headline.{HeadlineHolds};
+ghost use Rattle.pp_vault.specs.Headline.{Holds};
 ghost use Rattle.pp_vault.specs.Events.{Refuses, Does, Tells};
 ghost use Rattle.pp_vault.specs.Fits.{is_gathered, IsEmpty, take_call, choose_call, finish_call, end_call, fix_slot, fix_call};
 ghost use Rattle.pp_vault.specs.Fits.{unfix_call, scatter_call, latch_call, unlatch_call, put_back_call};
@@ -87,8 +87,7 @@ impl Vault {
         ensures no_flush { IfOk result (λ made. made.1.flushing ≡ None) }
         ensures fit { IfOk result (λ made. HandsFit made.0 made.1) }
         ensures page_bytes { IfOk result (λ made. made.0.page_bytes ≡ settings.now.page_bytes) }
-        ensures kept { IfOk result (λ made. IsKept made.0) }
-        ensures headline { IfOk result (λ made. HeadlineHolds made.0) }
+        ensures holds { IfOk result (λ made. Holds made.0) }
     {
         let store = Store::new(alloc, settings)?;
         let hands = Hands::new(alloc, settings.workers())?;
@@ -97,10 +96,8 @@ impl Vault {
 
     /// Does nothing. It tells that the vault stands for a state that can be reached, and that the headline holds of
     /// each state that it stands for.
-    #[tactic(auto, using(crate::proofs::Kept::headline))]
     pub fn known(&self)
-        ensures kept { IsKept self.now }
-        ensures headline { HeadlineHolds self.now }
+        ensures holds { Holds self.now }
     {
         let _ = &self.store;
     }
@@ -118,8 +115,7 @@ impl Vault {
         ensures err { IfErr result (λ e. Refuses self.old (take_call chair.worker) e.1) }
         ensures back { IfErr result (λ e. e.0 ≡ chair) }
         ensures unchanged { OnErr result (self.new ≡ self.old) }
-        ensures kept { IsKept self.new }
-        ensures headline { HeadlineHolds self.new }
+        ensures holds { Holds self.new }
     {
         self.store.take(chair)
     }
@@ -142,8 +138,7 @@ impl Vault {
         ensures err { IfErr result (λ e. Refuses self.old (choose_call session.worker branch) e.1) }
         ensures back { IfErr result (λ e. e.0 ≡ session) }
         ensures unchanged { OnErr result (self.new ≡ self.old) }
-        ensures kept { IsKept self.new }
-        ensures headline { HeadlineHolds self.new }
+        ensures holds { Holds self.new }
     {
         self.store.choose(session, branch)
     }
@@ -164,8 +159,7 @@ impl Vault {
         ensures err { IfErr result (λ e. Refuses self.old (finish_call session.worker) e.1) }
         ensures back { IfErr result (λ e. e.0 ≡ session) }
         ensures unchanged { OnErr result (self.new ≡ self.old) }
-        ensures kept { IsKept self.new }
-        ensures headline { HeadlineHolds self.new }
+        ensures holds { Holds self.new }
     {
         self.store.finish(session)
     }
@@ -185,8 +179,7 @@ impl Vault {
         ensures err { IfErr result (λ e. Refuses self.old (end_call leaver.worker) e.1) }
         ensures back { IfErr result (λ e. e.0 ≡ leaver) }
         ensures unchanged { OnErr result (self.new ≡ self.old) }
-        ensures kept { IsKept self.new }
-        ensures headline { HeadlineHolds self.new }
+        ensures holds { Holds self.new }
     {
         self.store.end(leaver)
     }
@@ -203,8 +196,7 @@ impl Vault {
         ensures done { IfOk result (λ now. Tells self.old (flush_call page) now.1) }
         ensures err { IfErr result (λ why. Refuses self.old (flush_call page) why) }
         ensures unchanged { OnErr result (self.new ≡ self.old) }
-        ensures kept { IsKept self.new }
-        ensures headline { HeadlineHolds self.new }
+        ensures holds { Holds self.new }
     {
         self.store.flush(page)
     }
@@ -223,8 +215,7 @@ impl Vault {
         ensures done { IfOk result (λ now. Tells self.old (next_call number) now.1) }
         ensures err { IfErr result (λ why. Refuses self.old (next_call number) why) }
         ensures unchanged { OnErr result (self.new ≡ self.old) }
-        ensures kept { IsKept self.new }
-        ensures headline { HeadlineHolds self.new }
+        ensures holds { Holds self.new }
     {
         self.store.flush_next(number)
     }
@@ -239,8 +230,7 @@ impl Vault {
         ensures error { IfErr result (λ e. (s : State) → StandsFor self.old s → submit_error s accepted ≡ Some e.1) }
         ensures back { IfErr result (λ e. e.0 ≡ accepted) }
         ensures unchanged { OnErr result (self.new ≡ self.old) }
-        ensures kept { IsKept self.new }
-        ensures headline { HeadlineHolds self.new }
+        ensures holds { Holds self.new }
     {
         self.store.submit(accepted)
     }
@@ -259,8 +249,7 @@ impl Vault {
         ensures ok { OnOk result (Renews self.old self.new) }
         ensures error { IfErr result (λ e. (s : State) → StandsFor self.old s → renew_error s ≡ Some e) }
         ensures unchanged { OnErr result (self.new ≡ self.old) }
-        ensures kept { IsKept self.new }
-        ensures headline { HeadlineHolds self.new }
+        ensures holds { Holds self.new }
     {
         self.store.renew()
     }
@@ -369,8 +358,7 @@ impl Vault {
         ensures err { IfErr result (λ e. Refuses self.old (fix_call session.worker (fix_slot session.ask) page) e.1) }
         ensures back { IfErr result (λ e. e.0 ≡ session) }
         ensures unchanged { OnErr result (self.new ≡ self.old) }
-        ensures kept { IsKept self.new }
-        ensures headline { HeadlineHolds self.new }
+        ensures holds { Holds self.new }
     {
         self.store.fix(session, page)
     }
@@ -388,8 +376,7 @@ impl Vault {
         ensures err { IfErr result (λ e. Refuses self.old (answer_call self.old.page_bytes returned) e.1) }
         ensures back { IfErr result (λ e. e.0 ≡ returned) }
         ensures unchanged { OnErr result (self.new ≡ self.old) }
-        ensures kept { IsKept self.new }
-        ensures headline { HeadlineHolds self.new }
+        ensures holds { Holds self.new }
     {
         self.store.answer(returned)
     }
@@ -414,8 +401,7 @@ impl Vault {
             (unfix_call session.worker guard.worker guard.slot guard.page) e.2) }
         ensures back { IfErr result (λ e. (e.0 ≡ session) × (e.1 ≡ guard)) }
         ensures unchanged { OnErr result (self.new ≡ self.old) }
-        ensures kept { IsKept self.new }
-        ensures headline { HeadlineHolds self.new }
+        ensures holds { Holds self.new }
     {
         self.store.unfix(session, guard)
     }
@@ -439,8 +425,7 @@ impl Vault {
             (scatter_call session.worker guard.worker guard.slot) e.2) }
         ensures back { IfErr result (λ e. (e.0 ≡ session) × (e.1 ≡ guard)) }
         ensures unchanged { OnErr result (self.new ≡ self.old) }
-        ensures kept { IsKept self.new }
-        ensures headline { HeadlineHolds self.new }
+        ensures holds { Holds self.new }
     {
         self.store.scatter(session, guard)
     }
@@ -462,8 +447,7 @@ impl Vault {
             (latch_call mode.S session.worker guard.worker guard.slot guard.page) e.2) }
         ensures back { IfErr result (λ e. (e.0 ≡ session) × (e.1 ≡ guard)) }
         ensures unchanged { OnErr result (self.new ≡ self.old) }
-        ensures kept { IsKept self.new }
-        ensures headline { HeadlineHolds self.new }
+        ensures holds { Holds self.new }
     {
         self.store.latch_shared(session, guard)
     }
@@ -485,8 +469,7 @@ impl Vault {
             (latch_call mode.X session.worker guard.worker guard.slot guard.page) e.2) }
         ensures back { IfErr result (λ e. (e.0 ≡ session) × (e.1 ≡ guard)) }
         ensures unchanged { OnErr result (self.new ≡ self.old) }
-        ensures kept { IsKept self.new }
-        ensures headline { HeadlineHolds self.new }
+        ensures holds { Holds self.new }
     {
         self.store.latch_exclusive(session, guard)
     }
@@ -534,8 +517,7 @@ impl Vault {
             (unlatch_call S session.worker guard.worker guard.slot guard.page) e.2) }
         ensures back { IfErr result (λ e. (e.0 ≡ session) × (e.1 ≡ guard)) }
         ensures unchanged { OnErr result (self.new ≡ self.old) }
-        ensures kept { IsKept self.new }
-        ensures headline { HeadlineHolds self.new }
+        ensures holds { Holds self.new }
     {
         self.store.unlatch_shared(session, guard)
     }
@@ -558,8 +540,7 @@ impl Vault {
             (put_back_call (is_long self.old guard.image) session.worker guard.worker guard.slot guard.page) e.2) }
         ensures back { IfErr result (λ e. (e.0 ≡ session) × (e.1 ≡ guard)) }
         ensures unchanged { OnErr result (self.new ≡ self.old) }
-        ensures kept { IsKept self.new }
-        ensures headline { HeadlineHolds self.new }
+        ensures holds { Holds self.new }
     {
         self.store.unlatch_exclusive(session, guard)
     }
@@ -583,8 +564,7 @@ impl Vault {
         ensures err { IfErr result (λ e. Refuses self.old (give_back_call self.old leaver guard) e.2) }
         ensures back { IfErr result (λ e. (e.0 ≡ leaver) × (e.1 ≡ guard)) }
         ensures unchanged { OnErr result (self.new ≡ self.old) }
-        ensures kept { IsKept self.new }
-        ensures headline { HeadlineHolds self.new }
+        ensures holds { Holds self.new }
     {
         self.store.give_back(leaver, guard)
     }

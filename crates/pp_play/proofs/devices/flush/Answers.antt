@@ -20,13 +20,13 @@ returns-in-Ok-clause-comes c =
     let old = c.args.vault.now in
     let new = c.flush.new.self in
     done_comes old new (cue.Flush c.args.page) c.did.result
-    (begun old new c.args.page c.known.ensures.kept c.in-Ok.ensures.ok c.in-Ok.ensures.done) c.did.ensures
+    (begun old new c.args.page c.known.ensures.holds.kept c.in-Ok.ensures.ok c.in-Ok.ensures.done) c.did.ensures
 
 pub returns-in-Ok-clause-plays : goal.returns-in-Ok-clause-plays
 returns-in-Ok-clause-plays c fits =
     let laws = c.hands_still_fit.ensures in
     flush_plays (still_fits laws.others laws.slots laws.flushing) c.args.vault.now c.flush.new.self
-    c.known.ensures.kept c.args.page c.in-Ok.errand c.args.hands.now c.put_flushing.new.hands c.did.result fits
+    c.known.ensures.holds.kept c.args.page c.in-Ok.errand c.args.hands.now c.put_flushing.new.hands c.did.result fits
     c.in-Ok.ensures.ok c.in-Ok.ensures.errand c.in-Ok.ensures.copied.duty c.put_flushing.ensures
     c.in-Ok.ensures.done c.did.ensures
 
@@ -57,7 +57,7 @@ returns-in-Ok-clause-contents c fits s st told agrees =
     let page = c.args.page in
     let laws = c.hands_still_fit.ensures in
     let plays =
-    flush_plays (still_fits laws.others laws.slots laws.flushing) old new c.known.ensures.kept page c.in-Ok.errand hands
+    flush_plays (still_fits laws.others laws.slots laws.flushing) old new c.known.ensures.holds.kept page c.in-Ok.errand hands
     left c.did.result fits c.in-Ok.ensures.ok c.in-Ok.ensures.errand c.in-Ok.ensures.copied.duty c.put_flushing.ensures
     c.in-Ok.ensures.done c.did.ensures in
     let d = c.in-Ok.done in

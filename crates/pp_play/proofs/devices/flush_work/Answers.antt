@@ -23,7 +23,7 @@ returns-else-is_some-clause-plays g c fits =
     let made = c.carry_out.ensures in
     let back = given_back_fits old hands c.in-Some-Out.errand returned fits (cc) made.duty made.length in
     back_flush_plays old c.flushed.new.vault hands c.flushed.new.hands returned c.flushed.result
-    c.known.ensures.kept back (c.flushed.ensures.plays back)
+    c.known.ensures.holds.kept back (c.flushed.ensures.plays back)
 
 pub returns-else-is_some-2-clause-plays : goal.returns-else-is_some-2-clause-plays
 returns-else-is_some-2-clause-plays g c fits =
@@ -31,7 +31,7 @@ returns-else-is_some-2-clause-plays g c fits =
     let hands = c.args.hands.now in
     let returned = c.in-Some-Back.returned in
     back_flush_plays old c.flushed-in-Some-Back.new.vault hands c.flushed-in-Some-Back.new.hands returned
-    c.flushed-in-Some-Back.result c.known.ensures.kept (still_back_fits old hands returned fits (cc))
+    c.flushed-in-Some-Back.result c.known.ensures.holds.kept (still_back_fits old hands returned fits (cc))
     (c.flushed-in-Some-Back.ensures.plays (still_back_fits old hands returned fits (cc)))
 
 pub returns-else-is_some-clause-called : goal.returns-else-is_some-clause-called
@@ -129,7 +129,7 @@ returns-else-is_some-clause-over g c fits s st told agrees =
     let there : hands.flushing ≡ Some (flushing.Out errand) = cc in
     let gone : c.take.new.self ≡ None = cc in
     let back = given_back_fits old hands errand returned fits there made.duty made.length in
-    let plays = back_flush_plays old new hands left returned line c.known.ensures.kept back (c.flushed.ensures.plays back) in
+    let plays = back_flush_plays old new hands left returned line c.known.ensures.holds.kept back (c.flushed.ensures.plays back) in
     let so = answer_line line (c.flushed.ensures.answered back).0 in
     let ends : EndsFlush old returned (record hands { flushing = None }) line new left =
     subst (λ f. EndsFlush old returned (record { workers = hands.workers; flushing = f }) line new left) gone

@@ -24,12 +24,12 @@ answer-stage-requires-in-Back-clause-place g c = c.errand_has_place-has_place.en
 
 pub returns-then-not-has_place-clause-plays : goal.returns-then-not-has_place-clause-plays
 returns-then-not-has_place-clause-plays g c fits =
-    absurd (c.errand_has_place-has_place.ensures.taken c.if-not-has_place.true c.known.ensures.kept
+    absurd (c.errand_has_place-has_place.ensures.taken c.if-not-has_place.true c.known.ensures.holds.kept
     (place_is_free c.args.vault.now c.args.worker c.args.hand fits))
 
 pub returns-then-not-has_place-2-clause-plays : goal.returns-then-not-has_place-2-clause-plays
 returns-then-not-has_place-2-clause-plays g c fits =
-    absurd (c.errand_has_place-has_place.ensures.taken c.if-not-has_place-2.true c.known.ensures.kept
+    absurd (c.errand_has_place-has_place.ensures.taken c.if-not-has_place-2.true c.known.ensures.holds.kept
     (place_is_free c.args.vault.now c.args.worker c.args.hand fits))
 
 pub returns-else-not-has_place-clause-plays : goal.returns-else-not-has_place-clause-plays
@@ -42,7 +42,7 @@ returns-else-not-has_place-clause-plays g c fits =
     returned.duty made.duty made.made made.length
     (subst (λ x. StageFits old.page_bytes s c.args.worker x) c.in-Out.is (fits s st).stage)) in
     back_plays old c.args.worker c.args.hand returned c.answer-stage.result.1 c.answer-stage.new.vault _
-    c.known.ensures.kept back (c.answer-stage.ensures.plays back)
+    c.known.ensures.holds.kept back (c.answer-stage.ensures.plays back)
 
 pub returns-else-not-has_place-2-clause-plays : goal.returns-else-not-has_place-2-clause-plays
 returns-else-not-has_place-2-clause-plays g c fits =
@@ -51,7 +51,7 @@ returns-else-not-has_place-2-clause-plays g c fits =
     let back = back_fits old c.args.worker c.args.hand returned fits (λ s st.
     subst (λ x. StageFits old.page_bytes s c.args.worker x) c.in-Back.is (fits s st).stage) in
     back_plays old c.args.worker c.args.hand returned c.answer-stage-in-Back.result.1
-    c.answer-stage-in-Back.new.vault _ c.known.ensures.kept back (c.answer-stage-in-Back.ensures.plays back)
+    c.answer-stage-in-Back.new.vault _ c.known.ensures.holds.kept back (c.answer-stage-in-Back.ensures.plays back)
 
 pub returns-else-not-has_place-clause-called : goal.returns-else-not-has_place-clause-called
 returns-else-not-has_place-clause-called g c fits none =
@@ -99,7 +99,7 @@ returns-else-not-has_place-2-clause-own g c =
 
 pub returns-then-not-has_place-clause-does : goal.returns-then-not-has_place-clause-does
 returns-then-not-has_place-clause-does g c fits none =
-    absurd (c.errand_has_place-has_place.ensures.taken c.if-not-has_place.true c.known.ensures.kept
+    absurd (c.errand_has_place-has_place.ensures.taken c.if-not-has_place.true c.known.ensures.holds.kept
     (place_is_free c.args.vault.now c.args.worker c.args.hand fits))
 
 pub returns-then-not-has_place-2-clause-does : goal.returns-then-not-has_place-2-clause-does

@@ -12,7 +12,7 @@ fix_in-stage-requires-clause-place c = c.fix_has_place.ensures.free (search rule
 pub returns-then-not-fix_has_place-clause-plays : goal.returns-then-not-fix_has_place-clause-plays
 returns-then-not-fix_has_place-clause-plays c =
     λ fits.
-    absurd (fix_finds c.args.vault.now c.known.ensures.kept c.args.worker c.args.hand fits
+    absurd (fix_finds c.args.vault.now c.known.ensures.holds.kept c.args.worker c.args.hand fits
     (c.fix_has_place.ensures.taken (search rules)))
 
 pub returns-else-not-fix_has_place-clause-plays : goal.returns-else-not-fix_has_place-clause-plays

@@ -28,7 +28,7 @@ returns-in-Ok-clause-comes c =
     let old = c.args.vault.now in
     let new = c.give_back.new.self in
     done_comes old new (cue.Unwind c.args.worker c.args.slot) c.did.result
-    (given_back old new c.known.ensures.kept c.args.worker c.args.slot c.in-Leaving.leaver c.in-Ok.leaver
+    (given_back old new c.known.ensures.holds.kept c.args.worker c.args.slot c.in-Leaving.leaver c.in-Ok.leaver
     (same _ _ (search rules)) c.in-Some.guard c.in-Some.ensures.slot c.in-Ok.ensures.ok c.in-Ok.ensures.done)
     c.did.ensures
 
@@ -36,7 +36,7 @@ pub returns-in-Ok-clause-plays : goal.returns-in-Ok-clause-plays
 returns-in-Ok-clause-plays c =
     let old = c.args.vault.now in
     let new = c.give_back.new.self in
-    let k = c.known.ensures.kept in
+    let k = c.known.ensures.holds.kept in
     let x = c.in-Leaving.leaver in
     let y = c.in-Ok.leaver in
     let g = c.in-Some.guard in
@@ -66,7 +66,7 @@ pub returns-in-Err-clause-plays : goal.returns-in-Err-clause-plays
 returns-in-Err-clause-plays c =
     let old = c.args.vault.now in
     let new = c.give_back.new.self in
-    let k = c.known.ensures.kept in
+    let k = c.known.ensures.holds.kept in
     let x = c.in-Leaving.leaver in
     let g = c.in-Some.guard in
     let slot = c.args.slot in

@@ -10,7 +10,7 @@ use Rattle.pp_play.proofs.playing.by_tokens.Goals as goal
 
 pub returns-in-Flush-clause-called : goal.returns-in-Flush-clause-called
 returns-in-Flush-clause-called g c fits none =
-    quiet g.D.Device.calls c.args.vault.now c.flush.new.vault c.known.ensures.kept (cue.Flush c.in-Flush.page)
+    quiet g.D.Device.calls c.args.vault.now c.flush.new.vault c.known.ensures.holds.kept (cue.Flush c.in-Flush.page)
     c.flush.result c.args.device.now refl c.flush.ensures.comes
 
 pub returns-in-Flush-clause-plays : goal.returns-in-Flush-clause-plays

@@ -32,7 +32,7 @@ returns-clause-plays g c fits =
     let joined : c.join.new.self.workers ≡ slice_set (slice_set hands.workers w None) w (Some left) =
     c.in-Ok.ensures.joined ∙ ap (λ o. put_for c.part.new.self.workers left o) c.with_hand-hand.ensures.of
     ∙ ap (λ ws. slice_set ws w (Some left)) c.in-Some.ensures.taken in
-    joined_plays old c.with_hand-hand.new.vault c.known.ensures.kept hands c.join.new.self w hand left c.args.cue
+    joined_plays old c.with_hand-hand.new.vault c.known.ensures.holds.kept hands c.join.new.self w hand left c.args.cue
     c.with_hand-hand.result.1 c.requires there fits c.with_hand-hand.ensures.comes
     (c.with_hand-hand.ensures.plays (part_fits old hands w hand there fits)) joined
     (c.join.ensures.flushing ∙ c.part.ensures.flushing)
@@ -133,7 +133,7 @@ returns-clause-over g c fits s st told agrees =
     let flushing = c.join.ensures.flushing ∙ c.part.ensures.flushing in
     let back : HandsBack hands w left c.join.new.self = record { workers = joined; flushing = flushing } in
     let plays =
-    joined_plays old new c.known.ensures.kept hands c.join.new.self w hand left c.args.cue line c.requires there fits
+    joined_plays old new c.known.ensures.holds.kept hands c.join.new.self w hand left c.args.cue line c.requires there fits
     c.with_hand-hand.ensures.comes (c.with_hand-hand.ensures.plays (part_fits old hands w hand there fits)) joined
     flushing in
     let laws : Laws = record {

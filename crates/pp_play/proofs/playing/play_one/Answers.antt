@@ -24,7 +24,7 @@ returns-clause-plays g c fits =
     let hands = c.args.hands.now in
     let left = c.by_tokens-line.new.hands in
     let plays = c.by_tokens-line.ensures.plays fits in
-    let same = told_same old mid hands left c.args.cue c.by_tokens-line.result c.told.result c.known.ensures.kept plays
+    let same = told_same old mid hands left c.args.cue c.by_tokens-line.result c.told.result c.known.ensures.holds.kept plays
     c.told.ensures in
     subst (λ l. Plays old hands c.args.cue l mid left) (sym same) plays
 
@@ -35,7 +35,7 @@ returns-clause-called g c fits none =
     let hands = c.args.hands.now in
     let left = c.by_tokens-line.new.hands in
     let plays = c.by_tokens-line.ensures.plays fits in
-    let same = told_same old mid hands left c.args.cue c.by_tokens-line.result c.told.result c.known.ensures.kept plays
+    let same = told_same old mid hands left c.args.cue c.by_tokens-line.result c.told.result c.known.ensures.holds.kept plays
     c.told.ensures in
     subst (λ l. IsCalled g.D.Device.calls (tells_answer l) c.args.device.now c.by_tokens-line.new.device) (sym same)
     (c.by_tokens-line.ensures.called fits none)
@@ -47,7 +47,7 @@ returns-clause-over g c fits s st now agrees =
     let hands = c.args.hands.now in
     let left = c.by_tokens-line.new.hands in
     let plays = c.by_tokens-line.ensures.plays fits in
-    let same = told_same old mid hands left c.args.cue c.by_tokens-line.result c.told.result c.known.ensures.kept plays
+    let same = told_same old mid hands left c.args.cue c.by_tokens-line.result c.told.result c.known.ensures.holds.kept plays
     c.told.ensures in
     subst
     (λ l. (t : State) × (next : ℕ → List ℕ)

@@ -5,16 +5,10 @@ use Rattle.pp_play.specs.Plays.{ComesTo}
 use Rattle.pp_play.specs.AnyHands.{IsHandLine}
 use Rattle.pp_play.specs.Doing.{cue_worker, HandPlays}
 use Rattle.pp_play.proofs.Asked.{same}
-use Rattle.pp_play.proofs.Called.{quiet}
+use Rattle.pp_play.proofs.Called.{quiet, asks_device}
 use Rattle.pp_play.specs.Moving.{hand_errand, DoesWith}
 use Rattle.pp_play.proofs.Moved.{byte_moves}
 use Rattle.pp_play.proofs.playing.with_hand.Goals as goal
-
-pub returns-in-Take-clause-comes : goal.returns-in-Take-clause-comes
-returns-in-Take-clause-comes g c =
-    let of = same _ _ (sym (ap cue_worker c.in-Take.is) ∙ c.requires.cue) in
-    subst (λ q. ComesTo c.args.vault.now q c.take.result.1 c.take.new.vault)
-    (ap (λ w. cue.Take w) (sym of) ∙ sym c.in-Take.is) c.take.ensures.comes
 
 pub returns-in-Fix-clause-comes : goal.returns-in-Fix-clause-comes
 returns-in-Fix-clause-comes g c =
@@ -22,48 +16,11 @@ returns-in-Fix-clause-comes g c =
     subst (λ q. ComesTo c.args.vault.now q c.fix.result.1 c.fix.new.vault)
     (ap (λ w. cue.Fix w c.in-Fix.page) (sym of) ∙ sym c.in-Fix.is) c.fix.ensures.comes
 
-pub returns-in-Latch-clause-comes : goal.returns-in-Latch-clause-comes
-returns-in-Latch-clause-comes g c =
-    let of = same _ _ (sym (ap cue_worker c.in-Latch.is) ∙ c.requires.cue) in
-    subst (λ q. ComesTo c.args.vault.now q c.latch.result.1 c.latch.new.vault)
-    (ap (λ w. cue.Latch w) (sym of) ∙ sym c.in-Latch.is) c.latch.ensures.comes
-
-pub returns-in-Unfix-clause-comes : goal.returns-in-Unfix-clause-comes
-returns-in-Unfix-clause-comes g c =
-    let of = same _ _ (sym (ap cue_worker c.in-Unfix.is) ∙ c.requires.cue) in
-    subst (λ q. ComesTo c.args.vault.now q c.unfix.result.1 c.unfix.new.vault)
-    (ap (λ w. cue.Unfix w) (sym of) ∙ sym c.in-Unfix.is) c.unfix.ensures.comes
-
-pub returns-in-Unlatch-clause-comes : goal.returns-in-Unlatch-clause-comes
-returns-in-Unlatch-clause-comes g c =
-    let of = same _ _ (sym (ap cue_worker c.in-Unlatch.is) ∙ c.requires.cue) in
-    subst (λ q. ComesTo c.args.vault.now q c.unlatch.result.1 c.unlatch.new.vault)
-    (ap (λ w. cue.Unlatch w) (sym of) ∙ sym c.in-Unlatch.is) c.unlatch.ensures.comes
-
-pub returns-in-Choose-clause-comes : goal.returns-in-Choose-clause-comes
-returns-in-Choose-clause-comes g c =
-    let of = same _ _ (sym (ap cue_worker c.in-Choose.is) ∙ c.requires.cue) in
-    subst (λ q. ComesTo c.args.vault.now q c.choose.result.1 c.choose.new.vault)
-    (ap (λ w. cue.Choose w c.in-Choose.branch) (sym of) ∙ sym c.in-Choose.is) c.choose.ensures.comes
-
 pub returns-in-Unwind-clause-comes : goal.returns-in-Unwind-clause-comes
 returns-in-Unwind-clause-comes g c =
     let of = same _ _ (sym (ap cue_worker c.in-Unwind.is) ∙ c.requires.cue) in
     subst (λ q. ComesTo c.args.vault.now q c.unwind.result.1 c.unwind.new.vault)
     (ap (λ w. cue.Unwind w c.in-Unwind.slot) (sym of) ∙ sym c.in-Unwind.is) c.unwind.ensures.comes
-
-pub returns-in-Finish-clause-comes : goal.returns-in-Finish-clause-comes
-returns-in-Finish-clause-comes g c =
-    let of = same _ _ (sym (ap cue_worker c.in-Finish.is) ∙ c.requires.cue) in
-    subst (λ q. ComesTo c.args.vault.now q c.finish.result.1 c.finish.new.vault)
-    (ap (λ w. cue.Finish w) (sym of) ∙ sym c.in-Finish.is) c.finish.ensures.comes
-
-pub returns-in-Take-clause-plays : goal.returns-in-Take-clause-plays
-returns-in-Take-clause-plays g c fits =
-    let of = same _ _ (sym (ap cue_worker c.in-Take.is) ∙ c.requires.cue) in
-    subst
-    (λ q. HandPlays c.args.vault.now c.args.worker c.args.hand q c.take.result.1 c.take.new.vault c.take.result.0)
-    (ap (λ w. cue.Take w) (sym of) ∙ sym c.in-Take.is) (c.take.ensures.plays fits)
 
 pub returns-in-Fix-clause-plays : goal.returns-in-Fix-clause-plays
 returns-in-Fix-clause-plays g c fits =
@@ -79,47 +36,12 @@ returns-in-Device-clause-plays g c fits =
     (λ q. HandPlays c.args.vault.now c.args.worker c.args.hand q c.work.result.1 c.work.new.vault c.work.result.0)
     (ap (λ w. cue.Device w) (sym of) ∙ sym c.in-Device.is) (c.work.ensures.plays fits)
 
-pub returns-in-Unfix-clause-plays : goal.returns-in-Unfix-clause-plays
-returns-in-Unfix-clause-plays g c fits =
-    let of = same _ _ (sym (ap cue_worker c.in-Unfix.is) ∙ c.requires.cue) in
-    subst
-    (λ q. HandPlays c.args.vault.now c.args.worker c.args.hand q c.unfix.result.1 c.unfix.new.vault c.unfix.result.0)
-    (ap (λ w. cue.Unfix w) (sym of) ∙ sym c.in-Unfix.is) (c.unfix.ensures.plays fits)
-
-pub returns-in-Latch-clause-plays : goal.returns-in-Latch-clause-plays
-returns-in-Latch-clause-plays g c fits =
-    let of = same _ _ (sym (ap cue_worker c.in-Latch.is) ∙ c.requires.cue) in
-    subst
-    (λ q. HandPlays c.args.vault.now c.args.worker c.args.hand q c.latch.result.1 c.latch.new.vault c.latch.result.0)
-    (ap (λ w. cue.Latch w) (sym of) ∙ sym c.in-Latch.is) (c.latch.ensures.plays fits)
-
-pub returns-in-Unlatch-clause-plays : goal.returns-in-Unlatch-clause-plays
-returns-in-Unlatch-clause-plays g c fits =
-    let of = same _ _ (sym (ap cue_worker c.in-Unlatch.is) ∙ c.requires.cue) in
-    subst
-    (λ q. HandPlays c.args.vault.now c.args.worker c.args.hand q c.unlatch.result.1 c.unlatch.new.vault c.unlatch.result.0)
-    (ap (λ w. cue.Unlatch w) (sym of) ∙ sym c.in-Unlatch.is) (c.unlatch.ensures.plays fits)
-
-pub returns-in-Choose-clause-plays : goal.returns-in-Choose-clause-plays
-returns-in-Choose-clause-plays g c fits =
-    let of = same _ _ (sym (ap cue_worker c.in-Choose.is) ∙ c.requires.cue) in
-    subst
-    (λ q. HandPlays c.args.vault.now c.args.worker c.args.hand q c.choose.result.1 c.choose.new.vault c.choose.result.0)
-    (ap (λ w. cue.Choose w c.in-Choose.branch) (sym of) ∙ sym c.in-Choose.is) (c.choose.ensures.plays fits)
-
 pub returns-in-Unwind-clause-plays : goal.returns-in-Unwind-clause-plays
 returns-in-Unwind-clause-plays g c fits =
     let of = same _ _ (sym (ap cue_worker c.in-Unwind.is) ∙ c.requires.cue) in
     subst
     (λ q. HandPlays c.args.vault.now c.args.worker c.args.hand q c.unwind.result.1 c.unwind.new.vault c.unwind.result.0)
     (ap (λ w. cue.Unwind w c.in-Unwind.slot) (sym of) ∙ sym c.in-Unwind.is) (c.unwind.ensures.plays fits)
-
-pub returns-in-Finish-clause-plays : goal.returns-in-Finish-clause-plays
-returns-in-Finish-clause-plays g c fits =
-    let of = same _ _ (sym (ap cue_worker c.in-Finish.is) ∙ c.requires.cue) in
-    subst
-    (λ q. HandPlays c.args.vault.now c.args.worker c.args.hand q c.finish.result.1 c.finish.new.vault c.finish.result.0)
-    (ap (λ w. cue.Finish w) (sym of) ∙ sym c.in-Finish.is) (c.finish.ensures.plays fits)
 
 pub returns-in-Write-clause-plays : goal.returns-in-Write-clause-plays
 returns-in-Write-clause-plays g c fits =
@@ -138,8 +60,8 @@ returns-in-Look-clause-plays g c fits =
 
 pub returns-in-Take-clause-called : goal.returns-in-Take-clause-called
 returns-in-Take-clause-called g c fits none =
-    quiet g.D.Device.calls c.args.vault.now c.take.new.vault c.requires.kept (cue.Take c.args.worker)
-    c.take.result.1 c.args.device.now refl c.take.ensures.comes
+    quiet g.D.Device.calls c.args.vault.now c.act.new.vault c.requires.kept c.args.cue c.act.result.1
+    c.args.device.now (ap asks_device c.in-Take.is) c.act.ensures.comes
 
 pub returns-in-Fix-clause-called : goal.returns-in-Fix-clause-called
 returns-in-Fix-clause-called g c fits none =
@@ -148,23 +70,23 @@ returns-in-Fix-clause-called g c fits none =
 
 pub returns-in-Unfix-clause-called : goal.returns-in-Unfix-clause-called
 returns-in-Unfix-clause-called g c fits none =
-    quiet g.D.Device.calls c.args.vault.now c.unfix.new.vault c.requires.kept (cue.Unfix c.args.worker)
-    c.unfix.result.1 c.args.device.now refl c.unfix.ensures.comes
+    quiet g.D.Device.calls c.args.vault.now c.use_slot.new.vault c.requires.kept c.args.cue c.use_slot.result.1
+    c.args.device.now (ap asks_device c.in-Unfix.is) c.use_slot.ensures.comes
 
 pub returns-in-Latch-clause-called : goal.returns-in-Latch-clause-called
 returns-in-Latch-clause-called g c fits none =
-    quiet g.D.Device.calls c.args.vault.now c.latch.new.vault c.requires.kept (cue.Latch c.args.worker)
-    c.latch.result.1 c.args.device.now refl c.latch.ensures.comes
+    quiet g.D.Device.calls c.args.vault.now c.use_slot-in-Latch.new.vault c.requires.kept c.args.cue c.use_slot-in-Latch.result.1
+    c.args.device.now (ap asks_device c.in-Latch.is) c.use_slot-in-Latch.ensures.comes
 
 pub returns-in-Unlatch-clause-called : goal.returns-in-Unlatch-clause-called
 returns-in-Unlatch-clause-called g c fits none =
-    quiet g.D.Device.calls c.args.vault.now c.unlatch.new.vault c.requires.kept (cue.Unlatch c.args.worker)
-    c.unlatch.result.1 c.args.device.now refl c.unlatch.ensures.comes
+    quiet g.D.Device.calls c.args.vault.now c.use_slot-in-Unlatch.new.vault c.requires.kept c.args.cue c.use_slot-in-Unlatch.result.1
+    c.args.device.now (ap asks_device c.in-Unlatch.is) c.use_slot-in-Unlatch.ensures.comes
 
 pub returns-in-Choose-clause-called : goal.returns-in-Choose-clause-called
 returns-in-Choose-clause-called g c fits none =
-    quiet g.D.Device.calls c.args.vault.now c.choose.new.vault c.requires.kept (cue.Choose c.args.worker c.in-Choose.branch)
-    c.choose.result.1 c.args.device.now refl c.choose.ensures.comes
+    quiet g.D.Device.calls c.args.vault.now c.act-in-Choose.new.vault c.requires.kept c.args.cue c.act-in-Choose.result.1
+    c.args.device.now (ap asks_device c.in-Choose.is) c.act-in-Choose.ensures.comes
 
 pub returns-in-Unwind-clause-called : goal.returns-in-Unwind-clause-called
 returns-in-Unwind-clause-called g c fits none =
@@ -173,8 +95,8 @@ returns-in-Unwind-clause-called g c fits none =
 
 pub returns-in-Finish-clause-called : goal.returns-in-Finish-clause-called
 returns-in-Finish-clause-called g c fits none =
-    quiet g.D.Device.calls c.args.vault.now c.finish.new.vault c.requires.kept (cue.Finish c.args.worker)
-    c.finish.result.1 c.args.device.now refl c.finish.ensures.comes
+    quiet g.D.Device.calls c.args.vault.now c.act-in-Finish.new.vault c.requires.kept c.args.cue c.act-in-Finish.result.1
+    c.args.device.now (ap asks_device c.in-Finish.is) c.act-in-Finish.ensures.comes
 
 pub returns-in-Write-clause-called : goal.returns-in-Write-clause-called
 returns-in-Write-clause-called g c fits none =
@@ -190,7 +112,7 @@ returns-in-Look-clause-called g c fits none =
 
 pub returns-in-Take-clause-own : goal.returns-in-Take-clause-own
 returns-in-Take-clause-own g c =
-    subst (λ q. IsHandLine c.args.vault.now (Some c.args.hand) (Some c.take.result.0) q c.take.result.1) (sym c.in-Take.is) tt
+    subst (λ q. IsHandLine c.args.vault.now (Some c.args.hand) (Some c.act.result.0) q c.act.result.1) (sym c.in-Take.is) tt
 
 pub returns-in-Fix-clause-own : goal.returns-in-Fix-clause-own
 returns-in-Fix-clause-own g c =
@@ -198,19 +120,19 @@ returns-in-Fix-clause-own g c =
 
 pub returns-in-Unfix-clause-own : goal.returns-in-Unfix-clause-own
 returns-in-Unfix-clause-own g c =
-    subst (λ q. IsHandLine c.args.vault.now (Some c.args.hand) (Some c.unfix.result.0) q c.unfix.result.1) (sym c.in-Unfix.is) tt
+    subst (λ q. IsHandLine c.args.vault.now (Some c.args.hand) (Some c.use_slot.result.0) q c.use_slot.result.1) (sym c.in-Unfix.is) tt
 
 pub returns-in-Latch-clause-own : goal.returns-in-Latch-clause-own
 returns-in-Latch-clause-own g c =
-    subst (λ q. IsHandLine c.args.vault.now (Some c.args.hand) (Some c.latch.result.0) q c.latch.result.1) (sym c.in-Latch.is) tt
+    subst (λ q. IsHandLine c.args.vault.now (Some c.args.hand) (Some c.use_slot-in-Latch.result.0) q c.use_slot-in-Latch.result.1) (sym c.in-Latch.is) tt
 
 pub returns-in-Unlatch-clause-own : goal.returns-in-Unlatch-clause-own
 returns-in-Unlatch-clause-own g c =
-    subst (λ q. IsHandLine c.args.vault.now (Some c.args.hand) (Some c.unlatch.result.0) q c.unlatch.result.1) (sym c.in-Unlatch.is) tt
+    subst (λ q. IsHandLine c.args.vault.now (Some c.args.hand) (Some c.use_slot-in-Unlatch.result.0) q c.use_slot-in-Unlatch.result.1) (sym c.in-Unlatch.is) tt
 
 pub returns-in-Choose-clause-own : goal.returns-in-Choose-clause-own
 returns-in-Choose-clause-own g c =
-    subst (λ q. IsHandLine c.args.vault.now (Some c.args.hand) (Some c.choose.result.0) q c.choose.result.1) (sym c.in-Choose.is) tt
+    subst (λ q. IsHandLine c.args.vault.now (Some c.args.hand) (Some c.act-in-Choose.result.0) q c.act-in-Choose.result.1) (sym c.in-Choose.is) tt
 
 pub returns-in-Unwind-clause-own : goal.returns-in-Unwind-clause-own
 returns-in-Unwind-clause-own g c =
@@ -218,7 +140,7 @@ returns-in-Unwind-clause-own g c =
 
 pub returns-in-Finish-clause-own : goal.returns-in-Finish-clause-own
 returns-in-Finish-clause-own g c =
-    subst (λ q. IsHandLine c.args.vault.now (Some c.args.hand) (Some c.finish.result.0) q c.finish.result.1) (sym c.in-Finish.is) tt
+    subst (λ q. IsHandLine c.args.vault.now (Some c.args.hand) (Some c.act-in-Finish.result.0) q c.act-in-Finish.result.1) (sym c.in-Finish.is) tt
 
 pub returns-in-Device-clause-own : goal.returns-in-Device-clause-own
 returns-in-Device-clause-own g c =
@@ -243,8 +165,8 @@ pub returns-in-Take-clause-does : goal.returns-in-Take-clause-does
 returns-in-Take-clause-does g c fits none =
     subst
     (λ q. DoesWith g.D.Device.read_gives g.D.Device.write_leaves (hand_errand c.args.hand q) c.args.vault.now
-    c.args.hand c.args.device.now c.take.result.1 c.take.new.vault c.take.result.0 c.args.device.now)
-    (sym c.in-Take.is) (refl, c.take.ensures.moves)
+    c.args.hand c.args.device.now c.act.result.1 c.act.new.vault c.act.result.0 c.args.device.now)
+    (sym c.in-Take.is) (refl, c.act.ensures.moves)
 
 pub returns-in-Fix-clause-does : goal.returns-in-Fix-clause-does
 returns-in-Fix-clause-does g c fits none =
@@ -257,29 +179,29 @@ pub returns-in-Unfix-clause-does : goal.returns-in-Unfix-clause-does
 returns-in-Unfix-clause-does g c fits none =
     subst
     (λ q. DoesWith g.D.Device.read_gives g.D.Device.write_leaves (hand_errand c.args.hand q) c.args.vault.now
-    c.args.hand c.args.device.now c.unfix.result.1 c.unfix.new.vault c.unfix.result.0 c.args.device.now)
-    (sym c.in-Unfix.is) (refl, c.unfix.ensures.moves)
+    c.args.hand c.args.device.now c.use_slot.result.1 c.use_slot.new.vault c.use_slot.result.0 c.args.device.now)
+    (sym c.in-Unfix.is) (refl, c.use_slot.ensures.moves)
 
 pub returns-in-Latch-clause-does : goal.returns-in-Latch-clause-does
 returns-in-Latch-clause-does g c fits none =
     subst
     (λ q. DoesWith g.D.Device.read_gives g.D.Device.write_leaves (hand_errand c.args.hand q) c.args.vault.now
-    c.args.hand c.args.device.now c.latch.result.1 c.latch.new.vault c.latch.result.0 c.args.device.now)
-    (sym c.in-Latch.is) (refl, c.latch.ensures.moves)
+    c.args.hand c.args.device.now c.use_slot-in-Latch.result.1 c.use_slot-in-Latch.new.vault c.use_slot-in-Latch.result.0 c.args.device.now)
+    (sym c.in-Latch.is) (refl, c.use_slot-in-Latch.ensures.moves)
 
 pub returns-in-Unlatch-clause-does : goal.returns-in-Unlatch-clause-does
 returns-in-Unlatch-clause-does g c fits none =
     subst
     (λ q. DoesWith g.D.Device.read_gives g.D.Device.write_leaves (hand_errand c.args.hand q) c.args.vault.now
-    c.args.hand c.args.device.now c.unlatch.result.1 c.unlatch.new.vault c.unlatch.result.0 c.args.device.now)
-    (sym c.in-Unlatch.is) (refl, c.unlatch.ensures.moves)
+    c.args.hand c.args.device.now c.use_slot-in-Unlatch.result.1 c.use_slot-in-Unlatch.new.vault c.use_slot-in-Unlatch.result.0 c.args.device.now)
+    (sym c.in-Unlatch.is) (refl, c.use_slot-in-Unlatch.ensures.moves)
 
 pub returns-in-Choose-clause-does : goal.returns-in-Choose-clause-does
 returns-in-Choose-clause-does g c fits none =
     subst
     (λ q. DoesWith g.D.Device.read_gives g.D.Device.write_leaves (hand_errand c.args.hand q) c.args.vault.now
-    c.args.hand c.args.device.now c.choose.result.1 c.choose.new.vault c.choose.result.0 c.args.device.now)
-    (sym c.in-Choose.is) (refl, c.choose.ensures.moves)
+    c.args.hand c.args.device.now c.act-in-Choose.result.1 c.act-in-Choose.new.vault c.act-in-Choose.result.0 c.args.device.now)
+    (sym c.in-Choose.is) (refl, c.act-in-Choose.ensures.moves)
 
 pub returns-in-Unwind-clause-does : goal.returns-in-Unwind-clause-does
 returns-in-Unwind-clause-does g c fits none =
@@ -292,8 +214,8 @@ pub returns-in-Finish-clause-does : goal.returns-in-Finish-clause-does
 returns-in-Finish-clause-does g c fits none =
     subst
     (λ q. DoesWith g.D.Device.read_gives g.D.Device.write_leaves (hand_errand c.args.hand q) c.args.vault.now
-    c.args.hand c.args.device.now c.finish.result.1 c.finish.new.vault c.finish.result.0 c.args.device.now)
-    (sym c.in-Finish.is) (refl, c.finish.ensures.moves)
+    c.args.hand c.args.device.now c.act-in-Finish.result.1 c.act-in-Finish.new.vault c.act-in-Finish.result.0 c.args.device.now)
+    (sym c.in-Finish.is) (refl, c.act-in-Finish.ensures.moves)
 
 pub returns-in-Device-clause-does : goal.returns-in-Device-clause-does
 returns-in-Device-clause-does g c fits none =

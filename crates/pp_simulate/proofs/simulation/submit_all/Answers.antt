@@ -19,7 +19,7 @@ loop-plan-preserved c =
                 c.in-Some.ensures.items)
                 ∙ taken_next now.0 c.in-Some.plan _ (taken.allowed now.0 now.1),
           );
-      kept = c.submit.ensures.kept;
+      kept = c.submit.ensures.holds.kept;
       fit = λ h fits.
           c.hands_still_fit.ensures.submits _ _ _ _ c.loop-plan.invariant.kept taken h
           (c.loop-plan.invariant.fit h fits);

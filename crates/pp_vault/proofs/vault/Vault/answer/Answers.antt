@@ -1,7 +1,7 @@
 use Rattle.std.specs.Prelude.{is_ok}
 use Rattle.pp_vault.specs.Parts.{parts_of}
 use Rattle.pp_vault.specs.Answers.{answer_call, AnswerComesTo}
-use Rattle.pp_vault.proofs.Kept.{kept_where, headline}
+use Rattle.pp_vault.proofs.Kept.{kept_where, holds}
 use Rattle.pp_vault.proofs.DutyEnds.{ends_done}
 use Rattle.pp_vault.proofs.vault.Vault.answer.Goals as goal
 
@@ -14,14 +14,12 @@ invariant_of-self c =
     (λ y h. ends_done old new x.duty x.image (is_ok x.answer) y.0 h) c.answer.ensures.ok c.answer.ensures.unchanged
     c.self.invariant
 
-pub returns-clause-kept : goal.returns-clause-kept
-returns-clause-kept c =
+pub returns-clause-holds : goal.returns-clause-holds
+returns-clause-holds c =
     let old = parts_of c.self.inside.store in
     let new = parts_of c.answer.new.self in
     let x = c.args.returned in
-    kept_where old new (answer_call old.page_bytes x) (λ y. AnswerComesTo old x y.0 new) c.answer.result
+    holds new
+    (kept_where old new (answer_call old.page_bytes x) (λ y. AnswerComesTo old x y.0 new) c.answer.result
     (λ y h. ends_done old new x.duty x.image (is_ok x.answer) y.0 h) c.answer.ensures.ok c.answer.ensures.unchanged
-    c.self.invariant
-
-pub returns-clause-headline : goal.returns-clause-headline
-returns-clause-headline c = headline (parts_of c.answer.new.self)
+    c.self.invariant)

@@ -1,5 +1,5 @@
 use Rattle.pp_vault.specs.Parts.{parts_of}
-use Rattle.pp_vault.proofs.Kept.{headline}
+use Rattle.pp_vault.proofs.Kept.{holds}
 use Rattle.pp_vault.proofs.Submitted.{kept_by}
 use Rattle.pp_vault.proofs.vault.Vault.submit.Goals as goal
 
@@ -8,10 +8,8 @@ invariant_of-self c =
     kept_by (parts_of c.self.inside.store) (parts_of c.submit.new.self) c.args.accepted c.submit.result c.self.invariant
     c.submit.ensures.ok c.submit.ensures.unchanged
 
-pub returns-clause-kept : goal.returns-clause-kept
-returns-clause-kept c =
-    kept_by (parts_of c.self.inside.store) (parts_of c.submit.new.self) c.args.accepted c.submit.result c.self.invariant
-    c.submit.ensures.ok c.submit.ensures.unchanged
-
-pub returns-clause-headline : goal.returns-clause-headline
-returns-clause-headline c = headline (parts_of c.submit.new.self)
+pub returns-clause-holds : goal.returns-clause-holds
+returns-clause-holds c =
+    holds (parts_of c.submit.new.self)
+    (kept_by (parts_of c.self.inside.store) (parts_of c.submit.new.self) c.args.accepted c.submit.result c.self.invariant
+    c.submit.ensures.ok c.submit.ensures.unchanged)
