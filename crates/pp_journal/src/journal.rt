@@ -14,8 +14,8 @@ use std::marker::Model;
 /// A list of events, the first of them first, that takes 16 bytes for each.
 ///
 /// An event whose worker is below 256 and whose frame is below 65,536, and whose reply is one that a move of its kind can
-/// have when it is done, is one entry of 16 bytes. Any other stands in a list beside the entries, as it is, and its entry names
-/// its place there. In a pool that has at most 32 workers and 4,096 frames no event stands there.
+/// have when it is done, is one entry of 16 bytes, and so are others that fit one. What doesn't stands in a list beside the
+/// entries, as it is, and its entry names its place there. In a pool that has at most 32 workers and 4,096 frames none does.
 ///
 /// Room is had for both lists before: for each event that there is memory for, 16 bytes in the one, and 48 in the other. The
 /// latter aren't touched while no event stands beside the entries, so a system that gives memory at its first use gives none
@@ -191,7 +191,7 @@ impl Journal {
     }
 
     /// Whether the events at these places of two journals are seen to be the same without unpacking them. So they are where it
-    /// is true. It is false for two events that are the same only where one of them stands beside the entries.
+    /// is true. Where it is false, they may be the same all the same: one of them may stand beside the entries.
     #[inline(always)]
     pub fn is_seen_same(&self, place: usize, other: &Journal, at: usize) -> bool
         ensures same { result ≡ true → slice_get self.now.items place ≡ slice_get other.now.items at }

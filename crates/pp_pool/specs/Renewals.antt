@@ -13,8 +13,8 @@ HasLifeRoom b capacity = 2 * b.flushes ≤ capacity
 abbrev pub LacksLifeRoom : Parts → (capacity : ℕ) → Type 0
 LacksLifeRoom b capacity = capacity < 2 * b.flushes
 
--- The book isn't renewed: the model refuses it so, or the vector that was given lacks room, which has memory for so many
--- events.
+-- The book isn't renewed: the model refuses it so, or the journal that was given lacks room, which has memory for so
+-- many events.
 abbrev pub IsRenewCause : Parts → (capacity : ℕ) → BookRenewError → Type 0
 IsRenewCause b capacity OutOfMemory = LacksLifeRoom b capacity
 IsRenewCause b capacity (Refused error) = renew_error (state_of b) ≡ Some error

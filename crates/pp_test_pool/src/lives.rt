@@ -172,12 +172,12 @@ fn a_written_page_is_a_hit_in_the_next_life(rt: HostRuntime) -> Result<(), Fail>
     let next = book.close(hands);
     assert!(rt; is_new, "a new book's outset has page 16");
     same_events(&rt, &log.to_events(rt.alloc())?, WRITTEN);
+    let events = journal.to_events(rt.alloc())?;
     assert!(rt;
-        journal.get(0) == Some(SUBMITTED) && journal.len() == 8,
-        "{} events",
-        journal.len()
+        events.first() == Some(&SUBMITTED) && events.len() == 8,
+        "{events:?}"
     );
-    same_events(&rt, &journal.to_events(rt.alloc())?[1..], WRITTEN);
+    same_events(&rt, &events[1..], WRITTEN);
     assert!(rt; of_page == (Some(0), true, Some(1)), "{of_page:?}");
     assert!(rt;
         is_named && target == 0,
@@ -185,10 +185,10 @@ fn a_written_page_is_a_hit_in_the_next_life(rt: HostRuntime) -> Result<(), Fail>
     );
     assert!(rt; left == (1, 0), "{left:?}");
     same_events(&rt, &log_again.to_events(rt.alloc())?, WRITTEN_AGAIN);
+    let events = next.to_events(rt.alloc())?;
     assert!(rt;
-        next.get(0) == Some(SUBMITTED) && next.len() == 7,
-        "{} events",
-        next.len()
+        events.first() == Some(&SUBMITTED) && events.len() == 7,
+        "{events:?}"
     );
     Ok(())
 }
@@ -275,8 +275,9 @@ fn a_flush_is_awaited(rt: HostRuntime) -> Result<(), Fail> {
         device: _,
     } = stand;
     let next = book.close(hands);
-    assert!(rt; is_clean && journal.len() == 10, "{} events", journal.len());
-    same_events(&rt, &journal.to_events(rt.alloc())?[8..], FLUSHED);
+    let events = journal.to_events(rt.alloc())?;
+    assert!(rt; is_clean && events.len() == 10, "{events:?}");
+    same_events(&rt, &events[8..], FLUSHED);
     assert!(rt; of_page == (Some(0), false, Some(1)), "{of_page:?}");
     assert!(rt; next.is_empty(), "{} events", next.len());
     Ok(())
