@@ -66,12 +66,12 @@ pub kept_verdict : {D : Type 0} (calls failures : D → ℕ) (o : State) (plans 
     (dirty : ℕ) (hands : Hands) (error : RunError) → IsEnd o plans b dirty → c ≡ b → KeptFor b hands error
     → IsAnswerFrom calls failures o plans devices error ⊎ IsNotRenewed o plans c hands error
 kept_verdict calls failures o plans devices b c dirty hands (Refused error) end same kept = absurd kept
-kept_verdict calls failures o plans devices b c dirty hands OutOfMemory end same kept = inl tt
+kept_verdict calls failures o plans devices b c dirty hands OutOfMemory end same kept = absurd kept
 kept_verdict calls failures o plans devices b c dirty hands (Mismatch w) end same kept = absurd kept
 kept_verdict calls failures o plans devices b c dirty hands (Broken w) end same kept =
     inr (subst (λ x. IsNotRenewed o plans x hands (Broken w)) (sym same) (
       kept.0 ∙ ap (λ (s : State). s.settings.workers) end.opened,
-      record { opened = end.opened; planned = end.planned; ended = end.ended; cause = kept.1 },
+      record { end = subst (λ n. IsEnd o plans b n) end.newer end; cause = kept.1 },
     ))
 kept_verdict calls failures o plans devices b c dirty hands (NoThread w) end same kept = absurd kept
 

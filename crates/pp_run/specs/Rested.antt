@@ -1,5 +1,5 @@
 -- A pool between two runs, and what a run makes of one.
-use Rattle.std.specs.Prelude.{◌≡◌, ◌≢◌, ◌⊎◌, ◌<◌, ℕ, ⊤, true, [], List, Option, None, Some, length, take, drop}
+use Rattle.std.specs.Prelude.{◌≡◌, ◌≢◌, ◌⊎◌, ◌<◌, ℕ, true, [], List, Option, None, Some, length, take, drop}
 use Rattle.std.specs.List.{list_all}
 use Rattle.pp_settings.specs.Layout.{Geometry}
 use Rattle.pp_cert.specs.Accepted.{Acceptance}
@@ -17,7 +17,7 @@ use Rattle.pp_pool.specs.Parts.{Parts, settings_of, plans_of, state_of}
 use Rattle.pp_pool.specs.Parts as parts
 use Rattle.pp_report.specs.Reports.{is_move}
 use Rattle.pp_run.specs.declared.error.RunError.{RunError}
-use Rattle.pp_run.specs.declared.error.RunError.TheVariants.{OutOfMemory, Broken}
+use Rattle.pp_run.specs.declared.error.RunError.TheVariants.{Broken}
 use Rattle.pp_run.specs.Calling.{begun_flushes_in}
 use Rattle.pp_run.specs.Runs.{submits}
 
@@ -84,17 +84,14 @@ pub record IsEnd (o : State) (plans : List Acceptance) (b : Parts) (dirty : ℕ)
 abbrev pub IsKeptBack : Parts → Hands → Type 0
 IsKeptBack b hands = (renew_error (state_of b) ≢ None) ⊎ ¬ AreIdle b.workers hands
 
--- Why a pool isn't renewed that could be: memory is wanting. Or it can't be, which is told by the flusher's number.
+-- A pool isn't renewed because it can't be, which is told by the flusher's number.
 abbrev pub KeptFor : Parts → Hands → RunError → Type 0
-KeptFor b hands OutOfMemory = ⊤
 KeptFor b hands (Broken w) = (w ≡ b.workers) × IsKeptBack b hands
 KeptFor b hands _ = ⊥
 
--- A run from this opening state is over, which was sound, and the pool that it leaves can't be renewed.
+-- A run of these plans from this opening state came to its end, and the pool that it leaves can't be renewed.
 pub record IsUnrenewed (o : State) (plans : List Acceptance) (b : Parts) (hands : Hands) : Type 0 where
-  pub opened : parts.opening_of b ≡ o
-  pub planned : plans_of b ≡ plans
-  pub ended : next_turn (state_of b) ≡ None
+  pub end : IsEnd o plans b (dirty_pages (state_of b))
   pub cause : IsKeptBack b hands
 
 -- The error tells that the pool can't be renewed, by the flusher's number.

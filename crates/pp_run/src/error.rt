@@ -16,14 +16,16 @@ pub enum RunError {
     /// The pool doesn't take a plan in. Nothing was run.
     #[error(transparent)]
     Refused(SubmitError),
-    /// Memory ran out: for the run itself, or plans are left because every worker stopped for want of it.
+    /// Memory ran out: for the run itself, or for the journal of a kept pool's next life; or plans are left because every worker
+    /// stopped for want of it.
     #[error("out of memory")]
     OutOfMemory,
     /// The log of this worker isn't its part of the journal, or the counts of the flusher aren't the journal's.
     #[error("the log of worker {0} is not its part of the journal")]
     Mismatch(u32),
     /// A turn of this worker met a slip; or, as the flusher's number, one of the flusher's did, or a plan, a flush or a page
-    /// that could have been flushed is left.
+    /// that could have been flushed is left. By that number, too, a kept pool isn't renewed at a run's end: a mark has come to
+    /// 2^63, or a token isn't back in its place.
     #[error("worker {0} is broken")]
     Broken(u32),
     /// The thread of this worker wasn't started, or the flusher's. The workers before it, if any, did the plans.

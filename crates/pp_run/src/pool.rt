@@ -124,10 +124,10 @@ impl Pool {
     ///
     /// # Errors
     ///
-    /// Those of [`Pool::run`], in its order. Where the run itself is sound, [`RunError::OutOfMemory`] where there is none for the
-    /// next life's journal, and [`RunError::Broken`] with the flusher's number where a mark has come to 2^63 or a token isn't
-    /// back in its place, so that the pool isn't renewed. What is left of the pool comes with the error: its dirty pages are
-    /// nowhere else.
+    /// [`RunError::OutOfMemory`] before anything is done, where there is none for the next life's journal. Then those of
+    /// [`Pool::run`], in its order. Where a run came to its end, [`RunError::Broken`] with the flusher's number where a mark has
+    /// come to 2^63 or a token isn't back in its place, so that the pool isn't renewed. What is left of the pool comes with the
+    /// error: its dirty pages are nowhere else.
     pub fn run_on<D: Device + Drop + Send, W: Work + Drop + Send, R: Threads + Wait + Sync>(
         rt: &R,
         alloc: Global,
@@ -184,9 +184,12 @@ impl Pool {
             ⊎ IsNotRenewed (opening_of pool) plans.items e.1.book e.1.hands e.0) }
         ensures stalled { IfErr result (λ e. parts.opening_of e.1.book ≡ opening_of pool) }
     {
+        let Ok(empty) = Journal::with_capacity(alloc, 2 * pool.flushes() as usize) else {
+            return Err((RunError::OutOfMemory, pool.stalled()));
+        };
         let ended = live::<Brand, D, W, R>(rt, alloc, pool, plans, devices, works, finished)?;
         ended.book.known();
-        let (record, pool, devices) = ended.renewed(Journal::new(alloc))?;
+        let (record, pool, devices) = ended.renewed(empty)?;
         Ok((record, pool, devices))
     }
 }

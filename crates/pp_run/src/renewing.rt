@@ -6,6 +6,7 @@ ghost use Rattle.pp_model.specs.Lives.{IsLife};
 ghost use Rattle.pp_outset.specs.Outsets.{outset_of};
 ghost use Rattle.pp_pool.specs.Parts.{settings_of, plans_of, state_of};
 ghost use Rattle.pp_pool.specs.Parts as parts;
+ghost use Rattle.pp_pool.specs.Renewals.{HasLifeRoom};
 ghost use Rattle.pp_vault.specs.Holding.{placed};
 ghost use Rattle.pp_vault.specs.Stages.{idle_hand, is_free_for, put_for, stage_worker};
 ghost use Rattle.pp_run.specs.RunErrors.{unrenewed_by};
@@ -23,13 +24,14 @@ impl<D: Drop> Ended<D> {
     ///
     /// # Errors
     ///
-    /// [`RunError::OutOfMemory`] where there is no room for that journal; [`RunError::Broken`] with the flusher's number where a
-    /// token isn't in its place or not an idle worker's, or a mark has come to 2^63.
+    /// [`RunError::Broken`] with the flusher's number where a token isn't in its place or not an idle worker's, or a mark has come
+    /// to 2^63.
     pub(crate) fn renewed(
         self,
         empty: Journal,
     ) -> Result<(RunRecord, RestedPool, Vec<D>), (RunError, Stalled)>
-        requires { self.pages.0 ≡ (settings_of self.book).layout }
+        requires layout { self.pages.0 ≡ (settings_of self.book).layout }
+        requires room { HasLifeRoom self.book empty.capacity }
         ensures events { IfOk result (λ r. r.0.events.items ≡ self.book.journal) }
         ensures plans { IfOk result (λ r. r.0.plans ≡ self.plans) }
         ensures dirty { IfOk result (λ r. r.0.dirty ≡ self.dirty) }

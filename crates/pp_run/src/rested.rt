@@ -6,6 +6,7 @@ ghost use Rattle.pp_model.specs.Pool.{dirty_pages};
 ghost use Rattle.pp_model.specs.Reached.{IsReached};
 ghost use Rattle.pp_outset.specs.Outsets.{new_outset};
 ghost use Rattle.pp_pool.specs.Parts.{state_of};
+ghost use Rattle.pp_pool.specs.Parts as parts;
 ghost use Rattle.pp_run.specs.Rested.{opening_of};
 ghost use Rattle.pp_run.specs.declared.error.RunError.TheVariants as run_errors;
 
@@ -76,11 +77,31 @@ impl RestedPool {
         self.book.workers()
     }
 
+    /// How many flushes may begin in its next life.
+    pub fn flushes(&self) -> u32
+        ensures { result ≡ self.now.settings.flushes }
+    {
+        self.book.flushes()
+    }
+
     /// How many pages are newer than the device's.
     pub fn dirty(&self) -> u32
         ensures { result ≡ dirty_pages (opening_of self.now) }
     {
         self.book.dirty()
+    }
+
+    /// The pool as what is left of one whose run gave no record.
+    pub(crate) fn stalled(self) -> Stalled
+        ensures { parts.opening_of result.book ≡ opening_of self }
+    {
+        let RestedPool {
+            book,
+            hands,
+            layout: _,
+            page_bytes: _,
+        } = self;
+        Stalled { book, hands }
     }
 
     /// Gives the pool up, and answers how many pages were newer than the device's: what was changed in them is lost.

@@ -12,8 +12,8 @@ pub fn case<R: AllocGlobal + Print>(rt: &R, call: &str) -> anyhow::Result<()> {
     match call {
         "journal_text" => journal(rt),
         "packed_journal_text" => packed_journal(rt),
-        "from_events" => packed(rt),
-        "to_events" => unpacked(rt),
+        "Journal::from_events" => packed(rt),
+        "Journal::to_events" => unpacked(rt),
         "report" => reports(rt),
         "audit" => audits(rt),
         "audit_lives" => lives(rt),

@@ -1,10 +1,13 @@
 //! The calls that run plans on threads, and what is told of a run.
 
+ghost use Rattle.std.specs.Prelude.{◌≡◌, ◌+◌, vec_len};
+
 use crate::samples::record;
 use crate::stand::{answer, call};
+use pp_cert::Accepted;
 use pp_judge::Workload;
 use pp_report::RunRecord;
-use pp_run::{Pool, RunError};
+use pp_run::{Pool, RestedPool, RunError};
 use pp_run_command::{Rounds, progress_line, run, stopped_line, told};
 use pp_settings::Settings;
 use pp_shared::SharedDevice;
@@ -33,6 +36,7 @@ pub fn case<
 >(rt: &R, library: &str, call: &str) -> anyhow::Result<()> {
     match (library, call) {
         ("pp_run", "Pool::run") => pool(rt),
+        ("pp_run", "Pool::run_on") => kept_pool(rt),
         ("pp_run_command", "run") => command(rt),
         ("pp_run_command", "told") => tells(rt),
         ("pp_run_command", "stopped_line") => stops(rt),
@@ -81,6 +85,63 @@ fn pool<
         answer(rt)?;
         match ran {
             Ok((done, _ends)) => return Ok(tell(rt, &done)?),
+            Err(error) => println!(rt; "{}", error.refusal())?,
+        }
+    }
+    Ok(())
+}
+
+/// Opens a pool, runs the plans over it, and gives it up. What the run left, and how many pages the pool had changed.
+fn life<R: Files<File = File> + AllocGlobal + Threads + Wait + Sync + Copy + Send + Drop>(
+    rt: &R,
+    settings: &Settings,
+    plans: Vec<Accepted>,
+    ends: Vec<SharedDevice<R>>,
+    works: Vec<Rounds>,
+) -> Result<(RunRecord, u32), RunError>
+    requires ends { vec_len ends ≡ settings.now.workers + 1 }
+    requires works { vec_len works ≡ settings.now.workers }
+{
+    let pool = RestedPool::open(rt.alloc(), settings)?;
+    match Pool::run_on(rt, rt.alloc(), pool, plans, ends, works) {
+        Ok((done, pool, _ends)) => Ok((done, pool.close())),
+        Err((error, stalled)) => {
+            let (_journal, _dirty) = stalled.close();
+            Err(error)
+        }
+    }
+}
+
+fn kept_pool<
+    R: Files<File = File>
+        + AllocGlobal
+        + Print
+        + Threads
+        + Wait
+        + Clock
+        + Sync
+        + Copy
+        + Send
+        + Drop,
+>(rt: &R) -> anyhow::Result<()> {
+    let settings = Settings::from_text(rt.alloc(), SETTINGS)?;
+    let workers = settings.workers();
+    for _time in 0..2 {
+        let plans = all_accepted(rt.alloc(), &settings, &[TOUCH, WRITE, TOUCH])?;
+        let ends = SharedDevice::over_memory(*rt, rt.alloc(), 24, 64, workers as usize + 1)?;
+        let works = works_of(rt.alloc(), workers)?;
+        if works.len() != workers as usize {
+            anyhow::bail!("there is not a work for each worker");
+        }
+        call(rt)?;
+        let ran = life(rt, &settings, plans, ends, works);
+        answer(rt)?;
+        match ran {
+            Ok((done, dirty)) => {
+                tell(rt, &done)?;
+                println!(rt; "{dirty} dirty in the pool")?;
+                return Ok(());
+            }
             Err(error) => println!(rt; "{}", error.refusal())?,
         }
     }
