@@ -276,7 +276,8 @@ fn a_flush_is_awaited(rt: HostRuntime) -> Result<(), Fail> {
     } = stand;
     let next = book.close(hands);
     let events = journal.to_events(rt.alloc())?;
-    assert!(rt; is_clean && events.len() == 10, "{events:?}");
+    assert!(rt; is_clean, "the flush isn't clean");
+    assert!(rt; events.len() == 10, "{events:?}");
     same_events(&rt, &events[8..], FLUSHED);
     assert!(rt; of_page == (Some(0), false, Some(1)), "{of_page:?}");
     assert!(rt; next.is_empty(), "{} events", next.len());
