@@ -1,5 +1,5 @@
 """What crates.txt, docs/architecture.md and the folders of edits say of the crates, for the scripts of the gate."""
-import os, re
+import os, re, shutil
 
 TOP = os.path.dirname(os.path.dirname(os.path.realpath(__file__)))
 # What a check of a crate reads.
@@ -39,6 +39,21 @@ def above(crate, uses):
     return [it for it in uses if crate in below(it, uses)]
 
 
+# The headings of crates.txt below which no part of the product stands.
+ASIDE = ("Callers to copy from", "Tests", "Times")
+
+
+def of_product(top=TOP):
+    """The crates of the product: those that aren't tests, callers to copy from, or measurements."""
+    found, heading = [], ""
+    for line in text_of(f"{top}/crates.txt").splitlines():
+        if line.startswith("# "):
+            heading = line[2:].strip()
+        elif ":" in line and heading not in ASIDE:
+            found.append(line.split(":")[0].split()[0])
+    return found
+
+
 def files_of(crate, top=TOP):
     """The files that a check of the crate reads."""
     for part in PARTS:
@@ -65,6 +80,23 @@ def costs_of(top=TOP):
         if row[0] in uses_of(top) and len(cells) == len(KINDS):
             costs[row[0]] = {kind: int(cell or 0) for kind, cell in zip(KINDS, cells)}
     return costs
+
+
+class NoKit(Exception):
+    """Why the toolchain isn't here."""
+
+
+def kit():
+    """The folder of the toolchain."""
+    rt = shutil.which("rt")
+    if rt:
+        return os.path.dirname(os.path.dirname(os.path.realpath(rt)))
+    wanted = re.search(r"kit `([\w-]+)`, logic `(\w+)`", text_of(f"{TOP}/README.md"))
+    raise NoKit(
+        "the command rt isn't on the PATH. It is the tool of Rattle, the language that pinpool is written in: Rust with "
+        f"contracts, each proved. This is built with the kit whose `rt version` is `{wanted[1]} logic {wanted[2]}`, or another "
+        "of the same logic. Its folder bin, where rt stands, has to be on the PATH."
+    )
 
 
 # ---- edits
