@@ -9,8 +9,6 @@ mod files;
 mod program;
 mod running;
 mod telling;
-#[cfg(test)]
-mod tests;
 mod writing;
 
 use program::serve;
