@@ -17,8 +17,8 @@ use pp_device::image::HEAD;
 use pp_explain::Sources;
 use pp_format::format_onto;
 use pp_judge::{
-    AnnotateFiles, AuditFiles, CheckFiles, Contents, DeviceSize, Exit, SimulateFiles, device_size,
-    exit_of,
+    AnnotateFiles, AuditFiles, CheckFiles, Contents, DeviceSize, DrawFiles, Exit, SimulateFiles,
+    device_size, exit_of,
 };
 use pp_words::{AnnotatePaths, AuditPaths, CheckPaths, DrawPaths, FormatPaths, Job, SimulatePaths};
 use std::alloc::Global;
@@ -208,10 +208,11 @@ fn draw<'a, R: Files + AllocGlobal>(
     let settings = contents(rt, paths.settings)?;
     let text = contents(rt, paths.journal)?;
     let plans = contents_of_all(rt, &paths.plans)?;
-    let files = AuditFiles {
+    let files = DrawFiles {
         settings: settings.as_slice(),
         journal: text.as_slice(),
         plans: plans.as_slice(),
+        names: paths.plans.as_slice(),
     };
     let exit = exit_of(rt.alloc(), Contents::Draw(files));
     let files = Texts {

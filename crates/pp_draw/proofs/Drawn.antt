@@ -91,26 +91,26 @@ stepped q r n lines line after is passed =
     ap (auditing_from q n) is ∙ ap (λ o. o >>= λ r. auditing_from r (n + 1) after) passed
 
 -- A line is passed by this, and a column is added.
-pub added : (e : Extent) (n : ℕ) (p q : Progress) (text : List ℕ) (first second : Auditor) (old new : List Column)
-    (ends : Bool) → pass_text p n text ≡ Ok q → IsAt first q → second ≡ first
-    → ((r : Progress) → IsAt first r → Adds e n r.state old new) → ends ≡ true
+pub added : (e : Extent) (n : ℕ) (p q : Progress) (text : List ℕ) (first second : Auditor) (old mid new : List Column)
+    (ends : Bool) → pass_text p n text ≡ Ok q → IsAt first q → second ≡ first → mid ≡ old
+    → ((r : Progress) → IsAt first r → Adds e n r.state mid new) → ends ≡ true
     → (x : Progress) × (fresh : List Column) × (pass_text p n text ≡ Ok x) × IsAt second x × (new ≡ old ++ fresh)
     × Begins e ends n x.state fresh []
-added e n p q text first second old new false is at same adds t = cc
-added e n p q text first second old new true is at same adds t =
+added e n p q text first second old mid new false is at same kept adds t = cc
+added e n p q text first second old mid new true is at same kept adds t =
     let (column, news, line, shows) = adds q at in (
       q,
       column ∷ [],
       is,
       subst (λ (a : Auditor). IsAt a q) (sym same) at,
-      news,
+      news ∙ ap (λ (cs : List Column). cs ++ column ∷ []) kept,
       (column, refl, line, shows),
     )
 
 -- The same where no column ends.
-pub went_by : (e : Extent) (n : ℕ) (p q : Progress) (text : List ℕ) (a : Auditor) (old : List Column)
-    (ends : Bool) → pass_text p n text ≡ Ok q → IsAt a q → ends ≡ false
-    → (x : Progress) × (fresh : List Column) × (pass_text p n text ≡ Ok x) × IsAt a x × (old ≡ old ++ fresh)
+pub went_by : (e : Extent) (n : ℕ) (p q : Progress) (text : List ℕ) (a : Auditor) (old new : List Column)
+    (ends : Bool) → pass_text p n text ≡ Ok q → IsAt a q → new ≡ old → ends ≡ false
+    → (x : Progress) × (fresh : List Column) × (pass_text p n text ≡ Ok x) × IsAt a x × (new ≡ old ++ fresh)
     × Begins e ends n x.state fresh []
-went_by e n p q text a old true is at f = cc
-went_by e n p q text a old false is at f = (q, [], is, at, sym (append-nil old), refl)
+went_by e n p q text a old new true is at kept f = cc
+went_by e n p q text a old new false is at kept f = (q, [], is, at, kept ∙ sym (append-nil old), refl)

@@ -2,7 +2,10 @@
 use Rattle.std.specs.Prelude.{◌≡◌, ℕ, zero, suc, Bool, false, Option, None, Some, if◌then◌else◌, List, [], ◌∷◌}
 use Rattle.std.specs.Prelude.{◌++◌, length, map, slice_index_or}
 use Rattle.std.specs.List.{range_with_len}
+use Rattle.std.specs.Prelude.{true, option_map}
 use Rattle.std.specs.Option.{option_or}
+use Rattle.pp_plan.specs.declared.action.Ask.{Ask}
+use Rattle.pp_plan.specs.declared.action.Ask.TheVariants as asks
 use Rattle.pp_cert.specs.declared.note.Held.{Held}
 use Rattle.pp_cert.specs.declared.note.Held.TheVariants as held
 use Rattle.pp_arc.specs.FourLists.{FourLists}
@@ -11,10 +14,17 @@ use Rattle.pp_frames.specs.Marks.{PageMap, page_count, frame_of, stamp_of, is_di
 use Rattle.pp_model.specs.Pool.{Stage, acting, writing, reading, leaving, Running, State, dirty_pages}
 use Rattle.pp_model.specs.Marks.{marks}
 use Rattle.pp_model.specs.Moves.{seat_of}
-use Rattle.pp_core.specs.Queries.{held_of, flushed_page}
+use Rattle.pp_model.specs.declared.moves.Move.TheVariants as move
+use Rattle.pp_model.specs.declared.refusals.Delay.TheVariants.{LatchHeld, NoRoom}
+use Rattle.pp_model.specs.declared.reply.Reply.{Reply}
+use Rattle.pp_model.specs.declared.reply.Reply.TheVariants.{NotNow}
+use Rattle.pp_core.specs.Queries.{held_of, ask_of, flushed_page}
+use Rattle.pp_core.specs.Refusals.{refusal_to}
 use Rattle.pp_draw.specs.declared.column.Column.{Column}
 use Rattle.pp_draw.specs.declared.column.Doing.{Doing}
 use Rattle.pp_draw.specs.declared.column.Doing.TheVariants.{Idle, Acting, Writing, Reading, Leaving}
+use Rattle.pp_draw.specs.declared.column.Wait.{Wait}
+use Rattle.pp_draw.specs.declared.column.Wait.TheVariants.{Latch, Room}
 use Rattle.pp_draw.specs.declared.column.Latches.{Latches}
 use Rattle.pp_draw.specs.declared.column.WorkerAt.{WorkerAt}
 use Rattle.pp_draw.specs.declared.column.PageAt.{PageAt}
@@ -62,8 +72,36 @@ latches_below s w (suc n) = record {
   exclusive = option_or (exclusive_in (held_of s w n)) (latches_below s w n).exclusive;
 }
 
+-- Whether a move is refused since others have latched the page; and whether it is since the plan that waits first doesn't fit.
+abbrev pub is_latch_held : Option Reply → Bool
+is_latch_held (Some (NotNow LatchHeld)) = true
+is_latch_held _ = false
+
+abbrev pub is_no_room : Option Reply → Bool
+is_no_room (Some (NotNow NoRoom)) = true
+is_no_room _ = false
+
+-- The page that the worker's plan asks a latch on.
+abbrev pub page_held : Option (ℕ × Held) → Option ℕ
+page_held None = None
+page_held (Some h) = Some h.0
+
+abbrev pub latch_in : State → (w : ℕ) → Option Ask → Option ℕ
+latch_in s w (Some (asks.Latch slot mode)) = page_held (held_of s w slot)
+latch_in s w _ = None
+
+abbrev pub latch_asked : State → (w : ℕ) → Option ℕ
+latch_asked s w = latch_in s w (ask_of s w)
+
+-- What a worker waits for: a latch on the page that others have latched, or room for the plan that waits first.
+abbrev pub wait_of : State → (w : ℕ) → Option Wait
+wait_of s w =
+    if is_latch_held (refusal_to s (move.Latch w)) then option_map Latch (latch_asked s w)
+    else if is_no_room (refusal_to s (move.Take w)) then Some Room
+    else None
+
 abbrev pub worker_at : State → (w : ℕ) → WorkerAt
-worker_at s w = record { doing = doing_by (seat_of s w); latches = latches_below s w 32 }
+worker_at s w = record { doing = doing_by (seat_of s w); latches = latches_below s w 32; wait = wait_of s w }
 
 -- ---- the pages in frames
 

@@ -8,12 +8,16 @@ ghost use Rattle.pp_model.specs.Pool.{State};
 ghost use Rattle.pp_model.specs.Moves.{seat_of};
 ghost use Rattle.pp_core.specs.StandsFor.{StandsFor};
 ghost use Rattle.pp_draw.specs.Columns.{doing_by, exclusive_in, latches_below, lengths_of, page_at, pages_below};
-ghost use Rattle.pp_draw.specs.Columns.{shared_in, worker_at, is_drawn};
+ghost use Rattle.pp_draw.specs.Columns.{shared_in, worker_at, is_drawn, is_latch_held, is_no_room, latch_asked};
+ghost use Rattle.pp_draw.specs.Columns.{wait_of};
 
+use crate::share::Shares;
 use pp_arc::{Directory, List};
 use pp_cert::Held;
 use pp_core::Core;
 use pp_frames::{Marks, Mode};
+use pp_model::{Delay, Move, Reply};
+use pp_plan::Ask;
 use std::alloc::{AllocError, Global};
 
 /// The most slots that a plan has.
@@ -34,6 +38,15 @@ pub enum Doing {
     Leaving,
 }
 
+/// What a worker waits for, which others have to give.
+#[derive(Clone, Copy, PartialEq, Eq)]
+pub enum Wait {
+    /// A latch on the page, which others have latched.
+    Latch { page: u32 },
+    /// Room for the plan that waits first.
+    Room,
+}
+
 /// The pages that a worker has latched: of each mode the one in its greatest slot.
 #[derive(Clone, Copy)]
 pub struct Latches {
@@ -46,6 +59,9 @@ pub struct Latches {
 pub struct WorkerAt {
     pub doing: Doing,
     pub latches: Latches,
+    /// What it waits for. None where it can go on, works with a device, or has nothing to do. Which page a fix will name
+    /// isn't known before it is made, so a wait for a page isn't told.
+    pub wait: Option<Wait>,
 }
 
 /// A page in its frame at the end of a column.
@@ -86,6 +102,8 @@ pub struct Column {
     pub lengths: Lengths,
     /// The pages in frames that are drawn, by their numbers.
     pub pages: Vec<PageAt>,
+    /// How the workers and the flusher spent its lines, where a column stands for several.
+    pub shares: Shares,
 }
 
 // ---- workers
@@ -129,7 +147,7 @@ fn latches_of(core: &Core, worker: u32) -> Latches
 }
 
 /// What the worker is at.
-fn doing_of(core: &Core, worker: u32) -> Doing
+pub(crate) fn doing_of(core: &Core, worker: u32) -> Doing
     ensures { (s : State) → StandsFor core.now s → result ≡ doing_by (seat_of s worker) }
 {
     if let Some((_, page, victim)) = core.errand(worker) {
@@ -147,6 +165,45 @@ fn doing_of(core: &Core, worker: u32) -> Doing
     }
 }
 
+/// Whether a latch is refused since others have latched the page.
+fn is_latch_held(refusal: Option<Reply>) -> bool
+    ensures { result ≡ is_latch_held refusal }
+{
+    matches!(refusal, Some(Reply::NotNow(Delay::LatchHeld)))
+}
+
+/// Whether a take is refused since the plan that waits first doesn't fit.
+fn is_no_room(refusal: Option<Reply>) -> bool
+    ensures { result ≡ is_no_room refusal }
+{
+    matches!(refusal, Some(Reply::NotNow(Delay::NoRoom)))
+}
+
+/// The page that the worker's plan asks a latch on.
+fn latch_asked(core: &Core, worker: u32) -> Option<u32>
+    ensures { (s : State) → StandsFor core.now s → result ≡ latch_asked s worker }
+{
+    let Some(Ask::Latch { slot, .. }) = core.ask(worker) else {
+        return None;
+    };
+    let (page, _) = core.held(worker, u32::from(slot))?;
+    Some(page)
+}
+
+/// What the worker waits for.
+pub(crate) fn wait_of(core: &Core, worker: u32) -> Option<Wait>
+    ensures { (s : State) → StandsFor core.now s → result ≡ wait_of s worker }
+{
+    if is_latch_held(core.refusal(&Move::Latch { worker })) {
+        let page = latch_asked(core, worker)?;
+        return Some(Wait::Latch { page });
+    }
+    if is_no_room(core.refusal(&Move::Take { worker })) {
+        return Some(Wait::Room);
+    }
+    None
+}
+
 /// So many workers, by their numbers.
 pub(crate) fn workers_of(
     alloc: Global,
@@ -161,6 +218,7 @@ pub(crate) fn workers_of(
         all.push(WorkerAt {
             doing: doing_of(core, worker),
             latches: latches_of(core, worker),
+            wait: wait_of(core, worker),
         })?;
     }
     Ok(all)

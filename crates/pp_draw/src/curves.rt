@@ -17,8 +17,9 @@ pub(crate) enum Measure {
     LeftRecent,
     /// All names.
     LeftFrequent,
-    /// The target of the first list.
+    /// The target of the first list, as a broad line; and the thin one within it.
     Target,
+    TargetCore,
     /// The pages that are newer than the device's.
     Dirty,
 }
@@ -40,7 +41,7 @@ impl Measure {
             Measure::Cached => cached as u64,
             Measure::LeftRecent => names as u64,
             Measure::LeftFrequent => names.saturating_add(left_frequent) as u64,
-            Measure::Target => u64::from(target),
+            Measure::Target | Measure::TargetCore => u64::from(target),
             Measure::Dirty => u64::from(column.dirty),
         }
     }
@@ -53,13 +54,14 @@ impl Measure {
             Measure::LeftRecent => "a2",
             Measure::LeftFrequent => "a3",
             Measure::Target => "t",
+            Measure::TargetCore => "q",
             Measure::Dirty => "d",
         }
     }
 
     /// Whether the space below the curve is filled.
     fn is_filled(self) -> bool {
-        self != Measure::Target && self != Measure::Dirty
+        !matches!(self, Measure::Target | Measure::TargetCore | Measure::Dirty)
     }
 
     /// How high the whole part of the picture is.

@@ -1,24 +1,24 @@
 //! The lanes of the workers and of the flusher, and the rows of frames, as SVG.
 
+use crate::band::{Actor, Bands};
 use crate::column::is_drawn;
-use crate::place::{FLUSHER, LANE, LEFT, PLOT, Places, x_of};
+use crate::place::{BAR, FLUSHER, LANE, LEFT, LETTER, PLOT, Places, WRITTEN, x_of};
 use crate::row::Row;
 use crate::scene::Scene;
 use crate::strip::Strip;
 use crate::tally::Turn;
-use crate::words::Span;
+use crate::words::{PlanName, Span};
 use pp_model::Ending;
 use pp_settings::Settings;
 use std::fmt;
-
-/// How wide a letter of a name is, about.
-const LETTER: u64 = 65;
 
 /// The lanes of the workers and of the flusher, and the rows of frames.
 #[derive(Clone, Copy)]
 pub(crate) struct Lanes<'a> {
     pub settings: &'a Settings,
     pub scene: &'a Scene,
+    /// The files of the plans, by their numbers; of more plans none is known.
+    pub names: &'a [&'a str],
     pub places: Places,
 }
 
@@ -62,13 +62,33 @@ impl Lanes<'_> {
             }
         }
         let number = worker as usize;
-        let errands = top.saturating_add(150);
-        let shared = top.saturating_add(205);
-        let exclusive = top.saturating_add(250);
-        write!(f, "{}", self.strip(Row::WayOut(number), bars, 130))?;
-        write!(f, "{}", self.strip(Row::Errands(number), errands, 50))?;
-        write!(f, "{}", self.strip(Row::Shared(number), shared, 40))?;
-        write!(f, "{}", self.strip(Row::Exclusive(number), exclusive, 40))
+        let below = bars.saturating_add(BAR + 15);
+        if self.scene.is_wide() {
+            return self.write_bands(f, Actor::Worker(number), below, 180);
+        }
+        let shared = below.saturating_add(75);
+        let exclusive = below.saturating_add(130);
+        write!(f, "{}", self.strip(Row::WayOut(number), bars, BAR))?;
+        write!(f, "{}", self.strip(Row::Errands(number), below, 65))?;
+        write!(f, "{}", self.strip(Row::Shared(number), shared, 45))?;
+        write!(f, "{}", self.strip(Row::Exclusive(number), exclusive, 45))
+    }
+
+    /// How an actor spends its lines, where a column stands for several.
+    fn write_bands<W: fmt::Write>(
+        &self,
+        f: &mut fmt::Formatter<W>,
+        actor: Actor,
+        top: u64,
+        height: u64,
+    ) -> fmt::Result {
+        let bands = Bands {
+            scene: self.scene,
+            actor,
+            top,
+            height,
+        };
+        write!(f, "{bands}")
     }
 
     /// A turn at a plan, as a bar.
@@ -91,25 +111,32 @@ impl Lanes<'_> {
             last: to,
         };
         let (plan, worker) = (turn.plan, turn.worker);
+        let name = PlanName {
+            names: self.names,
+            plan,
+        };
         write!(
             f,
-            "<g><path class=\"{class}\" d=\"M{left} {top}h{width}v130H{left}z\"/>"
+            "<g><path class=\"{class}\" d=\"M{left} {top}h{width}v{BAR}H{left}z\"/><title>plan {plan}"
         )?;
-        writeln!(
-            f,
-            "<title>plan {plan} on worker {worker}, {word}, {span}</title></g>"
-        )?;
-        write_word(f, plan, word, left, width, top)
+        if name.is_known() {
+            write!(f, " ({name})")?;
+        }
+        writeln!(f, " on worker {worker}, {word}, {span}</title></g>")?;
+        write_word(f, name, word, left, width, top)
     }
 
     /// The lane of the flusher.
     fn write_flusher<W: fmt::Write>(&self, f: &mut fmt::Formatter<W>) -> fmt::Result {
         let top = self.places.flusher;
-        let y = top.saturating_add(FLUSHER / 2).saturating_add(40);
+        let y = top.saturating_add(FLUSHER / 2).saturating_add(55);
         let edge = LEFT - 60;
         write_ground(f, top, FLUSHER)?;
         writeln!(f, "<text class=\"e\" x=\"{edge}\" y=\"{y}\">flusher</text>")?;
         let bars = top.saturating_add(30);
+        if self.scene.is_wide() {
+            return self.write_bands(f, Actor::Flusher, bars, FLUSHER - 60);
+        }
         write!(f, "{}", self.strip(Row::Flusher, bars, FLUSHER - 60))
     }
 
@@ -160,33 +187,39 @@ fn write_name<W: fmt::Write>(
     name: &str,
     number: u32,
 ) -> fmt::Result {
-    let y = top.saturating_add(height / 2).saturating_add(40);
+    let is_low = height < WRITTEN;
+    let y = top
+        .saturating_add(height / 2)
+        .saturating_add(if is_low { 40 } else { 55 });
     let edge = LEFT - 60;
-    let class = if height < 100 { "e f c" } else { "e" };
+    let class = if is_low { "e f c" } else { "e" };
     writeln!(
         f,
         "<text class=\"{class}\" x=\"{edge}\" y=\"{y}\">{name} {number}</text>"
     )
 }
 
-/// The number of a plan and how it ended, where its bar has room for it.
+/// What a plan is called and how it ended, where its bar has room for it; else its number, where there is room for that.
 fn write_word<W: fmt::Write>(
     f: &mut fmt::Formatter<W>,
-    plan: u32,
+    name: PlanName<'_>,
     word: &str,
     left: u64,
     width: u64,
     top: u64,
 ) -> fmt::Result {
     let x = left.saturating_add(30);
-    let y = top.saturating_add(102);
-    if width < 4 * LETTER {
+    let y = top.saturating_add(147);
+    let long = name.letters().saturating_mul(LETTER).saturating_add(60);
+    if width < 3 * LETTER {
         return Ok(());
     }
     write!(f, "<text class=\"f u\" x=\"{x}\" y=\"{y}\">")?;
-    if width > 14 * LETTER {
-        writeln!(f, "plan {plan} {word}</text>")
+    if width > long.saturating_add(6 * LETTER) {
+        writeln!(f, "{name} {word}</text>")
+    } else if width > long {
+        writeln!(f, "{name}</text>")
     } else {
-        writeln!(f, "{plan}</text>")
+        writeln!(f, "{}</text>", name.plan)
     }
 }

@@ -13,21 +13,28 @@ const SIGNS: [(&str, &str, &str); 15] = [
     ("l", "p", "plan"),
     ("l", "g", "plan gone"),
     ("g", "o", "leaves its plan"),
-    ("l", "q", "reads a page"),
-    ("l", "w", "writes a page"),
+    ("l", "w", "waits"),
+    ("z", "n", "being read"),
+    ("z", "h", "changed, written"),
     ("l", "k", "latched S"),
     ("l", "x", "latched X"),
-    ("r7", "h", "changed"),
     ("", "", ""),
     ("", "", ""),
     ("l", "a0", "T1"),
     ("l", "a1", "T2"),
     ("l", "a2", "B1"),
     ("l", "a3", "B2"),
-    ("l", "t", "target of T1"),
+    ("t", "q", "target of T1"),
 ];
 
-/// The most letters of a name that stands in narrow pictures as large as others.
+/// The notes where a column stands for several lines.
+const WIDE: [&str; 3] = [
+    "The lanes of the workers and of the flusher show of how many of these",
+    "each acts, reads, writes or waits. Frames, lists and changed pages are",
+    "those behind a column's last line.",
+];
+
+/// The most letters of a region's name in the letters of the others.
 const LONG: usize = 18;
 
 /// How many words the legend has.
@@ -41,7 +48,12 @@ pub(crate) fn words(settings: &Settings) -> usize {
 
 /// How many notes say what isn't drawn.
 pub(crate) fn notes(scene: &Scene) -> u64 {
-    u64::from(scene.extent.width > 1) + u64::from(scene.extent.hidden() > 0)
+    let wide = if scene.is_wide() {
+        1 + WIDE.len() as u64
+    } else {
+        0
+    };
+    wide.saturating_add(2 * u64::from(scene.extent.hidden() > 0))
 }
 
 /// What stands below the picture of a scene.
@@ -66,7 +78,7 @@ impl Below<'_> {
     /// The numbers of some lines: each stands below the end of its line.
     fn write_axis<W: fmt::Write>(&self, f: &mut fmt::Formatter<W>) -> fmt::Result {
         let lines = self.scene.lines;
-        let y = self.places.axis.saturating_add(TEXT - 40);
+        let y = self.places.axis.saturating_add(TEXT - 70);
         for part in 1..=4 {
             let line = lines.saturating_mul(part) / 4;
             let x = x_of(line, lines);
@@ -136,13 +148,13 @@ impl Below<'_> {
     ) -> fmt::Result {
         let (x, down) = word_at(place);
         let y = self.places.legend.saturating_add(down);
-        let top = y.saturating_sub(90);
-        let at = x.saturating_add(180);
+        let top = y.saturating_sub(130);
+        let at = x.saturating_add(240);
         write!(
             f,
-            "<path class=\"{ground}\" d=\"M{x} {top}h130v100H{x}z\"/>"
+            "<path class=\"{ground}\" d=\"M{x} {top}h180v140H{x}z\"/>"
         )?;
-        write!(f, "<path class=\"{class}\" d=\"M{x} {top}h130v100H{x}z\"/>")?;
+        write!(f, "<path class=\"{class}\" d=\"M{x} {top}h180v140H{x}z\"/>")?;
         let class = if name.len() > LONG {
             " class=\"i\""
         } else {
@@ -152,34 +164,33 @@ impl Below<'_> {
         writeln!(f, "<text{class} x=\"{at}\" y=\"{y}\">{name}</text>")
     }
 
-    /// What isn't drawn.
+    /// What a column stands for where it is several lines, and what isn't drawn. Short lines, for narrow pages.
     fn write_notes<W: fmt::Write>(&self, f: &mut fmt::Formatter<W>) -> fmt::Result {
         let mut y = self.places.notes;
-        let width = self.scene.extent.width;
-        if width > 1 {
-            write!(
-                f,
-                "<text class=\"s\" x=\"200\" y=\"{y}\">A column stands for {width} lines and shows "
-            )?;
-            writeln!(
-                f,
-                "what there is behind its last line; what begins and ends within one isn't drawn.</text>"
-            )?;
+        if self.scene.is_wide() {
+            let width = self.scene.extent.width;
+            write!(f, "<text class=\"s\" x=\"200\" y=\"{y}\">")?;
+            writeln!(f, "A column stands for {width} lines.</text>")?;
+            for note in WIDE {
+                y = y.saturating_add(TEXT);
+                write_note(f, y, note)?;
+            }
             y = y.saturating_add(TEXT);
         }
         let hidden = self.scene.extent.hidden();
         if hidden > 0 {
-            write!(
-                f,
-                "<text class=\"s\" x=\"200\" y=\"{y}\">{hidden} frames have no row: "
-            )?;
-            writeln!(
-                f,
-                "the 64 that the journal names most often have one.</text>"
-            )?;
+            write!(f, "<text class=\"s\" x=\"200\" y=\"{y}\">")?;
+            writeln!(f, "{hidden} frames have no row.</text>")?;
+            y = y.saturating_add(TEXT);
+            write_note(f, y, "The 64 that the journal names most often have one.")?;
         }
         Ok(())
     }
+}
+
+/// A note at this place from the top.
+fn write_note<W: fmt::Write>(f: &mut fmt::Formatter<W>, y: u64, note: &str) -> fmt::Result {
+    writeln!(f, "<text class=\"s\" x=\"200\" y=\"{y}\">{note}</text>")
 }
 
 /// The classes of regions, which have eight colours in turn.

@@ -10,12 +10,13 @@ use pp_settings::Settings;
 use std::fmt;
 
 /// The curves of ARC's part, those that lie behind others first.
-const CURVES: [Measure; 5] = [
+const CURVES: [Measure; 6] = [
     Measure::LeftFrequent,
     Measure::LeftRecent,
     Measure::Cached,
     Measure::Recent,
     Measure::Target,
+    Measure::TargetCore,
 ];
 
 /// A picture of a scene under its settings: one SVG document, which wants nothing from outside.
@@ -29,6 +30,8 @@ pub struct Picture<'a> {
     pub settings: &'a Settings,
     /// What is drawn.
     pub scene: &'a Scene,
+    /// The files of the plans, by their numbers, as paths. A plan without one is named by its number.
+    pub names: &'a [&'a str],
 }
 
 impl fmt::Display for Picture<'_> {
@@ -36,9 +39,11 @@ impl fmt::Display for Picture<'_> {
         let (settings, scene) = (self.settings, self.scene);
         let places = Places::of(scene, words(settings), notes(scene));
         self.write_head(f, places)?;
+        self.write_figures(f)?;
         let lanes = Lanes {
             settings,
             scene,
+            names: self.names,
             places,
         };
         write!(f, "{lanes}")?;
@@ -69,9 +74,28 @@ impl Picture<'_> {
         )?;
         writeln!(f, "<title>A run of {lines} lines</title>")?;
         f.write_str(STYLE)?;
+        writeln!(f, "<path class=\"y\" d=\"M0 0H{WIDTH}V{height}H0z\"/>")?;
         writeln!(
             f,
-            "<text class=\"b\" x=\"200\" y=\"250\">A run of {lines} lines</text>"
+            "<text class=\"b\" x=\"200\" y=\"280\">A run of {lines} lines</text>"
+        )
+    }
+
+    /// The sizes of the pool, and how often a page was there.
+    fn write_figures<W: fmt::Write>(&self, f: &mut fmt::Formatter<W>) -> fmt::Result {
+        let (frames, page_bytes) = (self.settings.frames(), self.settings.page_bytes());
+        let workers = self.settings.workers();
+        let totals = self.scene.tally.totals;
+        let fixes = totals.hits.saturating_add(totals.loads);
+        let hits = totals.hits;
+        write!(
+            f,
+            "<text x=\"200\" y=\"560\">frames {frames} of {page_bytes} bytes, workers {workers}, "
+        )?;
+        writeln!(
+            f,
+            "hits {hits} of {fixes} fixes: {} %</text>",
+            percent(hits, fixes)
         )
     }
 
@@ -129,7 +153,7 @@ impl Picture<'_> {
         most: u64,
     ) -> fmt::Result {
         let edge = LEFT - 60;
-        let first = top.saturating_add(90);
+        let first = top.saturating_add(120);
         let middle = top.saturating_add(height / 2).saturating_add(60);
         let foot = top.saturating_add(height);
         let class = if height < LISTS { "s e f" } else { "s e" };
@@ -146,4 +170,9 @@ impl Picture<'_> {
             "<text class=\"{class}\" x=\"{edge}\" y=\"{foot}\">0</text>"
         )
     }
+}
+
+/// How many of a hundred these are, rounded down; 0 of nothing.
+fn percent(number: u64, whole: u64) -> u64 {
+    number.saturating_mul(100) / whole.max(1)
 }

@@ -7,20 +7,29 @@ use crate::scene::Scene;
 /// The width of a picture, of the margin for names at its left, and of the part for lines.
 pub(crate) const WIDTH: u64 = 12_000;
 
-pub(crate) const LEFT: u64 = 1_150;
+pub(crate) const LEFT: u64 = 1_500;
 
-pub(crate) const PLOT: u64 = 10_650;
+pub(crate) const PLOT: u64 = 10_300;
 
-/// The heights of a worker's lane, of the flusher's, of ARC's lists, of the dirty pages and of a line of text.
-pub(crate) const LANE: u64 = 330;
+/// The heights of a worker's lane, of the bars of its plans, of the flusher's lane, of ARC's lists, of the dirty pages and of a
+/// line of text. Letters are 16 pixels high at full width, and so 11 where the picture is 830 pixels wide.
+pub(crate) const LANE: u64 = 430;
 
-pub(crate) const FLUSHER: u64 = 150;
+pub(crate) const BAR: u64 = 190;
+
+pub(crate) const FLUSHER: u64 = 200;
 
 pub(crate) const LISTS: u64 = 1_000;
 
-pub(crate) const DIRTY: u64 = 400;
+pub(crate) const DIRTY: u64 = 600;
 
-pub(crate) const TEXT: u64 = 230;
+pub(crate) const TEXT: u64 = 300;
+
+/// How wide a letter is, about.
+pub(crate) const LETTER: u64 = 90;
+
+/// The least height of a row with words in it.
+pub(crate) const WRITTEN: u64 = 180;
 
 /// The space between two parts of the picture.
 const GAP: u64 = 220;
@@ -49,8 +58,8 @@ impl Places {
     /// The places of the parts, where there are so many words in the legend and so many notes.
     pub(crate) fn of(scene: &Scene, words: usize, notes: u64) -> Places {
         let rows = scene.extent.rows();
-        let row = if rows <= 16 { 170 } else { 100 };
-        let workers = 420;
+        let row = if rows <= 16 { WRITTEN + 20 } else { 120 };
+        let workers = 760;
         let lanes = LANE.saturating_mul(u64::from(scene.extent.workers));
         let flusher = below(workers, lanes, 0);
         let frames = below(flusher, FLUSHER, GAP);

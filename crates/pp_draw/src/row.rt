@@ -1,13 +1,13 @@
 //! The rows of a picture, and what a column shows in each.
 
-use crate::column::{Column, Doing, PageAt};
+use crate::column::{Column, Doing, PageAt, Wait, WorkerAt};
 
 /// A row whose parts begin and end with what a column shows.
 #[derive(Clone, Copy)]
 pub(crate) enum Row {
     /// The way out of a worker's failed plan.
     WayOut(usize),
-    /// The errands of a worker.
+    /// The errands of a worker, and what it waits for.
     Errands(usize),
     /// The pages that a worker has latched S.
     Shared(usize),
@@ -28,6 +28,8 @@ pub(crate) enum Shown {
     Reads { page: u32 },
     /// A device writes the victim, whose frame the page gets.
     Writes { page: u32, victim: u32 },
+    /// A worker waits.
+    Waits(Wait),
     /// A worker has the page latched S.
     Shares { page: u32 },
     /// A worker has the page latched X.
@@ -38,6 +40,16 @@ pub(crate) enum Shown {
     Stands(PageAt),
 }
 
+impl Shown {
+    /// The page that it shows in a frame.
+    pub(crate) fn page(self) -> Option<u32> {
+        match self {
+            Shown::Stands(at) => Some(at.page),
+            _ => None,
+        }
+    }
+}
+
 impl Row {
     /// What the column shows in the row.
     pub(crate) fn shown(self, column: &Column) -> Option<Shown> {
@@ -46,7 +58,7 @@ impl Row {
                 Doing::Leaving => Some(Shown::Leaves),
                 _ => None,
             },
-            Row::Errands(worker) => errand(column.workers.get(worker)?.doing),
+            Row::Errands(worker) => errand(*column.workers.get(worker)?),
             Row::Shared(worker) => {
                 let page = column.workers.get(worker)?.latches.shared?;
                 Some(Shown::Shares { page })
@@ -64,12 +76,15 @@ impl Row {
     }
 }
 
-/// What a device does for a worker that is at this.
-fn errand(doing: Doing) -> Option<Shown> {
-    match doing {
+/// What a device does for the worker, or what it waits for.
+fn errand(at: WorkerAt) -> Option<Shown> {
+    match at.doing {
         Doing::Reading { page } => Some(Shown::Reads { page }),
         Doing::Writing { page, victim } => Some(Shown::Writes { page, victim }),
-        Doing::Idle | Doing::Acting | Doing::Leaving => None,
+        Doing::Idle | Doing::Acting | Doing::Leaving => {
+            let wait = at.wait?;
+            Some(Shown::Waits(wait))
+        }
     }
 }
 

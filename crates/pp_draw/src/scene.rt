@@ -30,6 +30,13 @@ pub struct Scene {
     pub tally: Tally,
 }
 
+impl Scene {
+    /// Whether a column stands for several lines.
+    pub(crate) fn is_wide(&self) -> bool {
+        self.extent.width > 1
+    }
+}
+
 /// The scene of a journal of these plans under the settings.
 ///
 /// It goes over the text once for its size and once line by line, as an audit does, and beside the text it wants the memory of

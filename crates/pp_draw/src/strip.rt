@@ -1,15 +1,12 @@
 //! A row of a picture as SVG: a part for each stretch of columns that show the same.
 
 use crate::column::Column;
-use crate::place::x_of;
+use crate::place::{LETTER, WRITTEN, x_of};
 use crate::row::{Row, Shown};
 use crate::scene::Scene;
 use crate::words::{Span, Told};
 use pp_settings::Settings;
 use std::fmt;
-
-/// How wide a part is at least that has the number of its page.
-const NUMBER: u64 = 380;
 
 /// A row, with its place from the top and its height.
 #[derive(Clone, Copy)]
@@ -32,24 +29,19 @@ struct Stretch {
 impl fmt::Display for Strip<'_> {
     fn fmt<W: fmt::Write>(&self, f: &mut fmt::Formatter<W>) -> fmt::Result {
         let mut open: Option<Stretch> = None;
-        let mut named = None;
         let mut from = 0;
         for column in &self.scene.columns {
             let next = grown(open, self.row, column, from);
             if let Some(stretch) = closed(open, next) {
-                self.write_stretch(f, stretch, named)?;
-                named = self.named_behind(stretch, named);
-            }
-            if next.is_none() {
-                named = None;
+                self.write_stretch(f, stretch)?;
             }
             open = next;
             from = column.line;
         }
-        match open {
-            Some(stretch) => self.write_stretch(f, stretch, named),
-            None => Ok(()),
+        if let Some(stretch) = open {
+            self.write_stretch(f, stretch)?;
         }
+        self.write_names(f)
     }
 }
 
@@ -76,78 +68,104 @@ fn closed(open: Option<Stretch>, next: Option<Stretch>) -> Option<Stretch> {
     }
 }
 
-impl Stretch {
-    /// The page that it shows in a frame.
-    fn page(self) -> Option<u32> {
-        match self.shown {
-            Shown::Stands(at) => Some(at.page),
-            _ => None,
-        }
-    }
-}
-
 impl Strip<'_> {
-    /// The page whose number was written last, since it came into its frame, once this stretch is written too.
-    fn named_behind(&self, stretch: Stretch, named: Option<u32>) -> Option<u32> {
-        let page = stretch.page()?;
-        let lines = self.scene.lines;
-        let width = x_of(stretch.to, lines).saturating_sub(x_of(stretch.from, lines));
-        if named == Some(page) || (width >= NUMBER && self.height >= 130) {
-            Some(page)
-        } else {
-            None
-        }
-    }
-
-    /// A stretch, with what it shows as its title, and the number of its page where that wasn't written yet.
+    /// A stretch, with what it shows as its title.
     fn write_stretch<W: fmt::Write>(
         &self,
         f: &mut fmt::Formatter<W>,
         stretch: Stretch,
-        named: Option<u32>,
     ) -> fmt::Result {
-        let lines = self.scene.lines;
-        let left = x_of(stretch.from, lines);
-        let width = x_of(stretch.to, lines).saturating_sub(left);
-        let shown = stretch.shown;
         let told = Told {
             settings: self.settings,
-            shown,
+            shown: stretch.shown,
         };
         let span = Span {
             first: stretch.from.saturating_add(1),
             last: stretch.to,
         };
         f.write_str("<g>")?;
-        let height = self.height;
-        self.write_box(f, Class::of(self.settings, shown), left, width, height)?;
-        if let Shown::Stands(at) = shown {
-            if at.is_dirty {
-                self.write_box(f, Class::Changed, left, width, height)?;
-            }
-            if at.is_exclusive {
-                self.write_box(f, Class::Exclusive, left, width, height / 3)?;
-            }
-        }
-        write!(f, "<title>{told}, {span}</title>")?;
-        if let Some(page) = self.named_behind(stretch, named) {
-            if named != Some(page) {
-                self.write_number(f, page, left)?;
-            }
-        }
-        writeln!(f, "</g>")
+        self.write_boxes(f, stretch)?;
+        writeln!(f, "<title>{told}, {span}</title></g>")
     }
 
-    /// The number of a page.
-    fn write_number<W: fmt::Write>(
+    /// What a stretch looks like: a page in the colour of its region, and patterns over it.
+    fn write_boxes<W: fmt::Write>(
         &self,
         f: &mut fmt::Formatter<W>,
-        page: u32,
-        left: u64,
+        stretch: Stretch,
     ) -> fmt::Result {
+        let lines = self.scene.lines;
+        let left = x_of(stretch.from, lines);
+        let width = x_of(stretch.to, lines).saturating_sub(left);
+        let height = self.height;
+        self.write_box(
+            f,
+            Class::of(self.settings, stretch.shown),
+            left,
+            width,
+            height,
+        )?;
+        match stretch.shown {
+            Shown::Reads { .. } => self.write_box(f, Class::Read, left, width, height),
+            Shown::Writes { .. } | Shown::Flushes { .. } => {
+                self.write_box(f, Class::Changed, left, width, height)
+            }
+            Shown::Stands(at) => {
+                if at.is_dirty {
+                    self.write_box(f, Class::Changed, left, width, height)?;
+                }
+                if at.is_exclusive {
+                    self.write_box(f, Class::Exclusive, left, width, height / 3)?;
+                }
+                Ok(())
+            }
+            _ => Ok(()),
+        }
+    }
+
+    /// The number of each page that stands in a frame, where it stays long enough.
+    fn write_names<W: fmt::Write>(&self, f: &mut fmt::Formatter<W>) -> fmt::Result {
+        if self.height < WRITTEN {
+            return Ok(());
+        }
+        let mut stay: Option<Stay> = None;
+        let mut from = 0;
+        for column in &self.scene.columns {
+            let page = self.row.shown(column).and_then(Shown::page);
+            stay = match stay {
+                Some(stay) if page == Some(stay.page) => Some(stay.up_to(column.line)),
+                _ => {
+                    self.write_name(f, stay)?;
+                    page.map(|page| Stay {
+                        page,
+                        from,
+                        to: column.line,
+                    })
+                }
+            };
+            from = column.line;
+        }
+        self.write_name(f, stay)
+    }
+
+    /// The number of the page that stays, where there is room for it.
+    fn write_name<W: fmt::Write>(
+        &self,
+        f: &mut fmt::Formatter<W>,
+        stay: Option<Stay>,
+    ) -> fmt::Result {
+        let Some(Stay { page, from, to }) = stay else {
+            return Ok(());
+        };
+        let lines = self.scene.lines;
+        let left = x_of(from, lines);
+        let width = x_of(to, lines).saturating_sub(left);
+        if width < digits_of(page).saturating_mul(LETTER).saturating_add(50) {
+            return Ok(());
+        }
         let x = left.saturating_add(25);
-        let y = self.top.saturating_add(110);
-        write!(f, "<text class=\"f j\" x=\"{x}\" y=\"{y}\">{page}</text>")
+        let y = self.top.saturating_add(147);
+        writeln!(f, "<text class=\"f j u\" x=\"{x}\" y=\"{y}\">{page}</text>")
     }
 
     /// A box of this height at the strip's foot.
@@ -167,12 +185,38 @@ impl Strip<'_> {
     }
 }
 
+/// A page that stays in a frame: from behind one line to the end of another.
+#[derive(Clone, Copy)]
+struct Stay {
+    page: u32,
+    from: u64,
+    to: u64,
+}
+
+impl Stay {
+    /// The same, which goes on to the end of this line.
+    fn up_to(self, line: u64) -> Stay {
+        Stay { to: line, ..self }
+    }
+}
+
+/// How many digits the number has.
+fn digits_of(number: u32) -> u64 {
+    match number {
+        0..=9 => 1,
+        10..=99 => 2,
+        100..=999 => 3,
+        1_000..=9_999 => 4,
+        _ => 5,
+    }
+}
+
 /// How a box looks.
 #[derive(Clone, Copy)]
 enum Class {
     WayOut,
-    Reads,
-    Writes,
+    Waits,
+    Read,
     Shares,
     Exclusive,
     Region(u8),
@@ -184,12 +228,18 @@ impl Class {
     fn of(settings: &Settings, shown: Shown) -> Class {
         match shown {
             Shown::Leaves => Class::WayOut,
-            Shown::Reads { .. } => Class::Reads,
-            Shown::Writes { .. } | Shown::Flushes { .. } => Class::Writes,
+            Shown::Waits(_) => Class::Waits,
             Shown::Shares { .. } => Class::Shares,
             Shown::Changes { .. } => Class::Exclusive,
-            Shown::Stands(at) => Class::Region(settings.region_of(at.page).unwrap_or(7)),
+            Shown::Reads { page } | Shown::Flushes { page } => Class::of_page(settings, page),
+            Shown::Writes { victim, .. } => Class::of_page(settings, victim),
+            Shown::Stands(at) => Class::of_page(settings, at.page),
         }
+    }
+
+    /// Of a page.
+    fn of_page(settings: &Settings, page: u32) -> Class {
+        Class::Region(settings.region_of(page).unwrap_or(7))
     }
 }
 
@@ -197,8 +247,8 @@ impl fmt::Display for Class {
     fn fmt<W: fmt::Write>(&self, f: &mut fmt::Formatter<W>) -> fmt::Result {
         match self {
             Class::WayOut => f.write_str("o"),
-            Class::Reads => f.write_str("q"),
-            Class::Writes => f.write_str("w"),
+            Class::Waits => f.write_str("w"),
+            Class::Read => f.write_str("n"),
             Class::Shares => f.write_str("k"),
             Class::Exclusive => f.write_str("x"),
             Class::Region(region) => write!(f, "r r{}", region % 8),

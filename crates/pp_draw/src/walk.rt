@@ -16,6 +16,7 @@ ghost use Rattle.pp_draw.specs.Walks.{Adds, Counts, Passed};
 
 use crate::column::{Column, lengths_of, pages_in, workers_of};
 use crate::extent::Extent;
+use crate::share::Shares;
 use crate::tally::Tally;
 use pp_cert::Accepted;
 use pp_core::Core;
@@ -29,6 +30,8 @@ pub struct Walk {
     pub(crate) auditor: Auditor,
     pub(crate) columns: Vec<Column>,
     pub(crate) tally: Tally,
+    /// Of the lines since the last column.
+    shares: Shares,
 }
 
 impl Walk {
@@ -49,6 +52,7 @@ impl Walk {
             auditor,
             columns: Vec::new(alloc),
             tally: Tally::new(alloc),
+            shares: Shares::none(alloc, settings.workers())?,
         })
     }
 
@@ -100,10 +104,22 @@ impl Walk {
     {
         self.auditor.pass_text(number, text)?;
         self.tally.note(number, text)?;
+        self.note_shares(extent);
         if ends {
             self.add_column(alloc, extent, number)?;
         }
         Ok(())
+    }
+
+    /// Counts what workers and the flusher are at behind a line, where a column stands for several.
+    fn note_shares(&mut self, extent: &Extent)
+        ensures auditor { self.new.auditor ≡ self.old.auditor }
+        ensures columns { self.new.columns ≡ self.old.columns }
+        ensures tally { self.new.tally ≡ self.old.tally }
+    {
+        if extent.width > 1 {
+            self.shares.note(self.auditor.core());
+        }
     }
 
     /// Adds the column that ends with the line of this number.
@@ -113,14 +129,21 @@ impl Walk {
         ensures added { OnOk result ((p : Progress) → IsAt self.old.auditor p
             → Adds extent.now number p.state self.old.columns.items self.new.columns.items) }
     {
-        let column = column_at(alloc, self.auditor.core(), extent, number)?;
+        let shares = self.shares.taken(alloc)?;
+        let column = column_at(alloc, self.auditor.core(), extent, number, shares)?;
         self.columns.push(column)?;
         Ok(())
     }
 }
 
 /// The column of what there is in the core.
-fn column_at(alloc: Global, core: &Core, extent: &Extent, line: u64) -> Result<Column, AllocError>
+fn column_at(
+    alloc: Global,
+    core: &Core,
+    extent: &Extent,
+    line: u64,
+    shares: Shares,
+) -> Result<Column, AllocError>
     ensures line { IfOk result (λ column. column.line ≡ line) }
     ensures shows { IfOk result (λ column. (s : State) → StandsFor core.now s
         → Shows extent.now.workers extent.now.drawn.items column s) }
@@ -132,6 +155,7 @@ fn column_at(alloc: Global, core: &Core, extent: &Extent, line: u64) -> Result<C
         dirty: core.dirty(),
         lengths: lengths_of(core.directory()),
         pages: pages_in(alloc, core.marks(), &extent.drawn)?,
+        shares,
     })
 }
 

@@ -26,7 +26,7 @@ pub enum Contents<'a> {
     /// The journals of a pool's lives are audited, which stand in one text.
     AuditLives(AuditFiles<'a>),
     /// A journal is drawn.
-    Draw(AuditFiles<'a>),
+    Draw(DrawFiles<'a>),
 }
 
 /// The bytes of the three files of `check`.
@@ -60,7 +60,7 @@ pub struct SimulateFiles<'a> {
     pub plans: &'a [Vec<u8>],
 }
 
-/// The bytes of the files of `audit` and of `draw`.
+/// The bytes of the files of `audit`.
 #[derive(Clone, Copy, Debug)]
 pub struct AuditFiles<'a> {
     /// The bytes of the settings.
@@ -69,6 +69,19 @@ pub struct AuditFiles<'a> {
     pub journal: &'a [u8],
     /// The bytes of the plans, in their order.
     pub plans: &'a [Vec<u8>],
+}
+
+/// The bytes of the files of `draw`, and what the plans are called.
+#[derive(Clone, Copy, Debug)]
+pub struct DrawFiles<'a> {
+    /// The bytes of the settings.
+    pub settings: &'a [u8],
+    /// The bytes of the journal.
+    pub journal: &'a [u8],
+    /// The bytes of the plans, in their order.
+    pub plans: &'a [Vec<u8>],
+    /// The paths of the plans, in their order. A plan without one is named by its number.
+    pub names: &'a [&'a str],
 }
 
 /// What the contents of the files come to.
@@ -142,7 +155,7 @@ fn lives_audited<'a>(alloc: Global, files: AuditFiles<'_>) -> Exit<'a>
 }
 
 /// What the files of `draw` come to.
-fn drawn<'a>(alloc: Global, files: AuditFiles<'_>) -> Exit<'a>
+fn drawn<'a>(alloc: Global, files: DrawFiles<'_>) -> Exit<'a>
     ensures { MayCome (IsDrawingAnswer (audited_in files.entry.settings.now files.entry.journal.now
         (map (λ plan. plan.items) files.entry.plans.now))) result }
 {

@@ -6,7 +6,7 @@ ghost use Rattle.pp_judge.specs.Answers.{Draws};
 ghost use Rattle.pp_judge.specs.Judgement.{audited_in, workload_in};
 ghost use Rattle.pp_judge.specs.Steps.{is_want_of_memory};
 
-use crate::contents::AuditFiles;
+use crate::contents::DrawFiles;
 use crate::error::JudgeError;
 use crate::workload::Workload;
 use pp_draw::{Picture, Scene, scene_of};
@@ -27,7 +27,7 @@ struct View {
 /// # Errors
 ///
 /// Exactly those of an audit of the same files.
-pub fn draw(alloc: Global, files: AuditFiles<'_>) -> Result<String, JudgeError>
+pub fn draw(alloc: Global, files: DrawFiles<'_>) -> Result<String, JudgeError>
     // A picture where an audit accepts the journal, and else its refusal, unless memory ran out.
     ensures { Draws (audited_in files.entry.settings.now files.entry.journal.now
         (map (λ plan. plan.items) files.entry.plans.now)) result }
@@ -36,6 +36,7 @@ pub fn draw(alloc: Global, files: AuditFiles<'_>) -> Result<String, JudgeError>
     let picture = Picture {
         settings: &view.settings,
         scene: &view.scene,
+        names: files.names,
     };
     match format!(in alloc; "{picture}") {
         Ok(text) => Ok(text),
@@ -44,7 +45,7 @@ pub fn draw(alloc: Global, files: AuditFiles<'_>) -> Result<String, JudgeError>
 }
 
 /// What is drawn of the files.
-fn view_of(alloc: Global, files: AuditFiles<'_>) -> Result<View, JudgeError>
+fn view_of(alloc: Global, files: DrawFiles<'_>) -> Result<View, JudgeError>
     ensures { Gives is_want_of_memory (λ view. view.scene.lines) result
         (audited_in files.entry.settings.now files.entry.journal.now (map (λ plan. plan.items) files.entry.plans.now)) }
 {

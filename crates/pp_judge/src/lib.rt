@@ -12,7 +12,9 @@ mod rehearsal;
 mod workload;
 
 pub use auditing::{audit, audit_lives};
-pub use contents::{AnnotateFiles, AuditFiles, CheckFiles, Contents, SimulateFiles, exit_of};
+pub use contents::{
+    AnnotateFiles, AuditFiles, CheckFiles, Contents, DrawFiles, SimulateFiles, exit_of,
+};
 pub use device::{DeviceSize, device_size};
 pub use drawing::draw;
 pub use error::JudgeError;

@@ -15,7 +15,11 @@ pub fn answer_to<R: Files + AllocGlobal>(rt: &R, line: &str) -> anyhow::Result<S
     for name in names {
         plans.push(fs::read(rt, name)?)?;
     }
-    drawn(rt.alloc(), &settings, &journal, &plans)
+    let mut files = Vec::new(rt.alloc());
+    for name in line.split(" ").skip(2) {
+        files.push(name)?;
+    }
+    drawn(rt.alloc(), &settings, &journal, &plans, &files)
 }
 
 /// The picture of this journal of these plans, or its refusal.
@@ -24,6 +28,7 @@ fn drawn(
     settings: &[u8],
     journal: &[u8],
     plans: &[Vec<u8>],
+    names: &[&str],
 ) -> anyhow::Result<String> {
     let Workload { settings, plans } = match Workload::read(alloc, settings, plans) {
         Ok(workload) => workload,
@@ -34,6 +39,7 @@ fn drawn(
             let picture = Picture {
                 settings: &settings,
                 scene: &scene,
+                names,
             };
             Ok(format!(in alloc; "{picture}")?)
         }

@@ -3,7 +3,8 @@
 use crate::samples::{LIVES, PIN, PIN_NOTES, SCRIPT};
 use crate::stand::{answer, call};
 use pp_judge::{
-    AnnotateFiles, AuditFiles, CheckFiles, Contents, SimulateFiles, Workload, device_size, exit_of,
+    AnnotateFiles, AuditFiles, CheckFiles, Contents, DrawFiles, SimulateFiles, Workload,
+    device_size, exit_of,
 };
 use pp_test_plain::samples::{SETTINGS, TOUCH, TOUCHED, WRITE};
 use std::alloc::Global;
@@ -52,10 +53,11 @@ fn contents<'a>(row: &str, plans: &'a [Vec<u8>]) -> Contents<'a> {
             journal: LIVES.as_bytes(),
             plans,
         }),
-        "draw" => Contents::Draw(AuditFiles {
+        "draw" => Contents::Draw(DrawFiles {
             settings,
             journal: TOUCHED.as_bytes(),
             plans,
+            names: &[],
         }),
         _ => Contents::Audit(AuditFiles {
             settings,

@@ -1,6 +1,7 @@
-use Rattle.std.proofs.Common.{subst}
+use Rattle.std.proofs.Common.{subst, sym, ap}
 use Rattle.pp_report.specs.Auditing.{pass_text}
-use Rattle.pp_report.specs.Auditors.{Passes}
+use Rattle.pp_report.specs.declared.auditor.Auditor.{Auditor}
+use Rattle.pp_report.specs.Auditors.{IsAt, Passes}
 use Rattle.pp_draw.proofs.Drawn.{added, went_by, passed}
 use Rattle.pp_draw.proofs.walk.Walk.pass.Goals as goal
 
@@ -10,9 +11,11 @@ returns-in_ok-add_column-clause-passed c = λ p at.
     c.in_ok-pass_text.was (c.pass_text.ensures p at) in
     let (q, is, here) = passed c.pass_text.new.self (pass_text p c.args.number c.args.text.now)
     c.in_ok-pass_text.field-0 done in
-    added c.args.extent.now c.args.number p q c.args.text.now c.pass_text.new.self c.add_column.new.self.auditor
-    c.args.self.now.columns.items c.add_column.new.self.columns.items c.args.ends is here c.in_ok-add_column.ensures.auditor
-    c.in_ok-add_column.ensures.added c.if-ends.true
+    let there = subst (λ (a : Auditor). IsAt a q) (sym c.note_shares.ensures.auditor) here in
+    added c.args.extent.now c.args.number p q c.args.text.now c.note_shares.new.self.auditor
+    c.add_column.new.self.auditor c.args.self.now.columns.items c.note_shares.new.self.columns.items
+    c.add_column.new.self.columns.items c.args.ends is there c.in_ok-add_column.ensures.auditor
+    (ap (λ columns. columns.items) c.note_shares.ensures.columns) c.in_ok-add_column.ensures.added c.if-ends.true
 
 pub returns-else-ends-clause-passed : goal.returns-else-ends-clause-passed
 returns-else-ends-clause-passed c = λ p at.
@@ -20,5 +23,7 @@ returns-else-ends-clause-passed c = λ p at.
     c.in_ok-pass_text.was (c.pass_text.ensures p at) in
     let (q, is, here) = passed c.pass_text.new.self (pass_text p c.args.number c.args.text.now)
     c.in_ok-pass_text.field-0 done in
-    went_by c.args.extent.now c.args.number p q c.args.text.now c.pass_text.new.self c.args.self.now.columns.items
-    c.args.ends is here c.if-ends.false
+    let there = subst (λ (a : Auditor). IsAt a q) (sym c.note_shares.ensures.auditor) here in
+    went_by c.args.extent.now c.args.number p q c.args.text.now c.note_shares.new.self.auditor
+    c.args.self.now.columns.items c.note_shares.new.self.columns.items c.args.ends is there
+    (ap (λ columns. columns.items) c.note_shares.ensures.columns) c.if-ends.false
