@@ -25,8 +25,10 @@ pub(crate) const DIRTY: u64 = 600;
 
 pub(crate) const TEXT: u64 = 300;
 
-/// How wide a letter is, about.
+/// How wide a letter is, about, and a small one, as low rows have them.
 pub(crate) const LETTER: u64 = 90;
+
+pub(crate) const LOW_LETTER: u64 = 64;
 
 /// The least height of a row with words in it.
 pub(crate) const WRITTEN: u64 = 180;

@@ -1,7 +1,7 @@
 //! A row of a picture as SVG: a part for each stretch of columns that show the same.
 
 use crate::column::Column;
-use crate::place::{LETTER, WRITTEN, x_of};
+use crate::place::{LETTER, LOW_LETTER, WRITTEN, x_of};
 use crate::row::{Row, Shown};
 use crate::scene::Scene;
 use crate::words::{Span, Told};
@@ -125,9 +125,6 @@ impl Strip<'_> {
 
     /// The number of each page that stands in a frame, where it stays long enough.
     fn write_names<W: fmt::Write>(&self, f: &mut fmt::Formatter<W>) -> fmt::Result {
-        if self.height < WRITTEN {
-            return Ok(());
-        }
         let mut stay: Option<Stay> = None;
         let mut from = 0;
         for column in &self.scene.columns {
@@ -160,12 +157,20 @@ impl Strip<'_> {
         let lines = self.scene.lines;
         let left = x_of(from, lines);
         let width = x_of(to, lines).saturating_sub(left);
-        if width < digits_of(page).saturating_mul(LETTER).saturating_add(50) {
+        let (class, letter, down) = if self.height < WRITTEN {
+            ("f j u c", LOW_LETTER, 90)
+        } else {
+            ("f j u", LETTER, 147)
+        };
+        if width < digits_of(page).saturating_mul(letter).saturating_add(50) {
             return Ok(());
         }
         let x = left.saturating_add(25);
-        let y = self.top.saturating_add(147);
-        writeln!(f, "<text class=\"f j u\" x=\"{x}\" y=\"{y}\">{page}</text>")
+        let y = self.top.saturating_add(down);
+        writeln!(
+            f,
+            "<text class=\"{class}\" x=\"{x}\" y=\"{y}\">{page}</text>"
+        )
     }
 
     /// A box of this height at the strip's foot.
