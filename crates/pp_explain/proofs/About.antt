@@ -4,11 +4,13 @@ use Rattle.std.proofs.lemmas.List.{get_or-map, length-map}
 use Rattle.std.proofs.lemmas.List.Elements.{Contains-append_left, Contains-append_right, Contains-get_or}
 use Rattle.std.specs.List.{Contains}
 use Rattle.pp_explain.specs.declared.source.Source.{Source}
-use Rattle.pp_explain.specs.Paragraphs.{IsAbout, IsParagraph, line_feeds, paths_in}
+use Rattle.pp_explain.specs.Paragraphs.{IsAbout, IsParagraph, IsShownAs, line_feeds, paths_in}
 
 -- A path, a text of few lines, and a line feed.
-pub made : (path rest bytes : List ℕ) → bytes ≡ path ++ rest ++ codes "\n" → line_feeds rest ≤ 4 → IsParagraph path bytes
-made path rest bytes is few = record { rest = rest; begins = is; lines = few }
+pub made : (path shown rest bytes : List ℕ) → IsShownAs path shown → bytes ≡ shown ++ rest ++ codes "\n" → line_feeds rest ≤ 4
+    → IsParagraph path bytes
+made path shown rest bytes named is few =
+    record { shown = shown; named = named; rest = rest; begins = is; lines = few }
 
 first : (one : List ℕ) (others : List (List ℕ)) → Contains (one ∷ others) one
 first one others =

@@ -1,8 +1,8 @@
 //! Refusals of a certificate by the check.
 
 use crate::entries::note_text;
-use crate::fault::{held_text, place_text};
-use crate::places::{other_note, place_of, size_of};
+use crate::fault::{held_text, place_text, turn_text};
+use crate::places::{other_note, place_of, places_of};
 use crate::plans::fault_of;
 use crate::reading::{certificate_in, plan_in};
 use pp_cert::{Certificate, CheckError, MOST_STEPS, longest_trace};
@@ -84,6 +84,17 @@ pub(crate) fn check_said(
     Ok(Said::of(format!(in alloc; "{error}")?))
 }
 
+/// What is said of a place.
+#[derive(Drop)]
+struct Lies {
+    /// What is held there.
+    held: String,
+    /// Where it lies.
+    lies: String,
+    /// That this is so in the last turn, where it stands in a loop in which a bundle grows.
+    turn: &'static str,
+}
+
 impl Matter<'_> {
     /// What is said of the certificate.
     fn said(&self, alloc: Global, error: CheckError) -> Result<Said, AllocError> {
@@ -101,14 +112,19 @@ impl Matter<'_> {
     }
 
     /// What is held at the place, and where the place lies.
-    fn place(&self, alloc: Global, place: u32) -> Result<(String, String), AllocError> {
+    fn place(&self, alloc: Global, place: u32) -> Result<Lies, AllocError> {
         match place_of(alloc, self.plan, place)? {
             Some(found) => {
                 let held = held_text(alloc, self.settings, self.plan, &found)?;
                 let lies = place_text(alloc, self.bytes, &found)?;
-                Ok((held, lies))
+                let turn = turn_text(found.grows);
+                Ok(Lies { held, lies, turn })
             }
-            None => Ok((String::new(alloc), String::new(alloc))),
+            None => Ok(Lies {
+                held: String::new(alloc),
+                lies: String::new(alloc),
+                turn: "",
+            }),
         }
     }
 
@@ -128,8 +144,8 @@ impl Matter<'_> {
 
     /// A note is missing.
     fn short(&self, alloc: Global, place: u32) -> Result<Said, AllocError> {
-        let (held, lies) = self.place(alloc, place)?;
-        let places = size_of(alloc, self.plan)?.places;
+        let Lies { held, lies, .. } = self.place(alloc, place)?;
+        let places = places_of(alloc, self.plan)?;
         let notes = self.certificate.notes.len();
         let what = format!(in alloc;
             "note {place} is missing, {lies}: the certificate has notes for {notes} of the plan's {places} places; \
@@ -141,7 +157,7 @@ impl Matter<'_> {
     /// A note is left over.
     fn long(&self, alloc: Global, place: u32) -> Result<Said, AllocError> {
         let note = self.note(alloc, place)?;
-        let places = size_of(alloc, self.plan)?.places;
+        let places = places_of(alloc, self.plan)?;
         let what = format!(in alloc;
             "note {place}, {note}: it is left over, since the plan has {places} places, numbered from 0"
         )?;
@@ -154,7 +170,7 @@ impl Matter<'_> {
             let why = "which doesn't follow from the notes before it";
             return self.differs_behind(alloc, place, why, other);
         }
-        let (held, lies) = self.place(alloc, place)?;
+        let Lies { held, lies, .. } = self.place(alloc, place)?;
         let note = self.note(alloc, place)?;
         let what = format!(in alloc; "note {place}, {lies}: it is {note}, and {held}")?;
         self.said_of_note(alloc, place, what)
@@ -180,8 +196,8 @@ impl Matter<'_> {
         why: &str,
         other: u32,
     ) -> Result<Said, AllocError> {
-        let (_, lies) = self.place(alloc, place)?;
-        let (held, _) = self.place(alloc, other)?;
+        let lies = self.place(alloc, place)?.lies;
+        let held = self.place(alloc, other)?.held;
         let note = self.note(alloc, place)?;
         let first = self.note(alloc, other)?;
         let what = format!(in alloc;
@@ -193,7 +209,7 @@ impl Matter<'_> {
 
     /// A note holds more pages than the peak.
     fn over_peak(&self, alloc: Global, place: u32) -> Result<Said, AllocError> {
-        let (_, lies) = self.place(alloc, place)?;
+        let Lies { lies, turn, .. } = self.place(alloc, place)?;
         let note = self.note(alloc, place)?;
         let pins = match self.certificate.notes.get(place as usize) {
             Some(note) => note.pins(),
@@ -201,7 +217,7 @@ impl Matter<'_> {
         };
         let peak = self.certificate.peak;
         let what = format!(in alloc;
-            "note {place}, {lies}: {note} holds {pins} at once, and the peak is {peak}: no note holds more pages than the peak"
+            "note {place}, {lies}: {note} holds {pins} at once{turn}, and the peak is {peak}: no note holds more pages than the peak"
         )?;
         self.said_of_note(alloc, place, what)
     }

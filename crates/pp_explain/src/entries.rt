@@ -3,6 +3,7 @@
 use pp_annotate::{gathered, held_as, inserted, removed, scattered};
 use pp_cert::{Entry, Held, MOST_COUNTED};
 use pp_explain_text::{region_name, slot_name};
+use pp_locate::front;
 use pp_plan::{Plan, Stmt};
 use pp_settings::Settings;
 use std::alloc::{AllocError, Global};
@@ -47,7 +48,7 @@ pub(crate) fn after(
 }
 
 /// The entries as a certificate writes them, as in `{"a":["root","-"],"g":3}`; of a bound that is too large for any pool it is
-/// said that it may be more.
+/// said that it may be more. Of a long text it is the front.
 pub(crate) fn note_text(
     alloc: Global,
     settings: &Settings,
@@ -74,5 +75,5 @@ pub(crate) fn note_text(
         }
     }
     text.push_str("}")?;
-    Ok(text)
+    front(alloc, text.as_str())
 }

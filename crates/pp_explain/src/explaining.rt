@@ -138,7 +138,6 @@ fn finding_of(
             settings_said(alloc, files.settings.bytes, error)?,
         ),
         Refused::Script(error) => Finding::of(Which::Other, script_said(alloc, other, error)?),
-        Refused::Audit(error) => Finding::of(Which::Other, journal_said(alloc, other, error)?),
         refused => match settings_in(alloc, files.settings.bytes)? {
             Some(settings) => finding_under(alloc, &settings, files.plans, other, refused)?,
             None => None,
@@ -170,7 +169,11 @@ fn finding_under(
             Some(plan) => finding_beside(alloc, settings, plan.bytes, other, refused),
             None => Ok(None),
         },
-        Refused::Settings(_) | Refused::Script(_) | Refused::Audit(_) => Ok(None),
+        Refused::Audit(error) => {
+            let said = journal_said(alloc, settings, plans, other, error)?;
+            Ok(Finding::of(Which::Other, said))
+        }
+        Refused::Settings(_) | Refused::Script(_) => Ok(None),
     }
 }
 

@@ -1,11 +1,12 @@
 //! Faults of a plan, for which no certificate is accepted.
 
 use crate::entries::{entry_of, note_text};
-use crate::places::{Place, Role, Size, place_of, size_of};
+use crate::longest::{Multiplied, multiplied_in};
+use crate::places::{Excess, Place, Role, excess_of, place_of};
 use crate::reading::plan_in;
 use pp_cert::{CheckError, Entry, Held, MOST_COUNTED, MOST_STEPS};
 use pp_explain_text::{region_name, slot_name};
-use pp_locate::{Said, Statement, slot_in, steps_text, text_of, value_of};
+use pp_locate::{Said, Statement, slot_in, steps_text, steps_to, text_of, value_of};
 use pp_plan::Plan;
 use pp_settings::Settings;
 use serde_json::Value;
@@ -80,17 +81,20 @@ pub(crate) fn held_text(
     place: &Place,
 ) -> Result<String, AllocError> {
     let held = note_text(alloc, settings, plan, &place.held)?;
-    if place.grows {
-        return format!(in alloc; "held there in the last turn is {held}");
-    }
-    format!(in alloc; "held there is {held}")
+    let turn = turn_text(place.grows);
+    format!(in alloc; "held there{turn} is {held}")
+}
+
+/// That something is so in the last turn, where that is said of a place in a loop in which a bundle grows.
+pub(crate) fn turn_text(grows: bool) -> &'static str {
+    if grows { " in the last turn" } else { "" }
 }
 
 /// The statement of the place, with its text where that can be read.
 fn statement_text(alloc: Global, bytes: &[u8], place: &Place) -> Result<String, AllocError> {
     if let Ok(text) = text_of(bytes) {
         if let Ok(value) = value_of(alloc, text)? {
-            if let Some(found) = Statement::at(&value, place.number, &place.steps) {
+            if let Some(found) = Statement::at(text, &value, place.number, &place.steps) {
                 return found.named(alloc);
             }
         }
@@ -102,47 +106,67 @@ impl Matter<'_> {
     /// What is said of the plan.
     fn said(&self, alloc: Global, error: CheckError) -> Result<Said, AllocError> {
         match error {
-            CheckError::StepsTooMany => Ok(Said::of(format!(in alloc;
-                "the longest trace of the plan has more than {MOST_STEPS} actions"
-            )?)),
+            CheckError::StepsTooMany => self.too_many(alloc),
             CheckError::PeakTooBig => self.too_big(alloc),
             _ => self.said_at_place(alloc, error),
         }
     }
 
+    /// The longest trace is too long.
+    fn too_many(&self, alloc: Global) -> Result<Said, AllocError> {
+        let (longest, found) = multiplied_in(self.plan);
+        let rule = format!(in alloc;
+            "the longest trace of the plan has {longest} actions, and a plan has at most {MOST_STEPS}"
+        )?;
+        if let Some(
+            Multiplied {
+                number,
+                turns,
+                each,
+                all,
+            },
+        ) = found
+        {
+            if let Some(steps) = steps_to(alloc, self.value, number)? {
+                if let Some(found) = Statement::at(self.text, self.value, number, &steps) {
+                    let what = format!(in alloc;
+                        "its {turns} turns of {each} are {all} actions; {rule}"
+                    )?;
+                    return found.said(alloc, None, &what);
+                }
+            }
+        }
+        Ok(Said::of(rule))
+    }
+
     /// More pages are held at once than there are frames.
     fn too_big(&self, alloc: Global) -> Result<Said, AllocError> {
-        let Size { most, most_at, .. } = size_of(alloc, self.plan)?;
         let frames = self.settings.frames();
         let rule = format!(in alloc;
             "and frames is {frames}: a plan holds at most the frames of the settings"
         )?;
-        match place_of(alloc, self.plan, most_at)? {
-            Some(place) => {
-                let most = self.most_text(alloc, &place, most)?;
-                let what = format!(in alloc; "{most}, {rule}")?;
-                self.said_there(alloc, most_at, &place, &what)
+        match excess_of(alloc, self.plan, frames)? {
+            Some(
+                Excess {
+                    pins,
+                    behind,
+                    place,
+                },
+            ) => {
+                let held = self.note(alloc, &place.held)?;
+                let least = if is_counted_out(&place.held) {
+                    "at least "
+                } else {
+                    ""
+                };
+                let turn = turn_text(place.grows);
+                let what = format!(in alloc;
+                    "with it {least}{pins} pages are held{turn}, {held}, {rule}"
+                )?;
+                self.said_there(alloc, behind, &place, &what)
             }
-            None => Ok(Said::of(format!(in alloc; "{most} pages are held at once, {rule}")?)),
+            None => Ok(Said::of(format!(in alloc; "more pages are held at once, {rule}")?)),
         }
-    }
-
-    /// That so many pages are held at the place.
-    fn most_text(&self, alloc: Global, place: &Place, most: u32) -> Result<String, AllocError> {
-        let held = self.note(alloc, &place.held)?;
-        let least = if is_counted_out(&place.held) {
-            "at least "
-        } else {
-            ""
-        };
-        let beside = match place.role {
-            Role::Before => "before it",
-            Role::LoopEnd => "at the end of its body",
-            Role::BranchEnd(_) => "at the end of a branch",
-            Role::End => "there",
-        };
-        let turn = if place.grows { " in the last turn" } else { "" };
-        format!(in alloc; "{least}{most} pages are held {beside}{turn}, {held}")
     }
 
     /// What is said of the place that the error names.
@@ -165,9 +189,9 @@ impl Matter<'_> {
         what: &str,
     ) -> Result<Said, AllocError> {
         if !matches!(place.role, Role::End) {
-            if let Some(found) = Statement::at(self.value, place.number, &place.steps) {
+            if let Some(found) = Statement::at(self.text, self.value, place.number, &place.steps) {
                 let what = format!(in alloc; "{what} (place {number})")?;
-                return found.said(alloc, self.text, &what);
+                return found.said(alloc, None, &what);
             }
         }
         Ok(Said::of(format!(in alloc; "the end of the plan: {what} (place {number})")?))
@@ -229,7 +253,7 @@ impl Matter<'_> {
 
     /// The slot of the place's statement; 0 where it has none.
     fn slot(&self, place: &Place) -> u8 {
-        match Statement::at(self.value, place.number, &place.steps) {
+        match Statement::at(self.text, self.value, place.number, &place.steps) {
             Some(found) => self.plan.slot(slot_in(found.value)).unwrap_or(0),
             None => 0,
         }
@@ -318,8 +342,9 @@ impl Matter<'_> {
             Role::BranchEnd(branch) => branch,
             _ => 0,
         };
+        let turn = turn_text(place.grows);
         format!(in alloc;
-            "branch {branch} ends with {held} and branch 0 with {due}: all branches of a choice end alike"
+            "branch {branch} ends{turn} with {held} and branch 0 with {due}: all branches of a choice end alike"
         )
     }
 }

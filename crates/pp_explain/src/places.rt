@@ -68,26 +68,34 @@ pub(crate) fn other_note(
     Ok(walk.other)
 }
 
-/// How large a plan is.
-#[derive(Clone, Copy)]
-pub(crate) struct Size {
-    /// How many places it has.
-    pub(crate) places: u32,
-    /// The most pages that are held at one of them.
-    pub(crate) most: u32,
-    /// The first place where so many are held.
-    pub(crate) most_at: u32,
-}
-
-/// How large the plan is.
-pub(crate) fn size_of(alloc: Global, plan: &Plan) -> Result<Size, AllocError> {
+/// How many places the plan has.
+pub(crate) fn places_of(alloc: Global, plan: &Plan) -> Result<u32, AllocError> {
     let mut walk = Walk::to(alloc, plan, &[], u32::MAX);
     walk.statements(alloc, DEEPEST, Step::Key("body"), &[], plan.body())?;
-    Ok(Size {
-        places: walk.place.saturating_add(1),
-        most: walk.most,
-        most_at: walk.most_at,
-    })
+    Ok(walk.place.saturating_add(1))
+}
+
+/// A fix or a gather with which more pages are held than there may be.
+#[derive(Drop)]
+pub(crate) struct Excess {
+    /// How many pages are held with it.
+    pub(crate) pins: u32,
+    /// The number of the place behind it.
+    pub(crate) behind: u32,
+    /// The place of the statement, with what is held behind it.
+    pub(crate) place: Place,
+}
+
+/// The first fix or gather of the plan with which more than so many pages are held.
+pub(crate) fn excess_of(
+    alloc: Global,
+    plan: &Plan,
+    most: u32,
+) -> Result<Option<Excess>, AllocError> {
+    let mut walk = Walk::to(alloc, plan, &[], u32::MAX);
+    walk.most = most;
+    walk.statements(alloc, DEEPEST, Step::Key("body"), &[], plan.body())?;
+    Ok(walk.excess)
 }
 
 /// A walk over a plan that looks for a place.
@@ -107,9 +115,9 @@ struct Walk<'n> {
     steps: Vec<Step<'static>>,
     /// Whether it stands in a loop in which a bundle grows.
     grows: bool,
-    /// The most pages that were held at a place, and the first place where they were.
+    /// How many pages may be held, and the first statement with which more are.
     most: u32,
-    most_at: u32,
+    excess: Option<Excess>,
     found: Option<Place>,
 }
 
@@ -125,8 +133,8 @@ impl<'n> Walk<'n> {
             number: 0,
             steps: Vec::new(alloc),
             grows: false,
-            most: 0,
-            most_at: 0,
+            most: u32::MAX,
+            excess: None,
             found: None,
         }
     }
@@ -148,11 +156,6 @@ impl<'n> Walk<'n> {
         held: &[Entry],
         due: &[Entry],
     ) -> Result<bool, AllocError> {
-        let pins = pins_of(held);
-        if pins > self.most {
-            self.most = pins;
-            self.most_at = self.place;
-        }
         if self.place != self.wanted {
             if self.other.is_none() && !self.is_noted(held) {
                 self.other = Some(self.place);
@@ -160,15 +163,40 @@ impl<'n> Walk<'n> {
             self.place = self.place.saturating_add(1);
             return Ok(false);
         }
-        self.found = Some(Place {
+        self.found = Some(self.place_as(alloc, role, number, held, due)?);
+        Ok(true)
+    }
+
+    /// The place where the walk stands, of the statement with this number.
+    fn place_as(
+        &self,
+        alloc: Global,
+        role: Role,
+        number: u32,
+        held: &[Entry],
+        due: &[Entry],
+    ) -> Result<Place, AllocError> {
+        Ok(Place {
             role,
             number,
             steps: Vec::from_slice(alloc, &self.steps)?,
             held: Vec::from_slice(alloc, held)?,
             grows: self.grows,
             due: Vec::from_slice(alloc, due)?,
-        });
-        Ok(true)
+        })
+    }
+
+    /// Notes that this is held behind the statement with this number, the one that the walk has just come to.
+    fn hold(&mut self, alloc: Global, number: u32, held: &[Entry]) -> Result<(), AllocError> {
+        let pins = pins_of(held);
+        if pins > self.most && self.excess.is_none() {
+            self.excess = Some(Excess {
+                pins,
+                behind: self.place,
+                place: self.place_as(alloc, Role::Before, number, held, &[])?,
+            });
+        }
+        Ok(())
     }
 
     /// Walks over the statements of a list that this step leads to, where this is held before them. Answers what is held
@@ -215,7 +243,13 @@ impl<'n> Walk<'n> {
                 self.turns(alloc, levels - 1, number, before, *count, body)
             }
             Stmt::Choice { branches } => self.choice(alloc, levels - 1, number, before, branches),
-            _ => Ok(Some(after(alloc, before, stmt)?)),
+            _ => {
+                let held = after(alloc, before, stmt)?;
+                if matches!(stmt, Stmt::Fix { .. } | Stmt::Gather { .. }) {
+                    self.hold(alloc, number, &held)?;
+                }
+                Ok(Some(held))
+            }
         }
     }
 

@@ -1,8 +1,10 @@
 //! Refusals of a certificate's text.
 
-use crate::names::{region_names, slot_name, slot_names};
+use crate::names::{region_names, slot_names};
 use pp_cert::{CertError, MOST_BOUND, MOST_ENTRIES, MOST_NOTES};
-use pp_locate::{Said, Step, hint, listed, no_text, said_at, shown, steps_text, text_of, value_of};
+use pp_locate::{
+    Said, Step, hint, listed, no_text, quoted, said_at, shown_at, steps_text, text_of, value_of,
+};
 use pp_plan::Plan;
 use pp_settings::Settings;
 use serde_json::Value;
@@ -59,7 +61,12 @@ fn said_of(
         )?;
         return Ok(Some(said_at(alloc, text, &[Step::Key("notes")], what)?));
     }
-    notes_said(alloc, settings, plan, text, notes)
+    let matter = Matter {
+        settings,
+        plan,
+        text,
+    };
+    notes_said(alloc, matter, notes)
 }
 
 /// This, said of the value that the steps lead to, and the form of a certificate.
@@ -81,8 +88,9 @@ fn top_said(alloc: Global, text: &str, value: &Value) -> Result<Option<Said>, Al
     for key in members.keys() {
         if !TOP_KEYS.iter().any(|other| key.as_str() == *other) {
             let hint = hint(alloc, key.as_str(), &TOP_KEYS)?;
-            let what = format!(in alloc; "the key {key:?} isn't known: {FORM}{hint}")?;
-            return Ok(Some(said_at(alloc, text, &[Step::Key(key.as_str())], what)?));
+            let shown = quoted(alloc, key.as_str())?;
+            let what = format!(in alloc; "the key {shown} isn't known: {FORM}{hint}")?;
+            return Ok(Some(said_at(alloc, text, &[Step::Name(key.as_str())], what)?));
         }
     }
     for key in &TOP_KEYS {
@@ -96,7 +104,7 @@ fn top_said(alloc: Global, text: &str, value: &Value) -> Result<Option<Said>, Al
             found.as_u64().is_some()
         };
         if !is_right {
-            let found = shown(alloc, found)?;
+            let found = shown_at(alloc, text, &[Step::Key(key)])?;
             let what = format!(in alloc; "{key} is {found}")?;
             return said_of_form(alloc, text, &[Step::Key(key)], &what);
         }
@@ -104,100 +112,152 @@ fn top_said(alloc: Global, text: &str, value: &Value) -> Result<Option<Said>, Al
     Ok(None)
 }
 
+/// A certificate's text, with what it is for.
+#[derive(Clone, Copy)]
+struct Matter<'a> {
+    settings: &'a Settings,
+    plan: &'a Plan,
+    text: &'a str,
+}
+
+/// Where the fault of an entry lies.
+#[derive(Clone, Copy)]
+enum Part {
+    /// In its slot's name.
+    Name,
+    /// In the whole of its value.
+    Value,
+    /// In its region.
+    Region,
+}
+
 /// What is said of the first note that is refused.
 fn notes_said(
     alloc: Global,
-    settings: &Settings,
-    plan: &Plan,
-    text: &str,
+    matter: Matter<'_>,
     notes: &[Value],
 ) -> Result<Option<Said>, AllocError> {
     for (place, note) in notes.iter().enumerate() {
-        if let Some(fault) = note_fault(alloc, settings, plan, note)? {
-            let Fault { key, what } = fault;
-            let mut steps = Vec::new(alloc);
-            steps.push(Step::Key("notes"))?;
-            steps.push(Step::Item(place))?;
-            if let Some(key) = key {
-                steps.push(Step::Key(key))?;
-            }
-            let lies = steps_text(alloc, &steps)?;
-            let what = format!(in alloc; "note {place} at {lies}, {what}")?;
-            return Ok(Some(said_at(alloc, text, &steps, what)?));
+        if let Some(said) = note_said(alloc, matter, place, note)? {
+            return Ok(Some(said));
         }
     }
     Ok(None)
 }
 
-/// What is wrong with a note.
-#[derive(Drop)]
-struct Fault<'v> {
-    /// The key of the entry at fault, if it is one.
-    key: Option<&'v str>,
-    what: String,
-}
-
-/// The first fault of a note.
-fn note_fault<'v>(
+/// What is said of the note at the place, where it is refused.
+fn note_said(
     alloc: Global,
-    settings: &Settings,
-    plan: &Plan,
-    note: &'v Value,
-) -> Result<Option<Fault<'v>>, AllocError> {
+    matter: Matter<'_>,
+    place: usize,
+    note: &Value,
+) -> Result<Option<Said>, AllocError> {
+    let way = [Step::Key("notes"), Step::Item(place)];
     let Some(members) = note.as_object() else {
-        let note = shown(alloc, note)?;
+        let note = shown_at(alloc, matter.text, &way)?;
         let what = format!(in alloc;
             "{note}: a note is {{SLOT:[REGION,\"-\"],..}}, with \"S\" or \"X\" where the page is latched, and with a number \
             for the list where the slot is a bundle"
         )?;
-        return Ok(Some(Fault { key: None, what }));
+        return Ok(Some(said_of_note(alloc, matter.text, place, &way, &what)?));
     };
     if members.len() > MOST_ENTRIES {
         let count = members.len();
         let what = format!(in alloc; "it has {count} entries: a note has at most {MOST_ENTRIES}")?;
-        return Ok(Some(Fault { key: None, what }));
+        return Ok(Some(said_of_note(alloc, matter.text, place, &way, &what)?));
     }
     for (key, value) in members {
-        if let Some(what) = entry_fault(alloc, settings, plan, key.as_str(), value)? {
-            let key = Some(key.as_str());
-            return Ok(Some(Fault { key, what }));
-        }
+        let Some(part) = entry_fault(matter, key.as_str(), value) else {
+            continue;
+        };
+        let way = way_to(alloc, place, key.as_str(), part)?;
+        let what = entry_text(alloc, matter, key.as_str(), value, &way, part)?;
+        return Ok(Some(said_of_note(alloc, matter.text, place, &way, &what)?));
     }
     Ok(None)
 }
 
-/// The fault of an entry: its form first, then the slot's name, then the region's, then that the slot is of another kind.
-fn entry_fault(
+/// This, said of what the way leads to in the note at the place.
+fn said_of_note(
     alloc: Global,
-    settings: &Settings,
-    plan: &Plan,
-    key: &str,
-    value: &Value,
-) -> Result<Option<String>, AllocError> {
-    let region = region_in(value);
-    if region.is_none() && !is_bound(value) {
-        let value = shown(alloc, value)?;
-        return Ok(Some(format!(in alloc;
-            "{value}: an entry is {PAGE}, or of a bundle a whole number from 1 to {MOST_BOUND}"
-        )?));
-    }
-    let Some(slot) = plan.slot(key) else {
-        let names = slot_names(alloc, plan)?;
-        let hint = hint(alloc, key, &names)?;
-        let names = listed(alloc, &names)?;
-        return Ok(Some(format!(in alloc;
-            "{key:?}: the plan has no such slot; its slots are {names}{hint}"
-        )?));
-    };
-    if let Some(region) = region {
-        if settings.region(region).is_none() {
-            return Ok(Some(no_region_text(alloc, settings, region)?));
+    text: &str,
+    place: usize,
+    way: &[Step<'_>],
+    what: &str,
+) -> Result<Said, AllocError> {
+    let lies = steps_text(alloc, way)?;
+    let what = format!(in alloc; "note {place} at {lies}, {what}")?;
+    said_at(alloc, text, way, what)
+}
+
+/// The way to the part of the entry with this key in the note at the place.
+fn way_to(alloc: Global, place: usize, key: &str, part: Part) -> Result<Vec<Step<'_>>, AllocError> {
+    let mut way = Vec::new(alloc);
+    way.push(Step::Key("notes"))?;
+    way.push(Step::Item(place))?;
+    match part {
+        Part::Name => way.push(Step::Name(key))?,
+        Part::Value => way.push(Step::Key(key))?,
+        Part::Region => {
+            way.push(Step::Key(key))?;
+            way.push(Step::Item(0))?;
         }
     }
-    if region.is_some() == plan.is_bundle(slot) {
-        return Ok(Some(other_kind_text(alloc, plan, slot, value)?));
+    Ok(way)
+}
+
+/// The fault of an entry: its form first, then the slot's name, then the region's, then that the slot is of another kind.
+fn entry_fault(matter: Matter<'_>, key: &str, value: &Value) -> Option<Part> {
+    let region = region_in(value);
+    if region.is_none() && !is_bound(value) {
+        return Some(Part::Value);
     }
-    Ok(None)
+    let Some(slot) = matter.plan.slot(key) else {
+        return Some(Part::Name);
+    };
+    if let Some(region) = region {
+        if matter.settings.region(region).is_none() {
+            return Some(Part::Region);
+        }
+    }
+    if region.is_some() == matter.plan.is_bundle(slot) {
+        return Some(Part::Value);
+    }
+    None
+}
+
+/// What is wrong with the part of an entry to which the way leads.
+fn entry_text(
+    alloc: Global,
+    matter: Matter<'_>,
+    key: &str,
+    value: &Value,
+    way: &[Step<'_>],
+    part: Part,
+) -> Result<String, AllocError> {
+    let region = region_in(value);
+    match part {
+        Part::Name => no_slot_text(alloc, matter.plan, key),
+        Part::Region => no_region_text(alloc, matter.settings, region.unwrap_or("")),
+        Part::Value => {
+            let shown = shown_at(alloc, matter.text, way)?;
+            if region.is_none() && !is_bound(value) {
+                return format!(in alloc;
+                    "{shown}: an entry is {PAGE}, or of a bundle a whole number from 1 to {MOST_BOUND}"
+                );
+            }
+            other_kind_text(alloc, matter.plan, key, &shown)
+        }
+    }
+}
+
+/// A slot that the plan doesn't have.
+fn no_slot_text(alloc: Global, plan: &Plan, key: &str) -> Result<String, AllocError> {
+    let names = slot_names(alloc, plan)?;
+    let hint = hint(alloc, key, &names)?;
+    let names = listed(alloc, &names)?;
+    let key = quoted(alloc, key)?;
+    format!(in alloc; "{key}: the plan has no such slot; its slots are {names}{hint}")
 }
 
 /// A region that the settings don't have.
@@ -205,25 +265,28 @@ fn no_region_text(alloc: Global, settings: &Settings, region: &str) -> Result<St
     let names = region_names(alloc, settings)?;
     let hint = hint(alloc, region, &names)?;
     let names = listed(alloc, &names)?;
-    format!(in alloc; "{region:?}: there is no such region; the regions are {names}{hint}")
+    let region = quoted(alloc, region)?;
+    format!(in alloc; "{region}: there is no such region; the regions are {names}{hint}")
 }
 
-/// An entry in the form of the other kind of slots.
+/// An entry in the form of the other kind of slots than the slot of this name is.
 fn other_kind_text(
     alloc: Global,
     plan: &Plan,
-    slot: u8,
-    value: &Value,
+    name: &str,
+    shown: &str,
 ) -> Result<String, AllocError> {
-    let name = slot_name(plan, slot);
-    let value = shown(alloc, value)?;
-    if plan.is_bundle(slot) {
+    let is_bundle = match plan.slot(name) {
+        Some(slot) => plan.is_bundle(slot),
+        None => false,
+    };
+    if is_bundle {
         return format!(in alloc;
-            "{value}: {name} is a bundle of the plan, so its entry is a whole number from 1 to {MOST_BOUND}, the most pages \
+            "{shown}: {name} is a bundle of the plan, so its entry is a whole number from 1 to {MOST_BOUND}, the most pages \
             that it pins there"
         );
     }
-    format!(in alloc; "{value}: {name} is a plain slot of the plan, so its entry is {PAGE}")
+    format!(in alloc; "{shown}: {name} is a plain slot of the plan, so its entry is {PAGE}")
 }
 
 /// Whether the value is a number of pages that a bundle's entry may say.

@@ -7,6 +7,7 @@ mod first_use;
 mod names;
 mod plan_text;
 mod script_text;
+mod settings_places;
 mod settings_text;
 
 pub use certificate_text::certificate_said;

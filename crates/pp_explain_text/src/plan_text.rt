@@ -3,8 +3,8 @@
 use crate::first_use::first_use;
 use crate::names::region_names;
 use pp_locate::{
-    Said, Statement, Step, hint, listed, no_text, said_at, shown, slot_in, steps_to, text_of,
-    value_of,
+    Said, Statement, Step, hint, listed, no_text, quoted, said_at, shown_at, slot_in, slot_key,
+    steps_to, text_of, value_of,
 };
 use pp_plan::PlanError;
 use pp_settings::Settings;
@@ -21,6 +21,9 @@ const KINDS: [&str; 6] = ["fix", "unfix", "latch", "unlatch", "loop", "choice"];
 const KINDS_WITH_BUNDLES: [&str; 8] = [
     "fix", "unfix", "latch", "unlatch", "loop", "choice", "gather", "scatter",
 ];
+
+/// The other keys of statements.
+const FIELDS: [&str; 3] = ["region", "mode", "body"];
 
 /// How many statements a plan has at most.
 const MOST_STATEMENTS: u32 = 4_096;
@@ -78,10 +81,11 @@ fn top_said_of(
 /// What is said of a key that a plan's text may not have.
 fn stranger_said(alloc: Global, text: &str, key: &str) -> Result<Option<Said>, AllocError> {
     let hint = hint(alloc, key, &TOP_KEYS)?;
+    let shown = quoted(alloc, key)?;
     let what = format!(in alloc;
-        "the key {key:?} isn't known: a plan is {{\"body\":[..],\"version\":1 or 2}}{hint}"
+        "the key {shown} isn't known: a plan is {{\"body\":[..],\"version\":1 or 2}}{hint}"
     )?;
-    Ok(Some(said_at(alloc, text, &[Step::Key(key)], what)?))
+    Ok(Some(said_at(alloc, text, &[Step::Name(key)], what)?))
 }
 
 /// The same of the body and the version.
@@ -99,7 +103,7 @@ fn body_said(alloc: Global, text: &str, value: &Value) -> Result<Option<Said>, A
     if let Some(1 | 2) = version.as_u64() {
         return Ok(None);
     }
-    let version = shown(alloc, version)?;
+    let version = shown_at(alloc, text, &[Step::Key("version")])?;
     let what = format!(in alloc; "version is {version}, and not the number 1 or 2")?;
     top_said_of(alloc, text, &[Step::Key("version")], &what)
 }
@@ -116,12 +120,69 @@ fn statement_said(
 ) -> Result<Said, AllocError> {
     let number = error.statement().unwrap_or(0);
     if let Some(steps) = steps_to(alloc, plan, number)? {
-        if let Some(statement) = Statement::at(plan, number, &steps) {
-            let rule = rule_of(alloc, settings, plan, statement, error)?;
-            return statement.said(alloc, text, &rule);
+        if let Some(statement) = Statement::at(text, plan, number, &steps) {
+            let what = rule_of(alloc, settings, plan, statement, error)?;
+            let field = field_of(plan, statement.value, error);
+            return statement.said(alloc, field, &what);
         }
     }
     Ok(Said::of(format!(in alloc; "{error}")?))
+}
+
+/// What is at fault in the statement, where that isn't the whole of it.
+fn field_of<'v>(plan: &Value, value: &'v Value, error: PlanError) -> Option<Step<'v>> {
+    match error {
+        PlanError::NoSuchStatement(_) => strange_key(plan, value),
+        PlanError::WrongField(_) => wrong_field(value),
+        PlanError::NoSuchRegion(_) => Some(Step::Key("region")),
+        PlanError::Range(_) => Some(Step::Key(wrong_size(value))),
+        PlanError::TooMany(number) if number >= MOST_STATEMENTS => None,
+        PlanError::BadName(_) | PlanError::TooMany(_) | PlanError::MixedSlot(_) => {
+            Some(Step::Key(slot_key(value)?))
+        }
+        PlanError::TooDeep(_) | PlanError::NotJson | PlanError::OutOfMemory => None,
+    }
+}
+
+/// The second first key of a value that has two; else a key that no statement of the plan's version has.
+fn strange_key<'v>(plan: &Value, value: &'v Value) -> Option<Step<'v>> {
+    let mut has_one = false;
+    for kind in kinds_of(plan) {
+        let is_there = value.get(*kind).is_some();
+        if is_there && has_one {
+            return Some(Step::Name(*kind));
+        }
+        has_one = has_one || is_there;
+    }
+    for key in value.as_object()?.keys() {
+        if !FIELDS.iter().any(|other| key.as_str() == *other) {
+            return Some(Step::Name(key.as_str()));
+        }
+    }
+    None
+}
+
+/// The key of a statement that doesn't belong there, or whose value is of another kind.
+fn wrong_field(value: &Value) -> Option<Step<'_>> {
+    let keys = form_of(value).keys;
+    if let Some(key) = stranger(value, keys) {
+        return Some(Step::Name(key));
+    }
+    for key in keys {
+        if !is_of_kind(key, value.get(*key)?) {
+            return Some(Step::Key(key));
+        }
+    }
+    None
+}
+
+/// The key of a statement whose value is out of range.
+fn wrong_size(value: &Value) -> &'static str {
+    match value.get("loop").and_then(Value::as_u64) {
+        Some(1..=65_535) => "body",
+        Some(_) => "loop",
+        None => "choice",
+    }
 }
 
 /// What is wrong with the statement, and the rule.
@@ -135,7 +196,7 @@ fn rule_of(
     let value = statement.value;
     match error {
         PlanError::NoSuchStatement(_) => no_such_text(alloc, plan, value),
-        PlanError::WrongField(_) => wrong_field_text(alloc, value),
+        PlanError::WrongField(_) => wrong_field_text(alloc, statement),
         PlanError::BadName(_) => bad_name_text(alloc, value),
         PlanError::NoSuchRegion(_) => no_region_text(alloc, settings, value),
         PlanError::Range(_) => range_text(alloc, value),
@@ -146,7 +207,7 @@ fn rule_of(
             )
         }
         PlanError::TooMany(number) => too_many_text(alloc, number, value),
-        PlanError::MixedSlot(_) => mixed_text(alloc, plan, value),
+        PlanError::MixedSlot(_) => mixed_text(alloc, plan, statement),
         PlanError::NotJson | PlanError::OutOfMemory => format!(in alloc; "{error}"),
     }
 }
@@ -210,7 +271,7 @@ fn found_kinds(
     Ok(found)
 }
 
-/// How a kind of statement is spelled, and its keys.
+/// How a kind of statement is spelled, and its keys, of which the first tells the kind.
 #[derive(Clone, Copy)]
 struct Form {
     what: &'static str,
@@ -218,66 +279,75 @@ struct Form {
     keys: &'static [&'static str],
 }
 
+/// The kinds of statements.
+const FORMS: [Form; 8] = [
+    Form {
+        what: "a fix",
+        spelled: "{\"fix\":SLOT,\"region\":REGION}",
+        keys: &["fix", "region"],
+    },
+    Form {
+        what: "an unfix",
+        spelled: "{\"unfix\":SLOT}",
+        keys: &["unfix"],
+    },
+    Form {
+        what: "a latch",
+        spelled: "{\"latch\":SLOT,\"mode\":\"S\" or \"X\"}",
+        keys: &["latch", "mode"],
+    },
+    Form {
+        what: "an unlatch",
+        spelled: "{\"unlatch\":SLOT}",
+        keys: &["unlatch"],
+    },
+    Form {
+        what: "a loop",
+        spelled: "{\"body\":[..],\"loop\":N}",
+        keys: &["loop", "body"],
+    },
+    Form {
+        what: "a choice",
+        spelled: "{\"choice\":[[..],..]}",
+        keys: &["choice"],
+    },
+    Form {
+        what: "a gather",
+        spelled: "{\"gather\":SLOT,\"region\":REGION}",
+        keys: &["gather", "region"],
+    },
+    Form {
+        what: "a scatter",
+        spelled: "{\"scatter\":SLOT}",
+        keys: &["scatter"],
+    },
+];
+
 /// The form of the statement that the value is meant to be.
 fn form_of(value: &Value) -> Form {
-    if value.get("fix").is_some() {
-        form_as(
-            "a fix",
-            "{\"fix\":SLOT,\"region\":REGION}",
-            &["fix", "region"],
-        )
-    } else if value.get("unfix").is_some() {
-        form_as("an unfix", "{\"unfix\":SLOT}", &["unfix"])
-    } else if value.get("latch").is_some() {
-        form_as(
-            "a latch",
-            "{\"latch\":SLOT,\"mode\":\"S\" or \"X\"}",
-            &["latch", "mode"],
-        )
-    } else if value.get("unlatch").is_some() {
-        form_as("an unlatch", "{\"unlatch\":SLOT}", &["unlatch"])
-    } else if value.get("loop").is_some() {
-        form_as("a loop", "{\"body\":[..],\"loop\":N}", &["body", "loop"])
-    } else if value.get("choice").is_some() {
-        form_as("a choice", "{\"choice\":[[..],..]}", &["choice"])
-    } else {
-        form_of_bundle(value)
+    for form in FORMS {
+        if let Some(key) = form.keys.first() {
+            if value.get(*key).is_some() {
+                return form;
+            }
+        }
     }
-}
-
-/// The same of a statement of a bundle.
-fn form_of_bundle(value: &Value) -> Form {
-    if value.get("gather").is_some() {
-        form_as(
-            "a gather",
-            "{\"gather\":SLOT,\"region\":REGION}",
-            &["gather", "region"],
-        )
-    } else {
-        form_as("a scatter", "{\"scatter\":SLOT}", &["scatter"])
-    }
-}
-
-fn form_as(what: &'static str, spelled: &'static str, keys: &'static [&'static str]) -> Form {
-    Form {
-        what,
-        spelled,
-        keys,
-    }
+    FORMS[7]
 }
 
 /// Other keys than the kind wants, or other kinds of values.
-fn wrong_field_text(alloc: Global, value: &Value) -> Result<String, AllocError> {
+fn wrong_field_text(alloc: Global, statement: Statement<'_>) -> Result<String, AllocError> {
     let Form {
         what,
         spelled,
         keys,
-    } = form_of(value);
-    if let Some(key) = stranger(value, keys) {
+    } = form_of(statement.value);
+    if let Some(key) = stranger(statement.value, keys) {
         let hint = hint(alloc, key, keys)?;
-        return format!(in alloc; "the key {key:?} doesn't belong here: {what} is {spelled}{hint}");
+        let key = quoted(alloc, key)?;
+        return format!(in alloc; "the key {key} doesn't belong here: {what} is {spelled}{hint}");
     }
-    let fault = field_fault(alloc, value, keys)?;
+    let fault = field_fault(alloc, statement, keys)?;
     format!(in alloc; "{fault}: {what} is {spelled}")
 }
 
@@ -292,13 +362,17 @@ fn stranger<'v>(value: &'v Value, known: &[&str]) -> Option<&'v str> {
 }
 
 /// The first of the keys that isn't there, or whose value is of another kind.
-fn field_fault(alloc: Global, value: &Value, keys: &[&str]) -> Result<String, AllocError> {
+fn field_fault(
+    alloc: Global,
+    statement: Statement<'_>,
+    keys: &[&str],
+) -> Result<String, AllocError> {
     for key in keys {
-        let Some(found) = value.get(*key) else {
+        let Some(found) = statement.value.get(*key) else {
             return format!(in alloc; "the key {key} is missing");
         };
         if !is_of_kind(key, found) {
-            let found = shown(alloc, found)?;
+            let found = statement.shown(alloc, key)?;
             return format!(in alloc; "{key} is {found}");
         }
     }
@@ -321,9 +395,9 @@ fn is_of_kind(key: &str, value: &Value) -> bool {
 
 /// A slot's name that isn't in form.
 fn bad_name_text(alloc: Global, value: &Value) -> Result<String, AllocError> {
-    let slot = slot_in(value);
+    let slot = quoted(alloc, slot_in(value))?;
     format!(in alloc;
-        "{slot:?} is no name of a slot: that is 1 to 16 of a-z, 0-9 and _, the first a letter"
+        "{slot} is no name of a slot: that is 1 to 16 of a-z, 0-9 and _, the first a letter"
     )
 }
 
@@ -333,7 +407,8 @@ fn no_region_text(alloc: Global, settings: &Settings, value: &Value) -> Result<S
     let region = value.get("region").and_then(Value::as_str).unwrap_or("");
     let hint = hint(alloc, region, &names)?;
     let names = listed(alloc, &names)?;
-    format!(in alloc; "there is no region {region:?}; the regions are {names}{hint}")
+    let region = quoted(alloc, region)?;
+    format!(in alloc; "there is no region {region}; the regions are {names}{hint}")
 }
 
 /// A loop's count, its empty body, or the number of branches.
@@ -363,29 +438,30 @@ fn too_many_text(alloc: Global, number: u32, value: &Value) -> Result<String, Al
             "it is the 4097th: a plan has at most 4096 statements",
         );
     }
-    let slot = slot_in(value);
-    format!(in alloc; "{slot:?} is the 33rd name of a slot: a plan has at most 32")
+    let slot = quoted(alloc, slot_in(value))?;
+    format!(in alloc; "{slot} is the 33rd name of a slot: a plan has at most 32")
 }
 
 /// A slot that an earlier statement uses as another kind.
-fn mixed_text(alloc: Global, plan: &Value, value: &Value) -> Result<String, AllocError> {
-    let slot = slot_in(value);
-    let (kind, other) = if is_of_bundle(value) {
+fn mixed_text(alloc: Global, plan: &Value, statement: Statement<'_>) -> Result<String, AllocError> {
+    let slot = slot_in(statement.value);
+    let (kind, other) = if is_of_bundle(statement.value) {
         ("a bundle", "a plain slot")
     } else {
         ("a plain slot", "a bundle")
     };
-    let first = first_text(alloc, plan, slot)?;
+    let first = first_text(alloc, statement.text, plan, slot)?;
+    let slot = quoted(alloc, slot)?;
     format!(in alloc;
-        "{slot:?} is {kind} here, and {other} in {first}: in the whole plan a slot is the one or the other"
+        "{slot} is {kind} here, and {other} in {first}: in the whole plan a slot is the one or the other"
     )
 }
 
 /// The first statement that uses the slot.
-fn first_text(alloc: Global, plan: &Value, slot: &str) -> Result<String, AllocError> {
+fn first_text(alloc: Global, text: &str, plan: &Value, slot: &str) -> Result<String, AllocError> {
     if let Some(number) = first_use(plan, slot) {
         if let Some(steps) = steps_to(alloc, plan, number)? {
-            if let Some(first) = Statement::at(plan, number, &steps) {
+            if let Some(first) = Statement::at(text, plan, number, &steps) {
                 return first.named(alloc);
             }
         }

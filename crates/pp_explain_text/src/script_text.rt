@@ -51,6 +51,12 @@ fn line_said(alloc: Global, bytes: &[u8], number: u64) -> Result<Said, AllocErro
 /// The form of the line that this one is nearest to, or what lines there are.
 fn rule_of(alloc: Global, line: &[u8]) -> Result<String, AllocError> {
     let text = text_of(line).unwrap_or("");
+    if text.ends_with("\r") {
+        return String::from_str(
+            alloc,
+            ": a carriage return stands at its end, and a line ends with a line feed alone",
+        );
+    }
     let word = match text.split_once(" ") {
         Some((word, _)) => word,
         None => text,

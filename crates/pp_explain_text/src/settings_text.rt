@@ -1,6 +1,7 @@
 //! Refusals of settings.
 
-use pp_locate::{Said, front, hint, listed, no_text, spot_at, text_of};
+use crate::settings_places::{Wanted, place_in};
+use pp_locate::{Said, hint, listed, no_text, quoted, spot_at, text_of};
 use pp_settings::limits::{
     FEWEST_PAGE_BYTES, GREATEST_CLASS, LONGEST_NAME, MOST_FLUSHES, MOST_FRAMES, MOST_PAGE_BYTES,
     MOST_REGIONS, MOST_WORKERS, PAGE_NUMBERS,
@@ -26,8 +27,45 @@ pub fn settings_said(
         Err(spot) => return no_text(alloc, spot, "TOML"),
     };
     match toml::table_from_str(alloc, text) {
-        Ok(table) => Ok(Said::of(table_text(alloc, &table, error)?)),
+        Ok(table) => Ok(Said {
+            spot: offset_of(text, &table, error).map(|offset| spot_at(text.as_bytes(), offset)),
+            text: table_text(alloc, &table, error)?,
+        }),
         Err(refused) => no_toml(alloc, text, &refused),
+    }
+}
+
+/// How many bytes of the text stand before what is at fault: a key, or the head of a region. A key of the document that is
+/// missing is so from its beginning on.
+fn offset_of(text: &str, table: &Table, error: SettingsError) -> Option<usize> {
+    match error {
+        SettingsError::Missing(Spot::Top(_)) => Some(0),
+        SettingsError::Missing(Spot::InRegion(region, _)) => head_of(text, region),
+        SettingsError::Range(spot) => match spot {
+            Spot::Top(_) => place_in(text, Wanted::Key(spot.key())),
+            Spot::InRegion(region, _) => key_of(text, region, spot.key()),
+        },
+        SettingsError::Unknown(None) => place_in(text, Wanted::Key(stranger(table, &TOP_KEYS)?)),
+        SettingsError::Unknown(Some(region)) => {
+            let found = region_at(table, usize::from(region))?;
+            key_of(text, region, stranger(found, &REGION_KEYS)?)
+        }
+        SettingsError::Overlap(region) => head_of(text, region),
+        SettingsError::SameName(region) => key_of(text, region, "name"),
+        SettingsError::NotToml | SettingsError::OutOfMemory => None,
+    }
+}
+
+/// Where the region begins.
+fn head_of(text: &str, region: u8) -> Option<usize> {
+    place_in(text, Wanted::Head(usize::from(region)))
+}
+
+/// Where the key stands in the region; the region's head where it isn't found.
+fn key_of(text: &str, region: u8, key: &str) -> Option<usize> {
+    match place_in(text, Wanted::RegionKey(usize::from(region), key)) {
+        Some(place) => Some(place),
+        None => head_of(text, region),
     }
 }
 
@@ -70,11 +108,6 @@ fn region_text(alloc: Global, table: &Table, region: u8) -> Result<String, Alloc
         Some(name) => format!(in alloc; "region {region}, {}", quoted(alloc, name)?),
         None => format!(in alloc; "region {region}"),
     }
-}
-
-/// A text in quotes, or the front of that.
-fn quoted(alloc: Global, text: &str) -> Result<String, AllocError> {
-    front(alloc, format!(in alloc; "{text:?}")?.as_str())
 }
 
 /// Where the key stands: nothing for a key of the document itself.

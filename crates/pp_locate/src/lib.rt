@@ -3,7 +3,9 @@
 #![tactic(auto)]
 
 mod lines;
+mod malformed;
 mod place;
+mod repeats;
 mod said;
 mod statement;
 mod statements;
@@ -13,11 +15,13 @@ mod values;
 mod words;
 
 pub use lines::{line_at, line_text};
+pub use malformed::{Malformed, malformed_in};
 pub use place::{Spot, spot_at};
-pub use said::{Said, no_text, said_at, value_of};
-pub use statement::{Statement, slot_in};
+pub use repeats::{Repeat, repeat_in};
+pub use said::{Said, no_text, said_at, shown_at, value_of};
+pub use statement::{Statement, slot_in, slot_key};
 pub use statements::steps_to;
 pub use steps::{Step, offset_of, steps_text, value_at};
 pub use text::text_of;
-pub use values::{front, shown};
+pub use values::{front, push_shown, quoted, shown};
 pub use words::{hint, listed, nearest};

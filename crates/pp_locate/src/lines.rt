@@ -4,7 +4,7 @@ ghost use Rattle.std.specs.Prelude.{◌≡◌, option_map, slice_get};
 ghost use Rattle.pp_locate.specs.Places.{line_of, lines};
 
 use crate::text::text_of;
-use crate::values::front;
+use crate::values::quoted;
 use std::alloc::{AllocError, Global};
 
 /// The line with this number, from 1, without its line feed; empty where there is none.
@@ -27,7 +27,7 @@ fn nth_line(text: &[u8], index: usize) -> Option<&[u8]>
 /// The line in quotes, or the front of that.
 pub fn line_text(alloc: Global, line: &[u8]) -> Result<String, AllocError> {
     match text_of(line) {
-        Ok(text) => front(alloc, format!(in alloc; "{text:?}")?.as_str()),
+        Ok(text) => quoted(alloc, text),
         Err(_) => String::from_str(alloc, "a line that is no UTF-8"),
     }
 }

@@ -1,10 +1,12 @@
 //! What is said of a text, and where in it.
 
-ghost use Rattle.std.specs.Prelude.{◌≡◌, IfOk, IfSome, IsSome, None, Some};
+ghost use Rattle.std.specs.Prelude.{◌≡◌, ◌≤◌, IfOk, IfSome, IsSome, None, Some, length, string_bytes};
 
+use crate::malformed::{Malformed, malformed_in};
 use crate::place::{Spot, spot_at};
 use crate::steps::{Step, offset_of};
-use serde_json::{Category, Value};
+use crate::values::shown;
+use serde_json::Value;
 use std::alloc::{AllocError, Global};
 
 /// What is said of a text.
@@ -43,19 +45,16 @@ impl Said {
 pub fn value_of(alloc: Global, text: &str) -> Result<Result<Value, Said>, AllocError> {
     match Value::from_str(alloc, text) {
         Ok(value) => Ok(Ok(value)),
-        Err(error) => match error.classify() {
-            Category::Memory => Err(AllocError),
-            Category::Eof => Ok(Err(no_json(alloc, &error, "it ends too early")?)),
-            _ => Ok(Err(no_json(alloc, &error, "what stands here can't stand here")?)),
-        },
+        Err(error) if error.is_memory() => Err(AllocError),
+        Err(_) => Ok(Err(no_json(alloc, text)?)),
     }
 }
 
 /// What is said of a text that is no JSON.
-fn no_json(alloc: Global, error: &serde_json::Error, what: &str) -> Result<Said, AllocError> {
-    let (line, column) = (error.line(), error.column());
+fn no_json(alloc: Global, text: &str) -> Result<Said, AllocError> {
+    let Malformed { offset, what } = malformed_in(alloc, text)?;
     Ok(Said {
-        spot: Some(Spot { line, column }),
+        spot: Some(spot_at(text.as_bytes(), offset)),
         text: format!(in alloc; "the text is no JSON: {what}")?,
     })
 }
@@ -70,7 +69,7 @@ pub fn no_text(alloc: Global, spot: Spot, language: &str) -> Result<Said, AllocE
     })
 }
 
-/// This, said of the value that the steps lead to.
+/// This, said of what the steps lead to.
 pub fn said_at(
     alloc: Global,
     text: &str,
@@ -82,4 +81,15 @@ pub fn said_at(
         spot: offset.map(|offset| spot_at(text.as_bytes(), offset)),
         text: what,
     })
+}
+
+/// The value that the steps lead to, as it stands in the text but for white space, or the front of that; nothing where
+/// they lead to none.
+pub fn shown_at(alloc: Global, text: &str, steps: &[Step<'_>]) -> Result<String, AllocError>
+    ensures { IfOk result (λ shown. length (string_bytes shown) ≤ 102) }
+{
+    match offset_of(alloc, text, steps)? {
+        Some(offset) => shown(alloc, text.get(offset..).unwrap_or("")),
+        None => Ok(String::new(alloc)),
+    }
 }

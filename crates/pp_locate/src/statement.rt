@@ -1,14 +1,15 @@
 //! A statement as an explanation shows it.
 
-use crate::said::{Said, said_at};
+use crate::said::{Said, said_at, shown_at};
 use crate::steps::{Step, steps_text, value_at};
-use crate::values::shown;
 use serde_json::Value;
 use std::alloc::{AllocError, Global};
 
 /// A statement of a plan's text.
 #[derive(Clone, Copy)]
 pub struct Statement<'a> {
+    /// The plan's text.
+    pub text: &'a str,
     /// Its number, from 0 in the order in which statements begin.
     pub number: u32,
     /// The way to it in the plan's value.
@@ -18,10 +19,16 @@ pub struct Statement<'a> {
 }
 
 impl<'a> Statement<'a> {
-    /// The statement that the steps lead to, if they lead to one.
-    pub fn at(plan: &'a Value, number: u32, steps: &'a [Step<'static>]) -> Option<Statement<'a>> {
+    /// The statement that the steps lead to in the plan of this text and value, if they lead to one.
+    pub fn at(
+        text: &'a str,
+        plan: &'a Value,
+        number: u32,
+        steps: &'a [Step<'static>],
+    ) -> Option<Statement<'a>> {
         let value = value_at(plan, steps)?;
         Some(Statement {
+            text,
             number,
             steps,
             value,
@@ -32,24 +39,56 @@ impl<'a> Statement<'a> {
     pub fn named(&self, alloc: Global) -> Result<String, AllocError> {
         let number = self.number;
         let place = steps_text(alloc, self.steps)?;
-        let text = shown(alloc, self.value)?;
+        let text = shown_at(alloc, self.text, self.steps)?;
         format!(in alloc; "statement {number} at {place}, {text}")
     }
 
-    /// This, said of it.
-    pub fn said(&self, alloc: Global, text: &str, what: &str) -> Result<Said, AllocError> {
+    /// The way to what this step leads to in it, or to itself.
+    fn way<'s>(&self, alloc: Global, field: Option<Step<'s>>) -> Result<Vec<Step<'s>>, AllocError> {
+        let mut way = Vec::new(alloc);
+        for step in self.steps {
+            way.push(*step)?;
+        }
+        if let Some(field) = field {
+            way.push(field)?;
+        }
+        Ok(way)
+    }
+
+    /// The value at the key, as it stands in the text.
+    pub fn shown(&self, alloc: Global, key: &str) -> Result<String, AllocError> {
+        let way = self.way(alloc, Some(Step::Key(key)))?;
+        shown_at(alloc, self.text, &way)
+    }
+
+    /// This, said of it, at what the step leads to in it where there is one.
+    pub fn said(
+        &self,
+        alloc: Global,
+        field: Option<Step<'_>>,
+        what: &str,
+    ) -> Result<Said, AllocError> {
         let named = self.named(alloc)?;
         let what = format!(in alloc; "{named}: {what}")?;
-        said_at(alloc, text, self.steps, what)
+        let way = self.way(alloc, field)?;
+        said_at(alloc, self.text, &way, what)
     }
 }
 
-/// The name of the slot that the statement has, be it a page's or a bundle's.
-pub fn slot_in(value: &Value) -> &str {
+/// The first key of the statement whose value is the name of a slot, be it a page's or a bundle's.
+pub fn slot_key(value: &Value) -> Option<&'static str> {
     for key in ["fix", "unfix", "latch", "unlatch", "gather", "scatter"] {
-        if let Some(slot) = value.get(key).and_then(Value::as_str) {
-            return slot;
+        if value.get(key).and_then(Value::as_str).is_some() {
+            return Some(key);
         }
     }
-    ""
+    None
+}
+
+/// The name of the slot that the statement has.
+pub fn slot_in(value: &Value) -> &str {
+    match slot_key(value) {
+        Some(key) => value.get(key).and_then(Value::as_str).unwrap_or(""),
+        None => "",
+    }
 }

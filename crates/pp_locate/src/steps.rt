@@ -1,5 +1,6 @@
 //! Ways from a JSON value to a value in it.
 
+use crate::values::quoted;
 use json::{MAX_DEPTH, Reader, Scratch, Token};
 use pp_text::is_name;
 use serde_json::Value;
@@ -10,6 +11,8 @@ use std::alloc::{AllocError, Global};
 pub enum Step<'a> {
     /// To the value at this key.
     Key(&'a str),
+    /// To this key itself.
+    Name(&'a str),
     /// To the item of this number, from 0.
     Item(usize),
 }
@@ -22,7 +25,7 @@ pub fn steps_text(alloc: Global, steps: &[Step<'_>]) -> Result<String, AllocErro
     let mut text = String::new(alloc);
     for step in steps {
         match *step {
-            Step::Key(key) => push_key(&mut text, key)?,
+            Step::Key(key) | Step::Name(key) => push_key(alloc, &mut text, key)?,
             Step::Item(item) => write!(text, "[{item}]")?,
         }
     }
@@ -30,9 +33,10 @@ pub fn steps_text(alloc: Global, steps: &[Step<'_>]) -> Result<String, AllocErro
 }
 
 /// Adds the step to the value at the key.
-fn push_key(text: &mut String, key: &str) -> Result<(), AllocError> {
+fn push_key(alloc: Global, text: &mut String, key: &str) -> Result<(), AllocError> {
     if !is_name(PLAIN, key) {
-        return write!(text, "[{key:?}]");
+        let key = quoted(alloc, key)?;
+        return write!(text, "[{key}]");
     }
     if !text.is_empty() {
         text.push('.')?;
@@ -45,15 +49,15 @@ pub fn value_at<'v>(value: &'v Value, steps: &[Step<'_>]) -> Option<&'v Value> {
     let mut found = value;
     for step in steps {
         found = match *step {
-            Step::Key(key) => found.get(key)?,
+            Step::Key(key) | Step::Name(key) => found.get(key)?,
             Step::Item(item) => found.get(item)?,
         };
     }
     Some(found)
 }
 
-/// How many bytes of the JSON text stand before the value that the steps lead to, if they lead to one. Of a key that
-/// stands twice the last one counts.
+/// How many bytes of the JSON text stand before the value or the key that the steps lead to, if they lead to one. Of a key
+/// that stands twice the last one counts.
 pub fn offset_of(
     alloc: Global,
     text: &str,
@@ -81,23 +85,25 @@ fn offset_in(
 ) -> Result<Option<usize>, AllocError> {
     let mut reader = Reader::new(text, scratch)?;
     Ok(match step {
-        Step::Key(key) => member_offset(&mut reader, text.len(), key),
+        Step::Key(key) => member_at(&mut reader, text.len(), key).map(|(_, value)| value),
+        Step::Name(key) => member_at(&mut reader, text.len(), key).map(|(name, _)| name),
         Step::Item(item) => item_offset(&mut reader, item),
     })
 }
 
-/// Where the value at the key stands, in an object of at most so many members.
-fn member_offset(reader: &mut Reader<'_>, most: usize, key: &str) -> Option<usize> {
+/// Where the key stands, and the value at it, in an object of at most so many members.
+fn member_at(reader: &mut Reader<'_>, most: usize, key: &str) -> Option<(usize, usize)> {
     let Some(Token::BeginObject) = reader.next() else {
         return None;
     };
     let mut found = None;
     for _ in 0..most {
+        let name = reader.offset();
         let Ok(Some(next)) = reader.next_key() else {
             return found;
         };
         if next == key {
-            found = Some(reader.offset());
+            found = Some((name, reader.offset()));
         }
         reader.skip_value(MAX_DEPTH).ok()?;
     }

@@ -10,17 +10,19 @@ use strsim::osa_distance;
 /// How many bytes a word has at most that is compared with known ones.
 const LONGEST: usize = 40;
 
-/// How many words a list shows.
+/// How many words a list shows, and how many bytes.
 const SHOWN: usize = 16;
 
-/// The words with commas between them; two dots stand for those behind the sixteenth.
+const SHOWN_BYTES: usize = 100;
+
+/// The words with commas between them; two dots stand for those behind the sixteenth, and behind 100 bytes.
 pub fn listed(alloc: Global, words: &[&str]) -> Result<String, AllocError> {
     let mut text = String::new(alloc);
     for (place, word) in words.iter().enumerate() {
         if place > 0 {
             text.push_str(", ")?;
         }
-        if place == SHOWN {
+        if place == SHOWN || text.len().saturating_add(word.len()) > SHOWN_BYTES {
             text.push_str("..")?;
             return Ok(text);
         }

@@ -1,7 +1,7 @@
 //! The refusal of a row, and what explains it.
 
 use crate::row::{Command, Named, Row};
-use pp_explain::{Refused, Source, Sources, Stop, explain};
+use pp_explain::{Refused, Source, Sources, Stop, explain, repeated};
 use pp_judge::{
     AnnotateFiles, AuditFiles, CheckFiles, JudgeError, SimulateFiles, audit, audit_lives, certify,
     judge, rehearse,
@@ -19,6 +19,9 @@ pub fn answer_to(alloc: Global, row: &Row) -> anyhow::Result<String> {
             bytes: bytes.as_slice(),
         })?;
     }
+    if row.command == Command::Repeated {
+        return warning(alloc, &sources);
+    }
     let Some(files) = files_of(row.command, &sources) else {
         anyhow::bail!("the row has too few files");
     };
@@ -32,6 +35,24 @@ pub fn answer_to(alloc: Global, row: &Row) -> anyhow::Result<String> {
         Some(text) => Ok(format!(in alloc; "{refusal}\n{text}")?),
         None => Ok(format!(in alloc; "{refusal}\n?")?),
     }
+}
+
+/// The warning of a key that stands twice in the last file, or that there is none.
+fn warning(alloc: Global, sources: &[Source<'_>]) -> anyhow::Result<String> {
+    let Some(file) = sources.last() else {
+        anyhow::bail!("the row has no file");
+    };
+    match repeated(alloc, *file)? {
+        Some(bytes) => without_feed(alloc, bytes),
+        None => Ok(String::from_str(alloc, "no key stands twice")?),
+    }
+}
+
+/// The text without its last line feed.
+fn without_feed(alloc: Global, bytes: Vec<u8>) -> anyhow::Result<String> {
+    let text = String::from_utf8(bytes)?;
+    let text = text.as_str();
+    Ok(String::from_str(alloc, text.strip_suffix("\n").unwrap_or(text))?)
 }
 
 /// How the row's run stops, if it is one.
@@ -138,7 +159,7 @@ fn refusal_of(
             },
         )
         .err(),
-        Command::Mismatch | Command::Broken | Command::NoThread => None,
+        Command::Mismatch | Command::Broken | Command::NoThread | Command::Repeated => None,
     })
 }
 
@@ -171,7 +192,5 @@ fn explanation(
     let Some(bytes) = explain(alloc, files, refused)? else {
         return Ok(None);
     };
-    let text = String::from_utf8(bytes)?;
-    let text = text.as_str();
-    Ok(Some(String::from_str(alloc, text.strip_suffix("\n").unwrap_or(text))?))
+    Ok(Some(without_feed(alloc, bytes)?))
 }

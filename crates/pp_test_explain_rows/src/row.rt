@@ -23,6 +23,8 @@ pub enum Command {
     Broken,
     /// The same where a worker's thread wasn't started.
     NoThread,
+    /// The warning of a key that stands twice in the last file.
+    Repeated,
 }
 
 /// A file of a row.
@@ -74,6 +76,7 @@ fn command_of(name: &str) -> anyhow::Result<Command> {
         "mismatch" => Ok(Command::Mismatch),
         "broken" => Ok(Command::Broken),
         "nothread" => Ok(Command::NoThread),
+        "repeated" => Ok(Command::Repeated),
         _ => anyhow::bail!("no command is called {name}"),
     }
 }
