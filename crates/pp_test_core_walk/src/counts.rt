@@ -4,7 +4,7 @@ use crate::plain::Bundle;
 use pp_core::{Cause, Delay, Ending, Failure, Move, Reply};
 use std::alloc::{AllocError, Global};
 
-/// How many kinds there are.
+/// How many kinds of replies there are.
 const KINDS: usize = 32;
 
 /// How many ways of using a bundle there are.
@@ -12,58 +12,38 @@ const WAYS: usize = 8;
 
 #[derive(Drop)]
 pub struct Counts {
-    counts: Vec<u32>,
+    kinds: Vec<u32>,
     ways: Vec<u32>,
-    renewed: u32,
-    not_renewed: u32,
+    /// How many renewals were done, and how many were refused.
+    renewals: Vec<u32>,
 }
 
 impl Counts {
     pub fn new(alloc: Global) -> Result<Counts, AllocError> {
-        let counts = vec![in alloc; 0u32; KINDS]?;
-        let ways = vec![in alloc; 0u32; WAYS]?;
         Ok(Counts {
-            counts,
-            ways,
-            renewed: 0,
-            not_renewed: 0,
+            kinds: vec![in alloc; 0u32; KINDS]?,
+            ways: vec![in alloc; 0u32; WAYS]?,
+            renewals: vec![in alloc; 0u32; 2]?,
         })
     }
 
-    pub fn count(&mut self, reply: Reply) {
-        if let Some(count) = self.counts.get_mut(kind(reply)) {
-            *count = count.saturating_add(1);
-        }
-    }
-
-    /// Counts the reply to a move that is about the bundle, as it was before.
-    pub fn count_way(&mut self, asked: Move, reply: Reply, bundle: Bundle) {
-        if let Some(way) = way(asked, reply, bundle) {
-            if let Some(count) = self.ways.get_mut(way) {
-                *count = count.saturating_add(1);
-            }
+    /// Counts the reply to a move, and the way of using the bundle that it is about, as that was before.
+    pub fn count(&mut self, asked: Move, reply: Reply, bundle: Option<Bundle>) {
+        raise(&mut self.kinds, kind(reply));
+        if let Some(bundle) = bundle {
+            raise(&mut self.ways, way(asked, reply, bundle));
         }
     }
 
     /// Counts a renewal that was done, or refused.
     pub fn count_renewal(&mut self, is_done: bool) {
-        let count = if is_done {
-            &mut self.renewed
-        } else {
-            &mut self.not_renewed
-        };
-        *count = count.saturating_add(1);
-    }
-
-    /// Whether renewals were done a hundred times or more, and refused as often.
-    pub fn has_lives(&self) -> bool {
-        self.renewed >= 100 && self.not_renewed >= 100
+        raise(&mut self.renewals, usize::from(is_done));
     }
 
     /// How many replies came.
     pub fn all(&self) -> u32 {
         let mut all: u32 = 0;
-        for count in &self.counts {
+        for count in &self.kinds {
             all = all.saturating_add(*count);
         }
         all
@@ -71,39 +51,55 @@ impl Counts {
 
     /// How many kinds came ten times or more.
     pub fn kinds(&self) -> u32 {
-        often(&self.counts)
+        often(&self.kinds, 10)
     }
 
     /// How many ways of using a bundle came ten times or more.
     pub fn ways(&self) -> u32 {
-        often(&self.ways)
+        often(&self.ways, 10)
+    }
+
+    /// How many of the two answers to a renewal came a hundred times or more.
+    pub fn renewals(&self) -> u32 {
+        often(&self.renewals, 100)
     }
 }
 
-/// How many of the counts are ten or more.
-fn often(counts: &[u32]) -> u32 {
+/// Counts one more with this number, if there are counts of it.
+fn raise(counts: &mut [u32], number: usize) {
+    if let Some(count) = counts.get_mut(number) {
+        *count = count.saturating_add(1);
+    }
+}
+
+/// How many of the counts are so many or more.
+fn often(counts: &[u32], least: u32) -> u32 {
     let mut kinds: u32 = 0;
     for count in counts {
-        if *count >= 10 {
+        if *count >= least {
             kinds = kinds.saturating_add(1);
         }
     }
     kinds
 }
 
-/// The number of the way in which the bundle is used, if it is: a page that it has is gathered again, a first page or a
-/// further one is gathered, a gather fails while it has pins, it is scattered or unwound with one pin or with several.
-fn way(asked: Move, reply: Reply, bundle: Bundle) -> Option<usize> {
-    match (asked, reply) {
-        (_, Reply::Hit { .. }) if bundle.has_page => Some(0),
-        (_, Reply::Hit { .. } | Reply::Loaded { .. }) if bundle.pins == 0 => Some(1),
-        (_, Reply::Hit { .. } | Reply::Loaded { .. }) => Some(2),
-        (_, Reply::Failed(_)) if bundle.pins > 0 => Some(3),
-        (Move::Unfix { .. }, Reply::Did) if bundle.pins == 1 => Some(4),
-        (Move::Unfix { .. }, Reply::Did) => Some(5),
-        (Move::Unwind { .. }, Reply::Did) if bundle.pins == 1 => Some(6),
-        (Move::Unwind { .. }, Reply::Did) if bundle.pins > 1 => Some(7),
-        _ => None,
+/// The number of the way in which the bundle is used, if it is, and else a number of none: a page that it has is gathered
+/// again, a first page or a further one is gathered, a gather fails while it has pins, it is scattered or unwound with one pin
+/// or with several.
+fn way(asked: Move, reply: Reply, bundle: Bundle) -> usize {
+    match reply {
+        Reply::Hit { .. } if bundle.has_page => 0,
+        Reply::Hit { .. } | Reply::Loaded { .. } if bundle.pins == 0 => 1,
+        Reply::Hit { .. } | Reply::Loaded { .. } => 2,
+        Reply::Failed(_) if bundle.pins > 0 => 3,
+        Reply::Did => match asked {
+            Move::Unfix { .. } if bundle.pins == 1 => 4,
+            Move::Unfix { .. } => 5,
+            Move::Unwind { .. } if bundle.pins == 1 => 6,
+            Move::Unwind { .. } if bundle.pins > 1 => 7,
+            _ => WAYS,
+        },
+        _ => WAYS,
     }
 }
 

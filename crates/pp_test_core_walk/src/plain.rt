@@ -2,11 +2,22 @@
 
 use crate::plans::{Region, Shape, Word};
 use pp_core::{Came, Cause, Delay, Ending, Failure, Held, Move, Reply};
-use pp_test_plain::{Answer, Chance, Lists};
+use pp_test_plain::{Answer, Lists};
 use std::alloc::{AllocError, Global};
 
+/// How many frames and workers there are.
+const FRAMES: u32 = 3;
+
+const WORKERS: usize = 3;
+
+/// The pages are numbered below this.
+const PAGES: usize = 16;
+
+/// More pins than there are frames. Without room for one it isn't kept, and the pools differ.
+const PINS: usize = 16;
+
 /// What a worker is at.
-#[derive(Clone, Copy, PartialEq, Eq)]
+#[derive(Clone, Copy)]
 pub enum Stage {
     Idle,
     Acting,
@@ -15,13 +26,20 @@ pub enum Stage {
     Leaving,
 }
 
-/// A worker, its plan's peak, and what is left to do of the plan, the next statement last.
-#[derive(Drop)]
+/// A worker, its plan's peak, and what is left to do of the plan.
+#[derive(Clone, Copy)]
 struct Worker {
     stage: Stage,
     peak: u32,
-    left: Vec<Word>,
+    left: &'static [Word],
 }
+
+/// A worker in no plan.
+const IDLE: Worker = Worker {
+    stage: Stage::Idle,
+    peak: 0,
+    left: &[],
+};
 
 /// A pin: a slot of a worker holds a page. A bundle has several, and one page maybe twice.
 #[derive(Clone, Copy)]
@@ -43,130 +61,86 @@ pub struct Bundle {
 
 #[derive(Drop)]
 pub struct Plain {
-    frames: u32,
     flushes: u32,
     flushes_left: u32,
     /// The page that is being flushed, and its mark as that began.
     flush: Option<(u32, u64)>,
-    submitted: u32,
-    /// The plans that wait, the first one first, and the number of that one.
-    waiting: Vec<&'static Shape>,
-    next: u32,
+    /// The plans of this life, and how many of them were taken.
+    plans: Vec<&'static Shape>,
+    taken: u32,
     workers: Vec<Worker>,
     holdings: Vec<Holding>,
     lists: Lists,
-    /// Cached pages with their frames.
-    cached: Vec<(u32, u32)>,
-    dirty: Vec<u32>,
-    /// Pages with their marks.
-    known: Vec<(u32, u64)>,
+    /// The page in each frame.
+    cached: Vec<Option<u32>>,
+    /// The pages that are newer than the device's, in the order in which they became so.
+    pub dirty: Vec<u32>,
+    /// The mark of each page that is known.
+    known: Vec<Option<u64>>,
 }
 
 /// Whether the region has the page.
 fn has(region: Region, page: u32) -> bool {
     match region {
-        Region::Root => (1..4).contains(&page),
-        Region::Leaf => (5..10).contains(&page),
+        Region::Root => 1 <= page && page < 4,
+        Region::Leaf => 5 <= page && page < 10,
     }
-}
-
-/// The other part of the pair that begins so.
-fn second_of<T: Copy>(pairs: &[(u32, T)], first: u32) -> Option<T> {
-    for pair in pairs {
-        if pair.0 == first {
-            return Some(pair.1);
-        }
-    }
-    None
-}
-
-/// Statements that begin with a loop begin with its body in the place of it, and the loop with one turn fewer after it.
-fn unroll(left: &mut Vec<Word>) -> Result<(), AllocError> {
-    for _ in 0..100 {
-        match left.last() {
-            Some(Word::Loop(count, body)) => {
-                let (count, body) = (*count, *body);
-                let _ = left.pop();
-                if count > 0 {
-                    left.push(Word::Loop(count.saturating_sub(1), body))?;
-                    put(left, body)?;
-                }
-            }
-            _ => return Ok(()),
-        }
-    }
-    Ok(())
-}
-
-/// Puts the statements before those that are left.
-fn put(left: &mut Vec<Word>, words: &[Word]) -> Result<(), AllocError> {
-    for word in words.iter().rev() {
-        left.push(*word)?;
-    }
-    Ok(())
 }
 
 impl Plain {
-    pub fn new(
-        alloc: Global,
-        frames: u32,
-        workers: u32,
-        flushes: u32,
-    ) -> Result<Plain, AllocError> {
-        let mut plain = Plain {
-            frames,
+    /// A new pool with so many flushes.
+    pub fn new(alloc: Global, flushes: u32) -> Result<Plain, AllocError> {
+        Ok(Plain {
             flushes,
             flushes_left: flushes,
             flush: None,
-            submitted: 0,
-            waiting: Vec::new(alloc),
-            next: 0,
-            workers: Vec::new(alloc),
-            holdings: Vec::new(alloc),
-            lists: Lists::new(alloc, frames),
-            cached: Vec::new(alloc),
-            dirty: Vec::new(alloc),
-            known: Vec::new(alloc),
-        };
-        for _ in 0..workers {
-            let worker = Worker {
-                stage: Stage::Idle,
-                peak: 0,
-                left: Vec::new(alloc),
-            };
-            plain.workers.push(worker)?;
-        }
-        Ok(plain)
+            plans: Vec::new(alloc),
+            taken: 0,
+            workers: vec![in alloc; IDLE; WORKERS]?,
+            holdings: Vec::with_capacity(alloc, PINS)?,
+            lists: Lists::new(alloc, FRAMES),
+            cached: vec![in alloc; None; FRAMES as usize]?,
+            dirty: Vec::with_capacity(alloc, PAGES)?,
+            known: vec![in alloc; None; PAGES]?,
+        })
     }
 
-    // ---- submits
+    // ---- submits and lives
 
     /// The plan's number; or none, where 256 were submitted.
     pub fn submit(&mut self, shape: &'static Shape) -> Result<Option<u32>, AllocError> {
-        if self.submitted >= 256 {
+        let number = self.plans.len();
+        if number >= 256 {
             return Ok(None);
         }
-        let number = self.submitted;
-        self.submitted = number.saturating_add(1);
-        self.waiting.push(shape)?;
-        Ok(Some(number))
+        self.plans.push(shape)?;
+        Ok(Some(number as u32))
+    }
+
+    /// How many plans were submitted in this life.
+    fn submitted(&self) -> u32 {
+        self.plans.len().min(256) as u32
     }
 
     /// Whether fewer than four plans wait, and fewer than so many were submitted in this life.
     pub fn wants_plans(&self, most: u32) -> bool {
-        self.waiting.len() < 4 && self.submitted < most
+        let submitted = self.submitted();
+        submitted < most && submitted.saturating_sub(self.taken) < 4
     }
-
-    // ---- lives
 
     /// Whether no plan waits, no worker is in one, and no flush is in flight.
     pub fn is_at_rest(&self) -> bool {
-        self.waiting.is_empty() && self.running() == 0 && self.flush.is_none()
+        for worker in &self.workers {
+            if !matches!(worker.stage, Stage::Idle) {
+                return false;
+            }
+        }
+        self.flush.is_none() && self.taken >= self.submitted()
     }
 
     /// Whether all of so many plans are over, and so is the flush.
     pub fn is_used_up(&self, most: u32) -> bool {
-        self.submitted >= most && self.is_at_rest()
+        self.submitted() >= most && self.is_at_rest()
     }
 
     /// Begins another life, where all is over: plans are counted from 0 again, and the flushes come back.
@@ -174,25 +148,24 @@ impl Plain {
         if !self.is_at_rest() {
             return false;
         }
-        self.submitted = 0;
-        self.next = 0;
+        self.plans.clear();
+        self.taken = 0;
         self.flushes_left = self.flushes;
         true
     }
 
-    // ---- what the state says
+    // ---- workers
 
-    /// How many workers are in a plan.
-    fn running(&self) -> usize {
-        self.workers
-            .iter()
-            .filter(|worker| worker.stage != Stage::Idle)
-            .count()
+    fn worker(&self, worker: u32) -> Option<Worker> {
+        self.workers.get(worker as usize).copied()
     }
 
     /// The stage of the worker, if there is one of this number.
     pub fn stage(&self, worker: u32) -> Option<Stage> {
-        self.workers.get(worker as usize).map(|worker| worker.stage)
+        match self.worker(worker) {
+            Some(worker) => Some(worker.stage),
+            None => None,
+        }
     }
 
     fn set_stage(&mut self, worker: u32, stage: Stage) {
@@ -203,21 +176,31 @@ impl Plain {
 
     /// What the worker's plan asks, if it isn't at its end.
     pub fn word(&self, worker: u32) -> Option<Word> {
-        match self.workers.get(worker as usize) {
-            Some(worker) => worker.left.last().copied(),
+        match self.worker(worker) {
+            Some(worker) => worker.left.first().copied(),
             None => None,
         }
     }
 
-    /// The worker has done what its plan asked, and goes on with these statements first.
-    fn go_on(&mut self, worker: u32, words: &[Word]) -> Result<(), AllocError> {
-        if let Some(worker) = self.workers.get_mut(worker as usize) {
-            let _ = worker.left.pop();
-            put(&mut worker.left, words)?;
-            unroll(&mut worker.left)?;
+    /// What the plan of a worker that acts asks; or why it can't act.
+    fn asked(&self, worker: u32) -> Result<Option<Word>, Reply> {
+        match self.stage(worker) {
+            None => Err(Reply::OffPlan(Cause::NoWorker)),
+            Some(Stage::Acting) => Ok(self.word(worker)),
+            Some(_) => Err(Reply::OffPlan(Cause::NotActing)),
         }
-        Ok(())
     }
+
+    /// The worker has done what its plan asked.
+    fn go_on(&mut self, worker: u32) {
+        if let Some(worker) = self.workers.get_mut(worker as usize) {
+            if let Some((_, left)) = worker.left.split_first() {
+                worker.left = left;
+            }
+        }
+    }
+
+    // ---- pins
 
     /// The page that the slot holds, and how; of a bundle the first one.
     fn holding(&self, worker: u32, slot: u32) -> Option<Holding> {
@@ -248,6 +231,54 @@ impl Plain {
         pins
     }
 
+    /// Whether the slot holds the page.
+    fn has_pin(&self, worker: u32, slot: u32, page: u32) -> bool {
+        for holding in &self.holdings {
+            if holding.worker == worker && holding.slot == slot && holding.page == page {
+                return true;
+            }
+        }
+        false
+    }
+
+    /// Whether the worker holds any page.
+    fn holds(&self, worker: u32) -> bool {
+        for holding in &self.holdings {
+            if holding.worker == worker {
+                return true;
+            }
+        }
+        false
+    }
+
+    /// Whether a latch stands on the page beside which this one can't be had.
+    fn is_latched(&self, page: u32, wanted: Held) -> bool {
+        for holding in &self.holdings {
+            if holding.page == page {
+                match (holding.held, wanted) {
+                    (Held::X, _) | (Held::S, Held::X) => return true,
+                    _ => {}
+                }
+            }
+        }
+        false
+    }
+
+    /// The slot's page is held so from now on.
+    fn hold(&mut self, worker: u32, slot: u32, held: Held) {
+        for holding in &mut self.holdings {
+            if holding.worker == worker && holding.slot == slot {
+                holding.held = held;
+            }
+        }
+    }
+
+    /// The slot has no pin any more.
+    fn take_off(&mut self, worker: u32, slot: u32) {
+        self.holdings
+            .retain(|holding| holding.worker != worker || holding.slot != slot);
+    }
+
     /// The bundle that the move is about, if it is about one.
     pub fn bundle_for(&self, asked: Move) -> Option<Bundle> {
         let (worker, slot) = match asked {
@@ -269,66 +300,71 @@ impl Plain {
         Some(Bundle { pins, has_page })
     }
 
-    /// Whether the slot holds the page.
-    fn has_pin(&self, worker: u32, slot: u32, page: u32) -> bool {
-        self.holdings.iter().any(|holding| {
-            holding.worker == worker && holding.slot == slot && holding.page == page
-        })
-    }
-
-    /// Whether somebody holds the page so.
-    fn is_held(&self, page: u32, held: Held) -> bool {
-        self.holdings
-            .iter()
-            .any(|holding| holding.page == page && holding.held == held)
-    }
-
-    /// The slot has no pin any more.
-    fn take_off(&mut self, worker: u32, slot: u32) {
-        self.holdings
-            .retain(|holding| holding.worker != worker || holding.slot != slot);
-    }
+    // ---- pages
 
     /// The mark of the page, where it is known.
     pub fn mark(&self, page: u32) -> Option<u64> {
-        second_of(&self.known, page)
+        match self.known.get(page as usize) {
+            Some(mark) => *mark,
+            None => None,
+        }
     }
 
     fn mark_or_zero(&self, page: u32) -> u64 {
         self.mark(page).unwrap_or(0)
     }
 
-    fn set_mark(&mut self, page: u32, mark: u64) -> Result<(), AllocError> {
-        self.known.retain(|pair| pair.0 != page);
-        self.known.push((page, mark))?;
-        Ok(())
+    fn set_mark(&mut self, page: u32, mark: u64) {
+        if let Some(known) = self.known.get_mut(page as usize) {
+            *known = Some(mark);
+        }
     }
 
-    fn frame(&self, page: u32) -> u32 {
-        second_of(&self.cached, page).unwrap_or(0)
-    }
-
-    fn least_free(&self) -> u32 {
-        for frame in 0..self.frames {
-            if !self.cached.iter().any(|pair| pair.1 == frame) {
-                return frame;
+    /// The least frame that has the page; or is free, where none is asked for.
+    fn frame_with(&self, page: Option<u32>) -> Option<u32> {
+        for frame in 0..FRAMES {
+            if self.cached.get(frame as usize).copied() == Some(page) {
+                return Some(frame);
             }
         }
-        self.frames
+        None
     }
 
-    fn is_dirty(&self, page: u32) -> bool {
-        self.dirty.contains(&page)
+    /// Puts the page, or none, where the other is, and tells the frame.
+    fn put(&mut self, other: Option<u32>, page: Option<u32>) -> u32 {
+        let frame = self.frame_with(other).unwrap_or(FRAMES);
+        if let Some(cached) = self.cached.get_mut(frame as usize) {
+            *cached = page;
+        }
+        frame
+    }
+
+    /// The place of the page among those that are dirty.
+    fn dirty_place(&self, page: u32) -> Option<usize> {
+        for place in 0..self.dirty.len() {
+            if self.dirty[place] == page {
+                return Some(place);
+            }
+        }
+        None
+    }
+
+    fn clean(&mut self, page: u32) {
+        if let Some(place) = self.dirty_place(page) {
+            if place < self.dirty.len() {
+                let _ = self.dirty.remove(place);
+            }
+        }
     }
 
     /// A writer's latch goes off the page: its mark is raised, and it is dirty.
-    fn change(&mut self, page: u32) -> Result<u64, AllocError> {
+    fn change(&mut self, page: u32) -> u64 {
         let mark = self.mark_or_zero(page).saturating_add(1);
-        self.set_mark(page, mark)?;
-        if !self.is_dirty(page) {
-            self.dirty.push(page)?;
+        self.set_mark(page, mark);
+        if self.dirty_place(page).is_none() && self.dirty.len() < self.dirty.capacity() {
+            self.dirty.push_reserved(page);
         }
-        Ok(mark)
+        mark
     }
 
     /// The pages that may not leave: those that are held or loaded, and the one that is flushed.
@@ -351,134 +387,125 @@ impl Plain {
 
     /// Whether the page is loaded for somebody, or written back as a victim.
     fn is_in_flight(&self, asked: u32) -> bool {
-        self.workers.iter().any(|worker| match worker.stage {
-            Stage::Writing { page, victim, .. } => page == asked || victim == asked,
-            Stage::Reading { page, .. } => page == asked,
-            _ => false,
-        })
+        for worker in &self.workers {
+            match worker.stage {
+                Stage::Writing { page, victim, .. } if page == asked || victim == asked =>
+                    return true,
+                Stage::Reading { page, .. } if page == asked => return true,
+                _ => {}
+            }
+        }
+        false
     }
 
     // ---- the moves
 
     pub fn step(&mut self, asked: Move) -> Result<Reply, AllocError> {
-        match asked {
+        Ok(match asked {
             Move::Take { worker } => self.take(worker),
-            Move::Fix { worker, page } => self.fix(worker, page),
-            Move::WriteDone { worker, ok } => self.write_done(worker, ok),
+            Move::Fix { worker, page } => self.fix(worker, page)?,
+            Move::WriteDone { worker, ok } => self.write_done(worker, ok)?,
             Move::ReadDone { worker, came } => self.read_done(worker, came),
             Move::Unfix { worker } => self.unfix(worker),
             Move::Latch { worker } => self.latch(worker),
             Move::Unlatch { worker } => self.unlatch(worker),
             Move::Choose { worker, branch } => self.choose(worker, branch),
             Move::Unwind { worker, slot } => self.unwind(worker, slot),
-            Move::Finish { worker } => Ok(self.finish(worker)),
-            Move::FlushBegin { page } => Ok(self.flush_begin(page)),
-            Move::FlushDone { ok } => Ok(self.flush_done(ok)),
-        }
+            Move::Finish { worker } => self.finish(worker),
+            Move::FlushBegin { page } => self.flush_begin(page),
+            Move::FlushDone { ok } => self.flush_done(ok),
+        })
     }
 
-    fn take(&mut self, worker: u32) -> Result<Reply, AllocError> {
-        match self.stage(worker) {
-            None => return Ok(Reply::OffPlan(Cause::NoWorker)),
-            Some(Stage::Idle) => {}
-            Some(_) => return Ok(Reply::OffPlan(Cause::NotIdle)),
-        }
-        let Some(shape) = self.waiting.first().copied() else {
-            return Ok(Reply::NotNow(Delay::NothingWaiting));
-        };
-        let mut peaks = shape.peak;
+    /// Whether a plan of this peak fits beside those that run.
+    fn has_room(&self, peak: u32) -> bool {
+        let mut peaks = peak;
         for worker in &self.workers {
             peaks = peaks.saturating_add(worker.peak);
         }
-        if peaks > self.frames {
-            return Ok(Reply::NotNow(Delay::NoRoom));
-        }
-        if !self.waiting.is_empty() {
-            let _ = self.waiting.remove(0);
-        }
-        let plan = self.next;
-        self.next = plan.saturating_add(1);
-        if let Some(worker) = self.workers.get_mut(worker as usize) {
-            worker.stage = Stage::Acting;
-            worker.peak = shape.peak;
-            worker.left.clear();
-            put(&mut worker.left, shape.words)?;
-            unroll(&mut worker.left)?;
-        }
-        Ok(Reply::Taken { plan })
+        peaks <= FRAMES
     }
 
-    /// Why the worker can't act, if it can't.
-    fn not_acting(&self, worker: u32) -> Option<Reply> {
+    fn take(&mut self, worker: u32) -> Reply {
         match self.stage(worker) {
-            None => Some(Reply::OffPlan(Cause::NoWorker)),
-            Some(Stage::Acting) => None,
-            Some(_) => Some(Reply::OffPlan(Cause::NotActing)),
+            None => return Reply::OffPlan(Cause::NoWorker),
+            Some(Stage::Idle) => {}
+            Some(_) => return Reply::OffPlan(Cause::NotIdle),
         }
+        let plan = self.taken;
+        let Some(shape) = self.plans.get(plan as usize).copied() else {
+            return Reply::NotNow(Delay::NothingWaiting);
+        };
+        if !self.has_room(shape.peak) {
+            return Reply::NotNow(Delay::NoRoom);
+        }
+        self.taken = plan.saturating_add(1);
+        if let Some(worker) = self.workers.get_mut(worker as usize) {
+            *worker = Worker {
+                stage: Stage::Acting,
+                peak: shape.peak,
+                left: shape.words,
+            };
+        }
+        Reply::Taken { plan }
     }
 
     fn fix(&mut self, worker: u32, page: u32) -> Result<Reply, AllocError> {
-        if let Some(refusal) = self.not_acting(worker) {
-            return Ok(refusal);
-        }
-        let slot = match self.word(worker) {
-            Some(Word::Fix(slot, region) | Word::Gather(slot, region)) if has(region, page) => slot,
-            _ => return Ok(Reply::OffPlan(Cause::NotAsked)),
+        let slot = match self.asked(worker) {
+            Err(refusal) => return Ok(refusal),
+            Ok(Some(Word::Fix(slot, region) | Word::Gather(slot, region))) if has(region, page) => {
+                slot
+            }
+            Ok(_) => return Ok(Reply::OffPlan(Cause::NotAsked)),
         };
         if self.is_in_flight(page) {
             return Ok(Reply::NotNow(Delay::InFlight));
         }
         let busy = self.busy()?;
-        match self.lists.request(page, &busy)? {
-            Answer::Hit => self.hit(worker, slot, page),
-            Answer::Free => {
-                let frame = self.least_free();
-                self.cached.push((page, frame))?;
-                self.set_stage(worker, Stage::Reading { slot, page });
-                Ok(Reply::MustRead { frame })
+        let answer = self.lists.request(page, &busy)?;
+        Ok(self.answered(worker, slot, page, answer))
+    }
+
+    /// What a fix is answered where ARC's lists answer so.
+    fn answered(&mut self, worker: u32, slot: u32, page: u32, answer: Answer) -> Reply {
+        match answer {
+            Answer::Hit => {
+                self.fixed(worker, slot, page);
+                let frame = self.frame_with(Some(page)).unwrap_or(FRAMES);
+                let mark = self.mark_or_zero(page);
+                Reply::Hit { frame, mark }
             }
-            Answer::Evict(victim) => self.evict(worker, slot, page, victim),
-            Answer::AllBusy => Ok(Reply::NotNow(Delay::FlushHolds)),
+            Answer::Free => {
+                let frame = self.put(None, Some(page));
+                self.set_stage(worker, Stage::Reading { slot, page });
+                Reply::MustRead { frame }
+            }
+            Answer::Evict(victim) => {
+                let frame = self.put(Some(victim), Some(page));
+                if self.dirty_place(victim).is_some() {
+                    self.set_stage(worker, Stage::Writing { slot, page, victim });
+                    return Reply::MustWrite { frame, victim };
+                }
+                self.set_stage(worker, Stage::Reading { slot, page });
+                Reply::MustRead { frame }
+            }
+            Answer::AllBusy => Reply::NotNow(Delay::FlushHolds),
         }
     }
 
     /// The slot has one pin more, of this page, and the fix or the gather is done.
-    fn fixed(&mut self, worker: u32, slot: u32, page: u32) -> Result<(), AllocError> {
+    fn fixed(&mut self, worker: u32, slot: u32, page: u32) {
         let bundled = matches!(self.word(worker), Some(Word::Gather(_, _)));
-        self.holdings.push(Holding {
-            worker,
-            slot,
-            page,
-            held: Held::Free,
-            bundled,
-        })?;
-        self.go_on(worker, &[])
-    }
-
-    fn hit(&mut self, worker: u32, slot: u32, page: u32) -> Result<Reply, AllocError> {
-        self.fixed(worker, slot, page)?;
-        let frame = self.frame(page);
-        let mark = self.mark_or_zero(page);
-        Ok(Reply::Hit { frame, mark })
-    }
-
-    fn evict(
-        &mut self,
-        worker: u32,
-        slot: u32,
-        page: u32,
-        victim: u32,
-    ) -> Result<Reply, AllocError> {
-        let frame = self.frame(victim);
-        self.cached.retain(|pair| pair.0 != victim);
-        self.cached.push((page, frame))?;
-        if self.is_dirty(victim) {
-            self.set_stage(worker, Stage::Writing { slot, page, victim });
-            Ok(Reply::MustWrite { frame, victim })
-        } else {
-            self.set_stage(worker, Stage::Reading { slot, page });
-            Ok(Reply::MustRead { frame })
+        if self.holdings.len() < self.holdings.capacity() {
+            self.holdings.push_reserved(Holding {
+                worker,
+                slot,
+                page,
+                held: Held::Free,
+                bundled,
+            });
         }
+        self.go_on(worker);
     }
 
     fn write_done(&mut self, worker: u32, ok: bool) -> Result<Reply, AllocError> {
@@ -487,158 +514,144 @@ impl Plain {
             Some(Stage::Writing { slot, page, victim }) => (slot, page, victim),
             Some(_) => return Ok(Reply::OffPlan(Cause::NoErrand)),
         };
-        let frame = self.frame(page);
         if ok {
-            self.dirty.retain(|other| *other != victim);
+            self.clean(victim);
             self.set_stage(worker, Stage::Reading { slot, page });
+            let frame = self.frame_with(Some(page)).unwrap_or(FRAMES);
             return Ok(Reply::MustRead { frame });
         }
         self.lists.bring_back(page, victim)?;
-        self.cached.retain(|pair| pair.0 != page);
-        self.cached.push((victim, frame))?;
+        let _ = self.put(Some(page), Some(victim));
         self.set_stage(worker, Stage::Leaving);
         Ok(Reply::Failed(Failure::WriteFault))
     }
 
-    /// Whether what came isn't the page.
-    fn is_misread(&self, page: u32, head: u32, stamp: u64) -> bool {
-        let is_right = match self.mark(page) {
+    /// Whether what came is the page.
+    fn is_right(&self, page: u32, head: u32, stamp: u64) -> bool {
+        let is_known = match self.mark(page) {
             Some(mark) => stamp == mark,
             None => stamp < 4_611_686_018_427_387_904,
         };
-        head != page || !is_right
+        head == page && is_known
     }
 
-    fn read_done(&mut self, worker: u32, came: Came) -> Result<Reply, AllocError> {
+    fn read_done(&mut self, worker: u32, came: Came) -> Reply {
         let (slot, page) = match self.stage(worker) {
-            None => return Ok(Reply::OffPlan(Cause::NoWorker)),
+            None => return Reply::OffPlan(Cause::NoWorker),
             Some(Stage::Reading { slot, page }) => (slot, page),
-            Some(_) => return Ok(Reply::OffPlan(Cause::NoErrand)),
+            Some(_) => return Reply::OffPlan(Cause::NoErrand),
         };
         let failure = match came {
             Came::Fault => Failure::ReadFault,
-            Came::Image(head, stamp) if self.is_misread(page, head, stamp) => Failure::Misread,
-            Came::Image(_, mark) => {
-                self.set_mark(page, mark)?;
-                self.set_stage(worker, Stage::Acting);
-                self.fixed(worker, slot, page)?;
-                return Ok(Reply::Loaded { mark });
+            Came::Image(head, mark) => {
+                if self.is_right(page, head, mark) {
+                    self.set_mark(page, mark);
+                    self.set_stage(worker, Stage::Acting);
+                    self.fixed(worker, slot, page);
+                    return Reply::Loaded { mark };
+                }
+                Failure::Misread
             }
         };
         self.lists.forget(page);
-        self.cached.retain(|pair| pair.0 != page);
+        let _ = self.put(Some(page), None);
         self.set_stage(worker, Stage::Leaving);
-        Ok(Reply::Failed(failure))
+        Reply::Failed(failure)
     }
 
-    fn unfix(&mut self, worker: u32) -> Result<Reply, AllocError> {
-        if let Some(refusal) = self.not_acting(worker) {
-            return Ok(refusal);
+    fn unfix(&mut self, worker: u32) -> Reply {
+        match self.asked(worker) {
+            Err(refusal) => refusal,
+            Ok(Some(Word::Unfix(slot) | Word::Scatter(slot))) => {
+                self.take_off(worker, slot);
+                self.go_on(worker);
+                Reply::Did
+            }
+            Ok(_) => Reply::OffPlan(Cause::NotAsked),
         }
-        let Some(Word::Unfix(slot) | Word::Scatter(slot)) = self.word(worker) else {
-            return Ok(Reply::OffPlan(Cause::NotAsked));
-        };
-        self.take_off(worker, slot);
-        self.go_on(worker, &[])?;
-        Ok(Reply::Did)
     }
 
-    /// The slot's page is held so from now on.
-    fn hold_as(&mut self, held: Held, holding: Holding) -> Result<(), AllocError> {
-        self.take_off(holding.worker, holding.slot);
-        self.holdings.push(Holding { held, ..holding })?;
-        self.go_on(holding.worker, &[])
-    }
-
-    fn latch(&mut self, worker: u32) -> Result<Reply, AllocError> {
-        if let Some(refusal) = self.not_acting(worker) {
-            return Ok(refusal);
-        }
-        let (slot, held) = match self.word(worker) {
-            Some(Word::LatchS(slot)) => (slot, Held::S),
-            Some(Word::LatchX(slot)) => (slot, Held::X),
-            _ => return Ok(Reply::OffPlan(Cause::NotAsked)),
+    fn latch(&mut self, worker: u32) -> Reply {
+        let (slot, held) = match self.asked(worker) {
+            Err(refusal) => return refusal,
+            Ok(Some(Word::Latch(slot, held))) => (slot, held),
+            Ok(_) => return Reply::OffPlan(Cause::NotAsked),
         };
-        let Some(holding) = self.holding(worker, slot) else {
-            return Ok(Reply::OffPlan(Cause::NotHeld));
+        let Some((page, _)) = self.held(worker, slot) else {
+            return Reply::OffPlan(Cause::NotHeld);
         };
-        let page = holding.page;
-        if self.is_held(page, Held::X) || (held == Held::X && self.is_held(page, Held::S)) {
-            return Ok(Reply::NotNow(Delay::LatchHeld));
+        if self.is_latched(page, held) {
+            return Reply::NotNow(Delay::LatchHeld);
         }
-        self.hold_as(held, holding)?;
+        self.hold(worker, slot, held);
+        self.go_on(worker);
         let mark = self.mark_or_zero(page);
-        Ok(Reply::Latched { mark })
+        Reply::Latched { mark }
     }
 
-    fn unlatch(&mut self, worker: u32) -> Result<Reply, AllocError> {
-        if let Some(refusal) = self.not_acting(worker) {
-            return Ok(refusal);
+    fn unlatch(&mut self, worker: u32) -> Reply {
+        let slot = match self.asked(worker) {
+            Err(refusal) => return refusal,
+            Ok(Some(Word::Unlatch(slot))) => slot,
+            Ok(_) => return Reply::OffPlan(Cause::NotAsked),
+        };
+        let Some((page, held)) = self.held(worker, slot) else {
+            return Reply::OffPlan(Cause::NotHeld);
+        };
+        self.hold(worker, slot, Held::Free);
+        self.go_on(worker);
+        let mark = match held {
+            Held::X => self.change(page),
+            _ => self.mark_or_zero(page),
+        };
+        Reply::Unlatched { mark }
+    }
+
+    fn choose(&mut self, worker: u32, branch: u32) -> Reply {
+        let branches = match self.asked(worker) {
+            Err(refusal) => return refusal,
+            Ok(Some(Word::Choice(branches))) => branches,
+            Ok(_) => return Reply::OffPlan(Cause::NotAsked),
+        };
+        let Some(left) = branches.get(branch as usize).copied() else {
+            return Reply::OffPlan(Cause::NotAsked);
+        };
+        if let Some(worker) = self.workers.get_mut(worker as usize) {
+            worker.left = left;
         }
-        let Some(Word::Unlatch(slot)) = self.word(worker) else {
-            return Ok(Reply::OffPlan(Cause::NotAsked));
-        };
-        let Some(holding) = self.holding(worker, slot) else {
-            return Ok(Reply::OffPlan(Cause::NotHeld));
-        };
-        self.hold_as(Held::Free, holding)?;
-        let mark = match holding.held {
-            Held::X => self.change(holding.page)?,
-            _ => self.mark_or_zero(holding.page),
-        };
-        Ok(Reply::Unlatched { mark })
+        Reply::Did
     }
 
-    fn choose(&mut self, worker: u32, branch: u32) -> Result<Reply, AllocError> {
-        if let Some(refusal) = self.not_acting(worker) {
-            return Ok(refusal);
-        }
-        let words = match self.word(worker) {
-            Some(Word::Choice(branches)) => branches.get(branch as usize).copied(),
-            _ => None,
-        };
-        let Some(words) = words else {
-            return Ok(Reply::OffPlan(Cause::NotAsked));
-        };
-        self.go_on(worker, words)?;
-        Ok(Reply::Did)
-    }
-
-    fn unwind(&mut self, worker: u32, slot: u32) -> Result<Reply, AllocError> {
+    fn unwind(&mut self, worker: u32, slot: u32) -> Reply {
         match self.stage(worker) {
-            None => return Ok(Reply::OffPlan(Cause::NoWorker)),
+            None => return Reply::OffPlan(Cause::NoWorker),
             Some(Stage::Leaving) => {}
-            Some(_) => return Ok(Reply::OffPlan(Cause::NotLeaving)),
+            Some(_) => return Reply::OffPlan(Cause::NotLeaving),
         }
         let Some(holding) = self.holding(worker, slot) else {
-            return Ok(Reply::OffPlan(Cause::NotHeld));
+            return Reply::OffPlan(Cause::NotHeld);
         };
         self.take_off(worker, slot);
-        if holding.held == Held::X {
-            let mark = self.change(holding.page)?;
-            return Ok(Reply::Unlatched { mark });
+        match holding.held {
+            Held::X => Reply::Unlatched {
+                mark: self.change(holding.page),
+            },
+            _ => Reply::Did,
         }
-        Ok(Reply::Did)
     }
 
     fn finish(&mut self, worker: u32) -> Reply {
-        let ending = match self.stage(worker) {
+        let (is_at_end, ending) = match self.stage(worker) {
             None => return Reply::OffPlan(Cause::NoWorker),
-            Some(Stage::Acting) => Ending::Done,
-            Some(Stage::Leaving) => Ending::Gone,
+            Some(Stage::Acting) => (self.word(worker).is_none(), Ending::Done),
+            Some(Stage::Leaving) => (!self.holds(worker), Ending::Gone),
             Some(_) => return Reply::OffPlan(Cause::NotActing),
-        };
-        let is_at_end = match ending {
-            Ending::Done => self.word(worker).is_none(),
-            Ending::Gone => !self.holdings.iter().any(|holding| holding.worker == worker),
         };
         if !is_at_end {
             return Reply::OffPlan(Cause::NotEnded);
         }
         if let Some(worker) = self.workers.get_mut(worker as usize) {
-            worker.stage = Stage::Idle;
-            worker.peak = 0;
-            worker.left.clear();
+            *worker = IDLE;
         }
         Reply::Finished(ending)
     }
@@ -647,14 +660,13 @@ impl Plain {
         if self.flush.is_some() {
             return Reply::NotNow(Delay::FlushBusy);
         }
-        let is_cached = self.cached.iter().any(|pair| pair.0 == page);
-        if !is_cached || !self.is_dirty(page) {
+        if self.frame_with(Some(page)).is_none() || self.dirty_place(page).is_none() {
             return Reply::OffPlan(Cause::NotDirty);
         }
         if self.flushes_left == 0 {
             return Reply::OffPlan(Cause::NoFlushLeft);
         }
-        if self.is_held(page, Held::X) {
+        if self.is_latched(page, Held::S) {
             return Reply::NotNow(Delay::LatchHeld);
         }
         let mark = self.mark_or_zero(page);
@@ -670,119 +682,8 @@ impl Plain {
         self.flush = None;
         let clean = ok && self.mark_or_zero(page) == began;
         if clean {
-            self.dirty.retain(|other| *other != page);
+            self.clean(page);
         }
         Reply::Flushed { clean }
-    }
-
-    // ---- the next move
-
-    /// A move that chance picks: mostly one that a worker, a device or the flusher might ask here, and at times any.
-    pub fn pick(&self, chance: &mut Chance) -> Move {
-        let worker = self.pick_worker(chance);
-        match chance.below(16) {
-            0 => any_move(chance),
-            1 => Move::FlushBegin {
-                page: chance.below(11),
-            },
-            2 => Move::FlushDone {
-                ok: chance.below(4) > 0,
-            },
-            3 => match self.dirty.get(chance.below(8) as usize) {
-                Some(page) => Move::FlushBegin { page: *page },
-                None => Move::Take { worker },
-            },
-            _ => self.pick_for(chance, worker),
-        }
-    }
-
-    /// A worker that chance picks: mostly one that is in a plan.
-    fn pick_worker(&self, chance: &mut Chance) -> u32 {
-        let worker = chance.below(3);
-        if self.stage(worker) == Some(Stage::Idle) {
-            return chance.below(3);
-        }
-        worker
-    }
-
-    /// A move that may well be possible for the worker.
-    fn pick_for(&self, chance: &mut Chance, worker: u32) -> Move {
-        match self.stage(worker) {
-            Some(Stage::Acting) => match self.word(worker) {
-                Some(Word::Fix(_, Region::Root) | Word::Gather(_, Region::Root)) => Move::Fix {
-                    worker,
-                    page: chance.below(3).saturating_add(1),
-                },
-                Some(Word::Fix(_, Region::Leaf) | Word::Gather(_, Region::Leaf)) => Move::Fix {
-                    worker,
-                    page: chance.below(5).saturating_add(5),
-                },
-                Some(Word::Unfix(_) | Word::Scatter(_)) => Move::Unfix { worker },
-                Some(Word::LatchS(_)) | Some(Word::LatchX(_)) => Move::Latch { worker },
-                Some(Word::Unlatch(_)) => Move::Unlatch { worker },
-                Some(Word::Choice(_)) => Move::Choose {
-                    worker,
-                    branch: chance.below(4),
-                },
-                Some(Word::Loop(_, _)) | None => Move::Finish { worker },
-            },
-            Some(Stage::Writing { .. }) => Move::WriteDone {
-                worker,
-                ok: chance.below(4) > 0,
-            },
-            Some(Stage::Reading { page, .. }) => Move::ReadDone {
-                worker,
-                came: self.pick_image(chance, page),
-            },
-            Some(Stage::Leaving) => match chance.below(5) {
-                4 => Move::Finish { worker },
-                slot => Move::Unwind { worker, slot },
-            },
-            _ => Move::Take { worker },
-        }
-    }
-
-    /// What a device may give for the page: mostly its image, at times another, or nothing.
-    fn pick_image(&self, chance: &mut Chance, page: u32) -> Came {
-        let small = u64::from(chance.below(9));
-        let stamp = self.mark(page).unwrap_or(small);
-        match chance.below(24) {
-            0 => Came::Fault,
-            1 => Came::Image(page.saturating_add(1), stamp),
-            2 => Came::Image(page, stamp.saturating_add(1)),
-            3 => Came::Image(page, 4_611_686_018_427_387_904),
-            4 => Came::Image(page, small),
-            _ => Came::Image(page, stamp),
-        }
-    }
-}
-
-/// Any move, of four workers, eleven pages and five slots.
-fn any_move(chance: &mut Chance) -> Move {
-    let worker = chance.below(4);
-    let page = chance.below(11);
-    let few = chance.below(5);
-    match chance.below(12) {
-        0 => Move::Take { worker },
-        1 => Move::Fix { worker, page },
-        2 => Move::WriteDone {
-            worker,
-            ok: few > 1,
-        },
-        3 => Move::ReadDone {
-            worker,
-            came: Came::Image(page, u64::from(few)),
-        },
-        4 => Move::Unfix { worker },
-        5 => Move::Latch { worker },
-        6 => Move::Unlatch { worker },
-        7 => Move::Choose {
-            worker,
-            branch: few,
-        },
-        8 => Move::Unwind { worker, slot: few },
-        9 => Move::Finish { worker },
-        10 => Move::FlushBegin { page },
-        _ => Move::FlushDone { ok: few > 1 },
     }
 }

@@ -1,5 +1,6 @@
 //! The plans of the walk, as texts for the core and as plain statements beside them.
 
+use pp_core::Held;
 use pp_test_plain::samples::DESCENT;
 
 /// A plain statement. Slots are those of the text's names in their order, from `a`.
@@ -7,34 +8,40 @@ use pp_test_plain::samples::DESCENT;
 pub enum Word {
     Fix(u32, Region),
     Unfix(u32),
-    LatchS(u32),
-    LatchX(u32),
+    Latch(u32, Held),
     Unlatch(u32),
     Gather(u32, Region),
     Scatter(u32),
-    Loop(u32, &'static [Word]),
+    /// The branches, each with all that is left to do once it is chosen.
     Choice(&'static [&'static [Word]]),
 }
 
 /// The region of a fix or a gather.
-#[derive(Clone, Copy, PartialEq, Eq)]
+#[derive(Clone, Copy)]
 pub enum Region {
     Root,
     Leaf,
 }
 
-/// A plan's text, its greatest number of pins at once, and its statements.
+/// A plan's text, its greatest number of pins at once, and its statements, where each loop is written out.
 pub struct Shape {
     pub text: &'static str,
     pub peak: u32,
     pub words: &'static [Word],
 }
 
+use Held::{S, X};
 use Region::{Leaf, Root};
-use Word::{Choice, Fix, Gather, LatchS, LatchX, Loop, Scatter, Unfix, Unlatch};
+use Word::{Choice, Fix, Gather, Latch, Scatter, Unfix, Unlatch};
 
 /// How many plans there are.
 pub const KINDS: usize = 13;
+
+/// A leaf that is fixed is written, or read twice, and given back.
+const LAST_LEAF: Word = Choice(&[
+    &[Latch(0, X), Unlatch(0), Unfix(0)],
+    &[Latch(0, S), Unlatch(0), Latch(0, S), Unlatch(0), Unfix(0)],
+]);
 
 pub static PLANS: [Shape; KINDS] = [
     // From a root to a leaf, which is written.
@@ -43,9 +50,9 @@ pub static PLANS: [Shape; KINDS] = [
         peak: 2,
         words: &[
             Fix(0, Root),
-            LatchS(0),
+            Latch(0, S),
             Fix(1, Leaf),
-            LatchX(1),
+            Latch(1, X),
             Unlatch(1),
             Unlatch(0),
             Unfix(1),
@@ -57,7 +64,20 @@ pub static PLANS: [Shape; KINDS] = [
         text: "{\"body\":[{\"body\":[{\"fix\":\"a\",\"region\":\"leaf\"},{\"latch\":\"a\",\"mode\":\"S\"},\
 {\"unlatch\":\"a\"},{\"unfix\":\"a\"}],\"loop\":3}],\"version\":1}",
         peak: 1,
-        words: &[Loop(3, &[Fix(0, Leaf), LatchS(0), Unlatch(0), Unfix(0)])],
+        words: &[
+            Fix(0, Leaf),
+            Latch(0, S),
+            Unlatch(0),
+            Unfix(0),
+            Fix(0, Leaf),
+            Latch(0, S),
+            Unlatch(0),
+            Unfix(0),
+            Fix(0, Leaf),
+            Latch(0, S),
+            Unlatch(0),
+            Unfix(0),
+        ],
     },
     // A root is looked at, written or read.
     Shape {
@@ -67,8 +87,11 @@ pub static PLANS: [Shape; KINDS] = [
         peak: 1,
         words: &[
             Fix(0, Root),
-            Choice(&[&[], &[LatchX(0), Unlatch(0)], &[LatchS(0), Unlatch(0)]]),
-            Unfix(0),
+            Choice(&[
+                &[Unfix(0)],
+                &[Latch(0, X), Unlatch(0), Unfix(0)],
+                &[Latch(0, S), Unlatch(0), Unfix(0)],
+            ]),
         ],
     },
     // Three pages, two of them latched as the third is fixed.
@@ -79,9 +102,9 @@ pub static PLANS: [Shape; KINDS] = [
         peak: 3,
         words: &[
             Fix(0, Root),
-            LatchX(0),
+            Latch(0, X),
             Fix(1, Leaf),
-            LatchS(1),
+            Latch(1, S),
             Fix(2, Leaf),
             Unlatch(1),
             Unfix(1),
@@ -97,17 +120,21 @@ pub static PLANS: [Shape; KINDS] = [
 [{\"body\":[{\"latch\":\"a\",\"mode\":\"S\"},{\"unlatch\":\"a\"}],\"loop\":2}]]},\
 {\"unfix\":\"a\"}],\"loop\":2}],\"version\":1}",
         peak: 1,
-        words: &[Loop(
-            2,
-            &[
-                Fix(0, Leaf),
-                Choice(&[
-                    &[LatchX(0), Unlatch(0)],
-                    &[Loop(2, &[LatchS(0), Unlatch(0)])],
-                ]),
-                Unfix(0),
-            ],
-        )],
+        words: &[
+            Fix(0, Leaf),
+            Choice(&[
+                &[Latch(0, X), Unlatch(0), Unfix(0), Fix(0, Leaf), LAST_LEAF],
+                &[
+                    Latch(0, S),
+                    Unlatch(0),
+                    Latch(0, S),
+                    Unlatch(0),
+                    Unfix(0),
+                    Fix(0, Leaf),
+                    LAST_LEAF,
+                ],
+            ]),
+        ],
     },
     // A root is written and given back once a leaf is held, which is then written twice.
     Shape {
@@ -117,11 +144,14 @@ pub static PLANS: [Shape; KINDS] = [
         peak: 2,
         words: &[
             Fix(0, Root),
-            LatchX(0),
+            Latch(0, X),
             Fix(1, Leaf),
             Unlatch(0),
             Unfix(0),
-            Loop(2, &[LatchX(1), Unlatch(1)]),
+            Latch(1, X),
+            Unlatch(1),
+            Latch(1, X),
+            Unlatch(1),
             Unfix(1),
         ],
     },
@@ -135,7 +165,12 @@ pub static PLANS: [Shape; KINDS] = [
     Shape {
         text: "{\"body\":[{\"body\":[{\"gather\":\"a\",\"region\":\"leaf\"}],\"loop\":3},{\"scatter\":\"a\"}],\"version\":2}",
         peak: 3,
-        words: &[Loop(3, &[Gather(0, Leaf)]), Scatter(0)],
+        words: &[
+            Gather(0, Leaf),
+            Gather(0, Leaf),
+            Gather(0, Leaf),
+            Scatter(0),
+        ],
     },
     // A leaf is gathered under a root that is written, and another once the root is given back.
     Shape {
@@ -145,7 +180,7 @@ pub static PLANS: [Shape; KINDS] = [
         peak: 2,
         words: &[
             Fix(0, Root),
-            LatchX(0),
+            Latch(0, X),
             Gather(1, Leaf),
             Unlatch(0),
             Unfix(0),
@@ -161,7 +196,12 @@ pub static PLANS: [Shape; KINDS] = [
         peak: 3,
         words: &[
             Gather(0, Root),
-            Loop(2, &[Gather(1, Leaf), Scatter(0), Gather(0, Root)]),
+            Gather(1, Leaf),
+            Scatter(0),
+            Gather(0, Root),
+            Gather(1, Leaf),
+            Scatter(0),
+            Gather(0, Root),
             Scatter(1),
             Scatter(0),
         ],
@@ -171,13 +211,10 @@ pub static PLANS: [Shape; KINDS] = [
         text: "{\"body\":[{\"choice\":[[{\"gather\":\"a\",\"region\":\"leaf\"},{\"gather\":\"a\",\"region\":\"leaf\"}],\
 [{\"body\":[{\"gather\":\"a\",\"region\":\"root\"}],\"loop\":2}]]},{\"scatter\":\"a\"}],\"version\":2}",
         peak: 2,
-        words: &[
-            Choice(&[
-                &[Gather(0, Leaf), Gather(0, Leaf)],
-                &[Loop(2, &[Gather(0, Root)])],
-            ]),
-            Scatter(0),
-        ],
+        words: &[Choice(&[
+            &[Gather(0, Leaf), Gather(0, Leaf), Scatter(0)],
+            &[Gather(0, Root), Gather(0, Root), Scatter(0)],
+        ])],
     },
     // Leaves are written beside a bundle that grows with them.
     Shape {
@@ -185,16 +222,16 @@ pub static PLANS: [Shape; KINDS] = [
 {\"latch\":\"a\",\"mode\":\"X\"},{\"unlatch\":\"a\"},{\"unfix\":\"a\"}],\"loop\":2},{\"scatter\":\"b\"}],\"version\":2}",
         peak: 3,
         words: &[
-            Loop(
-                2,
-                &[
-                    Gather(1, Leaf),
-                    Fix(0, Leaf),
-                    LatchX(0),
-                    Unlatch(0),
-                    Unfix(0),
-                ],
-            ),
+            Gather(1, Leaf),
+            Fix(0, Leaf),
+            Latch(0, X),
+            Unlatch(0),
+            Unfix(0),
+            Gather(1, Leaf),
+            Fix(0, Leaf),
+            Latch(0, X),
+            Unlatch(0),
+            Unfix(0),
             Scatter(1),
         ],
     },
@@ -202,6 +239,13 @@ pub static PLANS: [Shape; KINDS] = [
     Shape {
         text: "{\"body\":[{\"body\":[{\"gather\":\"a\",\"region\":\"leaf\"},{\"scatter\":\"a\"}],\"loop\":3}],\"version\":2}",
         peak: 1,
-        words: &[Loop(3, &[Gather(0, Leaf), Scatter(0)])],
+        words: &[
+            Gather(0, Leaf),
+            Scatter(0),
+            Gather(0, Leaf),
+            Scatter(0),
+            Gather(0, Leaf),
+            Scatter(0),
+        ],
     },
 ];

@@ -1,61 +1,58 @@
-//! Pools that are driven to their end, with decisions that look like chance: by `drain`, and by moves of the turns that
-//! the core names.
+//! Cores that are driven to their end, with decisions that look like chance: by `drain`, and by moves of the turns that they
+//! name.
 
-use pp_core::{Ask, Came, Core, Decide, Move, Reply, Turn};
-use pp_test_plain::Chance;
+use crate::host::{Host, reading};
+use pp_core::{Ask, Core, Move, Reply, Turn};
+use pp_settings::Settings;
+use pp_test_plain::samples::{DESCENT, SCAN};
+use pp_test_plain::{Chance, accepted};
+use std::alloc::Global;
 
-/// A host that decides by chance, and whose device fails and lies now and then.
-#[derive(Drop)]
-pub struct Host<'a> {
-    pub chance: &'a mut Chance,
+/// How many plans each core has: four for each worker, so that workers take new ones while others are in theirs.
+const PLANS: u32 = 12;
+
+/// Three pages, two of them latched as the third is fixed.
+const SPLIT: &str =
+    "{\"body\":[{\"fix\":\"a\",\"region\":\"root\"},{\"latch\":\"a\",\"mode\":\"X\"},\
+{\"fix\":\"b\",\"region\":\"leaf\"},{\"latch\":\"b\",\"mode\":\"X\"},{\"fix\":\"c\",\"region\":\"leaf\"},\
+{\"unlatch\":\"b\"},{\"unfix\":\"b\"},{\"unfix\":\"c\"},{\"unlatch\":\"a\"},{\"unfix\":\"a\"}],\"version\":1}";
+
+/// A root is written, and then two leaves are held at once, or none.
+const EITHER: &str =
+    "{\"body\":[{\"fix\":\"a\",\"region\":\"root\"},{\"latch\":\"a\",\"mode\":\"X\"},{\"unlatch\":\"a\"},\
+{\"unfix\":\"a\"},{\"choice\":[[],[{\"fix\":\"b\",\"region\":\"leaf\"},{\"fix\":\"c\",\"region\":\"leaf\"},\
+{\"unfix\":\"b\"},{\"unfix\":\"c\"}]]}],\"version\":1}";
+
+/// A new core in which plans wait.
+fn filled(alloc: Global, settings: &Settings, chance: &mut Chance) -> anyhow::Result<Core> {
+    let mut core = Core::new(alloc, settings)?;
+    for _ in 0..PLANS {
+        let text = match chance.below(4) {
+            0 => DESCENT,
+            1 => SCAN,
+            2 => SPLIT,
+            _ => EITHER,
+        };
+        if core.submit(accepted(alloc, settings, text)?).is_err() {
+            anyhow::bail!("a plan isn't taken in");
+        }
+    }
+    Ok(core)
 }
 
-impl Decide for Host<'_> {
-    ghost use Rattle.std.specs.Prelude.{◌<◌, ◌≤◌, ◌+◌};
-
-    // Chance decides, so nothing is known but that an answer is within what was asked; and of the device nothing at all.
-    ghost picks = { λ h region first count page i. (first ≤ page) × (page < first + count) };
-
-    ghost chooses = { λ h count branch i. branch < count };
-
-    ghost reads = { λ h page came i. Unit {0} };
-
-    ghost writes = { λ h page ok i. Unit {0} };
-
-    ghost flushes = { λ h page ok i. Unit {0} };
-
-    fn page(&mut self, _region: u8, first: u32, count: u32) -> u32 {
-        first + self.chance.below(count)
-    }
-
-    fn branch(&mut self, count: u16) -> u16 {
-        self.chance.below(u32::from(count)) as u16
-    }
-
-    fn came(&mut self, page: u32) -> Came {
-        let stamp = u64::from(self.chance.below(2));
-        reading(page, stamp, self.chance)
-    }
-
-    fn wrote(&mut self, _page: u32) -> bool {
-        self.chance.below(4) > 0
-    }
-
-    fn flushed(&mut self, _page: u32) -> bool {
-        self.chance.below(4) > 0
-    }
-}
-
-/// What the device gives of a page that it has with this stamp: mostly that, else a fault, another page, another stamp,
-/// or one that is never given.
-fn reading(page: u32, stamp: u64, chance: &mut Chance) -> Came {
-    match chance.below(12) {
-        0 => Came::Fault,
-        1 => Came::Image(page ^ 1, stamp),
-        2 => Came::Image(page, stamp ^ 1),
-        3 => Came::Image(page, 1 << 62),
-        _ => Came::Image(page, stamp),
-    }
+/// Drives a core to its end, by `drain` or by a move of each turn, and says whether it ends as it should.
+pub fn drive(
+    alloc: Global,
+    settings: &Settings,
+    chance: &mut Chance,
+    by_drain: bool,
+) -> anyhow::Result<bool> {
+    let mut core = filled(alloc, settings, chance)?;
+    Ok(if by_drain {
+        drain_to_the_end(&mut core, chance)
+    } else {
+        step_to_the_end(&mut core, chance) == Some(PLANS)
+    })
 }
 
 /// The device's answer to the worker's errand.
@@ -79,12 +76,7 @@ fn answer(core: &Core, worker: u32, chance: &mut Chance) -> Option<Move> {
 /// A move that gives some slot back which the worker holds, or its last one.
 fn leave(core: &Core, worker: u32, chance: &mut Chance) -> Move {
     let from = chance.below(32);
-    for slot in from..32 {
-        if core.held(worker, slot).is_some() {
-            return Move::Unwind { worker, slot };
-        }
-    }
-    for slot in 0..from {
+    for slot in (from..32).chain(0..from) {
         if core.held(worker, slot).is_some() {
             return Move::Unwind { worker, slot };
         }
@@ -143,7 +135,7 @@ fn flushes(core: &mut Core, chance: &mut Chance) -> bool {
 
 /// Makes a move of the turn that comes next until none does, and says how many plans were finished; none where a move is
 /// refused, or more are made than the core said.
-pub fn step_to_the_end(core: &mut Core, chance: &mut Chance) -> Option<u32> {
+fn step_to_the_end(core: &mut Core, chance: &mut Chance) -> Option<u32> {
     let most = core.budget();
     let mut made: u64 = 0;
     let mut finished: u32 = 0;
@@ -165,7 +157,7 @@ pub fn step_to_the_end(core: &mut Core, chance: &mut Chance) -> Option<u32> {
 }
 
 /// Drains the core, and says whether it came to its end with no more moves than it said.
-pub fn drain_to_the_end(core: &mut Core, chance: &mut Chance) -> bool {
+fn drain_to_the_end(core: &mut Core, chance: &mut Chance) -> bool {
     let most = core.budget();
     let made = core.drain(&mut Host { chance });
     made <= most && core.next_possible().is_none()
