@@ -1,115 +1,80 @@
 //! A book in several lives: what it gives at the end of one, and what the next begins with.
 
-use crate::common::{FirstPages, same_events};
-use crate::turns::{FLUSHED, WRITTEN};
+use crate::noting::note;
+use crate::rows::{FLUSHED, WRITTEN};
+use crate::stand::{
+    Stand, close, disk_of, does, plan_of, push_text, same_text, settings_of, stand_of, submits,
+    text_of,
+};
 use pp_arc::List;
 use pp_cert::Accepted;
-use pp_device::SoloDevice;
-use pp_pool::{
-    Book, BookAnswer, BookRenewError, Event, OwnSite, Request, Response, Turned, Worker,
-};
-use pp_report::{Journal, audit, packed_journal_text};
+use pp_pool::{Book, BookAnswer, BookRenewError, Journal, Request, Response};
+use pp_report::audit;
 use pp_settings::Settings;
-use pp_test_plain::accepted;
-use pp_test_plain::samples::{NOTHING, READ, REGIONS, SETTINGS, TOUCH, WRITE};
-use pp_vault::{Came, Ending, Errand, Failure, Hands, Move, RenewError, Reply, Returned};
+use pp_test_plain::samples;
+use pp_test_plain::samples::{NOTHING, READ, SETTINGS, TOUCH, WRITE};
+use pp_vault::{Errand, RenewError, Returned};
 use std::alloc::Global;
 use std::process::Abort;
 use std::test::*;
 
-/// A book, its tokens, and its device, from life to life.
-struct Stand {
-    book: Book,
-    hands: Hands,
-    device: SoloDevice,
-}
-
 /// What the worker does in a life that finds page 16 where the life before left it.
-static WRITTEN_AGAIN: &[Event] = &[
-    Event::Step {
-        did: Move::Take { worker: 0 },
-        reply: Reply::Taken { plan: 0 },
-    },
-    Event::Step {
-        did: Move::Fix {
-            worker: 0,
-            page: 16,
-        },
-        reply: Reply::Hit { frame: 0, mark: 1 },
-    },
-    Event::Step {
-        did: Move::Latch { worker: 0 },
-        reply: Reply::Latched { mark: 1 },
-    },
-    Event::Step {
-        did: Move::Unlatch { worker: 0 },
-        reply: Reply::Unlatched { mark: 2 },
-    },
-    Event::Step {
-        did: Move::Unfix { worker: 0 },
-        reply: Reply::Did,
-    },
-    Event::Step {
-        did: Move::Finish { worker: 0 },
-        reply: Reply::Finished(Ending::Done),
-    },
-];
+const WRITTEN_AGAIN: &str = "take 0 = taken 0
+fix 0 16 = hit 0 1
+latch 0 = latched 1
+unlatch 0 = unlatched 2
+unfix 0 = did
+finish 0 = done
+";
 
-const SUBMITTED: Event = Event::Submit { plan: 0 };
+/// The line of a plan that is taken in.
+const SUBMITTED: &str = "submit 0 = queued\n";
 
-/// A book with these settings, in which nothing was done yet.
-fn stand_of(alloc: Global, settings: &Settings) -> Result<Stand, Fail> {
-    let device = SoloDevice::new(alloc, 24, 64)?;
-    let (book, hands) = Book::new(alloc, settings)?;
-    Ok(Stand {
-        book,
-        hands,
-        device,
-    })
+/// What stands for a number that isn't there.
+const NONE: u64 = 999;
+
+/// A stand over a device of the sample settings' pages.
+fn new_stand(rt: &impl Abort, alloc: Global, settings: &Settings) -> Stand {
+    let device = disk_of(rt, alloc, 24, 64, 0);
+    stand_of(rt, alloc, settings, device)
 }
 
-/// Submits the plan, which is taken in under this number.
-fn submits(rt: &impl Abort, book: &mut Book, plan: Accepted, number: u32) {
-    let is_it = book.submit(plan).is_ok_and(|id| id.number() == number);
-    assert!(rt; is_it, "not taken in as plan {number}");
+/// Notes what the book's life began with: of page 16 the frame, whether it is dirty, and the mark; how many pages are in T1, and
+/// which is the first; and the target. Then how many pages are dirty, and the greatest cost.
+fn note_began(book: &Book, text: &mut String) {
+    let began = book.began();
+    let recent = began.pages(List::T1);
+    let first = match recent.first() {
+        Some(page) => u64::from(*page),
+        None => NONE,
+    };
+    let numbers = [
+        began.frame_of(16).map_or(NONE, u64::from),
+        u64::from(began.is_dirty(16)),
+        began.mark(16).unwrap_or(NONE),
+        recent.len() as u64,
+        first,
+        u64::from(began.target()),
+        u64::from(book.dirty()),
+        book.most(),
+    ];
+    note(text, "began", &numbers);
 }
 
-/// Worker 0 takes turns until nothing is left for it, and gives its log.
-fn works(rt: &impl Abort, alloc: Global, settings: &Settings, stand: Stand) -> (Stand, Journal) {
-    let Stand {
-        book,
-        mut hands,
-        device,
-    } = stand;
-    let Some(hand) = hands.part(0) else {
-        panic!(rt; "no hand")
-    };
-    let mut work = FirstPages {
-        changed: 0,
-        seen: 0,
-        last: (0, 0),
-        is_blank: false,
-    };
-    let mut worker = Worker::new(alloc, OwnSite { book }, device, hand, settings);
-    for _ in 0..600 {
-        if worker.turn(&mut work) == Turned::Ended {
-            break;
-        }
-    }
-    let (site, device, hand, log) = worker.end();
-    match hands.join(hand) {
-        Ok(()) => {}
-        Err(_) => panic!(rt; "the hand has no place"),
-    }
-    let OwnSite { book } = site;
-    (
-        Stand {
-            book,
-            hands,
-            device,
-        },
-        log,
-    )
+/// The plan of this text is submitted as the first of a life, and done. The log is added to the text.
+fn life(
+    rt: &impl Abort,
+    alloc: Global,
+    settings: &Settings,
+    stand: Stand,
+    plan: &str,
+    text: &mut String,
+) -> Stand {
+    let mut stand = stand;
+    submits(rt, &mut stand.book, plan_of(rt, alloc, settings, plan), 0);
+    let (stand, log) = does(rt, alloc, settings, stand);
+    push_text(rt, text, &log);
+    stand
 }
 
 /// Renews the book with this journal, and gives the journal of the life that is over.
@@ -120,120 +85,98 @@ fn renewed(rt: &impl Abort, book: &mut Book, empty: Journal) -> Journal {
     }
 }
 
+/// Renews the book, and adds the journal of the life that is over to the text.
+fn renews(rt: &impl Abort, alloc: Global, book: &mut Book, text: &mut String) {
+    let journal = renewed(rt, book, Journal::new(alloc));
+    push_text(rt, text, &text_of(rt, alloc, &journal));
+}
+
 /// The book isn't at rest, so the journal comes back without what stood in it.
 fn refuses(rt: &impl Abort, book: &mut Book, given: Journal) {
     match book.renew(given) {
         Ok(_) => panic!(rt; "renewed"),
         Err((back, error)) => {
             let is_it = error == BookRenewError::Refused(RenewError::NotAtRest) && back.is_empty();
-            assert!(rt; is_it, "{} events come back: {error}", back.len());
+            if !is_it {
+                panic!(rt; "{} events come back: {error}", back.len());
+            }
         }
     }
 }
 
-/// Whether the text of the journal is audited as one of a new pool with this plan.
-fn is_audited(
-    alloc: Global,
-    settings: &Settings,
-    plan: Accepted,
-    events: &Journal,
-) -> Result<bool, Fail> {
-    let text = packed_journal_text(alloc, events)?;
-    let mut plans = Vec::new(alloc);
-    plans.push(plan)?;
-    Ok(audit(alloc, settings, plans, text.as_bytes()).is_ok())
+/// Whether the text is audited as the journal of a new pool with this plan.
+fn is_audited(alloc: Global, settings: &Settings, plans: Vec<Accepted>, journal: &str) -> bool {
+    audit(alloc, settings, plans, journal.as_bytes()).is_ok()
+}
+
+/// The texts, one behind the other.
+fn together(rt: &impl Abort, alloc: Global, parts: &[&str]) -> String {
+    let mut text = String::new(alloc);
+    for part in parts {
+        push_text(rt, &mut text, part);
+    }
+    text
 }
 
 /// A page that the first life wrote is a hit in the second: it is as dirty as it was, has its mark, and no device is called
-/// for it. The first life's journal comes back whole, and is audited.
+/// for it. The first life's journal comes back whole, and is audited. That of the second is no journal of a new pool, where
+/// nothing can be a hit.
 #[test]
-fn a_written_page_is_a_hit_in_the_next_life(rt: HostRuntime) -> Result<(), Fail> {
-    let settings = Settings::from_text(rt.alloc(), SETTINGS)?;
-    let first = accepted(rt.alloc(), &settings, WRITE)?;
-    let second = accepted(rt.alloc(), &settings, WRITE)?;
-    let mut stand = stand_of(rt.alloc(), &settings)?;
-    let is_new = stand.book.began().mark(16).is_none()
-        && stand.book.began().pages(List::T1).is_empty();
-    submits(&rt, &mut stand.book, first, 0);
-    refuses(&rt, &mut stand.book, Journal::new(rt.alloc()));
-    let (mut stand, log) = works(&rt, rt.alloc(), &settings, stand);
-    let journal = renewed(&rt, &mut stand.book, Journal::new(rt.alloc()));
-    let began = stand.book.began();
-    let of_page = (began.frame_of(16), began.is_dirty(16), began.mark(16));
-    let (is_named, target) = (began.pages(List::T1) == [16].as_slice(), began.target());
-    let left = (stand.book.dirty(), stand.book.most());
-    submits(&rt, &mut stand.book, second, 0);
-    let (stand, log_again) = works(&rt, rt.alloc(), &settings, stand);
-    let Stand {
-        book,
-        hands,
-        device: _,
-    } = stand;
-    let next = book.close(hands);
-    assert!(rt; is_new, "a new book's outset has page 16");
-    same_events(&rt, &log.to_events(rt.alloc())?, WRITTEN);
-    let events = journal.to_events(rt.alloc())?;
-    assert!(rt;
-        events.first() == Some(&SUBMITTED) && events.len() == 8,
-        "{events:?}"
-    );
-    same_events(&rt, &events[1..], WRITTEN);
-    assert!(rt; of_page == (Some(0), true, Some(1)), "{of_page:?}");
-    assert!(rt;
-        is_named && target == 0,
-        "ARC's lists are others, with target {target}"
-    );
-    assert!(rt; left == (1, 0), "{left:?}");
-    same_events(&rt, &log_again.to_events(rt.alloc())?, WRITTEN_AGAIN);
-    let events = next.to_events(rt.alloc())?;
-    assert!(rt;
-        events.first() == Some(&SUBMITTED) && events.len() == 7,
-        "{events:?}"
-    );
-    Ok(())
+fn a_written_page_is_a_hit_in_the_next_life(rt: HostRuntime) {
+    let alloc: Global = rt.alloc();
+    let settings = settings_of(&rt, alloc, SETTINGS);
+    let mut text = String::new(alloc);
+    let stand = new_stand(&rt, alloc, &settings);
+    note_began(&stand.book, &mut text);
+    let mut stand = life(&rt, alloc, &settings, stand, WRITE, &mut text);
+    renews(&rt, alloc, &mut stand.book, &mut text);
+    note_began(&stand.book, &mut text);
+    let stand = life(&rt, alloc, &settings, stand, WRITE, &mut text);
+    let next = text_of(&rt, alloc, &close(stand));
+    let want = [
+        "began 999 0 999 0 999 0 0 0\n",
+        WRITTEN,
+        samples::WRITTEN,
+        "began 0 1 1 1 16 0 1 0\n",
+        WRITTEN_AGAIN,
+    ];
+    same_text(&rt, "two lives", &text, &together(&rt, alloc, &want));
+    let again = together(&rt, alloc, &[SUBMITTED, WRITTEN_AGAIN]);
+    same_text(&rt, "the second journal", &next, &again);
 }
 
-/// The plan of this text; it is accepted.
-fn plan_of(rt: &impl Abort, alloc: Global, settings: &Settings, text: &str) -> Accepted {
-    match accepted(alloc, settings, text) {
-        Ok(plan) => plan,
-        Err(_) => panic!(rt; "no memory, or not accepted: {text}"),
-    }
-}
-
-/// The journals of two lives in which the plan of this text is run.
-fn two_journals(
-    rt: &impl Abort,
-    alloc: Global,
-    settings: &Settings,
-    text: &str,
-) -> Result<(Journal, Journal), Fail> {
-    let mut stand = stand_of(alloc, settings)?;
-    submits(rt, &mut stand.book, plan_of(rt, alloc, settings, text), 0);
-    let (mut stand, _log) = works(rt, alloc, settings, stand);
-    let journal = renewed(rt, &mut stand.book, Journal::new(alloc));
-    submits(rt, &mut stand.book, plan_of(rt, alloc, settings, text), 0);
-    let (stand, _log) = works(rt, alloc, settings, stand);
-    let Stand {
-        book,
-        hands,
-        device: _,
-    } = stand;
-    Ok((journal, book.close(hands)))
+/// A book at which a plan waits isn't renewed.
+#[test]
+fn a_book_with_a_plan_is_not_renewed(rt: HostRuntime) {
+    let alloc: Global = rt.alloc();
+    let settings = settings_of(&rt, alloc, SETTINGS);
+    let mut stand = new_stand(&rt, alloc, &settings);
+    let plan = plan_of(&rt, alloc, &settings, WRITE);
+    submits(&rt, &mut stand.book, plan, 0);
+    refuses(&rt, &mut stand.book, Journal::new(alloc));
+    let journal = text_of(&rt, alloc, &close(stand));
+    same_text(&rt, "the journal", &journal, SUBMITTED);
 }
 
 /// The journal of the first life is audited. That of the second is no journal of a new pool, where nothing can be a hit.
 #[test]
-fn the_first_journal_is_a_new_pools(rt: HostRuntime) -> Result<(), Fail> {
-    let settings = Settings::from_text(rt.alloc(), SETTINGS)?;
-    let (first, second) = two_journals(&rt, rt.alloc(), &settings, WRITE)?;
-    let plan = plan_of(&rt, rt.alloc(), &settings, WRITE);
-    let is_first_audited = is_audited(rt.alloc(), &settings, plan, &first)?;
-    let plan = plan_of(&rt, rt.alloc(), &settings, WRITE);
-    let is_second_audited = is_audited(rt.alloc(), &settings, plan, &second)?;
-    assert!(rt; is_first_audited, "not audited: {} events", first.len());
-    assert!(rt; !is_second_audited, "audited: {} events", second.len());
-    Ok(())
+fn the_first_journal_is_a_new_pools(rt: HostRuntime) {
+    let alloc: Global = rt.alloc();
+    let settings = settings_of(&rt, alloc, SETTINGS);
+    let (mut first, mut unused) = (String::new(alloc), String::new(alloc));
+    let stand = new_stand(&rt, alloc, &settings);
+    let mut stand = life(&rt, alloc, &settings, stand, WRITE, &mut unused);
+    renews(&rt, alloc, &mut stand.book, &mut first);
+    let stand = life(&rt, alloc, &settings, stand, WRITE, &mut unused);
+    let second = text_of(&rt, alloc, &close(stand));
+    for (journal, want) in [(&first, true), (&second, false)] {
+        let mut plans = Vec::new(alloc);
+        let plan = plan_of(&rt, alloc, &settings, WRITE);
+        plans.push(plan).expect(&rt, "memory");
+        if is_audited(alloc, &settings, plans, journal) != want {
+            panic!(rt; "audited otherwise: {journal}");
+        }
+    }
 }
 
 /// Begins the flush of page 16.
@@ -256,142 +199,110 @@ fn flushed(rt: &impl Abort, book: &mut Book, returned: Returned) -> bool {
 
 /// A flush in flight is awaited. The page is clean then, and so it is in the next life.
 #[test]
-fn a_flush_is_awaited(rt: HostRuntime) -> Result<(), Fail> {
-    let settings = Settings::from_text(rt.alloc(), SETTINGS)?;
-    let plan = accepted(rt.alloc(), &settings, WRITE)?;
-    let mut stand = stand_of(rt.alloc(), &settings)?;
-    submits(&rt, &mut stand.book, plan, 0);
-    let (mut stand, _log) = works(&rt, rt.alloc(), &settings, stand);
+fn a_flush_is_awaited(rt: HostRuntime) {
+    let alloc: Global = rt.alloc();
+    let settings = settings_of(&rt, alloc, SETTINGS);
+    let mut text = String::new(alloc);
+    let stand = new_stand(&rt, alloc, &settings);
+    let mut stand = life(&rt, alloc, &settings, stand, WRITE, &mut text);
     let errand = begun(&rt, &mut stand.book);
-    refuses(&rt, &mut stand.book, Journal::new(rt.alloc()));
+    refuses(&rt, &mut stand.book, Journal::new(alloc));
     let returned = errand.carry_out(&mut stand.device);
-    let is_clean = flushed(&rt, &mut stand.book, returned);
-    let journal = renewed(&rt, &mut stand.book, Journal::new(rt.alloc()));
-    let began = stand.book.began();
-    let of_page = (began.frame_of(16), began.is_dirty(16), began.mark(16));
-    let Stand {
-        book,
-        hands,
-        device: _,
-    } = stand;
-    let next = book.close(hands);
-    let events = journal.to_events(rt.alloc())?;
-    assert!(rt; is_clean, "the flush isn't clean");
-    assert!(rt; events.len() == 10, "{events:?}");
-    same_events(&rt, &events[8..], FLUSHED);
-    assert!(rt; of_page == (Some(0), false, Some(1)), "{of_page:?}");
-    assert!(rt; next.is_empty(), "{} events", next.len());
-    Ok(())
+    if !flushed(&rt, &mut stand.book, returned) {
+        panic!(rt; "the flush isn't clean");
+    }
+    renews(&rt, alloc, &mut stand.book, &mut text);
+    note_began(&stand.book, &mut text);
+    let next = text_of(&rt, alloc, &close(stand));
+    push_text(&rt, &mut text, &next);
+    let want = [
+        WRITTEN,
+        samples::WRITTEN,
+        FLUSHED,
+        "began 0 0 1 1 16 0 0 0\n",
+    ];
+    same_text(&rt, "a flush", &text, &together(&rt, alloc, &want));
 }
 
 /// 256 plans are all that one life takes, and the next takes as many. Two journals serve in turn.
 #[test]
-fn each_life_takes_as_many_plans(rt: HostRuntime) -> Result<(), Fail> {
-    let settings = Settings::from_text(rt.alloc(), SETTINGS)?;
-    let mut stand = stand_of(rt.alloc(), &settings)?;
-    let mut spare = Journal::new(rt.alloc());
-    for _ in 0..2 {
+fn each_life_takes_as_many_plans(rt: HostRuntime) {
+    let alloc: Global = rt.alloc();
+    let settings = settings_of(&rt, alloc, SETTINGS);
+    let mut stand = new_stand(&rt, alloc, &settings);
+    let mut spare = Journal::new(alloc);
+    for _life in 0..2 {
         for number in 0..256 {
-            let plan = plan_of(&rt, rt.alloc(), &settings, NOTHING);
+            let plan = plan_of(&rt, alloc, &settings, NOTHING);
             submits(&rt, &mut stand.book, plan, number);
         }
-        let plan = plan_of(&rt, rt.alloc(), &settings, NOTHING);
-        let is_one_too_many = stand.book.submit(plan).is_err();
-        assert!(rt; is_one_too_many, "a life took 257 plans");
-        let (worked, log) = works(&rt, rt.alloc(), &settings, stand);
+        let plan = plan_of(&rt, alloc, &settings, NOTHING);
+        if stand.book.submit(plan).is_ok() {
+            panic!(rt; "a life took 257 plans");
+        }
+        let (worked, log) = does(&rt, alloc, &settings, stand);
         stand = worked;
         spare = renewed(&rt, &mut stand.book, spare);
-        assert!(rt;
-            log.len() == 512 && spare.len() == 768,
-            "{} events",
-            spare.len()
-        );
+        if log.lines().count() != 512 || spare.len() != 768 {
+            panic!(rt; "{} events", spare.len());
+        }
     }
-    let Stand {
-        book,
-        hands,
-        device: _,
-    } = stand;
-    let last = book.close(hands);
-    assert!(rt; last.is_empty(), "{} events", last.len());
-    Ok(())
+    if !close(stand).is_empty() {
+        panic!(rt; "a new life has events");
+    }
 }
 
+/// Settings of one frame and one worker, and else the sample ones.
+const ONE_FRAME: &str = "frames = 1
+page_bytes = 64
+workers = 1
+flushes = 4
+
+[[region]]
+name = \"root\"
+first = 0
+count = 4
+class = 1
+
+[[region]]
+name = \"leaf\"
+first = 16
+count = 8
+class = 2
+";
+
 /// What the worker does where page 16 was written in the life before, left the cache, and is read with an older stamp.
-static MISREAD: &[Event] = &[
-    Event::Step {
-        did: Move::Take { worker: 0 },
-        reply: Reply::Taken { plan: 0 },
-    },
-    Event::Step {
-        did: Move::Fix {
-            worker: 0,
-            page: 16,
-        },
-        reply: Reply::MustRead { frame: 0 },
-    },
-    Event::Step {
-        did: Move::ReadDone {
-            worker: 0,
-            came: Came::Image(16, 0),
-        },
-        reply: Reply::Failed(Failure::Misread),
-    },
-    Event::Step {
-        did: Move::Finish { worker: 0 },
-        reply: Reply::Finished(Ending::Gone),
-    },
-];
+const MISREAD: &str = "take 0 = taken 0
+fix 0 16 = mustread 0
+came 0 16 0 = failed misread
+finish 0 = gone
+";
 
 /// A mark outlives the life, also of a page that isn't cached: what another device has there is a stale page.
 #[test]
-fn a_stale_page_is_found_in_the_next_life(rt: HostRuntime) -> Result<(), Fail> {
-    let text = format!(in rt.alloc();
-        "frames = 1\npage_bytes = 64\nworkers = 1\nflushes = 4\n{REGIONS}"
-    )?;
-    let settings = Settings::from_text(rt.alloc(), &text)?;
-    let blank = SoloDevice::new(rt.alloc(), 24, 64)?;
-    let mut stand = stand_of(rt.alloc(), &settings)?;
+fn a_stale_page_is_found_in_the_next_life(rt: HostRuntime) {
+    let alloc: Global = rt.alloc();
+    let settings = settings_of(&rt, alloc, ONE_FRAME);
+    let (mut text, mut unused) = (String::new(alloc), String::new(alloc));
+    let mut stand = new_stand(&rt, alloc, &settings);
     submits(
         &rt,
         &mut stand.book,
-        plan_of(&rt, rt.alloc(), &settings, WRITE),
+        plan_of(&rt, alloc, &settings, WRITE),
         0,
     );
     submits(
         &rt,
         &mut stand.book,
-        plan_of(&rt, rt.alloc(), &settings, TOUCH),
+        plan_of(&rt, alloc, &settings, TOUCH),
         1,
     );
-    let (mut stand, _log) = works(&rt, rt.alloc(), &settings, stand);
-    let _journal = renewed(&rt, &mut stand.book, Journal::new(rt.alloc()));
-    let began = stand.book.began();
-    let of_page = (began.frame_of(16), began.is_dirty(16), began.mark(16));
-    submits(
-        &rt,
-        &mut stand.book,
-        plan_of(&rt, rt.alloc(), &settings, READ),
-        0,
-    );
-    let Stand {
-        book,
-        hands,
-        device: _,
-    } = stand;
-    let stand = Stand {
-        book,
-        hands,
-        device: blank,
-    };
-    let (stand, log) = works(&rt, rt.alloc(), &settings, stand);
-    let Stand {
-        book,
-        hands,
-        device: _,
-    } = stand;
-    let _next = book.close(hands);
-    assert!(rt; of_page == (None, false, Some(1)), "{of_page:?}");
-    same_events(&rt, &log.to_events(rt.alloc())?, MISREAD);
-    Ok(())
+    let (mut stand, _log) = does(&rt, alloc, &settings, stand);
+    renews(&rt, alloc, &mut stand.book, &mut unused);
+    note_began(&stand.book, &mut text);
+    stand.device = disk_of(&rt, alloc, 24, 64, 0);
+    let stand = life(&rt, alloc, &settings, stand, READ, &mut text);
+    let _next = close(stand);
+    let want = together(&rt, alloc, &["began 999 0 1 1 0 0 0 0\n", MISREAD]);
+    same_text(&rt, "another device", &text, &want);
 }

@@ -1,13 +1,14 @@
 //! Two workers on one thread, turn by turn.
 
+use crate::noting::{Noting, Picks};
+use crate::stand::{
+    Disk, Stand, disk_of, hand_of, plan_of, put_back, settings_of, stand_of, submits,
+};
 use core::mem;
-use pp_cert::Accepted;
-use pp_device::SoloDevice;
-use pp_pool::{Book, Event, Journal, OwnSite, Turned, Work, Worker};
+use pp_pool::{Book, Event, Journal, OwnSite, Turned, Worker};
 use pp_settings::Settings;
-use pp_test_plain::accepted;
 use pp_test_plain::samples::{SCAN, SETTINGS};
-use pp_vault::{Ending, Hands, Reply};
+use pp_vault::{Ending, Hand, Hands, Reply};
 use std::alloc::Global;
 use std::process::Abort;
 use std::test::*;
@@ -22,45 +23,15 @@ const DOWN: &str =
 /// How many plans there are, half of them of either kind.
 const PLANS: u32 = 20;
 
-/// Picks pages and branches that look like chance, the same each time.
-#[derive(Drop)]
-struct Varied {
-    seed: u64,
-}
-
-impl Varied {
-    /// The next number.
-    fn next(&mut self) -> u32 {
-        self.seed = self
-            .seed
-            .wrapping_mul(6_364_136_223_846_793_005)
-            .wrapping_add(1_442_695_040_888_963_407);
-        (self.seed >> 33) as u32
-    }
-}
-
-impl Work for Varied {
-    fn page(&mut self, _region: u8, first: u32, count: u32) -> u32 {
-        first + self.next() % count
-    }
-
-    fn branch(&mut self, count: u16) -> u16 {
-        (self.next() % u32::from(count)) as u16
-    }
-
-    fn change(&mut self, _page: u32, body: &mut [u8]) {
-        for byte in body.iter_mut() {
-            *byte = byte.wrapping_add(1);
-        }
-    }
-
-    fn see(&mut self, _page: u32, _mark: u64, _image: &[u8]) {}
-}
-
 /// Two workers, of whom the one that moves next has the book and the device, and the other those that aren't used.
 struct Pair {
-    first: Worker<OwnSite, SoloDevice>,
-    second: Worker<OwnSite, SoloDevice>,
+    first: Worker<OwnSite, Disk>,
+    second: Worker<OwnSite, Disk>,
+}
+
+/// The worker takes a turn.
+fn turn(worker: &mut Worker<OwnSite, Disk>, work: &mut Noting) -> Turned {
+    worker.turn(work)
 }
 
 impl Pair {
@@ -71,17 +42,17 @@ impl Pair {
     }
 
     /// Each worker moves once; how its turn ended.
-    fn round(&mut self, work: &mut Varied) -> (Turned, Turned) {
-        let first = self.first.turn(work);
+    fn round(&mut self, work: &mut Noting) -> (Turned, Turned) {
+        let first = turn(&mut self.first, work);
         self.pass();
-        let second = self.second.turn(work);
+        let second = turn(&mut self.second, work);
         self.pass();
         (first, second)
     }
 
     /// Rounds until neither worker has anything to do; whether it came to that.
-    fn run(&mut self, work: &mut Varied) -> bool {
-        for _ in 0..2_000 {
+    fn run(&mut self, work: &mut Noting) -> bool {
+        for _round in 0..2_000 {
             match self.round(work) {
                 (Turned::Ended, Turned::Ended) => return true,
                 (Turned::Broken | Turned::NoMemory, _) => return false,
@@ -96,142 +67,120 @@ impl Pair {
 /// The journal, and what either worker noted.
 #[derive(Drop)]
 struct Notes {
-    journal: Vec<Event>,
-    first: Vec<Event>,
-    second: Vec<Event>,
+    journal: Journal,
+    first: Journal,
+    second: Journal,
 }
 
-/// Puts a worker's hand back, and gives its log.
-fn ended(
+/// A worker with this number over a stand, whose hands stay behind.
+fn worker_of(
     rt: &impl Abort,
-    worker: Worker<OwnSite, SoloDevice>,
-    hands: &mut Hands,
-) -> (Book, Journal) {
-    let (site, _device, hand, log) = worker.end();
-    match hands.join(hand) {
-        Ok(()) => {}
-        Err(_) => panic!(rt; "the hand has no place"),
-    }
-    let OwnSite { book } = site;
+    alloc: Global,
+    settings: &Settings,
+    book: Book,
+    hand: Hand,
+) -> Worker<OwnSite, Disk> {
+    let device = disk_of(rt, alloc, 24, 64, 0);
+    Worker::new(alloc, OwnSite { book }, device, hand, settings)
+}
+
+/// Puts a worker's hand back, and gives its book and its log.
+fn ended(rt: &impl Abort, worker: Worker<OwnSite, Disk>, hands: &mut Hands) -> (Book, Journal) {
+    let (OwnSite { book }, _device, hand, log) = worker.end();
+    put_back(rt, hands, hand);
     (book, log)
 }
 
-/// Two workers do what waits in the book.
-fn do_plans(
+/// Two workers do what waits in the book. The second one has another book meanwhile, in which nothing waits.
+fn both_work(
     rt: &impl Abort,
     alloc: Global,
     settings: &Settings,
-    book: (Book, Hands),
-    devices: (SoloDevice, SoloDevice),
-) -> Result<Notes, Fail> {
-    let (book, mut hands) = book;
-    let Ok((unused, unused_hands)) = Book::new(alloc, settings) else {
-        panic!(rt; "no memory")
-    };
-    let Some(first) = hands.part(0) else {
-        panic!(rt; "no hand")
-    };
-    let Some(second) = hands.part(1) else {
-        panic!(rt; "no hand")
-    };
+    stand: Stand,
+    unused: Stand,
+) -> Notes {
+    let Stand {
+        book,
+        mut hands,
+        device: _,
+    } = stand;
+    let Stand {
+        book: other,
+        hands: other_hands,
+        device: _,
+    } = unused;
+    let (first, second) = (hand_of(rt, &mut hands, 0), hand_of(rt, &mut hands, 1));
     let mut pair = Pair {
-        first: Worker::new(alloc, OwnSite { book }, devices.0, first, settings),
-        second: Worker::new(alloc, OwnSite { book: unused }, devices.1, second, settings),
+        first: worker_of(rt, alloc, settings, book, first),
+        second: worker_of(rt, alloc, settings, other, second),
     };
-    let is_done = pair.run(&mut Varied { seed: 1 });
-    assert!(rt; is_done, "the workers don't end");
+    let is_done = pair.run(&mut Noting::new(alloc, Picks::Chance, usize::MAX));
+    if !is_done {
+        panic!(rt; "the workers don't end");
+    }
     let Pair { first, second } = pair;
     let (book, first) = ended(rt, first, &mut hands);
-    let (unused, second) = ended(rt, second, &mut hands);
-    let _nothing = unused.close(unused_hands);
-    let journal = book.close(hands);
-    Ok(Notes {
-        journal: journal.to_events(alloc)?,
-        first: first.to_events(alloc)?,
-        second: second.to_events(alloc)?,
-    })
-}
-
-/// A book in which the plans wait.
-fn filled(
-    rt: &impl Abort,
-    alloc: Global,
-    settings: &Settings,
-    plans: Vec<Accepted>,
-) -> Result<(Book, Hands), Fail> {
-    let (mut book, hands) = Book::new(alloc, settings)?;
-    for plan in plans {
-        let is_taken_in = book.submit(plan).is_ok();
-        assert!(rt; is_taken_in, "not taken in");
+    let (other, second) = ended(rt, second, &mut hands);
+    let _nothing = other.close(other_hands);
+    Notes {
+        journal: book.close(hands),
+        first,
+        second,
     }
-    Ok((book, hands))
-}
-
-/// The plans, by turns of either kind.
-fn all_plans(alloc: Global, settings: &Settings) -> Result<Vec<Accepted>, Fail> {
-    let mut plans = Vec::new(alloc);
-    for number in 0..PLANS {
-        let text = if number % 2 == 0 { DOWN } else { SCAN };
-        plans.push(accepted(alloc, settings, text)?)?;
-    }
-    Ok(plans)
 }
 
 /// How many plans the events end at their end.
-fn done_in(events: &[Event]) -> usize {
-    events
-        .iter()
-        .filter(|event| {
-            matches!(
-                event,
-                Event::Step {
-                    reply: Reply::Finished(Ending::Done),
-                    ..
-                }
-            )
-        })
-        .count()
+fn done_in(events: &Journal) -> u32 {
+    let mut done = 0u32;
+    for event in events {
+        if let Event::Step {
+            reply: Reply::Finished(Ending::Done),
+            ..
+        } = event
+        {
+            done = done.saturating_add(1);
+        }
+    }
+    done
 }
 
 /// Whether the journal, its submits apart, is made of the two logs, each in its order.
-fn is_made_of(journal: &[Event], first: &[Event], second: &[Event]) -> bool {
-    let (mut first, mut second) = (first.iter(), second.iter());
-    let (mut of_first, mut of_second) = (first.next(), second.next());
+fn is_made_of(journal: &Journal, first: &Journal, second: &Journal) -> bool {
+    let (mut of_first, mut of_second) = (0usize, 0usize);
     for event in journal {
         if matches!(event, Event::Submit { .. }) {
             continue;
         }
-        if Some(event) == of_first {
-            of_first = first.next();
-        } else if Some(event) == of_second {
-            of_second = second.next();
+        if first.get(of_first) == Some(event) {
+            of_first = of_first.saturating_add(1);
+        } else if second.get(of_second) == Some(event) {
+            of_second = of_second.saturating_add(1);
         } else {
             return false;
         }
     }
-    of_first.is_none() && of_second.is_none()
+    of_first == first.len() && of_second == second.len()
 }
 
 /// Twenty plans with loops and choices come to their end under three frames, and the journal is made of the two logs.
 #[test]
-fn two_workers_do_twenty_plans(rt: HostRuntime) -> Result<(), Fail> {
-    let alloc = rt.alloc();
-    let settings = Settings::from_text(alloc, SETTINGS)?;
-    let devices = (
-        SoloDevice::new(alloc, 24, 64)?,
-        SoloDevice::new(alloc, 24, 64)?,
-    );
-    let plans = all_plans(alloc, &settings)?;
-    let book = filled(&rt, alloc, &settings, plans)?;
-    let notes = do_plans(&rt, alloc, &settings, book, devices)?;
-    assert!(rt; done_in(&notes.journal) == 20, "a plan isn't done");
-    assert!(rt;
-        done_in(&notes.first) > 0 && done_in(&notes.second) > 0,
-        "a worker did nothing"
-    );
-    assert!(rt;
-        is_made_of(&notes.journal, &notes.first, &notes.second),
-        "the journal isn't made of the logs"
-    );
-    Ok(())
+fn two_workers_do_twenty_plans(rt: HostRuntime) {
+    let alloc: Global = rt.alloc();
+    let settings = settings_of(&rt, alloc, SETTINGS);
+    let device = disk_of(&rt, alloc, 24, 64, 0);
+    let mut stand = stand_of(&rt, alloc, &settings, device);
+    for number in 0..PLANS {
+        let text = if number % 2 == 0 { DOWN } else { SCAN };
+        let plan = plan_of(&rt, alloc, &settings, text);
+        submits(&rt, &mut stand.book, plan, number);
+    }
+    let unused = stand_of(&rt, alloc, &settings, disk_of(&rt, alloc, 24, 64, 0));
+    let notes = both_work(&rt, alloc, &settings, stand, unused);
+    let (first, second) = (done_in(&notes.first), done_in(&notes.second));
+    if first == 0 || second == 0 || first.saturating_add(second) != PLANS {
+        panic!(rt; "{first} plans are done by one worker, and {second} by the other");
+    }
+    if !is_made_of(&notes.journal, &notes.first, &notes.second) {
+        panic!(rt; "the journal isn't made of the logs");
+    }
 }
