@@ -1,4 +1,9 @@
+mod Apart
+mod Beside
 mod Formatting
+mod Memory
+mod Misused
+mod Putting
 mod Ran
 mod Stopping
 mod Written

@@ -17,7 +17,7 @@ use Rattle.pp_cli.specs.declared.files.Unread.TheVariants.{File, Memory}
 pub stopped_among : (few all : List Text) (why : Unread)
     → ((path : Text) → Contains few path → Contains all path)
     → IsStopped few (stopped_by why) → IsStopped all (stopped_by why)
-stopped_among few all (File path) more stopped = more path.now stopped
+stopped_among few all (File fault) more stopped = more fault.path.now stopped
 stopped_among few all Memory more stopped = tt
 
 -- The second of some paths is one of them.

@@ -1,3 +1,9 @@
+pub mod Clashes
+pub mod Faults
+pub mod Journals
+pub mod Notes
 pub mod Telling
+pub mod Traces
+pub mod Warnings
 pub mod Runs
 pub mod Texts

@@ -1,28 +1,41 @@
-//! What explains a refusal, for standard error behind its line on standard output.
+//! What explains a refusal, or warns of a text that is accepted, for standard error behind what stands on standard output.
 
-ghost use Rattle.std.specs.Prelude.{◌≡◌, ◌∷◌, [], IfOk, IfSome, length};
+ghost use Rattle.std.specs.Prelude.{◌≡◌, ◌∷◌, [], IfOk, IfSome, length, option_map};
 ghost use Rattle.pp_explain.specs.Paragraphs.{IsAbout, paths_in, paths_of};
 ghost use Rattle.pp_words.specs.CommandLine.{texts};
 
-use pp_explain::{Refused, Source, Sources, explain};
+use pp_explain::{Refused, Source, Sources, explain, repeated};
 use pp_judge::{Exit, JudgeError};
 use pp_simulate::SimulateError;
 use std::alloc::{AllocError, Global};
 
-/// What explains the exit, where it is a refusal of these files. Nothing where memory runs out for it.
+/// What explains the exit, where it is a refusal of these files; else a warning of a key that stands twice in one of them.
+/// Nothing where memory runs out for it.
 pub fn explained(alloc: Global, files: Sources<'_>, exit: &Exit<'_>) -> Option<Vec<u8>>
     // A paragraph about one of the files.
-    ensures { IfSome result (λ text. IsAbout (paths_of files.entry) text.items) }
+    ensures { IfSome (option_map (λ text. text.items) result) (IsAbout (paths_of files.entry)) }
 {
     match exit {
         Exit::Refused(refusal) => explained_as(alloc, files, refused_as(*refusal)?),
-        _ => None,
+        _ => warned(alloc, files),
+    }
+}
+
+/// A warning of a key that stands twice in one of these files, of which the grammar takes the last one. Nothing where memory
+/// runs out for it.
+#[tactic(auto, using(crate::proofs::Beside::lifted))]
+fn warned(alloc: Global, files: Sources<'_>) -> Option<Vec<u8>>
+    ensures { IfSome (option_map (λ text. text.items) result) (IsAbout (paths_of files.entry)) }
+{
+    match repeated(alloc, files) {
+        Ok(text) => text,
+        Err(AllocError) => None,
     }
 }
 
 /// The same of settings alone.
 pub fn explained_alone(alloc: Global, settings: Source<'_>, exit: &Exit<'_>) -> Option<Vec<u8>>
-    ensures { IfSome result (λ text. IsAbout (settings.entry.path.now ∷ []) text.items) }
+    ensures { IfSome (option_map (λ text. text.items) result) (IsAbout (settings.entry.path.now ∷ [])) }
 {
     let sources = Sources {
         settings,
@@ -33,8 +46,9 @@ pub fn explained_alone(alloc: Global, settings: Source<'_>, exit: &Exit<'_>) -> 
 }
 
 /// What explains that the files are refused so. Nothing where memory runs out for it.
+#[tactic(auto, using(crate::proofs::Beside::lifted))]
 pub fn explained_as(alloc: Global, files: Sources<'_>, refused: Refused) -> Option<Vec<u8>>
-    ensures { IfSome result (λ text. IsAbout (paths_of files.entry) text.items) }
+    ensures { IfSome (option_map (λ text. text.items) result) (IsAbout (paths_of files.entry)) }
 {
     match explain(alloc, files, refused) {
         Ok(told) => told,
@@ -73,21 +87,38 @@ pub struct Texts<'a> {
 impl Texts<'_> {
     ghost use Rattle.pp_cli.specs.Texts.{paths_at};
 
-    /// What explains the exit, where it is a refusal of these texts. Nothing where memory runs out for it.
+    /// What explains the exit, where it is a refusal of these texts; else a warning of a key that stands twice in one of
+    /// them. Nothing where memory runs out for it.
     pub fn explained(&self, alloc: Global, exit: &Exit<'_>) -> Option<Vec<u8>>
         requires { length self.now.paths.now ≡ length self.now.plans.now }
-        ensures { IfSome result (λ text. IsAbout (paths_at self.now) text.items) }
+        ensures { IfSome (option_map (λ text. text.items) result) (IsAbout (paths_at self.now)) }
     {
         match exit {
             Exit::Refused(refusal) => self.explained_as(alloc, refused_as(*refusal)?),
-            _ => None,
+            _ => self.warned(alloc),
         }
     }
 
     /// What explains that they are refused so. Nothing where memory runs out for it.
     pub fn explained_as(&self, alloc: Global, refused: Refused) -> Option<Vec<u8>>
         requires { length self.now.paths.now ≡ length self.now.plans.now }
-        ensures { IfSome result (λ text. IsAbout (paths_at self.now) text.items) }
+        ensures { IfSome (option_map (λ text. text.items) result) (IsAbout (paths_at self.now)) }
+    {
+        self.told(alloc, Some(refused))
+    }
+
+    /// A warning of a key that stands twice in one of them. Nothing where memory runs out for it.
+    pub fn warned(&self, alloc: Global) -> Option<Vec<u8>>
+        requires { length self.now.paths.now ≡ length self.now.plans.now }
+        ensures { IfSome (option_map (λ text. text.items) result) (IsAbout (paths_at self.now)) }
+    {
+        self.told(alloc, None)
+    }
+
+    /// What explains a refusal of them, or else what there is to warn of in them.
+    fn told(&self, alloc: Global, refused: Option<Refused>) -> Option<Vec<u8>>
+        requires { length self.now.paths.now ≡ length self.now.plans.now }
+        ensures { IfSome (option_map (λ text. text.items) result) (IsAbout (paths_at self.now)) }
     {
         let Ok(plans) = plans_at(alloc, self.paths, self.plans) else {
             return None;
@@ -97,7 +128,10 @@ impl Texts<'_> {
             other: self.other,
             plans: &plans,
         };
-        explained_as(alloc, sources, refused)
+        match refused {
+            Some(refused) => explained_as(alloc, sources, refused),
+            None => warned(alloc, sources),
+        }
     }
 }
 

@@ -1,24 +1,26 @@
 //! Reading and writing the files that a job names, and what the job comes to.
 
-ghost use Rattle.std.specs.Prelude.{◌≡◌, ◌≤◌, ◌∷◌, [], IfOk, IfErr, IfSome, None, MatchResult, length, map, replicate, vec_len};
+ghost use Rattle.std.specs.Prelude.{◌≡◌, ◌≤◌, ◌∷◌, [], IfOk, IfErr, IfSome, None, MatchResult, length, map, option_map, replicate, vec_len};
 ghost use Rattle.std.specs.Io.KnownBytes.{Appends};
-ghost use Rattle.pp_explain.specs.Paragraphs.{IsAbout};
 ghost use Rattle.pp_format.specs.DeviceFile.{blank_file};
 ghost use Rattle.pp_judge.specs.Answers.{ComesTo, audit_answer_of, formatted, seen};
 ghost use Rattle.pp_words.specs.CommandLine.{asked_annotate, asked_audit, asked_by, asked_check, asked_draw};
-ghost use Rattle.pp_words.specs.CommandLine.{asked_format, asked_simulate, texts};
-ghost use Rattle.pp_cli.specs.Runs.{ComesOf, ComesOfWriting, IsStopped, files_of, stopped_by};
+ghost use Rattle.pp_words.specs.CommandLine.{asked_format, asked_simulate, text_in, texts};
+ghost use Rattle.pp_cli.specs.Faults.{IsKeptAt};
+ghost use Rattle.pp_cli.specs.Runs.{ComesOf, ComesOfWriting, ExplainsOf, IsPut, IsStopped, IsWarnedBy, is_text_of, stopped_by};
 
 use crate::bar::Bar;
 use crate::explaining::{Texts, explained, explained_alone, source};
-use crate::fault::fault;
+use crate::fault::{fault_at, unwritten};
+use crate::holding::hold_anew;
+use crate::keeping::keep;
 use crate::running::run;
 use pp_device::image::HEAD;
 use pp_explain::Sources;
 use pp_format::format_onto;
 use pp_judge::{
-    AnnotateFiles, AuditFiles, CheckFiles, Contents, DeviceSize, DrawFiles, Exit, SimulateFiles,
-    device_size, exit_of,
+    AnnotateFiles, AuditFiles, CheckFiles, Contents, DeviceSize, DrawFiles, Exit, Figures,
+    FileFault, SimulateFiles, device_size, exit_of,
 };
 use pp_words::{AnnotatePaths, AuditPaths, CheckPaths, DrawPaths, FormatPaths, Job, SimulatePaths};
 use std::alloc::Global;
@@ -33,8 +35,8 @@ use std::time::Clock;
 /// Why the bytes of a job's files aren't there.
 #[derive(Clone, Copy, Debug)]
 pub enum Unread<'a> {
-    /// The file at this path can't be read.
-    File(&'a str),
+    /// A file can't be read.
+    File(FileFault<'a>),
     /// Memory ran out.
     Memory,
 }
@@ -44,36 +46,41 @@ pub enum Unread<'a> {
 pub fn perform<
     'a,
     R: Files<File = File> + AllocGlobal + Threads + Wait + Clock + Sync + Copy + Send + Drop,
+    E: Write,
     P: Write + Send,
->(rt: &R, job: Job<'a>, bar: &mut Bar<P>, note: &mut Option<Vec<u8>>) -> Exit<'a>
+>(rt: &R, job: Job<'a>, err: &mut E, bar: &mut Bar<P>, note: &mut Option<Vec<u8>>) -> Exit<'a>
     requires { note.old ≡ None }
     ensures comes { ComesOf (asked_by job.entry) (seen result) }
-    ensures explained { IfSome note.new (λ text. IsAbout (files_of (asked_by job.entry)) text.items) }
+    ensures explained { ExplainsOf (asked_by job.entry) (seen result) (option_map (λ text. text.items) note.new) }
+    ensures warned { IsWarnedBy E.contents (asked_by job.entry) err.old err.new }
 {
     let ended = match job {
-        Job::Check(paths) => check(rt, paths, note),
-        Job::Annotate(paths) => annotate(rt, paths, note),
+        Job::Check(paths) => check(rt, paths, bar.terminal(), note),
+        Job::Annotate(paths) => annotate(rt, paths, bar.terminal(), note),
         Job::Simulate(paths) => simulate(rt, paths, note),
         Job::Format(paths) => format(rt, paths, bar, note),
-        Job::Run(paths) => run(rt, paths, bar.terminal(), note),
+        Job::Run(paths) => run(rt, paths, err, bar.terminal(), note),
         Job::Audit(paths) => audit(rt, paths, note),
         Job::Draw(paths) => draw(rt, paths, note),
     };
     match ended {
         Ok(exit) => exit,
-        Err(Unread::File(path)) => Exit::Unread(path),
+        Err(Unread::File(fault)) => Exit::Unread(fault),
         Err(Unread::Memory) => Exit::OutOfMemory,
     }
 }
 
 /// What the three files of `check` come to, where all can be read.
-fn check<'a, R: Files + AllocGlobal>(
+fn check<'a, R: Files + AllocGlobal, P: Write>(
     rt: &R,
     paths: CheckPaths<'a>,
+    terminal: Option<&mut P>,
     note: &mut Option<Vec<u8>>,
 ) -> Result<Exit<'a>, Unread<'a>>
     requires { note.old ≡ None }
-    ensures explained { IfSome note.new (λ text. IsAbout (files_of (asked_check paths.entry)) text.items) }
+    ensures explained { MatchResult result
+        (λ exit. ExplainsOf (asked_check paths.entry) (seen exit) (option_map (λ text. text.items) note.new))
+        (λ why. note.new ≡ None) }
     ensures comes { MatchResult result (λ exit. ComesOf (asked_check paths.entry) (seen exit))
         (λ why. ComesOf (asked_check paths.entry) (stopped_by why)) }
 {
@@ -86,6 +93,7 @@ fn check<'a, R: Files + AllocGlobal>(
         certificate: certificate.as_slice(),
     };
     let exit = exit_of(rt.alloc(), Contents::Check(files));
+    show_figures(&exit, terminal);
     let sources = Sources {
         settings: source(paths.settings, &settings),
         other: Some(source(paths.certificate, &certificate)),
@@ -96,13 +104,16 @@ fn check<'a, R: Files + AllocGlobal>(
 }
 
 /// What the two files of `annotate` come to, where both can be read.
-fn annotate<'a, R: Files + AllocGlobal>(
+fn annotate<'a, R: Files<File = File> + AllocGlobal, P: Write>(
     rt: &R,
     paths: AnnotatePaths<'a>,
+    terminal: Option<&mut P>,
     note: &mut Option<Vec<u8>>,
 ) -> Result<Exit<'a>, Unread<'a>>
     requires { note.old ≡ None }
-    ensures explained { IfSome note.new (λ text. IsAbout (files_of (asked_annotate paths.entry)) text.items) }
+    ensures explained { MatchResult result
+        (λ exit. ExplainsOf (asked_annotate paths.entry) (seen exit) (option_map (λ text. text.items) note.new))
+        (λ why. note.new ≡ None) }
     ensures comes { MatchResult result (λ exit. ComesOf (asked_annotate paths.entry) (seen exit))
         (λ why. ComesOf (asked_annotate paths.entry) (stopped_by why)) }
 {
@@ -119,7 +130,95 @@ fn annotate<'a, R: Files + AllocGlobal>(
         plans: &[source(paths.plan, &plan)],
     };
     *note = explained(rt.alloc(), sources, &exit);
-    Ok(exit)
+    show_made(rt.alloc(), files, &exit, terminal);
+    Ok(put_out(rt, paths.output, exit))
+}
+
+/// Shows the figures of the plan whose certificate was made, where there is a terminal.
+fn show_made<P: Write>(
+    alloc: Global,
+    files: AnnotateFiles<'_>,
+    exit: &Exit<'_>,
+    terminal: Option<&mut P>,
+) {
+    if terminal.is_some() {
+        show_figures(&checked_again(alloc, files, exit), terminal);
+    }
+}
+
+/// What a check of the certificate comes to that was made.
+fn checked_again<'a>(alloc: Global, files: AnnotateFiles<'_>, exit: &Exit<'_>) -> Exit<'a> {
+    let Exit::Made(text) = exit else {
+        return Exit::Kept;
+    };
+    let files = CheckFiles {
+        settings: files.settings,
+        plan: files.plan,
+        certificate: text.as_bytes(),
+    };
+    exit_of(alloc, Contents::Check(files))
+}
+
+/// Shows the figures of an accepted plan on the terminal, where there is one.
+fn show_figures<P: Write>(exit: &Exit<'_>, terminal: Option<&mut P>) {
+    if let (Exit::Done(Figures { peak, steps, cost }), Some(terminal)) = (exit, terminal) {
+        let _ = writeln!(
+            terminal,
+            "peak {peak} of the pool's frames, at most {steps} steps, cost {cost} of 4000000"
+        );
+    }
+}
+
+/// What a text comes to that goes to a file where one is named: nothing is printed then. Another answer stays.
+fn put_out<'a, R: Files<File = File> + AllocGlobal>(
+    rt: &R,
+    output: Option<&'a str>,
+    exit: Exit<'a>,
+) -> Exit<'a>
+    ensures { IsPut (text_in output.entry) (seen exit.entry) (seen result) }
+{
+    match output {
+        Some(path) if is_text(&exit) => put_text(rt, path, exit),
+        _ => exit,
+    }
+}
+
+/// Whether the exit has a text that may go to a file.
+fn is_text(exit: &Exit<'_>) -> bool
+    ensures { result ≡ is_text_of (seen exit.now) }
+{
+    matches!(exit, Exit::Made(_) | Exit::Drawn(_))
+}
+
+/// What a text comes to that goes to the file at the path.
+fn put_text<'a, R: Files<File = File> + AllocGlobal>(
+    rt: &R,
+    path: &'a str,
+    exit: Exit<'a>,
+) -> Exit<'a>
+    ensures { IsKeptAt path.entry.now (seen result) }
+{
+    match exit {
+        Exit::Made(text) => keep_made(rt, path, text),
+        Exit::Drawn(text) => keep(rt, path, text.as_str()),
+        // No other exit has one.
+        _ => Exit::Kept,
+    }
+}
+
+/// What a certificate comes to that goes to a file. It gets the line feed that is printed behind it.
+fn keep_made<'a, R: Files<File = File> + AllocGlobal>(
+    rt: &R,
+    path: &'a str,
+    text: String,
+) -> Exit<'a>
+    ensures { IsKeptAt path.entry.now (seen result) }
+{
+    let mut text = text;
+    match text.push_str("\n") {
+        Ok(()) => keep(rt, path, text.as_str()),
+        Err(_) => Exit::OutOfMemory,
+    }
 }
 
 /// What the files of `simulate` come to, where all can be read.
@@ -129,7 +228,9 @@ fn simulate<'a, R: Files + AllocGlobal>(
     note: &mut Option<Vec<u8>>,
 ) -> Result<Exit<'a>, Unread<'a>>
     requires { note.old ≡ None }
-    ensures explained { IfSome note.new (λ text. IsAbout (files_of (asked_simulate paths.entry)) text.items) }
+    ensures explained { MatchResult result
+        (λ exit. ExplainsOf (asked_simulate paths.entry) (seen exit) (option_map (λ text. text.items) note.new))
+        (λ why. note.new ≡ None) }
     ensures comes { MatchResult result (λ exit. ComesOf (asked_simulate paths.entry) (seen exit))
         (λ why. ComesOf (asked_simulate paths.entry) (stopped_by why)) }
 {
@@ -159,7 +260,9 @@ fn audit<'a, R: Files + AllocGlobal>(
     note: &mut Option<Vec<u8>>,
 ) -> Result<Exit<'a>, Unread<'a>>
     requires { note.old ≡ None }
-    ensures explained { IfSome note.new (λ text. IsAbout (files_of (asked_audit paths.entry)) text.items) }
+    ensures explained { MatchResult result
+        (λ exit. ExplainsOf (asked_audit paths.entry) (seen exit) (option_map (λ text. text.items) note.new))
+        (λ why. note.new ≡ None) }
     ensures comes { MatchResult result (λ exit. ComesOf (asked_audit paths.entry) (seen exit))
         (λ why. ComesOf (asked_audit paths.entry) (stopped_by why)) }
 {
@@ -195,13 +298,15 @@ fn audited<'a>(alloc: Global, lives: bool, files: AuditFiles<'_>) -> Exit<'a>
 }
 
 /// What the files of `draw` come to, where all can be read.
-fn draw<'a, R: Files + AllocGlobal>(
+fn draw<'a, R: Files<File = File> + AllocGlobal>(
     rt: &R,
     paths: DrawPaths<'a>,
     note: &mut Option<Vec<u8>>,
 ) -> Result<Exit<'a>, Unread<'a>>
     requires { note.old ≡ None }
-    ensures explained { IfSome note.new (λ text. IsAbout (files_of (asked_draw paths.entry)) text.items) }
+    ensures explained { MatchResult result
+        (λ exit. ExplainsOf (asked_draw paths.entry) (seen exit) (option_map (λ text. text.items) note.new))
+        (λ why. note.new ≡ None) }
     ensures comes { MatchResult result (λ exit. ComesOf (asked_draw paths.entry) (seen exit))
         (λ why. ComesOf (asked_draw paths.entry) (stopped_by why)) }
 {
@@ -222,18 +327,20 @@ fn draw<'a, R: Files + AllocGlobal>(
         plans: &plans,
     };
     *note = files.explained(rt.alloc(), &exit);
-    Ok(exit)
+    Ok(put_out(rt, paths.output, exit))
 }
 
 /// What the settings of `format` come to, where they can be read: their refusal, or what writing the device comes to.
-fn format<'a, R: Files + AllocGlobal, P: Write>(
+fn format<'a, R: Files<File = File> + AllocGlobal, P: Write>(
     rt: &R,
     paths: FormatPaths<'a>,
     bar: &mut Bar<P>,
     note: &mut Option<Vec<u8>>,
 ) -> Result<Exit<'a>, Unread<'a>>
     requires { note.old ≡ None }
-    ensures explained { IfSome note.new (λ text. IsAbout (files_of (asked_format paths.entry)) text.items) }
+    ensures explained { MatchResult result
+        (λ exit. ExplainsOf (asked_format paths.entry) (seen exit) (option_map (λ text. text.items) note.new))
+        (λ why. note.new ≡ None) }
     ensures comes { MatchResult result (λ exit. ComesOf (asked_format paths.entry) (seen exit))
         (λ why. ComesOf (asked_format paths.entry) (stopped_by why)) }
 {
@@ -249,8 +356,9 @@ fn format<'a, R: Files + AllocGlobal, P: Write>(
     }
 }
 
-/// What writing a device of this size anew comes to. What stood in its file is lost; want of memory is told before that.
-fn format_device<'a, R: Files + AllocGlobal, P: Write>(
+/// What writing a device of this size anew comes to. What stood in its file is lost; want of memory, and that it is in use,
+/// are told before that.
+fn format_device<'a, R: Files<File = File> + AllocGlobal, P: Write>(
     rt: &R,
     device: &'a str,
     size: DeviceSize,
@@ -262,9 +370,9 @@ fn format_device<'a, R: Files + AllocGlobal, P: Write>(
     let Ok(image) = Vec::from_elem(rt.alloc(), 0, size.page_bytes as usize) else {
         return Exit::OutOfMemory;
     };
-    match fs::create(rt, device) {
+    match hold_anew(rt, device) {
         Ok(mut file) => format_opened(&mut file, image, device, size, bar),
-        Err(error) => fault(&error, Exit::Unwritten(device)),
+        Err(exit) => exit,
     }
 }
 
@@ -289,7 +397,7 @@ fn format_opened<'a, W: Write, P: Write>(
     bar.end();
     match written {
         Ok(()) => Exit::Formatted(size.pages),
-        Err(error) => fault(&error, Exit::Unwritten(device)),
+        Err(error) => unwritten(device, &error),
     }
 }
 
@@ -300,7 +408,7 @@ pub fn contents<'a, R: Files + AllocGlobal>(rt: &R, path: &'a str) -> Result<Vec
     match fs::read(rt, path) {
         Ok(bytes) => Ok(bytes),
         Err(error) if error.kind() == ErrorKind::OutOfMemory => Err(Unread::Memory),
-        Err(_) => Err(Unread::File(path)),
+        Err(error) => Err(Unread::File(fault_at(path, &error))),
     }
 }
 

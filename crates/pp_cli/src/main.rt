@@ -3,12 +3,19 @@
 #![tactic(auto)]
 
 mod bar;
+mod clashing;
 mod explaining;
 mod fault;
 mod files;
+mod holding;
+mod journal;
+mod keeping;
+mod looking;
+mod noting;
 mod program;
 mod running;
 mod telling;
+mod tracing;
 mod writing;
 
 use program::serve;

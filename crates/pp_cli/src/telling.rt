@@ -4,14 +4,14 @@ ghost use Rattle.std.specs.Prelude.{◌≡◌, IfSome, IsTrue, OnOk, option_map,
 ghost use Rattle.std.specs.Io.KnownBytes.{Appends};
 ghost use Rattle.pp_judge.specs.Answers.{is_output_of, seen};
 ghost use Rattle.pp_judge.specs.Lines.{text_of};
-ghost use Rattle.pp_cli.specs.Telling.{IsBehind, IsTold, is_refusal_of};
+ghost use Rattle.pp_cli.specs.Telling.{IsBehind, IsTold, has_more_of};
 
-use crate::fault::fault;
+use crate::fault::unwritten;
 use crate::writing::put;
 use pp_judge::Exit;
 use std::fmt::Display;
 use std::io;
-use std::io::Write;
+use std::io::{ErrorKind, Write};
 
 /// How a run ends, once that is told.
 #[derive(Debug, Drop)]
@@ -22,8 +22,9 @@ pub struct Told<'a> {
     pub is_whole: bool,
 }
 
-/// Says what the exit has to say where it belongs, and behind a refusal what explains it on standard error. Where
-/// standard output doesn't take its text, standard error says so, and nothing is explained.
+/// Says what the exit has to say where it belongs, and behind it what more there is on standard error.
+/// Where standard output doesn't take its text, standard error says so, and nothing more; where nobody reads standard output
+/// any more, it says nothing.
 pub fn tell<'a, O: Write, E: Write>(
     exit: Exit<'a>,
     note: Option<&[u8]>,
@@ -31,14 +32,14 @@ pub fn tell<'a, O: Write, E: Write>(
     err: &mut E,
 ) -> Told<'a>
     // An output has exactly its text more on standard output, and nothing more on standard error but a front of what
-    // explains a refusal; a complaint leaves standard output as it was; only an output gives way to a fault of writing.
+    // comes behind it; a complaint leaves standard output as it was; only an output gives way to a fault of writing.
     ensures told { IsTold O.contents E.contents (option_map (λ text. text.now) note.entry) (seen exit.entry)
         (seen result.exit) out.old out.new err.old err.new }
     // A complaint that is whole has exactly its text more on standard error.
     ensures whole { is_output_of (seen result.exit) ≡ false → IsTrue result.is_whole
         → Appends (E.contents err.old) (E.contents err.new) (text_of (seen result.exit)) }
-    // A refusal that is whole has exactly what explains it more on standard error.
-    ensures explained { is_refusal_of (seen result.exit) ≡ true → IsTrue result.is_whole
+    // An output that is whole has exactly what comes behind it more on standard error.
+    ensures explained { has_more_of (seen result.exit) ≡ true → IsTrue result.is_whole
         → IfSome note.entry (λ text. Appends (E.contents err.old) (E.contents err.new) text.now) }
 {
     if !exit.is_output() {
@@ -49,29 +50,48 @@ pub fn tell<'a, O: Write, E: Write>(
             let is_whole = explain(&exit, note, err);
             Told { exit, is_whole }
         }
-        Err(error) => complain(fault(&error, Exit::Unwritten("-")), err),
+        Err(error) => {
+            let exit = unwritten("-", &error);
+            if error.kind() == ErrorKind::BrokenPipe {
+                return Told {
+                    exit,
+                    is_whole: false,
+                };
+            }
+            complain(exit, err)
+        }
     }
 }
 
-/// Writes what explains a refusal to standard error, and nothing behind another output. Whether that took all of it; what
-/// it doesn't take is lost.
+/// Writes what comes behind an output to standard error. Whether that took all of it; what it doesn't take is lost.
 fn explain<E: Write>(exit: &Exit<'_>, note: Option<&[u8]>, err: &mut E) -> bool
-    ensures behind { IsBehind E.contents (is_refusal_of (seen exit.now)) (option_map (λ text. text.now) note.entry)
+    ensures behind { IsBehind E.contents (has_more_of (seen exit.now)) (option_map (λ text. text.now) note.entry)
         err.old err.new }
-    ensures whole { IsTrue result → is_refusal_of (seen exit.now) ≡ true
+    ensures whole { IsTrue result → has_more_of (seen exit.now) ≡ true
         → IfSome note.entry (λ text. Appends (E.contents err.old) (E.contents err.new) text.now) }
 {
     match note {
-        Some(text) if is_refusal(exit) => put(err, text),
+        Some(text) if has_more(exit) => put(err, text),
         _ => true,
     }
 }
 
-/// Whether the exit is the refusal of a file, or of a run.
-fn is_refusal(exit: &Exit<'_>) -> bool
-    ensures { result ≡ is_refusal_of (seen exit.now) }
+/// Whether standard error may have more behind the exit: it is what some texts come to.
+fn has_more(exit: &Exit<'_>) -> bool
+    ensures { result ≡ has_more_of (seen exit.now) }
 {
-    matches!(exit, Exit::Refused(_) | Exit::Stopped(_))
+    matches!(
+        exit,
+        Exit::Done(_)
+            | Exit::Made(_)
+            | Exit::Simulated(_)
+            | Exit::Ran(_)
+            | Exit::Stopped(_)
+            | Exit::Audited(_)
+            | Exit::Drawn(_)
+            | Exit::Refused(_)
+            | Exit::Kept
+    )
 }
 
 /// Says the exit on standard error. What that doesn't take is lost.

@@ -78,7 +78,7 @@ pub fn explain(
 
 /// One of the files.
 #[derive(Clone, Copy)]
-enum Which {
+pub(crate) enum Which {
     Settings,
     Other,
     /// The plan of this number.
@@ -87,20 +87,20 @@ enum Which {
 
 /// What is said, and of which file.
 #[derive(Drop)]
-struct Finding {
-    which: Which,
-    said: Said,
+pub(crate) struct Finding {
+    pub(crate) which: Which,
+    pub(crate) said: Said,
 }
 
 impl Finding {
-    fn of(which: Which, said: Said) -> Option<Finding> {
+    pub(crate) fn of(which: Which, said: Said) -> Option<Finding> {
         Some(Finding { which, said })
     }
 }
 
 /// The paragraph of what is said of one of the files, where there is such a file.
 #[tactic(auto, using(crate::proofs::About::abouts))]
-fn told(
+pub(crate) fn told(
     alloc: Global,
     files: Sources<'_>,
     which: Which,

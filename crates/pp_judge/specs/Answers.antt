@@ -19,7 +19,8 @@ use Rattle.pp_judge.specs.declared.error.JudgeError.TheVariants as judge_error
 use Rattle.pp_judge.specs.declared.exit.Figures.{Figures}
 use Rattle.pp_judge.specs.declared.exit.Exit.{Exit}
 use Rattle.pp_judge.specs.declared.exit.Exit.TheVariants.{Done, Made, Simulated, Formatted, Ran, Stopped, Audited, Drawn}
-use Rattle.pp_judge.specs.declared.exit.Exit.TheVariants.{Shown, Refused, Misused, Wordless, Unread, Unwritten, OutOfMemory}
+use Rattle.pp_judge.specs.declared.exit.Exit.TheVariants.{Shown, Kept, Refused, Misused, Wordless, InUse, Unread}
+use Rattle.pp_judge.specs.declared.exit.Exit.TheVariants.{Unwritten, OutOfMemory}
 
 -- what a run comes to; texts are their bytes
 pub data Answer : Type 0 where
@@ -35,8 +36,10 @@ pub data Answer : Type 0 where
   refused : JudgeError → Answer
   misused : (text : List ℕ) → Answer
   wordless : Answer
-  unread : (path : List ℕ) → Answer
-  unwritten : (path : List ℕ) → Answer
+  kept : Answer
+  in_use : (path : List ℕ) → Answer
+  unread : (path cause : List ℕ) → Answer
+  unwritten : (path cause : List ℕ) → Answer
   out_of_memory : Answer
 
 -- an exit, as it is seen
@@ -53,8 +56,10 @@ seen (Shown text) = shown (string_bytes text)
 seen (Refused refusal) = refused refusal
 seen (Misused text) = misused (string_bytes text)
 seen Wordless = wordless
-seen (Unread path) = unread path.now
-seen (Unwritten path) = unwritten path.now
+seen Kept = kept
+seen (InUse path) = in_use path.now
+seen (Unread fault) = unread fault.path.now fault.cause.now
+seen (Unwritten fault) = unwritten fault.path.now fault.cause.now
 seen OutOfMemory = out_of_memory
 
 -- 0 done, 1 refused, 2 a bad command line, 3 a fault of a file or a run that went wrong, 4 out of memory
@@ -71,8 +76,10 @@ status_of (shown text) = 0
 status_of (refused refusal) = 1
 status_of (misused text) = 2
 status_of wordless = 2
-status_of (unread path) = 3
-status_of (unwritten path) = 3
+status_of kept = 0
+status_of (in_use path) = 3
+status_of (unread path cause) = 3
+status_of (unwritten path cause) = 3
 status_of out_of_memory = 4
 
 -- what was asked for goes to standard output, complaints to standard error
@@ -89,8 +96,10 @@ is_output_of (shown text) = true
 is_output_of (refused refusal) = true
 is_output_of (misused text) = false
 is_output_of wordless = false
-is_output_of (unread path) = false
-is_output_of (unwritten path) = false
+is_output_of kept = true
+is_output_of (in_use path) = false
+is_output_of (unread path cause) = false
+is_output_of (unwritten path cause) = false
 is_output_of out_of_memory = false
 
 -- the peak and the steps of an accepted plan, and the most events that a journal needs for it

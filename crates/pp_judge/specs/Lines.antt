@@ -1,5 +1,5 @@
 -- What the program prints.
-use Rattle.std.specs.Prelude.{ℕ, List, ◌++◌, codes}
+use Rattle.std.specs.Prelude.{ℕ, List, [], ◌++◌, codes}
 use Rattle.std.specs.Fmt.{decimal}
 use Rattle.pp_text.specs.Refusals.{Row, refusal_text}
 use Rattle.pp_settings.specs.Refusals.{settings_error_row}
@@ -11,7 +11,7 @@ use Rattle.pp_script.specs.Refusals.{script_error_row}
 use Rattle.pp_simulate.specs.Refusals.{simulate_error_row}
 use Rattle.pp_report.specs.Refusals.{audit_error_row}
 use Rattle.pp_judge.specs.Answers.{Answer, done, made, simulated, formatted, ran, stopped, audited, drawn, shown}
-use Rattle.pp_judge.specs.Answers.{refused, misused, wordless, unread, unwritten, out_of_memory}
+use Rattle.pp_judge.specs.Answers.{kept, refused, misused, wordless, in_use, unread, unwritten, out_of_memory}
 use Rattle.pp_judge.specs.declared.error.JudgeError.{JudgeError}
 use Rattle.pp_judge.specs.declared.error.JudgeError.TheVariants.{Settings, Script, Plan, Certificate, Check, Annotate}
 use Rattle.pp_judge.specs.declared.error.JudgeError.TheVariants.{Simulate, Audit}
@@ -51,6 +51,8 @@ text_of (shown text) = text
 text_of (refused refusal) = refusal_line refusal ++ codes "\n"
 text_of (misused text) = text
 text_of wordless = codes "error: the words can't be read\n"
-text_of (unread path) = codes "fault reading " ++ path ++ codes "\n"
-text_of (unwritten path) = codes "fault writing " ++ path ++ codes "\n"
+text_of kept = []
+text_of (in_use path) = path ++ codes " is in use\n"
+text_of (unread path cause) = codes "fault reading " ++ path ++ codes ": " ++ cause ++ codes "\n"
+text_of (unwritten path cause) = codes "fault writing " ++ path ++ codes ": " ++ cause ++ codes "\n"
 text_of out_of_memory = codes "out of memory\n"

@@ -36,12 +36,25 @@ pub enum Exit<'a> {
     Misused(String),
     /// The words of the command line can't be read.
     Wordless,
-    /// The file at this path can't be read.
-    Unread(&'a str),
-    /// The file at this path can't be written; `-` is standard output.
-    Unwritten(&'a str),
+    /// A text was written to the file that the command names for it, and nothing is printed.
+    Kept,
+    /// The device at this path is in use by another run.
+    InUse(&'a str),
+    /// A file can't be read.
+    Unread(FileFault<'a>),
+    /// A file can't be written.
+    Unwritten(FileFault<'a>),
     /// Memory ran out.
     OutOfMemory,
+}
+
+/// A file that can't be read or written.
+#[derive(Clone, Copy, Debug, PartialEq, Eq)]
+pub struct FileFault<'a> {
+    /// Its path, as it was given; `-` is standard output.
+    pub path: &'a str,
+    /// Why, in the system's words, as in `No such file or directory`.
+    pub cause: &'static str,
 }
 
 /// What is told of plans that were run.
@@ -49,7 +62,7 @@ pub enum Exit<'a> {
 pub struct RunReport {
     /// The report, each line with its line feed.
     pub text: String,
-    /// Whether every plan was done and every flush written.
+    /// Whether every plan was done and every flush written, and the journal kept where one is wanted.
     pub is_well: bool,
 }
 
@@ -99,11 +112,12 @@ impl Exit<'_> {
             | Exit::Formatted(_)
             | Exit::Audited(_)
             | Exit::Drawn(_)
-            | Exit::Shown(_) => 0,
+            | Exit::Shown(_)
+            | Exit::Kept => 0,
             Exit::Ran(report) if report.is_well => 0,
             Exit::Refused(_) | Exit::Stopped(_) => 1,
             Exit::Misused(_) | Exit::Wordless => 2,
-            Exit::Ran(_) | Exit::Unread(_) | Exit::Unwritten(_) => 3,
+            Exit::Ran(_) | Exit::InUse(_) | Exit::Unread(_) | Exit::Unwritten(_) => 3,
             Exit::OutOfMemory => 4,
         }
     }
@@ -122,9 +136,11 @@ impl Exit<'_> {
             | Exit::Audited(_)
             | Exit::Drawn(_)
             | Exit::Shown(_)
+            | Exit::Kept
             | Exit::Refused(_) => true,
             Exit::Misused(_)
             | Exit::Wordless
+            | Exit::InUse(_)
             | Exit::Unread(_)
             | Exit::Unwritten(_)
             | Exit::OutOfMemory => false,
@@ -150,8 +166,12 @@ impl fmt::Display for Exit<'_> {
             | Exit::Shown(text)
             | Exit::Misused(text) => f.write_str(text.as_str()),
             Exit::Wordless => f.write_str("error: the words can't be read\n"),
-            Exit::Unread(path) => writeln!(f, "fault reading {path}"),
-            Exit::Unwritten(path) => writeln!(f, "fault writing {path}"),
+            Exit::Kept => f.write_str(""),
+            Exit::InUse(path) => writeln!(f, "{path} is in use"),
+            Exit::Unread(FileFault { path, cause }) => writeln!(f, "fault reading {path}: {cause}"),
+            Exit::Unwritten(FileFault { path, cause }) => {
+                writeln!(f, "fault writing {path}: {cause}")
+            }
             Exit::OutOfMemory => f.write_str("out of memory\n"),
         }
     }

@@ -18,7 +18,7 @@ pub use contents::{
 pub use device::{DeviceSize, device_size};
 pub use drawing::draw;
 pub use error::JudgeError;
-pub use exit::{Exit, Figures, RunReport};
+pub use exit::{Exit, Figures, FileFault, RunReport};
 pub use judgement::{certify, judge};
 pub use rehearsal::rehearse;
 pub use workload::Workload;

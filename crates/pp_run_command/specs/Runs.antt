@@ -1,5 +1,5 @@
 -- What `run` may come to between its files and its report.
-use Rattle.std.specs.Prelude.{◌≡◌, ℕ, Bool, List, Option, Some, Result, Ok, Err, ⊤}
+use Rattle.std.specs.Prelude.{◌≡◌, ◌⊎◌, ℕ, Bool, false, List, Option, IsSome, ⊤}
 use Rattle.pp_cert.specs.Accepted.{Acceptance}
 use Rattle.pp_core.specs.Opening.{kept_of}
 use Rattle.pp_settings.specs.Settings.{Configuration}
@@ -10,8 +10,7 @@ use Rattle.pp_run.specs.declared.error.RunError.{RunError}
 use Rattle.pp_run.specs.declared.error.RunError.TheVariants as run_error
 use Rattle.pp_shared.specs.declared.error.OpenError.{OpenError}
 use Rattle.pp_shared.specs.declared.error.OpenError.TheVariants as open_error
-use Rattle.pp_judge.specs.Answers.{Answer, ran, stopped, refused, unread, unwritten, out_of_memory}
-use Rattle.pp_judge.specs.declared.error.JudgeError.{JudgeError}
+use Rattle.pp_judge.specs.Answers.{Answer, ran, stopped, unread, out_of_memory}
 use Rattle.pp_run_command.specs.Endings.{stopped_line, went_well}
 use Rattle.pp_report.specs.Reports.{report_text}
 use Rattle.pp_run_command.specs.declared.error.RunCommandError.{RunCommandError}
@@ -37,41 +36,32 @@ abbrev pub IsRunCommandError : Configuration × List Acceptance → RunCommandEr
 IsRunCommandError w (Stopped error) = IsStop w error
 IsRunCommandError w _ = ⊤
 
+-- Whether all went well: every plan was done and every flush written, and where a journal was wanted it was kept.
+abbrev pub IsWell : RunRecord → (journal : Option (List ℕ)) → (is_well : Bool) → Type 0
+IsWell run journal is_well =
+    (is_well ≡ went_well run.events.items) ⊎ ((is_well ≡ false) × IsSome journal)
+
 -- The text is the report of a run of these settings and plans, and it is told whether that went well.
-pub record IsReport (w : Configuration × List Acceptance) (text : List ℕ) (is_well : Bool) : Type 0 where
+pub record IsReport (w : Configuration × List Acceptance) (journal : Option (List ℕ)) (text : List ℕ) (is_well : Bool)
+    : Type 0 where
   pub run : RunRecord
   pub is_run : IsRun (kept_of w.0) w.1 run
   pub text_is : text ≡ report_text run
-  pub well : is_well ≡ went_well run.events.items
+  pub well : IsWell run journal is_well
 
--- What is told of a record: its report, and whether the run went well; or the file of the journal isn't written, or
--- memory ran out.
+-- What is told of a record: its report, and whether all went well; or memory ran out.
 abbrev pub Tells : RunRecord → (journal : Option (List ℕ)) → Answer → Type 0
-Tells run journal (ran text is_well) = (text ≡ report_text run) × (is_well ≡ went_well run.events.items)
-Tells run journal (unwritten path) = journal ≡ Some path
+Tells run journal (ran text is_well) = (text ≡ report_text run) × IsWell run journal is_well
 Tells run journal out_of_memory = ⊤
 Tells run journal _ = ⊥
 
--- The file at the path isn't written, or memory ran out.
-abbrev pub IsUnwritten : (path : List ℕ) → Answer → Type 0
-IsUnwritten path (unwritten other) = other ≡ path
-IsUnwritten path out_of_memory = ⊤
-IsUnwritten path _ = ⊥
-
 -- What a run may come to that is asked for these settings and plans, of the device and with the journal in these files:
 -- its report; the refusal of the first plan that the pool doesn't take in, or what became of a thread; the device isn't
--- opened; the file of the journal isn't written; or memory ran out.
+-- opened; or memory ran out.
 abbrev pub MayEnd : (device : List ℕ) → (journal : Option (List ℕ)) → Configuration × List Acceptance → Answer → Type 0
-MayEnd device journal w (ran text is_well) = IsReport w text is_well
+MayEnd device journal w (ran text is_well) = IsReport w journal text is_well
 MayEnd device journal w (stopped text) =
     (error : RunError) × IsStop w error × (text ≡ stopped_line (run_error_row error))
-MayEnd device journal w (unread path) = path ≡ device
-MayEnd device journal w (unwritten path) = journal ≡ Some path
+MayEnd device journal w (unread path cause) = path ≡ device
 MayEnd device journal w out_of_memory = ⊤
 MayEnd device journal w _ = ⊥
-
--- The same where the settings and the plans may be refused.
-abbrev pub MayRun : (device : List ℕ) → (journal : Option (List ℕ)) → Result (Configuration × List Acceptance) JudgeError
-    → Answer → Type 0
-MayRun device journal (Ok w) answer = MayEnd device journal w answer
-MayRun device journal (Err refusal) answer = answer ≡ refused refusal

@@ -7,6 +7,7 @@ mod progress;
 mod rounds;
 mod running;
 mod telling;
+mod traced;
 mod watching;
 
 pub use error::RunCommandError;
@@ -14,3 +15,4 @@ pub use progress::progress_line;
 pub use rounds::Rounds;
 pub use running::run;
 pub use telling::{stopped_line, told, write_journal};
+pub use traced::{Choices, Traced};

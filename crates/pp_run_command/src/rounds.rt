@@ -31,8 +31,15 @@ impl Rounds {
         }
     }
 
+    /// How many choices were made.
+    pub(crate) fn made(&self) -> u32
+        ensures { result ≡ self.now.choices }
+    {
+        self.choices
+    }
+
     /// The number that the next choice takes among `count`, from 0.
-    fn choose(&mut self, count: u32) -> u32
+    pub(crate) fn choose(&mut self, count: u32) -> u32
         requires { 1 ≤ count }
         ensures number { result ≡ choice self.old count }
         ensures below { result < count }
@@ -77,7 +84,7 @@ impl Work for Rounds {
 }
 
 /// Adds 1 to the first byte, where 255 becomes 0.
-fn raise_first(body: &mut [u8])
+pub(crate) fn raise_first(body: &mut [u8])
     ensures { body.new ≡ raised body.old }
 {
     if !body.is_empty() {

@@ -9,6 +9,7 @@ ghost use Rattle.pp_run_command.specs.Runs.{IsRunCommandError};
 use crate::error::RunCommandError;
 use crate::progress::{Counted, Progress};
 use crate::rounds::Rounds;
+use crate::traced::{Choices, Traced};
 use crate::watching::{Completion, watch};
 use pp_cert::Accepted;
 use pp_device::Device;
@@ -28,7 +29,7 @@ use std::thread::Threads;
 use std::time::Clock;
 
 /// Runs the plans on threads over the device in the file at the path, and answers what was done. The work of each worker
-/// is [`Rounds`] with this seed.
+/// is [`Rounds`] with the seed of the choices, or [`Traced`] where numbers are given.
 ///
 /// Where there is a terminal, a thread beside shows on it how far a run of more than two seconds is: how many plans have
 /// ended, and how many pages were read and written. What the terminal doesn't take is lost.
@@ -44,7 +45,7 @@ pub fn run<
     rt: &R,
     workload: Workload,
     device: &str,
-    seed: u32,
+    choices: &Choices<'_>,
     terminal: Option<&mut T>,
 ) -> Result<RunRecord, RunCommandError>
     // What was done is a true journal of these settings and plans, to their end.
@@ -57,11 +58,38 @@ pub fn run<
     let workers = settings.workers();
     let page_bytes = settings.page_bytes() as usize;
     let ends = SharedDevice::over_file(*rt, alloc, device, page_bytes, workers as usize + 1)?;
-    let works = works_of(alloc, seed, workers)?;
-    if let Some(terminal) = terminal {
-        return Ok(run_shown(rt, alloc, &settings, plans, ends, works, terminal)?);
+    if let Some(trace) = choices.trace {
+        let works = traced_works(alloc, choices, trace, workers)?;
+        return run_works(rt, &settings, plans, ends, works, terminal);
     }
-    let (done, _ends) = Pool::run(rt, alloc, &settings, plans, ends, works)?;
+    let works = works_of(alloc, choices.seed, workers)?;
+    run_works(rt, &settings, plans, ends, works, terminal)
+}
+
+/// Runs the plans with these works, and shows how far the run is where there is a terminal.
+fn run_works<
+    R: AllocGlobal + Threads + Wait + Clock + Sync,
+    D: Device + Drop + Send,
+    W: Work + Drop + Send,
+    T: Write + Send,
+>(
+    rt: &R,
+    settings: &Settings,
+    plans: Vec<Accepted>,
+    ends: Vec<D>,
+    works: Vec<W>,
+    terminal: Option<&mut T>,
+) -> Result<RunRecord, RunCommandError>
+    requires ends { vec_len ends ≡ settings.now.workers + 1 }
+    requires works { vec_len works ≡ settings.now.workers }
+    ensures journal { IfOk result (λ done. IsRun (kept_of settings.now) plans.items done) }
+    ensures error { IfErr result (IsRunCommandError (settings.now, plans.items)) }
+{
+    let alloc = rt.alloc();
+    if let Some(terminal) = terminal {
+        return Ok(run_shown(rt, alloc, settings, plans, ends, works, terminal)?);
+    }
+    let (done, _ends) = Pool::run(rt, alloc, settings, plans, ends, works)?;
     Ok(done)
 }
 
@@ -119,6 +147,26 @@ fn counted<'a, D: Device + Drop>(
         counted.push(Counted { device, progress })?;
     }
     Ok(counted)
+}
+
+/// The works of so many workers whose choices are given.
+fn traced_works<'a>(
+    alloc: Global,
+    choices: &'a Choices<'_>,
+    trace: &'a [Vec<u32>],
+    workers: u32,
+) -> Result<Vec<Traced<'a>>, AllocError>
+    ensures { IfOk result (λ works. vec_len works ≡ workers) }
+{
+    let mut works = Vec::with_capacity(alloc, workers as usize)?;
+    for worker in 0..workers {
+        let numbers = match trace.get(worker as usize) {
+            Some(numbers) => numbers.as_slice(),
+            None => &[],
+        };
+        works.push(Traced::new(choices.seed, worker, numbers, &choices.missed))?;
+    }
+    Ok(works)
 }
 
 /// The works of so many workers.

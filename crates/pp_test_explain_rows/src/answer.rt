@@ -37,12 +37,17 @@ pub fn answer_to(alloc: Global, row: &Row) -> anyhow::Result<String> {
     }
 }
 
-/// The warning of a key that stands twice in the last file, or that there is none.
+/// The warning of a key that stands twice in the last file, a plan, or that there is none.
 fn warning(alloc: Global, sources: &[Source<'_>]) -> anyhow::Result<String> {
     let Some(file) = sources.last() else {
         anyhow::bail!("the row has no file");
     };
-    match repeated(alloc, *file)? {
+    let files = Sources {
+        settings: *file,
+        other: None,
+        plans: &[*file],
+    };
+    match repeated(alloc, files)? {
         Some(bytes) => without_feed(alloc, bytes),
         None => Ok(String::from_str(alloc, "no key stands twice")?),
     }

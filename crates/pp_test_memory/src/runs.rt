@@ -8,7 +8,7 @@ use pp_cert::Accepted;
 use pp_judge::Workload;
 use pp_report::RunRecord;
 use pp_run::{Pool, RestedPool, RunError};
-use pp_run_command::{Rounds, progress_line, run, stopped_line, told};
+use pp_run_command::{Choices, Rounds, progress_line, run, stopped_line, told};
 use pp_settings::Settings;
 use pp_shared::SharedDevice;
 use pp_test_plain::all_accepted;
@@ -173,7 +173,7 @@ fn command<
         };
         fs::write(rt, "device", [0; 1536].as_slice())?;
         call(rt)?;
-        let ran = run(rt, workload, "device", 0, None::<&mut io::Sink>);
+        let ran = run(rt, workload, "device", &Choices::new(0, None), None::<&mut io::Sink>);
         answer(rt)?;
         match ran {
             Ok(done) => return Ok(tell(rt, &done)?),

@@ -1,5 +1,5 @@
 -- What `annotate` and `format` with two plain words ask for.
-use Rattle.std.proofs.Common.{◌≡◌, true, false, List, [], ◌∷◌, Some, codes, refl, ap, ◌∙◌}
+use Rattle.std.proofs.Common.{◌≡◌, true, false, List, [], ◌∷◌, None, Some, codes, refl, ap, ◌∙◌}
 use Rattle.clap.specs.Kinds.{Kinds, or_else}
 use Rattle.clap.specs.Walk.{Held, Text, Walk, nothing_held, settled, finished, value, walk, walked}
 use Rattle.clap.specs.Simple.{Shape, built, subcommand_of}
@@ -18,7 +18,7 @@ name_of annotates = codes "annotate"
 name_of formats = codes "format"
 
 abbrev pub asks : Command → Text → Text → Asked
-asks annotates = annotate
+asks annotates = annotate None
 asks formats = format
 
 -- the second and the fourth of some commands

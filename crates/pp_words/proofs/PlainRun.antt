@@ -94,7 +94,7 @@ rows_are_right a b n c rest = refl
 
 values_are : (a b n c : Text) (rest : List Text)
     → asked_of (Some (codes "run", fold with_default (all_rows a b n (c ∷ rest)) run_shape.rules))
-    ≡ Some (run None a b (number_in (without_minus n)) (c ∷ rest))
+    ≡ Some (run None None a b (number_in (without_minus n)) (c ∷ rest))
 unfolding clap_on_literals fifth_shape fifth_rule
 values_are a b n c rest = refl
 
@@ -172,7 +172,7 @@ level_is_right a b n c rest p q s fits r plain =
 
 all_plain : (name a b n c : Text) (rest : List Text) → is_plain_word a ≡ true → is_plain_word b ≡ true
     → is_plain_word n ≡ true → IsSeed n → is_plain_word c ≡ true → All IsPlainWord rest
-    → asked (name ∷ codes "run" ∷ a ∷ b ∷ n ∷ c ∷ rest) ≡ Some (run None a b (number_in (without_minus n)) (c ∷ rest))
+    → asked (name ∷ codes "run" ∷ a ∷ b ∷ n ∷ c ∷ rest) ≡ Some (run None None a b (number_in (without_minus n)) (c ∷ rest))
 all_plain name a b n c rest p q s fits r plain =
     ap (λ (kinds : Kinds).
     unless_faulty kinds (asked_of (subcommand_of program (name ∷ codes "run" ∷ a ∷ b ∷ n ∷ c ∷ rest))))
@@ -187,7 +187,7 @@ all_plain name a b n c rest p q s fits r plain =
 
 pub plain_run : (name a b c : Text) (seed : ℕ) (rest : List Text) → seed < 2 ^ 32 → is_plain_word a ≡ true
     → is_plain_word b ≡ true → is_plain_word c ≡ true → All IsPlainWord rest
-    → asked (name ∷ codes "run" ∷ a ∷ b ∷ decimal seed ∷ c ∷ rest) ≡ Some (run None a b seed (c ∷ rest))
+    → asked (name ∷ codes "run" ∷ a ∷ b ∷ decimal seed ∷ c ∷ rest) ≡ Some (run None None a b seed (c ∷ rest))
 plain_run name a b c seed rest fits p q r plain =
     all_plain name a b (decimal seed) c rest p q (plain_decimal seed fits) (accepts_decimal seed fits) r plain
-    ∙ ap (λ (n : ℕ). Some (run None a b n (c ∷ rest))) (number_decimal seed fits)
+    ∙ ap (λ (n : ℕ). Some (run None None a b n (c ∷ rest))) (number_decimal seed fits)

@@ -1,5 +1,5 @@
 -- What `simulate`, `audit` and `draw` with three plain words or more ask for.
-use Rattle.std.proofs.Common.{◌≡◌, true, false, List, [], ◌∷◌, ◌++◌, Some, codes, fold, refl}
+use Rattle.std.proofs.Common.{◌≡◌, true, false, List, [], ◌∷◌, ◌++◌, None, Some, codes, fold, refl}
 use Rattle.std.specs.List.{All}
 use Rattle.clap.specs.Walk.{Row, Rule, Text, arg_by_index, settled, to_positional, value, with_default}
 use Rattle.clap.specs.Simple.{Shape, built, new_rule}
@@ -23,7 +23,7 @@ name_of draws = codes "draw"
 abbrev pub asks : Command → Text → Text → List Text → Asked
 asks plays = simulate
 asks audits = audit false
-asks draws = draw
+asks draws = draw None
 
 -- the third, the sixth and the seventh of some commands
 shape_among : Command → List Shape → Shape

@@ -37,6 +37,10 @@ paths_rule id = record (path_rule id) { action = Some Append }
 abbrev pub option_rule : Text → Rule
 option_rule id = record (new_rule id) { long = Some id; value_names = 1 }
 
+-- a path that may be given behind `-o` or `--output`
+abbrev pub output_rule : Rule
+output_rule = record (option_rule (codes "output")) { short = Some 111 }
+
 -- a flag, which is given by the option's name alone
 abbrev pub flag_rule : Text → Rule
 flag_rule id = record (new_rule id) { long = Some id; action = Some SetTrue }
@@ -51,10 +55,11 @@ check_command =
     with_rule (with_rule (with_rule (new_app (codes "check")) (path_rule (codes "settings")))
     (path_rule (codes "plan"))) (path_rule (codes "certificate"))
 
--- `annotate SETTINGS PLAN`
+-- `annotate [-o FILE] SETTINGS PLAN`
 abbrev pub annotate_command : App
 annotate_command =
-    with_rule (with_rule (new_app (codes "annotate")) (path_rule (codes "settings"))) (path_rule (codes "plan"))
+    with_rule (with_rule (with_rule (new_app (codes "annotate")) (path_rule (codes "settings")))
+    (path_rule (codes "plan"))) output_rule
 
 -- `simulate SETTINGS SCRIPT PLAN...`
 abbrev pub simulate_command : App
@@ -67,12 +72,12 @@ abbrev pub format_command : App
 format_command =
     with_rule (with_rule (new_app (codes "format")) (path_rule (codes "settings"))) (path_rule (codes "device"))
 
--- `run [--journal FILE] SETTINGS DEVICE SEED PLAN...`
+-- `run [--journal FILE] [--trace FILE] SETTINGS DEVICE SEED PLAN...`
 abbrev pub run_command : App
 run_command =
-    with_rule (with_rule (with_rule (with_rule (with_rule (new_app (codes "run")) (option_rule (codes "journal")))
-    (path_rule (codes "settings"))) (path_rule (codes "device"))) (number_rule (codes "seed")))
-    (paths_rule (codes "plans"))
+    with_rule (with_rule (with_rule (with_rule (with_rule (with_rule (new_app (codes "run"))
+    (option_rule (codes "journal"))) (path_rule (codes "settings"))) (path_rule (codes "device")))
+    (number_rule (codes "seed"))) (paths_rule (codes "plans"))) (option_rule (codes "trace"))
 
 -- `audit [--lives] SETTINGS JOURNAL PLAN...`
 abbrev pub audit_command : App
@@ -80,11 +85,11 @@ audit_command =
     with_rule (with_rule (with_rule (with_rule (new_app (codes "audit")) (path_rule (codes "settings")))
     (path_rule (codes "journal"))) (paths_rule (codes "plans"))) (flag_rule (codes "lives"))
 
--- `draw SETTINGS JOURNAL PLAN...`
+-- `draw [-o FILE] SETTINGS JOURNAL PLAN...`
 abbrev pub draw_command : App
 draw_command =
-    with_rule (with_rule (with_rule (new_app (codes "draw")) (path_rule (codes "settings")))
-    (path_rule (codes "journal"))) (paths_rule (codes "plans"))
+    with_rule (with_rule (with_rule (with_rule (new_app (codes "draw")) (path_rule (codes "settings")))
+    (path_rule (codes "journal"))) (paths_rule (codes "plans"))) output_rule
 
 -- the program without its commands: it has a version, and wants a command
 abbrev pub program_alone : App
@@ -104,20 +109,24 @@ program =
 -- what words ask for: a command with the paths of its files
 pub data Asked : Type 0 where
   check : (settings plan certificate : Text) → Asked
-  annotate : (settings plan : Text) → Asked
+  annotate : (output : Option Text) → (settings plan : Text) → Asked
   simulate : (settings script : Text) → (plans : List Text) → Asked
   format : (settings device : Text) → Asked
-  run : (journal : Option Text) → (settings device : Text) → (seed : ℕ) → (plans : List Text) → Asked
+  run : (journal trace : Option Text) → (settings device : Text) → (seed : ℕ) → (plans : List Text) → Asked
   audit : (lives : Bool) → (settings journal : Text) → (plans : List Text) → Asked
-  draw : (settings journal : Text) → (plans : List Text) → Asked
+  draw : (output : Option Text) → (settings journal : Text) → (plans : List Text) → Asked
 
 -- a check of three files
 abbrev pub asked_check : CheckPaths → Asked
 asked_check p = check p.settings.now p.plan.now p.certificate.now
 
--- a certificate made of two files
+-- the text behind a reference, where there is one
+abbrev pub text_in : Option (Bor Text) → Option Text
+text_in = option_map (λ text. text.now)
+
+-- a certificate made of two files, and written to a third where that is asked for
 abbrev pub asked_annotate : AnnotatePaths → Asked
-asked_annotate p = annotate p.settings.now p.plan.now
+asked_annotate p = annotate (text_in p.output) p.settings.now p.plan.now
 
 -- the texts behind references
 abbrev pub texts : List (Bor Text) → List Text
@@ -131,17 +140,19 @@ asked_simulate p = simulate p.settings.now p.script.now (texts p.plans.items)
 abbrev pub asked_format : FormatPaths → Asked
 asked_format p = format p.settings.now p.device.now
 
--- plans of some files run over a device, and the journal written where that is asked for
+-- plans of some files run over a device, by the choices of a file where one is given, and the journal written where that is
+-- asked for
 abbrev pub asked_run : RunPaths → Asked
-asked_run p = run (option_map (λ text. text.now) p.journal) p.settings.now p.device.now p.seed (texts p.plans.items)
+asked_run p =
+    run (text_in p.journal) (text_in p.trace) p.settings.now p.device.now p.seed (texts p.plans.items)
 
 -- a journal, or the journals of a pool's lives, audited against the plans of some files
 abbrev pub asked_audit : AuditPaths → Asked
 asked_audit p = audit p.lives p.settings.now p.journal.now (texts p.plans.items)
 
--- a journal drawn with the plans of some files
+-- a journal drawn with the plans of some files, and the picture written to a file where that is asked for
 abbrev pub asked_draw : DrawPaths → Asked
-asked_draw p = draw p.settings.now p.journal.now (texts p.plans.items)
+asked_draw p = draw (text_in p.output) p.settings.now p.journal.now (texts p.plans.items)
 
 -- what a job does
 abbrev pub asked_by : Job → Asked
@@ -179,9 +190,10 @@ abbrev pub check_among : List Row → Asked
 check_among rows = check (value_among rows (codes "settings")) (value_among rows (codes "plan"))
     (value_among rows (codes "certificate"))
 
--- the values of the two arguments of `annotate`
+-- the values of the option and of the two arguments of `annotate`
 abbrev pub annotate_among : List Row → Asked
-annotate_among rows = annotate (value_among rows (codes "settings")) (value_among rows (codes "plan"))
+annotate_among rows = annotate (first_of (codes "output") rows) (value_among rows (codes "settings"))
+    (value_among rows (codes "plan"))
 
 -- the values of the arguments of `simulate`
 abbrev pub simulate_among : List Row → Asked
@@ -192,20 +204,20 @@ simulate_among rows = simulate (value_among rows (codes "settings")) (value_amon
 abbrev pub format_among : List Row → Asked
 format_among rows = format (value_among rows (codes "settings")) (value_among rows (codes "device"))
 
--- the values of the option and of the arguments of `run`
+-- the values of the options and of the arguments of `run`
 abbrev pub run_among : List Row → Asked
-run_among rows = run (first_of (codes "journal") rows) (value_among rows (codes "settings"))
-    (value_among rows (codes "device")) (number_among rows (codes "seed")) (values_among rows (codes "plans"))
+run_among rows = run (first_of (codes "journal") rows) (first_of (codes "trace") rows)
+    (value_among rows (codes "settings")) (value_among rows (codes "device")) (number_among rows (codes "seed")) (values_among rows (codes "plans"))
 
 -- the flag and the values of the arguments of `audit`
 abbrev pub audit_among : List Row → Asked
 audit_among rows = audit (flag_among rows (codes "lives")) (value_among rows (codes "settings"))
     (value_among rows (codes "journal")) (values_among rows (codes "plans"))
 
--- the values of the arguments of `draw`
+-- the values of the option and of the arguments of `draw`
 abbrev pub draw_among : List Row → Asked
-draw_among rows = draw (value_among rows (codes "settings")) (value_among rows (codes "journal"))
-    (values_among rows (codes "plans"))
+draw_among rows = draw (first_of (codes "output") rows) (value_among rows (codes "settings"))
+    (value_among rows (codes "journal")) (values_among rows (codes "plans"))
 
 -- what a command of this name with the values of its arguments asks for
 abbrev pub asked_of : Option (Text × List Row) → Option Asked
@@ -245,7 +257,7 @@ pub record PlainWordsAreThePaths : Type 0 where
       → is_plain_word certificate ≡ true
       → asked (name ∷ codes "check" ∷ settings ∷ plan ∷ certificate ∷ []) ≡ Some (check settings plan certificate)
   pub annotate : (name settings plan : Text) → is_plain_word settings ≡ true → is_plain_word plan ≡ true
-      → asked (name ∷ codes "annotate" ∷ settings ∷ plan ∷ []) ≡ Some (annotate settings plan)
+      → asked (name ∷ codes "annotate" ∷ settings ∷ plan ∷ []) ≡ Some (annotate None settings plan)
   pub simulate : (name settings script plan : Text) (plans : List Text) → is_plain_word settings ≡ true
       → is_plain_word script ≡ true → is_plain_word plan ≡ true → All IsPlainWord plans
       → asked (name ∷ codes "simulate" ∷ settings ∷ script ∷ plan ∷ plans)
@@ -256,7 +268,7 @@ pub record PlainWordsAreThePaths : Type 0 where
       → is_plain_word settings ≡ true → is_plain_word device ≡ true → is_plain_word plan ≡ true
       → All IsPlainWord plans
       → asked (name ∷ codes "run" ∷ settings ∷ device ∷ decimal seed ∷ plan ∷ plans)
-      ≡ Some (run None settings device seed (plan ∷ plans))
+      ≡ Some (run None None settings device seed (plan ∷ plans))
   pub audit : (name settings journal plan : Text) (plans : List Text) → is_plain_word settings ≡ true
       → is_plain_word journal ≡ true → is_plain_word plan ≡ true → All IsPlainWord plans
       → asked (name ∷ codes "audit" ∷ settings ∷ journal ∷ plan ∷ plans)
@@ -264,4 +276,4 @@ pub record PlainWordsAreThePaths : Type 0 where
   pub draw : (name settings journal plan : Text) (plans : List Text) → is_plain_word settings ≡ true
       → is_plain_word journal ≡ true → is_plain_word plan ≡ true → All IsPlainWord plans
       → asked (name ∷ codes "draw" ∷ settings ∷ journal ∷ plan ∷ plans)
-      ≡ Some (draw settings journal (plan ∷ plans))
+      ≡ Some (draw None settings journal (plan ∷ plans))

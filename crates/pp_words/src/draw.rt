@@ -1,17 +1,19 @@
-//! The command `draw SETTINGS JOURNAL PLAN...`.
+//! The command `draw [-o FILE] SETTINGS JOURNAL PLAN...`.
 
 ghost use Rattle.std.specs.Prelude.{◌≡◌, IfOk, false};
 ghost use Rattle.clap.specs.Words.{app_of, found_of, rows_of};
 ghost use Rattle.clap.specs.declared.builder.command.Command.TheViews.{out-Command};
 ghost use Rattle.pp_words.specs.CommandLine.{asked_draw, draw_among, draw_command};
 
-use crate::parts::{journal, plans_of_journal, settings, value_of, values_of};
+use crate::parts::{journal, option_of, output, plans_of_journal, settings, value_of, values_of};
 use clap::{ArgMatches, Command};
 use std::alloc::{AllocError, Global};
 
-/// The files of `draw`, by their paths, in the order of the words.
+/// The files of `draw`, by their paths.
 #[derive(Debug, Drop)]
 pub struct DrawPaths<'a> {
+    /// The file that the picture is written to, where one is wanted; else it is printed.
+    pub output: Option<&'a str>,
     /// The settings of the pool, a TOML text.
     pub settings: &'a str,
     /// The journal, a text with an event on each line.
@@ -26,11 +28,15 @@ impl<'a> DrawPaths<'a> {
         ensures { IfOk result (λ command. ((out-Command command).has_globals ≡ false)
             × (app_of command ≡ draw_command)) }
     {
-        Command::new(alloc, "draw")
+        let output = output(
+            alloc,
+            "Writes the picture to this file, and only where the journal isn't refused",
+        );
+        let command = Command::new(alloc, "draw")
             .after_help(
-                "Example: pinpool draw examples/one-worker.toml nine.journal examples/pin.json > nine.svg\n\
+                "Example: pinpool draw -o touch.svg examples/set1.toml examples/touch.journal examples/touch.json\n\
                 \n\
-                Status: 0 drawn, 1 refused, 2 a bad command line, 3 a file that can't be read, 4 out of memory.\n\
+                Status: 0 drawn, 1 refused, 2 a bad command line, 3 a file that can't be read or written, 4 out of memory.\n\
                 A refusal is one line on standard output; standard error says where and why.\n\
                 Limits: 256 plans, and 4,000,000 moves by their costs; 4,000 columns, rows for 64 frames.\n\
                 Read on: docs/formats.md, Pictures.",
@@ -38,7 +44,9 @@ impl<'a> DrawPaths<'a> {
             .about("Draws a true journal of these plans as a picture, an SVG text.")
             .arg(settings(alloc))?
             .arg(journal(alloc))?
-            .arg(plans_of_journal(alloc))
+            .arg(plans_of_journal(alloc))?
+            .arg(output)?;
+        Ok(command)
     }
 
     /// The paths among the matches of the command.
@@ -46,6 +54,7 @@ impl<'a> DrawPaths<'a> {
         ensures { IfOk result (λ paths. asked_draw paths ≡ draw_among (rows_of (found_of matches.now))) }
     {
         Ok(DrawPaths {
+            output: option_of(matches, "output"),
             settings: value_of(matches, "settings"),
             journal: value_of(matches, "journal"),
             plans: values_of(alloc, matches, "plans")?,

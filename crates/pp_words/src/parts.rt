@@ -2,8 +2,8 @@
 
 ghost use Rattle.std.specs.Prelude.{◌≡◌, IfOk, true, false, codes, option_map};
 ghost use Rattle.clap.specs.Words.{first_of, found_of, rows_of, rule_of};
-ghost use Rattle.pp_words.specs.CommandLine.{flag_among, flag_rule, number_among, number_rule, option_rule, path_rule};
-ghost use Rattle.pp_words.specs.CommandLine.{paths_rule, texts, value_among, values_among};
+ghost use Rattle.pp_words.specs.CommandLine.{flag_among, flag_rule, number_among, number_rule, option_rule, output_rule};
+ghost use Rattle.pp_words.specs.CommandLine.{path_rule, paths_rule, texts, value_among, values_among};
 
 use clap::{Arg, ArgAction, ArgMatches};
 use std::alloc::{AllocError, Global};
@@ -98,6 +98,14 @@ pub fn option<'a>(alloc: Global, id: &'a str, name: &'a str, help: &'a str) -> A
     ensures local { result.global ≡ false }
 {
     Arg::new(alloc, id).long(id).value_name(name).help(help)
+}
+
+/// The option `-o FILE`, or `--output FILE`.
+pub fn output<'a>(alloc: Global, help: &'a str) -> Arg<'a>
+    ensures rule { rule_of result ≡ output_rule }
+    ensures local { result.global ≡ false }
+{
+    option(alloc, "output", "FILE", help).short('o')
 }
 
 /// An option without a value, under a name that begins with two hyphens.

@@ -18,17 +18,17 @@ use thiserror::Error;
 pub enum Job<'a> {
     /// Check a plan's certificate: `check SETTINGS PLAN CERT`.
     Check(CheckPaths<'a>),
-    /// Make a plan's certificate: `annotate SETTINGS PLAN`.
+    /// Make a plan's certificate: `annotate [-o FILE] SETTINGS PLAN`.
     Annotate(AnnotatePaths<'a>),
     /// Play a script over a pool: `simulate SETTINGS SCRIPT PLAN...`.
     Simulate(SimulatePaths<'a>),
     /// Write a device anew: `format SETTINGS DEVICE`.
     Format(FormatPaths<'a>),
-    /// Run plans over a device: `run [--journal FILE] SETTINGS DEVICE SEED PLAN...`.
+    /// Run plans over a device: `run [--journal FILE] [--trace FILE] SETTINGS DEVICE SEED PLAN...`.
     Run(RunPaths<'a>),
     /// Say whether a journal is a true one: `audit [--lives] SETTINGS JOURNAL PLAN...`.
     Audit(AuditPaths<'a>),
-    /// Draw a true journal: `draw SETTINGS JOURNAL PLAN...`.
+    /// Draw a true journal: `draw [-o FILE] SETTINGS JOURNAL PLAN...`.
     Draw(DrawPaths<'a>),
 }
 

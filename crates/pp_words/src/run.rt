@@ -1,4 +1,4 @@
-//! The command `run [--journal FILE] SETTINGS DEVICE SEED PLAN...`.
+//! The command `run [--journal FILE] [--trace FILE] SETTINGS DEVICE SEED PLAN...`.
 
 ghost use Rattle.std.specs.Prelude.{◌≡◌, IfOk, false};
 ghost use Rattle.clap.specs.Words.{app_of, found_of, rows_of};
@@ -16,6 +16,8 @@ use std::alloc::{AllocError, Global};
 pub struct RunPaths<'a> {
     /// The file that the journal is written to, where one is wanted.
     pub journal: Option<&'a str>,
+    /// The choices that the workers are to make, a text with one on each line, where they are given.
+    pub trace: Option<&'a str>,
     /// The settings of the pool, a TOML text.
     pub settings: &'a str,
     /// The device, a file of page images.
@@ -37,6 +39,12 @@ impl<'a> RunPaths<'a> {
             "journal",
             "FILE",
             "Writes the journal, all that was done, to this file",
+        );
+        let trace = option(
+            alloc,
+            "trace",
+            "FILE",
+            "The pages and branches that workers choose, a line `WORKER NUMBER` for each: a text",
         );
         let device = path(
             alloc,
@@ -65,7 +73,8 @@ impl<'a> RunPaths<'a> {
             .arg(settings(alloc))?
             .arg(device)?
             .arg(seed)?
-            .arg(plans_to_run(alloc))?;
+            .arg(plans_to_run(alloc))?
+            .arg(trace)?;
         Ok(command)
     }
 
@@ -75,6 +84,7 @@ impl<'a> RunPaths<'a> {
     {
         Ok(RunPaths {
             journal: option_of(matches, "journal"),
+            trace: option_of(matches, "trace"),
             settings: value_of(matches, "settings"),
             device: value_of(matches, "device"),
             seed: number_of(matches, "seed"),

@@ -1,6 +1,9 @@
-use Rattle.std.proofs.Common.{[], ◌∷◌, inl, subst}
+use Rattle.std.proofs.Common.{[], ◌∷◌, ◌∙◌, ap, inl, length, map, subst, sym}
+use Rattle.std.proofs.lemmas.List.{length-map}
 use Rattle.std.specs.List.{Contains}
-use Rattle.pp_words.specs.CommandLine.{asked_draw, texts}
+use Rattle.pp_judge.specs.Answers.{seen}
+use Rattle.pp_words.specs.CommandLine.{asked_draw, text_in, texts}
+use Rattle.pp_cli.proofs.Putting.{drawn_put}
 use Rattle.pp_cli.proofs.Stopping.{behind_two, handed_on, second, stopped_among}
 use Rattle.pp_cli.proofs.files.draw.Goals as goal
 
@@ -24,3 +27,12 @@ returns-in_err-plans-clause-comes g c =
     (λ path h. behind_two c.args.paths.settings.now c.args.paths.journal.now plans path
     (subst (λ paths. Contains (texts paths) path) c.deref.ensures.value h))
     c.in_err-plans.ensures.stopped))
+
+pub returns-clause-comes : goal.returns-clause-comes
+returns-clause-comes g c =
+    drawn_put (text_in c.args.paths.output) c.args.paths.settings.now c.args.paths.journal.now
+    (texts c.args.paths.plans.items) c.as_slice.result.now c.as_slice-2.result.now
+    (map (λ plan. plan.items) c.as_slice-3.result.now) c.exit_of-exit.result (seen c.put_out.result)
+    (length-map c.as_slice-3.result.now (λ plan. plan.items) ∙ ap length c.as_slice-3.ensures.value
+    ∙ c.in_ok-plans.ensures.each ∙ ap length c.deref.ensures.value
+    ∙ sym (length-map c.args.paths.plans.items (λ text. text.now))) c.exit_of-exit.ensures c.put_out.ensures

@@ -7,7 +7,9 @@ use Rattle.pp_words.proofs.run.RunPaths.command.Goals as goal
 pub returns : goal.returns
 returns c =
     let begun : IsApp c.about.result (new_app (codes "run")) = (search rules, search rules) in
-    given _ _ _ (paths_rule (codes "plans")) _ c.in_ok-command.ensures c.plans_to_run.ensures.rule
+    given _ _ _ (option_rule (codes "trace")) _ c.in_ok-command.ensures c.option-trace.ensures.rule
+    c.option-trace.ensures.local
+    (given _ _ _ (paths_rule (codes "plans")) _ c.in_ok-arg-5.ensures c.plans_to_run.ensures.rule
     c.plans_to_run.ensures.local
     (given _ _ _ (number_rule (codes "seed")) _ c.in_ok-arg-4.ensures c.number-seed.ensures.rule
     c.number-seed.ensures.local
@@ -16,4 +18,4 @@ returns c =
     (given _ _ _ (path_rule (codes "settings")) _ c.in_ok-arg-2.ensures c.settings.ensures.rule
     c.settings.ensures.local
     (given _ _ _ (option_rule (codes "journal")) _ c.in_ok-arg.ensures c.option-journal.ensures.rule
-    c.option-journal.ensures.local begun))))
+    c.option-journal.ensures.local begun)))))

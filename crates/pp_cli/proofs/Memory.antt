@@ -1,0 +1,17 @@
+-- Want of memory is an answer to any words.
+use Rattle.std.proofs.Common.{Option, Some, None, List, refl, inl, inr}
+use Rattle.pp_judge.specs.Answers.{out_of_memory}
+use Rattle.pp_words.specs.CommandLine.{Asked, Text}
+use Rattle.pp_cli.specs.Runs.{ComesOfAsked}
+
+pub memory_comes : (command : Option Asked) (words : List Text) → ComesOfAsked command words out_of_memory
+memory_comes None words = tt
+memory_comes (Some (Asked.check settings plan certificate)) words = inr (tt, inl tt)
+memory_comes (Some (Asked.annotate None settings plan)) words = inr (tt, inl tt)
+memory_comes (Some (Asked.annotate (Some path) settings plan)) words = inl (path, path, refl, tt)
+memory_comes (Some (Asked.simulate settings script plans)) words = inr (tt, inl tt)
+memory_comes (Some (Asked.format settings device)) words = inl (device, device, refl, tt)
+memory_comes (Some (Asked.run journal trace settings device seed plans)) words = inl (device, device, inl refl, tt)
+memory_comes (Some (Asked.audit lives settings journal plans)) words = inr (tt, inl tt)
+memory_comes (Some (Asked.draw None settings journal plans)) words = inr ((tt, tt), inl tt)
+memory_comes (Some (Asked.draw (Some path) settings journal plans)) words = inl (path, path, refl, tt)
