@@ -3,47 +3,32 @@
 //! They are of what no clause says: that a run ends and ends well, that it goes through its devices and its works, that
 //! two workers are at work at once, that who waits is woken, and what comes of want of memory. Every run is watched, so
 //! that a hang is a failure.
+//!
+//! A run is data, a `Case`: its settings and plans, what its threads wait for, what its devices do amiss, and what is counted
+//! afterwards. One work, one device and one function serve them all, since each function of a test is proved as well.
 #![tactic(auto)]
 
 #[cfg(test)]
-mod common;
+mod board;
 #[cfg(test)]
-mod counted;
+mod case;
 #[cfg(test)]
-mod crossing;
+mod counting;
 #[cfg(test)]
-mod devices;
-#[cfg(test)]
-mod failing;
-#[cfg(test)]
-mod faults;
-#[cfg(test)]
-mod freed;
-#[cfg(test)]
-mod hands;
-#[cfg(test)]
-mod latches;
+mod desk;
 #[cfg(test)]
 mod lives;
 #[cfg(test)]
-mod meanwhile;
-#[cfg(test)]
-mod memory;
-#[cfg(test)]
-mod overlap;
-#[cfg(test)]
-mod patient;
+mod player;
 #[cfg(test)]
 mod rows;
 #[cfg(test)]
-mod scarce;
-#[cfg(test)]
-mod sizes;
+mod running;
 #[cfg(test)]
 mod stopping;
 #[cfg(test)]
 mod stress;
 #[cfg(test)]
-mod waiting;
+mod told;
 #[cfg(test)]
 mod waking;
