@@ -35,7 +35,7 @@ enum {
 /* How a fetch may bring a page in that is in no frame. */
 enum {
     PINPOOL_NEVER = 0,
-    PINPOOL_IF_ROOM = 1, /* unless nine of ten pages of the cache's size are pinned */
+    PINPOOL_IF_ROOM = 1, /* unless nine of ten pages of the cache's size are pinned, rounded down */
     PINPOOL_ALWAYS = 2   /* beyond the size of the cache where each cached page is pinned */
 };
 

@@ -1,5 +1,5 @@
 -- A page cache: ARC's four lists of keys, beside the frames of their pages.
-use Rattle.std.specs.Prelude.{◌≡◌, ℕ, ◌+◌, ◌-◌, ◌*◌, min, max, Bool, true, false, not, ◌&&◌, nat_lt, nat_le, ◌==◌}
+use Rattle.std.specs.Prelude.{◌≡◌, ℕ, ◌+◌, ◌-◌, ◌*◌, ◌/◌, min, max, Bool, true, false, not, ◌&&◌, nat_lt, nat_le, ◌==◌}
 use Rattle.std.specs.Prelude.{Option, None, Some, is_some, IsSome, IsTrue, IsFalse, length, if◌then◌else◌, zero, suc}
 use Rattle.std.specs.List.{filter}
 use Rattle.std.specs.Option.{option_or}
@@ -57,9 +57,9 @@ after_bring_in s key frame =
           with_page (without_victim s.table (asked s key).0) key (Some (record { frame = frame; is_pinned = true }));
     }
 
--- Nine of ten pages are pinned.
+-- As many pages are pinned as nine of ten of the cache's size, rounded down: all that SQLite's own cache lets be dirty.
 abbrev pub is_crowded : PageCache → Bool
-is_crowded s = nat_le (9 * s.lists.c) (10 * pinned_count s.table)
+is_crowded s = nat_le (s.lists.c * 9 / 10) (pinned_count s.table)
 
 -- Whether a page that stands in no frame may be brought in.
 abbrev pub may_bring_in : PageCache → Create → Bool

@@ -118,11 +118,11 @@ impl Cache {
         self.frames.resident()
     }
 
-    /// Whether nine of ten pages are pinned.
+    /// Whether nine of ten pages are pinned, rounded down.
     fn is_crowded(&self) -> bool
         ensures { result ≡ is_crowded self.now }
     {
-        u64::from(self.directory.size()) * 9 <= u64::from(self.frames.pinned()) * 10
+        u64::from(self.directory.size()) * 9 / 10 <= u64::from(self.frames.pinned())
     }
 
     /// Whether a page that stands in no frame may be brought in.

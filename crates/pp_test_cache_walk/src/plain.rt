@@ -82,7 +82,7 @@ impl Plain {
     fn may_bring_in(&self, pinned: usize, create: Create) -> bool {
         match create {
             Create::Never => false,
-            Create::IfRoom => pinned.saturating_mul(10) < (self.size as usize).saturating_mul(9),
+            Create::IfRoom => pinned < (self.size as usize).saturating_mul(9) / 10,
             Create::Always => true,
         }
     }
