@@ -1,10 +1,10 @@
+/* SPDX-License-Identifier: Apache-2.0 */
 /* SQLite's page cache over pinpool's: the eleven calls of sqlite3_pcache_methods2.
 **
 ** The proved side knows which page is in which frame and which one leaves. This side keeps the bytes of the frames, and
 ** has no rule of replacement. SQLite makes all calls on a cache under the lock of its connection. */
 #include "shim.h"
 #include "pinpool_cache.h"
-#include <stdlib.h>
 #include <string.h>
 
 /* In SQLite's own tests want of memory is no error where a fetch may go without. */
@@ -23,18 +23,23 @@ static void sqlite3EndBenignMalloc(void) {}
 typedef struct bytes {
     sqlite3_pcache_page page;
     uint32_t key;
-    uint32_t fetches;   /* since it was unpinned */
-    uint32_t unused[2]; /* so that the page begins at 16 bytes */
+    uint32_t frame;
+    uint32_t fetches; /* since it was unpinned */
+    uint32_t unused;  /* so that the page begins at 16 bytes */
 } bytes;
 
 typedef struct cache {
-    pinpool_cache held;
+    pinpool_cache *held;
     size_t page_bytes, extra_bytes;
     int is_purgeable;
-    int keeps_none;    /* SQLite asked for a size of 0, and a cache has 1 at least */
+    int keeps_none;     /* SQLite asked for a size of 0, and a cache has 1 at least */
+    int is_squeezed;    /* the heap was nearly full, and the cache is smaller than `size` */
+    int is_broken;      /* a page couldn't get its number: then each fetch fails (see rekey) */
+    uint32_t size;      /* the size that SQLite asked for */
     uint32_t lock_page; /* the page at the pending byte, which SQLite never stores */
-    uint32_t greatest; /* no page has a greater key */
-    uint32_t frames;   /* how many places there are in by_frame */
+    uint32_t greatest;  /* no page has a greater key */
+    uint32_t keys;      /* there is room for the keys below this one */
+    uint32_t frames;    /* how many places there are in by_frame */
     bytes **by_frame;
 } cache;
 
@@ -49,6 +54,20 @@ static int init(void *unused) {
 
 static void shut_down(void *unused) { (void)unused; }
 
+static pinpool_counts counts_of(const cache *c) {
+    pinpool_counts counts;
+    if (pinpool_cache_counts(c->held, &counts) != PINPOOL_OK) memset(&counts, 0, sizeof counts);
+    return counts;
+}
+
+/* Makes room for the key and the one behind it, so that no later rekey to these is refused. */
+static int has_room(cache *c, uint32_t key) {
+    if (key + 1 < c->keys) return 1;
+    if (pinpool_cache_reserve(c->held, key + 1) != PINPOOL_OK) return 0;
+    c->keys = counts_of(c).keys;
+    return 1;
+}
+
 static sqlite3_pcache *create(int page_bytes, int extra_bytes, int is_purgeable) {
     cache *c = sqlite3_malloc64(sizeof *c);
     if (!c) return 0;
@@ -57,24 +76,39 @@ static sqlite3_pcache *create(int page_bytes, int extra_bytes, int is_purgeable)
     c->extra_bytes = (size_t)extra_bytes;
     c->is_purgeable = is_purgeable;
     c->lock_page = 0x40000000u / (unsigned)page_bytes + 1;
+    c->size = 1;
     /* SQLite tells the size before its first fetch. All pages of an unpurgeable cache stay pinned, whatever the size. */
-    if (pinpool_cache_new(&c->held, 1) != PINPOOL_DONE) {
+    if (pinpool_cache_new(1, &c->held) != PINPOOL_OK) {
         sqlite3_free(c);
         return 0;
     }
     return (sqlite3_pcache *)c;
 }
 
-/* Gives back the bytes of each frame that has no page. */
-static void sweep(cache *c) {
+/* Gives back the bytes of a frame that has no page. */
+static void give_back(cache *c, uint32_t frame) {
+    if (frame >= c->frames || !c->by_frame[frame]) return;
+    sqlite3_free(c->by_frame[frame]);
+    c->by_frame[frame] = 0;
+}
+
+/* Gives back the bytes of each frame that has no page, where pages have left since there were so many. */
+static void sweep(cache *c, uint32_t pages_before) {
+    if (counts_of(c).pages == pages_before) return;
     for (uint32_t at = 0; at < c->frames; at++) {
-        uint32_t frame = 0;
+        pinpool_page page;
         bytes *b = c->by_frame[at];
-        if (b && !(pinpool_cache_frame(&c->held, b->key, &frame) == PINPOOL_HIT && frame == at)) {
-            sqlite3_free(b);
-            c->by_frame[at] = 0;
-        }
+        if (!b) continue;
+        if (pinpool_cache_find(c->held, b->key, &page) != PINPOOL_OK || page.found != PINPOOL_HIT || page.frame != at)
+            give_back(c, at);
     }
+}
+
+static void resize(cache *c, uint32_t pages) {
+    uint32_t before = counts_of(c).pages;
+    pinpool_cache_resize(c->held, pages);
+    if (c->keeps_none) pinpool_cache_shrink(c->held);
+    sweep(c, before);
 }
 
 static void cache_size(sqlite3_pcache *p, int pages) {
@@ -83,12 +117,38 @@ static void cache_size(sqlite3_pcache *p, int pages) {
     c->keeps_none = pages < 1;
     if (pages < 1) pages = 1;
     if (pages > MOST_PAGES) pages = MOST_PAGES;
-    pinpool_cache_resize(&c->held, (uint32_t)pages);
-    if (c->keeps_none) pinpool_cache_shrink(&c->held);
-    sweep(c);
+    c->size = (uint32_t)pages;
+    c->is_squeezed = 0;
+    resize(c, c->size);
 }
 
-static int page_count(sqlite3_pcache *p) { return (int)pinpool_cache_pages(&((cache *)p)->held); }
+static int page_count(sqlite3_pcache *p) { return (int)counts_of((cache *)p).pages; }
+
+/* Whether one more page would reach the soft heap limit, if there is one. */
+static int heap_is_nearly_full(const cache *c) {
+    sqlite3_int64 limit = sqlite3_soft_heap_limit64(-1);
+    return limit > 0 && sqlite3_memory_used() + (sqlite3_int64)(sizeof(bytes) + c->page_bytes + c->extra_bytes) >= limit;
+}
+
+/* Before a page comes in: where the heap is nearly full, it takes the place of another one that nobody has pinned, as in
+** SQLite's own cache. For that the cache is of as many pages as it has, until the heap has room again. False where the page
+** may not come in. */
+static int may_come(cache *c, int way) {
+    if (!c->is_purgeable || c->keeps_none) return 1;
+    if (!heap_is_nearly_full(c)) {
+        if (c->is_squeezed) pinpool_cache_resize(c->held, c->size);
+        c->is_squeezed = 0;
+        return 1;
+    }
+    pinpool_counts counts = counts_of(c);
+    uint32_t idle = counts.pages - counts.pinned;
+    if (way == PINPOOL_IF_ROOM && idle < counts.pinned) return 0;
+    if (idle && counts.pages < counts.size) {
+        pinpool_cache_resize(c->held, counts.pages);
+        c->is_squeezed = 1;
+    }
+    return 1;
+}
 
 /* The bytes of a frame that has a new page; none where memory can't be had. */
 static bytes *bytes_of(cache *c, uint32_t frame) {
@@ -105,27 +165,37 @@ static bytes *bytes_of(cache *c, uint32_t frame) {
         if (!b) return 0;
         b->page.pBuf = b + 1;
         b->page.pExtra = (char *)(b + 1) + c->page_bytes;
+        b->frame = frame;
         c->by_frame[frame] = b;
     }
     return c->by_frame[frame];
 }
 
+/* Brings in a page that is in no frame; none where it may not be, or memory can't be had. */
+static bytes *bring_in(cache *c, uint32_t key, int way) {
+    pinpool_page page;
+    if (!may_come(c, way) || !has_room(c, key)) return 0;
+    if (pinpool_cache_fetch(c->held, key, (pinpool_create)way, &page) != PINPOOL_OK || page.found != PINPOOL_NEW) return 0;
+    if (page.left_key != PINPOOL_NO_KEY && page.left_frame != page.frame) give_back(c, page.left_frame);
+    bytes *b = bytes_of(c, page.frame);
+    if (!b) pinpool_cache_unpin(c->held, key, 1, 0);
+    return b;
+}
+
 static sqlite3_pcache_page *fetch(sqlite3_pcache *p, unsigned number, int way) {
     cache *c = (cache *)p;
-    uint32_t key = key_of(c, number), frame = 0;
-    uint32_t answer = pinpool_cache_fetch(&c->held, key, (uint32_t)way, &frame);
-    if (answer == PINPOOL_HIT) {
-        c->by_frame[frame]->fetches++;
-        return &c->by_frame[frame]->page;
+    pinpool_page page;
+    uint32_t key = key_of(c, number);
+    if (c->is_broken) return 0;
+    if (pinpool_cache_fetch(c->held, key, PINPOOL_NEVER, &page) == PINPOOL_OK && page.found == PINPOOL_HIT) {
+        c->by_frame[page.frame]->fetches++;
+        return &c->by_frame[page.frame]->page;
     }
-    if (answer != PINPOOL_NEW) return 0;
+    if (way == PINPOOL_NEVER) return 0;
     if (way == PINPOOL_IF_ROOM) sqlite3BeginBenignMalloc();
-    bytes *b = bytes_of(c, frame);
+    bytes *b = bring_in(c, key, way);
     if (way == PINPOOL_IF_ROOM) sqlite3EndBenignMalloc();
-    if (!b) {
-        pinpool_cache_unpin(&c->held, key, 1);
-        return 0;
-    }
+    if (!b) return 0;
     if (key > c->greatest) c->greatest = key;
     b->key = key;
     b->fetches = 1;
@@ -138,35 +208,52 @@ static sqlite3_pcache_page *fetch(sqlite3_pcache *p, unsigned number, int way) {
 static void unpin(sqlite3_pcache *p, sqlite3_pcache_page *page, int discard) {
     cache *c = (cache *)p;
     bytes *b = (bytes *)page;
-    uint32_t frame = 0, leaves = (uint32_t)(discard || c->keeps_none), fetches = b->fetches;
+    pinpool_page again;
+    int leaves = discard || c->keeps_none, stays = 0;
+    uint32_t fetches = b->fetches;
     b->fetches = 0;
-    pinpool_cache_unpin(&c->held, b->key, leaves);
-    if (leaves || fetches < 2) return;
-    if (pinpool_cache_fetch(&c->held, b->key, PINPOOL_NEVER, &frame) == PINPOOL_HIT)
-        pinpool_cache_unpin(&c->held, b->key, 0);
+    pinpool_cache_unpin(c->held, b->key, leaves, &stays);
+    if (!stays) {
+        give_back(c, b->frame);
+        return;
+    }
+    if (fetches < 2) return;
+    if (pinpool_cache_fetch(c->held, b->key, PINPOOL_NEVER, &again) == PINPOOL_OK && again.found == PINPOOL_HIT)
+        pinpool_cache_unpin(c->held, b->key, 0, 0);
 }
 
+/* SQLite gives a page the number of another one, of the page at the pending byte, or the one behind its last. There is room
+** for each of these (has_room), and then a rekey isn't refused. If it were, SQLite couldn't hear of it: so no page of this
+** cache is given out any more, and SQLite is out of memory. */
 static void rekey(sqlite3_pcache *p, sqlite3_pcache_page *page, unsigned from, unsigned to) {
     cache *c = (cache *)p;
+    bytes *b = (bytes *)page;
+    pinpool_page other;
     uint32_t key = key_of(c, to);
-    /* There is room for each key up to the greatest one, and SQLite gives a page the number of another, or of the page at
-    ** the pending byte. It has no way to hear that this failed. */
-    if (pinpool_cache_rekey(&c->held, key_of(c, from), key) != PINPOOL_DONE) abort();
+    if (pinpool_cache_find(c->held, key, &other) != PINPOOL_OK) other.found = PINPOOL_NOTHING;
+    if (pinpool_cache_rekey(c->held, key_of(c, from), key) != PINPOOL_OK) {
+        c->is_broken = 1;
+        sqlite3_log(SQLITE_NOMEM, "pinpool: page %u can't be page %u", from, to);
+        return;
+    }
+    if (other.found == PINPOOL_HIT && other.frame != b->frame) give_back(c, other.frame);
     if (key > c->greatest) c->greatest = key;
-    ((bytes *)page)->key = key;
+    b->key = key;
 }
 
 /* SQLite truncates after each transaction, and mostly nothing is there to drop. */
 static void truncate_from(sqlite3_pcache *p, unsigned limit) {
     cache *c = (cache *)p;
     if (limit > c->greatest) return;
-    pinpool_cache_truncate(&c->held, limit);
+    uint32_t before = counts_of(c).pages;
+    pinpool_cache_truncate(c->held, limit);
     c->greatest = limit ? limit - 1 : 0;
+    sweep(c, before);
 }
 
 static void destroy(sqlite3_pcache *p) {
     cache *c = (cache *)p;
-    pinpool_cache_drop(&c->held);
+    pinpool_cache_free(c->held);
     for (uint32_t at = 0; at < c->frames; at++) sqlite3_free(c->by_frame[at]);
     sqlite3_free(c->by_frame);
     sqlite3_free(c);
@@ -174,12 +261,21 @@ static void destroy(sqlite3_pcache *p) {
 
 static void shrink(sqlite3_pcache *p) {
     cache *c = (cache *)p;
-    pinpool_cache_shrink(&c->held);
-    sweep(c);
+    uint32_t before = counts_of(c).pages;
+    pinpool_cache_shrink(c->held);
+    sweep(c, before);
 }
 
 const sqlite3_pcache_methods2 pinpool_methods = {
     1, 0, init, shut_down, create, cache_size, page_count, fetch, unpin, rekey, truncate_from, destroy, shrink,
 };
 
-int pinpool_for_sqlite(void) { return sqlite3_config(SQLITE_CONFIG_PCACHE2, &pinpool_methods); }
+/* What the proved side takes is SQLite's, so sqlite3_memory_used and the heap limits see it. */
+static void *get(size_t bytes_wanted) { return sqlite3_malloc64(bytes_wanted); }
+static void *resize_block(void *at, size_t bytes_wanted) { return sqlite3_realloc64(at, bytes_wanted); }
+static const pinpool_memory of_sqlite = {get, resize_block, sqlite3_free};
+
+int pinpool_for_sqlite(void) {
+    pinpool_cache_memory(&of_sqlite);
+    return sqlite3_config(SQLITE_CONFIG_PCACHE2, &pinpool_methods);
+}

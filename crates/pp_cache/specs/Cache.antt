@@ -1,6 +1,6 @@
 -- A page cache: ARC's four lists of keys, beside the frames of their pages.
 use Rattle.std.specs.Prelude.{◌≡◌, ℕ, ◌+◌, ◌-◌, ◌*◌, ◌/◌, min, max, Bool, true, false, not, ◌&&◌, nat_lt, nat_le, ◌==◌}
-use Rattle.std.specs.Prelude.{Option, None, Some, is_some, IsSome, IsTrue, IsFalse, length, if◌then◌else◌, zero, suc}
+use Rattle.std.specs.Prelude.{Option, None, Some, is_some, unwrap_or, IsSome, IsTrue, IsFalse, length, if◌then◌else◌, zero, suc}
 use Rattle.std.specs.List.{filter}
 use Rattle.std.specs.Option.{option_or}
 use Rattle.pp_arc.specs.declared.answer.Answer.{Answer}
@@ -14,7 +14,8 @@ use Rattle.pp_cache.specs.declared.create.Create.{Create}
 use Rattle.pp_cache.specs.declared.create.Create.TheVariants.{Never, IfRoom, Always}
 use Rattle.pp_cache.specs.declared.leaving.Leaving.{Leaving}
 use Rattle.pp_cache.specs.declared.leaving.Leaving.TheVariants.{From, Idle}
-use Rattle.pp_cache.specs.Frames.{FrameMap, no_frames, page_of, is_pinned, pinned_count, with_page, with_pinned}
+use Rattle.pp_cache.specs.declared.left.Left.{Left}
+use Rattle.pp_cache.specs.Frames.{FrameMap, no_frames, page_of, frame_of, is_pinned, pinned_count, with_page, with_pinned}
 use Rattle.pp_cache.specs.Frames.{moved, with_keys, with_free_frame, IsOneToOne}
 
 -- ARC's lists name keys. T1 and T2 are those of the pages that stand in frames, but for pages beyond the size of the
@@ -45,6 +46,11 @@ after_pin s key =
 abbrev pub without_victim : FrameMap → Answer → FrameMap
 without_victim m (Evict victim) = with_page m victim None
 without_victim m _ = m
+
+-- Who left, by an answer of ARC's: its victim, and the frame that it had. (A victim is cached, so it has one.)
+abbrev pub left_of : FrameMap → Answer → Option Left
+left_of m (Evict victim) = Some (record { key = victim; frame = unwrap_or (frame_of m victim) 0 })
+left_of m _ = None
 
 -- The page of a key that stood in no frame gets this one, and is pinned. ARC is asked for it, and its victim leaves.
 -- Where each cached page is pinned, the answer is AllBusy: the lists stay, and the page stands beyond the size of the

@@ -1,17 +1,18 @@
 //! The cache.
 
 ghost use Rattle.std.specs.Prelude.{◌≡◌, ◌≢◌, ℕ, ◌+◌, ◌*◌, ◌<◌, ◌≤◌, ◌↔◌, Bool, true, false, not, nat_lt, is_some, length, ◌&&◌, ◌==◌};
-ghost use Rattle.std.specs.Prelude.{◌||◌, None, Some, IsSome, IsTrue, IsFalse, IfOk, IsOk, IsErr, if◌then◌else◌};
+ghost use Rattle.std.specs.Prelude.{◌||◌, Option, None, Some, IfSome, IsSome, IsTrue, IsFalse, IfOk, IsOk, IsErr, if◌then◌else◌};
 ghost use Rattle.pp_arc.specs.Pages.{contains};
 ghost use Rattle.pp_arc.specs.FourLists.{list_of, is_cached, cached_count};
 ghost use Rattle.pp_arc.specs.Laws.{AllCachedAreBusy};
 ghost use Rattle.pp_cache.specs.Frames.{page_of, frame_of, is_pinned, resident_count, pinned_count, IsFree, with_page};
 ghost use Rattle.pp_cache.specs.Frames.{with_pinned};
-ghost use Rattle.pp_cache.specs.Cache.{keys_for, without_victim};
+ghost use Rattle.pp_cache.specs.declared.left.Left.{Left};
+ghost use Rattle.pp_cache.specs.Cache.{keys_for, without_victim, left_of};
 
 use crate::frames::Frames;
 use crate::leaving::Leaving;
-use crate::{Create, Fetched};
+use crate::{Create, Fetched, Left};
 use pp_arc::{Answer, Busy, Directory, List};
 use std::alloc::{AllocError, Global};
 use std::marker::Model;
@@ -68,8 +69,9 @@ fn keys_for(keys: u32, key: u32) -> u32
     keys.saturating_mul(2).max(key + 1).min(MOST_KEYS)
 }
 
-/// The victim of an answer leaves its frame.
-fn make_way(frames: &mut Frames, answer: Answer)
+/// The victim of an answer leaves its frame. The result says who left.
+fn make_way(frames: &mut Frames, answer: Answer) -> Option<Left>
+    ensures left { result ≡ left_of frames.old answer }
     ensures exact { frames.new ≡ without_victim frames.old answer }
     ensures keys { length frames.new.pages ≡ length frames.old.pages }
     ensures fewer { resident_count frames.new ≤ resident_count frames.old }
@@ -77,7 +79,11 @@ fn make_way(frames: &mut Frames, answer: Answer)
     ensures absent { (key : ℕ) → page_of frames.old key ≡ None → page_of frames.new key ≡ None }
 {
     if let Answer::Evict(victim) = answer {
+        let frame = frames.frame_or_zero(victim);
         frames.release(victim);
+        Some(Left { key: victim, frame })
+    } else {
+        None
     }
 }
 
@@ -118,6 +124,49 @@ impl Cache {
         self.frames.resident()
     }
 
+    /// How many of them are pinned.
+    pub fn pinned(&self) -> u32
+        ensures value { result ≡ pinned_count self.now.table }
+    {
+        self.frames.pinned()
+    }
+
+    /// How many frames there are: their numbers are below this one.
+    pub fn frames(&self) -> u32
+        ensures value { result ≡ self.now.table.frames }
+    {
+        self.frames.frames()
+    }
+
+    /// For how many keys there is room: for those below this number.
+    pub fn keys(&self) -> u32
+        ensures value { result ≡ length self.now.table.pages }
+    {
+        self.frames.keys()
+    }
+
+    /// How many pages that nobody has pinned the cache holds at most.
+    pub fn size(&self) -> u32
+        ensures value { result ≡ self.now.lists.c }
+    {
+        self.directory.size()
+    }
+
+    /// The least key from this one on whose page stands in a frame. It takes a step for each key that it passes over.
+    ///
+    /// A host goes over all pages in frames by beginning at 0, and going on one behind the last answer.
+    pub fn first_from(&self, from: u32) -> Option<u32>
+        ensures first { IfSome result (λ key. (from ≤ key) × IsSome (page_of self.now.table key)) }
+        ensures least { (key : ℕ) → from ≤ key → IfSome result (λ first. key < first) → page_of self.now.table key ≡ None }
+    {
+        for key in from..self.frames.keys() {
+            if self.frames.page(key).is_some() {
+                return Some(key);
+            }
+        }
+        None
+    }
+
     /// Whether nine of ten pages are pinned, rounded down.
     fn is_crowded(&self) -> bool
         ensures { result ≡ is_crowded self.now }
@@ -149,17 +198,26 @@ impl Cache {
     ///
     /// Where it is brought in, the host fills its frame. Keys from 4,294,967,292 on are never brought in.
     ///
-    /// [`Fetched::Nothing`] comes where the page is in no frame and `create` forbids to bring it in, or where the memory
-    /// for it can't be had.
+    /// [`Fetched::Nothing`] comes where the page is in no frame and `create` forbids to bring it in, and
+    /// [`Fetched::NoRoom`] where the memory for it can't be had. Where there is room for the key and a frame for one more page,
+    /// as [`Cache::reserve`] makes them, that never comes.
     pub fn fetch(&mut self, alloc: Global, key: u32, create: Create) -> Fetched
         ensures hit { (frame : ℕ) → (result ≡ Fetched.Hit frame) ↔ (frame_of self.old.table key ≡ Some frame) }
         ensures after_hit { (frame : ℕ) → result ≡ Fetched.Hit frame → self.new ≡ after_pin self.old key }
-        ensures new { (frame : ℕ) → result ≡ Fetched.New frame
+        ensures new { (frame : ℕ) (left : Option Left) → result ≡ Fetched.New frame left
             → self.new ≡ after_bring_in (with_room self.old key) key frame }
-        ensures new_is_free { (frame : ℕ) → result ≡ Fetched.New frame
+        ensures new_is_free { (frame : ℕ) (left : Option Left) → result ≡ Fetched.New frame left
             → IsFree (without_victim (with_room self.old key).table (asked (with_room self.old key) key).0) frame }
-        ensures may_be_new { (frame : ℕ) → result ≡ Fetched.New frame → IsTrue (may_bring_in self.old create) }
-        ensures nothing { result ≡ Fetched.Nothing → SamePages self.old self.new }
+        ensures left { (frame : ℕ) (left : Option Left) → result ≡ Fetched.New frame left
+            → left ≡ left_of (with_room self.old key).table (asked (with_room self.old key) key).0 }
+        ensures may_be_new { (frame : ℕ) (left : Option Left) → result ≡ Fetched.New frame left
+            → IsTrue (may_bring_in self.old create) }
+        ensures nothing { (result ≡ Fetched.Nothing)
+            ↔ ((frame_of self.old.table key ≡ None) × IsFalse (may_bring_in self.old create)) }
+        ensures unchanged { result ≡ Fetched.Nothing → self.new ≡ self.old }
+        ensures no_room { result ≡ Fetched.NoRoom → SamePages self.old self.new }
+        ensures succeeds { key < length self.old.table.pages → resident_count self.old.table < self.old.table.frames
+            → result ≢ Fetched.NoRoom }
         ensures pinned_stay { PinnedStay self.old.table self.new.table }
         ensures sound { IsSound self.new }
     {
@@ -170,8 +228,11 @@ impl Cache {
             return Fetched::Nothing;
         }
         match self.reserve(alloc, key) {
-            Ok(()) => Fetched::New(self.bring_in(key)),
-            Err(_) => Fetched::Nothing,
+            Ok(()) => {
+                let (frame, left) = self.bring_in(key);
+                Fetched::New(frame, left)
+            }
+            Err(_) => Fetched::NoRoom,
         }
     }
 
@@ -207,13 +268,14 @@ impl Cache {
 
     /// Puts the page of a key, which stands in no frame, into one, and pins it. There is room for the key, and a frame for
     /// one more page.
-    fn bring_in(&mut self, key: u32) -> u32
+    fn bring_in(&mut self, key: u32) -> (u32, Option<Left>)
         requires key { key < length self.old.table.pages }
         requires absent { page_of self.old.table key ≡ None }
         requires room { resident_count self.old.table < self.old.table.frames }
-        ensures exact { self.new ≡ after_bring_in self.old key result }
-        ensures below { result < self.new.table.frames }
-        ensures free { IsFree (without_victim self.old.table (asked self.old key).0) result }
+        ensures exact { self.new ≡ after_bring_in self.old key result.0 }
+        ensures below { result.0 < self.new.table.frames }
+        ensures free { IsFree (without_victim self.old.table (asked self.old key).0) result.0 }
+        ensures left { result.1 ≡ left_of self.old.table (asked self.old key).0 }
         ensures pinned_stay { PinnedStay self.old.table self.new.table }
         ensures sound { IsSound self.new }
     {
@@ -237,29 +299,31 @@ impl Cache {
     }
 
     /// The page gets a frame beyond the size of the cache, since nobody may leave.
-    fn bring_in_beyond(&mut self, key: u32) -> u32
+    fn bring_in_beyond(&mut self, key: u32) -> (u32, Option<Left>)
         requires key { key < length self.old.table.pages }
         requires absent { page_of self.old.table key ≡ None }
         requires room { resident_count self.old.table < self.old.table.frames }
         requires full { cached_count self.old.lists ≡ self.old.lists.c }
         requires all_pinned { AllCachedAreBusy self.old.lists (is_pinned self.old.table) }
-        ensures exact { self.new ≡ after_bring_in self.old key result }
-        ensures below { result < self.new.table.frames }
-        ensures free { IsFree (without_victim self.old.table (asked self.old key).0) result }
+        ensures exact { self.new ≡ after_bring_in self.old key result.0 }
+        ensures below { result.0 < self.new.table.frames }
+        ensures free { IsFree (without_victim self.old.table (asked self.old key).0) result.0 }
+        ensures left { result.1 ≡ left_of self.old.table (asked self.old key).0 }
         ensures pinned_stay { PinnedStay self.old.table self.new.table }
         ensures sound { IsSound self.new }
     {
-        self.frames.take(key)
+        (self.frames.take(key), None)
     }
 
     /// The page is asked for, and whoever leaves for it has no frame any more.
-    fn bring_in_asked(&mut self, key: u32) -> u32
+    fn bring_in_asked(&mut self, key: u32) -> (u32, Option<Left>)
         requires key { key < length self.old.table.pages }
         requires absent { page_of self.old.table key ≡ None }
         requires room { resident_count self.old.table < self.old.table.frames }
-        ensures exact { self.new ≡ after_bring_in self.old key result }
-        ensures below { result < self.new.table.frames }
-        ensures free { IsFree (without_victim self.old.table (asked self.old key).0) result }
+        ensures exact { self.new ≡ after_bring_in self.old key result.0 }
+        ensures below { result.0 < self.new.table.frames }
+        ensures free { IsFree (without_victim self.old.table (asked self.old key).0) result.0 }
+        ensures left { result.1 ≡ left_of self.old.table (asked self.old key).0 }
         ensures pinned_stay { PinnedStay self.old.table self.new.table }
         ensures sound { IsSound self.new }
     {
@@ -267,8 +331,8 @@ impl Cache {
             frames: &self.frames,
         };
         let answer = self.directory.request(key, &pinned);
-        make_way(&mut self.frames, answer);
-        self.frames.take(key)
+        let left = make_way(&mut self.frames, answer);
+        (self.frames.take(key), left)
     }
 
     // ---- room
@@ -277,11 +341,14 @@ impl Cache {
     ///
     /// # Errors
     ///
-    /// Where the memory can't be had, and for a key from 4,294,967,292 on. Then no page and no list has changed.
+    /// Where the memory can't be had, and for a key from 4,294,967,292 on. Then no page and no list has changed. Where there
+    /// is room already, it takes no memory, and none comes.
     pub fn reserve(&mut self, alloc: Global, key: u32) -> Result<(), AllocError>
         ensures reserved { IsOk result → self.new ≡ with_room self.old key }
         ensures key { IsOk result → key < length self.new.table.pages }
         ensures room { IsOk result → resident_count self.new.table < self.new.table.frames }
+        ensures succeeds { key < length self.old.table.pages → resident_count self.old.table < self.old.table.frames
+            → IsOk result }
         ensures same_pages { SamePages self.old self.new }
         ensures sound { IsSound self.new }
     {
@@ -293,10 +360,12 @@ impl Cache {
     ///
     /// # Errors
     ///
-    /// Where the memory can't be had, and for a key from 4,294,967,292 on. Then no page and no list has changed.
+    /// Where the memory can't be had, and for a key from 4,294,967,292 on. Then no page and no list has changed. Where there
+    /// is room already, it takes no memory, and none comes.
     pub fn reserve_key(&mut self, alloc: Global, key: u32) -> Result<(), AllocError>
         ensures reserved { IsOk result → self.new ≡ with_key self.old key }
         ensures key { IsOk result → key < length self.new.table.pages }
+        ensures succeeds { key < length self.old.table.pages → IsOk result }
         ensures same_pages { SamePages self.old self.new }
         ensures sound { IsSound self.new }
     {
@@ -329,8 +398,20 @@ impl Cache {
 
     /// Takes the pin off the page of the key. A page that is discarded leaves its frame and isn't remembered.
     ///
-    /// A page beyond the size of the cache leaves its frame too. A page that isn't pinned stays as it is.
-    pub fn unpin(&mut self, key: u32, discard: bool)
+    /// A page beyond the size of the cache leaves its frame too. A page that isn't pinned stays as it is. The result says
+    /// whether the page stands in a frame afterwards: where not, the host can give its bytes back.
+    pub fn unpin(&mut self, key: u32, discard: bool) -> bool
+        ensures stays { result ≡ is_some (page_of self.new.table key) }
+        ensures exact { self.new ≡ after_unpin self.old key discard }
+        ensures others_stay { (other : ℕ) → other ≢ key → page_of self.new.table other ≡ page_of self.old.table other }
+        ensures sound { IsSound self.new }
+    {
+        self.take_pin(key, discard);
+        self.frames.page(key).is_some()
+    }
+
+    /// Takes the pin off the page of the key.
+    fn take_pin(&mut self, key: u32, discard: bool)
         ensures exact { self.new ≡ after_unpin self.old key discard }
         ensures others_stay { (other : ℕ) → other ≢ key → page_of self.new.table other ≡ page_of self.old.table other }
         ensures sound { IsSound self.new }

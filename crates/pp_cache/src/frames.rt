@@ -1,7 +1,7 @@
 //! The frames of a cache: which one has the page of a key, which are free, and which pages are pinned.
 
 ghost use Rattle.std.specs.Prelude.{◌≡◌, ℕ, ◌+◌, ◌^◌, ◌<◌, ◌≤◌, Bool, true, length, None, Some, IsSome, IfSome, IsOk, IsErr};
-ghost use Rattle.std.specs.Prelude.{if◌then◌else◌};
+ghost use Rattle.std.specs.Prelude.{if◌then◌else◌, unwrap_or};
 
 use crate::Resident;
 use std::alloc::{AllocError, Global};
@@ -89,6 +89,23 @@ impl Frames {
         }
     }
 
+    /// The frame that has the page of the key, and 0 where it stands in none.
+    pub(crate) fn frame_or_zero(&self, key: u32) -> u32
+        ensures { result ≡ unwrap_or (frame_of self.now key) 0 }
+    {
+        match self.page(key) {
+            Some(page) => page.frame,
+            None => 0,
+        }
+    }
+
+    /// How many frames there are.
+    pub(crate) fn frames(&self) -> u32
+        ensures { result ≡ self.now.frames }
+    {
+        self.order.len() as u32
+    }
+
     /// How many pages stand in frames.
     pub(crate) fn resident(&self) -> u32
         ensures { result ≡ resident_count self.now }
@@ -125,6 +142,7 @@ impl Frames {
     pub(crate) fn make_free(&mut self) -> Result<(), AllocError>
         ensures made { IsOk result → self.new ≡ with_free_frame self.old }
         ensures room { IsOk result → resident_count self.new < self.new.frames }
+        ensures succeeds { resident_count self.old < self.old.frames → IsOk result }
         ensures unchanged { IsErr result → self.new ≡ self.old }
     {
         if self.taken as usize == self.order.len() {

@@ -9,6 +9,7 @@
 pub use cache::Cache;
 pub use create::Create;
 pub use fetched::Fetched;
+pub use left::Left;
 pub use resident::Resident;
 
 mod cache;
@@ -17,4 +18,5 @@ mod fetched;
 mod frames;
 pub mod laws;
 mod leaving;
+mod left;
 mod resident;

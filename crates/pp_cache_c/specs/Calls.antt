@@ -1,9 +1,13 @@
 -- What calls from C answer, and what they do to the cache that a handle holds.
-use Rattle.std.specs.Prelude.{◌≡◌, ℕ, Option, None, Some, zero, suc}
+use Rattle.std.specs.Prelude.{◌≡◌, ℕ, Option, None, Some, zero, suc, length}
 use Rattle.std.specs.Option.{MatchOption}
 use Rattle.pp_cache.specs.declared.create.Create.{Create}
 use Rattle.pp_cache.specs.declared.create.Create.TheVariants.{Never, IfRoom, Always}
+use Rattle.pp_cache.specs.declared.left.Left.{Left}
+use Rattle.pp_cache.specs.Frames.{resident_count, pinned_count}
 use Rattle.pp_cache.specs.Cache.{PageCache}
+use Rattle.pp_cache_c.specs.declared.counts.Counts.{Counts}
+use Rattle.pp_cache_c.specs.declared.place.Place.{Place}
 use Rattle.pp_cache_c.specs.declared.handle.Kept.{Kept}
 use Rattle.pp_cache_c.specs.declared.status.Status.{Status}
 use Rattle.pp_cache_c.specs.declared.status.Status.TheVariants.{Done, Hit, New, Nothing, NoCache, NoRoom, BadArgument}
@@ -24,6 +28,21 @@ create_of zero = Some Never
 create_of (suc zero) = Some IfRoom
 create_of (suc (suc zero)) = Some Always
 create_of (suc (suc (suc _))) = None
+
+-- What C sees of a fetch that pinned a page in this frame, for which this page left.
+abbrev pub place_of : ℕ → Option Left → Place
+place_of frame None = record { frame = frame; left_key = 4294967295; left_frame = 0 }
+place_of frame (Some left) = record { frame = frame; left_key = left.key; left_frame = left.frame }
+
+-- What C sees of how much a cache has.
+abbrev pub counts_of : PageCache → Counts
+counts_of s = record {
+  size = s.lists.c;
+  pages = resident_count s.table;
+  pinned = pinned_count s.table;
+  frames = s.table.frames;
+  keys = length s.table.pages;
+}
 
 -- A handle holds a cache after the call exactly where it held one before, and these two caches are so.
 abbrev pub Goes : (PageCache → PageCache → Type 0) → Option Kept → Option Kept → Type 0

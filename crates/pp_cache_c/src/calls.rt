@@ -1,16 +1,18 @@
 //! The calls that C makes.
 
-ghost use Rattle.std.specs.Prelude.{◌≡◌, ◌≢◌, ◌↔◌, ℕ, ◌<◌, ◌≤◌, IsTrue, IsSome, not, nat_lt, ◌==◌};
+ghost use Rattle.std.specs.Prelude.{◌≡◌, ◌≢◌, ◌↔◌, ℕ, ◌<◌, ◌≤◌, IsTrue, IsFalse, IsSome, is_some, not, nat_lt, ◌==◌, length};
 ghost use Rattle.std.specs.Prelude.{Some, None, if◌then◌else◌};
 ghost use Rattle.std.specs.Option.{MatchOption, IfSome, option_map_or};
 ghost use Rattle.pp_cache.specs.declared.create.Create.{Create};
-ghost use Rattle.pp_cache.specs.Frames.{frame_of, resident_count, IsFree};
+ghost use Rattle.pp_cache.specs.Frames.{page_of, frame_of, resident_count, IsFree};
 ghost use Rattle.pp_cache.specs.Cache.{empty_cache, asked, without_victim, with_key, with_room, may_bring_in, after_pin};
 ghost use Rattle.pp_cache.specs.Cache.{after_bring_in, after_unpin, after_rekey, after_resize, is_idle, KeepsOnly, SamePages};
-ghost use Rattle.pp_cache.specs.Cache.{PinnedStay};
-ghost use Rattle.pp_cache_c.specs.Calls.{code, create_of, Goes};
+ghost use Rattle.pp_cache.specs.Cache.{PinnedStay, left_of};
+ghost use Rattle.pp_cache_c.specs.Calls.{code, create_of, counts_of, place_of, Goes};
 
+use crate::counts::Counts;
 use crate::handle::{Handle, Kept, put, take};
+use crate::place::Place;
 use crate::status::Status;
 use pp_cache::{Cache, Create, Fetched};
 use std::alloc::Global;
@@ -21,7 +23,7 @@ use std::alloc::Global;
 ///
 /// It answers `Done`; `NoRoom`; or `BadArgument` for a size of 0. But for `Done`, the handle holds what it held.
 #[unsafe(no_mangle)]
-pub extern "C" fn pinpool_cache_new(alloc: Global, handle: &mut Handle, size: u32) -> u32
+pub extern "C" fn pinpool_handle_new(alloc: Global, handle: &mut Handle, size: u32) -> u32
     ensures bad { (result ≡ code Status.BadArgument) ↔ (size ≡ 0) }
     ensures no_room { result ≢ code Status.Done → result ≢ code Status.BadArgument → result ≡ code Status.NoRoom }
     ensures unchanged { result ≢ code Status.Done → handle.new.value ≡ handle.old.value }
@@ -50,7 +52,7 @@ fn kept_of(alloc: Global, size: u32) -> Option<Box<Kept>>
 
 /// Drops the cache that the handle holds, and leaves the handle null.
 #[unsafe(no_mangle)]
-pub extern "C" fn pinpool_cache_drop(alloc: Global, handle: &mut Handle)
+pub extern "C" fn pinpool_handle_drop(alloc: Global, handle: &mut Handle)
     ensures null { handle.new.value ≡ None }
 {
     let _gone = take(alloc, handle);
@@ -58,37 +60,44 @@ pub extern "C" fn pinpool_cache_drop(alloc: Global, handle: &mut Handle)
 
 // ---- a page
 
-/// Pins the page of the key, and writes its frame's number to `frame`.
+/// Pins the page of the key, and writes to `place` its frame's number, and which page left for it.
 ///
-/// `create` is 0 for never, 1 for only if there is room, and 2 for always. It answers `Hit`; `New`; `Nothing`, also where
-/// memory can't be had; `NoCache`; or `BadArgument` for another `create`. But for `Hit` and `New`, `frame` stays.
+/// `create` is 0 for never, 1 for only if there is room, and 2 for always. It answers `Hit`; `New`; `Nothing`, where the page
+/// may not be brought in; `NoRoom`, where memory can't be had or the key is too great; `NoCache`; or `BadArgument` for another
+/// `create`. But for `Hit` and `New`, `place` stays.
 #[unsafe(no_mangle)]
-pub extern "C" fn pinpool_cache_fetch(
+pub extern "C" fn pinpool_handle_fetch(
     alloc: Global,
     handle: &mut Handle,
     key: u32,
     create: u32,
-    frame: &mut u32,
+    place: &mut Place,
 ) -> u32
     ensures null { (result ≡ code Status.NoCache) ↔ (handle.old.value ≡ None) }
     ensures hit { Goes (λ old new. result ≡ code Status.Hit
-        → (frame_of old.table key ≡ Some frame.new) × (new ≡ after_pin old key)) handle.old.value handle.new.value }
+        → (frame_of old.table key ≡ Some place.new.frame) × (place.new ≡ place_of place.new.frame None)
+        × (new ≡ after_pin old key)) handle.old.value handle.new.value }
     ensures resident { Goes (λ old new. create < 3 → IsSome (frame_of old.table key) → result ≡ code Status.Hit)
         handle.old.value handle.new.value }
     ensures new { Goes (λ old new. result ≡ code Status.New
-        → (new ≡ after_bring_in (with_room old key) key frame.new)
-        × IsFree (without_victim (with_room old key).table (asked (with_room old key) key).0) frame.new
+        → (new ≡ after_bring_in (with_room old key) key place.new.frame)
+        × IsFree (without_victim (with_room old key).table (asked (with_room old key) key).0) place.new.frame
+        × (place.new ≡ place_of place.new.frame (left_of (with_room old key).table (asked (with_room old key) key).0))
         × IfSome (create_of create) (λ way. IsTrue (may_bring_in old way))) handle.old.value handle.new.value }
-    ensures nothing { Goes (λ old new. result ≡ code Status.Nothing → SamePages old new) handle.old.value handle.new.value }
+    ensures nothing { Goes (λ old new. result ≡ code Status.Nothing → (new ≡ old)
+        × IfSome (create_of create) (λ way. IsFalse (may_bring_in old way))) handle.old.value handle.new.value }
+    ensures no_room { Goes (λ old new. result ≡ code Status.NoRoom → SamePages old new) handle.old.value handle.new.value }
+    ensures succeeds { Goes (λ old new. key < length old.table.pages → resident_count old.table < old.table.frames
+        → result ≢ code Status.NoRoom) handle.old.value handle.new.value }
     ensures bad { Goes (λ old new. (result ≡ code Status.BadArgument) ↔ (3 ≤ create)) handle.old.value handle.new.value }
     ensures unchanged { Goes (λ old new. 3 ≤ create → new ≡ old) handle.old.value handle.new.value }
     ensures pinned_stay { Goes (λ old new. PinnedStay old.table new.table) handle.old.value handle.new.value }
-    ensures frame { result ≢ code Status.Hit → result ≢ code Status.New → frame.new ≡ frame.old }
+    ensures place { result ≢ code Status.Hit → result ≢ code Status.New → place.new ≡ place.old }
 {
     match take(alloc, handle) {
         None => Status::NoCache.code(),
         Some(mut kept) => {
-            let status = fetch(alloc, &mut kept.cache, key, create, frame);
+            let status = fetch(alloc, &mut kept.cache, key, create, place);
             put(handle, kept);
             status.code()
         }
@@ -108,34 +117,42 @@ fn way_of(create: u32) -> Option<Create>
     }
 }
 
-fn fetch(alloc: Global, cache: &mut Cache, key: u32, create: u32, frame: &mut u32) -> Status
+fn fetch(alloc: Global, cache: &mut Cache, key: u32, create: u32, place: &mut Place) -> Status
     ensures there { result ≢ Status.NoCache }
     ensures hit { result ≡ Status.Hit
-        → (frame_of cache.old.table key ≡ Some frame.new) × (cache.new ≡ after_pin cache.old key) }
+        → (frame_of cache.old.table key ≡ Some place.new.frame) × (place.new ≡ place_of place.new.frame None)
+        × (cache.new ≡ after_pin cache.old key) }
     ensures resident { create < 3 → IsSome (frame_of cache.old.table key) → result ≡ Status.Hit }
-    ensures new { result ≡ Status.New → (cache.new ≡ after_bring_in (with_room cache.old key) key frame.new)
-        × IsFree (without_victim (with_room cache.old key).table (asked (with_room cache.old key) key).0) frame.new
+    ensures new { result ≡ Status.New → (cache.new ≡ after_bring_in (with_room cache.old key) key place.new.frame)
+        × IsFree (without_victim (with_room cache.old key).table (asked (with_room cache.old key) key).0) place.new.frame
+        × (place.new ≡ place_of place.new.frame
+        (left_of (with_room cache.old key).table (asked (with_room cache.old key) key).0))
         × IfSome (create_of create) (λ way. IsTrue (may_bring_in cache.old way)) }
-    ensures nothing { result ≡ Status.Nothing → SamePages cache.old cache.new }
+    ensures nothing { result ≡ Status.Nothing → (cache.new ≡ cache.old)
+        × IfSome (create_of create) (λ way. IsFalse (may_bring_in cache.old way)) }
+    ensures no_room { result ≡ Status.NoRoom → SamePages cache.old cache.new }
+    ensures succeeds { key < length cache.old.table.pages → resident_count cache.old.table < cache.old.table.frames
+        → result ≢ Status.NoRoom }
     ensures bad { (result ≡ Status.BadArgument) ↔ (3 ≤ create) }
     ensures unchanged { 3 ≤ create → cache.new ≡ cache.old }
     ensures pinned_stay { PinnedStay cache.old.table cache.new.table }
-    ensures frame { result ≢ Status.Hit → result ≢ Status.New → frame.new ≡ frame.old }
+    ensures place { result ≢ Status.Hit → result ≢ Status.New → place.new ≡ place.old }
 {
     let way = match way_of(create) {
         None => return Status::BadArgument,
         Some(way) => way,
     };
     match cache.fetch(alloc, key, way) {
-        Fetched::Hit(at) => {
-            *frame = at;
+        Fetched::Hit(frame) => {
+            *place = Place::of(frame, None);
             Status::Hit
         }
-        Fetched::New(at) => {
-            *frame = at;
+        Fetched::New(frame, left) => {
+            *place = Place::of(frame, left);
             Status::New
         }
         Fetched::Nothing => Status::Nothing,
+        Fetched::NoRoom => Status::NoRoom,
     }
 }
 
@@ -143,7 +160,7 @@ fn fetch(alloc: Global, cache: &mut Cache, key: u32, create: u32, frame: &mut u3
 ///
 /// It answers `Hit`, `Nothing` or `NoCache`. But for `Hit`, `frame` stays.
 #[unsafe(no_mangle)]
-pub extern "C" fn pinpool_cache_frame(
+pub extern "C" fn pinpool_handle_frame(
     alloc: Global,
     handle: &mut Handle,
     key: u32,
@@ -173,23 +190,29 @@ pub extern "C" fn pinpool_cache_frame(
 
 /// Takes the pin off the page of the key. Where `discard` isn't 0 it leaves its frame, and isn't remembered.
 ///
-/// It answers `Done` or `NoCache`.
+/// It answers `Done` where the page stands in a frame afterwards, `Nothing` where it stands in none, or `NoCache`.
 #[unsafe(no_mangle)]
-pub extern "C" fn pinpool_cache_unpin(
+pub extern "C" fn pinpool_handle_unpin(
     alloc: Global,
     handle: &mut Handle,
     key: u32,
     discard: u32,
 ) -> u32
-    ensures status { result ≡ option_map_or (λ _. code Status.Done) handle.old.value (code Status.NoCache) }
+    ensures null { (result ≡ code Status.NoCache) ↔ (handle.old.value ≡ None) }
+    ensures stays { IfSome handle.new.value (λ kept.
+        result ≡ (if is_some (page_of kept.cache.table key) then code Status.Done else code Status.Nothing)) }
     ensures exact { Goes (λ old new. new ≡ after_unpin old key (nat_lt 0 discard)) handle.old.value handle.new.value }
 {
     match take(alloc, handle) {
         None => Status::NoCache.code(),
         Some(mut kept) => {
-            kept.cache.unpin(key, 0 < discard);
+            let stays = kept.cache.unpin(key, 0 < discard);
             put(handle, kept);
-            Status::Done.code()
+            if stays {
+                Status::Done.code()
+            } else {
+                Status::Nothing.code()
+            }
         }
     }
 }
@@ -198,11 +221,18 @@ pub extern "C" fn pinpool_cache_unpin(
 ///
 /// It answers `Done`; `NoRoom`, which changes no page, and never comes where there is room for the key `new`; or `NoCache`.
 #[unsafe(no_mangle)]
-pub extern "C" fn pinpool_cache_rekey(alloc: Global, handle: &mut Handle, old: u32, new: u32) -> u32
+pub extern "C" fn pinpool_handle_rekey(
+    alloc: Global,
+    handle: &mut Handle,
+    old: u32,
+    new: u32,
+) -> u32
     ensures null { (result ≡ code Status.NoCache) ↔ (handle.old.value ≡ None) }
     ensures done { Goes (λ before after. result ≡ code Status.Done → after ≡ after_rekey (with_key before new) old new)
         handle.old.value handle.new.value }
     ensures same { Goes (λ before after. result ≢ code Status.Done → SamePages before after)
+        handle.old.value handle.new.value }
+    ensures succeeds { Goes (λ before after. new < length before.table.pages → result ≡ code Status.Done)
         handle.old.value handle.new.value }
 {
     match take(alloc, handle) {
@@ -219,6 +249,7 @@ fn rekey(alloc: Global, cache: &mut Cache, old: u32, new: u32) -> Status
     ensures there { result ≢ Status.NoCache }
     ensures done { result ≡ Status.Done → cache.new ≡ after_rekey (with_key cache.old new) old new }
     ensures same { result ≢ Status.Done → SamePages cache.old cache.new }
+    ensures succeeds { new < length cache.old.table.pages → result ≡ Status.Done }
 {
     match cache.reserve_key(alloc, new) {
         Err(_) => Status::NoRoom,
@@ -229,11 +260,50 @@ fn rekey(alloc: Global, cache: &mut Cache, old: u32, new: u32) -> Status
     }
 }
 
+/// Makes room for the key, and a frame for one more page, so that neither the next fetch of this key nor a rekey to it is
+/// refused.
+///
+/// It answers `Done`; `NoRoom`, which changes no page, and never comes where there is room; or `NoCache`.
+#[unsafe(no_mangle)]
+pub extern "C" fn pinpool_handle_reserve(alloc: Global, handle: &mut Handle, key: u32) -> u32
+    ensures null { (result ≡ code Status.NoCache) ↔ (handle.old.value ≡ None) }
+    ensures done { Goes (λ old new. result ≡ code Status.Done → new ≡ with_room old key) handle.old.value handle.new.value }
+    ensures room { Goes (λ old new. result ≡ code Status.Done
+        → (key < length new.table.pages) × (resident_count new.table < new.table.frames)) handle.old.value handle.new.value }
+    ensures same { Goes (λ old new. SamePages old new) handle.old.value handle.new.value }
+    ensures succeeds { Goes (λ old new. key < length old.table.pages → resident_count old.table < old.table.frames
+        → result ≡ code Status.Done) handle.old.value handle.new.value }
+{
+    match take(alloc, handle) {
+        None => Status::NoCache.code(),
+        Some(mut kept) => {
+            let status = reserve(alloc, &mut kept.cache, key);
+            put(handle, kept);
+            status.code()
+        }
+    }
+}
+
+fn reserve(alloc: Global, cache: &mut Cache, key: u32) -> Status
+    ensures there { result ≢ Status.NoCache }
+    ensures done { result ≡ Status.Done → cache.new ≡ with_room cache.old key }
+    ensures room { result ≡ Status.Done
+        → (key < length cache.new.table.pages) × (resident_count cache.new.table < cache.new.table.frames) }
+    ensures same { SamePages cache.old cache.new }
+    ensures succeeds { key < length cache.old.table.pages → resident_count cache.old.table < cache.old.table.frames
+        → result ≡ Status.Done }
+{
+    match cache.reserve(alloc, key) {
+        Err(_) => Status::NoRoom,
+        Ok(()) => Status::Done,
+    }
+}
+
 // ---- many pages
 
 /// Drops each page whose key is at least `limit`, pinned or not, and forgets such names. It answers `Done` or `NoCache`.
 #[unsafe(no_mangle)]
-pub extern "C" fn pinpool_cache_truncate(alloc: Global, handle: &mut Handle, limit: u32) -> u32
+pub extern "C" fn pinpool_handle_truncate(alloc: Global, handle: &mut Handle, limit: u32) -> u32
     ensures status { result ≡ option_map_or (λ _. code Status.Done) handle.old.value (code Status.NoCache) }
     ensures exact { Goes (λ old new. KeepsOnly (λ key. nat_lt key limit) old new) handle.old.value handle.new.value }
 {
@@ -249,7 +319,7 @@ pub extern "C" fn pinpool_cache_truncate(alloc: Global, handle: &mut Handle, lim
 
 /// Drops each page that isn't pinned. It answers `Done` or `NoCache`.
 #[unsafe(no_mangle)]
-pub extern "C" fn pinpool_cache_shrink(alloc: Global, handle: &mut Handle) -> u32
+pub extern "C" fn pinpool_handle_shrink(alloc: Global, handle: &mut Handle) -> u32
     ensures status { result ≡ option_map_or (λ _. code Status.Done) handle.old.value (code Status.NoCache) }
     ensures exact { Goes (λ old new. KeepsOnly (λ key. not (is_idle old.table key)) old new)
         handle.old.value handle.new.value }
@@ -268,7 +338,7 @@ pub extern "C" fn pinpool_cache_shrink(alloc: Global, handle: &mut Handle) -> u3
 ///
 /// It answers `Done`, `NoCache`, or `BadArgument` for a size of 0, which changes nothing.
 #[unsafe(no_mangle)]
-pub extern "C" fn pinpool_cache_resize(alloc: Global, handle: &mut Handle, size: u32) -> u32
+pub extern "C" fn pinpool_handle_resize(alloc: Global, handle: &mut Handle, size: u32) -> u32
     ensures bad { (result ≡ code Status.BadArgument) ↔ (size ≡ 0) }
     ensures unchanged { size ≡ 0 → handle.new.value ≡ handle.old.value }
     ensures exact { 1 ≤ size → Goes (λ old new. new ≡ after_resize old size) handle.old.value handle.new.value }
@@ -289,7 +359,7 @@ pub extern "C" fn pinpool_cache_resize(alloc: Global, handle: &mut Handle, size:
 
 /// How many pages stand in frames: 0 for a null handle.
 #[unsafe(no_mangle)]
-pub extern "C" fn pinpool_cache_pages(alloc: Global, handle: &mut Handle) -> u32
+pub extern "C" fn pinpool_handle_pages(alloc: Global, handle: &mut Handle) -> u32
     ensures value { result ≡ option_map_or (λ kept. resident_count kept.cache.table) handle.old.value 0 }
     ensures unchanged { handle.new.value ≡ handle.old.value }
 {
@@ -299,6 +369,74 @@ pub extern "C" fn pinpool_cache_pages(alloc: Global, handle: &mut Handle) -> u32
             let pages = kept.cache.pages();
             put(handle, kept);
             pages
+        }
+    }
+}
+
+/// Writes to `counts` how much the cache has, and changes nothing else. It answers `Done`, or `NoCache`, and then `counts`
+/// stays.
+#[unsafe(no_mangle)]
+pub extern "C" fn pinpool_handle_counts(
+    alloc: Global,
+    handle: &mut Handle,
+    counts: &mut Counts,
+) -> u32
+    ensures status { result ≡ option_map_or (λ _. code Status.Done) handle.old.value (code Status.NoCache) }
+    ensures counts { counts.new ≡ option_map_or (λ kept. counts_of kept.cache) handle.old.value counts.old }
+    ensures unchanged { handle.new.value ≡ handle.old.value }
+{
+    match take(alloc, handle) {
+        None => Status::NoCache.code(),
+        Some(kept) => {
+            *counts = counts_of(&kept.cache);
+            put(handle, kept);
+            Status::Done.code()
+        }
+    }
+}
+
+fn counts_of(cache: &Cache) -> Counts
+    ensures { result ≡ counts_of cache.now }
+{
+    Counts {
+        size: cache.size(),
+        pages: cache.pages(),
+        pinned: cache.pinned(),
+        frames: cache.frames(),
+        keys: cache.keys(),
+    }
+}
+
+/// Writes to `key` the least key from `from` on whose page stands in a frame, and changes nothing else.
+///
+/// It answers `Hit`; `Nothing` where there is none; or `NoCache`. But for `Hit`, `key` stays.
+#[unsafe(no_mangle)]
+pub extern "C" fn pinpool_handle_next(
+    alloc: Global,
+    handle: &mut Handle,
+    from: u32,
+    key: &mut u32,
+) -> u32
+    ensures null { (result ≡ code Status.NoCache) ↔ (handle.old.value ≡ None) }
+    ensures first { IfSome handle.old.value (λ kept. result ≡ code Status.Hit
+        → (from ≤ key.new) × IsSome (page_of kept.cache.table key.new)) }
+    ensures least { IfSome handle.old.value (λ kept. (other : ℕ) → from ≤ other → (result ≡ code Status.Hit → other < key.new)
+        → page_of kept.cache.table other ≡ None) }
+    ensures key { result ≢ code Status.Hit → key.new ≡ key.old }
+    ensures unchanged { handle.new.value ≡ handle.old.value }
+{
+    match take(alloc, handle) {
+        None => Status::NoCache.code(),
+        Some(kept) => {
+            let found = kept.cache.first_from(from);
+            put(handle, kept);
+            match found {
+                Some(first) => {
+                    *key = first;
+                    Status::Hit.code()
+                }
+                None => Status::Nothing.code(),
+            }
         }
     }
 }

@@ -6,9 +6,13 @@
 //! declares the calls.
 #![tactic(auto)]
 
+pub use counts::Counts;
 pub use handle::{Handle, Kept};
+pub use place::Place;
 pub use status::Status;
 
 mod calls;
+mod counts;
 mod handle;
+mod place;
 mod status;

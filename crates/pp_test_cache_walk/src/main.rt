@@ -55,6 +55,11 @@ impl Walk {
         Ok(())
     }
 
+    /// The key whose bytes a frame has.
+    fn has(&self, frame: u32) -> Option<u32> {
+        self.bytes.get(frame as usize).copied()
+    }
+
     fn fetch(&mut self, alloc: Global) -> anyhow::Result<bool> {
         let key = self.key();
         let create = match self.chance.below(8) {
@@ -66,10 +71,18 @@ impl Walk {
         match (self.cache.fetch(alloc, key, create), want) {
             (Fetched::Hit(frame), Want::Hit(plainly)) => {
                 self.count(0);
-                Ok(frame == plainly && self.bytes.get(frame as usize).copied() == Some(key))
+                Ok(frame == plainly && self.has(frame) == Some(key))
             }
-            (Fetched::New(frame), Want::New) => {
+            (Fetched::New(frame, left), Want::New(leaves)) => {
                 self.count(1);
+                let told = left.map(|left| (left.key, left.frame));
+                // (the bytes of the page that left are still there, and are those of the frame that is filled)
+                if told != leaves
+                    || told.is_some_and(|told| told.1 != frame
+                        || self.has(told.1) != Some(told.0))
+                {
+                    return Ok(false);
+                }
                 self.fill(frame, key)?;
                 Ok(self.plain.admit(key, frame)?)
             }
@@ -81,12 +94,13 @@ impl Walk {
         }
     }
 
-    fn unpin(&mut self) {
+    fn unpin(&mut self) -> bool {
         let key = self.key();
         let discard = self.chance.below(8) == 0;
         self.count(if discard { 3 } else { 4 });
-        self.cache.unpin(key, discard);
+        let stays = self.cache.unpin(key, discard);
         self.plain.unpin(key, discard);
+        stays == self.plain.frame(key).is_some()
     }
 
     fn rekey(&mut self, alloc: Global) -> anyhow::Result<()> {
@@ -102,15 +116,22 @@ impl Walk {
         Ok(())
     }
 
-    /// Makes one call on both, and says whether they answer the same.
-    fn turn(&mut self, alloc: Global) -> anyhow::Result<bool> {
+    /// Makes one call on both, and says whether they answer the same. Where many stay, pages are unpinned so seldom that in
+    /// the end all are pinned.
+    fn turn(&mut self, alloc: Global, many_stay: bool) -> anyhow::Result<bool> {
         let kind = self.chance.below(100);
-        if kind < 35 {
+        if kind < if many_stay { 80 } else { 35 } {
             return self.fetch(alloc);
         }
         if kind < 90 {
-            self.unpin();
-        } else if kind < 94 {
+            return Ok(self.unpin());
+        }
+        if self.plain.pinned_count() == self.plain.count()
+            && self.plain.count() > self.plain.size() as usize
+        {
+            self.count(9);
+        }
+        if kind < 94 {
             self.rekey(alloc)?;
         } else if kind < 95 {
             let limit = self.key().saturating_add(100);
@@ -139,6 +160,24 @@ impl Walk {
             }
         }
         self.cache.pages() as usize == self.plain.count()
+            && self.cache.pinned() as usize == self.plain.pinned_count()
+            && self.cache.size() == self.plain.size()
+            && self.goes_over_all()
+    }
+
+    /// Whether going on from key to key comes to each page that stands in a frame.
+    fn goes_over_all(&self) -> bool {
+        let mut at = self.cache.first_from(0);
+        for i in 0..KEYS {
+            let key = i.saturating_mul(APART);
+            if self.plain.frame(key).is_some() {
+                if at != Some(key) {
+                    return false;
+                }
+                at = self.cache.first_from(key.saturating_add(1));
+            }
+        }
+        at.is_none()
     }
 
     /// How many kinds came a thousand times or more.
@@ -160,10 +199,10 @@ fn main(rt: HostRuntime) -> anyhow::Result<()> {
         cache: Cache::new(alloc, 12)?,
         plain: Plain::new(alloc, 12),
         bytes: Vec::new(alloc),
-        counts: vec![in alloc; 0u32; 9]?,
+        counts: vec![in alloc; 0u32; 10]?,
     };
     for made in 0..CALLS {
-        if !walk.turn(alloc)? || !walk.agrees() {
+        if !walk.turn(alloc, made / 5000 % 4 == 3)? || !walk.agrees() {
             anyhow::bail!("call {made} is answered otherwise");
         }
     }

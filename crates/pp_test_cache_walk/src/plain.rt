@@ -16,7 +16,8 @@ struct Page {
 #[derive(Clone, Copy)]
 pub enum Want {
     Hit(u32),
-    New,
+    /// And who leaves for it: its key, and its frame.
+    New(Option<(u32, u32)>),
     Nothing,
 }
 
@@ -52,6 +53,16 @@ impl Plain {
 
     pub fn count(&self) -> usize {
         self.pages.len()
+    }
+
+    /// How many pages are pinned.
+    pub fn pinned_count(&self) -> usize {
+        self.pages.iter().filter(|page| page.is_pinned).count()
+    }
+
+    /// How many pages that nobody has pinned there may be.
+    pub fn size(&self) -> u32 {
+        self.size
     }
 
     /// The keys of the pinned pages.
@@ -101,9 +112,11 @@ impl Plain {
             return Ok(Want::Nothing);
         }
         if let Answer::Evict(victim) = self.lists.request(key, &pinned)? {
+            let frame = self.frame(victim).unwrap_or(u32::MAX);
             self.remove(victim);
+            return Ok(Want::New(Some((victim, frame))));
         }
-        Ok(Want::New)
+        Ok(Want::New(None))
     }
 
     /// Puts a new page into this frame. False where another page has it.

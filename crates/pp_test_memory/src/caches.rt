@@ -69,7 +69,7 @@ fn reserves<R: AllocGlobal + Print>(rt: &R) -> anyhow::Result<()> {
     Ok(())
 }
 
-/// A fetch answers that the page is in no frame where the memory for it can't be had.
+/// A fetch answers that there is no room where the memory for the page can't be had.
 fn fetches<R: AllocGlobal + Print>(rt: &R) -> anyhow::Result<()> {
     let mut cache = Cache::new(rt.alloc(), 2)?;
     for _time in 0..2 {
@@ -78,7 +78,7 @@ fn fetches<R: AllocGlobal + Print>(rt: &R) -> anyhow::Result<()> {
         let fetched = cache.fetch(rt.alloc(), KEY, Create::Always);
         answer(rt)?;
         println!(rt; "{fetched:?}")?;
-        if fetched != Fetched::Nothing {
+        if fetched != Fetched::NoRoom {
             return Ok(());
         }
     }

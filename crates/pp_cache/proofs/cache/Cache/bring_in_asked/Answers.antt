@@ -14,7 +14,7 @@ invariant_of-self c =
       bounds = c.request-answer.ensures.bounds;
       frames = c.take.ensures.one_to_one;
       together =
-          rw (c.take.ensures.exact, c.make_way.ensures.exact) (together-bring_in s c.request-answer.new.self
+          rw (c.take.ensures.exact, c.make_way-left.ensures.exact) (together-bring_in s c.request-answer.new.self
           c.request-answer.result c.args.key (new_page c.take.result) c.self.invariant.together low refl
           c.request-answer.ensures.fixed.1
           (answered c.self.inside.directory c.request-answer.new.self c.args.key c.request-answer.result

@@ -1,9 +1,9 @@
--- What is left to show of pinpool_cache_truncate: the cache of the handle keeps what the cache keeps.
+-- What is left to show of pinpool_handle_truncate: the cache of the handle keeps what the cache keeps.
 use Rattle.std.proofs.Common.{sym, ap, ◌∙◌}
 use Rattle.std.specs.Prelude.{Some, nat_lt}
 use Rattle.pp_cache.specs.Cache.{KeepsOnly}
 use Rattle.pp_cache_c.proofs.CallLemmas.{goes}
-use Rattle.pp_cache_c.proofs.calls.pinpool_cache_truncate.Goals as goal
+use Rattle.pp_cache_c.proofs.calls.pinpool_handle_truncate.Goals as goal
 
 pub returns-in-Some-clause-exact : goal.returns-in-Some-clause-exact
 returns-in-Some-clause-exact c =

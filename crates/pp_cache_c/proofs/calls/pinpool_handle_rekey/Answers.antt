@@ -1,9 +1,9 @@
--- What is left to show of pinpool_cache_rekey: where it answers that it is done, the cache did it.
+-- What is left to show of pinpool_handle_rekey: where it answers that it is done, the cache did it.
 use Rattle.std.proofs.Common.{sym, ap, ◌∙◌, ◌≡◌}
 use Rattle.std.specs.Prelude.{Some}
 use Rattle.pp_cache.specs.Cache.{after_rekey, with_key}
 use Rattle.pp_cache_c.proofs.CallLemmas.{goes, is_done}
-use Rattle.pp_cache_c.proofs.calls.pinpool_cache_rekey.Goals as goal
+use Rattle.pp_cache_c.proofs.calls.pinpool_handle_rekey.Goals as goal
 
 pub returns-in-Some-clause-done : goal.returns-in-Some-clause-done
 returns-in-Some-clause-done c =
