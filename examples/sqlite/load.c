@@ -316,9 +316,11 @@ static void move_in_memory(void) {
 static void limit_heap(void) {
     ask("PRAGMA shrink_memory");
     ask_of("PRAGMA cache_size = %lld", pages * 20, 0);
-    sqlite3_soft_heap_limit64(sqlite3_memory_used() + 1000000);
+    sqlite3_int64 limit = sqlite3_memory_used() + 200000;
+    sqlite3_soft_heap_limit64(limit);
     scan();
     read_rows(rows / 2, 80, 1);
+    if (sqlite3_memory_used() > limit + limit / 4) stop("the soft heap limit isn't kept");
 }
 
 static void lift_limit(void) {
@@ -445,7 +447,8 @@ static void run_all(outcome *into) {
 }
 
 /* Prints what came of the caches from `first` to `last`, side by side, and answers how many loads went wrong: those with
-** other answers, and those after which pinpool's cache has more than half a MB of memory more than twice what SQLite's has. */
+** other answers, and those after which SQLite has more memory than a quarter of a MB beside one and a half times what it has
+** over its own cache. */
 static int tell(int first, int last) {
     int wrong = 0;
     double seconds[2] = {0, 0};
@@ -456,7 +459,7 @@ static int tell(int first, int last) {
     printf("\n");
     for (int at = 0; at < loads; at++) {
         const outcome *one = &done[first][at], *two = &done[last][at];
-        int is_same = one->answers == two->answers, is_large = two->bytes > 2 * one->bytes + 500000;
+        int is_same = one->answers == two->answers, is_large = two->bytes > one->bytes + one->bytes / 2 + 250000;
         wrong += !is_same + is_large;
         printf("%-20s %016llx", one->name, (unsigned long long)one->answers);
         for (int of = first; of <= last; of++) printf(" %10d", done[of][at].misses);
@@ -483,6 +486,15 @@ static void *get_or_refuse(size_t bytes) { return is_refused() ? 0 : sqlite3_mal
 static void *resize_or_refuse(void *at, size_t bytes) { return is_refused() ? 0 : sqlite3_realloc64(at, bytes); }
 
 static const pinpool_memory refusing = {get_or_refuse, resize_or_refuse, sqlite3_free};
+
+/* The shim says where a page is refused its new number, which never is to be. */
+static void hear(void *unused, int status, const char *said) {
+    (void)unused;
+    if (strncmp(said, "pinpool:", 8) == 0) {
+        fprintf(stderr, "load: %s (%d)\n", said, status);
+        exit(1);
+    }
+}
 
 /* The database that a load left is opened anew, and has to be whole. */
 static void check_again(void) {
@@ -567,7 +579,7 @@ int main(int count, char **words) {
     printf("SQLite %s, pinpool %s, %ld rows, a cache of %ld pages of 4096 bytes\n", sqlite3_libversion(),
         pinpool_cache_version(), rows, pages);
     if (refuses) {
-        if (pinpool_for_sqlite() != SQLITE_OK) stop("pinpool_for_sqlite");
+        if (pinpool_for_sqlite() != SQLITE_OK || sqlite3_config(SQLITE_CONFIG_LOG, hear, (void *)0) != SQLITE_OK) stop("configure");
         pinpool_cache_memory(&refusing);
         refuse_each();
         return 0;
