@@ -11,9 +11,11 @@
 #ifdef PINPOOL_IN_TESTFIXTURE
 void sqlite3BeginBenignMalloc(void);
 void sqlite3EndBenignMalloc(void);
+extern int sqlite3PendingByte; /* which tests change */
 #else
 static void sqlite3BeginBenignMalloc(void) {}
 static void sqlite3EndBenignMalloc(void) {}
+static const int sqlite3PendingByte = 0x40000000;
 #endif
 
 /* More pages than a cache ever has to keep. */
@@ -40,6 +42,7 @@ typedef struct cache {
     uint32_t greatest;  /* no page has a greater key */
     uint32_t keys;      /* there is room for the keys below this one */
     uint32_t frames;    /* how many places there are in by_frame */
+    uint32_t blocks;    /* how many of these have bytes */
     bytes **by_frame;
 } cache;
 
@@ -75,7 +78,7 @@ static sqlite3_pcache *create(int page_bytes, int extra_bytes, int is_purgeable)
     c->page_bytes = (size_t)page_bytes;
     c->extra_bytes = (size_t)extra_bytes;
     c->is_purgeable = is_purgeable;
-    c->lock_page = 0x40000000u / (unsigned)page_bytes + 1;
+    c->lock_page = (uint32_t)sqlite3PendingByte / (unsigned)page_bytes + 1;
     c->size = 1;
     /* SQLite tells the size before its first fetch. All pages of an unpurgeable cache stay pinned, whatever the size. */
     if (pinpool_cache_new(1, &c->held) != PINPOOL_OK) {
@@ -90,6 +93,7 @@ static void give_back(cache *c, uint32_t frame) {
     if (frame >= c->frames || !c->by_frame[frame]) return;
     sqlite3_free(c->by_frame[frame]);
     c->by_frame[frame] = 0;
+    c->blocks--;
 }
 
 /* Gives back the bytes of each frame that has no page, where pages have left since there were so many. */
@@ -167,8 +171,24 @@ static bytes *bytes_of(cache *c, uint32_t frame) {
         b->page.pExtra = (char *)(b + 1) + c->page_bytes;
         b->frame = frame;
         c->by_frame[frame] = b;
+        c->blocks++;
     }
     return c->by_frame[frame];
+}
+
+/* What a page that was brought in has; none where memory can't be had. */
+static bytes *filled(cache *c, uint32_t key, const pinpool_page *page) {
+    if (page->left_key != PINPOOL_NO_KEY && page->left_frame != page->frame) give_back(c, page->left_frame);
+    bytes *b = bytes_of(c, page->frame);
+    if (!b) {
+        pinpool_cache_unpin(c->held, key, 1, 0);
+        return 0;
+    }
+    if (key > c->greatest) c->greatest = key;
+    b->key = key;
+    b->fetches = 1;
+    memset(b->page.pExtra, 0, c->extra_bytes);
+    return b;
 }
 
 /* Brings in a page that is in no frame; none where it may not be, or memory can't be had. */
@@ -176,31 +196,29 @@ static bytes *bring_in(cache *c, uint32_t key, int way) {
     pinpool_page page;
     if (!may_come(c, way) || !has_room(c, key)) return 0;
     if (pinpool_cache_fetch(c->held, key, (pinpool_create)way, &page) != PINPOOL_OK || page.found != PINPOOL_NEW) return 0;
-    if (page.left_key != PINPOOL_NO_KEY && page.left_frame != page.frame) give_back(c, page.left_frame);
-    bytes *b = bytes_of(c, page.frame);
-    if (!b) pinpool_cache_unpin(c->held, key, 1, 0);
-    return b;
+    return filled(c, key, &page);
 }
+
+/* Whether a page that comes in takes no memory but that of a page that leaves: there is room for its key, and the cache is
+** full. */
+static int takes_nothing(const cache *c, uint32_t key) { return key + 1 < c->keys && c->blocks > c->size && !c->is_squeezed; }
 
 static sqlite3_pcache_page *fetch(sqlite3_pcache *p, unsigned number, int way) {
     cache *c = (cache *)p;
     pinpool_page page;
     uint32_t key = key_of(c, number);
+    int is_asked = way != PINPOOL_NEVER && takes_nothing(c, key);
     if (c->is_broken) return 0;
-    if (pinpool_cache_fetch(c->held, key, PINPOOL_NEVER, &page) == PINPOOL_OK && page.found == PINPOOL_HIT) {
+    if (pinpool_cache_fetch(c->held, key, is_asked ? (pinpool_create)way : PINPOOL_NEVER, &page) != PINPOOL_OK) return 0;
+    if (page.found == PINPOOL_HIT) {
         c->by_frame[page.frame]->fetches++;
         return &c->by_frame[page.frame]->page;
     }
-    if (way == PINPOOL_NEVER) return 0;
+    if (way == PINPOOL_NEVER || (is_asked && page.found == PINPOOL_NOTHING)) return 0;
     if (way == PINPOOL_IF_ROOM) sqlite3BeginBenignMalloc();
-    bytes *b = bring_in(c, key, way);
+    bytes *b = is_asked ? filled(c, key, &page) : bring_in(c, key, way);
     if (way == PINPOOL_IF_ROOM) sqlite3EndBenignMalloc();
-    if (!b) return 0;
-    if (key > c->greatest) c->greatest = key;
-    b->key = key;
-    b->fetches = 1;
-    memset(b->page.pExtra, 0, c->extra_bytes);
-    return &b->page;
+    return b ? &b->page : 0;
 }
 
 /* SQLite keeps a page pinned as long as it is dirty, for all of a transaction, and the cache counts no fetch of a pinned page.
@@ -224,21 +242,19 @@ static void unpin(sqlite3_pcache *p, sqlite3_pcache_page *page, int discard) {
 
 /* SQLite gives a page the number of another one, of the page at the pending byte, or the one behind its last. There is room
 ** for each of these (has_room), and then a rekey isn't refused. If it were, SQLite couldn't hear of it: so no page of this
-** cache is given out any more, and SQLite is out of memory. */
+** cache is given out or gets a number any more, and SQLite is out of memory. (What had the number is dropped, if SQLite hasn't
+** done so before; its bytes stay with its frame.) */
 static void rekey(sqlite3_pcache *p, sqlite3_pcache_page *page, unsigned from, unsigned to) {
     cache *c = (cache *)p;
-    bytes *b = (bytes *)page;
-    pinpool_page other;
     uint32_t key = key_of(c, to);
-    if (pinpool_cache_find(c->held, key, &other) != PINPOOL_OK) other.found = PINPOOL_NOTHING;
+    if (c->is_broken) return;
     if (pinpool_cache_rekey(c->held, key_of(c, from), key) != PINPOOL_OK) {
         c->is_broken = 1;
         sqlite3_log(SQLITE_NOMEM, "pinpool: page %u can't be page %u", from, to);
         return;
     }
-    if (other.found == PINPOOL_HIT && other.frame != b->frame) give_back(c, other.frame);
     if (key > c->greatest) c->greatest = key;
-    b->key = key;
+    ((bytes *)page)->key = key;
 }
 
 /* SQLite truncates after each transaction, and mostly nothing is there to drop. */
