@@ -1,86 +1,62 @@
-//! The calls of a page cache.
+//! The calls of a page cache that has no page yet.
 
-use crate::stand::{answer, call};
 use pp_cache::{Cache, Create, Fetched};
+use pp_test_rounds::{Answer, Tried, twice};
+use std::alloc::{AllocError, Global};
 
 /// A key that an empty cache has no room for.
 const KEY: u32 = 9;
 
-/// Does the case of this call.
+/// Does the case of this call. Then the page of the key is fetched once more.
 pub fn case<R: AllocGlobal + Print>(rt: &R, call: &str) -> anyhow::Result<()> {
-    match call {
-        "Cache::new" => makes(rt),
-        "Cache::reserve_key" => reserves_key(rt),
-        "Cache::reserve" => reserves(rt),
-        "Cache::fetch" => fetches(rt),
-        _ => anyhow::bail!("there is no such call"),
-    }
-}
-
-fn makes<R: AllocGlobal + Print>(rt: &R) -> anyhow::Result<()> {
-    for _time in 0..2 {
-        call(rt)?;
-        let made = Cache::new(rt.alloc(), 2);
-        answer(rt)?;
-        match made {
-            Ok(cache) => {
-                println!(rt; "{} pages", cache.pages())?;
-                return Ok(());
-            }
-            Err(error) => println!(rt; "{error}")?,
-        }
-    }
+    let cache = Cache::new(rt.alloc(), 2)?;
+    let mut caching = Caching {
+        alloc: rt.alloc(),
+        call,
+        cache,
+    };
+    twice(rt, &mut caching)?;
+    println!(rt;
+        "{:?}",
+        caching.cache.fetch(rt.alloc(), KEY, Create::Always)
+    )?;
     Ok(())
 }
 
-fn reserves_key<R: AllocGlobal + Print>(rt: &R) -> anyhow::Result<()> {
-    let mut cache = Cache::new(rt.alloc(), 2)?;
-    for _time in 0..2 {
-        println!(rt; "stand: {} pages", cache.pages())?;
-        call(rt)?;
-        let reserved = cache.reserve_key(rt.alloc(), KEY);
-        answer(rt)?;
+/// A cache, and a call on it.
+#[derive(Drop)]
+struct Caching<'a> {
+    alloc: Global,
+    call: &'a str,
+    cache: Cache,
+}
+
+impl Tried for Caching<'_> {
+    type Told = Answer;
+
+    fn stand(&self) -> Option<Answer> {
+        Some(Answer::One("pages", u64::from(self.cache.pages())))
+    }
+
+    fn call(&mut self) -> Answer {
+        let reserved = match self.call {
+            "Cache::reserve_key" => self.cache.reserve_key(self.alloc, KEY),
+            "Cache::reserve" => self.cache.reserve(self.alloc, KEY),
+            _ => return fetched(self.cache.fetch(self.alloc, KEY, Create::Always)),
+        };
         match reserved {
-            Ok(()) => {
-                println!(rt; "{:?}", cache.fetch(rt.alloc(), KEY, Create::Always))?;
-                return Ok(());
-            }
-            Err(error) => println!(rt; "{error}")?,
+            Ok(()) => Answer::One("pages", u64::from(self.cache.pages())),
+            Err(error) => Answer::Lacking(error),
         }
     }
-    Ok(())
-}
-
-fn reserves<R: AllocGlobal + Print>(rt: &R) -> anyhow::Result<()> {
-    let mut cache = Cache::new(rt.alloc(), 2)?;
-    for _time in 0..2 {
-        println!(rt; "stand: {} pages", cache.pages())?;
-        call(rt)?;
-        let reserved = cache.reserve(rt.alloc(), KEY);
-        answer(rt)?;
-        match reserved {
-            Ok(()) => {
-                println!(rt; "{:?}", cache.fetch(rt.alloc(), KEY, Create::Always))?;
-                return Ok(());
-            }
-            Err(error) => println!(rt; "{error}")?,
-        }
-    }
-    Ok(())
 }
 
 /// A fetch answers that there is no room where the memory for the page can't be had.
-fn fetches<R: AllocGlobal + Print>(rt: &R) -> anyhow::Result<()> {
-    let mut cache = Cache::new(rt.alloc(), 2)?;
-    for _time in 0..2 {
-        println!(rt; "stand: {} pages", cache.pages())?;
-        call(rt)?;
-        let fetched = cache.fetch(rt.alloc(), KEY, Create::Always);
-        answer(rt)?;
-        println!(rt; "{fetched:?}")?;
-        if fetched != Fetched::NoRoom {
-            return Ok(());
-        }
+fn fetched(fetched: Fetched) -> Answer {
+    match fetched {
+        Fetched::Hit(frame) => Answer::One("hit", u64::from(frame)),
+        Fetched::New(frame, _left) => Answer::One("new", u64::from(frame)),
+        Fetched::Nothing => Answer::Nothing,
+        Fetched::NoRoom => Answer::Lacking(AllocError),
     }
-    Ok(())
 }

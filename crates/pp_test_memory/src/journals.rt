@@ -1,143 +1,128 @@
 //! The calls that write journals and reports, and audit journals.
 
 use crate::samples::{LIVES, events, record};
-use crate::stand::{answer, call};
-use pp_report::{Journal, audit, audit_lives, journal_text, packed_journal_text, report};
+use pp_cert::Accepted;
+use pp_model::Event;
+use pp_report::{
+    AuditError, Audited, Journal, RunRecord, audit, audit_lives, journal_text, packed_journal_text,
+    report,
+};
 use pp_settings::Settings;
 use pp_test_plain::all_accepted;
 use pp_test_plain::samples::{SETTINGS, TOUCH, TOUCHED};
+use pp_test_rounds::{Answer, Tried, twice};
+use std::alloc::Global;
 
 /// Does the case of this call.
 pub fn case<R: AllocGlobal + Print>(rt: &R, call: &str) -> anyhow::Result<()> {
     match call {
-        "journal_text" => journal(rt),
-        "packed_journal_text" => packed_journal(rt),
-        "Journal::from_events" => packed(rt),
-        "Journal::to_events" => unpacked(rt),
-        "report" => reports(rt),
-        "audit" => audits(rt),
-        "audit_lives" => lives(rt),
-        _ => anyhow::bail!("there is no such call"),
+        "audit" => audits(rt, call, &[TOUCH]),
+        "audit_lives" => audits(rt, call, &[TOUCH, TOUCH]),
+        _ => {
+            let (events, record) = (events(rt.alloc())?, record(rt.alloc())?);
+            twice(
+                rt,
+                &mut Written {
+                    alloc: rt.alloc(),
+                    call,
+                    events,
+                    record,
+                },
+            )
+        }
     }
 }
 
-fn journal<R: AllocGlobal + Print>(rt: &R) -> anyhow::Result<()> {
-    let events = events(rt.alloc())?;
-    for _time in 0..2 {
-        call(rt)?;
-        let written = journal_text(rt.alloc(), &events);
-        answer(rt)?;
-        match written {
-            Ok(text) => {
-                println!(rt; "{text}")?;
-                return Ok(());
-            }
-            Err(error) => println!(rt; "{error}")?,
-        }
-    }
-    Ok(())
+/// A journal that is written, packed, unpacked or reported.
+#[derive(Drop)]
+struct Written<'a> {
+    alloc: Global,
+    call: &'a str,
+    events: Vec<Event>,
+    record: RunRecord,
 }
 
-fn packed_journal<R: AllocGlobal + Print>(rt: &R) -> anyhow::Result<()> {
-    let record = record(rt.alloc())?;
-    for _time in 0..2 {
-        call(rt)?;
-        let written = packed_journal_text(rt.alloc(), &record.events);
-        answer(rt)?;
-        match written {
-            Ok(text) => {
-                println!(rt; "{text}")?;
-                return Ok(());
-            }
-            Err(error) => println!(rt; "{error}")?,
+impl Tried for Written<'_> {
+    type Told = Answer;
+
+    fn call(&mut self) -> Answer {
+        match self.call {
+            "journal_text" => Answer::of_text(journal_text(self.alloc, &self.events)),
+            "packed_journal_text" => Answer::of_text(packed_journal_text(
+                self.alloc,
+                &self.record.events,
+            )),
+            "report" => Answer::of_text(report(self.alloc, &self.record)),
+            "Journal::from_events" => packed(self.alloc, &self.events),
+            _ => unpacked(self.alloc, &self.record.events, &self.events),
         }
     }
-    Ok(())
 }
 
-fn packed<R: AllocGlobal + Print>(rt: &R) -> anyhow::Result<()> {
-    let events = events(rt.alloc())?;
-    for _time in 0..2 {
-        call(rt)?;
-        let made = Journal::from_events(rt.alloc(), &events);
-        answer(rt)?;
-        match made {
-            Ok(journal) => {
-                println!(rt; "{} events", journal.len())?;
-                return Ok(());
-            }
-            Err(error) => println!(rt; "{error}")?,
-        }
+fn packed(alloc: Global, events: &[Event]) -> Answer {
+    match Journal::from_events(alloc, events) {
+        Ok(journal) => Answer::One("events", journal.len() as u64),
+        Err(error) => Answer::Lacking(error),
     }
-    Ok(())
 }
 
-fn unpacked<R: AllocGlobal + Print>(rt: &R) -> anyhow::Result<()> {
-    let record = record(rt.alloc())?;
-    for _time in 0..2 {
-        call(rt)?;
-        let given = record.events.to_events(rt.alloc());
-        answer(rt)?;
-        match given {
-            Ok(events) => {
-                println!(rt; "{events:?}")?;
-                return Ok(());
-            }
-            Err(error) => println!(rt; "{error}")?,
-        }
+/// How many events come out of the journal, and whether they are these.
+fn unpacked(alloc: Global, journal: &Journal, events: &[Event]) -> Answer {
+    match journal.to_events(alloc) {
+        Ok(given) => Answer::Two(
+            "events",
+            given.len() as u64,
+            "the same",
+            u64::from(given.as_slice() == events),
+        ),
+        Err(error) => Answer::Lacking(error),
     }
-    Ok(())
 }
 
-fn reports<R: AllocGlobal + Print>(rt: &R) -> anyhow::Result<()> {
-    let record = record(rt.alloc())?;
-    for _time in 0..2 {
-        call(rt)?;
-        let written = report(rt.alloc(), &record);
-        answer(rt)?;
-        match written {
-            Ok(text) => {
-                println!(rt; "{text}")?;
-                return Ok(());
-            }
-            Err(error) => println!(rt; "{error}")?,
-        }
-    }
-    Ok(())
+/// A journal that is audited with plans, for each round its own.
+#[derive(Drop)]
+struct Auditing<'a> {
+    alloc: Global,
+    call: &'a str,
+    settings: Settings,
+    lots: Vec<Vec<Accepted>>,
 }
 
-fn audits<R: AllocGlobal + Print>(rt: &R) -> anyhow::Result<()> {
-    let settings = Settings::from_text(rt.alloc(), SETTINGS)?;
-    for _time in 0..2 {
-        let plans = all_accepted(rt.alloc(), &settings, &[TOUCH])?;
-        call(rt)?;
-        let audited = audit(rt.alloc(), &settings, plans, TOUCHED.as_bytes());
-        answer(rt)?;
-        match audited {
-            Ok(audited) => {
-                println!(rt; "{} lines", audited.lines)?;
-                return Ok(());
-            }
-            Err(error) => println!(rt; "{}", error.refusal())?,
+impl Tried for Auditing<'_> {
+    type Told = Answer;
+
+    fn call(&mut self) -> Answer {
+        let Some(plans) = self.lots.pop() else {
+            return Answer::Nothing;
+        };
+        match self.call {
+            "audit" => audited(audit(self.alloc, &self.settings, plans, TOUCHED.as_bytes())),
+            _ => audited(audit_lives(self.alloc, &self.settings, plans, LIVES.as_bytes())),
         }
     }
-    Ok(())
 }
 
-fn lives<R: AllocGlobal + Print>(rt: &R) -> anyhow::Result<()> {
-    let settings = Settings::from_text(rt.alloc(), SETTINGS)?;
-    for _time in 0..2 {
-        let plans = all_accepted(rt.alloc(), &settings, &[TOUCH, TOUCH])?;
-        call(rt)?;
-        let audited = audit_lives(rt.alloc(), &settings, plans, LIVES.as_bytes());
-        answer(rt)?;
-        match audited {
-            Ok(audited) => {
-                println!(rt; "{} lines", audited.lines)?;
-                return Ok(());
-            }
-            Err(error) => println!(rt; "{}", error.refusal())?,
-        }
+fn audited(audited: Result<Audited, AuditError>) -> Answer {
+    match audited {
+        Ok(audited) => Answer::One("lines", audited.lines),
+        Err(error) => Answer::Refused(error.refusal()),
     }
-    Ok(())
+}
+
+fn audits<R: AllocGlobal + Print>(rt: &R, call: &str, plans: &[&str]) -> anyhow::Result<()> {
+    let alloc = rt.alloc();
+    let settings = Settings::from_text(alloc, SETTINGS)?;
+    let mut lots = Vec::new(alloc);
+    for _round in 0..2 {
+        lots.push(all_accepted(alloc, &settings, plans)?)?;
+    }
+    twice(
+        rt,
+        &mut Auditing {
+            alloc,
+            call,
+            settings,
+            lots,
+        },
+    )
 }

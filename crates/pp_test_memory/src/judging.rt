@@ -1,21 +1,32 @@
 //! The calls that judge the bytes of files.
 
 use crate::samples::{LIVES, PIN, PIN_NOTES, SCRIPT};
-use crate::stand::{answer, call};
 use pp_judge::{
-    AnnotateFiles, AuditFiles, CheckFiles, Contents, DrawFiles, SimulateFiles, Workload,
-    device_size, exit_of,
+    AnnotateFiles, AuditFiles, CheckFiles, Contents, DrawFiles, Exit, JudgeError, SimulateFiles,
+    Workload, device_size, exit_of,
 };
 use pp_test_plain::samples::{SETTINGS, TOUCH, TOUCHED, WRITE};
+use pp_test_rounds::{Answer, Told, Tried, twice};
 use std::alloc::Global;
+use std::fmt;
 
 /// Does the case of this call and this row.
 pub fn case<R: AllocGlobal + Print>(rt: &R, call: &str, row: &str) -> anyhow::Result<()> {
+    let alloc = rt.alloc();
+    let plans = bytes_of(alloc, texts_of(call, row))?;
     match call {
-        "exit_of" => exit(rt, row),
-        "device_size" => size(rt),
-        "Workload::read" => workload(rt),
-        _ => anyhow::bail!("there is no such call"),
+        "exit_of" => twice(rt, &mut Judging { alloc, row, plans }),
+        _ => twice(rt, &mut Loading { alloc, call, plans }),
+    }
+}
+
+/// The texts of a case's plans.
+fn texts_of(call: &str, row: &str) -> &'static [&'static str] {
+    match (call, row) {
+        ("Workload::read", _) => &[TOUCH, WRITE],
+        (_, "audit" | "draw") => &[TOUCH],
+        (_, "audit_lives") => &[TOUCH, TOUCH],
+        _ => &[WRITE],
     }
 }
 
@@ -67,55 +78,80 @@ fn contents<'a>(row: &str, plans: &'a [Vec<u8>]) -> Contents<'a> {
     }
 }
 
-fn exit<R: AllocGlobal + Print>(rt: &R, row: &str) -> anyhow::Result<()> {
-    let texts: &[&str] = match row {
-        "audit" | "draw" => &[TOUCH],
-        "audit_lives" => &[TOUCH, TOUCH],
-        _ => &[WRITE],
-    };
-    let plans = bytes_of(rt.alloc(), texts)?;
-    for _time in 0..2 {
-        let contents = contents(row, &plans);
-        call(rt)?;
-        let exit = exit_of(rt.alloc(), contents);
-        answer(rt)?;
-        println!(rt; "status {}: {exit}", exit.status())?;
-        if exit.is_output() {
-            return Ok(());
-        }
-    }
-    Ok(())
+/// Files that are judged.
+#[derive(Drop)]
+struct Judging<'a> {
+    alloc: Global,
+    row: &'a str,
+    plans: Vec<Vec<u8>>,
 }
 
-fn size<R: AllocGlobal + Print>(rt: &R) -> anyhow::Result<()> {
-    for _time in 0..2 {
-        call(rt)?;
-        let size = device_size(rt.alloc(), SETTINGS.as_bytes());
-        answer(rt)?;
-        match size {
-            Ok(size) => {
-                println!(rt; "{size:?}")?;
-                return Ok(());
-            }
-            Err(refusal) => println!(rt; "{refusal}")?,
+impl Tried for Judging<'_> {
+    type Told = Ended;
+
+    fn call(&mut self) -> Ended {
+        Ended {
+            exit: exit_of(self.alloc, contents(self.row, &self.plans)),
         }
     }
-    Ok(())
 }
 
-fn workload<R: AllocGlobal + Print>(rt: &R) -> anyhow::Result<()> {
-    let plans = bytes_of(rt.alloc(), &[TOUCH, WRITE])?;
-    for _time in 0..2 {
-        call(rt)?;
-        let read = Workload::read(rt.alloc(), SETTINGS.as_bytes(), &plans);
-        answer(rt)?;
-        match read {
-            Ok(workload) => {
-                println!(rt; "{} plans", workload.plans.len())?;
-                return Ok(());
-            }
-            Err(refusal) => println!(rt; "{refusal}")?,
+/// How a command ends.
+#[derive(Drop)]
+struct Ended {
+    exit: Exit<'static>,
+}
+
+impl Told for Ended {
+    fn is_last(&self) -> bool {
+        self.exit.is_output()
+    }
+}
+
+impl fmt::Display for Ended {
+    fn fmt<W: fmt::Write>(&self, f: &mut fmt::Formatter<W>) -> fmt::Result {
+        write!(f, "status {}: {}", self.exit.status(), self.exit)
+    }
+}
+
+/// Files that a run or a new device is made of.
+#[derive(Drop)]
+struct Loading<'a> {
+    alloc: Global,
+    call: &'a str,
+    plans: Vec<Vec<u8>>,
+}
+
+impl Tried for Loading<'_> {
+    type Told = Answer;
+
+    fn call(&mut self) -> Answer {
+        match self.call {
+            "device_size" => size(self.alloc),
+            _ => workload(self.alloc, &self.plans),
         }
     }
-    Ok(())
+}
+
+fn size(alloc: Global) -> Answer {
+    match device_size(alloc, SETTINGS.as_bytes()) {
+        Ok(size) => Answer::Two(
+            "pages",
+            u64::from(size.pages),
+            "bytes",
+            u64::from(size.page_bytes),
+        ),
+        Err(error) => failed(error),
+    }
+}
+
+fn workload(alloc: Global, plans: &[Vec<u8>]) -> Answer {
+    match Workload::read(alloc, SETTINGS.as_bytes(), plans) {
+        Ok(workload) => Answer::One("plans", workload.plans.len() as u64),
+        Err(error) => failed(error),
+    }
+}
+
+fn failed(error: JudgeError) -> Answer {
+    Answer::Failed(anyhow::anyhow!("{error}"))
 }

@@ -1,8 +1,8 @@
 //! The calls that make the ends of a device.
 
-use crate::stand::{answer, call};
 use pp_device::Device;
 use pp_shared::SharedDevice;
+use pp_test_rounds::{Answer, Tried, twice};
 use std::fs;
 use std::fs::File;
 use std::rt::Files;
@@ -14,51 +14,63 @@ pub fn case<R: Files<File = File> + AllocGlobal + Print + Wait + Copy + Drop>(
     call: &str,
 ) -> anyhow::Result<()> {
     match call {
-        "SharedDevice::over_memory" => over_memory(rt),
-        "SharedDevice::over_file" => over_file(rt),
+        "SharedDevice::over_memory" => twice(rt, &mut OverMemory { rt: *rt }),
+        "SharedDevice::over_file" => {
+            fs::write(rt, "device", [0; 128].as_slice())?;
+            twice(rt, &mut OverFile { rt: *rt })
+        }
         _ => anyhow::bail!("there is no such call"),
     }
 }
 
-/// Prints how many ends there are, and what the last one reads of page 1.
-fn tell<R: Print + Wait + Drop>(rt: &R, ends: Vec<SharedDevice<R>>) -> anyhow::Result<()> {
+/// How many ends there are, and what the last one reads of page 1.
+fn told<R: Wait + Drop>(ends: Vec<SharedDevice<R>>) -> Answer {
     let (count, mut ends) = (ends.len(), ends);
     let mut image = [1; 64];
     let read = match ends.last_mut() {
         Some(end) => end.read(1, &mut image),
         None => Ok(()),
     };
-    println!(rt; "{count} ends, {read:?}, {}", image[3])?;
-    Ok(())
+    Answer::Three(
+        "ends",
+        count as u64,
+        "read",
+        u64::from(read.is_ok()),
+        "page",
+        u64::from(image[3]),
+    )
 }
 
-fn over_memory<R: Files<File = File> + AllocGlobal + Print + Wait + Copy + Drop>(
-    rt: &R,
-) -> anyhow::Result<()> {
-    for _time in 0..2 {
-        call(rt)?;
-        let made = SharedDevice::over_memory(*rt, rt.alloc(), 24, 64, 3);
-        answer(rt)?;
-        match made {
-            Ok(ends) => return tell(rt, ends),
-            Err(error) => println!(rt; "{error}")?,
-        }
-    }
-    Ok(())
+/// Ends onto a device in memory.
+#[derive(Drop)]
+struct OverMemory<R> {
+    rt: R,
 }
 
-fn over_file<R: Files<File = File> + AllocGlobal + Print + Wait + Copy + Drop>(
-    rt: &R,
-) -> anyhow::Result<()> {
-    fs::write(rt, "device", [0; 128].as_slice())?;
-    for _time in 0..2 {
-        call(rt)?;
-        let made = SharedDevice::over_file(*rt, rt.alloc(), "device", 64, 3);
-        answer(rt)?;
-        match made {
-            Ok(ends) => return tell(rt, ends),
-            Err(error) => println!(rt; "{error}")?,
+impl<R: Files<File = File> + AllocGlobal + Wait + Copy + Drop> Tried for OverMemory<R> {
+    type Told = Answer;
+
+    fn call(&mut self) -> Answer {
+        match SharedDevice::over_memory(self.rt, self.rt.alloc(), 24, 64, 3) {
+            Ok(ends) => told(ends),
+            Err(error) => Answer::Lacking(error),
         }
     }
-    Ok(())
+}
+
+/// Ends onto a file.
+#[derive(Drop)]
+struct OverFile<R> {
+    rt: R,
+}
+
+impl<R: Files<File = File> + AllocGlobal + Wait + Copy + Drop> Tried for OverFile<R> {
+    type Told = Answer;
+
+    fn call(&mut self) -> Answer {
+        match SharedDevice::over_file(self.rt, self.rt.alloc(), "device", 64, 3) {
+            Ok(ends) => told(ends),
+            Err(error) => Answer::Failed(anyhow::Error::from(error)),
+        }
+    }
 }

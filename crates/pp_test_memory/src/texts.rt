@@ -7,202 +7,211 @@ use crate::samples::{
     BRANCHES, BUNDLE, BUNDLE_NOTES, CUT_OFF, EVERY, MIXED, NO_CUE, NO_FRAMES, OTHER_NOTES,
     PAGE_NOTES, PIN, PIN_NOTES, SCRIPT,
 };
-use crate::stand::{answer, call};
-use pp_annotate::annotate;
-use pp_cert::Certificate;
-use pp_plan::Plan;
+use pp_annotate::{AnnotateError, annotate};
+use pp_cert::{CertError, Certificate};
+use pp_plan::{Plan, PlanError};
 use pp_script::Script;
 use pp_settings::Settings;
 use pp_test_plain::samples::{NOTHING, SETTINGS};
+use pp_test_rounds::{Answer, Tried, begin, end, twice};
+use std::alloc::Global;
 
 /// Does the case of this call and this row.
 pub fn case<R: AllocGlobal + Print>(rt: &R, call: &str, row: &str) -> anyhow::Result<()> {
-    match (call, row) {
-        ("Settings::from_text", "set1") => settings_from(rt, SETTINGS),
-        ("Settings::from_text", "no_frames") => settings_from(rt, NO_FRAMES),
-        ("Script::from_text", "script") => script_from(rt, SCRIPT),
-        ("Script::from_text", "no_cue") => script_from(rt, NO_CUE),
-        _ => under_settings(rt, call, row),
-    }
-}
-
-/// Does such a case of a call that has settings.
-fn under_settings<R: AllocGlobal + Print>(rt: &R, call: &str, row: &str) -> anyhow::Result<()> {
-    let settings = Settings::from_text(rt.alloc(), SETTINGS)?;
-    match (call, row) {
-        ("Plan::from_text", "pin") => plan_from(rt, &settings, PIN),
-        ("Plan::from_text", "every") => plan_from(rt, &settings, EVERY),
-        ("Plan::from_text", "cut_off") => plan_from(rt, &settings, CUT_OFF),
-        ("Plan::from_text", "bundle") => plan_from(rt, &settings, BUNDLE),
-        ("Plan::from_text", "mixed") => plan_from(rt, &settings, MIXED),
-        ("Certificate::from_text", "pin") => certificate_from(rt, &settings, PIN, PIN_NOTES),
-        ("Certificate::from_text", "other") => certificate_from(rt, &settings, PIN, OTHER_NOTES),
-        ("Certificate::from_text", "bundle") => {
-            certificate_from(rt, &settings, BUNDLE, BUNDLE_NOTES)
-        }
-        ("Certificate::from_text", "page") => certificate_from(rt, &settings, BUNDLE, PAGE_NOTES),
-        (call, "pin") => with_plan(rt, &settings, call, PIN),
-        (call, "every") => with_plan(rt, &settings, call, EVERY),
-        (call, "empty") => with_plan(rt, &settings, call, NOTHING),
-        (call, "branches") => with_plan(rt, &settings, call, BRANCHES),
-        (call, "bundle") => with_plan(rt, &settings, call, BUNDLE),
-        _ => anyhow::bail!("there is no such case"),
-    }
-}
-
-/// Does such a case of a call that has the plan of this text.
-fn with_plan<R: AllocGlobal + Print>(
-    rt: &R,
-    settings: &Settings,
-    call: &str,
-    text: &str,
-) -> anyhow::Result<()> {
-    let plan = Plan::from_text(rt.alloc(), settings, text)?;
+    let (alloc, text) = (rt.alloc(), text_of(row)?);
+    let settings = Settings::from_text(alloc, SETTINGS)?;
     match call {
-        "Plan::to_text" => plan_to(rt, settings, &plan),
-        "Certificate::to_text" => certificate_to(rt, settings, &plan),
-        "annotate" => annotated(rt, settings, &plan),
-        _ => anyhow::bail!("there is no such call"),
-    }
-}
-
-fn settings_from<R: AllocGlobal + Print>(rt: &R, text: &str) -> anyhow::Result<()> {
-    for _time in 0..2 {
-        call(rt)?;
-        let read = Settings::from_text(rt.alloc(), text);
-        answer(rt)?;
-        match read {
-            Ok(settings) => {
-                println!(rt; "{} frames, {} pages", settings.frames(), settings.pages())?;
-                return Ok(());
-            }
-            Err(error) => println!(rt; "{}", error.refusal())?,
+        "Settings::from_text" | "Script::from_text" | "Plan::from_text" => {
+            twice(
+                rt,
+                &mut Reading {
+                    alloc,
+                    call,
+                    settings,
+                    text,
+                },
+            )
+        }
+        "Certificate::to_text" => {
+            let plan = Plan::from_text(alloc, &settings, text)?;
+            certificate_to(rt, &settings, &plan)
+        }
+        _ => {
+            let plan = Plan::from_text(alloc, &settings, text)?;
+            twice(
+                rt,
+                &mut Planned {
+                    alloc,
+                    call,
+                    settings,
+                    plan,
+                    notes: notes_of(row),
+                },
+            )
         }
     }
-    Ok(())
 }
 
-fn script_from<R: AllocGlobal + Print>(rt: &R, text: &str) -> anyhow::Result<()> {
-    for _time in 0..2 {
-        call(rt)?;
-        let read = Script::from_text(rt.alloc(), text);
-        answer(rt)?;
-        match read {
-            Ok(script) => {
-                let (cues, troubles) = script.into_parts();
-                println!(rt; "{} cues, {} troubles", cues.len(), troubles.len())?;
-                return Ok(());
-            }
-            Err(error) => println!(rt; "{}", error.refusal())?,
+/// The text of this row: of settings, of a script, or of a plan.
+fn text_of(row: &str) -> anyhow::Result<&'static str> {
+    match row {
+        "set1" => Ok(SETTINGS),
+        "no_frames" => Ok(NO_FRAMES),
+        "script" => Ok(SCRIPT),
+        "no_cue" => Ok(NO_CUE),
+        "pin" | "other" => Ok(PIN),
+        "every" => Ok(EVERY),
+        "empty" => Ok(NOTHING),
+        "branches" => Ok(BRANCHES),
+        "cut_off" => Ok(CUT_OFF),
+        "bundle" | "page" => Ok(BUNDLE),
+        "mixed" => Ok(MIXED),
+        _ => anyhow::bail!("there is no such row"),
+    }
+}
+
+/// The text of a certificate of this row's plan. A row that reads none has that of the first.
+fn notes_of(row: &str) -> &'static str {
+    match row {
+        "other" => OTHER_NOTES,
+        "bundle" => BUNDLE_NOTES,
+        "page" => PAGE_NOTES,
+        _ => PIN_NOTES,
+    }
+}
+
+/// A text that is read.
+#[derive(Drop)]
+struct Reading<'a> {
+    alloc: Global,
+    call: &'a str,
+    settings: Settings,
+    text: &'static str,
+}
+
+impl Tried for Reading<'_> {
+    type Told = Answer;
+
+    fn call(&mut self) -> Answer {
+        match self.call {
+            "Settings::from_text" => settings_from(self.alloc, self.text),
+            "Script::from_text" => script_from(self.alloc, self.text),
+            _ => plan_from(self.alloc, &self.settings, self.text),
         }
     }
-    Ok(())
 }
 
-fn plan_from<R: AllocGlobal + Print>(
-    rt: &R,
-    settings: &Settings,
-    text: &str,
-) -> anyhow::Result<()> {
-    for _time in 0..2 {
-        call(rt)?;
-        let read = Plan::from_text(rt.alloc(), settings, text);
-        answer(rt)?;
-        match read {
-            Ok(plan) => {
-                println!(rt; "{}", plan.to_text(rt.alloc(), settings)?)?;
-                return Ok(());
-            }
-            Err(error) => println!(rt; "{}", error.refusal())?,
+fn settings_from(alloc: Global, text: &str) -> Answer {
+    match Settings::from_text(alloc, text) {
+        Ok(settings) => Answer::Two(
+            "frames",
+            u64::from(settings.frames()),
+            "pages",
+            u64::from(settings.pages()),
+        ),
+        Err(error) => Answer::Refused(error.refusal()),
+    }
+}
+
+fn script_from(alloc: Global, text: &str) -> Answer {
+    match Script::from_text(alloc, text) {
+        Ok(script) => {
+            let (cues, troubles) = script.into_parts();
+            Answer::Two("cues", cues.len() as u64, "troubles", troubles.len() as u64)
+        }
+        Err(error) => Answer::Refused(error.refusal()),
+    }
+}
+
+fn plan_from(alloc: Global, settings: &Settings, text: &str) -> Answer {
+    match Plan::from_text(alloc, settings, text) {
+        Ok(plan) => Answer::Three(
+            "version",
+            u64::from(plan.version()),
+            "statements",
+            plan.body().len() as u64,
+            "slots",
+            u64::from(plan.slots()),
+        ),
+        Err(error) => Answer::Refused(error.refusal()),
+    }
+}
+
+/// A plan, and the text of a certificate of it.
+#[derive(Drop)]
+struct Planned<'a> {
+    alloc: Global,
+    call: &'a str,
+    settings: Settings,
+    plan: Plan,
+    notes: &'static str,
+    ghost fits: { plan.layout ≡ geometry_of settings },
+}
+
+impl Tried for Planned<'_> {
+    type Told = Answer;
+
+    fn call(&mut self) -> Answer {
+        match self.call {
+            "Plan::to_text" => plan_text(self.plan.to_text(self.alloc, &self.settings)),
+            "annotate" => annotated(annotate(self.alloc, &self.settings, &self.plan)),
+            _ => certificate_read(Certificate::from_text(
+                self.alloc,
+                &self.settings,
+                &self.plan,
+                self.notes,
+            )),
         }
     }
-    Ok(())
 }
 
-fn plan_to<R: AllocGlobal + Print>(rt: &R, settings: &Settings, plan: &Plan) -> anyhow::Result<()>
-    requires { plan.now.layout ≡ geometry_of settings.now }
-{
-    for _time in 0..2 {
-        call(rt)?;
-        let written = plan.to_text(rt.alloc(), settings);
-        answer(rt)?;
-        match written {
-            Ok(text) => {
-                println!(rt; "{text}")?;
-                return Ok(());
-            }
-            Err(error) => println!(rt; "{}", error.refusal())?,
-        }
+fn plan_text(written: Result<String, PlanError>) -> Answer {
+    match written {
+        Ok(text) => Answer::Text(text),
+        Err(error) => Answer::Refused(error.refusal()),
     }
-    Ok(())
 }
 
-fn certificate_from<R: AllocGlobal + Print>(
-    rt: &R,
-    settings: &Settings,
-    plan: &str,
-    text: &str,
-) -> anyhow::Result<()> {
-    let plan = Plan::from_text(rt.alloc(), settings, plan)?;
-    for _time in 0..2 {
-        call(rt)?;
-        let read = Certificate::from_text(rt.alloc(), settings, &plan, text);
-        answer(rt)?;
-        match read {
-            Ok(certificate) => {
-                tell(rt, &certificate)?;
-                return Ok(());
-            }
-            Err(error) => println!(rt; "{}", error.refusal())?,
-        }
+fn annotated(made: Result<Certificate, AnnotateError>) -> Answer {
+    match made {
+        Ok(certificate) => figures_of(&certificate),
+        Err(error) => Answer::Refused(error.refusal()),
     }
-    Ok(())
 }
 
+fn certificate_read(read: Result<Certificate, CertError>) -> Answer {
+    match read {
+        Ok(certificate) => figures_of(&certificate),
+        Err(error) => Answer::Refused(error.refusal()),
+    }
+}
+
+/// The figures of a certificate.
+fn figures_of(certificate: &Certificate) -> Answer {
+    let Certificate { peak, steps, notes } = certificate;
+    Answer::Three("notes", notes.len() as u64, "peak", *peak, "steps", *steps)
+}
+
+/// A certificate is written. The proof knows that it fits its plan, and so no value that is handed on has both.
 fn certificate_to<R: AllocGlobal + Print>(
     rt: &R,
     settings: &Settings,
     plan: &Plan,
 ) -> anyhow::Result<()> {
     let certificate = annotate(rt.alloc(), settings, plan)?;
-    for _time in 0..2 {
-        call(rt)?;
-        let written = certificate.to_text(rt.alloc(), settings, plan);
-        answer(rt)?;
-        match written {
-            Ok(text) => {
-                println!(rt; "{text}")?;
-                return Ok(());
-            }
-            Err(error) => println!(rt; "{}", error.refusal())?,
+    for _round in 0..2 {
+        begin(rt)?;
+        let told = certificate_text(certificate.to_text(rt.alloc(), settings, plan));
+        if end(rt, &told)? {
+            break;
         }
     }
     Ok(())
 }
 
-fn annotated<R: AllocGlobal + Print>(
-    rt: &R,
-    settings: &Settings,
-    plan: &Plan,
-) -> anyhow::Result<()> {
-    for _time in 0..2 {
-        call(rt)?;
-        let made = annotate(rt.alloc(), settings, plan);
-        answer(rt)?;
-        match made {
-            Ok(certificate) => {
-                tell(rt, &certificate)?;
-                return Ok(());
-            }
-            Err(error) => println!(rt; "{}", error.refusal())?,
-        }
+fn certificate_text(written: Result<String, CertError>) -> Answer {
+    match written {
+        Ok(text) => Answer::Text(text),
+        Err(error) => Answer::Refused(error.refusal()),
     }
-    Ok(())
-}
-
-/// Prints the figures of a certificate.
-fn tell<R: AllocGlobal + Print>(rt: &R, certificate: &Certificate) -> anyhow::Result<()> {
-    let Certificate { peak, steps, notes } = certificate;
-    println!(rt; "{} notes, peak {peak}, steps {steps}", notes.len())?;
-    Ok(())
 }

@@ -1,0 +1,116 @@
+//! The calls that run plans on threads.
+
+ghost use Rattle.std.specs.Prelude.{◌≡◌, ◌+◌, vec_len};
+
+use pp_cert::Accepted;
+use pp_report::RunRecord;
+use pp_run::{Pool, RestedPool, RunError};
+use pp_run_command::Rounds;
+use pp_settings::Settings;
+use pp_shared::SharedDevice;
+use pp_test_plain::all_accepted;
+use pp_test_plain::samples::{SETTINGS, TOUCH, WRITE};
+use pp_test_rounds::{Answer, begin, end};
+use std::alloc::{AllocError, Global};
+use std::fs::File;
+use std::rt::Files;
+use std::sync::Wait;
+use std::thread::Threads;
+
+/// Does the case of this call.
+pub fn case<
+    R: Files<File = File> + AllocGlobal + Print + Threads + Wait + Sync + Copy + Send + Drop,
+>(rt: &R, call: &str) -> anyhow::Result<()> {
+    let is_kept = call == "Pool::run_on";
+    let settings = Settings::from_text(rt.alloc(), SETTINGS)?;
+    for _round in 0..2 {
+        let lot = lot_of(rt, &settings)?;
+        begin(rt)?;
+        let told = ran(rt, is_kept, &settings, lot);
+        if end(rt, &told)? {
+            break;
+        }
+    }
+    Ok(())
+}
+
+/// What a run takes, for each round its own.
+#[derive(Drop)]
+struct Lot<R: Wait> {
+    plans: Vec<Accepted>,
+    ends: Vec<SharedDevice<R>>,
+    works: Vec<Rounds>,
+}
+
+fn lot_of<R: Files<File = File> + AllocGlobal + Wait + Copy + Drop>(
+    rt: &R,
+    settings: &Settings,
+) -> anyhow::Result<Lot<R>> {
+    let plans = all_accepted(rt.alloc(), settings, &[TOUCH, WRITE, TOUCH])?;
+    let ends = SharedDevice::over_memory(*rt, rt.alloc(), 24, 64, settings.workers() as usize + 1)?;
+    let works = works_of(rt.alloc(), settings.workers())?;
+    Ok(Lot { plans, ends, works })
+}
+
+/// The works of so many workers.
+fn works_of(alloc: Global, workers: u32) -> Result<Vec<Rounds>, AllocError> {
+    let mut works = Vec::with_capacity(alloc, workers as usize)?;
+    for worker in 0..workers {
+        works.push(Rounds::new(0, worker))?;
+    }
+    Ok(works)
+}
+
+/// What plans come to that are run, over a pool that is made for them or one that is kept.
+fn ran<R: Files<File = File> + AllocGlobal + Threads + Wait + Sync + Copy + Send + Drop>(
+    rt: &R,
+    is_kept: bool,
+    settings: &Settings,
+    lot: Lot<R>,
+) -> Answer {
+    let Lot { plans, ends, works } = lot;
+    let workers = settings.workers() as usize;
+    if ends.len() != workers + 1 || works.len() != workers {
+        return Answer::Nothing;
+    }
+    let ran = if is_kept {
+        life(rt, settings, plans, ends, works)
+    } else {
+        match Pool::run(rt, rt.alloc(), settings, plans, ends, works) {
+            Ok((done, _ends)) => Ok((done, 0)),
+            Err(error) => Err(error),
+        }
+    };
+    match ran {
+        Ok((done, dirty)) => Answer::Three(
+            "plans",
+            u64::from(done.plans),
+            "dirty",
+            u64::from(done.dirty),
+            "dirty in the pool",
+            u64::from(dirty),
+        ),
+        Err(error) => Answer::Refused(error.refusal()),
+    }
+}
+
+/// Opens a pool, runs the plans over it, and gives it up. What the run left, and how many pages the pool had changed.
+fn life<R: Files<File = File> + AllocGlobal + Threads + Wait + Sync + Copy + Send + Drop>(
+    rt: &R,
+    settings: &Settings,
+    plans: Vec<Accepted>,
+    ends: Vec<SharedDevice<R>>,
+    works: Vec<Rounds>,
+) -> Result<(RunRecord, u32), RunError>
+    requires ends { vec_len ends ≡ settings.now.workers + 1 }
+    requires works { vec_len works ≡ settings.now.workers }
+{
+    let pool = RestedPool::open(rt.alloc(), settings)?;
+    match Pool::run_on(rt, rt.alloc(), pool, plans, ends, works) {
+        Ok((done, pool, _ends)) => Ok((done, pool.close())),
+        Err((error, stalled)) => {
+            let (_journal, _dirty) = stalled.close();
+            Err(error)
+        }
+    }
+}
