@@ -1,20 +1,15 @@
 //! Certificates: how they are made, written, read and checked at their limits, and how refusals are told.
 
-use crate::common::{same_text, two_regions};
+use crate::common::{is_printed, same, two_regions};
 use pp_annotate::{AnnotateError, annotate};
 use pp_cert::{
     CertError, Certificate, CheckError, Entry, Held, Note, check, fault_under, longest_trace,
 };
 use pp_plan::Plan;
 use pp_settings::Settings;
-use std::alloc::Global;
+use std::alloc::{AllocError, Global};
 use std::process::Abort;
 use std::test::*;
-
-/// Compares two numbers.
-fn same_number(rt: &impl Abort, got: u64, want: u64) {
-    assert_eq!(rt; got, want);
-}
 
 #[test]
 fn faults_are_printed(rt: HostRuntime) -> Result<(), Fail> {
@@ -49,12 +44,9 @@ fn faults_are_printed(rt: HostRuntime) -> Result<(), Fail> {
         (CheckError::PeakTooBig, "45 PeakTooBig"),
         (CheckError::OtherSettings, "46 OtherSettings"),
     ] {
-        let refusal = fault.refusal();
-        let got = format!(in rt.alloc(); "{refusal}")?;
-        same_text(&rt, &got, want);
-        let refusal = AnnotateError::Fault(fault).refusal();
-        let got = format!(in rt.alloc(); "{refusal}")?;
-        same_text(&rt, &got, want);
+        is_printed(&rt, rt.alloc(), fault.refusal(), want)?;
+        let made = AnnotateError::Fault(fault);
+        is_printed(&rt, rt.alloc(), made.refusal(), want)?;
     }
     Ok(())
 }
@@ -69,47 +61,36 @@ fn refusals_of_texts_are_printed(rt: HostRuntime) -> Result<(), Fail> {
         (CertError::WrongKind, "25 WrongKind"),
         (CertError::OutOfMemory, "19 OutOfMemory"),
     ] {
-        let refusal = error.refusal();
-        let got = format!(in rt.alloc(); "{refusal}")?;
-        same_text(&rt, &got, want);
+        is_printed(&rt, rt.alloc(), error.refusal(), want)?;
     }
     let refusal = AnnotateError::OutOfMemory.refusal();
-    let got = format!(in rt.alloc(); "{refusal}")?;
-    same_text(&rt, &got, "19 OutOfMemory");
-    Ok(())
+    is_printed(&rt, rt.alloc(), refusal, "19 OutOfMemory")
 }
 
 #[test]
 fn refusals_are_told_to_people(rt: HostRuntime) -> Result<(), Fail> {
     let fault = CheckError::OverPeak { place: 3 };
     let want = "the note at place 3 pins more pages than the peak";
-    let got = format!(in rt.alloc(); "{fault}")?;
-    same_text(&rt, &got, want);
-    let made = AnnotateError::Fault(fault);
-    let got = format!(in rt.alloc(); "{made}")?;
-    same_text(&rt, &got, want);
-    let error = CertError::TooMany;
-    let got = format!(in rt.alloc(); "{error}")?;
-    same_text(
+    is_printed(&rt, rt.alloc(), fault, want)?;
+    is_printed(&rt, rt.alloc(), AnnotateError::Fault(fault), want)?;
+    is_printed(
         &rt,
-        &got,
+        rt.alloc(),
+        CertError::TooMany,
         "the certificate has too many notes, or a note has too many entries",
-    );
-    Ok(())
+    )
 }
 
 #[test]
 fn refusals_have_their_parts(rt: HostRuntime) {
     let fault = CheckError::LoopChanges { place: 2 };
     let made = AnnotateError::Fault(fault);
-    same_number(&rt, u64::from(fault.number()), 40);
-    same_text(&rt, fault.name(), "LoopChanges");
-    same_number(&rt, u64::from(fault.place().unwrap_or(9)), 2);
-    same_number(&rt, u64::from(made.number()), 40);
-    same_text(&rt, made.name(), "LoopChanges");
-    same_number(&rt, u64::from(made.place().unwrap_or(9)), 2);
-    same_number(&rt, u64::from(CertError::UnknownName.number()), 23);
-    same_text(&rt, CertError::UnknownName.name(), "UnknownName");
+    same(&rt, (fault.number(), fault.name()), (40, "LoopChanges"));
+    same(&rt, fault.place(), Some(2));
+    same(&rt, (made.number(), made.name()), (40, "LoopChanges"));
+    same(&rt, made.place(), Some(2));
+    let error = CertError::UnknownName;
+    same(&rt, (error.number(), error.name()), (23, "UnknownName"));
 }
 
 #[test]
@@ -127,9 +108,9 @@ fn a_note_gives_its_entries_back(rt: HostRuntime) -> Result<(), Fail> {
         },
     ];
     let note = Note::new(entries.to_vec(rt.alloc())?);
-    assert_eq!(rt; note.entries(), entries.as_slice());
+    same(&rt, note.entries(), entries.as_slice());
     let back = note.into_entries();
-    assert_eq!(rt; back.as_slice(), entries.as_slice());
+    same(&rt, back.as_slice(), entries.as_slice());
     Ok(())
 }
 
@@ -144,6 +125,14 @@ fn three_notes(alloc: Global, second: Entry, third: &[Entry]) -> Result<Certific
         steps: 9,
         notes,
     })
+}
+
+/// The number and the place of the fault: 0 where there is none, and 9 where it has no place.
+fn told_of(fault: Option<CheckError>) -> (u8, u32) {
+    match fault {
+        Some(fault) => (fault.number(), fault.place().unwrap_or(9)),
+        None => (0, 9),
+    }
 }
 
 #[test]
@@ -165,9 +154,7 @@ fn a_bundle_is_no_expected_note(rt: HostRuntime) -> Result<(), Fail> {
     ] {
         let certificate = three_notes(alloc, second, third)?;
         let fault = fault_under(&settings.layout(), &plan, &certificate);
-        same_number(&rt, fault.map_or(0, |f| u64::from(f.number())), number);
-        let at = fault.and_then(|f| f.place()).unwrap_or(9);
-        same_number(&rt, u64::from(at), place);
+        same(&rt, told_of(fault), (number, place));
     }
     Ok(())
 }
@@ -183,25 +170,23 @@ fn a_refused_plan_comes_back(rt: HostRuntime) -> Result<(), Fail> {
         steps: 0,
         notes: Vec::new(rt.alloc()),
     };
-    let refused = check(&others, plan, &certificate).err();
-    assert_eq!(rt; refused.is_some(), true);
-    if let Some(back) = refused {
-        let (plan, fault) = back;
-        same_number(&rt, u64::from(fault.number()), 46);
-        same_number(&rt, plan.body().len() as u64, 1);
-        same_number(&rt, longest_trace(&plan), 1);
-        let own = fault_under(&settings.layout(), &plan, &certificate);
-        same_number(&rt, own.map_or(0, |fault| u64::from(fault.number())), 31);
-        let made = annotate(rt.alloc(), &others, &plan).err();
-        same_number(&rt, made.map_or(0, |error| u64::from(error.number())), 46);
-    }
+    let Err((plan, fault)) = check(&others, plan, &certificate) else {
+        panic!(rt; "not refused")
+    };
+    same(&rt, (fault.number(), plan.body().len()), (46, 1));
+    same(&rt, longest_trace(&plan), 1);
+    let own = fault_under(&settings.layout(), &plan, &certificate);
+    same(&rt, told_of(own).0, 31);
+    let Err(error) = annotate(rt.alloc(), &others, &plan) else {
+        panic!(rt; "annotated")
+    };
+    same(&rt, error.number(), 46);
     Ok(())
 }
 
-/// Writes the piece so many times, with a comma before each.
-fn repeat(text: &mut String, piece: &str, count: u32) -> Result<(), Fail> {
+/// Writes the piece so many times.
+fn repeat(text: &mut String, piece: &str, count: u32) -> Result<(), AllocError> {
     for _ in 0..count {
-        text.push_str(",")?;
         text.push_str(piece)?;
     }
     Ok(())
@@ -216,7 +201,7 @@ fn greatest_plan(alloc: Global) -> Result<String, Fail> {
     }
     repeat(
         &mut text,
-        "{\"latch\":\"s0\",\"mode\":\"X\"},{\"unlatch\":\"s0\"}",
+        ",{\"latch\":\"s0\",\"mode\":\"X\"},{\"unlatch\":\"s0\"}",
         2016,
     )?;
     for i in 0u8..32 {
@@ -238,7 +223,7 @@ fn made_again(
     assert!(rt; text.len() > 2_000_000);
     let certificate = Certificate::from_text(alloc, settings, plan, &text)?;
     let again = certificate.to_text(alloc, settings, plan)?;
-    same_text(rt, &again, &text);
+    same(rt, again.as_str(), text.as_str());
     Ok(certificate)
 }
 
@@ -247,15 +232,13 @@ fn the_greatest_plan_is_annotated_and_checked(rt: HostRuntime) -> Result<(), Fai
     let settings = two_regions(rt.alloc(), 32)?;
     let plan = Plan::from_text(rt.alloc(), &settings, &greatest_plan(rt.alloc())?)?;
     let certificate = made_again(&rt, rt.alloc(), &settings, &plan)?;
-    let accepted = check(&settings, plan, &certificate).ok();
-    assert_eq!(rt; accepted.is_some(), true);
-    if let Some(accepted) = accepted {
-        same_number(&rt, accepted.peak(), 32);
-        same_number(&rt, accepted.steps(), 4096);
-        same_number(&rt, accepted.cost(), 12_322);
-        same_number(&rt, u64::from(accepted.layout().frames()), 32);
-        same_number(&rt, accepted.plan().body().len() as u64, 4096);
-    }
+    let Ok(accepted) = check(&settings, plan, &certificate) else {
+        panic!(rt; "not accepted")
+    };
+    let figures = (accepted.peak(), accepted.steps(), accepted.cost());
+    same(&rt, figures, (32, 4096, 12_322));
+    same(&rt, accepted.layout().frames(), 32);
+    same(&rt, accepted.plan().body().len(), 4096);
     Ok(())
 }
 
@@ -263,7 +246,7 @@ fn the_greatest_plan_is_annotated_and_checked(rt: HostRuntime) -> Result<(), Fai
 fn answer(alloc: Global, settings: &Settings, count: u32, last: &str) -> Result<u8, Fail> {
     let plan = Plan::from_text(alloc, settings, "{\"body\":[],\"version\":1}")?;
     let mut text = String::from_str(alloc, "{\"notes\":[{}")?;
-    repeat(&mut text, "{}", count)?;
+    repeat(&mut text, ",{}", count)?;
     text.push_str(last)?;
     text.push_str("],\"peak\":0,\"steps\":0}")?;
     match Certificate::from_text(alloc, settings, &plan, &text) {
@@ -276,13 +259,13 @@ fn answer(alloc: Global, settings: &Settings, count: u32, last: &str) -> Result<
 fn notes_have_their_limit(rt: HostRuntime) -> Result<(), Fail> {
     let settings = two_regions(rt.alloc(), 3)?;
     for (count, last, want) in [
-        (69_999u32, "", 0u64),
+        (69_999u32, "", 0u8),
         (70_000, "", 24),
         (69_999, ",0", 24),
         (69_998, ",0", 22),
     ] {
         let got = answer(rt.alloc(), &settings, count, last)?;
-        same_number(&rt, u64::from(got), want);
+        same(&rt, (count, got), (count, want));
     }
     Ok(())
 }

@@ -1,8 +1,9 @@
-//! What the tests share: settings of some sizes, and how texts are compared.
+//! What the tests share: settings of some sizes, and how answers are compared.
 
 use pp_settings::Settings;
 use pp_test_plain::samples::REGIONS;
 use std::alloc::Global;
+use std::fmt::{Debug, Display};
 use std::process::Abort;
 use std::test::*;
 
@@ -14,7 +15,19 @@ pub fn two_regions(alloc: Global, frames: u32) -> Result<Settings, Fail> {
     Ok(Settings::from_text(alloc, &text)?)
 }
 
-/// Compares two texts. Where they differ, the test fails and tells both.
-pub fn same_text(rt: &impl Abort, got: &str, want: &str) {
-    assert_eq!(rt; got, want, "got {got:?}, wanted {want:?}");
+/// Compares two answers. Where they differ, the test fails and tells both.
+pub fn same<T: Copy + PartialEq + Debug>(rt: &impl Abort, got: T, want: T) {
+    assert!(rt; got == want, "got {got:?}, wanted {want:?}");
+}
+
+/// What the error, or the refusal, is printed as.
+pub fn is_printed<T: Display + Drop>(
+    rt: &impl Abort,
+    alloc: Global,
+    told: T,
+    want: &str,
+) -> Result<(), Fail> {
+    let got = format!(in alloc; "{told}")?;
+    same(rt, got.as_str(), want);
+    Ok(())
 }

@@ -1,5 +1,6 @@
 //! Devices: the bytes of a head, a device in memory, and planted troubles.
 
+use crate::common::same;
 use pp_device::{Device, Failing, Fault, SoloDevice, Trouble, image};
 use std::process::Abort;
 use std::test::Fail;
@@ -13,27 +14,13 @@ const CHANGED: [u8; 16] = [0, 0, 0, 1, 0, 0, 0, 0, 0, 0, 0, 6, 21, 22, 23, 24];
 /// Page 1 as nothing was written to it.
 const BLANK: [u8; 16] = [0, 0, 0, 1, 0, 0, 0, 0, 0, 0, 0, 0, 0, 0, 0, 0];
 
-// ---- answers compared
-
-fn same_bytes(rt: &impl Abort, got: &[u8], want: &[u8]) {
-    assert_eq!(rt; got, want);
-}
-
-fn same_head(rt: &impl Abort, got: (u32, u64), want: (u32, u64)) {
-    assert_eq!(rt; got, want);
-}
-
-fn same_answer(rt: &impl Abort, got: Result<(), Fault>, want: Result<(), Fault>) {
-    assert_eq!(rt; got, want);
-}
-
 // ---- each call, as one who knows a device by its trait makes it
 
 /// The page is read, and has this image.
 fn reads(rt: &impl Abort, device: &mut impl Device, page: u32, want: &[u8]) {
     let mut image = [9; BYTES];
-    same_answer(rt, device.read(page, &mut image), Ok(()));
-    same_bytes(rt, &image, want);
+    same(rt, device.read(page, &mut image), Ok(()));
+    same(rt, image.as_slice(), want);
 }
 
 /// The page is not read, and the slice of so many bytes stays.
@@ -46,8 +33,8 @@ fn reads_nothing(
 ) {
     assert!(rt; 12 <= len);
     assert!(rt; len <= 20);
-    same_answer(rt, device.read(page, &mut slice[..len]), Err(Fault::Read));
-    same_bytes(rt, slice, &[9; 20]);
+    same(rt, device.read(page, &mut slice[..len]), Err(Fault::Read));
+    same(rt, *slice, [9; 20]);
 }
 
 fn writes(
@@ -58,7 +45,7 @@ fn writes(
     want: Result<(), Fault>,
 ) {
     assert!(rt; 12 <= image.len());
-    same_answer(rt, device.write(page, image), want);
+    same(rt, device.write(page, image), want);
 }
 
 // ---- the tests
@@ -70,16 +57,16 @@ fn head_stands_at_the_front(rt: HostRuntime) {
     let want = [
         0x00, 0x00, 0x00, 0x10, 0x00, 0x00, 0x00, 0x00, 0x00, 0x00, 0x00, 0x02, 7, 7,
     ];
-    same_bytes(&rt, &image, &want);
-    same_head(&rt, image::head(&image), (16, 2));
+    same(&rt, image, want);
+    same(&rt, image::head(&image), (16, 2));
 }
 
 #[test]
 fn greatest_numbers_stand_in_a_head(rt: HostRuntime) {
     let mut image = [0; 12];
     image::make(&mut image, u32::MAX, u64::MAX);
-    same_bytes(&rt, &image, &[255; 12]);
-    same_head(&rt, image::head(&image), (u32::MAX, u64::MAX));
+    same(&rt, image, [255; 12]);
+    same(&rt, image::head(&image), (u32::MAX, u64::MAX));
 }
 
 #[test]

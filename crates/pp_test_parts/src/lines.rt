@@ -1,5 +1,6 @@
 //! The line of each kind of event, with each form of its reply.
 
+use crate::common::same;
 use pp_model::Came::{Fault, Image};
 use pp_model::Ending::{Done, Gone};
 use pp_model::Failure::{Misread, ReadFault, WriteFault};
@@ -156,8 +157,7 @@ static LINES: [(Move, Reply, &str); 21] = [
 /// The journal of this event alone is this line.
 fn is_told(rt: &impl Abort, alloc: Global, event: Event, line: &str) -> Result<(), Fail> {
     let got = journal_text(alloc, &[event])?;
-    let is = got.strip_suffix("\n") == Some(line);
-    assert!(rt; is, "{event:?} is told as {got:?}");
+    same(rt, got.strip_suffix("\n").unwrap_or(""), line);
     Ok(())
 }
 

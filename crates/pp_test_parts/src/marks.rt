@@ -1,43 +1,12 @@
 //! The marks of pages: a worked row, a large pool, and a walk beside a plain program.
 
-use crate::plain_marks::PlainMarks;
+use crate::common::same;
+use crate::plain_marks::{Call, PlainMarks};
 use pp_frames::{Marks, Mode};
 use std::process::Abort;
 use std::test::Fail;
 
-// ---- answers compared
-
-fn same_count(rt: &impl Abort, got: u32, want: u32) {
-    assert_eq!(rt; got, want);
-}
-
-fn same_number(rt: &impl Abort, got: Option<u32>, want: Option<u32>) {
-    assert_eq!(rt; got, want);
-}
-
-fn same_stamp(rt: &impl Abort, got: Option<u64>, want: Option<u64>) {
-    assert_eq!(rt; got, want);
-}
-
-fn same_test(rt: &impl Abort, got: bool, want: bool) {
-    assert_eq!(rt; got, want);
-}
-
 // ---- each call with its conditions tested first, as a caller can
-
-/// A call on one page.
-#[derive(Clone, Copy)]
-enum Call {
-    Place(u32),
-    Clear,
-    Pin,
-    Unpin,
-    Grant(Mode),
-    Release(Mode),
-    SetDirty,
-    SetClean,
-    SetStamp(u64),
-}
 
 fn place(rt: &impl Abort, marks: &mut Marks, page: u32, frame: u32) {
     assert!(rt; page < marks.pages());
@@ -73,14 +42,13 @@ fn release(rt: &impl Abort, marks: &mut Marks, page: u32, mode: Mode) {
     marks.release(page, mode);
 }
 
-fn set_dirty(rt: &impl Abort, marks: &mut Marks, page: u32) {
+fn set_dirty(rt: &impl Abort, marks: &mut Marks, page: u32, is_dirty: bool) {
     assert!(rt; page < marks.pages());
-    marks.set_dirty(page);
-}
-
-fn set_clean(rt: &impl Abort, marks: &mut Marks, page: u32) {
-    assert!(rt; page < marks.pages());
-    marks.set_clean(page);
+    if is_dirty {
+        marks.set_dirty(page);
+    } else {
+        marks.set_clean(page);
+    }
 }
 
 fn set_stamp(rt: &impl Abort, marks: &mut Marks, page: u32, stamp: u64) {
@@ -97,8 +65,7 @@ fn perform(rt: &impl Abort, marks: &mut Marks, page: u32, call: Call) -> bool {
         Call::Unpin => unpin(rt, marks, page),
         Call::Grant(mode) => return grant(rt, marks, page, mode),
         Call::Release(mode) => release(rt, marks, page, mode),
-        Call::SetDirty => set_dirty(rt, marks, page),
-        Call::SetClean => set_clean(rt, marks, page),
+        Call::SetDirty(is_dirty) => set_dirty(rt, marks, page, is_dirty),
         Call::SetStamp(stamp) => set_stamp(rt, marks, page, stamp),
     }
     true
@@ -114,8 +81,8 @@ fn pins_latches_and_a_dirty_page(rt: HostRuntime) -> Result<(), Fail> {
     for _ in 0..3 {
         perform(&rt, &mut marks, 16, Call::Pin);
     }
-    same_count(&rt, marks.pins(16), 3);
-    same_number(&rt, marks.least_free(), Some(1));
+    same(&rt, marks.pins(16), 3);
+    same(&rt, marks.least_free(), Some(1));
 
     for (call, answer) in [
         (Call::Grant(Mode::S), true),
@@ -125,13 +92,13 @@ fn pins_latches_and_a_dirty_page(rt: HostRuntime) -> Result<(), Fail> {
         (Call::Release(Mode::S), true),
         (Call::Grant(Mode::X), true),
         (Call::Grant(Mode::S), false),
-        (Call::SetDirty, true),
+        (Call::SetDirty(true), true),
     ] {
-        same_test(&rt, perform(&rt, &mut marks, 16, call), answer);
+        same(&rt, perform(&rt, &mut marks, 16, call), answer);
     }
-    same_number(&rt, marks.dirty_from(0), None);
+    same(&rt, marks.dirty_from(0), None);
     perform(&rt, &mut marks, 16, Call::Release(Mode::X));
-    same_number(&rt, marks.dirty_from(17), Some(16));
+    same(&rt, marks.dirty_from(17), Some(16));
     Ok(())
 }
 
@@ -141,16 +108,16 @@ fn pins_latches_and_a_dirty_page(rt: HostRuntime) -> Result<(), Fail> {
 #[test]
 fn marks_of_a_large_pool_answer(rt: HostRuntime) -> Result<(), Fail> {
     let mut marks = Marks::new(rt.alloc(), 4_096, 65_536)?;
-    same_count(&rt, marks.frames(), 4_096);
-    same_count(&rt, marks.pages(), 65_536);
+    same(&rt, marks.frames(), 4_096);
+    same(&rt, marks.pages(), 65_536);
     for frame in 0..4_096 {
-        same_number(&rt, marks.least_free(), Some(frame));
+        same(&rt, marks.least_free(), Some(frame));
         perform(&rt, &mut marks, 65_535 - frame * 16, Call::Place(frame));
     }
-    same_number(&rt, marks.least_free(), None);
-    same_number(&rt, marks.dirty_from(0), None);
-    perform(&rt, &mut marks, 15, Call::SetDirty);
-    perform(&rt, &mut marks, 65_535, Call::SetDirty);
+    same(&rt, marks.least_free(), None);
+    same(&rt, marks.dirty_from(0), None);
+    perform(&rt, &mut marks, 15, Call::SetDirty(true));
+    perform(&rt, &mut marks, 65_535, Call::SetDirty(true));
     for (from, page) in [
         (0, 15),
         (15, 15),
@@ -158,11 +125,11 @@ fn marks_of_a_large_pool_answer(rt: HostRuntime) -> Result<(), Fail> {
         (65_535, 65_535),
         (65_536, 15),
     ] {
-        same_number(&rt, marks.dirty_from(from), Some(page));
+        same(&rt, marks.dirty_from(from), Some(page));
     }
     perform(&rt, &mut marks, 65_535, Call::Clear);
-    same_number(&rt, marks.least_free(), Some(0));
-    same_number(&rt, marks.dirty_from(16), Some(15));
+    same(&rt, marks.least_free(), Some(0));
+    same(&rt, marks.dirty_from(16), Some(15));
     Ok(())
 }
 
@@ -185,51 +152,44 @@ fn call_of(choice: u64, frame: u32, stamp: u64) -> Call {
         9 => Call::Grant(Mode::X),
         10 => Call::Release(Mode::S),
         11 => Call::Release(Mode::X),
-        12 => Call::SetDirty,
-        13 => Call::SetClean,
+        12 => Call::SetDirty(true),
+        13 => Call::SetDirty(false),
         _ => Call::SetStamp(stamp),
-    }
-}
-
-/// What the plain program makes of the call, where its conditions hold.
-fn perform_plainly(plain: &mut PlainMarks, page: u32, call: Call) -> Option<bool> {
-    match call {
-        Call::Place(frame) => plain.place(page, frame),
-        Call::Clear => plain.clear(page),
-        Call::Pin => plain.pin(page),
-        Call::Unpin => plain.unpin(page),
-        Call::Grant(Mode::S) => plain.grant_s(page),
-        Call::Grant(Mode::X) => plain.grant_x(page),
-        Call::Release(Mode::S) => plain.release_s(page),
-        Call::Release(Mode::X) => plain.release_x(page),
-        Call::SetDirty => plain.set_dirty(page, true),
-        Call::SetClean => plain.set_dirty(page, false),
-        Call::SetStamp(stamp) => plain.set_stamp(page, stamp),
     }
 }
 
 /// The marks say of this page what the plain program says.
 fn same_page(rt: &impl Abort, marks: &Marks, plain: &PlainMarks, page: u32) {
     let entry = plain.entry(page);
-    same_number(rt, marks.frame_of(page), entry.frame);
-    same_count(rt, marks.pins(page), entry.pins);
-    same_count(rt, marks.latches(page), entry.latches());
-    same_test(rt, marks.is_latched(page, Mode::S), entry.readers > 0);
-    same_test(rt, marks.is_latched(page, Mode::X), entry.has_writer);
-    same_test(rt, marks.can_grant(page, Mode::S), !entry.has_writer);
-    same_test(rt, marks.can_grant(page, Mode::X), entry.latches() == 0);
-    same_test(rt, marks.is_dirty(page), entry.is_dirty);
-    same_stamp(rt, marks.stamp(page), entry.stamp);
+    same(rt, marks.frame_of(page), entry.frame);
+    let counts = (page, marks.pins(page), marks.latches(page));
+    same(rt, counts, (page, entry.pins, entry.latches()));
+    let tests = [
+        marks.is_latched(page, Mode::S),
+        marks.is_latched(page, Mode::X),
+        marks.can_grant(page, Mode::S),
+        marks.can_grant(page, Mode::X),
+        marks.is_dirty(page),
+    ];
+    let plainly = [
+        entry.readers > 0,
+        entry.has_writer,
+        !entry.has_writer,
+        entry.latches() == 0,
+        entry.is_dirty,
+    ];
+    same(rt, tests, plainly);
+    same(rt, marks.stamp(page), entry.stamp);
 }
 
 /// They say the same of the whole pool.
 fn same_pool(rt: &impl Abort, marks: &Marks, plain: &PlainMarks, from: u32) {
-    same_count(rt, marks.all_pins(), plain.all_pins());
-    same_number(rt, marks.least_free(), plain.least_free());
-    same_number(rt, marks.dirty_from(from), plain.dirty_from(from));
+    same(rt, marks.all_pins(), plain.all_pins());
+    same(rt, marks.least_free(), plain.least_free());
+    same(rt, marks.dirty_from(from), plain.dirty_from(from));
     for frame in 0..5 {
         assert!(rt; frame < marks.frames());
-        same_test(rt, marks.is_free(frame), plain.is_free(frame));
+        same(rt, marks.is_free(frame), plain.is_free(frame));
     }
 }
 
@@ -251,14 +211,14 @@ fn a_walk_beside_a_plain_program(rt: HostRuntime) -> Result<(), Fail> {
         } else {
             page
         };
-        if let Some(answer) = perform_plainly(&mut plain, page, call) {
-            same_test(&rt, perform(&rt, &mut marks, page, call), answer);
+        if let Some(answer) = plain.perform(page, call) {
+            same(&rt, perform(&rt, &mut marks, page, call), answer);
             made = made.wrapping_add(1);
         }
         same_page(&rt, &marks, &plain, page);
         same_page(&rt, &marks, &plain, other);
         same_pool(&rt, &marks, &plain, other);
     }
-    same_test(&rt, made > 2_000, true);
+    same(&rt, made > 2_000, true);
     Ok(())
 }

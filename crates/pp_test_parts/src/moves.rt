@@ -1,5 +1,6 @@
 //! A run of moves of the core, and its journal.
 
+use crate::common::same;
 use pp_core::Core;
 use pp_model::Came::Image;
 use pp_model::Move::{Finish, Fix, ReadDone, Take, Unfix};
@@ -54,6 +55,6 @@ fn a_run_of_moves_has_its_journal(rt: HostRuntime) -> Result<(), Fail> {
     let (plan, replies) = run(&rt, rt.alloc())?;
     let events = events_of(rt.alloc(), plan, &replies)?;
     let text = journal_text(rt.alloc(), &events)?;
-    assert!(rt; text.as_str() == TOUCHED, "got {text}");
+    same(&rt, text.as_str(), TOUCHED);
     Ok(())
 }

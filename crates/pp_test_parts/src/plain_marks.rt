@@ -1,6 +1,20 @@
 //! The marks of pages as a plain program keeps them: a list of the pages, gone through for each answer.
 
+use pp_frames::Mode;
 use std::alloc::{AllocError, Global};
+
+/// A call on one page.
+#[derive(Clone, Copy)]
+pub(crate) enum Call {
+    Place(u32),
+    Clear,
+    Pin,
+    Unpin,
+    Grant(Mode),
+    Release(Mode),
+    SetDirty(bool),
+    SetStamp(u64),
+}
 
 /// What is noted of one page.
 #[derive(Clone, Copy)]
@@ -35,6 +49,33 @@ impl Entry {
 
     fn is_flushable(&self) -> bool {
         self.is_dirty && self.frame.is_some() && !self.has_writer
+    }
+
+    /// What a call answers whose conditions hold: whether a latch is granted, and else true.
+    fn answer(&self, call: Call) -> bool {
+        match call {
+            Call::Grant(Mode::S) => !self.has_writer,
+            Call::Grant(Mode::X) => self.latches() == 0,
+            _ => true,
+        }
+    }
+
+    /// The entry after a call whose answer is true.
+    fn after(&self, call: Call) -> Entry {
+        let mut entry = *self;
+        match call {
+            Call::Place(frame) => entry.frame = Some(frame),
+            Call::Clear => entry.frame = None,
+            Call::Pin => entry.pins = entry.pins.saturating_add(1),
+            Call::Unpin => entry.pins = entry.pins.saturating_sub(1),
+            Call::Grant(Mode::S) => entry.readers = entry.readers.saturating_add(1),
+            Call::Grant(Mode::X) => entry.has_writer = true,
+            Call::Release(Mode::S) => entry.readers = entry.readers.saturating_sub(1),
+            Call::Release(Mode::X) => entry.has_writer = false,
+            Call::SetDirty(is_dirty) => entry.is_dirty = is_dirty,
+            Call::SetStamp(stamp) => entry.stamp = Some(stamp),
+        }
+        entry
     }
 }
 
@@ -112,101 +153,32 @@ impl PlainMarks {
         }
     }
 
-    // ---- calls: none where a condition does not hold
+    // ---- calls
 
-    fn write(&mut self, page: u32, entry: Entry) -> Option<bool> {
-        let place = self.entries.get_mut(page as usize)?;
-        *place = entry;
-        Some(true)
+    /// Whether the conditions of the call hold.
+    fn may(&self, entry: Entry, call: Call) -> bool {
+        match call {
+            Call::Place(frame) => frame < self.frames && entry.pins == 0 && self.is_free(frame),
+            Call::Clear => entry.pins == 0,
+            Call::Pin => entry.frame.is_some() && self.all_pins() < self.frames,
+            Call::Unpin | Call::Grant(_) => entry.latches() < entry.pins,
+            Call::Release(Mode::S) => entry.readers > 0,
+            Call::Release(Mode::X) => entry.has_writer,
+            Call::SetDirty(_) | Call::SetStamp(_) => true,
+        }
     }
 
-    pub(crate) fn place(&mut self, page: u32, frame: u32) -> Option<bool> {
-        let mut entry = self.entry(page);
-        if frame >= self.frames || entry.pins > 0 || !self.is_free(frame) {
+    /// Makes the call, and answers what it answers: none where its conditions don't hold.
+    pub(crate) fn perform(&mut self, page: u32, call: Call) -> Option<bool> {
+        let entry = self.entry(page);
+        if !self.may(entry, call) {
             return None;
         }
-        entry.frame = Some(frame);
-        self.write(page, entry)
-    }
-
-    pub(crate) fn clear(&mut self, page: u32) -> Option<bool> {
-        let mut entry = self.entry(page);
-        if entry.pins > 0 {
-            return None;
+        let answer = entry.answer(call);
+        match self.entries.get_mut(page as usize) {
+            Some(place) if answer => *place = entry.after(call),
+            _ => {}
         }
-        entry.frame = None;
-        self.write(page, entry)
-    }
-
-    pub(crate) fn pin(&mut self, page: u32) -> Option<bool> {
-        let mut entry = self.entry(page);
-        if entry.frame.is_none() || self.all_pins() >= self.frames {
-            return None;
-        }
-        entry.pins = entry.pins.saturating_add(1);
-        self.write(page, entry)
-    }
-
-    pub(crate) fn unpin(&mut self, page: u32) -> Option<bool> {
-        let mut entry = self.entry(page);
-        if entry.latches() >= entry.pins {
-            return None;
-        }
-        entry.pins = entry.pins.saturating_sub(1);
-        self.write(page, entry)
-    }
-
-    pub(crate) fn grant_s(&mut self, page: u32) -> Option<bool> {
-        let mut entry = self.entry(page);
-        if entry.latches() >= entry.pins {
-            return None;
-        }
-        if entry.has_writer {
-            return Some(false);
-        }
-        entry.readers = entry.readers.saturating_add(1);
-        self.write(page, entry)
-    }
-
-    pub(crate) fn grant_x(&mut self, page: u32) -> Option<bool> {
-        let mut entry = self.entry(page);
-        if entry.latches() >= entry.pins {
-            return None;
-        }
-        if entry.latches() > 0 {
-            return Some(false);
-        }
-        entry.has_writer = true;
-        self.write(page, entry)
-    }
-
-    pub(crate) fn release_s(&mut self, page: u32) -> Option<bool> {
-        let mut entry = self.entry(page);
-        if entry.readers == 0 {
-            return None;
-        }
-        entry.readers = entry.readers.saturating_sub(1);
-        self.write(page, entry)
-    }
-
-    pub(crate) fn release_x(&mut self, page: u32) -> Option<bool> {
-        let mut entry = self.entry(page);
-        if !entry.has_writer {
-            return None;
-        }
-        entry.has_writer = false;
-        self.write(page, entry)
-    }
-
-    pub(crate) fn set_dirty(&mut self, page: u32, is_dirty: bool) -> Option<bool> {
-        let mut entry = self.entry(page);
-        entry.is_dirty = is_dirty;
-        self.write(page, entry)
-    }
-
-    pub(crate) fn set_stamp(&mut self, page: u32, stamp: u64) -> Option<bool> {
-        let mut entry = self.entry(page);
-        entry.stamp = Some(stamp);
-        self.write(page, entry)
+        Some(answer)
     }
 }

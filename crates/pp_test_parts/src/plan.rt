@@ -2,7 +2,7 @@
 
 ghost use Rattle.pp_plan.specs.Cursor.{IsCursorOf};
 
-use crate::common::{same_text, two_regions};
+use crate::common::{is_printed, same, two_regions};
 use pp_plan::{Action, Ask, Cursor, Plan, PlanError, Stmt};
 use std::alloc::Global;
 use std::process::Abort;
@@ -24,9 +24,8 @@ fn walk(rt: &impl Abort, plan: &Plan, cursor: &mut Cursor, turns: &[(Ask, Action
 {
     for (ask, action, is_followed) in turns {
         let asked = cursor.ask(plan);
-        assert_eq!(rt; asked, *ask);
         let is_ok = cursor.follow(plan, *action).is_ok();
-        assert_eq!(rt; is_ok, *is_followed, "at {asked:?}");
+        same(rt, (asked, is_ok), (*ask, *is_followed));
     }
 }
 
@@ -66,7 +65,7 @@ fn a_walk_is_followed(rt: HostRuntime) -> Result<(), Fail> {
     ];
     walk(&rt, &plan, &mut cursor, &turns);
     let asked = cursor.ask(&plan);
-    assert_eq!(rt; asked, Ask::End);
+    same(&rt, asked, Ask::End);
     Ok(())
 }
 
@@ -97,21 +96,17 @@ fn slots_have_the_byte_order_of_their_names(rt: HostRuntime) -> Result<(), Fail>
         (31, "s9"),
     ] {
         if slot < plan.slots() {
-            same_text(&rt, plan.slot_name(slot), name);
+            same(&rt, plan.slot_name(slot), name);
         }
-        let found = plan.slot(name);
-        assert_eq!(rt; found, Some(slot));
+        same(&rt, plan.slot(name), Some(slot));
     }
     let last = match plan.body() {
         [.., Stmt::Unfix { slot }] => *slot,
         _ => 255,
     };
-    assert_eq!(rt; (plan.slots(), plan.slot("s32"), last), (32u8, None, 25u8));
-    same_text(
-        &rt,
-        plan.to_text(rt.alloc(), &settings)?.as_str(),
-        text.as_str(),
-    );
+    same(&rt, (plan.slots(), plan.slot("s32"), last), (32, None, 25));
+    let again = plan.to_text(rt.alloc(), &settings)?;
+    same(&rt, again.as_str(), text.as_str());
     Ok(())
 }
 
@@ -127,7 +122,7 @@ fn bodies_and_branches_are_seen(rt: HostRuntime) -> Result<(), Fail> {
         _ => (0, 0),
     };
     let is_same = plan.layout() == settings.layout();
-    assert_eq!(rt; (seen, is_same), ((2u16, 2usize), true));
+    same(&rt, (seen, is_same), ((2, 2), true));
     Ok(())
 }
 
@@ -205,10 +200,9 @@ fn refusals_have_rows_and_words(rt: HostRuntime) -> Result<(), Fail> {
             "statement 5 uses one slot as a bundle and as a plain slot",
         ),
     ] {
-        let got = (error.number(), error.statement());
-        assert_eq!(rt; got, (number, statement));
-        same_text(&rt, error.name(), name);
-        same_text(&rt, format!(in rt.alloc(); "{error}")?.as_str(), words);
+        let got = (error.number(), error.name(), error.statement());
+        same(&rt, got, (number, name, statement));
+        is_printed(&rt, rt.alloc(), error, words)?;
     }
     Ok(())
 }

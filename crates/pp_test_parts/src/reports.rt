@@ -1,5 +1,6 @@
 //! Journals with their reports, worked out by hand.
 
+use crate::common::same;
 use pp_model::Event;
 use pp_report::{Asked, Journal, Line, RunRecord, Told, report};
 use pp_test_plain::samples::WRITTEN;
@@ -46,7 +47,7 @@ fn reports(
             dirty,
         },
     )?;
-    assert!(rt; got.as_str() == want, "got {got}");
+    same(rt, got.as_str(), want);
     Ok(())
 }
 

@@ -1,6 +1,6 @@
 //! Settings that are read, and what they say.
 
-use crate::common::{same_text, two_regions};
+use crate::common::{is_printed, same, two_regions};
 use pp_settings::{Extent, RegionKey, Settings, SettingsError, Spot, TopKey};
 use std::alloc::{AllocError, Global};
 use std::process::Abort;
@@ -14,31 +14,19 @@ const COMMENT: &str = "\
 # Nothing is said here, and it is said at some length, so that the whole text becomes a long text..
 ";
 
-fn number_is(rt: &impl Abort, got: u32, want: u32) {
-    assert_eq!(rt; got, want);
-}
-
-fn answer_is(rt: &impl Abort, got: Option<u8>, want: Option<u8>, page: u32) {
-    assert_eq!(rt; got, want, "page {page}");
-}
-
-fn extent_is(rt: &impl Abort, got: Option<Extent>, want: Option<Extent>) {
-    assert_eq!(rt; got, want);
-}
-
 /// The region and the class of a page, by the settings and by their layout.
 fn page_is(rt: &impl Abort, settings: &Settings, page: u32, region: Option<u8>, class: Option<u8>) {
     let layout = settings.layout();
-    answer_is(rt, settings.region_of(page), region, page);
-    answer_is(rt, layout.region_of(page), region, page);
-    answer_is(rt, settings.class_of(page), class, page);
-    answer_is(rt, layout.class_of(page), class, page);
+    let regions = (settings.region_of(page), layout.region_of(page));
+    let classes = (settings.class_of(page), layout.class_of(page));
+    same(rt, (page, regions), (page, (region, region)));
+    same(rt, (page, classes), (page, (class, class)));
 }
 
 /// The region with the name has it.
 fn name_is(rt: &impl Abort, settings: &Settings, name: &str) {
     if let Some(region) = settings.region(name) {
-        same_text(rt, settings.name(region), name);
+        same(rt, settings.name(region), name);
     }
 }
 
@@ -55,10 +43,10 @@ fn settings_of_two_regions(rt: HostRuntime) -> Result<(), Fail> {
         (layout.frames(), 3),
         (layout.pages(), 24),
     ] {
-        number_is(&rt, got, want);
+        same(&rt, got, want);
     }
     for (name, want) in [("root", Some(0)), ("leaf", Some(1)), ("roo", None)] {
-        answer_is(&rt, settings.region(name), want, 0);
+        same(&rt, settings.region(name), want);
         name_is(&rt, &settings, name);
     }
     for (page, region, class) in [
@@ -78,8 +66,8 @@ fn settings_of_two_regions(rt: HostRuntime) -> Result<(), Fail> {
         count: 8,
         class: 2,
     };
-    extent_is(&rt, layout.extent(1), Some(leaf));
-    extent_is(&rt, layout.extent(2), None);
+    same(&rt, layout.extent(1), Some(leaf));
+    same(&rt, layout.extent(2), None);
     Ok(())
 }
 
@@ -102,7 +90,7 @@ fn long_text(alloc: Global) -> Result<String, AllocError> {
 #[test]
 fn sixty_four_regions_in_a_long_text(rt: HostRuntime) -> Result<(), Fail> {
     let text = long_text(rt.alloc())?;
-    number_is(&rt, u32::from(text.len() > 100_000), 1);
+    same(&rt, text.len() > 100_000, true);
     let settings = Settings::from_text(rt.alloc(), &text)?;
     for (got, want) in [
         (settings.frames(), 4096),
@@ -111,9 +99,9 @@ fn sixty_four_regions_in_a_long_text(rt: HostRuntime) -> Result<(), Fail> {
         (settings.flushes(), 100_000),
         (settings.pages(), 65_536),
     ] {
-        number_is(&rt, got, want);
+        same(&rt, got, want);
     }
-    answer_is(&rt, settings.region("r63"), Some(63), 0);
+    same(&rt, settings.region("r63"), Some(63));
     name_is(&rt, &settings, "r63");
     for (page, region) in [
         (0, Some(0)),
@@ -129,8 +117,8 @@ fn sixty_four_regions_in_a_long_text(rt: HostRuntime) -> Result<(), Fail> {
         count: 1024,
         class: 63,
     };
-    extent_is(&rt, settings.layout().extent(63), Some(last));
-    extent_is(&rt, settings.layout().extent(64), None);
+    same(&rt, settings.layout().extent(63), Some(last));
+    same(&rt, settings.layout().extent(64), None);
     Ok(())
 }
 
@@ -180,10 +168,8 @@ fn errors_for_people(rt: HostRuntime) -> Result<(), Fail> {
             "out of memory",
         ),
     ] {
-        number_is(&rt, u32::from(error.number()), number);
-        same_text(&rt, error.name(), name);
-        let text = format!(in rt.alloc(); "{error}")?;
-        same_text(&rt, &text, want);
+        same(&rt, (error.number(), error.name()), (number, name));
+        is_printed(&rt, rt.alloc(), error, want)?;
     }
     Ok(())
 }
