@@ -1,13 +1,12 @@
 //! Ends onto one memory.
 
-use crate::common::{BLANK, BYTES, CHANGED, reads, refuses, two_of, writes};
+use crate::common::{BLANK, BYTES, CHANGED, ends_of_memory, reads, refuses, same, writes};
 use pp_shared::SharedDevice;
-use std::test::Fail;
+use std::test::*;
 
 #[test]
-fn ends_of_a_memory_see_each_others_writings(rt: HostRuntime) -> Result<(), Fail> {
-    let ends = SharedDevice::over_memory(rt, rt.alloc(), 2, BYTES, 2)?;
-    let (mut one, mut other) = two_of(&rt, ends);
+fn ends_of_a_memory_see_each_others_writings(rt: HostRuntime) {
+    let (mut one, mut other) = ends_of_memory(&rt, 2);
     reads(&rt, &mut one, 1, &BLANK);
     reads(&rt, &mut other, 0, &[0; BYTES]);
     writes(&rt, &mut one, 1, &CHANGED, Ok(()));
@@ -15,28 +14,26 @@ fn ends_of_a_memory_see_each_others_writings(rt: HostRuntime) -> Result<(), Fail
     writes(&rt, &mut other, 1, &BLANK, Ok(()));
     reads(&rt, &mut one, 1, &BLANK);
     reads(&rt, &mut one, 0, &[0; BYTES]);
-    Ok(())
 }
 
 #[test]
-fn memory_refuses_other_pages_and_other_lengths(rt: HostRuntime) -> Result<(), Fail> {
-    let ends = SharedDevice::over_memory(rt, rt.alloc(), 2, BYTES, 2)?;
-    let (mut one, mut other) = two_of(&rt, ends);
+fn memory_refuses_other_pages_and_other_lengths(rt: HostRuntime) {
+    let (mut one, mut other) = ends_of_memory(&rt, 2);
     refuses(&rt, &mut one);
     reads(&rt, &mut other, 0, &[0; BYTES]);
     reads(&rt, &mut other, 1, &BLANK);
-    Ok(())
 }
 
 #[test]
-fn memory_outlives_all_ends_but_one(rt: HostRuntime) -> Result<(), Fail> {
-    let ends = SharedDevice::over_memory(rt, rt.alloc(), 2, BYTES, 3)?;
-    assert_eq!(&rt; ends.len(), 3);
-    let (mut one, mut other) = two_of(&rt, ends);
+fn memory_outlives_all_ends_but_one(rt: HostRuntime) {
+    let (mut one, mut other) = ends_of_memory(&rt, 3);
     writes(&rt, &mut one, 1, &CHANGED, Ok(()));
     drop(one);
     reads(&rt, &mut other, 1, &CHANGED);
-    let none = SharedDevice::over_memory(rt, rt.alloc(), 0, 12, 0)?;
-    assert_eq!(&rt; none.len(), 0);
-    Ok(())
+}
+
+#[test]
+fn no_ends_of_no_pages_are_made(rt: HostRuntime) {
+    let none = SharedDevice::over_memory(rt, rt.alloc(), 0, 12, 0).map(|ends| ends.len());
+    same(&rt, none, Ok(0));
 }

@@ -1,13 +1,14 @@
 //! Ends on threads of their own.
 
-use crate::common::{path_of, two_of, watch};
+use crate::common::{path_of, two_of, watch, write_file};
 use pp_device::{Device, image};
 use pp_shared::SharedDevice;
 use std::alloc::{AllocError, Global};
 use std::process::Abort;
+use std::rt::Files;
 use std::sync::atomic::{AtomicBool, Ordering};
 use std::sync::{Barrier, Wait};
-use std::test::Fail;
+use std::test::*;
 use std::thread::Threads;
 use std::time::Clock;
 use std::{fs, thread};
@@ -126,44 +127,48 @@ fn goes_well<R: AllocGlobal + Threads + Wait + Clock + Sync + Abort, D: Device +
     assert!(rt; is_well);
 }
 
-#[test]
-fn readings_on_two_threads_are_all_done(rt: HostRuntime) -> Result<(), Fail> {
-    let ends = SharedDevice::over_memory(rt, rt.alloc(), 2, BYTES, 2)?;
+/// The same of ends onto one memory, of which the other writes or reads.
+fn goes_well_in_memory<R: AllocGlobal + Threads + Wait + Clock + Send + Sync + Abort + Copy + Drop>(
+    rt: &R,
+    is_writing: bool,
+) {
+    let ends = SharedDevice::over_memory(*rt, rt.alloc(), 2, BYTES, 2).expect(rt, "ends");
     let load = Load {
         page_bytes: BYTES,
         turns: 2000,
-        is_writing: false,
+        is_writing,
     };
-    goes_well(&rt, ends, load);
-    Ok(())
+    goes_well(rt, ends, load);
 }
 
 #[test]
-fn no_reading_of_a_memory_gives_a_part_of_a_writing(rt: HostRuntime) -> Result<(), Fail> {
-    let ends = SharedDevice::over_memory(rt, rt.alloc(), 2, BYTES, 2)?;
-    let load = Load {
-        page_bytes: BYTES,
-        turns: 2000,
-        is_writing: true,
-    };
-    goes_well(&rt, ends, load);
-    Ok(())
+fn readings_on_two_threads_are_all_done(rt: HostRuntime) {
+    goes_well_in_memory(&rt, false);
+}
+
+#[test]
+fn no_reading_of_a_memory_gives_a_part_of_a_writing(rt: HostRuntime) {
+    goes_well_in_memory(&rt, true);
+}
+
+/// The file has two pages, and page 1 is of stamp 0.
+fn write_long<R: Files + AllocGlobal + Abort>(rt: &R, path: &str) {
+    let mut kept = Vec::from_elem(rt.alloc(), 0, 2 * LONG).expect(rt, "two images");
+    image::make(&mut kept[LONG..], 1, 0);
+    write_file(rt, path, &kept);
 }
 
 /// A writing has the file alone, also where the system makes many pieces of it.
 #[test]
-fn no_reading_of_a_file_gives_a_part_of_a_writing(rt: HostRuntime) -> Result<(), Fail> {
-    let path = path_of(&rt, "whole")?;
-    let mut kept = Vec::from_elem(rt.alloc(), 0, 2 * LONG)?;
-    image::make(&mut kept[LONG..], 1, 0);
-    fs::write(&rt, path.as_str(), kept.as_slice())?;
-    let ends = SharedDevice::over_file(rt, rt.alloc(), &path, LONG, 2)?;
+fn no_reading_of_a_file_gives_a_part_of_a_writing(rt: HostRuntime) {
+    let path = path_of(&rt, rt.process(), "whole");
+    write_long(&rt, &path);
+    let ends = SharedDevice::over_file(rt, rt.alloc(), &path, LONG, 2).expect(&rt, "ends");
     let load = Load {
         page_bytes: LONG,
         turns: 100,
         is_writing: true,
     };
     goes_well(&rt, ends, load);
-    fs::remove_file(&rt, path.as_str())?;
-    Ok(())
+    fs::remove_file(&rt, path.as_str()).expect(&rt, "the file is removed");
 }
