@@ -1,6 +1,7 @@
 -- Two words of one command that name one file, of which one is written.
 use Rattle.std.specs.Prelude.{◌≡◌, ◌≢◌, ◌⊎◌, List, [], ◌∷◌, ◌++◌, Option, None, Some, Bool, true, false, codes, if◌then◌else◌, is_some, ⊤}
 use Rattle.std.specs.Str.{bytes_eq}
+use Rattle.pp_shown.specs.Shown.{shown_path}
 use Rattle.pp_judge.specs.Answers.{Answer}
 use Rattle.pp_words.specs.CommandLine.{Asked, Text}
 use Rattle.pp_cli.specs.Faults.{IsMisusedBy}
@@ -52,7 +53,7 @@ writes_a_file _ = false
 abbrev pub clash_line : (written other : Text) → Text
 clash_line written other =
     if bytes_eq written (codes "-") then codes "error: - is no file that this command can write\n"
-    else codes "error: " ++ (written ++ (codes " and " ++ (other
+    else codes "error: " ++ (shown_path written ++ (codes " and " ++ (shown_path other
     ++ codes " name one file, and this command would write it\n")))
 
 -- what a command comes to of which two words name one file

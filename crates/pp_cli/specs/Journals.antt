@@ -4,6 +4,7 @@ use Rattle.std.specs.Str.{bytes_eq}
 use Rattle.pp_report.specs.AuditingLives.{renewal_line}
 use Rattle.pp_report.specs.Journals.{journal_lines}
 use Rattle.pp_report.specs.Reading.{line_in}
+use Rattle.pp_shown.specs.Shown.{shown_path}
 use Rattle.pp_judge.specs.Answers.{Answer}
 use Rattle.pp_words.specs.CommandLine.{Text}
 use Rattle.pp_cli.specs.Faults.{IsMisusedBy, IsUnwrittenAt}
@@ -24,7 +25,8 @@ may_replace (byte ∷ rest) = begins_as_journal (byte ∷ rest)
 
 -- the complaint that a file which is to have the journal has something else
 abbrev pub no_journal_line : (path : Text) → Text
-no_journal_line path = codes "error: " ++ path ++ codes " has something other than a journal in it, and stays as it is\n"
+no_journal_line path =
+    codes "error: " ++ (shown_path path ++ codes " has something other than a journal in it, and stays as it is\n")
 
 -- the file isn't opened for a journal: it can't be written, it has something else in it, or memory ran out
 abbrev pub IsUnopened : (path : Text) → Answer → Type 0

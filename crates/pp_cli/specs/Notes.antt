@@ -3,6 +3,7 @@ use Rattle.std.specs.Prelude.{◌≡◌, ◌+◌, ◌*◌, ◌/◌, ◌==◌, �
 use Rattle.std.specs.Prelude.{count_by, if◌then◌else◌, ◌&&◌, is_none, is_some, IfSome}
 use Rattle.std.specs.Fmt.{decimal}
 use Rattle.pp_judge.specs.Answers.{Answer, ran}
+use Rattle.pp_judge.specs.Lines.{fault_text}
 use Rattle.pp_judge.specs.declared.exit.FileFault.{FileFault}
 use Rattle.pp_model.specs.declared.event.Event.{Event}
 use Rattle.pp_model.specs.declared.event.Event.TheVariants.{Step}
@@ -41,7 +42,7 @@ seen_fault fault = (fault.path.now, fault.cause.now)
 -- why the journal isn't kept, where it isn't
 abbrev pub unkept_line : Option (Text × Text) → Text
 unkept_line None = []
-unkept_line (Some fault) = codes "fault writing " ++ (fault.0 ++ (codes ": " ++ (fault.1 ++ codes "\n")))
+unkept_line (Some fault) = codes "fault writing " ++ (fault_text fault.0 fault.1 ++ codes "\n")
 
 -- how many fixes found their page in memory, and how many in a hundred that are; nothing where there was no fix
 abbrev pub ratio_line : (hits loads : ℕ) → Text

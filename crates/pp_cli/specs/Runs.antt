@@ -14,7 +14,7 @@ use Rattle.pp_judge.specs.Answers.{refused, shown, made, drawn, misused, status_
 use Rattle.pp_judge.specs.Answers.{formatted, out_of_memory, unread}
 use Rattle.pp_words.specs.CommandLine.{Asked, Text, asked}
 use Rattle.pp_words.specs.Faults.{IsMistaken, asks_for_help}
-use Rattle.pp_words.specs.Texts.{is_ended}
+use Rattle.pp_words.specs.Texts.{IsShownText, is_ended}
 use Rattle.pp_cli.specs.declared.files.Unread.{Unread}
 use Rattle.pp_cli.specs.declared.files.Unread.TheVariants.{File, Memory}
 use Rattle.pp_cli.specs.Clashes.{AreApart, IsClash}
@@ -148,10 +148,10 @@ IsWarnedOf errors_of None err err-after = err-after ≡ err
 IsWarnedOf errors_of (Some command) err err-after = IsWarnedBy errors_of command err err-after
 
 -- what words may come to that ask for no command: the help or the version where they ask for that, a bad command line
--- where there is a mistake in them; the text ends with a line feed
+-- where there is a mistake in them, of which nothing that isn't printable is shown; the text ends with a line feed
 abbrev pub ComesOfNothing : List Text → Answer → Type 0
 ComesOfNothing words (shown text) = (asks_for_help words ≡ true) × (is_ended text ≡ true)
-ComesOfNothing words (misused text) = IsMistaken words × (is_ended text ≡ true)
+ComesOfNothing words (misused text) = IsMistaken words × (is_ended text ≡ true) × IsShownText text
 ComesOfNothing words out_of_memory = ⊤
 ComesOfNothing words _ = ⊥
 

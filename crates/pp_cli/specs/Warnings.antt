@@ -2,6 +2,7 @@
 -- its settings.
 use Rattle.std.specs.Prelude.{◌≡◌, ◌⊎◌, ◌*◌, ◌-◌, ◌==◌, ℕ, List, [], ◌++◌, Option, None, Some, codes, if◌then◌else◌}
 use Rattle.std.specs.Fmt.{decimal}
+use Rattle.pp_shown.specs.Shown.{shown_path}
 use Rattle.pp_judge.specs.declared.device.DeviceSize.{DeviceSize}
 use Rattle.pp_words.specs.CommandLine.{Text}
 use Rattle.pp_explain.specs.Paragraphs.{IsAbout}
@@ -15,7 +16,7 @@ bytes_of size = size.pages * size.page_bytes
 -- the warning that a device has so many bytes
 abbrev pub other_length_line : (device : Text) → DeviceSize → (bytes : ℕ) → Text
 other_length_line device size bytes =
-    codes "warning: " ++ (device ++ (codes " has " ++ (decimal bytes ++ (codes " bytes, and " ++ (decimal size.pages
+    codes "warning: " ++ (shown_path device ++ (codes " has " ++ (decimal bytes ++ (codes " bytes, and " ++ (decimal size.pages
     ++ (codes " pages of " ++ (decimal size.page_bytes ++ (codes " bytes are " ++ (decimal (bytes_of size)
     ++ codes "\n")))))))))
 
@@ -29,7 +30,7 @@ abbrev pub head_line : (device : Text) → (page : ℕ) → (number : Option ℕ
 head_line device page None = []
 head_line device page (Some number) =
     if number == page then []
-    else codes "warning: " ++ (device ++ (codes " has page " ++ (decimal number ++ (codes " where page " ++ (decimal page
+    else codes "warning: " ++ (shown_path device ++ (codes " has page " ++ (decimal number ++ (codes " where page " ++ (decimal page
     ++ codes " of these settings is\n")))))
 
 -- all warnings of a device, where this was found in it: of its length, and of the heads of its first and its last page

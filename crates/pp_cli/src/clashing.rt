@@ -7,6 +7,7 @@ ghost use Rattle.pp_cli.specs.Clashes.{AreApart, IsApart, IsApartAt, IsApartInRu
 ghost use Rattle.pp_cli.specs.Faults.{IsMisusedBy};
 
 use pp_judge::Exit;
+use pp_shown::ShownPath;
 use pp_words::{DrawPaths, Job, RunPaths};
 use std::alloc::{AllocError, Global};
 use std::fs;
@@ -54,6 +55,7 @@ fn clash_line(alloc: Global, written: &str, other: &str) -> Result<String, Alloc
     if written == "-" {
         return String::from_str(alloc, "error: - is no file that this command can write\n");
     }
+    let (written, other) = (ShownPath(written), ShownPath(other));
     Ok(format!(in alloc;
         "error: {written} and {other} name one file, and this command would write it\n"
     )?)

@@ -12,6 +12,7 @@ use crate::fault::{fault_at, unwritten};
 use pp_judge::{Exit, FileFault};
 use pp_report::{RENEWAL_LINE, first_line, line_in};
 use pp_run_command::write_journal;
+use pp_shown::ShownPath;
 use std::alloc::{AllocError, Global};
 use std::fs::{File, OpenOptions};
 use std::io::{ErrorKind, Read, Seek, SeekFrom};
@@ -174,6 +175,7 @@ fn other_file<'a>(alloc: Global, path: &str) -> Exit<'a>
 fn no_journal_line(alloc: Global, path: &str) -> Result<String, AllocError>
     ensures { IfOk result (λ text. string_bytes text ≡ no_journal_line path.now) }
 {
+    let path = ShownPath(path);
     Ok(format!(in alloc;
         "error: {path} has something other than a journal in it, and stays as it is\n"
     )?)

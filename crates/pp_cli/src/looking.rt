@@ -4,6 +4,7 @@ ghost use Rattle.std.specs.Prelude.{◌≡◌, IfOk, string_bytes};
 ghost use Rattle.pp_cli.specs.Warnings.{bytes_of, head_line, length_line, other_length_line, warning_text};
 
 use pp_judge::DeviceSize;
+use pp_shown::ShownPath;
 use std::alloc::{AllocError, Global};
 use std::fs::File;
 use std::os::unix::fs::FileExt;
@@ -109,6 +110,7 @@ fn other_length_line(
 ) -> Result<String, AllocError>
     ensures { IfOk result (λ text. string_bytes text ≡ other_length_line device.now size bytes) }
 {
+    let device = ShownPath(device);
     let wanted = bytes_of(size);
     let DeviceSize { pages, page_bytes } = size;
     Ok(format!(in alloc;
@@ -131,6 +133,7 @@ fn head_line(
     if number == page {
         return Ok(String::new(alloc));
     }
+    let device = ShownPath(device);
     Ok(format!(in alloc;
         "warning: {device} has page {number} where page {page} of these settings is\n"
     )?)

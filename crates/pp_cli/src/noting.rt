@@ -42,9 +42,7 @@ fn unkept_line(alloc: Global, unkept: Option<FileFault<'_>>) -> Result<String, A
     ensures { IfOk result (λ text. string_bytes text ≡ unkept_line (option_map seen_fault unkept.entry)) }
 {
     match unkept {
-        Some(FileFault { path, cause }) => {
-            Ok(format!(in alloc; "fault writing {path}: {cause}\n")?)
-        }
+        Some(fault) => Ok(format!(in alloc; "fault writing {fault}\n")?),
         None => Ok(String::new(alloc)),
     }
 }

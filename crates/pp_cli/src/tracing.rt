@@ -5,6 +5,7 @@ ghost use Rattle.pp_judge.specs.Answers.{seen};
 ghost use Rattle.pp_cli.specs.Traces.{IsMistraced, trace_line};
 
 use pp_judge::Exit;
+use pp_shown::ShownPath;
 use std::alloc::{AllocError, AllocFailed, Global};
 use std::str;
 
@@ -54,6 +55,7 @@ pub fn trace_in<'a>(
 fn trace_line(alloc: Global, path: &str, line: usize, workers: u32) -> Result<String, AllocError>
     ensures { IfOk result (λ text. string_bytes text ≡ trace_line path.now line workers) }
 {
+    let path = ShownPath(path);
     Ok(format!(in alloc;
         "error: {path}: line {line} isn't WORKER NUMBER, with a worker below {workers} and a number below 4294967296\n"
     )?)

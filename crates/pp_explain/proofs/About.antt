@@ -1,16 +1,20 @@
 -- Paragraphs, and the files that they are about.
-use Rattle.std.proofs.Common.{◌≡◌, ◌≤◌, ◌<◌, ◌++◌, ◌∷◌, [], ℕ, List, length, get_or, codes, subst, arith}
+use Rattle.std.proofs.Common.{◌≡◌, ◌<◌, ◌++◌, ◌∷◌, [], ℕ, List, length, get_or, codes, ap, subst, ◌∙◌, arith}
 use Rattle.std.proofs.lemmas.List.{get_or-map, length-map}
 use Rattle.std.proofs.lemmas.List.Elements.{Contains-append_left, Contains-append_right, Contains-get_or}
 use Rattle.std.specs.List.{Contains}
 use Rattle.pp_explain.specs.declared.source.Source.{Source}
-use Rattle.pp_explain.specs.Paragraphs.{IsAbout, IsParagraph, IsShownAs, line_feeds, paths_in}
+use Rattle.pp_shown.specs.Shown.{shown_lines, shown_path}
+use Rattle.pp_explain.specs.Paragraphs.{IsAbout, IsParagraph, few_lines, paths_in}
 
--- A path, a text of few lines, and a line feed.
-pub made : (path shown rest bytes : List ℕ) → IsShownAs path shown → bytes ≡ shown ++ rest ++ codes "\n" → line_feeds rest ≤ 4
-    → IsParagraph path bytes
-made path shown rest bytes named is few =
-    record { shown = shown; named = named; rest = rest; begins = is; lines = few }
+-- A path as it is shown, few lines, and a line feed.
+pub made : (path said shown lines bytes : List ℕ) → shown ≡ shown_path path → lines ≡ shown_lines said
+    → bytes ≡ shown ++ few_lines 4 lines ++ codes "\n" → IsParagraph path bytes
+made path said shown lines bytes begins goes is = record {
+  said = said;
+  is = is ∙ ap (λ begun. begun ++ few_lines 4 lines ++ codes "\n") begins
+      ∙ ap (λ shown. shown_path path ++ few_lines 4 shown ++ codes "\n") goes;
+}
 
 first : (one : List ℕ) (others : List (List ℕ)) → Contains (one ∷ others) one
 first one others =

@@ -1,32 +1,22 @@
 -- The form of an explanation.
-use Rattle.std.specs.Prelude.{◌≡◌, ◌≤◌, ◌==◌, ◌&&◌, ◌++◌, ◌∷◌, [], ℕ, Bool, List, Option, None, Some, map, codes, count_by, nat_le, if◌then◌else◌}
-use Rattle.std.specs.List.{Contains, list_all}
+use Rattle.std.specs.Prelude.{◌≡◌, ◌-◌, ◌==◌, ◌++◌, ◌∷◌, [], ℕ, List, Option, None, Some, false, map, codes, if◌then◌else◌}
+use Rattle.std.specs.List.{Contains}
+use Rattle.pp_shown.specs.Shown.{shown_lines, shown_path}
 use Rattle.pp_explain.specs.declared.source.Source.{Source}
 use Rattle.pp_explain.specs.declared.explaining.Sources.{Sources}
 
--- how many line feeds the bytes have
-abbrev pub line_feeds : List ℕ → ℕ
-line_feeds bytes = count_by (λ byte. byte == 10) bytes
+-- the bytes, with a space for each line feed behind so many
+abbrev pub few_lines : (feeds : ℕ) → List ℕ → List ℕ
+few_lines feeds [] = []
+few_lines feeds (byte ∷ rest) =
+    if byte == 10 then (if feeds == 0 then 32 ∷ few_lines 0 rest else 10 ∷ few_lines (feeds - 1) rest)
+    else byte ∷ few_lines feeds rest
 
--- whether the byte is a printable character of ASCII
-abbrev pub is_plain_byte : ℕ → Bool
-is_plain_byte byte = nat_le 32 byte && nat_le byte 126
-
--- whether all bytes of a path are
-abbrev pub is_plain : List ℕ → Bool
-is_plain path = list_all is_plain_byte path
-
--- how a path is shown: as it is, where all its bytes are printable characters of ASCII
-abbrev pub IsShownAs : (path shown : List ℕ) → Type 0
-IsShownAs path shown = shown ≡ (if is_plain path then path else shown)
-
--- a paragraph about the file at this path: the path as it is shown, a text of at most five lines, and a line feed at its end
+-- a paragraph about the file at this path: the path as it is shown, some text as its lines are shown, at most five of them, and
+-- a line feed at its end
 pub record IsParagraph (path bytes : List ℕ) : Type 0 where
-  pub shown : List ℕ
-  pub named : IsShownAs path shown
-  pub rest : List ℕ
-  pub begins : bytes ≡ shown ++ rest ++ codes "\n"
-  pub lines : line_feeds rest ≤ 4
+  pub said : List ℕ
+  pub is : bytes ≡ shown_path path ++ few_lines 4 (shown_lines said) ++ codes "\n"
 
 -- a paragraph about one of the files at these paths
 pub record IsAbout (paths : List (List ℕ)) (bytes : List ℕ) : Type 0 where

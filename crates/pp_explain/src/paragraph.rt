@@ -1,86 +1,63 @@
 //! The form of an explanation.
 
-ghost use Rattle.std.specs.Prelude.{◌≡◌, ◌≤◌, ◌==◌, IfOk, count_by, string_bytes};
-ghost use Rattle.std.specs.List.{list_all};
-ghost use Rattle.pp_explain.specs.Paragraphs.{IsParagraph, IsShownAs, is_plain, is_plain_byte, line_feeds};
+ghost use Rattle.std.specs.Prelude.{◌≡◌, ◌++◌, IfOk, codes};
+ghost use Rattle.pp_explain.specs.Paragraphs.{IsParagraph, few_lines};
 
-use pp_locate::{Said, Spot, push_shown};
+use pp_locate::{Said, Spot};
+use pp_shown::{ShownLines, ShownPath};
 use std::alloc::{AllocError, Global};
+
+/// How many line feeds a paragraph has at most before its last one.
+const FEEDS: usize = 4;
 
 /// The paragraph of what is said of the file at this path.
 pub(crate) fn paragraph(alloc: Global, path: &str, said: &Said) -> Result<Vec<u8>, AllocError>
     ensures { IfOk result (λ bytes. IsParagraph path.now bytes.items) }
 {
-    let rest = match said.spot {
+    let text = match said.spot {
         Some(Spot { line, column }) => format!(in alloc; ":{line}:{column}: {}", said.text)?,
         None => format!(in alloc; ": {}", said.text)?,
     };
-    let rest = in_lines(alloc, rest.as_bytes())?;
-    let shown = path_text(alloc, path)?;
-    joined(alloc, path, shown.as_str(), &rest)
+    told(alloc, path, text.as_str())
 }
 
-/// Whether the path has printable characters of ASCII alone.
-fn is_plain(path: &[u8]) -> bool
-    ensures { result ≡ is_plain path.now }
-{
-    path.iter().all(|byte| is_plain_byte(*byte))
-}
-
-/// Whether the byte is a printable character of ASCII.
-fn is_plain_byte(byte: u8) -> bool
-    ensures { result ≡ is_plain_byte byte }
-{
-    0x20 <= byte && byte <= 0x7e
-}
-
-/// The path, in which what isn't printable is escaped.
-fn path_text(alloc: Global, path: &str) -> Result<String, AllocError>
-    ensures { IfOk result (λ shown. IsShownAs path.now (string_bytes shown)) }
-{
-    if is_plain(path.as_bytes()) {
-        return String::from_str(alloc, path);
-    }
-    escaped(alloc, path)
-}
-
-/// The text, in which what isn't printable is escaped.
-fn escaped(alloc: Global, text: &str) -> Result<String, AllocError> {
-    let mut shown = String::new(alloc);
-    for character in text.chars() {
-        push_shown(&mut shown, character)?;
-    }
-    Ok(shown)
-}
-
-/// The path as it is shown, the rest of its paragraph, and a line feed.
-#[tactic(auto, using(crate::proofs::About::made))]
-fn joined(alloc: Global, path: &str, shown: &str, rest: &[u8]) -> Result<Vec<u8>, AllocError>
-    requires shown { IsShownAs path.now shown.now }
-    requires few { line_feeds rest.now ≤ 4 }
+/// The path as it is shown, the text as its lines are shown, and a line feed.
+fn told(alloc: Global, path: &str, text: &str) -> Result<Vec<u8>, AllocError>
     ensures { IfOk result (λ bytes. IsParagraph path.now bytes.items) }
 {
+    let (path, text) = (ShownPath(path), ShownLines(text));
+    let shown = format!(in alloc; "{path}")?;
+    let lines = format!(in alloc; "{text}")?;
+    let bytes = joined(alloc, shown.as_str(), lines.as_str())?;
+    Ok(bytes)
+}
+
+/// The path, few of the lines, and a line feed.
+fn joined(alloc: Global, path: &str, lines: &str) -> Result<Vec<u8>, AllocError>
+    ensures { IfOk result (λ bytes. bytes.items ≡ path.now ++ few_lines FEEDS lines.now ++ codes "\n") }
+{
+    let few = few_lines(alloc, lines.as_bytes())?;
     let mut bytes = Vec::new(alloc);
-    bytes.extend_from_slice(shown.as_bytes())?;
-    bytes.extend_from_slice(rest)?;
+    bytes.extend_from_slice(path.as_bytes())?;
+    bytes.extend_from_slice(&few)?;
     bytes.push(b'\n')?;
     Ok(bytes)
 }
 
 /// The text, in which each line feed behind the fourth is a space.
-fn in_lines(alloc: Global, text: &[u8]) -> Result<Vec<u8>, AllocError>
-    ensures { IfOk result (λ bytes. line_feeds bytes.items ≤ 4) }
+fn few_lines(alloc: Global, text: &[u8]) -> Result<Vec<u8>, AllocError>
+    ensures { IfOk result (λ bytes. bytes.items ≡ few_lines FEEDS text.now) }
 {
     let mut bytes = Vec::new(alloc);
-    let mut feeds = 0u8;
+    let mut feeds = FEEDS;
     for byte in text {
         if *byte != b'\n' {
             bytes.push(*byte)?;
-        } else if feeds < 4 {
-            bytes.push(b'\n')?;
-            feeds += 1;
-        } else {
+        } else if feeds == 0 {
             bytes.push(b' ')?;
+        } else {
+            bytes.push(b'\n')?;
+            feeds -= 1;
         }
     }
     Ok(bytes)

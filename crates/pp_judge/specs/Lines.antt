@@ -1,6 +1,7 @@
 -- What the program prints.
 use Rattle.std.specs.Prelude.{ℕ, List, [], ◌++◌, codes}
 use Rattle.std.specs.Fmt.{decimal}
+use Rattle.pp_shown.specs.Shown.{shown_path}
 use Rattle.pp_text.specs.Refusals.{Row, refusal_text}
 use Rattle.pp_settings.specs.Refusals.{settings_error_row}
 use Rattle.pp_plan.specs.Refusals.{plan_error_row}
@@ -37,6 +38,10 @@ abbrev pub figures_line : Figures → List ℕ
 figures_line f =
     codes "accepted peak " ++ decimal f.peak ++ codes " steps " ++ decimal f.steps ++ codes " cost " ++ decimal f.cost
 
+-- A file as it is shown, and what is wrong with it.
+abbrev pub fault_text : (path cause : List ℕ) → List ℕ
+fault_text path cause = shown_path path ++ (codes ": " ++ cause)
+
 -- What is told of an answer, ended by a line feed.
 abbrev pub text_of : Answer → List ℕ
 text_of (done figures) = figures_line figures ++ codes "\n"
@@ -52,7 +57,7 @@ text_of (refused refusal) = refusal_line refusal ++ codes "\n"
 text_of (misused text) = text
 text_of wordless = codes "error: the words can't be read\n"
 text_of kept = []
-text_of (in_use path) = path ++ codes " is in use\n"
-text_of (unread path cause) = codes "fault reading " ++ path ++ codes ": " ++ cause ++ codes "\n"
-text_of (unwritten path cause) = codes "fault writing " ++ path ++ codes ": " ++ cause ++ codes "\n"
+text_of (in_use path) = shown_path path ++ codes " is in use\n"
+text_of (unread path cause) = codes "fault reading " ++ (fault_text path cause ++ codes "\n")
+text_of (unwritten path cause) = codes "fault writing " ++ (fault_text path cause ++ codes "\n")
 text_of out_of_memory = codes "out of memory\n"

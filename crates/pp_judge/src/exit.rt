@@ -2,10 +2,11 @@
 
 ghost use Rattle.std.specs.Prelude.{◌≡◌, Some};
 ghost use Rattle.pp_judge.specs.Answers.{figures_of, is_output_of, refused_by, seen, status_of};
-ghost use Rattle.pp_judge.specs.Lines.{figures_line, text_of};
+ghost use Rattle.pp_judge.specs.Lines.{fault_text, figures_line, text_of};
 
 use crate::error::JudgeError;
 use pp_cert::Accepted;
+use pp_shown::ShownPath;
 use std::fmt;
 
 /// What a run comes to: what is told of it, where, and the status.
@@ -55,6 +56,16 @@ pub struct FileFault<'a> {
     pub path: &'a str,
     /// Why, in the system's words, as in `No such file or directory`.
     pub cause: &'static str,
+}
+
+/// The path as it is shown, and why, as in `plan.json: No such file or directory`.
+impl fmt::Display for FileFault<'_> {
+    ghost output = { λ fault. Some (fault_text fault.path.now fault.cause.now) };
+
+    fn fmt<W: fmt::Write>(&self, f: &mut fmt::Formatter<W>) -> fmt::Result {
+        let path = ShownPath(self.path);
+        write!(f, "{path}: {}", self.cause)
+    }
 }
 
 /// What is told of plans that were run.
@@ -167,11 +178,12 @@ impl fmt::Display for Exit<'_> {
             | Exit::Misused(text) => f.write_str(text.as_str()),
             Exit::Wordless => f.write_str("error: the words can't be read\n"),
             Exit::Kept => f.write_str(""),
-            Exit::InUse(path) => writeln!(f, "{path} is in use"),
-            Exit::Unread(FileFault { path, cause }) => writeln!(f, "fault reading {path}: {cause}"),
-            Exit::Unwritten(FileFault { path, cause }) => {
-                writeln!(f, "fault writing {path}: {cause}")
+            Exit::InUse(path) => {
+                let path = ShownPath(path);
+                writeln!(f, "{path} is in use")
             }
+            Exit::Unread(fault) => writeln!(f, "fault reading {fault}"),
+            Exit::Unwritten(fault) => writeln!(f, "fault writing {fault}"),
             Exit::OutOfMemory => f.write_str("out of memory\n"),
         }
     }

@@ -23,5 +23,5 @@ pub use statement::{Statement, slot_in, slot_key};
 pub use statements::steps_to;
 pub use steps::{Step, offset_of, steps_text, value_at};
 pub use text::text_of;
-pub use values::{front, push_shown, quoted, shown};
+pub use values::{front, quoted, shown};
 pub use words::{hint, listed, nearest};

@@ -2,6 +2,7 @@
 
 ghost use Rattle.std.specs.Prelude.{◌≡◌, ◌≤◌, ◌+◌, IfOk, length, string_bytes};
 
+use pp_shown::ShownChar;
 use std::alloc::{AllocError, Global};
 
 /// How many bytes of a text are shown.
@@ -32,47 +33,6 @@ fn beginning(text: &str) -> &str
     ""
 }
 
-/// Whether the character is seen where it is printed, and nothing else becomes of it: it is no control, has a width, and
-/// turns no direction of writing.
-fn is_printable(character: char) -> bool {
-    !matches!(
-        character as u32,
-        0..=0x1f
-            | 0x7f..=0x9f
-            | 0xad
-            | 0x34f
-            | 0x61c
-            | 0x115f..=0x1160
-            | 0x17b4..=0x17b5
-            | 0x180b..=0x180f
-            | 0x200b..=0x200f
-            | 0x2028..=0x202e
-            | 0x2060..=0x206f
-            | 0x3164
-            | 0xfe00..=0xfe0f
-            | 0xfeff
-            | 0xffa0
-            | 0xfff0..=0xfffb
-            | 0xe0000..=0xe0fff
-    )
-}
-
-/// Adds the character, or `\u{..}` with its number where it isn't printable.
-pub fn push_shown(text: &mut String, character: char) -> Result<(), AllocError> {
-    if is_printable(character) {
-        return text.push(character);
-    }
-    match character {
-        '\n' => text.push_str("\\n"),
-        '\r' => text.push_str("\\r"),
-        '\t' => text.push_str("\\t"),
-        _ => {
-            let number = character as u32;
-            write!(text, "\\u{{{number:x}}}")
-        }
-    }
-}
-
 /// The text in quotes, or the front of that. What isn't printable is escaped.
 pub fn quoted(alloc: Global, text: &str) -> Result<String, AllocError>
     ensures { IfOk result (λ shown. length (string_bytes shown) ≤ SHOWN + 2) }
@@ -85,7 +45,8 @@ pub fn quoted(alloc: Global, text: &str) -> Result<String, AllocError>
         if matches!(character, '"' | '\\') {
             shown.push('\\')?;
         }
-        push_shown(&mut shown, character)?;
+        let character = ShownChar(character);
+        write!(shown, "{character}")?;
     }
     shown.push('"')?;
     front(alloc, shown.as_str())
@@ -161,7 +122,10 @@ pub fn shown(alloc: Global, text: &str) -> Result<String, AllocError>
             return front(alloc, shown.as_str());
         }
         match walk.pass(character) {
-            Part::Sign => push_shown(&mut shown, character)?,
+            Part::Sign => {
+                let character = ShownChar(character);
+                write!(shown, "{character}")?;
+            }
             Part::Space => {}
             Part::End => return front(alloc, shown.as_str()),
         }

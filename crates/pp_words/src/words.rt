@@ -1,10 +1,11 @@
 //! The program's whole command line, and the job that its words ask for.
 
-ghost use Rattle.std.specs.Prelude.{◌≡◌, map, IfOk, IfErr, IfSome, IsSome, string_bytes, option_map, true, Some};
+ghost use Rattle.std.specs.Prelude.{◌≡◌, ◌≢◌, false, map, IfOk, IfErr, IfSome, IsSome, string_bytes, option_map, true, Some};
 ghost use Rattle.clap.specs.Words.{app_of, fault_of, kind_of, subcommand_rows_of};
+ghost use Rattle.pp_shown.specs.Shown.{shown_lines, shown_path};
 ghost use Rattle.pp_words.specs.CommandLine.{asked, asked_by, asked_of, program, program_alone, PlainWordsAreThePaths};
 ghost use Rattle.pp_words.specs.Faults.{IsToldAs, IsToldBy};
-ghost use Rattle.pp_words.specs.Texts.{is_ended, with_line_feed, IsSaid};
+ghost use Rattle.pp_words.specs.Texts.{is_ended, with_line_feed, IsSaid, IsShownText};
 
 use crate::annotate::AnnotatePaths;
 use crate::audit::AuditPaths;
@@ -16,6 +17,7 @@ use crate::run::RunPaths;
 use crate::simulate::SimulatePaths;
 use clap::error::ErrorKind;
 use clap::{ArgMatches, Command};
+use pp_shown::{ShownLines, ShownPath};
 use std::alloc::{AllocError, Global};
 use std::convert::AsStr;
 use std::fmt::Display;
@@ -34,7 +36,8 @@ pub fn job<'a, S: AsStr>(alloc: Global, words: &'a [S]) -> Result<Job<'a>, JobEr
         → error ≡ JobError.OutOfMemory) }
     // The help and the version are shown only where the words ask for them, and all other faults are told as such.
     ensures told { IfErr result (IsToldBy (fault_of program (map S.text words.entry.now))) }
-    // The text of a fault, of the help or of the version ends with a line feed, and so is never empty.
+    // The text of a fault, of the help or of the version ends with a line feed, and so is never empty. A fault's shows nothing
+    // that isn't printable.
     ensures text { IfErr result IsSaid }
     // What a command asks for where none of its paths begins with a hyphen.
     ensures plain { PlainWordsAreThePaths }
@@ -42,9 +45,9 @@ pub fn job<'a, S: AsStr>(alloc: Global, words: &'a [S]) -> Result<Job<'a>, JobEr
     match command(alloc)?.try_get_matches_from(words) {
         Ok(matches) => match job_of(alloc, &matches)? {
             Some(job) => Ok(job),
-            None => Err(JobError::Words(text_of(alloc, &"error: no command is named")?)),
+            None => Err(JobError::Words(shown(alloc, "error: no command is named", true)?)),
         },
-        Err(fault) => Err(refused(alloc, &fault)),
+        Err(fault) => Err(refused(alloc, &fault, are_lines(words))),
     }
 }
 
@@ -105,7 +108,7 @@ fn job_of<'a>(alloc: Global, matches: &ArgMatches<'a>) -> Result<Option<Job<'a>>
 }
 
 /// Why words with this fault give no job.
-fn refused(alloc: Global, fault: &clap::Error) -> JobError
+fn refused(alloc: Global, fault: &clap::Error, are_lines: bool) -> JobError
     ensures memory { kind_of fault.now ≡ ErrorKind.OutOfMemory → result ≡ JobError.OutOfMemory }
     // The help and the version are shown, and a mistake is told as one.
     ensures told { IsToldAs (kind_of fault.now) result }
@@ -114,10 +117,46 @@ fn refused(alloc: Global, fault: &clap::Error) -> JobError
     if fault.kind() == ErrorKind::OutOfMemory {
         return JobError::OutOfMemory;
     }
-    match text_of(alloc, fault) {
-        Err(_) => JobError::OutOfMemory,
-        Ok(text) if fault.use_stderr() => JobError::Words(text),
-        Ok(text) => JobError::Shown(text),
+    match error_of(alloc, fault, are_lines) {
+        Ok(error) => error,
+        Err(AllocError) => JobError::OutOfMemory,
+    }
+}
+
+/// What is told of a fault that isn't want of memory.
+fn error_of(alloc: Global, fault: &clap::Error, are_lines: bool) -> Result<JobError, AllocError>
+    requires { kind_of fault.now ≢ ErrorKind.OutOfMemory }
+    ensures told { IfOk result (IsToldAs (kind_of fault.now)) }
+    ensures text { IfOk result IsSaid }
+{
+    if !fault.use_stderr() {
+        return Ok(JobError::Shown(text_of(alloc, fault)?));
+    }
+    let text = format!(in alloc; "{fault}")?;
+    Ok(JobError::Words(shown(alloc, text.as_str(), are_lines)?))
+}
+
+/// Whether each word stands in a line: then a line feed in the text of a fault is the text's own.
+fn are_lines<S: AsStr>(words: &[S]) -> bool {
+    for word in words {
+        if word.as_str().contains('\n') {
+            return false;
+        }
+    }
+    true
+}
+
+/// The text of a mistake in the words, which may show some of them: its lines, or all of it in one line.
+fn shown(alloc: Global, text: &str, are_lines: bool) -> Result<String, AllocError>
+    ensures lines { are_lines ≡ true → IfOk result (λ shown. string_bytes shown ≡ with_line_feed (shown_lines text.now)) }
+    ensures line { are_lines ≡ false → IfOk result (λ shown. string_bytes shown ≡ with_line_feed (shown_path text.now)) }
+    ensures ended { IfOk result (λ shown. is_ended (string_bytes shown) ≡ true) }
+    ensures quiet { IfOk result (λ shown. IsShownText (string_bytes shown)) }
+{
+    if are_lines {
+        text_of(alloc, &ShownLines(text))
+    } else {
+        text_of(alloc, &ShownPath(text))
     }
 }
 

@@ -45,8 +45,8 @@ returns-in_err-job-in-Ok-clause-plain g c = plain_words
 pub returns-in-Some-clause-plain : goal.returns-in-Some-clause-plain
 returns-in-Some-clause-plain g c = plain_words
 
-pub returns-in_err-text_of-in-None-clause-plain : goal.returns-in_err-text_of-in-None-clause-plain
-returns-in_err-text_of-in-None-clause-plain g c = plain_words
+pub returns-in_err-shown-in-None-clause-plain : goal.returns-in_err-shown-in-None-clause-plain
+returns-in_err-shown-in-None-clause-plain g c = plain_words
 
 pub returns-in-Ok-clause-plain : goal.returns-in-Ok-clause-plain
 returns-in-Ok-clause-plain g c = plain_words
