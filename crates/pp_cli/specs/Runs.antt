@@ -148,7 +148,8 @@ IsWarnedOf errors_of None err err-after = err-after ≡ err
 IsWarnedOf errors_of (Some command) err err-after = IsWarnedBy errors_of command err err-after
 
 -- what words may come to that ask for no command: the help or the version where they ask for that, a bad command line
--- where there is a mistake in them, of which nothing that isn't printable is shown; the text ends with a line feed
+-- where there is a mistake in them, of which nothing that isn't printable but line feeds is shown; the text ends with a
+-- line feed
 abbrev pub ComesOfNothing : List Text → Answer → Type 0
 ComesOfNothing words (shown text) = (asks_for_help words ≡ true) × (is_ended text ≡ true)
 ComesOfNothing words (misused text) = IsMistaken words × (is_ended text ≡ true) × IsShownText text

@@ -42,7 +42,7 @@ figures_line f =
 abbrev pub fault_text : (path cause : List ℕ) → List ℕ
 fault_text path cause = shown_path path ++ (codes ": " ++ cause)
 
--- What is told of an answer, ended by a line feed.
+-- What is told of an answer: a line of its own with a line feed behind it, or a text as it is.
 abbrev pub text_of : Answer → List ℕ
 text_of (done figures) = figures_line figures ++ codes "\n"
 text_of (made text) = text ++ codes "\n"

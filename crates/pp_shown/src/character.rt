@@ -9,8 +9,9 @@ use std::fmt;
 /// number in hexadecimal.
 ///
 /// Not printable are the characters of Unicode's general categories Cc (controls), Zl and Zp (ends of lines), the bidirectional
-/// controls (Unicode Standard Annex 9), the default-ignorable ones, and U+FFF9 to U+FFFB. All others are printable, also blanks,
-/// marks that combine with the letter before them, and letters that are written from right to left.
+/// controls (Unicode Standard Annex 9), the default-ignorable ones, U+FFF9 to U+FFFB, and the format controls of Egyptian
+/// hieroglyphs, U+13430 to U+1343F. All others are printable, also blanks, marks that combine with the letter before them, and
+/// letters that are written from right to left.
 #[derive(Clone, Copy, Debug, PartialEq, Eq)]
 pub struct ShownChar(pub char);
 

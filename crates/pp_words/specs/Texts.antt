@@ -19,6 +19,7 @@ IsShownText text = (said : List ℕ)
     × ((text ≡ with_line_feed (shown_lines said)) ⊎ (text ≡ with_line_feed (shown_path said)))
 
 -- what is to be told of the words ends with a line feed, and a mistake shows nothing of them that isn't printable
+-- but line feeds
 abbrev pub IsSaid : JobError → Type 0
 IsSaid (Shown text) = is_ended (string_bytes text) ≡ true
 IsSaid (Words text) = (is_ended (string_bytes text) ≡ true) × IsShownText (string_bytes text)

@@ -37,7 +37,7 @@ pub fn job<'a, S: AsStr>(alloc: Global, words: &'a [S]) -> Result<Job<'a>, JobEr
     // The help and the version are shown only where the words ask for them, and all other faults are told as such.
     ensures told { IfErr result (IsToldBy (fault_of program (map S.text words.entry.now))) }
     // The text of a fault, of the help or of the version ends with a line feed, and so is never empty. A fault's shows nothing
-    // that isn't printable.
+    // that isn't printable but line feeds.
     ensures text { IfErr result IsSaid }
     // What a command asks for where none of its paths begins with a hyphen.
     ensures plain { PlainWordsAreThePaths }
