@@ -15,3 +15,8 @@ pub mod LookLemmas
 pub mod FreshLemmas
 pub mod SizeLemmas
 pub mod RenameLemmas
+pub mod BehindLemmas
+pub mod SearchLemmas
+pub mod BeforeLemmas
+pub mod PassedLemmas
+pub mod TournamentLemmas

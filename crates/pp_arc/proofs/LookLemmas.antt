@@ -31,10 +31,10 @@ place_at d s x o h view low eo =
     (rw (← view) (sym (place-Shows (table_of d.pages d.records) (lists_in d) x h.shows low')))
 
 -- at a page and past the pages
-page_below : (pages i : ℕ) → i < pages → page_at pages i ≡ Some i
+pub page_below : (pages i : ℕ) → i < pages → page_at pages i ≡ Some i
 page_below pages i lt = rw (lt-ltb i pages lt) refl
 
-page_past : (pages i : ℕ) → pages ≤ i → page_at pages i ≡ None
+pub page_past : (pages i : ℕ) → pages ≤ i → page_at pages i ≡ None
 page_past pages i ge = elim (cases_Bool (nat_lt i pages)) [
   | inl e ↦ absurd (omega (arith, ltb-true i pages e))
   | inr e
@@ -49,7 +49,7 @@ front-Linked pages n p [] a b all past h = rw h.0 (page_past pages b past)
 front-Linked pages n p (x ∷ xs) a b all past h = rw h.0
     (page_below pages x (all x (omega (arith, times_in-front x xs))))
 
-shift : (y : ℕ) (ys : List ℕ) (k : ℕ) → slice_get (drop (1 + k + 1) (y ∷ ys)) 0 ≡ slice_get (drop (k + 1) ys) 0
+pub shift : (y : ℕ) (ys : List ℕ) (k : ℕ) → slice_get (drop (1 + k + 1) (y ∷ ys)) 0 ≡ slice_get (drop (k + 1) ys) 0
 shift y ys k = let e : 1 + k + 1 ≡ suc (k + 1) = omega arith in rw e refl
 
 -- the page after one of a row
@@ -86,7 +86,7 @@ times_in-reverse (x ∷ xs) i = rw (reverse_onto xs x [], times_in-append (rever
     (omega (arith, times_in-reverse xs i))
 
 -- what stands in a list is a page
-below : (d : Content) (l : ListName) (i : ℕ) → IsSound d → 1 ≤ times_in (list_of (lists_in d) l) i → i < d.pages
+pub below : (d : Content) (l : ListName) (i : ℕ) → IsSound d → 1 ≤ times_in (list_of (lists_in d) l) i → i < d.pages
 below d l i h one = elim (h.shows.stands l i) [ inl z ↦ absurd (omega arith) | inr w ↦ w.2 ]
 
 -- the ring of a list, backwards

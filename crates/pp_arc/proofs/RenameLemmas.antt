@@ -6,7 +6,7 @@ use Rattle.std.proofs.lemmas.Bool.{cases_Bool}
 use Rattle.std.proofs.lemmas.Bool.Decides.{eqb_tells}
 use Rattle.pp_arc.specs.declared.list.List.{List as ListName}
 use Rattle.pp_arc.specs.declared.list.List.TheVariants.{T1, T2, B1, B2}
-use Rattle.pp_arc.specs.Pages.{contains, times_in, without}
+use Rattle.pp_arc.specs.Pages.{contains, without}
 use Rattle.pp_arc.specs.FourLists.{FourLists, is_cached, place}
 use Rattle.pp_arc.specs.Figure.{forget}
 use Rattle.pp_arc.specs.Laws.{CachesRenamed}

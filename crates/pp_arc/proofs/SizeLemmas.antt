@@ -1,9 +1,8 @@
 -- Lemmas on a list that loses its last page, on a list that is cut, and on lists that move to a larger table.
-use Rattle.std.proofs.Common.{◌≡◌, ◌≢◌, ◌⊎◌, ℕ, ◌+◌, ◌-◌, ◌*◌, ◌^◌, ◌<◌, ◌≤◌, zero, suc, min, cond, eqb, List, [], ◌∷◌, ◌++◌}
-use Rattle.std.proofs.Common.{length, take, reverse, refl, arith, ap, sym, ◌∙◌, inl, inr, length-append, append_assoc}
+use Rattle.std.proofs.Common.{◌≡◌, ◌⊎◌, ℕ, ◌+◌, ◌-◌, ◌*◌, ◌<◌, ◌≤◌, zero, suc, min, cond, eqb, List, [], ◌∷◌, ◌++◌}
+use Rattle.std.proofs.Common.{length, take, refl, arith, ap, sym, ◌∙◌, inl, inr, length-append, append_assoc}
 use Rattle.std.specs.Prelude.{Bool, true, false, Option, Some, None, IsNone, IfSome, IsTrue, IsFalse, ◌↔◌}
-use Rattle.std.specs.Prelude.{slice_get}
-use Rattle.std.proofs.lemmas.List.{take_all, length-take, reverse-append, append-nil}
+use Rattle.std.proofs.lemmas.List.{take_all, length-take, reverse-append}
 use Rattle.std.proofs.lemmas.Bool.{cases_Bool}
 use Rattle.std.proofs.lemmas.Grind.{common_steps}
 use Rattle.pp_arc.specs.declared.list.List.{List as ListName}

@@ -6,5 +6,8 @@ pub mod Figure
 pub mod Laws
 pub mod Links
 pub mod Sizes
+pub mod Search
+pub mod Tournament
+pub mod Passed
 pub mod Table
 pub mod Fields

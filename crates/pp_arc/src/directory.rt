@@ -4,7 +4,9 @@ ghost use Rattle.std.specs.Prelude.{◌≡◌, ◌≢◌, ℕ, ◌+◌, ◌*◌,
 ghost use Rattle.std.specs.Prelude.{true, false, List, [], ◌∷◌, length, Option, Some, None, IsTrue, IsFalse, IfOk, IfSome};
 ghost use Rattle.std.specs.Prelude.{slice_get};
 ghost use Rattle.std.specs.Prelude.{IsNone};
-ghost use Rattle.pp_arc.specs.Pages.{times_in, contains, last_page};
+ghost use Rattle.std.specs.Option.{option_or};
+ghost use Rattle.pp_arc.specs.declared.list.List.{List as ListName};
+ghost use Rattle.pp_arc.specs.Pages.{times_in, contains, last_page, last_not_busy};
 ghost use Rattle.pp_arc.specs.FourLists.{empty_lists, list_of, cached_count, recent_count, total_count, times_named};
 ghost use Rattle.pp_arc.specs.FourLists.{is_cached, place, after};
 ghost use Rattle.pp_arc.specs.Bounds.{IsWithinBounds};
@@ -12,10 +14,11 @@ ghost use Rattle.pp_arc.specs.Laws.{AllCachedAreBusy, CachesInstead, CachesWitho
 ghost use Rattle.pp_arc.specs.Figure.{forget, with_front_of_t1, with_front_of_t2, with_remembered, raised_target};
 ghost use Rattle.pp_arc.specs.Figure.{lowered_target, victim, replacement, after_replace, replace_in_t1, room_for_new};
 ghost use Rattle.pp_arc.specs.Figure.{without_last_of_b1, without_last_of_b2, is_all_busy, request, bring_back};
+ghost use Rattle.pp_arc.specs.Search.{KnowsBusy, FoundIn, without_victim};
 ghost use Rattle.pp_arc.specs.Sizes.{dropped_name, given_up, after_giving_up, renamed, resized, with_pages};
 
 use crate::links::Links;
-use crate::{Answer, Busy, List};
+use crate::{Answer, Busy, List, Search};
 use std::alloc::{AllocError, Global};
 use std::marker::Model;
 
@@ -27,8 +30,10 @@ use std::marker::Model;
 /// All its memory is got by [`Directory::new`]. The bounds `IsWithinBounds` hold at all times, and each
 /// call tells them.
 ///
-/// No call searches for a page: each looks at a fixed number of records, and [`Directory::request`]
-/// beyond that only at the pages that it passes over as busy.
+/// But for [`Directory::resize`] and [`Directory::move_into`], each call looks at a fixed number of records, and where a page that
+/// had been freed leaves its place, at some more for each halving of the page numbers. [`Directory::request`] and
+/// [`Directory::give_up`] look at a busy page once after it last came to the front of its list, or was named by
+/// [`Directory::freed`].
 #[derive(Debug, Drop)]
 pub struct Directory {
     c: u32,
@@ -132,15 +137,17 @@ impl Directory {
 
     /// Asks for a page while the pages of `busy` may not leave the cache.
     ///
-    /// The page is cached afterwards, but where the answer is [`Answer::AllBusy`]: then nothing has changed.
-    pub fn request<B: Busy>(&mut self, page: u32, busy: &B) -> Answer
+    /// The page is cached afterwards, but where the answer is [`Answer::AllBusy`]: then the lists and the target are as before.
+    pub fn request<B: Busy>(&mut self, page: u32, search: &mut Search, busy: &B) -> Answer
         requires below { page < self.old.pages }
+        requires knows { KnowsBusy self.old search.old (B.busy busy.now) }
 
         // ARC's figure
         ensures answer { result ≡ (request self.old page (B.busy busy.now)).0 }
         ensures lists { self.new ≡ (request self.old page (B.busy busy.now)).1 }
         ensures bounds { IsWithinBounds self.new }
         ensures fixed { (self.new.c ≡ self.old.c) × (self.new.pages ≡ self.old.pages) }
+        ensures knows { KnowsBusy self.new search.new (B.busy busy.now) }
 
         // which answer comes when
         ensures hit { (result ≡ Answer.Hit) ↔ IsTrue (is_cached self.old page) }
@@ -158,25 +165,32 @@ impl Directory {
             → slice_get (if is_none (place self.old page) then self.new.t1 else self.new.t2) 0 ≡ Some page }
         ensures cache { result ≢ Answer.AllBusy → CachesInstead self.old self.new page result }
     {
-        self.request_by_place(page, busy)
+        self.request_by_place(page, search, busy)
     }
 
     /// The request, by the list in which the page stands.
-    fn request_by_place<B: Busy>(&mut self, page: u32, busy: &B) -> Answer
+    fn request_by_place<B: Busy>(&mut self, page: u32, search: &mut Search, busy: &B) -> Answer
         requires below { page < self.old.pages }
+        requires knows { KnowsBusy self.old search.old (B.busy busy.now) }
         ensures answer { result ≡ (request self.old page (B.busy busy.now)).0 }
         ensures lists { self.new ≡ (request self.old page (B.busy busy.now)).1 }
         ensures bounds { IsWithinBounds self.new }
         ensures were_bounds { IsWithinBounds self.old }
+        ensures knows { KnowsBusy self.new search.new (B.busy busy.now) }
     {
         match self.place_below(page) {
             Some(List::T1) | Some(List::T2) => {
+                search.leave(&self.links, page);
                 self.move_to_t2(page);
                 Answer::Hit
             }
-            Some(List::B1) => self.request_remembered(page, self.raised_target(), false, busy),
-            Some(List::B2) => self.request_remembered(page, self.lowered_target(), true, busy),
-            None => self.request_new(page, busy),
+            Some(List::B1) => {
+                self.request_remembered(page, self.raised_target(), false, search, busy)
+            }
+            Some(List::B2) => {
+                self.request_remembered(page, self.lowered_target(), true, search, busy)
+            }
+            None => self.request_new(page, search, busy),
         }
     }
 
@@ -214,8 +228,9 @@ impl Directory {
     }
 
     /// Gives up one cached page, though no page comes in: the one that REPLACE would take leaves the cache, and its
-    /// name is remembered. None where each cached page is busy; then nothing changes.
-    pub fn give_up<B: Busy>(&mut self, busy: &B) -> Option<u32>
+    /// name is remembered. None where each cached page is busy; then the lists and the target are as before.
+    pub fn give_up<B: Busy>(&mut self, search: &mut Search, busy: &B) -> Option<u32>
+        requires knows { KnowsBusy self.old search.old (B.busy busy.now) }
         ensures victim { result ≡ given_up self.old (B.busy busy.now) }
         ensures all_busy { IsNone result ↔ AllCachedAreBusy self.old (B.busy busy.now) }
         ensures lists { self.new ≡ after_giving_up self.old result }
@@ -224,33 +239,40 @@ impl Directory {
         ensures fewer { IfSome result (λ _. cached_count self.new + 1 ≡ cached_count self.old) }
         ensures cache { IfSome result (λ v. CachesWithout self.old self.new v) }
         ensures bounds { IsWithinBounds self.new }
+        ensures knows { KnowsBusy self.new search.new (B.busy busy.now) }
     {
-        let page = self.page_to_give_up(busy)?;
+        let page = self.page_to_give_up(search, busy)?;
+        search.clear(page);
         self.demote(page);
         Some(page)
     }
 
-    /// The page that leaves where the cache gives up one. Nothing changes yet.
-    fn page_to_give_up<B: Busy>(&self, busy: &B) -> Option<u32>
+    /// The page that leaves where the cache gives up one. No list changes yet.
+    fn page_to_give_up<B: Busy>(&self, search: &mut Search, busy: &B) -> Option<u32>
+        requires knows { KnowsBusy self.now search.old (B.busy busy.now) }
         ensures victim { result ≡ given_up self.now (B.busy busy.now) }
         ensures all_busy { IsNone result ↔ AllCachedAreBusy self.now (B.busy busy.now) }
         ensures is_cached { IfSome result (λ v. IsTrue (is_cached self.now v)) }
         ensures is_not_busy { IfSome result (λ v. IsFalse (B.busy busy.now v)) }
         ensures bounds { IsWithinBounds self.now }
+        ensures knows { KnowsBusy self.now search.new (B.busy busy.now) }
+        ensures marks { IfSome result (λ v. (search.new.t1 ≢ Some v) × (search.new.t2 ≢ Some v)) }
     {
-        self.victim(self.target, false, busy)
+        self.victim(self.target, false, search, busy)
     }
 
     /// Gives the page of the name `old` the name `new`: it stays in its list, and stands at its front.
     ///
     /// What had the name `new` is forgotten. Where `old` stands nowhere, nothing else changes.
-    pub fn rename(&mut self, old: u32, new: u32)
+    pub fn rename(&mut self, old: u32, new: u32, search: &mut Search)
         requires below { new < self.old.pages }
         ensures lists { self.new ≡ renamed self.old old new }
         ensures cache { CachesRenamed self.old self.new old new }
         ensures bounds { IsWithinBounds self.new }
+        ensures knows { (busy other : ℕ → Bool) → KnowsBusy self.old search.old busy
+            → ((x : ℕ) → x ≢ old → x ≢ new → IsTrue (busy x) → IsTrue (other x)) → KnowsBusy self.new search.new other }
     {
-        self.links.rename(old, new);
+        self.links.rename(old, new, search);
     }
 
     /// Makes the cache one of `c` pages: so many are cached at most.
@@ -289,14 +311,26 @@ impl Directory {
     }
 
     /// Takes the page out of its list. A page that stands nowhere changes nothing.
-    pub fn forget(&mut self, page: u32)
+    pub fn forget(&mut self, page: u32, search: &mut Search)
         ensures lists { self.new ≡ forget self.old page }
         ensures bounds { IsWithinBounds self.new }
+        ensures knows { (busy other : ℕ → Bool) → KnowsBusy self.old search.old busy
+            → ((x : ℕ) → x ≢ page → IsTrue (busy x) → IsTrue (other x)) → KnowsBusy self.new search.new other }
         ensures gone { place self.new page ≡ None }
         ensures cache { CachesWithout self.old self.new page }
         ensures room { IsTrue (is_cached self.old page)
             → (cached_count self.new < self.new.c) × (total_count self.new < 2 * self.new.c) }
         ensures fewer { IsTrue (is_cached self.old page) → cached_count self.new + 1 ≡ cached_count self.old }
+    {
+        search.leave(&self.links, page);
+        self.take_out(page);
+    }
+
+    /// The page leaves its list, and has no number.
+    fn take_out(&mut self, page: u32)
+        ensures lists { self.new ≡ forget self.old page }
+        ensures bounds { IsWithinBounds self.new }
+        ensures were_bounds { IsWithinBounds self.old }
     {
         self.links.take_out(page);
     }
@@ -305,7 +339,7 @@ impl Directory {
     ///
     /// The page is remembered nowhere, and the victim is cached again, at the front of `T2`, wherever it
     /// stood before. The target stays.
-    pub fn bring_back(&mut self, page: u32, victim: u32)
+    pub fn bring_back(&mut self, page: u32, victim: u32, search: &mut Search)
         requires cached { IsTrue (is_cached self.old page) }
         requires gone { IsFalse (is_cached self.old victim) }
         requires below { victim < self.old.pages }
@@ -314,9 +348,26 @@ impl Directory {
         ensures front { slice_get self.new.t2 0 ≡ Some victim }
         ensures gone { place self.new page ≡ None }
         ensures cache { CachesAgain self.old self.new page victim }
+        ensures knows { (busy other : ℕ → Bool) → KnowsBusy self.old search.old busy
+            → ((x : ℕ) → x ≢ page → x ≢ victim → IsTrue (busy x) → IsTrue (other x))
+            → KnowsBusy self.new search.new other }
     {
-        self.forget(page);
+        self.forget(page, search);
         self.move_to_t2(victim);
+    }
+
+    /// The page stopped being busy.
+    ///
+    /// Each cached page for which this happens has to be named. One that isn't is left out of searches until it moves: another page
+    /// than ARC's may leave, or the answer be [`Answer::AllBusy`] while one is free. A busy page never leaves for it. A page that is
+    /// still busy may be named too.
+    #[inline(always)]
+    pub fn freed(&self, page: u32, search: &mut Search)
+        ensures knows { (busy other : ℕ → Bool) → KnowsBusy self.now search.old busy
+            → ((x : ℕ) → x ≢ page → IsTrue (busy x) → IsTrue (other x)) → KnowsBusy self.now search.new other }
+        ensures bounds { IsWithinBounds self.now }
+    {
+        search.freed(&self.links, page);
     }
 
     /// The request for a page of `B1` or `B2`, with the target as the request moves it.
@@ -325,9 +376,11 @@ impl Directory {
         page: u32,
         target: u32,
         in_b2: bool,
+        search: &mut Search,
         busy: &B,
     ) -> Answer
         requires below { page < self.old.pages }
+        requires knows { KnowsBusy self.old search.old (B.busy busy.now) }
         requires aimed { target ≤ self.old.c }
         requires remembered { 1 ≤ times_in self.old.b1 page + times_in self.old.b2 page }
         ensures answer { result ≡ replacement (record self.old { target = target }) in_b2 (B.busy busy.now) }
@@ -335,43 +388,47 @@ impl Directory {
             ≡ (if is_all_busy result then self.old
             else with_front_of_t2 (after_replace (record self.old { target = target }) result) page) }
         ensures bounds { IsWithinBounds self.new }
+        ensures knows { KnowsBusy self.new search.new (B.busy busy.now) }
     {
-        let answer = self.replacement(target, in_b2, busy);
+        let answer = self.replacement(target, in_b2, search, busy);
         if let Answer::AllBusy = answer {
             return answer;
         }
         self.target = target;
-        self.replace(answer);
+        self.replace(answer, search);
         self.move_to_t2(page);
         answer
     }
 
     /// The request for a page that stands in no list.
-    fn request_new<B: Busy>(&mut self, page: u32, busy: &B) -> Answer
+    fn request_new<B: Busy>(&mut self, page: u32, search: &mut Search, busy: &B) -> Answer
         requires below { page < self.old.pages }
+        requires knows { KnowsBusy self.old search.old (B.busy busy.now) }
         requires absent { times_named self.old page ≡ 0 }
         ensures answer { result ≡ (room_for_new self.old (B.busy busy.now)).0 }
         ensures lists { self.new
             ≡ (if is_all_busy result then self.old
             else with_front_of_t1 (room_for_new self.old (B.busy busy.now)).1 page) }
         ensures bounds { IsWithinBounds self.new }
+        ensures knows { KnowsBusy self.new search.new (B.busy busy.now) }
     {
         if self.links.len(List::T1) == self.c as usize {
-            return self.request_in_t1(page, busy);
+            return self.request_in_t1(page, search, busy);
         }
-        let answer = self.replacement(self.target, false, busy);
+        let answer = self.replacement(self.target, false, search, busy);
         if let Answer::AllBusy = answer {
             return answer;
         }
         self.drop_a_name();
-        self.replace(answer);
+        self.replace(answer, search);
         self.put_in_t1(page);
         answer
     }
 
     /// The request for a page that stands in no list, where `T1` is all of the cache.
-    fn request_in_t1<B: Busy>(&mut self, page: u32, busy: &B) -> Answer
+    fn request_in_t1<B: Busy>(&mut self, page: u32, search: &mut Search, busy: &B) -> Answer
         requires below { page < self.old.pages }
+        requires knows { KnowsBusy self.old search.old (B.busy busy.now) }
         requires absent { times_named self.old page ≡ 0 }
         requires full { length self.old.t1 ≡ self.old.c }
         ensures answer { result ≡ (replace_in_t1 self.old (B.busy busy.now)).0 }
@@ -379,10 +436,12 @@ impl Directory {
             ≡ (if is_all_busy result then self.old
             else with_front_of_t1 (replace_in_t1 self.old (B.busy busy.now)).1 page) }
         ensures bounds { IsWithinBounds self.new }
+        ensures knows { KnowsBusy self.new search.new (B.busy busy.now) }
     {
-        match self.links.last_not_busy(List::T1, busy) {
+        match self.last_not_busy(List::T1, search, busy) {
             Some(victim) => {
-                self.forget(victim);
+                search.clear(victim);
+                self.take_out(victim);
                 self.put_in_t1(page);
                 Answer::Evict(victim)
             }
@@ -414,47 +473,98 @@ impl Directory {
         }
     }
 
-    /// What REPLACE answers with this target. Nothing changes yet.
-    fn replacement<B: Busy>(&self, target: u32, in_b2: bool, busy: &B) -> Answer
+    /// What REPLACE answers with this target. No list changes yet.
+    fn replacement<B: Busy>(
+        &self,
+        target: u32,
+        in_b2: bool,
+        search: &mut Search,
+        busy: &B,
+    ) -> Answer
+        requires knows { KnowsBusy self.now search.old (B.busy busy.now) }
         ensures answer { result ≡ replacement (record self.now { target = target }) in_b2 (B.busy busy.now) }
         ensures free { result ≡ Answer.Free → cached_count self.now < self.now.c }
         ensures victim_is_cached { (v : ℕ) → result ≡ Answer.Evict v → IsTrue (is_cached self.now v) }
         ensures no_hit { result ≢ Answer.Hit }
         ensures bounds { IsWithinBounds self.now }
+        ensures found { FoundIn self.now search.new (B.busy busy.now) result }
     {
         let c = self.c as usize;
         if self.links.len(List::T1) + self.links.len(List::T2) != c {
             return Answer::Free;
         }
-        match self.victim(target, in_b2, busy) {
+        match self.victim(target, in_b2, search, busy) {
             Some(victim) => Answer::Evict(victim),
             None => Answer::AllBusy,
         }
     }
 
     /// The page that would leave the cache by REPLACE with this target.
-    fn victim<B: Busy>(&self, target: u32, in_b2: bool, busy: &B) -> Option<u32>
-        ensures { result ≡ victim (record self.now { target = target }) in_b2 (B.busy busy.now) }
+    fn victim<B: Busy>(
+        &self,
+        target: u32,
+        in_b2: bool,
+        search: &mut Search,
+        busy: &B,
+    ) -> Option<u32>
+        requires knows { KnowsBusy self.now search.old (B.busy busy.now) }
+        ensures victim { result ≡ victim (record self.now { target = target }) in_b2 (B.busy busy.now) }
+        ensures knows { KnowsBusy self.now search.new (B.busy busy.now) }
+        ensures marks { IfSome result (λ v. (search.new.t1 ≢ Some v) × (search.new.t2 ≢ Some v)) }
     {
         let len = self.links.len(List::T1);
         let target = target as usize;
         if len > 0 && (len > target || (in_b2 && len == target)) {
-            self.links
-                .last_not_busy(List::T1, busy)
-                .or_else(|| self.links.last_not_busy(List::T2, busy))
+            self.last_of_either(List::T1, List::T2, search, busy)
         } else {
-            self.links
-                .last_not_busy(List::T2, busy)
-                .or_else(|| self.links.last_not_busy(List::T1, busy))
+            self.last_of_either(List::T2, List::T1, search, busy)
         }
     }
 
+    /// The last page of the first list that isn't busy, else that of the second.
+    #[inline(always)]
+    fn last_of_either<B: Busy>(
+        &self,
+        first: List,
+        second: List,
+        search: &mut Search,
+        busy: &B,
+    ) -> Option<u32>
+        requires first { (first ≡ ListName.T1) ⊎ (first ≡ ListName.T2) }
+        requires second { (second ≡ ListName.T1) ⊎ (second ≡ ListName.T2) }
+        requires knows { KnowsBusy self.now search.old (B.busy busy.now) }
+        ensures value { result ≡ option_or (last_not_busy (list_of self.now first) (B.busy busy.now))
+            (last_not_busy (list_of self.now second) (B.busy busy.now)) }
+        ensures knows { KnowsBusy self.now search.new (B.busy busy.now) }
+        ensures marks { IfSome result (λ v. (search.new.t1 ≢ Some v) × (search.new.t2 ≢ Some v)) }
+    {
+        match self.last_not_busy(first, search, busy) {
+            Some(page) => Some(page),
+            None => self.last_not_busy(second, search, busy),
+        }
+    }
+
+    /// The last page of `T1` or `T2` that isn't busy. No mark is at that page.
+    #[inline(always)]
+    fn last_not_busy<B: Busy>(&self, list: List, search: &mut Search, busy: &B) -> Option<u32>
+        requires cached { (list ≡ ListName.T1) ⊎ (list ≡ ListName.T2) }
+        requires knows { KnowsBusy self.now search.old (B.busy busy.now) }
+        ensures last { result ≡ last_not_busy (list_of self.now list) (B.busy busy.now) }
+        ensures knows { KnowsBusy self.now search.new (B.busy busy.now) }
+        ensures bounds { IsWithinBounds self.now }
+        ensures marks { IfSome result (λ v. (search.new.t1 ≢ Some v) × (search.new.t2 ≢ Some v)) }
+    {
+        search.last_not_busy(&self.links, list, busy)
+    }
+
     /// Carries out what REPLACE answered.
-    fn replace(&mut self, answer: Answer)
+    fn replace(&mut self, answer: Answer, search: &mut Search)
         requires { (v : ℕ) → answer ≡ Answer.Evict v → IsTrue (is_cached self.old v) }
         ensures lists { self.new ≡ after_replace self.old answer }
+        ensures numbers { search.new ≡ without_victim search.old answer }
     {
         if let Answer::Evict(victim) = answer {
+            search.clear(victim);
             self.demote(victim);
         }
     }

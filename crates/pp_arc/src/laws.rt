@@ -6,6 +6,7 @@ ghost use Rattle.pp_arc.specs.declared.answer.Answer.{Answer};
 ghost use Rattle.pp_arc.specs.FourLists.{FourLists, is_cached, cached_count, place};
 ghost use Rattle.pp_arc.specs.Bounds.{IsWithinBounds};
 ghost use Rattle.pp_arc.specs.Figure.{request, forget, bring_back};
+ghost use Rattle.pp_arc.specs.Search.{SearchMarks, KnowsBusy};
 ghost use Rattle.pp_arc.specs.Laws.{AllCachedAreBusy, CachesInstead, CachesWithout, CachesAgain};
 
 /// The bounds hold after each step.
@@ -54,4 +55,10 @@ pub fn request_does_so()
 pub fn cache_changes_so()
     ensures forget { (s : FourLists) (x : ℕ) → CachesWithout s (forget s x) x }
     ensures bring_back { (s : FourLists) (x v : ℕ) → CachesAgain s (bring_back s x v) x v }
+{}
+
+/// What a search knows stays right where more pages are busy.
+pub fn a_search_stays_right()
+    ensures { (s : FourLists) (k : SearchMarks) (busy other : ℕ → Bool) → KnowsBusy s k busy
+        → ((x : ℕ) → IsTrue (busy x) → IsTrue (other x)) → KnowsBusy s k other }
 {}

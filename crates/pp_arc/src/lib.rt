@@ -2,7 +2,8 @@
 //!
 //! A cache that has room for `c` pages asks the directory for each page that it needs, and is told
 //! whether the page is cached, may take a free frame, or takes the frame of a victim.
-//! Pages that are in use are passed over: the caller names them by a type that implements [`Busy`].
+//! Pages that are in use are passed over: the caller names them by a type that implements [`Busy`], and keeps a [`Search`],
+//! by which no page is passed over again and again.
 //!
 //! The rule restates figure 4 of Megiddo and Modha, "ARC: A Self-Tuning, Low Overhead Replacement
 //! Cache", FAST 2003. `specs/Figure.antt` is the definition, and names the choices made there.
@@ -12,6 +13,7 @@ pub use answer::Answer;
 pub use busy::Busy;
 pub use directory::Directory;
 pub use list::List;
+pub use search::Search;
 
 mod answer;
 mod busy;
@@ -19,3 +21,5 @@ mod directory;
 pub mod laws;
 mod links;
 mod list;
+mod search;
+mod tournament;

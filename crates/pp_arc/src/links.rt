@@ -1,15 +1,16 @@
 //! Four lists of page numbers in one table of linked records.
 
 ghost use Rattle.std.specs.Prelude.{◌≡◌, ◌≢◌, ℕ, ◌+◌, ◌^◌, ◌<◌, ◌≤◌, ◌==◌, [], ◌∷◌, length, IfOk, IfSome, slice_get};
-ghost use Rattle.std.specs.Prelude.{Some, None, ◌++◌};
-ghost use Rattle.pp_arc.specs.Pages.{last_not_busy, next_after, last_page};
+ghost use Rattle.std.specs.Prelude.{Some, None, ◌++◌, IsSome, IsTrue, Bool};
+ghost use Rattle.pp_arc.specs.Pages.{last_not_busy, next_after, last_page, behind, contains};
 ghost use Rattle.pp_arc.specs.FourLists.{empty_lists, list_of, place, after, times_named};
 ghost use Rattle.pp_arc.specs.Figure.{forget};
 ghost use Rattle.pp_arc.specs.Links.{code, with_front, without_last_of, with_list, with_first, page_at};
+ghost use Rattle.pp_arc.specs.Search.{KnowsBusy};
 ghost use Rattle.pp_arc.specs.Sizes.{with_pages, renamed};
 ghost use Rattle.pp_arc.specs.declared.list.List.{List as ListName};
 
-use crate::{Busy, List};
+use crate::{Busy, List, Search};
 use std::alloc::{AllocError, Global};
 use std::marker::Model;
 
@@ -155,6 +156,18 @@ impl Links {
         self.page_at(self.records[page as usize].after)
     }
 
+    /// The next more recent page of the list in which this page stands.
+    pub(crate) fn before(&self, page: u32) -> Option<u32>
+        requires { IsSome (place self.now page) }
+        ensures some { (list : ListName) (ahead : ℕ) → place self.now page ≡ Some list → result ≡ Some ahead
+            → IsTrue (contains (list_of self.now list) ahead)
+            × (behind (list_of self.now list) ahead ≡ page ∷ behind (list_of self.now list) page) }
+        ensures none { (list : ListName) → place self.now page ≡ Some list → result ≡ None
+            → list_of self.now list ≡ page ∷ behind (list_of self.now list) page }
+    {
+        self.page_at(self.records[page as usize].before)
+    }
+
     /// The last page of the list that isn't busy.
     pub(crate) fn last_not_busy<B: Busy>(&self, list: List, busy: &B) -> Option<u32>
         ensures { result ≡ last_not_busy (list_of self.now list) (B.busy busy.now) }
@@ -226,13 +239,18 @@ impl Links {
     }
 
     /// Gives what stands under the name `old` the name `new`, and puts it at the front of its list.
-    pub(crate) fn rename(&mut self, old: u32, new: u32)
+    pub(crate) fn rename(&mut self, old: u32, new: u32, search: &mut Search)
         requires below { new < self.old.pages }
+        requires once { (x : ℕ) → times_named self.old x ≤ 1 }
         requires room { (list : ListName) → length (list_of self.old list) < 2 ^ 63 }
-        ensures { self.new ≡ renamed self.old old new }
+        ensures lists { self.new ≡ renamed self.old old new }
+        ensures knows { (busy other : ℕ → Bool) → KnowsBusy self.old search.old busy
+            → ((x : ℕ) → x ≢ old → x ≢ new → IsTrue (busy x) → IsTrue (other x)) → KnowsBusy self.new search.new other }
     {
         let list = self.place(old);
+        search.leave(self, old);
         self.take_out(old);
+        search.leave(self, new);
         self.take_out(new);
         if let Some(list) = list {
             self.put_first(list, new);

@@ -1,10 +1,11 @@
 //! Plays a trace to ARC's directory.
 
 ghost use Rattle.std.specs.Prelude.{◌≡◌, ◌≤◌, ◌<◌, false};
+ghost use Rattle.pp_arc.specs.Search.{KnowsBusy};
 
 use crate::trouble::Trouble;
 use crate::watch::{self, Watch};
-use pp_arc::{Answer, Busy, Directory};
+use pp_arc::{Answer, Busy, Directory, Search};
 use pp_bench_traces::{Kind, PAGES, Trace};
 
 /// No page is busy.
@@ -24,8 +25,9 @@ impl Busy for NoneBusy {
 pub fn play(rt: &HostRuntime, words: &[String]) -> Result<(), Trouble> {
     let (kind, ops, frames) = asked(words).ok_or(Trouble::Words)?;
     let mut directory = Directory::new(rt.alloc(), frames.max(1), PAGES)?;
+    let mut search = Search::new(rt.alloc(), PAGES)?;
     let watch = Watch::start(rt);
-    let misses = misses(&mut directory, Trace::new(kind, frames), ops);
+    let misses = misses(&mut directory, &mut search, Trace::new(kind, frames), ops);
     let nanos = watch.nanos(rt);
     println!(rt; "{misses}")?;
     watch::tell(rt, nanos, ops, "an operation")
@@ -49,13 +51,14 @@ fn asked(words: &[String]) -> Option<(Kind, u64, u32)> {
 }
 
 /// How many of the next requests of the trace miss.
-fn misses(directory: &mut Directory, mut trace: Trace, ops: u64) -> u64
-    requires { 65536 ≤ directory.old.pages }
+fn misses(directory: &mut Directory, search: &mut Search, mut trace: Trace, ops: u64) -> u64
+    requires pages { 65536 ≤ directory.old.pages }
+    requires knows { KnowsBusy directory.old search.old (λ _. false) }
     ensures { result ≤ ops }
 {
     let mut count = 0;
     for _ in 0..ops {
-        if directory.request(trace.next_page(), &NoneBusy) != Answer::Hit {
+        if directory.request(trace.next_page(), search, &NoneBusy) != Answer::Hit {
             count += 1;
         }
     }

@@ -1,11 +1,12 @@
 //! The program `pp_bench`: plays a trace to a part of the pool, and prints what it counted.
 //!
-//! `pp_bench directory hit|skew|loop|mixed OPS [FRAMES]` prints how many of the requests missed, and
-//! `pp_bench marks OPS [FRAMES]` how many pages were brought in, each in place of another. `pp_bench moves
-//! hit|skew|loop|mixed OPS` plays fixes, latches, unlatches and unfixes to the core, and `pp_bench pool` the same to a
-//! vault over pages in memory; both print how many pages were read. `pp_bench lives` plays the trace twice, in two lives of
-//! one vault, and prints how many pages each of them read. `pp_bench journal LINES` writes a journal of at least so many
-//! lines, and `pp_bench audit LINES` audits it from standard input; it prints how many lines there were.
+//! `pp_bench directory hit|skew|loop|mixed OPS [FRAMES]` prints how many of the requests missed, and `pp_bench pinned OPS` the
+//! same of so many misses with no page held, with 1,000, 4,000 and all of 4,096. `pp_bench marks OPS [FRAMES]` prints how many
+//! pages were brought in, each in place of another. `pp_bench moves hit|skew|loop|mixed OPS` plays fixes, latches, unlatches and
+//! unfixes to the core, and `pp_bench pool` the same to a vault over pages in memory; both print how many pages were read.
+//! `pp_bench lives` plays the trace twice, in two lives of one vault, and prints how many pages each of them read. `pp_bench
+//! journal LINES` writes a journal of at least so many lines, and `pp_bench audit LINES` audits it from standard input; it prints
+//! how many lines there were.
 //! On standard error each run but `marks` and `journal` says what one operation, one line or the renewal took by the clock,
 //! from the first one's begin to the last one's end. How long these two take is for the caller to measure.
 #![tactic(auto)]
@@ -14,6 +15,7 @@ mod directory;
 mod journal;
 mod marks;
 mod moves;
+mod pinned;
 mod pool;
 mod trouble;
 mod watch;
@@ -42,6 +44,7 @@ fn play(rt: &HostRuntime) -> Result<(), Trouble> {
     };
     match part.as_str() {
         "directory" => directory::play(rt, &words[2..]),
+        "pinned" => pinned::play(rt, &words[2..]),
         "marks" => marks::play(rt, &words[2..]),
         "moves" => moves::play(rt, &words[2..]),
         "pool" => pool::play(rt, &words[2..]),

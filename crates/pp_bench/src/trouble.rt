@@ -7,7 +7,7 @@ pub type Trouble = pp_bench_traces::Trouble<AuditError>;
 
 /// What the words of the command line are.
 pub const USAGE: &str =
-    "usage: pp_bench directory hit|skew|loop|mixed OPS [FRAMES], pp_bench marks OPS [FRAMES], \
+    "usage: pp_bench directory hit|skew|loop|mixed OPS [FRAMES], pp_bench pinned OPS, pp_bench marks OPS [FRAMES], \
     pp_bench moves|pool|lives hit|skew|loop|mixed OPS, or pp_bench journal|audit LINES";
 
 /// How much may be asked.

@@ -1,4 +1,4 @@
-//! A worker's work: it follows a trace, and notes when its first operation began and when its last one ended.
+//! A worker's work: it gathers pages, follows a trace, and notes when its first operation began and when its last one ended.
 
 ghost use Rattle.std.specs.Prelude.{◌≡◌, ◌+◌, ◌<◌};
 
@@ -55,13 +55,15 @@ impl Span {
     }
 }
 
-/// A work that asks for the pages of a trace, and looks at the front of each.
+/// A work that asks for the pages of a trace: for those to be gathered first, and then for each of which it looks at the front.
 #[derive(Drop)]
 pub struct Clocked<'a, R: Clock> {
     clock: R,
     span: &'a Span,
     trace: Trace,
     page: u32,
+    /// How many pages are still to be gathered.
+    held: u32,
     left: u64,
     has_begun: bool,
     // What was looked at, added up.
@@ -69,8 +71,8 @@ pub struct Clocked<'a, R: Clock> {
 }
 
 impl<'a, R: Clock> Clocked<'a, R> {
-    /// Of so many operations on the pages of the trace.
-    pub fn new(clock: R, span: &'a Span, trace: Trace, ops: u64) -> Clocked<'a, R> {
+    /// Of so many operations on the pages of the trace, behind so many that are gathered.
+    pub fn new(clock: R, span: &'a Span, trace: Trace, held: u32, ops: u64) -> Clocked<'a, R> {
         let mut trace = trace;
         let page = trace.next_page();
         Clocked {
@@ -78,6 +80,7 @@ impl<'a, R: Clock> Clocked<'a, R> {
             span,
             trace,
             page,
+            held,
             left: ops,
             has_begun: false,
             sum: 0,
@@ -92,11 +95,15 @@ impl<'a, R: Clock> Work for Clocked<'a, R> {
     ghost reach_gives = { λ work bytes. bytes ≡ HEAD + LOOKED_AT };
 
     fn page(&mut self, _region: u8, first: u32, count: u32) -> u32 {
-        if !self.has_begun {
+        let page = first + self.page % count;
+        if self.held > 0 {
+            self.held -= 1;
+            self.page = self.trace.next_page();
+        } else if !self.has_begun {
             self.has_begun = true;
             self.span.begin(&self.clock);
         }
-        first + self.page % count
+        page
     }
 
     fn branch(&mut self, _count: u16) -> u16 {

@@ -7,6 +7,9 @@
 //! trace of its own. On standard error it says how long the run took, from the first operation's begin to the last one's
 //! end, divided by the number of all operations and of four events each; and how long as many threads took to lock and
 //! unlock a lock as often as there were events. Without WORKERS it is one worker, and no lock is timed.
+//!
+//! `pp_bench_run held PAGES OPS` has one worker gather so many pages first, of 4,096 frames, and then do operations on pages
+//! that aren't cached, one after the other. The pages that are gathered are counted as read, and gathering them isn't timed.
 #![tactic(auto)]
 
 mod clocked;

@@ -40,7 +40,7 @@ pub fn run<R: AllocGlobal + Threads + Wait + Clock + Copy + Drop + Sync + Send>(
     let settings = pp_bench_traces::settings(alloc, asked.workers)?;
     let workers = settings.workers();
     let span = Span::new(&rt)?;
-    let plans = plans(alloc, &settings, asked.ops)?;
+    let plans = plans(alloc, &settings, asked)?;
     let works = works(rt, alloc, &settings, &span, asked)?;
     let page_bytes = settings.page_bytes() as usize;
     let devices = SharedDevice::over_memory(rt, alloc, PAGES, page_bytes, workers as usize + 1)?;
@@ -55,11 +55,13 @@ pub fn run<R: AllocGlobal + Threads + Wait + Clock + Copy + Drop + Sync + Send>(
     })
 }
 
-/// A plan of so many operations for each worker.
-fn plans(alloc: Global, settings: &Settings, ops: u64) -> Result<Vec<Accepted>, Trouble> {
+/// A plan of so many operations for each worker, while the pages are held.
+fn plans(alloc: Global, settings: &Settings, asked: Asked) -> Result<Vec<Accepted>, Trouble> {
     let mut plans = Vec::new(alloc);
     for _worker in 0..settings.workers() {
-        let accepted = pp_bench_traces::accepted(alloc, settings, ops)?;
+        let accepted = pp_bench_traces::accepted_while_held(
+            alloc, settings, asked.held, asked.ops,
+        )?;
         plans.push(accepted).map_err(|_| Trouble::Memory)?;
     }
     Ok(plans)
@@ -77,8 +79,8 @@ fn works<'a, R: Clock + Copy + Drop>(
 {
     let mut works = Vec::new(alloc);
     for worker in 0..settings.workers() {
-        let trace = Trace::of_worker(asked.kind, settings.frames(), worker);
-        works.push(Clocked::new(rt, span, trace, asked.ops))?;
+        let trace = Trace::of_worker(asked.kind, asked.frames, worker);
+        works.push(Clocked::new(rt, span, trace, asked.held, asked.ops))?;
     }
     Ok(works)
 }

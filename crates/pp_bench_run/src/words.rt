@@ -3,7 +3,7 @@
 ghost use Rattle.std.specs.Prelude.{◌<◌, ◌≤◌, IfOk};
 
 use crate::trouble::Trouble;
-use pp_bench_traces::{Kind, MOST_OPS};
+use pp_bench_traces::{FRAMES, Kind, MOST_OPS, PAGES};
 
 /// A run that is asked for.
 #[derive(Clone, Copy)]
@@ -12,6 +12,10 @@ pub struct Asked {
     pub workers: u32,
     /// The kind of their traces.
     pub kind: Kind,
+    /// For a cache of how many frames the traces are.
+    pub frames: u32,
+    /// How many pages each worker holds meanwhile.
+    pub held: u32,
     /// How many operations each worker does.
     pub ops: u64,
     /// Whether a lock is timed, too.
@@ -27,6 +31,9 @@ impl Asked {
     {
         match words {
             [_, kind, ops] => Asked::shared(1, kind.as_str(), ops.as_str(), false),
+            [_, word, pages, ops] if word.as_str() == "held" => {
+                Asked::while_held(pages.as_str(), ops.as_str())
+            }
             [_, workers, kind, ops] => {
                 let workers = workers.parse::<u32>().map_err(|_| Trouble::Words)?;
                 if workers == 0 || workers > 32 {
@@ -36,6 +43,21 @@ impl Asked {
             }
             _ => Err(Trouble::Words),
         }
+    }
+
+    /// So many operations of one worker that holds so many pages, on pages that it doesn't hold.
+    fn while_held(pages: &str, ops: &str) -> Result<Asked, Trouble>
+        ensures workers { IfOk result (λ asked. (0 < asked.workers) × (asked.workers ≤ 32)) }
+        ensures ops { IfOk result (λ asked. asked.ops ≤ 250000) }
+    {
+        let held = pages.parse::<u32>().map_err(|_| Trouble::Words)?;
+        let asked = Asked::shared(1, "loop", ops, false)?;
+        // All page numbers, one after the other.
+        Ok(Asked {
+            frames: PAGES,
+            held,
+            ..asked
+        })
     }
 
     /// So many operations on a trace of the kind, shared among the workers; what is left of the division isn't done.
@@ -52,6 +74,8 @@ impl Asked {
         Ok(Asked {
             workers,
             kind,
+            frames: FRAMES,
+            held: 0,
             ops: ops / u64::from(workers),
             times_lock,
         })

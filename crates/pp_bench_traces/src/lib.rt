@@ -2,7 +2,7 @@
 #![tactic(auto)]
 
 pub use error::PlanError;
-pub use plans::{MOST_OPS, accepted, settings};
+pub use plans::{FRAMES, MOST_OPS, accepted, accepted_while_held, settings};
 pub use trace::{Kind, PAGES, Trace};
 pub use trouble::Trouble;
 

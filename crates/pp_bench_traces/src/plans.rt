@@ -10,12 +10,21 @@ use std::alloc::{AllocError, Global};
 /// The most operations of one plan: each is four steps, and a plan has at most 1,000,000.
 pub const MOST_OPS: u64 = 250_000;
 
+/// How many frames the pools have.
+pub const FRAMES: u32 = 4096;
+
 /// The most turns that a loop has.
 const LONGEST: u64 = 65_535;
 
 /// A page is fixed, latched S, unlatched and unfixed.
 const OPERATION: &str =
     "{\"fix\":\"a\",\"region\":\"all\"},{\"latch\":\"a\",\"mode\":\"S\"},{\"unlatch\":\"a\"},{\"unfix\":\"a\"}";
+
+/// A page more is held.
+const GATHER: &str = "{\"gather\":\"held\",\"region\":\"all\"}";
+
+/// All pages that are held are given back.
+const SCATTER: &str = "{\"scatter\":\"held\"}";
 
 /// 4,096 frames, a region of all page numbers, pages of 4,096 bytes, no flush, and so many workers.
 ///
@@ -24,7 +33,7 @@ const OPERATION: &str =
 /// [`PlanError::Refused`] where these aren't 1 to 32 workers. Memory may run out.
 pub fn settings(alloc: Global, workers: u32) -> Result<Settings, PlanError> {
     let text = format!(in alloc;
-        "frames = 4096
+        "frames = {FRAMES}
 page_bytes = 4096
 workers = {workers}
 flushes = 0
@@ -45,14 +54,36 @@ class = 0
 ///
 /// [`PlanError::Refused`] where these are more than [`MOST_OPS`]. Memory may run out.
 pub fn accepted(alloc: Global, settings: &Settings, ops: u64) -> Result<Accepted, PlanError> {
-    let text = plan_text(alloc, ops)?;
+    accepted_while_held(alloc, settings, 0, ops)
+}
+
+/// The same while so many pages are held: a bundle gathers them first, and is scattered in the end.
+///
+/// # Errors
+///
+/// [`PlanError::Refused`] where no frame is left for the operations, or where these are more than [`MOST_OPS`] with the pages
+/// that are held. Memory may run out.
+pub fn accepted_while_held(
+    alloc: Global,
+    settings: &Settings,
+    held: u32,
+    ops: u64,
+) -> Result<Accepted, PlanError> {
+    let operations = operations_text(alloc, ops)?;
+    let text = if held > 0 {
+        format!(in alloc;
+            "{{\"body\":[{{\"body\":[{GATHER}],\"loop\":{held}}},{operations},{SCATTER}],\"version\":2}}"
+        )?
+    } else {
+        format!(in alloc; "{{\"body\":[{operations}],\"version\":1}}")?
+    };
     let plan = Plan::from_text(alloc, settings, text.as_str()).map_err(|_| PlanError::Refused)?;
     let certificate = annotate(alloc, settings, &plan).map_err(|_| PlanError::Refused)?;
     check(settings, plan, &certificate).map_err(|_| PlanError::Refused)
 }
 
-/// The text of a plan of so many operations: loops, one after another, as long as a loop can be.
-fn plan_text(alloc: Global, ops: u64) -> Result<String, AllocError> {
+/// The text of so many operations in a plan: loops, one after another, as long as a loop can be.
+fn operations_text(alloc: Global, ops: u64) -> Result<String, AllocError> {
     let mut body = String::new(alloc);
     for number in 0..=MOST_OPS / LONGEST {
         let left = ops.saturating_sub(number * LONGEST);
@@ -63,5 +94,5 @@ fn plan_text(alloc: Global, ops: u64) -> Result<String, AllocError> {
             body.push_str(text.as_str())?;
         }
     }
-    format!(in alloc; "{{\"body\":[{body}],\"version\":1}}")
+    Ok(body)
 }

@@ -4,3 +4,4 @@ pub mod CacheLemmas
 pub mod LawLemmas
 pub mod NameLemmas
 pub mod WalkLemmas
+pub mod SearchTies

@@ -4,3 +4,4 @@ pub mod Kept
 pub mod KeptInside
 pub mod Cache
 pub mod Names
+pub mod Searched

@@ -13,7 +13,7 @@ ghost use Rattle.pp_cache.specs.Cache.{keys_for, without_victim, left_of};
 use crate::frames::Frames;
 use crate::leaving::Leaving;
 use crate::{Create, Fetched, Left};
-use pp_arc::{Answer, Busy, Directory, List};
+use pp_arc::{Answer, Busy, Directory, List, Search};
 use std::alloc::{AllocError, Global};
 use std::marker::Model;
 
@@ -37,13 +37,15 @@ impl Busy for Pinned<'_> {
 /// A page cache: which page is in which frame, which pages are pinned, and which page leaves for another.
 ///
 /// It keeps no bytes: frames are numbers, from 0 on, and there are no more of them than pages stood in frames at one
-/// time. Its memory grows with the greatest key and is never given back: 24 bytes for each key up to that one, or up to
+/// time. Its memory grows with the greatest key and is never given back: 44 bytes for each key up to that one, or up to
 /// twice as many. No call blocks, and a cache belongs to one thread at a time.
 ///
 /// A cache whose pages are all pinned gives none away, whatever its size is: so a host keeps what may not be lost.
 #[derive(Drop)]
 pub struct Cache {
     directory: Directory,
+    /// Where the searches for a page that isn't pinned stand.
+    search: Search,
     frames: Frames,
 }
 
@@ -52,11 +54,11 @@ impl Model for Cache {
 
     ghost Value = { PageCache };
 
-    ghost use Rattle.pp_cache.specs.Cache.{IsSound};
+    ghost use Rattle.pp_cache.specs.Searched.{IsSearched};
 
     ghost view = { λ c. record { lists = c.directory; table = c.frames } };
 
-    ghost invariant = { λ c. IsSound (record { lists = c.directory; table = c.frames }) };
+    ghost invariant = { λ c. IsSearched (record { lists = c.directory; table = c.frames }) c.search };
 }
 
 /// For how many keys there is room where this one comes.
@@ -104,6 +106,7 @@ impl Cache {
     {
         Ok(Cache {
             directory: Directory::new(alloc, size, 0)?,
+            search: Search::new(alloc, 0)?,
             frames: Frames::new(alloc),
         })
     }
@@ -262,7 +265,7 @@ impl Cache {
         let pinned = Pinned {
             frames: &self.frames,
         };
-        let _answer = self.directory.request(key, &pinned);
+        let _answer = self.directory.request(key, &mut self.search, &pinned);
         self.frames.set_pinned(key, true);
     }
 
@@ -286,7 +289,7 @@ impl Cache {
         }
     }
 
-    /// Whether the cache is full of pinned pages: then a request would pass over each of them and change nothing.
+    /// Whether the cache is full of pinned pages: then a request would change nothing.
     fn is_full_of_pinned(&self) -> bool
         ensures exact { result ≡ ((cached_count self.now.lists == self.now.lists.c)
             && (resident_count self.now.table == pinned_count self.now.table)) }
@@ -330,7 +333,7 @@ impl Cache {
         let pinned = Pinned {
             frames: &self.frames,
         };
-        let answer = self.directory.request(key, &pinned);
+        let answer = self.directory.request(key, &mut self.search, &pinned);
         let left = make_way(&mut self.frames, answer);
         (self.frames.take(key), left)
     }
@@ -389,8 +392,10 @@ impl Cache {
         ensures sound { IsSound self.new }
     {
         let larger = Directory::new(alloc, self.directory.size(), keys)?;
+        let search = Search::new(alloc, keys)?;
         self.frames.grow(keys)?;
         self.directory.move_into(larger);
+        self.search = search;
         Ok(())
     }
 
@@ -440,6 +445,7 @@ impl Cache {
         } else {
             self.frames.release(key);
         }
+        self.directory.freed(key, &mut self.search);
     }
 
     /// The page of the key leaves its frame, pinned or not, and its name leaves the lists.
@@ -448,7 +454,7 @@ impl Cache {
         ensures others_stay { (other : ℕ) → other ≢ key → page_of self.new.table other ≡ page_of self.old.table other }
         ensures sound { IsSound self.new }
     {
-        self.directory.forget(key);
+        self.directory.forget(key, &mut self.search);
         self.frames.release(key);
     }
     /// Gives the page of the key `old`, where it stands in a frame, the key `new`. What had that key is dropped.
@@ -477,7 +483,7 @@ impl Cache {
     {
         self.frames.release(new);
         self.frames.rename(old, new);
-        self.directory.rename(old, new);
+        self.directory.rename(old, new, &mut self.search);
     }
 
     // ---- many pages at once
@@ -593,7 +599,7 @@ impl Cache {
     /// Makes the cache one of `size` pages that nobody has pinned.
     ///
     /// Where it becomes smaller, pages leave one by one as ARC chooses them. Pinned pages keep their frames. It takes a
-    /// step for each page and each name that leaves, and in each one for the pinned pages that it passes over.
+    /// step for each page and each name that leaves, and one for each pinned page that no search met since it was brought in.
     pub fn resize(&mut self, size: u32)
         requires holds_a_page { 1 ≤ size }
         ensures exact { self.new ≡ after_resize self.old size }
@@ -628,7 +634,7 @@ impl Cache {
         let pinned = Pinned {
             frames: &self.frames,
         };
-        match self.directory.give_up(&pinned) {
+        match self.directory.give_up(&mut self.search, &pinned) {
             Some(victim) => self.frames.release(victim),
             None => self.forget_last(),
         }
@@ -644,7 +650,7 @@ impl Cache {
         ensures sound { IsSound self.new }
     {
         if let Some(page) = self.last_cached() {
-            self.directory.forget(page);
+            self.directory.forget(page, &mut self.search);
         }
     }
 

@@ -1,10 +1,11 @@
 //! ARC's directory and the marks together: a tiny cache of one's own.
 
 ghost use Rattle.std.specs.Prelude.{◌≡◌, ◌<◌, ◌-◌, ℕ, IsTrue, IfOk, IfSome};
+ghost use Rattle.pp_arc.specs.Search.{KnowsBusy};
 ghost use Rattle.pp_frames.specs.Marks.{frame_of, pins_of};
 ghost use Rattle.pp_callers.specs.Cache.{is_pinned, AreOfOneCache};
 
-use pp_arc::{Answer, Busy, Directory};
+use pp_arc::{Answer, Busy, Directory, Search};
 use pp_frames::Marks;
 use std::alloc::{AllocError, Global};
 
@@ -31,16 +32,19 @@ impl Busy for Pinned<'_> {
 #[derive(Drop)]
 pub struct Cache {
     directory: Directory,
+    search: Search,
     marks: Marks,
 }
 
 impl Cache {
     /// A cache that has no page yet.
     pub fn new(alloc: Global) -> Result<Cache, AllocError>
-        ensures { IfOk result (λ cache. AreOfOneCache cache.directory cache.marks) }
+        ensures sound { IfOk result (λ cache. AreOfOneCache cache.directory cache.marks) }
+        ensures knows { IfOk result (λ cache. KnowsBusy cache.directory cache.search (is_pinned cache.marks)) }
     {
         Ok(Cache {
             directory: Directory::new(alloc, FRAMES, PAGES)?,
+            search: Search::new(alloc, PAGES)?,
             marks: Marks::new(alloc, FRAMES, PAGES)?,
         })
     }
@@ -49,7 +53,9 @@ impl Cache {
     pub fn fix(&mut self, page: u32) -> Option<u32>
         requires below { page < 24 }
         requires sound { AreOfOneCache self.old.directory self.old.marks }
+        requires knows { KnowsBusy self.old.directory self.old.search (is_pinned self.old.marks) }
         ensures sound { AreOfOneCache self.new.directory self.new.marks }
+        ensures knows { KnowsBusy self.new.directory self.new.search (is_pinned self.new.marks) }
         // The frame has the page, which is pinned.
         ensures fixed { IfSome result (λ frame.
             (frame_of self.new.marks page ≡ Some frame) × IsTrue (is_pinned self.new.marks page)) }
@@ -60,7 +66,8 @@ impl Cache {
         if self.marks.all_pins() == FRAMES {
             return None;
         }
-        match self.directory.request(page, &Pinned { marks: &self.marks }) {
+        let pinned = Pinned { marks: &self.marks };
+        match self.directory.request(page, &mut self.search, &pinned) {
             Answer::Hit => {}
             // A real cache reads the page here: into a free frame, or into the victim's.
             Answer::Free => {
@@ -82,11 +89,14 @@ impl Cache {
     /// Takes a pin off the page, if one stands on it.
     pub fn unfix(&mut self, page: u32)
         requires sound { AreOfOneCache self.old.directory self.old.marks }
+        requires knows { KnowsBusy self.old.directory self.old.search (is_pinned self.old.marks) }
         ensures sound { AreOfOneCache self.new.directory self.new.marks }
+        ensures knows { KnowsBusy self.new.directory self.new.search (is_pinned self.new.marks) }
         ensures pins { pins_of self.new.marks page ≡ pins_of self.old.marks page - 1 }
     {
         if self.marks.pins(page) > 0 {
             self.marks.unpin(page);
+            self.directory.freed(page, &mut self.search);
         }
     }
 }

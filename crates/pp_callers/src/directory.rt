@@ -2,7 +2,7 @@
 
 ghost use Rattle.std.specs.Prelude.{◌≡◌, ◌<◌, ◌≤◌, ℕ, All, IfOk, length, false};
 
-use pp_arc::{Answer, Busy, Directory};
+use pp_arc::{Answer, Busy, Directory, Search};
 use std::alloc::{AllocError, Global};
 
 /// How many pages the cache holds.
@@ -28,10 +28,11 @@ pub fn misses(alloc: Global, requests: &[u32]) -> Result<usize, AllocError>
     ensures { IfOk result (λ misses. misses ≤ length requests.now) }
 {
     let mut directory = Directory::new(alloc, CACHED, PAGES)?;
+    let mut search = Search::new(alloc, PAGES)?;
     let mut misses = 0;
     for page in requests {
         // Where the answer isn't `Hit`, a real cache reads the page here: into a free frame, or into the victim's.
-        if directory.request(*page, &Nobody) != Answer::Hit {
+        if directory.request(*page, &mut search, &Nobody) != Answer::Hit {
             misses += 1;
         }
     }

@@ -38,3 +38,4 @@ mod AfterActs
 mod AfterOthers
 mod AfterFlushes
 pub mod AfterMoves
+mod KnowsTies

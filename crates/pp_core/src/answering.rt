@@ -99,7 +99,7 @@ impl Table {
         let frame = self.frame_at(page);
         self.displace(page);
         self.marks.place(victim, frame);
-        self.directory.bring_back(page, victim);
+        self.directory.bring_back(page, victim, &mut self.search);
         self.in_flight[page as usize] = false;
         self.in_flight[victim as usize] = false;
     }
@@ -170,7 +170,7 @@ impl Table {
     {
         self.lose(worker, 31);
         self.displace(page);
-        self.directory.forget(page);
+        self.directory.forget(page, &mut self.search);
         self.in_flight[page as usize] = false;
     }
 

@@ -104,7 +104,7 @@ impl Table {
             marks: &self.marks,
             flushed,
         };
-        self.directory.request(page, &busy)
+        self.directory.request(page, &mut self.search, &busy)
     }
 
     /// The page is cached: it is fixed at once.

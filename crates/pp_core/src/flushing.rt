@@ -1,6 +1,7 @@
 //! The flusher's moves: a changed page is written to the device and stays in its frame.
 
-ghost use Rattle.std.specs.Prelude.{◌≡◌, ◌<◌, ◌&&◌, ◌==◌, IsTrue, length};
+ghost use Rattle.std.specs.Prelude.{◌≡◌, ◌<◌, ◌&&◌, ◌==◌, IsTrue, length, None, Some};
+ghost use Rattle.pp_core.specs.Busy.{page_of};
 ghost use Rattle.pp_arc.specs.FourLists.{is_cached};
 ghost use Rattle.pp_model.specs.Moves.{is_refusal};
 ghost use Rattle.pp_core.specs.Parts.{parts_of};
@@ -55,6 +56,7 @@ impl Table {
 
     /// A flush of the page, which has this mark, is in flight.
     fn begin_flush(&mut self, page: u32, mark: u64)
+        requires none { self.old.flush ≡ None }
         requires left { 0 < self.old.flushes_left }
         requires budget { 0 < self.old.budget }
         ensures { parts_of self.new ≡ flush_begun (parts_of self.old) page mark }
@@ -91,17 +93,19 @@ impl Table {
     fn end_flush(&mut self, page: u32, clean: bool)
         requires page { page < length self.old.marks.pages }
         requires budget { 0 < self.old.budget }
+        requires flush { page_of self.old.flush ≡ Some page }
         ensures { parts_of self.new ≡ flush_ended (parts_of self.old) page clean }
     {
         self.set_clean_if(page, clean);
         self.flush = None;
+        self.directory.freed(page, &mut self.search);
         self.budget -= 1;
     }
 
     /// The page is clean if it is told so.
     fn set_clean_if(&mut self, page: u32, clean: bool)
         requires { page < length self.old.marks.pages }
-        ensures { self.new ≡ record self.old { marks = cleaned self.old.marks page clean } }
+        ensures { parts_of self.new ≡ record (parts_of self.old) { marks = cleaned self.old.marks page clean } }
     {
         if clean {
             self.marks.set_clean(page);

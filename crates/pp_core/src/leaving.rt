@@ -163,7 +163,7 @@ impl Table {
         ensures { (x : Seat) → IsIn (parts_of self.old) worker x →
             parts_of self.new ≡ given_back (parts_of self.old) worker x slot page }
     {
-        self.marks.unpin(page);
+        self.unpin(page);
         self.budget -= 1;
         self.empty_slot(worker, slot);
     }

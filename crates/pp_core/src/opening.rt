@@ -7,7 +7,7 @@ ghost use Rattle.pp_core.specs.Opening.{kept_of, opening_parts};
 
 use crate::seat::Seat;
 use crate::table::{MOST_PLANS, Table};
-use pp_arc::Directory;
+use pp_arc::{Directory, Search};
 use pp_bundles::Bundles;
 use pp_frames::Marks;
 use pp_settings::Settings;
@@ -35,6 +35,7 @@ impl Table {
         let plans = Vec::with_capacity(alloc, MOST_PLANS)?;
         let seats = idle_seats(alloc, settings.workers())?;
         let directory = Directory::new(alloc, layout.frames(), pages)?;
+        let search = Search::new(alloc, pages)?;
         let marks = Marks::new(alloc, layout.frames(), pages)?;
         let bundles = Bundles::new(alloc, 32 * settings.workers(), layout.frames())?;
         let in_flight = vec![in alloc; false; pages as usize]?;
@@ -47,6 +48,7 @@ impl Table {
             taken: 0,
             seats,
             directory,
+            search,
             marks,
             bundles,
             in_flight,

@@ -2,14 +2,16 @@
 
 ghost use Rattle.std.specs.Prelude.{◌≡◌, ◌<◌, ◌≤◌, ◌+◌, ◌-◌, ◌^◌, ℕ, IfOk, IfErr, IfSome, Some, None, List, length};
 ghost use Rattle.std.specs.Prelude.{slice_get, vec_capacity, []};
+ghost use Rattle.pp_arc.specs.Search.{KnowsBusy};
 ghost use Rattle.pp_frames.specs.Marks.{IsFree, frame_of, pins_of, all_pins, latch_count, latches_of};
 ghost use Rattle.pp_core.specs.declared.seat.Seat.{Seat};
+ghost use Rattle.pp_core.specs.Busy.{is_busy_in, page_of};
 ghost use Rattle.pp_core.specs.Slots.{hold_at};
 ghost use Rattle.pp_core.specs.Gathered.{bundle_place};
 
 use crate::busy::BusyPages;
 use crate::seat::{Hold, Phase, Seat};
-use pp_arc::{Answer, Directory};
+use pp_arc::{Answer, Directory, Search};
 use pp_bundles::Bundles;
 use pp_cert::{Accepted, Held};
 use pp_frames::{Marks, Mode};
@@ -46,6 +48,8 @@ pub struct Table {
     pub(crate) seats: Vec<Option<Seat>>,
     /// ARC's lists.
     pub(crate) directory: Directory,
+    /// Where the searches for a page that may leave stand.
+    pub(crate) search: Search,
     /// What is noted of each page, with its pins and latches.
     pub(crate) marks: Marks,
     /// The pages of bundles, a stack for each slot of each worker.
@@ -62,6 +66,8 @@ pub struct Table {
     pub(crate) budget: u64,
     /// There is room for all plans that a pool keeps.
     ghost room: { 256 ≤ vec_capacity plans },
+    /// The search knows which pages may leave: those that nobody fixed and that aren't being flushed.
+    ghost knows: { KnowsBusy directory search (is_busy_in marks (page_of flush)) },
 }
 
 /// Where the stack of the worker's slot is.
@@ -79,7 +85,7 @@ impl Table {
     ghost use Rattle.pp_model.specs.Fixing.{fixes};
     ghost use Rattle.pp_core.specs.Effects.{HasRecord, stacks_after, scattered, CanUnpinAll};
     ghost use Rattle.pp_core.specs.Effects.{phase_of, IsIn, CanAct, Acted, with_seat, at_phase};
-    ghost use Rattle.pp_core.specs.Effects.{frame_at, mark_at, placed, displaced, released, IsLatched};
+    ghost use Rattle.pp_core.specs.Effects.{frame_at, mark_at, unpinned, placed, displaced, released, IsLatched};
 
     // ---- one worker
 
@@ -171,7 +177,7 @@ impl Table {
         ensures { parts_of self.new ≡ scattered (parts_of self.old) place }
     {
         while let Some(page) = self.bundles.pop(place) {
-            self.marks.unpin(page);
+            self.unpin(page);
         }
     }
 
@@ -216,6 +222,16 @@ impl Table {
         self.marks.pin(page);
     }
 
+    /// Takes one pin off a page that has more pins than latches.
+    #[inline(always)]
+    pub(crate) fn unpin(&mut self, page: u32)
+        requires { latch_count (latches_of self.old.marks page) < pins_of self.old.marks page }
+        ensures { parts_of self.new ≡ record (parts_of self.old) { marks = unpinned self.old.marks page } }
+    {
+        self.marks.unpin(page);
+        self.directory.freed(page, &mut self.search);
+    }
+
     /// Takes the one pin off the page, and the page out of its frame.
     pub(crate) fn displace(&mut self, page: u32)
         requires pin { pins_of self.old.marks page ≡ 1 }
@@ -223,7 +239,7 @@ impl Table {
         ensures parts { parts_of self.new ≡ record (parts_of self.old) { marks = displaced self.old.marks page } }
         ensures freed { (frame : ℕ) → frame_of self.old.marks page ≡ Some frame → IsFree self.new.marks frame }
     {
-        self.marks.unpin(page);
+        self.unpin(page);
         self.marks.clear(page);
     }
 

@@ -131,7 +131,7 @@ impl Table {
             (unpinned self.old.marks page) }
     {
         self.act(worker, Action::Unfix { slot });
-        self.marks.unpin(page);
+        self.unpin(page);
         self.budget -= 3;
     }
 

@@ -44,6 +44,8 @@ impl Book {
             (record { plans = plans_of self.old; journal = self.old.journal })) }
         ensures spare { IfOk result (λ told. told.capacity ≡ self.old.capacity) }
         ensures memory { OnOk result (HasLifeRoom self.new self.new.capacity) }
+        // The journal that fills from now on has no less room than it came with.
+        ensures no_less { OnOk result (empty.capacity ≤ self.new.capacity) }
         ensures error { IfErr result (λ e. IsRenewCause self.old (empty.capacity) e.1) }
         ensures room { IfErr result (λ e. HadLifeRoom self.old (e.0.capacity) e.1) }
         ensures back { IfErr result (λ e. e.0.items ≡ []) }
@@ -86,6 +88,7 @@ impl Book {
             (record { plans = plans_of self.old; journal = self.old.journal })) }
         ensures spare { IfOk result (λ told. told.capacity ≡ self.old.capacity) }
         ensures memory { OnOk result (HasLifeRoom self.new self.new.capacity) }
+        ensures takes { OnOk result (self.new.capacity ≡ empty.capacity) }
         ensures error { IfErr result (λ e. renew_error (state_of self.old) ≡ Some e.1) }
         ensures back { IfErr result (λ e. e.0 ≡ empty) }
         ensures unchanged { OnErr result (self.new ≡ self.old) }

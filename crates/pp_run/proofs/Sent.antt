@@ -9,6 +9,7 @@ use Rattle.pp_model.specs.contracts.moves.Move.{the_row as move_row}
 use Rattle.pp_model.specs.contracts.reply.Reply.{the_row as reply_row}
 use Rattle.pp_settings.proofs.layout.Layout.TheSendSync as layout
 use Rattle.pp_arc.proofs.directory.Directory.TheSendSync as directory
+use Rattle.pp_arc.proofs.search.Search.TheSendSync as searching
 use Rattle.pp_bundles.proofs.bundles.Bundles.TheSendSync as bundles
 use Rattle.pp_frames.proofs.page.Page.TheSendSync as page
 use Rattle.pp_frames.proofs.number_set.NumberSet.TheLaws.TheKnot as numbers
@@ -52,7 +53,7 @@ pub accepted_send : IsSend accepted_row
 accepted_send = search (plan_send, sendable, crosses) depth 24 fits 5000
 
 pub core_inside_send : IsSend core_inside
-core_inside_send = search (marks_send, accepted_send, layout.the_send, directory.the_send, bundles.the_send, seat.the_send, flush.the_send, sendable, crosses) depth 24 fits 5000
+core_inside_send = search (marks_send, accepted_send, layout.the_send, directory.the_send, searching.the_send, bundles.the_send, seat.the_send, flush.the_send, sendable, crosses) depth 24 fits 5000
 
 pub core_send : IsSend core_row
 core_send = search (core_inside_send, sendable)

@@ -1,8 +1,8 @@
-//! The calls that make a directory, marks, stacks of pages, a cache, a core, an outset, a device and a vault, and a run of a
+//! The calls that make a directory, a search, marks, stacks of pages, a cache, a core, an outset, a device and a vault, and a run of a
 //! core.
 
 use crate::samples::MOVES;
-use pp_arc::{Directory, List};
+use pp_arc::{Directory, List, Search};
 use pp_bundles::Bundles;
 use pp_cache::Cache;
 use pp_core::Core;
@@ -22,9 +22,12 @@ pub fn case<R: AllocGlobal + Print>(rt: &R, call: &str) -> anyhow::Result<()> {
     let alloc = rt.alloc();
     let settings = Settings::from_text(alloc, SETTINGS)?;
     match call {
-        "Directory::new" | "Marks::new" | "Bundles::new" | "SoloDevice::new" | "Cache::new" => {
-            twice(rt, &mut Plain { alloc, call })
-        }
+        "Directory::new"
+        | "Search::new"
+        | "Marks::new"
+        | "Bundles::new"
+        | "SoloDevice::new"
+        | "Cache::new" => twice(rt, &mut Plain { alloc, call }),
         "Core::new" | "Outset::new" | "Vault::new" => twice(
             rt,
             &mut Set {
@@ -51,6 +54,7 @@ impl Tried for Plain<'_> {
     fn call(&mut self) -> Answer {
         match self.call {
             "Directory::new" => directory(self.alloc),
+            "Search::new" => search(self.alloc),
             "Marks::new" => marks(self.alloc),
             "Bundles::new" => bundles(self.alloc),
             "Cache::new" => cache(self.alloc),
@@ -67,6 +71,13 @@ fn directory(alloc: Global) -> Answer {
             "pages",
             made.len(List::T1) as u64,
         ),
+        Err(error) => Answer::Lacking(error),
+    }
+}
+
+fn search(alloc: Global) -> Answer {
+    match Search::new(alloc, 5) {
+        Ok(_made) => Answer::One("searches", 1),
         Err(error) => Answer::Lacking(error),
     }
 }

@@ -1,13 +1,15 @@
 //! Tests of ARC's directory: worked rows, traces beside a plain program, and its memory.
 
-ghost use Rattle.std.specs.Prelude.{◌≡◌, ◌≤◌, ◌==◌, ℕ, Bool};
+ghost use Rattle.std.specs.Prelude.{◌≡◌, ◌≤◌, ◌==◌, ℕ, Bool, nat_lt};
 ghost use Rattle.std.specs.List.{list_any};
 ghost use Rattle.pp_arc.specs.FourLists.{is_cached};
+ghost use Rattle.pp_arc.specs.Search.{KnowsBusy};
 
-use pp_arc::{Answer, Busy, Directory, List};
+use pp_arc::{Answer, Busy, Directory, List, Search};
 use pp_test_plain::Lists;
 use std::alloc::{AllocError, Global};
 use std::process::Abort;
+use std::sync::atomic::{AtomicU64, Ordering};
 use std::test::Fail;
 
 /// The pages of a slice are busy.
@@ -46,19 +48,26 @@ fn is_list(directory: &Directory, list: List, pages: &[u32]) -> bool {
 /// A request, the busy pages, what it answers, and the four lists and the target after it.
 struct Row(u32, &'static [u32], Answer, [&'static [u32]; 4], u32);
 
-/// Asks for the pages in turn, and compares each answer and the lists after it.
-fn follow(rt: &impl Abort, directory: &mut Directory, rows: &[Row])
-    requires { 64 ≤ directory.old.pages }
-    ensures { directory.new.pages ≡ directory.old.pages }
+/// Asks for the pages in turn, and compares each answer and the lists after it. The busy pages are others at each request, so
+/// each has a search of its own.
+fn follow<R: Abort + AllocGlobal>(
+    rt: &R,
+    directory: &mut Directory,
+    rows: &[Row],
+) -> Result<(), AllocError>
+    requires { directory.old.pages ≡ 64 }
+    ensures { directory.new.pages ≡ 64 }
 {
     for row in rows {
         let page = row.0;
-        let answer = directory.request(page % 64, &Among(row.1));
+        let mut search = Search::new(rt.alloc(), 64)?;
+        let answer = directory.request(page % 64, &mut search, &Among(row.1));
         assert!(rt;
             answer == row.2 && has(directory, row.3, row.4),
             "at page {page}"
         );
     }
+    Ok(())
 }
 
 /// The lists and the target after six requests.
@@ -85,14 +94,14 @@ static WITH_BUSY_PAGES: [Row; 7] = [
 #[test]
 fn lists_and_target_after_each_request(rt: HostRuntime) -> Result<(), Fail> {
     let mut directory = Directory::new(rt.alloc(), 2, 64)?;
-    follow(&rt, &mut directory, &SIX_REQUESTS);
+    follow(&rt, &mut directory, &SIX_REQUESTS)?;
     Ok(())
 }
 
 #[test]
 fn busy_pages_are_passed_over(rt: HostRuntime) -> Result<(), Fail> {
     let mut directory = Directory::new(rt.alloc(), 2, 64)?;
-    follow(&rt, &mut directory, &WITH_BUSY_PAGES);
+    follow(&rt, &mut directory, &WITH_BUSY_PAGES)?;
     Ok(())
 }
 
@@ -105,8 +114,9 @@ static ONE_PAGE: [Row; 3] = [
 #[test]
 fn a_victim_is_brought_back(rt: HostRuntime) -> Result<(), Fail> {
     let mut directory = Directory::new(rt.alloc(), 1, 64)?;
-    follow(&rt, &mut directory, &ONE_PAGE);
-    assert!(rt; bring_back(&mut directory, 6, 5));
+    follow(&rt, &mut directory, &ONE_PAGE)?;
+    let mut search = Search::new(rt.alloc(), 64)?;
+    assert!(rt; bring_back(&mut directory, &mut search, 6, 5));
     assert!(rt; has(&directory, [&[], &[5], &[], &[]], 0));
     Ok(())
 }
@@ -214,12 +224,12 @@ static QUOTIENTS: [Row; 23] = [
 #[test]
 fn quotients_are_rounded_down(rt: HostRuntime) -> Result<(), Fail> {
     let mut directory = Directory::new(rt.alloc(), 5, 64)?;
-    follow(&rt, &mut directory, &QUOTIENTS);
+    follow(&rt, &mut directory, &QUOTIENTS)?;
     Ok(())
 }
 
 /// Brings the victim back where that may be asked, and says whether it may.
-fn bring_back(directory: &mut Directory, page: u32, victim: u32) -> bool
+fn bring_back(directory: &mut Directory, search: &mut Search, page: u32, victim: u32) -> bool
     requires { 16 ≤ directory.old.pages }
     ensures { directory.new.pages ≡ directory.old.pages }
 {
@@ -227,7 +237,7 @@ fn bring_back(directory: &mut Directory, page: u32, victim: u32) -> bool
     if !is_cached(directory, page) || is_cached(directory, victim) {
         return false;
     }
-    directory.bring_back(page, victim);
+    directory.bring_back(page, victim, search);
     true
 }
 
@@ -240,33 +250,42 @@ fn is_cached(directory: &Directory, page: u32) -> bool
 /// A directory of 16 pages and the plain program.
 #[derive(Drop)]
 struct Pair {
+    alloc: Global,
     directory: Directory,
     plain: Lists,
-    ghost wide: { 16 ≤ directory.pages },
+    ghost wide: { directory.pages ≡ 16 },
 }
 
 impl Pair {
     fn new(alloc: Global, c: u32) -> Result<Self, AllocError> {
         let directory = Directory::new(alloc, c.max(1), 16)?;
         let plain = Lists::new(alloc, c.max(1));
-        Ok(Pair { directory, plain })
+        Ok(Pair {
+            alloc,
+            directory,
+            plain,
+        })
     }
 
     /// Asks both for the page, and says what they answer if it is the same.
     fn ask(&mut self, page: u32, busy: &[u32]) -> Result<Option<Answer>, AllocError> {
-        let answer = self.directory.request(page % 16, &Among(busy));
+        let mut search = Search::new(self.alloc, 16)?;
+        let answer = self.directory.request(page % 16, &mut search, &Among(busy));
         let other = self.plain.request(page % 16, busy)?;
         Ok(if answer == other { Some(answer) } else { None })
     }
 
-    fn forget(&mut self, page: u32) {
-        self.directory.forget(page);
+    fn forget(&mut self, page: u32) -> Result<(), AllocError> {
+        let mut search = Search::new(self.alloc, 16)?;
+        self.directory.forget(page, &mut search);
         self.plain.forget(page);
+        Ok(())
     }
 
     fn bring_back(&mut self, page: u32, victim: u32) -> Result<bool, AllocError> {
         self.plain.bring_back(page, victim)?;
-        Ok(bring_back(&mut self.directory, page, victim))
+        let mut search = Search::new(self.alloc, 16)?;
+        Ok(bring_back(&mut self.directory, &mut search, page, victim))
     }
 
     /// Whether both have the same lists and the same target.
@@ -325,7 +344,7 @@ fn turn(pair: &mut Pair, seed: u32) -> Result<bool, AllocError> {
     match pair.ask(page, busy)? {
         Some(Answer::Evict(victim)) if seed >> 30 == 0 => pair.bring_back(page, victim),
         Some(Answer::Hit) if seed >> 30 == 1 => {
-            pair.forget(page);
+            pair.forget(page)?;
             Ok(true)
         }
         answer => Ok(answer.is_some()),
@@ -347,8 +366,55 @@ fn most_pages_are_busy_and_some_come_back(rt: HostRuntime) -> Result<(), Fail> {
 #[test]
 fn memory_is_there(rt: HostRuntime) -> Result<(), Fail> {
     let mut directory = Directory::new(rt.alloc(), 4096, 65536)?;
-    assert!(rt; directory.request(65535, &Among(&[])) == Answer::Free);
-    directory.forget(65535);
+    let mut search = Search::new(rt.alloc(), 65536)?;
+    assert!(rt; directory.request(65535, &mut search, &Among(&[])) == Answer::Free);
+    directory.forget(65535, &mut search);
     assert!(rt; directory.place(65535).is_none() && directory.after(65536).is_none());
+    Ok(())
+}
+
+/// The pages below 60 are busy. It counts how often a page is looked at.
+#[derive(Drop)]
+struct Counted {
+    looks: AtomicU64,
+}
+
+impl Busy for Counted {
+    ghost busy = { λ counted page. nat_lt page 60 };
+
+    fn is_busy(&self, page: u32) -> bool {
+        self.looks.fetch_add(1, Ordering::SeqCst);
+        page < 60
+    }
+}
+
+/// Asks for the pages below 1,064, and says how many of them had a victim.
+fn victims(directory: &mut Directory, search: &mut Search, busy: &Counted) -> u32
+    requires pages { directory.old.pages ≡ 2048 }
+    requires knows { KnowsBusy directory.old search.old (λ page. nat_lt page 60) }
+{
+    let mut count: u32 = 0;
+    for page in 0..1064 {
+        if matches!(directory.request(page, search, busy), Answer::Evict(_)) {
+            count = count.wrapping_add(1);
+        }
+    }
+    count
+}
+
+/// Of 64 pages 60 stay busy while a thousand others come in: each of the 60 is looked at once, and each victim twice at most.
+#[test]
+fn a_busy_page_is_looked_at_once(rt: HostRuntime) -> Result<(), Fail> {
+    let mut directory = Directory::new(rt.alloc(), 64, 2048)?;
+    let mut search = Search::new(rt.alloc(), 2048)?;
+    let busy = Counted {
+        looks: AtomicU64::new(0),
+    };
+    let victims = victims(&mut directory, &mut search, &busy);
+    let looks = busy.looks.load(Ordering::SeqCst);
+    assert!(rt;
+        victims == 1000 && looks <= 2060,
+        "{victims} victims by {looks} looks"
+    );
     Ok(())
 }

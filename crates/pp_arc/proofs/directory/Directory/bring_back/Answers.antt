@@ -5,6 +5,9 @@ use Rattle.pp_arc.specs.Figure.{bring_back}
 use Rattle.pp_arc.proofs.CacheLemmas.{CachesAgain-bring_back}
 use Rattle.pp_arc.proofs.StepLemmas.{place-bring_back}
 use Rattle.pp_arc.proofs.BoundLemmas.{cached_count-forget, total_count-forget}
+use Rattle.std.proofs.Common.{sym, subst}
+use Rattle.pp_arc.specs.FourLists.{FourLists}
+use Rattle.pp_arc.proofs.SearchLemmas.{KeepsBut, KeepsBut-bring_back}
 use Rattle.pp_arc.proofs.directory.Directory.bring_back.Goals as goal
 
 pub move_to_t2-requires-clause-cached_room : goal.move_to_t2-requires-clause-cached_room
@@ -27,3 +30,10 @@ pub returns-clause-cache : goal.returns-clause-cache
 returns-clause-cache c =
     let e : c.move_to_t2.new.self ≡ bring_back c.args.self.now c.args.page c.args.victim = cc in
     rw e (CachesAgain-bring_back c.args.self.now c.args.page c.args.victim)
+
+pub returns-clause-knows : goal.returns-clause-knows
+returns-clause-knows c =
+    subst (λ (w : FourLists). KeepsBut c.args.self.now w c.args.search.now c.forget.new.search c.args.page c.args.victim)
+    (sym c.move_to_t2.ensures.lists)
+    (KeepsBut-bring_back c.args.self.now c.forget.new.self c.args.page c.args.victim c.args.search.now
+    c.forget.new.search c.requires.gone c.forget.ensures.lists c.forget.ensures.knows)

@@ -1,37 +1,30 @@
--- What is left to show of Directory::forget: the bounds hold without the page, and what is cached then.
-use Rattle.std.proofs.Common.{◌≡◌}
-use Rattle.std.specs.Prelude.{IsTrue}
-use Rattle.pp_arc.specs.FourLists.{is_cached}
-use Rattle.pp_arc.specs.Fields.{lists_of}
-use Rattle.pp_arc.proofs.BoundLemmas.{bounds-forget}
+-- What is left to show of Directory::forget: what is cached without the page.
 use Rattle.pp_arc.proofs.CacheLemmas.{CachesWithout-forget}
 use Rattle.pp_arc.proofs.StepLemmas.{room-forget, place-forget}
 use Rattle.pp_arc.proofs.SizeLemmas.{fewer-forget}
+use Rattle.std.proofs.Common.{sym, subst}
+use Rattle.pp_arc.specs.FourLists.{FourLists}
+use Rattle.pp_arc.specs.Figure.{forget}
+use Rattle.pp_arc.proofs.SearchLemmas.{Keeps}
 use Rattle.pp_arc.proofs.directory.Directory.forget.Goals as goal
-
-pub invariant_of-self : goal.invariant_of-self
-invariant_of-self c = rw c.take_out.ensures.lists (bounds-forget (lists_of c.self.inside) c.args.page c.self.invariant)
-
-pub returns-clause-bounds : goal.returns-clause-bounds
-returns-clause-bounds c =
-    rw c.take_out.ensures.lists (bounds-forget (lists_of c.self.inside) c.args.page c.self.invariant)
 
 pub returns-clause-room : goal.returns-clause-room
 returns-clause-room c = λ here.
-    let e : c.args.self.now ≡ lists_of c.self.inside = cc in
-    let here' : IsTrue (is_cached (lists_of c.self.inside) c.args.page) = rw e at here in
-    rw c.take_out.ensures.lists (room-forget (lists_of c.self.inside) c.args.page c.self.invariant here')
+    rw c.take_out.ensures.lists (room-forget c.args.self.now c.args.page c.take_out.ensures.were_bounds here)
 
 pub returns-clause-gone : goal.returns-clause-gone
-returns-clause-gone c = rw c.take_out.ensures.lists (place-forget (lists_of c.self.inside) c.args.page)
+returns-clause-gone c = rw c.take_out.ensures.lists (place-forget c.args.self.now c.args.page)
 
 pub returns-clause-cache : goal.returns-clause-cache
-returns-clause-cache c =
-    let e : c.args.self.now ≡ lists_of c.self.inside = cc in
-    rw (e, c.take_out.ensures.lists) (CachesWithout-forget (lists_of c.self.inside) c.args.page)
+returns-clause-cache c = rw c.take_out.ensures.lists (CachesWithout-forget c.args.self.now c.args.page)
 
 pub returns-clause-fewer : goal.returns-clause-fewer
 returns-clause-fewer c = λ here.
-    let e : c.args.self.now ≡ lists_of c.self.inside = cc in
-    let here' : IsTrue (is_cached (lists_of c.self.inside) c.args.page) = rw e at here in
-    rw (c.take_out.ensures.lists, e) (fewer-forget (lists_of c.self.inside) c.args.page c.self.invariant here')
+    rw c.take_out.ensures.lists (fewer-forget c.args.self.now c.args.page c.take_out.ensures.were_bounds here)
+
+pub returns-clause-knows : goal.returns-clause-knows
+returns-clause-knows c =
+    subst (λ (w : FourLists). Keeps c.args.self.now w c.args.search.now c.leave.new.self c.args.page)
+    (sym c.take_out.ensures.lists)
+    (subst (λ (w : FourLists). Keeps w (forget w c.args.page) c.args.search.now c.leave.new.self c.args.page)
+    c.self.view_is c.leave.ensures.knows)

@@ -3,7 +3,6 @@ use Rattle.std.proofs.Common.{◌≡◌, ℕ, [], ap, ◌∙◌}
 use Rattle.pp_arc.specs.declared.list.List.{List as ListName}
 use Rattle.pp_arc.specs.declared.list.List.TheVariants.{T1, T2, B1, B2}
 use Rattle.pp_arc.specs.FourLists.{FourLists, empty_lists, list_of}
-use Rattle.pp_arc.specs.Fields.{lists_of}
 use Rattle.pp_arc.proofs.directory.Directory.move_into.Goals as goal
 
 -- the lists of a directory with these links

@@ -2,11 +2,11 @@
 use Rattle.std.proofs.Common.{◌≡◌, ℕ, ◌<◌, subst, sym, ap, ◌∙◌}
 use Rattle.pp_arc.specs.FourLists.{FourLists}
 use Rattle.pp_arc.specs.Bounds.{IsWithinBounds}
-use Rattle.pp_arc.specs.Fields.{lists_of}
 use Rattle.pp_arc.specs.Laws.{CachesRenamed}
 use Rattle.pp_arc.specs.Sizes.{renamed}
 use Rattle.pp_arc.proofs.SizeLemmas.{bounds-renamed, renamed-sized}
 use Rattle.pp_arc.proofs.RenameLemmas.{CachesRenamed-renamed}
+use Rattle.pp_arc.proofs.SearchLemmas.{KeepsBut}
 use Rattle.pp_arc.proofs.directory.Directory.rename.Goals as goal
 
 -- the bounds of a directory with these links
@@ -22,12 +22,12 @@ bounds_after s links now c target old new view h low e =
 pub invariant_of-self : goal.invariant_of-self
 invariant_of-self c =
     bounds_after c.self.inside.links c.rename.new.self c.args.self.now c.self.inside.c c.self.inside.target c.args.old
-    c.args.new c.self.view_is c.self.invariant c.requires.below c.rename.ensures
+    c.args.new c.self.view_is c.self.invariant c.requires.below c.rename.ensures.lists
 
 pub returns-clause-bounds : goal.returns-clause-bounds
 returns-clause-bounds c =
     bounds_after c.self.inside.links c.rename.new.self c.args.self.now c.self.inside.c c.self.inside.target c.args.old
-    c.args.new c.self.view_is c.self.invariant c.requires.below c.rename.ensures
+    c.args.new c.self.view_is c.self.invariant c.requires.below c.rename.ensures.lists
 
 -- the page is cached under its new name
 caches_after : (s links now : FourLists) (c target old new : ℕ) → record s { c = c; target = target } ≡ now
@@ -41,4 +41,9 @@ caches_after s links now c target old new view e =
 pub returns-clause-cache : goal.returns-clause-cache
 returns-clause-cache c =
     caches_after c.self.inside.links c.rename.new.self c.args.self.now c.self.inside.c c.self.inside.target c.args.old
-    c.args.new c.self.view_is c.rename.ensures
+    c.args.new c.self.view_is c.rename.ensures.lists
+
+pub returns-clause-knows : goal.returns-clause-knows
+returns-clause-knows c =
+    subst (λ (w : FourLists). KeepsBut w (record c.rename.new.self { c = c.self.inside.c; target = c.self.inside.target })
+    c.args.search.now c.rename.new.search c.args.old c.args.new) c.self.view_is c.rename.ensures.knows

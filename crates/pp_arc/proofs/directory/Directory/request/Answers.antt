@@ -31,3 +31,8 @@ pub returns-clause-cache : goal.returns-clause-cache
 returns-clause-cache g c = rw (c.request_by_place.ensures.answer, c.request_by_place.ensures.lists)
     (CachesInstead-request c.args.self.now c.args.page (g.B.Busy.busy c.args.busy.now)
     c.request_by_place.ensures.were_bounds)
+
+pub returns-clause-hit : goal.returns-clause-hit
+returns-clause-hit g c = rw c.request_by_place.ensures.answer
+    (RequestAnswers-request c.args.self.now c.args.page (g.B.Busy.busy c.args.busy.now)
+    c.request_by_place.ensures.were_bounds).hit

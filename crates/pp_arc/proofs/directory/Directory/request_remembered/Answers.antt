@@ -5,6 +5,10 @@ use Rattle.pp_arc.specs.Bounds.{IsWithinBounds}
 use Rattle.pp_arc.specs.Figure.{after_replace}
 use Rattle.pp_arc.proofs.StepLemmas.{MakesRoom, HasMadeRoom, HasMadeRoom-after_replace, room-after_replace}
 use Rattle.pp_arc.proofs.StepLemmas.{bounds-at_target}
+use Rattle.std.proofs.Common.{sym, subst}
+use Rattle.pp_arc.specs.Search.{SearchMarks, KnowsBusy, FoundIn}
+use Rattle.pp_arc.specs.Figure.{with_front_of_t2}
+use Rattle.pp_arc.proofs.SearchLemmas.{KnowsBusy-remembered_page}
 use Rattle.pp_arc.proofs.directory.Directory.request_remembered.Goals as goal
 
 pub move_to_t2-requires : goal.move_to_t2-requires
@@ -27,3 +31,22 @@ move_to_t2-requires g c =
       cached_room = rw d.same_c (room-after_replace s c.replacement-answer.result c.args.page h m named).0;
       total_room = rw d.same_c (room-after_replace s c.replacement-answer.result c.args.page h m named).1;
     }
+
+pub returns-clause-knows : goal.returns-clause-knows
+returns-clause-knows g c =
+    let s : FourLists = record c.args.self.now { target = c.args.target } in
+    let e : c.replace.new.self ≡ after_replace s c.replacement-answer.result = cc in
+    let f : FoundIn s c.replacement-answer.new.search (g.B.Busy.busy c.args.busy.now) c.replacement-answer.result =
+    record {
+      knows = c.replacement-answer.ensures.found.knows;
+      t1 = c.replacement-answer.ensures.found.t1;
+      t2 = c.replacement-answer.ensures.found.t2;
+    } in
+    subst (λ (w : FourLists). KnowsBusy w c.replace.new.search (g.B.Busy.busy c.args.busy.now))
+    (sym c.move_to_t2.ensures.lists)
+    (subst (λ (w : FourLists). KnowsBusy (with_front_of_t2 w c.args.page) c.replace.new.search
+    (g.B.Busy.busy c.args.busy.now)) (sym e)
+    (subst (λ (k : SearchMarks). KnowsBusy (with_front_of_t2 (after_replace s c.replacement-answer.result) c.args.page) k
+    (g.B.Busy.busy c.args.busy.now)) (sym c.replace.ensures.numbers)
+    (KnowsBusy-remembered_page s c.args.page c.replacement-answer.new.search (g.B.Busy.busy c.args.busy.now)
+    c.replacement-answer.result c.replacement-answer.ensures.bounds.once c.requires.remembered f)))

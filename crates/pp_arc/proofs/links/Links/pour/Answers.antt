@@ -1,6 +1,6 @@
 -- What is left to show of Links::pour: the last page of one table fits into the other.
 use Rattle.std.proofs.Common.{◌≡◌, ◌++◌, [], sym, ap, ◌∙◌, arith, length, length-append}
-use Rattle.std.specs.Prelude.{None, Some}
+use Rattle.std.specs.Prelude.{None}
 use Rattle.pp_arc.specs.Pages.{last_page}
 use Rattle.pp_arc.specs.FourLists.{list_of}
 use Rattle.pp_arc.specs.Links.{with_list}

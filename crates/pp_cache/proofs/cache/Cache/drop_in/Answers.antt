@@ -11,13 +11,13 @@ pub loop-init : goal.loop-init
 loop-init c = record {
   keeps = walk-start (stays c.args.leaving c.args.self.now.table) (list_of c.args.self.now.lists c.args.list) c.args.self.now;
   at = c.front-at.ensures.front ∙ ap (λ (w : PageCache). slice_get (list_of w.lists c.args.list) 0) c.self.view_is;
-  sound = subst IsSound c.self.view_is c.self.invariant;
+  sound = subst IsSound c.self.view_is c.self.invariant.sound;
 }
 
 pub loop-preserved : goal.loop-preserved
 loop-preserved c = elim c.match-at.branch [
   | in-Some w ↦
-      let sound : IsSound c.args.self.now = subst IsSound c.self.view_is c.self.invariant in
+      let sound : IsSound c.args.self.now = subst IsSound c.self.view_is c.self.invariant.sound in
       let e : slice_get (list_of c.args.self.now.lists c.args.list) c.loop.counter ≡ Some w.in-Some.key =
       sym c.loop.invariant.at ∙ w.in-Some.is in
       rw (w.self-is, w.at-is) (record {

@@ -1,9 +1,9 @@
 -- What is left to show of Cache::grow: keys without a page change nothing else.
-use Rattle.std.proofs.Common.{◌≡◌, ℕ, ◌≤◌, length, refl, subst, sym, ap, ◌∙◌}
+use Rattle.std.proofs.Common.{◌≡◌, ℕ, ◌≤◌, length, refl, subst, sym, ap, ◌∙◌, arith}
 use Rattle.pp_arc.specs.FourLists.{FourLists}
 use Rattle.pp_arc.specs.Bounds.{IsWithinBounds}
 use Rattle.pp_arc.specs.Sizes.{with_pages}
-use Rattle.pp_cache.specs.Frames.{FrameMap, page_of, with_keys}
+use Rattle.pp_cache.specs.Frames.{FrameMap, page_of, with_keys, is_pinned}
 use Rattle.pp_cache.specs.Cache.{PageCache, SamePages, IsSound}
 use Rattle.pp_cache.proofs.CacheLemmas.{together-grow, one_to_one-keys, page-keys}
 use Rattle.pp_cache.proofs.cache.Cache.grow.Goals as goal
@@ -36,15 +36,22 @@ returns-clause-same_pages c =
     c.grow.new.self c.args.keys (c.move_into.ensures.lists ∙ ap (with_pages c.self.inside.directory) pages)
     (c.in_ok-grow.ensures.grown refl))
 
-pub invariant_of-self-2 : goal.invariant_of-self-2
-invariant_of-self-2 c =
+pub returns-clause-sound : goal.returns-clause-sound
+returns-clause-sound c =
     let pages : c.in_ok-larger.larger.pages ≡ c.args.keys = ap (λ (w : FourLists). w.pages) c.in_ok-larger.ensures.empty
     in
     let more : length c.self.inside.frames.pages ≤ c.args.keys =
     subst (λ (w : PageCache). length w.table.pages ≤ c.args.keys) (sym c.self.view_is) c.requires.more in
     sound_grown (record { lists = c.self.inside.directory; table = c.self.inside.frames }) c.move_into.new.self
-    c.grow.new.self c.args.keys c.self.invariant more c.move_into.ensures.bounds
+    c.grow.new.self c.args.keys c.self.invariant.sound more c.move_into.ensures.bounds
     (c.move_into.ensures.lists ∙ ap (with_pages c.self.inside.directory) pages) (c.in_ok-grow.ensures.grown refl)
 
-pub returns-clause-sound : goal.returns-clause-sound
-returns-clause-sound c = invariant_of-self-2 c
+pub invariant_of-self-2 : goal.invariant_of-self-2
+invariant_of-self-2 c =
+    let pages : c.in_ok-larger.larger.pages ≡ c.args.keys = ap (λ (w : FourLists). w.pages) c.in_ok-larger.ensures.empty
+    in
+    let e : c.move_into.new.self.pages ≡ c.args.keys = ap (λ (w : FourLists). w.pages) c.move_into.ensures.lists ∙ pages in
+    record {
+      sound = returns-clause-sound c;
+      knows = c.in_ok-search.ensures.knows c.move_into.new.self (is_pinned c.grow.new.self) (omega (arith, e));
+    }

@@ -10,4 +10,4 @@ pub returns-then-is_full-clause-all_pinned : goal.returns-then-is_full-clause-al
 returns-then-is_full-clause-all_pinned c = λ same.
     let s : PageCache = record { lists = c.self.inside.directory; table = c.self.inside.frames } in
     subst (λ (w : PageCache). AllCachedAreBusy w.lists (is_pinned w.table)) c.self.view_is
-    (all_pinned s c.resident.result c.pinned.result c.self.invariant.together c.resident.ensures c.pinned.ensures same)
+    (all_pinned s c.resident.result c.pinned.result c.self.invariant.sound.together c.resident.ensures c.pinned.ensures same)

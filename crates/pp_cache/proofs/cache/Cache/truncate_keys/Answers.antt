@@ -9,7 +9,7 @@ use Rattle.pp_cache.proofs.cache.Cache.truncate_keys.Goals as goal
 pub loop-key-init : goal.loop-key-init
 loop-key-init c = record {
   keeps = keeps_all (λ k. ltb k c.args.limit || leb c.args.limit k) c.args.self.now (λ y. test_start c.args.limit y);
-  sound = subst IsSound c.self.view_is c.self.invariant;
+  sound = subst IsSound c.self.view_is c.self.invariant.sound;
 }
 
 pub loop-key-preserved : goal.loop-key-preserved
@@ -25,7 +25,7 @@ loop-key-preserved c = record {
 
 pub returns-clause-exact : goal.returns-clause-exact
 returns-clause-exact c =
-    let sound : IsSound c.args.self.now = subst IsSound c.self.view_is c.self.invariant in
+    let sound : IsSound c.args.self.now = subst IsSound c.self.view_is c.self.invariant.sound in
     let keys : length c.self.inside.frames.pages ≡ length c.args.self.now.table.pages =
     ap (λ (w : PageCache). length w.table.pages) c.self.view_is in
     let last : length c.args.self.now.table.pages ≤ c.loop-key.key =

@@ -1,6 +1,6 @@
 use Rattle.pp_model.specs.declared.moves.Move.TheVariants as move
 use Rattle.pp_core.specs.Parts.{parts_of}
-use Rattle.pp_core.proofs.Standing.{headline_holds, budget_of_inside}
+use Rattle.pp_core.proofs.Standing.{headline_holds, kept_after, budget_of_inside}
 use Rattle.pp_core.proofs.machine.Core.finish.Goals as goal
 
 pub returns-clause-headline : goal.returns-clause-headline
@@ -10,3 +10,13 @@ pub returns-clause-budget : goal.returns-clause-budget
 returns-clause-budget c =
     budget_of_inside c.self.view_is c.self.invariant (parts_of c.finish.new.self) (move.Finish c.args.worker) c.finish.result
     c.finish.ensures.moves
+
+pub invariant_of-self : goal.invariant_of-self
+invariant_of-self c =
+    kept_after (parts_of c.self.inside.table) (parts_of c.finish.new.self) (move.Finish c.args.worker) c.finish.result
+    c.self.invariant c.finish.ensures.moves
+
+pub returns-clause-kept : goal.returns-clause-kept
+returns-clause-kept c =
+    kept_after (parts_of c.self.inside.table) (parts_of c.finish.new.self) (move.Finish c.args.worker) c.finish.result
+    c.self.invariant c.finish.ensures.moves

@@ -1,6 +1,6 @@
 use Rattle.pp_model.specs.declared.moves.Move.TheVariants as move
 use Rattle.pp_core.specs.Parts.{parts_of}
-use Rattle.pp_core.proofs.Standing.{headline_holds, budget_of_inside}
+use Rattle.pp_core.proofs.Standing.{headline_holds, kept_after, budget_of_inside}
 use Rattle.pp_core.proofs.machine.Core.flush_begin.Goals as goal
 
 pub returns-clause-headline : goal.returns-clause-headline
@@ -10,3 +10,13 @@ pub returns-clause-budget : goal.returns-clause-budget
 returns-clause-budget c =
     budget_of_inside c.self.view_is c.self.invariant (parts_of c.flush_begin.new.self) (move.FlushBegin c.args.page) c.flush_begin.result
     c.flush_begin.ensures.moves
+
+pub invariant_of-self : goal.invariant_of-self
+invariant_of-self c =
+    kept_after (parts_of c.self.inside.table) (parts_of c.flush_begin.new.self) (move.FlushBegin c.args.page) c.flush_begin.result
+    c.self.invariant c.flush_begin.ensures.moves
+
+pub returns-clause-kept : goal.returns-clause-kept
+returns-clause-kept c =
+    kept_after (parts_of c.self.inside.table) (parts_of c.flush_begin.new.self) (move.FlushBegin c.args.page) c.flush_begin.result
+    c.self.invariant c.flush_begin.ensures.moves

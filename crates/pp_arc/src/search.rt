@@ -1,0 +1,424 @@
+//! Where the searches for a page that isn't busy stand.
+
+ghost use Rattle.std.specs.Prelude.{◌≡◌, ◌≢◌, ℕ, ◌+◌, ◌<◌, ◌≤◌, ◌^◌, ◌⊎◌, Bool, IsTrue, IsFalse, IfOk, IfSome, Some, None};
+ghost use Rattle.std.specs.Prelude.{length};
+ghost use Rattle.pp_arc.specs.Pages.{last_not_busy, last_page};
+ghost use Rattle.pp_arc.specs.FourLists.{FourLists, list_of, place, times_named};
+ghost use Rattle.pp_arc.specs.Figure.{forget};
+ghost use Rattle.pp_arc.specs.Search.{SearchMarks, KnowsBusy, NoneFreed, IsLastFreed, number_of, mark_of, freed_of};
+ghost use Rattle.pp_arc.specs.Search.{without_number, with_mark, with_freed, passed};
+ghost use Rattle.pp_arc.specs.declared.list.List.{List as ListName};
+
+use crate::links::Links;
+use crate::tournament::Tournament;
+use crate::{Busy, List};
+use std::alloc::{AllocError, Global};
+use std::marker::Model;
+
+/// Where the searches for a page that isn't busy stand, so that none walks over the same busy pages again.
+///
+/// Its owner keeps it beside a directory and its busy pages, hands it to each call that moves pages of the directory, and
+/// tells [`Directory::freed`](crate::Directory::freed) of each page that stops being busy. Then `KnowsBusy` holds: a page that a
+/// search passed over is busy, or it is known to have been freed.
+///
+/// A search takes the least recent of the freed pages, which two tournaments tell, one for `T1` and one for `T2`. Where there
+/// is none it goes on from the mark, the page that the last search passed over, and moves the mark over the busy pages that it
+/// meets. So each page is passed over once after it last came to the front of its list, or was freed. A freed page costs up to three
+/// steps for each time that the number of page numbers can be halved.
+#[derive(Debug, Drop)]
+pub struct Search {
+    t1: Option<u32>,
+    t2: Option<u32>,
+    /// How many pages have a number.
+    passed: u32,
+    /// For each page the number that it got as a search passed over it, from `u32::MAX` down, or 0.
+    numbers: Vec<u32>,
+    /// The freed pages of `T1`, by their numbers.
+    freed_t1: Tournament,
+    /// The freed pages of `T2`, by their numbers.
+    freed_t2: Tournament,
+}
+
+impl Model for Search {
+    ghost use Rattle.pp_arc.specs.Search.{SearchMarks};
+
+    ghost Value = { SearchMarks };
+
+    ghost view = { λ s. record { t1 = s.t1; t2 = s.t2; numbers = s.numbers.items; freed_t1 = s.freed_t1; freed_t2 = s.freed_t2 } };
+
+    ghost use Rattle.pp_arc.specs.Passed.{IsCounted};
+
+    ghost invariant = { λ s. IsCounted s.passed s.numbers.items };
+}
+
+impl Search {
+    /// A search that has passed over no page, for page numbers below `pages`.
+    ///
+    /// It takes 20 bytes for each page number.
+    ///
+    /// # Errors
+    ///
+    /// Only where that memory can't be had.
+    pub fn new(alloc: Global, pages: u32) -> Result<Self, AllocError>
+        ensures knows { IfOk result (λ search. (s : FourLists) (busy : ℕ → Bool) → s.pages ≤ pages
+            → KnowsBusy s search busy) }
+    {
+        Ok(Search {
+            t1: None,
+            t2: None,
+            passed: 0,
+            numbers: vec![in alloc; 0; pages as usize]?,
+            freed_t1: Tournament::new(alloc, pages)?,
+            freed_t2: Tournament::new(alloc, pages)?,
+        })
+    }
+
+    /// The number of the page, if a search passed over it since it last came to the front of its list.
+    #[inline(always)]
+    fn number(&self, page: u32) -> u32
+        ensures { result ≡ number_of self.now page }
+    {
+        self.numbers.get(page as usize).copied().unwrap_or(0)
+    }
+
+    /// Whether no page has a number: then there is no mark, and no page was freed.
+    #[inline(always)]
+    fn is_blank(&self) -> bool
+        ensures { IsTrue result → (x : ℕ) → number_of self.now x ≡ 0 }
+    {
+        self.passed == 0
+    }
+
+    /// The mark of `T1` or `T2`.
+    #[inline(always)]
+    fn mark(&self, list: List) -> Option<u32>
+        ensures { result ≡ mark_of self.now list }
+    {
+        match list {
+            List::T1 => self.t1,
+            _ => self.t2,
+        }
+    }
+
+    /// The mark of `T1` or `T2` is this one from now on.
+    fn set_mark(&mut self, list: List, mark: Option<u32>)
+        ensures { self.new ≡ with_mark self.old list mark }
+    {
+        match list {
+            List::T1 => self.t1 = mark,
+            _ => self.t2 = mark,
+        }
+    }
+
+    /// The page of `T1` or `T2` was freed and has this number, or with 0 it isn't among the freed ones any more.
+    fn set_freed(&mut self, list: List, page: u32, number: u32)
+        ensures { self.new ≡ with_freed self.old list page number }
+    {
+        match list {
+            List::T1 => self.freed_t1.set(page, number),
+            _ => self.freed_t2.set(page, number),
+        }
+    }
+
+    /// The least recent of the freed pages of `T1` or `T2`.
+    fn last_freed(&self, list: List) -> Option<u32>
+        ensures some { (page : ℕ) → result ≡ Some page → IsLastFreed self.now list page }
+        ensures none { result ≡ None → NoneFreed self.now list }
+    {
+        match list {
+            List::T1 => self.freed_t1.greatest(),
+            _ => self.freed_t2.greatest(),
+        }
+    }
+
+    /// The page stopped being busy.
+    #[inline(always)]
+    pub(crate) fn freed(&mut self, links: &Links, page: u32)
+        requires once { (x : ℕ) → times_named links.now x ≤ 1 }
+        ensures knows { (busy other : ℕ → Bool) → KnowsBusy links.now self.old busy
+            → ((x : ℕ) → x ≢ page → IsTrue (busy x) → IsTrue (other x)) → KnowsBusy links.now self.new other }
+    {
+        if !self.is_blank() {
+            self.freed_among_passed(links, page);
+        }
+    }
+
+    /// The same, where a search passed over some pages.
+    #[inline(never)]
+    fn freed_among_passed(&mut self, links: &Links, page: u32)
+        requires once { (x : ℕ) → times_named links.now x ≤ 1 }
+        ensures knows { (busy other : ℕ → Bool) → KnowsBusy links.now self.old busy
+            → ((x : ℕ) → x ≢ page → IsTrue (busy x) → IsTrue (other x)) → KnowsBusy links.now self.new other }
+    {
+        let number = self.number(page);
+        if number > 0 {
+            self.put_among_freed(links, page, number);
+        }
+    }
+
+    /// A page that was passed over stopped being busy: it is among the freed pages of its list.
+    fn put_among_freed(&mut self, links: &Links, page: u32, number: u32)
+        requires once { (x : ℕ) → times_named links.now x ≤ 1 }
+        requires number { number ≡ number_of self.old page }
+        requires passed { 0 < number }
+        ensures knows { (busy other : ℕ → Bool) → KnowsBusy links.now self.old busy
+            → ((x : ℕ) → x ≢ page → IsTrue (busy x) → IsTrue (other x)) → KnowsBusy links.now self.new other }
+    {
+        if let Some(list) = links.place(page) {
+            self.set_freed(list, page, number);
+        }
+    }
+
+    /// The page is about to leave its list. It has no number from now on.
+    #[inline(always)]
+    pub(crate) fn leave(&mut self, links: &Links, page: u32)
+        requires once { (x : ℕ) → times_named links.now x ≤ 1 }
+        ensures knows { (busy other : ℕ → Bool) → KnowsBusy links.now self.old busy
+            → ((x : ℕ) → x ≢ page → IsTrue (busy x) → IsTrue (other x)) → KnowsBusy (forget links.now page) self.new other }
+    {
+        if !self.is_blank() {
+            self.leave_among_passed(links, page);
+        }
+    }
+
+    /// The same, where a search passed over some pages.
+    #[inline(never)]
+    fn leave_among_passed(&mut self, links: &Links, page: u32)
+        requires once { (x : ℕ) → times_named links.now x ≤ 1 }
+        ensures knows { (busy other : ℕ → Bool) → KnowsBusy links.now self.old busy
+            → ((x : ℕ) → x ≢ page → IsTrue (busy x) → IsTrue (other x)) → KnowsBusy (forget links.now page) self.new other }
+    {
+        if self.number(page) > 0 {
+            self.step_off(links, page);
+        }
+    }
+
+    /// A page that was passed over is about to leave its list.
+    fn step_off(&mut self, links: &Links, page: u32)
+        requires once { (x : ℕ) → times_named links.now x ≤ 1 }
+        ensures knows { (busy other : ℕ → Bool) → KnowsBusy links.now self.old busy
+            → ((x : ℕ) → x ≢ page → IsTrue (busy x) → IsTrue (other x)) → KnowsBusy (forget links.now page) self.new other }
+    {
+        self.step_off_t1(links, page);
+        self.step_off_t2(links, page);
+        self.clear(page);
+    }
+
+    /// Where the page is the mark of `T1`, the next less recent page becomes the mark: a search passed over that one too.
+    fn step_off_t1(&mut self, links: &Links, page: u32)
+        requires once { (x : ℕ) → times_named links.now x ≤ 1 }
+        ensures knows { (busy : ℕ → Bool) → KnowsBusy links.now self.old busy → KnowsBusy links.now self.new busy }
+        ensures mark { self.new.t1 ≢ Some page }
+        ensures rest { self.new ≡ record self.old { t1 = self.new.t1 } }
+    {
+        if self.t1 == Some(page) {
+            self.t1 = links.after(page);
+        }
+    }
+
+    /// Where the page is the mark of `T2`, the next less recent page becomes the mark: a search passed over that one too.
+    fn step_off_t2(&mut self, links: &Links, page: u32)
+        requires once { (x : ℕ) → times_named links.now x ≤ 1 }
+        ensures knows { (busy : ℕ → Bool) → KnowsBusy links.now self.old busy → KnowsBusy links.now self.new busy }
+        ensures mark { self.new.t2 ≢ Some page }
+        ensures rest { self.new ≡ record self.old { t2 = self.new.t2 } }
+    {
+        if self.t2 == Some(page) {
+            self.t2 = links.after(page);
+        }
+    }
+
+    /// The page has no number from now on, and isn't among the freed ones.
+    #[inline(always)]
+    pub(crate) fn clear(&mut self, page: u32)
+        ensures { self.new ≡ without_number self.old page }
+    {
+        if !self.is_blank() {
+            self.clear_among_passed(page);
+        }
+    }
+
+    /// The same, where a search passed over some pages.
+    #[inline(never)]
+    fn clear_among_passed(&mut self, page: u32)
+        ensures { self.new ≡ without_number self.old page }
+    {
+        if self.number(page) > 0 {
+            self.numbers[page as usize] = 0;
+            self.passed -= 1;
+            self.freed_t1.set(page, 0);
+            self.freed_t2.set(page, 0);
+        }
+    }
+
+    /// The last page of `T1` or `T2` that isn't busy. No mark is at that page.
+    #[inline(always)]
+    pub(crate) fn last_not_busy<B: Busy>(
+        &mut self,
+        links: &Links,
+        list: List,
+        busy: &B,
+    ) -> Option<u32>
+        requires cached { (list ≡ ListName.T1) ⊎ (list ≡ ListName.T2) }
+        requires once { (x : ℕ) → times_named links.now x ≤ 1 }
+        requires below { (x : ℕ) → 0 < times_named links.now x → x < links.now.pages }
+        requires knows { KnowsBusy links.now self.old (B.busy busy.now) }
+        ensures last { result ≡ last_not_busy (list_of links.now list) (B.busy busy.now) }
+        ensures knows { KnowsBusy links.now self.new (B.busy busy.now) }
+        ensures marks { IfSome result (λ page. (self.new.t1 ≢ Some page) × (self.new.t2 ≢ Some page)) }
+    {
+        if self.is_blank() {
+            self.last_of_all(links, list, busy)
+        } else {
+            self.last_among_passed(links, list, busy)
+        }
+    }
+
+    /// The same, where a search passed over some pages: a freed page, or one from the mark on.
+    #[inline(never)]
+    fn last_among_passed<B: Busy>(&mut self, links: &Links, list: List, busy: &B) -> Option<u32>
+        requires cached { (list ≡ ListName.T1) ⊎ (list ≡ ListName.T2) }
+        requires once { (x : ℕ) → times_named links.now x ≤ 1 }
+        requires below { (x : ℕ) → 0 < times_named links.now x → x < links.now.pages }
+        requires knows { KnowsBusy links.now self.old (B.busy busy.now) }
+        ensures last { result ≡ last_not_busy (list_of links.now list) (B.busy busy.now) }
+        ensures knows { KnowsBusy links.now self.new (B.busy busy.now) }
+        ensures marks { IfSome result (λ page. (self.new.t1 ≢ Some page) × (self.new.t2 ≢ Some page)) }
+    {
+        if let Some(page) = self.last_freed_not_busy(list, busy) {
+            self.step_off_t1(links, page);
+            self.step_off_t2(links, page);
+            return Some(page);
+        }
+        self.last_from_mark(links, list, busy)
+    }
+
+    /// The least recent freed page of `T1` or `T2` that isn't busy. Those that are busy again, and less recent than it, aren't among
+    /// the freed ones any more.
+    fn last_freed_not_busy<B: Busy>(&mut self, list: List, busy: &B) -> Option<u32>
+        ensures knows { (s : FourLists) → KnowsBusy s self.old (B.busy busy.now) → KnowsBusy s self.new (B.busy busy.now) }
+        ensures not_busy { IfSome result (λ page. IsFalse (B.busy busy.now page)) }
+        ensures some { (page : ℕ) → result ≡ Some page → IsLastFreed self.new list page }
+        ensures none { result ≡ None → NoneFreed self.new list }
+    {
+        while let Some(page) = self.last_freed(list) {
+            if !busy.is_busy(page) {
+                return Some(page);
+            }
+            self.set_freed(list, page, 0);
+        }
+        None
+    }
+
+    /// The last page of `T1` or `T2` that isn't busy, where no page of it was freed.
+    fn last_from_mark<B: Busy>(&mut self, links: &Links, list: List, busy: &B) -> Option<u32>
+        requires cached { (list ≡ ListName.T1) ⊎ (list ≡ ListName.T2) }
+        requires once { (x : ℕ) → times_named links.now x ≤ 1 }
+        requires below { (x : ℕ) → 0 < times_named links.now x → x < links.now.pages }
+        requires knows { KnowsBusy links.now self.old (B.busy busy.now) }
+        requires none_freed { NoneFreed self.old list }
+        ensures last { result ≡ last_not_busy (list_of links.now list) (B.busy busy.now) }
+        ensures knows { KnowsBusy links.now self.new (B.busy busy.now) }
+        ensures marks { IfSome result (λ page. (self.new.t1 ≢ Some page) × (self.new.t2 ≢ Some page)) }
+    {
+        match self.mark(list) {
+            Some(mark) => self.last_before(links, list, mark, busy),
+            None => self.last_of_all(links, list, busy),
+        }
+    }
+
+    /// The same, from the last page of the list on.
+    #[inline(always)]
+    fn last_of_all<B: Busy>(&mut self, links: &Links, list: List, busy: &B) -> Option<u32>
+        requires cached { (list ≡ ListName.T1) ⊎ (list ≡ ListName.T2) }
+        requires once { (x : ℕ) → times_named links.now x ≤ 1 }
+        requires below { (x : ℕ) → 0 < times_named links.now x → x < links.now.pages }
+        requires knows { KnowsBusy links.now self.old (B.busy busy.now) }
+        requires no_mark { mark_of self.old list ≡ None }
+        requires none_freed { NoneFreed self.old list }
+        ensures last { result ≡ last_not_busy (list_of links.now list) (B.busy busy.now) }
+        ensures knows { KnowsBusy links.now self.new (B.busy busy.now) }
+        ensures mark { IfSome result (λ page. mark_of self.new list ≢ Some page) }
+    {
+        let last = links.last(list)?;
+        if !busy.is_busy(last) {
+            return Some(last);
+        }
+        self.last_before_last(links, list, last, busy)
+    }
+
+    /// The same, where the last page is busy: the search passes over it.
+    #[inline(never)]
+    fn last_before_last<B: Busy>(
+        &mut self,
+        links: &Links,
+        list: List,
+        last: u32,
+        busy: &B,
+    ) -> Option<u32>
+        requires cached { (list ≡ ListName.T1) ⊎ (list ≡ ListName.T2) }
+        requires once { (x : ℕ) → times_named links.now x ≤ 1 }
+        requires below { (x : ℕ) → 0 < times_named links.now x → x < links.now.pages }
+        requires knows { KnowsBusy links.now self.old (B.busy busy.now) }
+        requires none_freed { NoneFreed self.old list }
+        requires last { last_page (list_of links.now list) ≡ Some last }
+        requires busy { IsTrue (B.busy busy.now last) }
+        ensures last { result ≡ last_not_busy (list_of links.now list) (B.busy busy.now) }
+        ensures knows { KnowsBusy links.now self.new (B.busy busy.now) }
+        ensures mark { IfSome result (λ page. mark_of self.new list ≢ Some page) }
+    {
+        self.pass(list, last, u32::MAX);
+        self.last_before(links, list, last, busy)
+    }
+
+    /// The same, from the page before the mark on. The mark moves over each one that is passed over.
+    #[inline(never)]
+    fn last_before<B: Busy>(
+        &mut self,
+        links: &Links,
+        list: List,
+        start: u32,
+        busy: &B,
+    ) -> Option<u32>
+        requires cached { (list ≡ ListName.T1) ⊎ (list ≡ ListName.T2) }
+        requires once { (x : ℕ) → times_named links.now x ≤ 1 }
+        requires below { (x : ℕ) → 0 < times_named links.now x → x < links.now.pages }
+        requires knows { KnowsBusy links.now self.old (B.busy busy.now) }
+        requires mark { mark_of self.old list ≡ Some start }
+        requires none_freed { NoneFreed self.old list }
+        ensures last { result ≡ last_not_busy (list_of links.now list) (B.busy busy.now) }
+        ensures knows { KnowsBusy links.now self.new (B.busy busy.now) }
+        ensures mark { IfSome result (λ page. mark_of self.new list ≢ Some page) }
+    {
+        let mut mark = start;
+        while let Some(page) = links.before(mark) {
+            if !busy.is_busy(page) {
+                return Some(page);
+            }
+            let number = self.number(mark);
+            if number <= 1 {
+                // The numbers are used up: this search walks from the end, and the next one gives numbers anew.
+                self.set_mark(list, None);
+                return links.last_not_busy(list, busy);
+            }
+            self.pass(list, page, number - 1);
+            mark = page;
+        }
+        None
+    }
+
+    /// A search passes over the page: it gets this number, and the mark stands at it.
+    fn pass(&mut self, list: List, page: u32, number: u32)
+        requires below { page < length self.old.numbers }
+        requires number { 0 < number }
+        ensures exact { self.new ≡ passed self.old list page number }
+        ensures low { number_of self.old page < 2 ^ 32 }
+    {
+        let old = self.number(page);
+        if old == 0 {
+            self.passed += 1;
+        }
+        self.numbers[page as usize] = number;
+        self.set_mark(list, Some(page));
+    }
+}

@@ -1,0 +1,9 @@
+-- What is left to show: a search that has passed over no page knows nothing wrong.
+use Rattle.std.proofs.Common.{ap, arith}
+use Rattle.pp_arc.specs.FourLists.{FourLists}
+use Rattle.pp_test_parts.proofs.directory.memory_is_there.Goals as goal
+
+pub request-requires-clause-knows : goal.request-requires-clause-knows
+request-requires-clause-knows g c =
+    c.in_ok-search.ensures.knows c.in_ok-directory.directory _
+    (omega (arith, ap (λ (w : FourLists). w.pages) c.in_ok-directory.ensures.empty))
