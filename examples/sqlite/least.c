@@ -1,6 +1,6 @@
 /* SPDX-License-Identifier: Apache-2.0 */
-/* A file of pages read through the cache, in C alone: least FILE. It reads pages of 4096 bytes in some order, changes some of
-** them, and writes these back when they leave. */
+/* A file of pages used through the cache, in C alone: least FILE makes FILE anew, and what it had is lost. It reads its pages of
+** 4096 bytes in some order, changes each, and writes it back when it leaves. */
 #include "pinpool_cache.h"
 #include <stdio.h>
 #include <stdlib.h>
@@ -44,7 +44,7 @@ int main(int count, char **words) {
     }
     /* All pages that are cached are written back. */
     while (pinpool_cache_next(cache, from, &key, &page) == PINPOOL_OK && page.found == PINPOOL_HIT) {
-        pass(key, page.frame, changed[page.frame]);
+        if (changed[page.frame]) pass(key, page.frame, 1);
         from = key + 1;
     }
     if (pinpool_cache_counts(cache, &counts) != PINPOOL_OK) return 1;

@@ -277,6 +277,44 @@ static void spill(void) {
     unlink(file);
 }
 
+/* ---- a large transaction */
+
+/* How many pages it changes, and how many others it reads: with fewer rows than 5,000 it is smaller. */
+static long many_pages(void) { return rows < 5000 ? rows * 8 : 40000; }
+
+/* A file beside, of two tables with so many pages each: a row has a page of its own. The cache has room for five of eight. */
+static void make_many(void) {
+    char file[4096], text[4200];
+    snprintf(file, sizeof file, "%s/many.db", folder);
+    unlink(file);
+    snprintf(text, sizeof text, "%s-journal", file);
+    unlink(text);
+    snprintf(text, sizeof text, "ATTACH '%s' AS many", file);
+    ask(text);
+    ask("PRAGMA many.page_size = 1024");
+    ask("PRAGMA many.synchronous = OFF");
+    ask_of("PRAGMA many.cache_size = %lld", many_pages() * 5 / 4, 0);
+    for (int i = 0; i < 2; i++) {
+        ask_of("CREATE TABLE many.t%lld(id INTEGER PRIMARY KEY, key INT, note TEXT)", i, 0);
+        ask_of("INSERT INTO many.t%lld(key, note) WITH RECURSIVE n(i) AS (SELECT 1 UNION ALL SELECT i + 1 FROM n WHERE i < %lld) "
+               "SELECT i, hex(zeroblob(350)) FROM n", i, many_pages());
+    }
+}
+
+/* It changes all pages of one table, which stay pinned, and then reads all of the other, so that each miss needs a victim. */
+static void change_many(void) {
+    char file[4096];
+    ask("PRAGMA shrink_memory");
+    ask("BEGIN");
+    ask("UPDATE many.t0 SET key = key + 1");
+    ask("SELECT count(*), sum(key), sum(length(note)) FROM many.t1");
+    ask("COMMIT");
+    ask("SELECT count(*), sum(key) FROM many.t0");
+    ask("DETACH many");
+    snprintf(file, sizeof file, "%s/many.db", folder);
+    unlink(file);
+}
+
 /* ---- memory */
 
 /* A transaction of 2 KB for each row whose pages all stay in the cache, and the table is dropped again. */
@@ -398,6 +436,8 @@ static const struct {
     {"vacuum", vacuum},
     {"other cache sizes", change_size},
     {"pages that spill", spill},
+    {"many pages", make_many},
+    {"a large transaction", change_many},
     {"much in one go", hold_much},
     {"moves in memory", move_in_memory},
     {"a full heap", limit_heap},
@@ -447,10 +487,10 @@ static void run_all(outcome *into) {
 }
 
 /* Prints what came of the caches from `first` to `last`, side by side, and answers how many loads went wrong: those with
-** other answers, and those after which SQLite has more memory than a quarter of a MB beside one and a half times what it has
-** over its own cache. */
+** other answers, and those after which SQLite has more memory than half a MB beside one and a half times what it has over its own
+** cache. (A transaction of 40 MB has 10,000 pages, with numbers for which the proved side takes 0.72 MB.) */
 static int tell(int first, int last) {
-    int wrong = 0;
+    int others = 0, large = 0;
     double seconds[2] = {0, 0};
     printf("%-20s %-16s", "load", "answers");
     for (int i = 0; i < 3; i++)
@@ -459,8 +499,9 @@ static int tell(int first, int last) {
     printf("\n");
     for (int at = 0; at < loads; at++) {
         const outcome *one = &done[first][at], *two = &done[last][at];
-        int is_same = one->answers == two->answers, is_large = two->bytes > one->bytes + one->bytes / 2 + 250000;
-        wrong += !is_same + is_large;
+        int is_same = one->answers == two->answers, is_large = two->bytes > one->bytes + one->bytes / 2 + 500000;
+        others += !is_same;
+        large += is_large;
         printf("%-20s %016llx", one->name, (unsigned long long)one->answers);
         for (int of = first; of <= last; of++) printf(" %10d", done[of][at].misses);
         for (int of = first; of <= last; of++) printf(" %10.1f", done[of][at].seconds * 1e3);
@@ -468,11 +509,11 @@ static int tell(int first, int last) {
         for (int of = first; of <= last; of++) seconds[of] += done[of][at].seconds;
         printf("%s%s\n", is_same ? "" : "  OTHER ANSWERS", is_large ? "  TOO MUCH MEMORY" : "");
     }
-    printf("%-20s %-16s %10s", "all", first == last ? "" : wrong ? "differ" : "the same", "");
+    printf("%-20s %-16s %10s", "all", first == last ? "" : others ? "differ" : "the same", "");
     if (first != last) printf(" %10s", "");
     for (int of = first; of <= last; of++) printf(" %10.1f", seconds[of] * 1e3);
     printf("\n");
-    return wrong;
+    return others + large;
 }
 
 /* ---- memory that is refused */

@@ -5,11 +5,13 @@
 ** its own that has the handle in it, so that C sees a pointer, and answers and errors are told apart. The test .ci/header
 ** compares what is declared here with the code of crates/pp_cache_c. */
 #include "pinpool_cache.h"
+#include <stdbool.h>
 #include <stdlib.h>
 #include <string.h>
 
+/* Who builds this over a library that was proved says so (the Makefile and `run` do, where they have seen it). */
 #ifndef PINPOOL_CACHE_IS
-#define PINPOOL_CACHE_IS "proved"
+#define PINPOOL_CACHE_IS "unproved"
 #endif
 
 /* ---- the proved side */
@@ -50,188 +52,248 @@ uint32_t pinpool_handle_pages(handle *handle);
 uint32_t pinpool_handle_counts(handle *handle, counts *counts);
 uint32_t pinpool_handle_next(handle *handle, uint32_t from, uint32_t *key);
 
+/* A place is written where C has its page: the two have these fields alike. */
+#define IS_LIKE(field) (offsetof(pinpool_page, field) == offsetof(pinpool_page, frame) + offsetof(place, field))
+_Static_assert(IS_LIKE(frame) && IS_LIKE(left_key) && IS_LIKE(left_frame), "a page has a place in it");
+_Static_assert(sizeof(pinpool_page) == offsetof(pinpool_page, frame) + sizeof(place), "a page ends with its place");
+
 struct pinpool_cache {
     handle held;
+    pinpool_memory memory; /* where its blocks come from, and this one */
+    uint32_t busy;         /* how many of these functions are under way for it, and one more while it is freed */
     uint64_t hits, misses, left, bytes;
 };
 
 /* ---- memory */
 
 static const pinpool_memory of_c = {malloc, realloc, free};
+
+/* Where the caches that are made from now on take their memory from. */
 static pinpool_memory memory = {malloc, realloc, free};
 
-/* The cache that a call is made on: what the proved side takes meanwhile is this one's. */
-static _Thread_local pinpool_cache *current;
+/* The proved side's allocator is asked for so many bytes, and isn't told for which cache. So each call names its cache here, which is
+** looked at within a call alone. A block that is there already names its cache itself. */
+static _Thread_local pinpool_cache *asking;
 
-/* Before each block of the proved side stands its size. */
+/* What stands before each block of the proved side. */
 typedef struct block {
-    uint64_t bytes, unused;
+    uint64_t bytes;
+    pinpool_cache *owner;
 } block;
 
-/* What the proved side's allocator is asked and answers (the kit's liblibc_c.a has it over malloc). */
+/* What is behind it is at 8 bytes, as what `get` answers. */
+enum { ALIGNMENT = 8 };
+_Static_assert(sizeof(block) % ALIGNMENT == 0, "a block begins at 8 bytes");
+
+/* What the proved side's allocator is asked and answers (the kit's liblibc_c.a has it over malloc). `at` is some byte where there
+** is no memory, and says nothing. */
 typedef struct tried {
-    uint64_t is_there;
+    bool is_there;
     void *at;
 } tried;
+_Static_assert(sizeof(tried) == 2 * sizeof(void *) && offsetof(tried, at) == sizeof(void *), "as Tried of the kit's types.rt");
+
 tried rattle_alloc(size_t bytes, size_t align);
 tried rattle_realloc(void *at, size_t old_bytes, size_t bytes, size_t align);
 void rattle_dealloc(void *at);
 
-static tried given(block *b, uint64_t bytes, uint64_t before) {
-    tried answer = {0, &current}; /* some address: it says nothing */
-    if (!b) return answer;
-    b->bytes = bytes;
-    if (current) current->bytes += bytes - before;
-    answer.is_there = 1;
-    answer.at = b + 1;
+static tried refused(void) {
+    static char some;
+    tried answer = {false, &some};
     return answer;
 }
 
-tried rattle_alloc(size_t bytes, size_t align) {
-    (void)align; /* 8 at most */
-    if (bytes > SIZE_MAX - sizeof(block)) return given(0, 0, 0);
-    return given(memory.get(sizeof(block) + bytes), sizeof(block) + bytes, 0);
+/* The block is the cache's, and has so many bytes; before it had others. */
+static tried given(pinpool_cache *owner, block *b, uint64_t bytes, uint64_t before) {
+    tried answer = {true, b + 1};
+    b->bytes = bytes;
+    b->owner = owner;
+    owner->bytes += bytes - before;
+    return answer;
 }
 
+/* Whether a block can't be had, whoever is asked: the bytes before it can't be added, or it wants to stand at more than 8 bytes.
+** (No type of the proved side does.) */
+static bool is_too_much(size_t bytes, size_t align) { return bytes > SIZE_MAX - sizeof(block) || align > ALIGNMENT; }
+
+/* One of the host's functions is about to run for the cache. A call from within it is refused on this cache, and may be made on another
+** one, which then asks. So it answers who asks now. */
+static pinpool_cache *to_host(pinpool_cache *owner) {
+    owner->busy++;
+    return asking;
+}
+
+/* That function has run. */
+static void from_host(pinpool_cache *owner, pinpool_cache *who_asks) {
+    owner->busy--;
+    asking = who_asks;
+}
+
+tried rattle_alloc(size_t bytes, size_t align) {
+    pinpool_cache *owner = asking;
+    if (!owner || is_too_much(bytes, align)) return refused();
+    pinpool_cache *who_asks = to_host(owner);
+    block *b = owner->memory.get(sizeof(block) + bytes);
+    from_host(owner, who_asks);
+    return b ? given(owner, b, sizeof(block) + bytes, 0) : refused();
+}
+
+/* As realloc, it keeps more than the `old_bytes` that it is to keep, and where it fails the block is as it was. */
 tried rattle_realloc(void *at, size_t old_bytes, size_t bytes, size_t align) {
     (void)old_bytes;
-    (void)align;
-    if (bytes > SIZE_MAX - sizeof(block)) return given(0, 0, 0);
+    if (is_too_much(bytes, align)) return refused();
     block *b = (block *)at - 1;
+    pinpool_cache *owner = b->owner;
     uint64_t before = b->bytes;
-    return given(memory.resize(b, sizeof(block) + bytes), sizeof(block) + bytes, before);
+    pinpool_cache *who_asks = to_host(owner);
+    b = owner->memory.resize(b, sizeof(block) + bytes);
+    from_host(owner, who_asks);
+    return b ? given(owner, b, sizeof(block) + bytes, before) : refused();
 }
 
 void rattle_dealloc(void *at) {
     block *b = (block *)at - 1;
-    if (current) current->bytes -= b->bytes;
-    memory.give(b);
+    pinpool_cache *owner = b->owner;
+    owner->bytes -= b->bytes;
+    pinpool_cache *who_asks = to_host(owner);
+    owner->memory.give(b);
+    from_host(owner, who_asks);
 }
 
 void pinpool_cache_memory(const pinpool_memory *from) { memory = from ? *from : of_c; }
+
+/* ---- a call */
+
+/* Begins a call on the cache that has somewhere to put its answers. From within get, resize or give none may begin on the same
+** cache: another one is under way there, and the proved side has taken that cache out of its handle. */
+static inline pinpool_status begin(pinpool_cache *cache, bool has_answers) {
+    if (!cache) return PINPOOL_NO_CACHE;
+    if (cache->busy) return PINPOOL_BUSY;
+    if (!has_answers) return PINPOOL_BAD_ARGUMENT;
+    asking = cache;
+    return PINPOOL_OK;
+}
+
+/* The error that the proved side answered so. It answers NO_CACHE for a null handle, which begin() keeps out. */
+static pinpool_status error_of(uint32_t answer, uint32_t key) {
+    switch (answer) {
+    case NO_ROOM: return key < PINPOOL_KEYS ? PINPOOL_NO_MEMORY : PINPOOL_BAD_KEY;
+    case BAD_ARGUMENT: return PINPOOL_BAD_ARGUMENT;
+    default: return PINPOOL_BUSY;
+    }
+}
+
+/* How a call went that the proved side answered so. */
+static inline pinpool_status status_of(uint32_t answer, uint32_t key) {
+    return answer <= NOTHING ? PINPOOL_OK : error_of(answer, key);
+}
+
+static const pinpool_page nowhere = {PINPOOL_NOTHING, 0, PINPOOL_NO_KEY, 0};
 
 /* ---- the calls */
 
 const char *pinpool_cache_version(void) { return PINPOOL_CACHE_VERSION " " PINPOOL_CACHE_IS; }
 
-static pinpool_status of_room(uint32_t key) { return key < PINPOOL_KEYS ? PINPOOL_NO_MEMORY : PINPOOL_BAD_KEY; }
-
-static void found(pinpool_page *page, pinpool_found found, uint32_t frame) {
-    page->found = found;
-    page->frame = frame;
-    page->left_key = PINPOOL_NO_KEY;
-    page->left_frame = 0;
-}
-
 pinpool_status pinpool_cache_new(uint32_t size, pinpool_cache **cache) {
     if (!cache) return PINPOOL_BAD_ARGUMENT;
     *cache = 0;
     if (!size) return PINPOOL_BAD_ARGUMENT;
-    pinpool_cache *c = memory.get(sizeof *c);
+    pinpool_memory from = memory; /* (get may name others) */
+    pinpool_cache *c = from.get(sizeof *c);
     if (!c) return PINPOOL_NO_MEMORY;
     memset(c, 0, sizeof *c);
+    c->memory = from;
     c->bytes = sizeof *c;
-    current = c;
-    if (pinpool_handle_new(&c->held, size) != DONE) {
-        memory.give(c);
-        return PINPOOL_NO_MEMORY;
+    asking = c;
+    uint32_t answer = pinpool_handle_new(&c->held, size);
+    if (answer != DONE) {
+        from.give(c);
+        return status_of(answer, 0);
     }
     *cache = c;
     return PINPOOL_OK;
 }
 
 void pinpool_cache_free(pinpool_cache *cache) {
-    if (!cache) return;
-    current = cache;
+    if (begin(cache, true) != PINPOOL_OK) return;
+    cache->busy++;
     pinpool_handle_drop(&cache->held);
-    current = 0;
-    memory.give(cache);
+    cache->memory.give(cache);
 }
 
-pinpool_status pinpool_cache_fetch(pinpool_cache *cache, uint32_t key, pinpool_create create, pinpool_page *page) {
-    place at;
-    if (!cache) return PINPOOL_NO_CACHE;
-    if (!page) return PINPOOL_BAD_ARGUMENT;
-    current = cache;
-    switch (pinpool_handle_fetch(&cache->held, key, (uint32_t)create, &at)) {
-    case HIT:
+/* (inline, as unpin is: so a compiler that sees the whole program puts them into the calls) */
+inline pinpool_status pinpool_cache_fetch(pinpool_cache *cache, uint32_t key, pinpool_create create, pinpool_page *page) {
+    if (page) *page = nowhere;
+    pinpool_status status = begin(cache, page);
+    if (status != PINPOOL_OK) return status;
+    uint32_t answer = pinpool_handle_fetch(&cache->held, key, (uint32_t)create, (place *)(void *)&page->frame);
+    if (answer == HIT) {
         cache->hits++;
-        found(page, PINPOOL_HIT, at.frame);
+        page->found = PINPOOL_HIT;
         return PINPOOL_OK;
-    case NEW:
-        cache->misses++;
-        cache->left += at.left_key != PINPOOL_NO_KEY;
-        page->found = PINPOOL_NEW;
-        page->frame = at.frame;
-        page->left_key = at.left_key;
-        page->left_frame = at.left_frame;
-        return PINPOOL_OK;
-    case NOTHING:
-        found(page, PINPOOL_NOTHING, 0);
-        return PINPOOL_OK;
-    case NO_ROOM:
-        found(page, PINPOOL_NOTHING, 0);
-        return of_room(key);
-    case NO_CACHE:
-        found(page, PINPOOL_NOTHING, 0);
-        return PINPOOL_NO_CACHE;
-    default:
-        found(page, PINPOOL_NOTHING, 0);
-        return PINPOOL_BAD_ARGUMENT;
     }
+    if (answer == NEW) {
+        cache->misses++;
+        cache->left += page->left_key != PINPOOL_NO_KEY;
+        page->found = PINPOOL_NEW;
+    }
+    return status_of(answer, key);
 }
 
 pinpool_status pinpool_cache_find(pinpool_cache *cache, uint32_t key, pinpool_page *page) {
-    uint32_t frame = 0;
-    if (!cache) return PINPOOL_NO_CACHE;
-    if (!page) return PINPOOL_BAD_ARGUMENT;
-    uint32_t answer = pinpool_handle_frame(&cache->held, key, &frame);
-    found(page, answer == HIT ? PINPOOL_HIT : PINPOOL_NOTHING, frame);
-    return PINPOOL_OK;
+    if (page) *page = nowhere;
+    pinpool_status status = begin(cache, page);
+    if (status != PINPOOL_OK) return status;
+    uint32_t answer = pinpool_handle_frame(&cache->held, key, &page->frame);
+    if (answer == HIT) page->found = PINPOOL_HIT;
+    return status_of(answer, 0);
 }
 
-pinpool_status pinpool_cache_unpin(pinpool_cache *cache, uint32_t key, int discard, int *stays) {
-    if (!cache) return PINPOOL_NO_CACHE;
-    uint32_t answer = pinpool_handle_unpin(&cache->held, key, discard != 0);
-    if (stays) *stays = answer == DONE;
-    return PINPOOL_OK;
+inline pinpool_status pinpool_cache_unpin(pinpool_cache *cache, uint32_t key, int discard, int *stays) {
+    if (stays) *stays = 1;
+    pinpool_status status = begin(cache, true);
+    if (status != PINPOOL_OK) return status;
+    uint32_t answer = pinpool_handle_unpin(&cache->held, key, (uint32_t)discard);
+    if (stays) *stays = answer != NOTHING;
+    return status_of(answer, 0);
 }
 
 pinpool_status pinpool_cache_reserve(pinpool_cache *cache, uint32_t key) {
-    if (!cache) return PINPOOL_NO_CACHE;
-    current = cache;
-    return pinpool_handle_reserve(&cache->held, key) == DONE ? PINPOOL_OK : of_room(key);
+    pinpool_status status = begin(cache, true);
+    if (status != PINPOOL_OK) return status;
+    uint32_t answer = pinpool_handle_reserve(&cache->held, key);
+    return status_of(answer, key);
 }
 
 pinpool_status pinpool_cache_rekey(pinpool_cache *cache, uint32_t from, uint32_t to) {
-    if (!cache) return PINPOOL_NO_CACHE;
-    current = cache;
-    return pinpool_handle_rekey(&cache->held, from, to) == DONE ? PINPOOL_OK : of_room(to);
+    pinpool_status status = begin(cache, true);
+    if (status != PINPOOL_OK) return status;
+    uint32_t answer = pinpool_handle_rekey(&cache->held, from, to);
+    return status_of(answer, to);
 }
 
 pinpool_status pinpool_cache_truncate(pinpool_cache *cache, uint32_t limit) {
-    if (!cache) return PINPOOL_NO_CACHE;
-    pinpool_handle_truncate(&cache->held, limit);
-    return PINPOOL_OK;
+    pinpool_status status = begin(cache, true);
+    return status == PINPOOL_OK ? status_of(pinpool_handle_truncate(&cache->held, limit), 0) : status;
 }
 
 pinpool_status pinpool_cache_shrink(pinpool_cache *cache) {
-    if (!cache) return PINPOOL_NO_CACHE;
-    pinpool_handle_shrink(&cache->held);
-    return PINPOOL_OK;
+    pinpool_status status = begin(cache, true);
+    return status == PINPOOL_OK ? status_of(pinpool_handle_shrink(&cache->held), 0) : status;
 }
 
 pinpool_status pinpool_cache_resize(pinpool_cache *cache, uint32_t size) {
-    if (!cache) return PINPOOL_NO_CACHE;
-    return pinpool_handle_resize(&cache->held, size) == DONE ? PINPOOL_OK : PINPOOL_BAD_ARGUMENT;
+    pinpool_status status = begin(cache, true);
+    return status == PINPOOL_OK ? status_of(pinpool_handle_resize(&cache->held, size), 0) : status;
 }
 
 pinpool_status pinpool_cache_counts(pinpool_cache *cache, pinpool_counts *into) {
-    counts has;
-    if (!cache) return PINPOOL_NO_CACHE;
-    if (!into) return PINPOOL_BAD_ARGUMENT;
-    memset(&has, 0, sizeof has);
-    pinpool_handle_counts(&cache->held, &has);
+    counts has = {0, 0, 0, 0, 0};
+    if (into) memset(into, 0, sizeof *into);
+    pinpool_status status = begin(cache, into);
+    if (status != PINPOOL_OK) return status;
+    uint32_t answer = pinpool_handle_counts(&cache->held, &has);
+    if (answer != DONE) return status_of(answer, 0);
     into->size = has.size;
     into->pages = has.pages;
     into->pinned = has.pinned;
@@ -245,13 +307,15 @@ pinpool_status pinpool_cache_counts(pinpool_cache *cache, pinpool_counts *into) 
 }
 
 pinpool_status pinpool_cache_next(pinpool_cache *cache, uint32_t from, uint32_t *key, pinpool_page *page) {
-    uint32_t next = 0, frame = 0;
-    if (!cache) return PINPOOL_NO_CACHE;
-    if (!key || !page) return PINPOOL_BAD_ARGUMENT;
-    found(page, PINPOOL_NOTHING, 0);
-    if (pinpool_handle_next(&cache->held, from, &next) == HIT && pinpool_handle_frame(&cache->held, next, &frame) == HIT) {
+    uint32_t next = 0;
+    if (page) *page = nowhere;
+    pinpool_status status = begin(cache, key && page);
+    if (status != PINPOOL_OK) return status;
+    uint32_t answer = pinpool_handle_next(&cache->held, from, &next);
+    if (answer == HIT) answer = pinpool_handle_frame(&cache->held, next, &page->frame);
+    if (answer == HIT) {
         *key = next;
-        found(page, PINPOOL_HIT, frame);
+        page->found = PINPOOL_HIT;
     }
-    return PINPOOL_OK;
+    return status_of(answer, 0);
 }

@@ -27,24 +27,29 @@ typedef struct bytes {
     uint32_t key;
     uint32_t frame;
     uint32_t fetches; /* since it was unpinned */
-    uint32_t unused;  /* so that the page begins at 16 bytes */
+    uint32_t unused;  /* so that the page begins at 8 bytes, where a pointer has 4, too */
 } bytes;
+_Static_assert(sizeof(bytes) % 8 == 0, "SQLite wants its pages at 8 bytes");
 
 typedef struct cache {
     pinpool_cache *held;
-    size_t page_bytes, extra_bytes;
-    int is_purgeable;
-    int keeps_none;     /* SQLite asked for a size of 0, and a cache has 1 at least */
-    int is_squeezed;    /* the heap was nearly full, and the cache is smaller than `size` */
-    int is_broken;      /* a page couldn't get its number: then each fetch fails (see rekey) */
-    uint32_t size;      /* the size that SQLite asked for */
-    uint32_t lock_page; /* the page at the pending byte, which SQLite never stores */
-    uint32_t greatest;  /* no page has a greater key */
-    uint32_t keys;      /* there is room for the keys below this one */
-    uint32_t frames;    /* how many places there are in by_frame */
-    uint32_t blocks;    /* how many of these have bytes */
     bytes **by_frame;
+    uint32_t lock_page; /* the page at the pending byte, which SQLite never stores */
+    uint32_t below;     /* for keys below this one there is room, and for the one behind each */
+    uint32_t blocks;    /* how many places of by_frame have bytes, and so how many pages are in frames */
+    uint32_t pinned;    /* how many of these pages SQLite uses */
+    uint32_t full;      /* with so many pages the cache is full: `size`, or more than any where it is squeezed (see may_come) */
+    int is_broken;      /* a page couldn't get its number: then each fetch fails (see rekey) */
+    int keeps_none;     /* SQLite asked for a size of 0, and a cache has 1 at least */
+    int is_purgeable;
+    uint32_t size;      /* the size that SQLite asked for */
+    uint32_t greatest;  /* no page has a greater key */
+    uint32_t frames;    /* how many places there are in by_frame */
+    size_t page_bytes, extra_bytes;
 } cache;
+
+/* `full` of a cache that is squeezed. */
+#define NEVER_FULL UINT32_MAX
 
 /* SQLite numbers its pages from 1. While it sorts the pages of a balance it gives one of them the number of the page at the
 ** pending byte, at 1 GB of the file. Here this is key 0, since memory grows with the greatest key. */
@@ -65,9 +70,9 @@ static pinpool_counts counts_of(const cache *c) {
 
 /* Makes room for the key and the one behind it, so that no later rekey to these is refused. */
 static int has_room(cache *c, uint32_t key) {
-    if (key + 1 < c->keys) return 1;
+    if (key < c->below) return 1;
     if (pinpool_cache_reserve(c->held, key + 1) != PINPOOL_OK) return 0;
-    c->keys = counts_of(c).keys;
+    c->below = counts_of(c).keys - 1;
     return 1;
 }
 
@@ -79,7 +84,7 @@ static sqlite3_pcache *create(int page_bytes, int extra_bytes, int is_purgeable)
     c->extra_bytes = (size_t)extra_bytes;
     c->is_purgeable = is_purgeable;
     c->lock_page = (uint32_t)sqlite3PendingByte / (unsigned)page_bytes + 1;
-    c->size = 1;
+    c->size = c->full = 1;
     /* SQLite tells the size before its first fetch. All pages of an unpurgeable cache stay pinned, whatever the size. */
     if (pinpool_cache_new(1, &c->held) != PINPOOL_OK) {
         sqlite3_free(c);
@@ -98,7 +103,9 @@ static void give_back(cache *c, uint32_t frame) {
 
 /* Gives back the bytes of each frame that has no page, where pages have left since there were so many. */
 static void sweep(cache *c, uint32_t pages_before) {
-    if (counts_of(c).pages == pages_before) return;
+    pinpool_counts counts = counts_of(c);
+    c->pinned = counts.pinned;
+    if (counts.pages == pages_before) return;
     for (uint32_t at = 0; at < c->frames; at++) {
         pinpool_page page;
         bytes *b = c->by_frame[at];
@@ -121,8 +128,7 @@ static void cache_size(sqlite3_pcache *p, int pages) {
     c->keeps_none = pages < 1;
     if (pages < 1) pages = 1;
     if (pages > MOST_PAGES) pages = MOST_PAGES;
-    c->size = (uint32_t)pages;
-    c->is_squeezed = 0;
+    c->size = c->full = (uint32_t)pages;
     resize(c, c->size);
 }
 
@@ -135,13 +141,13 @@ static int heap_is_nearly_full(const cache *c) {
 }
 
 /* Before a page comes in: where the heap is nearly full, it takes the place of another one that nobody has pinned, as in
-** SQLite's own cache. For that the cache is of as many pages as it has, until the heap has room again. False where the page
-** may not come in. */
+** SQLite's own cache. For that the cache is squeezed: it is of as many pages as it has, until the heap has room again. False where
+** the page may not come in. */
 static int may_come(cache *c, int way) {
     if (!c->is_purgeable || c->keeps_none) return 1;
     if (!heap_is_nearly_full(c)) {
-        if (c->is_squeezed) pinpool_cache_resize(c->held, c->size);
-        c->is_squeezed = 0;
+        if (c->full == NEVER_FULL) pinpool_cache_resize(c->held, c->size);
+        c->full = c->size;
         return 1;
     }
     pinpool_counts counts = counts_of(c);
@@ -149,7 +155,7 @@ static int may_come(cache *c, int way) {
     if (way == PINPOOL_IF_ROOM && idle < counts.pinned) return 0;
     if (idle && counts.pages < counts.size) {
         pinpool_cache_resize(c->held, counts.pages);
-        c->is_squeezed = 1;
+        c->full = NEVER_FULL;
     }
     return 1;
 }
@@ -185,38 +191,45 @@ static bytes *filled(cache *c, uint32_t key, const pinpool_page *page) {
         return 0;
     }
     if (key > c->greatest) c->greatest = key;
+    c->pinned++;
     b->key = key;
     b->fetches = 1;
-    memset(b->page.pExtra, 0, c->extra_bytes);
+    *(void **)b->page.pExtra = 0; /* by which SQLite sees that the page is new: its own cache clears no more */
     return b;
 }
 
-/* Brings in a page that is in no frame; none where it may not be, or memory can't be had. */
-static bytes *bring_in(cache *c, uint32_t key, int way) {
-    pinpool_page page;
-    if (!may_come(c, way) || !has_room(c, key)) return 0;
-    if (pinpool_cache_fetch(c->held, key, (pinpool_create)way, &page) != PINPOOL_OK || page.found != PINPOOL_NEW) return 0;
-    return filled(c, key, &page);
+/* Whether a fetch can be passed on as it is, since bring_in would do no more: there is room for the key, and may_come would answer
+** that the page may come, and leave the cache's size. That one only asks for the heap where the cache isn't full, where it was
+** squeezed before, or where fewer pages are idle than in use. So in a full cache a miss is one call, and no look at the heap. */
+static inline int comes_at_once(const cache *c, uint32_t key, int way) {
+    return way != PINPOOL_NEVER && key < c->below && c->blocks >= c->full &&
+           (way == PINPOOL_ALWAYS || c->blocks - c->pinned >= c->pinned);
 }
 
-/* Whether a page that comes in takes no memory but that of a page that leaves: there is room for its key, and the cache is
-** full. */
-static int takes_nothing(const cache *c, uint32_t key) { return key + 1 < c->keys && c->blocks > c->size && !c->is_squeezed; }
+/* Brings in a page that is in no frame, or answers where it was brought in at once. None where it may not be, or memory can't be
+** had. */
+static bytes *bring_in(cache *c, uint32_t key, int way, pinpool_page *page) {
+    if (page->found == PINPOOL_NEW) return filled(c, key, page);
+    if (comes_at_once(c, key, way) || !may_come(c, way) || !has_room(c, key)) return 0;
+    if (pinpool_cache_fetch(c->held, key, (pinpool_create)way, page) != PINPOOL_OK || page->found != PINPOOL_NEW) return 0;
+    return filled(c, key, page);
+}
 
 static sqlite3_pcache_page *fetch(sqlite3_pcache *p, unsigned number, int way) {
     cache *c = (cache *)p;
     pinpool_page page;
     uint32_t key = key_of(c, number);
-    int is_asked = way != PINPOOL_NEVER && takes_nothing(c, key);
     if (c->is_broken) return 0;
-    if (pinpool_cache_fetch(c->held, key, is_asked ? (pinpool_create)way : PINPOOL_NEVER, &page) != PINPOOL_OK) return 0;
+    pinpool_create at_once = comes_at_once(c, key, way) ? (pinpool_create)way : PINPOOL_NEVER;
+    if (pinpool_cache_fetch(c->held, key, at_once, &page) != PINPOOL_OK) return 0;
     if (page.found == PINPOOL_HIT) {
-        c->by_frame[page.frame]->fetches++;
-        return &c->by_frame[page.frame]->page;
+        bytes *b = c->by_frame[page.frame];
+        c->pinned += !b->fetches++;
+        return &b->page;
     }
-    if (way == PINPOOL_NEVER || (is_asked && page.found == PINPOOL_NOTHING)) return 0;
+    if (way == PINPOOL_NEVER) return 0;
     if (way == PINPOOL_IF_ROOM) sqlite3BeginBenignMalloc();
-    bytes *b = is_asked ? filled(c, key, &page) : bring_in(c, key, way);
+    bytes *b = bring_in(c, key, way, &page);
     if (way == PINPOOL_IF_ROOM) sqlite3EndBenignMalloc();
     return b ? &b->page : 0;
 }
@@ -227,9 +240,10 @@ static void unpin(sqlite3_pcache *p, sqlite3_pcache_page *page, int discard) {
     cache *c = (cache *)p;
     bytes *b = (bytes *)page;
     pinpool_page again;
-    int leaves = discard || c->keeps_none, stays = 0;
+    int leaves = discard | c->keeps_none, stays = 0;
     uint32_t fetches = b->fetches;
     b->fetches = 0;
+    c->pinned--;
     pinpool_cache_unpin(c->held, b->key, leaves, &stays);
     if (!stays) {
         give_back(c, b->frame);
@@ -242,25 +256,33 @@ static void unpin(sqlite3_pcache *p, sqlite3_pcache_page *page, int discard) {
 
 /* SQLite gives a page the number of another one, of the page at the pending byte, or the one behind its last. There is room
 ** for each of these (has_room), and then a rekey isn't refused. If it were, SQLite couldn't hear of it: so no page of this
-** cache is given out or gets a number any more, and SQLite is out of memory. (What had the number is dropped, if SQLite hasn't
-** done so before; its bytes stay with its frame.) */
+** cache is given out or gets a number any more, none is dropped by its number, and SQLite is out of memory. What had the number is
+** dropped, if SQLite hasn't done so before, pinned or not, and its bytes are given back. */
 static void rekey(sqlite3_pcache *p, sqlite3_pcache_page *page, unsigned from, unsigned to) {
     cache *c = (cache *)p;
-    uint32_t key = key_of(c, to);
-    if (c->is_broken) return;
-    if (pinpool_cache_rekey(c->held, key_of(c, from), key) != PINPOOL_OK) {
+    uint32_t key = key_of(c, to), before = key_of(c, from);
+    pinpool_page other;
+    if (c->is_broken || key == before) return;
+    int is_there = pinpool_cache_find(c->held, key, &other) == PINPOOL_OK && other.found == PINPOOL_HIT;
+    if (pinpool_cache_rekey(c->held, before, key) != PINPOOL_OK) {
         c->is_broken = 1;
         sqlite3_log(SQLITE_NOMEM, "pinpool: page %u can't be page %u", from, to);
         return;
+    }
+    if (is_there) {
+        c->pinned -= c->by_frame[other.frame]->fetches > 0;
+        give_back(c, other.frame);
     }
     if (key > c->greatest) c->greatest = key;
     ((bytes *)page)->key = key;
 }
 
-/* SQLite truncates after each transaction, and mostly nothing is there to drop. */
+/* SQLite truncates after each transaction, and mostly nothing is there to drop. Key 0, the page at the pending byte, stays unless
+** the limit is 0, since it is below each other limit. That does no harm: SQLite has that page only while it balances, and drops
+** it itself. Where a page couldn't get its number, its key may be beyond the limit and its number not, so nothing is dropped. */
 static void truncate_from(sqlite3_pcache *p, unsigned limit) {
     cache *c = (cache *)p;
-    if (limit > c->greatest) return;
+    if (c->is_broken || limit > c->greatest) return;
     uint32_t before = counts_of(c).pages;
     pinpool_cache_truncate(c->held, limit);
     c->greatest = limit ? limit - 1 : 0;
@@ -292,6 +314,7 @@ static void *resize_block(void *at, size_t bytes_wanted) { return sqlite3_reallo
 static const pinpool_memory of_sqlite = {get, resize_block, sqlite3_free};
 
 int pinpool_for_sqlite(void) {
-    pinpool_cache_memory(&of_sqlite);
-    return sqlite3_config(SQLITE_CONFIG_PCACHE2, &pinpool_methods);
+    int status = sqlite3_config(SQLITE_CONFIG_PCACHE2, &pinpool_methods);
+    if (status == SQLITE_OK) pinpool_cache_memory(&of_sqlite);
+    return status;
 }
