@@ -1,176 +1,156 @@
-//! The answers to questions.
+//! The answers to questions, each as the program would end with it.
 
-use crate::row::Question;
+use crate::row::{Question, Row};
 use pp_format::{Nobody, format_onto};
-use pp_judge::{
-    AnnotateFiles, AuditFiles, CheckFiles, Contents, Exit, JudgeError, SimulateFiles, device_size,
-    exit_of,
-};
+use pp_judge::{DeviceSize, Exit, JudgeError, device_size, exit_of};
 use pp_plan::{Plan, PlanError};
+use pp_report::Line;
 use pp_script::{Script, ScriptError};
 use pp_settings::{Settings, SettingsError};
-use std::alloc::Global;
-use std::str;
+use std::alloc::{AllocError, Global};
+use std::{io, str};
 
-/// The answer to the question, without a line feed.
-pub fn answer_to(alloc: Global, question: Question, texts: &[Vec<u8>]) -> anyhow::Result<String> {
-    let answer = match (question, texts) {
-        (Question::Settings, [settings]) => settings_answer(alloc, settings)?,
-        (Question::Plan, [settings, plan]) => plan_answer(alloc, settings, plan)?,
-        (Question::Check, [settings, plan, certificate]) => {
-            let files = CheckFiles {
-                settings,
-                plan,
-                certificate,
-            };
-            format!(in alloc; "{}", exit_of(alloc, Contents::Check(files)))?
+/// The answer to the row.
+pub fn answer_to(alloc: Global, row: &Row<'_>) -> Exit<'static> {
+    match row.contents() {
+        Some(contents) => exit_of(alloc, contents),
+        None => text_answer(alloc, row.question, &row.texts),
+    }
+}
+
+/// The answer to a question that is no command of the program. What is asked of a run that stops has none.
+fn text_answer(alloc: Global, question: Question, texts: &[Vec<u8>]) -> Exit<'static> {
+    match (question, texts) {
+        (Question::Settings, [settings]) => settings_answer(alloc, settings),
+        (Question::Plan, [settings, plan]) => plan_answer(alloc, settings, plan),
+        (Question::Script, [script]) => script_answer(alloc, script),
+        (Question::Format, [settings]) => format_answer(alloc, settings),
+        (Question::Mismatch | Question::Broken | Question::NoThread | Question::Repeated, _) =>
+            Exit::Kept,
+        _ => Exit::Wordless,
+    }
+}
+
+/// The verdict on the row's journal, of a refusal with its words for people.
+pub fn verdict_on(alloc: Global, row: &Row<'_>) -> Exit<'static> {
+    match answer_to(alloc, row) {
+        Exit::Refused(JudgeError::Audit(error)) => {
+            let refusal = error.refusal();
+            made(format!(in alloc; "refused {refusal} ({error})"))
         }
-        (Question::Annotate, [settings, plan]) => {
-            let files = AnnotateFiles { settings, plan };
-            format!(in alloc; "{}", exit_of(alloc, Contents::Annotate(files)))?
-        }
-        (Question::Script, [script]) => script_answer(alloc, script)?,
-        (Question::Simulate, [settings, script, plans @ ..]) => {
-            let files = SimulateFiles {
-                settings,
-                script,
-                plans,
-            };
-            format!(in alloc; "{}", exit_of(alloc, Contents::Simulate(files)))?
-        }
-        (Question::Audit, [settings, journal, plans @ ..]) => {
-            let files = AuditFiles {
-                settings,
-                journal,
-                plans,
-            };
-            format!(in alloc; "{}", exit_of(alloc, Contents::Audit(files)))?
-        }
-        (Question::AuditLives, [settings, journal, plans @ ..]) => {
-            let files = AuditFiles {
-                settings,
-                journal,
-                plans,
-            };
-            format!(in alloc; "{}", exit_of(alloc, Contents::AuditLives(files)))?
-        }
-        (Question::Format, [settings]) => format_answer(alloc, settings)?,
-        _ => anyhow::bail!("the row has too few texts or too many"),
+        exit => exit,
+    }
+}
+
+/// Whether the text is a line of a journal.
+pub fn is_a_line(alloc: Global, text: &str) -> Exit<'static> {
+    let read = match Line::from_text(text) {
+        Some(_) => "a line",
+        None => "no line",
     };
-    let line = answer.as_str();
-    Ok(String::from_str(alloc, line.strip_suffix("\n").unwrap_or(line))?)
+    made(String::from_str(alloc, read))
 }
 
 /// The figures of the settings, or the refusal.
-fn settings_answer(alloc: Global, bytes: &[u8]) -> anyhow::Result<String> {
+fn settings_answer(alloc: Global, bytes: &[u8]) -> Exit<'static> {
     match settings_in(alloc, bytes) {
-        Ok(settings) => {
-            let (frames, page_bytes) = (settings.frames(), settings.page_bytes());
-            let (workers, flushes) = (settings.workers(), settings.flushes());
-            let (regions, pages) = (settings.layout().extents().len(), settings.pages());
-            Ok(format!(in alloc;
-                "settings frames {frames} page_bytes {page_bytes} workers {workers} flushes {flushes} \
-                regions {regions} pages {pages}"
-            )?)
-        }
-        Err(refusal) => Ok(format!(in alloc; "{refusal}")?),
+        Ok(settings) => made(figures(alloc, &settings)),
+        Err(error) => Exit::from(JudgeError::Settings(error)),
     }
 }
 
 /// The settings of the bytes.
-fn settings_in(alloc: Global, bytes: &[u8]) -> Result<Settings, JudgeError> {
+fn settings_in(alloc: Global, bytes: &[u8]) -> Result<Settings, SettingsError> {
     match str::from_utf8(bytes) {
-        Ok(text) => Ok(Settings::from_text(alloc, text)?),
-        Err(_) => Err(JudgeError::Settings(SettingsError::NotToml)),
+        Ok(text) => Settings::from_text(alloc, text),
+        Err(_) => Err(SettingsError::NotToml),
+    }
+}
+
+/// The figures of the settings.
+fn figures(alloc: Global, settings: &Settings) -> Result<String, AllocError> {
+    let (frames, page_bytes) = (settings.frames(), settings.page_bytes());
+    let (workers, flushes) = (settings.workers(), settings.flushes());
+    let (regions, pages) = (settings.layout().extents().len(), settings.pages());
+    format!(in alloc;
+        "settings frames {frames} page_bytes {page_bytes} workers {workers} flushes {flushes} \
+        regions {regions} pages {pages}"
+    )
+}
+
+/// The answer of this text, without a line feed.
+pub fn made(text: Result<String, AllocError>) -> Exit<'static> {
+    match text {
+        Ok(text) => Exit::Made(text),
+        Err(AllocError) => Exit::OutOfMemory,
     }
 }
 
 /// The plan as it is written back, or the refusal.
-fn plan_answer(alloc: Global, settings: &[u8], plan: &[u8]) -> anyhow::Result<String> {
-    let settings = match settings_in(alloc, settings) {
-        Ok(settings) => settings,
-        Err(refusal) => return Ok(format!(in alloc; "{refusal}")?),
-    };
-    let Ok(text) = str::from_utf8(plan) else {
-        return Ok(format!(in alloc; "{}", JudgeError::Plan(PlanError::NotJson))?);
-    };
-    match Plan::from_text(alloc, &settings, text) {
-        Ok(plan) => Ok(plan.to_text(alloc, &settings)?),
-        Err(error) => Ok(format!(in alloc; "{}", JudgeError::Plan(error))?),
+fn plan_answer(alloc: Global, settings: &[u8], plan: &[u8]) -> Exit<'static> {
+    match settings_in(alloc, settings) {
+        Ok(settings) => match plan_text(alloc, &settings, plan) {
+            Ok(text) => Exit::Made(text),
+            Err(error) => Exit::from(JudgeError::Plan(error)),
+        },
+        Err(error) => Exit::from(JudgeError::Settings(error)),
     }
 }
 
-/// How many cues and troubles the script has, or the refusal.
-fn script_answer(alloc: Global, script: &[u8]) -> anyhow::Result<String> {
-    let Ok(text) = str::from_utf8(script) else {
-        return Ok(format!(in alloc; "{}", JudgeError::Script(ScriptError::NotACue(1)))?);
+/// The plan of the bytes, as it is written back.
+fn plan_text(alloc: Global, settings: &Settings, bytes: &[u8]) -> Result<String, PlanError> {
+    let Ok(text) = str::from_utf8(bytes) else {
+        return Err(PlanError::NotJson);
     };
-    match Script::from_text(alloc, text) {
+    let plan = Plan::from_text(alloc, settings, text)?;
+    plan.to_text(alloc, settings)
+}
+
+/// How many cues and troubles the script has, or the refusal.
+fn script_answer(alloc: Global, bytes: &[u8]) -> Exit<'static> {
+    match script_in(alloc, bytes) {
         Ok(script) => {
             let (cues, troubles) = script.into_parts();
-            Ok(format!(in alloc; "script cues {} troubles {}", cues.len(), troubles.len())?)
+            made(format!(in alloc; "script cues {} troubles {}", cues.len(), troubles.len()))
         }
-        Err(error) => Ok(format!(in alloc; "{}", JudgeError::Script(error))?),
+        Err(error) => Exit::from(JudgeError::Script(error)),
+    }
+}
+
+/// The script of the bytes.
+fn script_in(alloc: Global, bytes: &[u8]) -> Result<Script, ScriptError> {
+    match str::from_utf8(bytes) {
+        Ok(text) => Script::from_text(alloc, text),
+        Err(_) => Err(ScriptError::NotACue(1)),
     }
 }
 
 /// What is told of a device that is written anew, and behind it how long its file is and how its last page begins; or
 /// the refusal of the settings.
-fn format_answer(alloc: Global, settings: &[u8]) -> anyhow::Result<String> {
-    let size = match device_size(alloc, settings) {
-        Ok(size) => size,
-        Err(refusal) => return Ok(format!(in alloc; "{refusal}")?),
-    };
-    let page_bytes = size.page_bytes as usize;
+fn format_answer(alloc: Global, settings: &[u8]) -> Exit<'static> {
+    match device_size(alloc, settings) {
+        Ok(DeviceSize { pages, page_bytes }) => match format_text(alloc, pages, page_bytes) {
+            Ok(text) => Exit::Made(text),
+            Err(_) => Exit::OutOfMemory,
+        },
+        Err(refusal) => Exit::from(refusal),
+    }
+}
+
+/// The same of a device of these figures.
+fn format_text(alloc: Global, pages: u32, page_bytes: u32) -> io::Result<String> {
+    let long = page_bytes.max(12) as usize;
     let mut file = Vec::new(alloc);
-    let image = Vec::from_elem(alloc, 0, page_bytes)?;
-    format_onto(&mut file, image, size.pages, &mut Nobody)?;
-    let told = Exit::Formatted(size.pages);
-    let bytes = file.len();
+    format_onto(
+        &mut file,
+        Vec::from_elem(alloc, 0, long)?,
+        pages,
+        &mut Nobody,
+    )?;
+    let (told, bytes) = (Exit::Formatted(pages), file.len());
     let mut answer = format!(in alloc; "{told}  {bytes} bytes, the last page begins")?;
-    for byte in file.iter().skip(bytes.saturating_sub(page_bytes)).take(16) {
-        answer.push_str(format!(in alloc; " {byte:02x}")?.as_str())?;
+    for byte in file.iter().skip(bytes.saturating_sub(long)).take(16) {
+        write!(answer, " {byte:02x}")?;
     }
     Ok(answer)
-}
-
-/// The answers where the last text is cut after 0, 1, 2 .. bytes, a line for each run of equal answers.
-pub fn answers_to_cuts(
-    alloc: Global,
-    question: Question,
-    texts: &[Vec<u8>],
-) -> anyhow::Result<String> {
-    let [before @ .., last] = texts else {
-        anyhow::bail!("there is no text to cut");
-    };
-    let mut lines = String::new(alloc);
-    let mut begun = 0;
-    let mut answer = answer_to_cut(alloc, question, before, &[])?;
-    for cut in 1..=last.len() {
-        let next = answer_to_cut(alloc, question, before, &last[..cut])?;
-        if next != answer {
-            lines.push_str(format!(in alloc; "  {begun} to {}: {answer}\n", cut - 1)?.as_str())?;
-            begun = cut;
-            answer = next;
-        }
-    }
-    lines.push_str(format!(in alloc; "  {begun} to {}: {answer}", last.len())?.as_str())?;
-    Ok(lines)
-}
-
-/// The answer where these bytes stand in the place of the last text.
-fn answer_to_cut(
-    alloc: Global,
-    question: Question,
-    before: &[Vec<u8>],
-    bytes: &[u8],
-) -> anyhow::Result<String> {
-    let mut texts = Vec::new(alloc);
-    for text in before {
-        texts.push(text.clone()?)?;
-    }
-    let mut last = Vec::new(alloc);
-    last.extend_from_slice(bytes)?;
-    texts.push(last)?;
-    answer_to(alloc, question, &texts)
 }
