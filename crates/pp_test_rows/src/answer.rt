@@ -129,28 +129,29 @@ fn script_in(alloc: Global, bytes: &[u8]) -> Result<Script, ScriptError> {
 /// the refusal of the settings.
 fn format_answer(alloc: Global, settings: &[u8]) -> Exit<'static> {
     match device_size(alloc, settings) {
-        Ok(DeviceSize { pages, page_bytes }) => match format_text(alloc, pages, page_bytes) {
-            Ok(text) => Exit::Made(text),
+        Ok(size) => match device_file(alloc, size) {
+            Ok(file) => made(file_text(alloc, size, &file)),
             Err(_) => Exit::OutOfMemory,
         },
         Err(refusal) => Exit::from(refusal),
     }
 }
 
-/// The same of a device of these figures.
-fn format_text(alloc: Global, pages: u32, page_bytes: u32) -> io::Result<String> {
-    let long = page_bytes.max(12) as usize;
+/// The file of a device of this size that is written anew.
+fn device_file(alloc: Global, size: DeviceSize) -> io::Result<Vec<u8>> {
+    let image = Vec::from_elem(alloc, 0, size.page_bytes.max(64) as usize)?;
     let mut file = Vec::new(alloc);
-    format_onto(
-        &mut file,
-        Vec::from_elem(alloc, 0, long)?,
-        pages,
-        &mut Nobody,
-    )?;
-    let (told, bytes) = (Exit::Formatted(pages), file.len());
-    let mut answer = format!(in alloc; "{told}  {bytes} bytes, the last page begins")?;
-    for byte in file.iter().skip(bytes.saturating_sub(long)).take(16) {
-        write!(answer, " {byte:02x}")?;
+    format_onto(&mut file, image, size.pages, &mut Nobody)?;
+    Ok(file)
+}
+
+/// What is told of it, how long the file is, and how its last page begins.
+fn file_text(alloc: Global, size: DeviceSize, file: &[u8]) -> Result<String, AllocError> {
+    let (told, bytes) = (Exit::Formatted(size.pages), file.len());
+    let mut text = format!(in alloc; "{told}  {bytes} bytes, the last page begins")?;
+    let last = bytes.saturating_sub(size.page_bytes as usize);
+    for byte in file.iter().skip(last).take(16) {
+        write!(text, " {byte:02x}")?;
     }
-    Ok(answer)
+    Ok(text)
 }

@@ -48,19 +48,18 @@ fn lines_of_cuts(alloc: Global, row: Row<'_>) -> Result<String, AllocError> {
         begun: 0,
         answer: answer(alloc, &row)?,
     };
-    for (place, byte) in last.iter().enumerate() {
-        lengthen(&mut row.texts, *byte)?;
-        runs.add(place.saturating_add(1), answer(alloc, &row)?)?;
+    for cut in 1..=last.len() {
+        put_last(alloc, &mut row.texts, &last[..cut])?;
+        runs.add(cut, answer(alloc, &row)?)?;
     }
     runs.end(last.len())?;
     Ok(runs.lines)
 }
 
-/// Adds a byte to the last text.
-fn lengthen(texts: &mut Vec<Vec<u8>>, byte: u8) -> Result<(), AllocError> {
-    if let Some(text) = texts.last_mut() {
-        text.push(byte)?;
-    }
+/// Puts the bytes in the place of the last text.
+fn put_last(alloc: Global, texts: &mut Vec<Vec<u8>>, bytes: &[u8]) -> Result<(), AllocError> {
+    let _ = texts.pop();
+    texts.push(bytes.to_vec(alloc)?)?;
     Ok(())
 }
 

@@ -4,6 +4,7 @@ use crate::answer::answer_to;
 use crate::row::{Question, Row};
 use pp_explain::{Refused, Source, Sources, Stop, explain, repeated};
 use pp_judge::{Exit, JudgeError};
+use pp_lines::small_number;
 use pp_simulate::SimulateError;
 use std::alloc::{AllocError, Global};
 use std::str;
@@ -86,8 +87,10 @@ fn refused(row: &Row<'_>, exit: &Exit<'_>) -> Option<Refused> {
 
 /// The worker whose number the row's last text is.
 fn worker(row: &Row<'_>) -> Option<u32> {
-    let text = str::from_utf8(row.texts.last()?).ok()?;
-    text.parse::<u32>().ok()
+    match str::from_utf8(row.texts.last()?) {
+        Ok(text) => small_number(text),
+        Err(_) => None,
+    }
 }
 
 /// The refusal, as it is explained.

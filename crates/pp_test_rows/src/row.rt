@@ -3,6 +3,7 @@
 use crate::section::Section;
 use pp_explain::Source;
 use pp_judge::{AnnotateFiles, AuditFiles, CheckFiles, Contents, DrawFiles, SimulateFiles};
+use pp_lines::small_number;
 use std::alloc::{AllocError, Global};
 use std::rt::Files;
 use std::{fs, io};
@@ -91,7 +92,7 @@ impl<'a> Row<'a> {
         let (name, times) = name.split_once("*").unwrap_or((name, "1"));
         let path = format!(in rt.alloc(); "{folder}/{name}")?;
         let bytes = fs::read(rt, path.as_str())?;
-        for _ in 1..times.parse::<u16>().unwrap_or(1) {
+        for _ in 1..small_number(times).unwrap_or(1) {
             self.add(name, bytes.clone()?)?;
         }
         self.add(name, bytes)?;
@@ -177,22 +178,29 @@ fn named(words: &str) -> (Question, &str) {
     (question_of(word), files)
 }
 
+/// The questions by their names.
+static QUESTIONS: [(&str, Question); 13] = [
+    ("settings", Question::Settings),
+    ("plan", Question::Plan),
+    ("script", Question::Script),
+    ("format", Question::Format),
+    ("check", Question::Check),
+    ("annotate", Question::Annotate),
+    ("simulate", Question::Simulate),
+    ("audit", Question::Audit),
+    ("lives", Question::AuditLives),
+    ("mismatch", Question::Mismatch),
+    ("broken", Question::Broken),
+    ("nothread", Question::NoThread),
+    ("repeated", Question::Repeated),
+];
+
 /// The question of this name.
 fn question_of(name: &str) -> Question {
-    match name {
-        "settings" => Question::Settings,
-        "plan" => Question::Plan,
-        "script" => Question::Script,
-        "format" => Question::Format,
-        "check" => Question::Check,
-        "annotate" => Question::Annotate,
-        "simulate" => Question::Simulate,
-        "audit" => Question::Audit,
-        "lives" => Question::AuditLives,
-        "mismatch" => Question::Mismatch,
-        "broken" => Question::Broken,
-        "nothread" => Question::NoThread,
-        "repeated" => Question::Repeated,
-        _ => Question::Unknown,
+    for (word, question) in &QUESTIONS {
+        if *word == name {
+            return *question;
+        }
     }
+    Question::Unknown
 }

@@ -17,18 +17,25 @@ pub enum Section {
     Lines,
 }
 
+/// The lines at which sections begin.
+static HEADINGS: [(&str, Section); 6] = [
+    ("[answers]", Section::Answers),
+    ("[cuts]", Section::Cuts),
+    ("[explanations]", Section::Explanations),
+    ("[pictures]", Section::Pictures),
+    ("[verdicts]", Section::Verdicts),
+    ("[lines]", Section::Lines),
+];
+
 impl Section {
     /// The section that begins at this line, where one does.
     pub fn beginning_at(line: &str) -> Option<Section> {
-        match line {
-            "[answers]" => Some(Section::Answers),
-            "[cuts]" => Some(Section::Cuts),
-            "[explanations]" => Some(Section::Explanations),
-            "[pictures]" => Some(Section::Pictures),
-            "[verdicts]" => Some(Section::Verdicts),
-            "[lines]" => Some(Section::Lines),
-            _ => None,
+        for (heading, section) in &HEADINGS {
+            if *heading == line {
+                return Some(*section);
+            }
         }
+        None
     }
 
     /// Whether the line is one of its rows.
