@@ -1,4 +1,0 @@
-use Rattle.pp_test_device_walk.proofs.shape.+push_words.Given as goal
-
-abbrev pub decreases-push_words : goal.decreases-push_words
-decreases-push_words l = l.levels
