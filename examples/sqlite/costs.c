@@ -1,10 +1,11 @@
 /* SPDX-License-Identifier: Apache-2.0 */
-/* A page cache by its calls alone, without SQLite around it: costs WHO KEYS MANY fetches and unpins MANY pages of a cache of 2,000 that
-** is full, and prints how many missed. The script `costs` has the instructions of counted() told by valgrind.
+/* A page cache by its calls alone, without SQLite around it: costs WHO KEYS MANY fetches and unpins MANY pages of a cache that is
+** full, and prints how many missed. The script `costs` has the instructions of counted() told by valgrind.
 **
 ** WHO is `sqlite` or `pinpool`, by the eleven calls that SQLite makes, or `calls`, by those of pinpool_cache.h. KEYS is `hits`,
 ** where the pages that are asked for are the cached ones, or `skewed`, where of 20,000 pages the k-th is asked for as often as
-** 1 / k^0.99 says (Zipf). */
+** 1 / k^0.99 says (Zipf): both of a cache of 2,000. Or it is `misses`, where no page is asked for twice, or `pinned`, the same while
+** 17,000 pages stay pinned: both of a cache of 20,000. */
 #include "pinpool_cache.h"
 #include "shim.h"
 #include <math.h>
@@ -12,7 +13,7 @@
 #include <stdlib.h>
 #include <string.h>
 
-enum { SIZE = 2000, HITS = 1900, SKEWED = 20000, PAGE = 4096, EXTRA = 136 };
+enum { SIZE = 2000, HITS = 1900, SKEWED = 20000, LARGE = 20000, HELD = 17000, PAGE = 4096, EXTRA = 136 };
 
 static const sqlite3_pcache_methods2 *methods; /* none where the calls are those of pinpool_cache.h */
 static sqlite3_pcache *pages;
@@ -74,26 +75,44 @@ static long use(const unsigned *keys, long many) { return methods ? use_methods(
 __attribute__((noinline)) long counted(const unsigned *keys, long many);
 long counted(const unsigned *keys, long many) { return use(keys, many); }
 
-static int begin(const char *who) {
+/* Fetches the pages, which stay pinned. */
+static void hold(const unsigned *keys, long many) {
+    pinpool_page page;
+    for (long i = 0; i < many; i++)
+        if (methods ? !methods->xFetch(pages, keys[i], 2) : pinpool_cache_fetch(cache, keys[i], PINPOOL_ALWAYS, &page) != PINPOOL_OK)
+            exit(1);
+}
+
+static int begin(const char *who, int size) {
     static sqlite3_pcache_methods2 own;
-    if (strcmp(who, "calls") == 0) return pinpool_cache_new(SIZE, &cache) == PINPOOL_OK;
+    if (strcmp(who, "calls") == 0) return pinpool_cache_new((uint32_t)size, &cache) == PINPOOL_OK;
     if (strcmp(who, "pinpool") == 0 && pinpool_for_sqlite() != SQLITE_OK) return 0;
     if (sqlite3_config(SQLITE_CONFIG_GETPCACHE2, &own) != SQLITE_OK || sqlite3_initialize() != SQLITE_OK) return 0;
     methods = &own;
     pages = methods->xCreate(PAGE, EXTRA, 1);
-    if (pages) methods->xCachesize(pages, SIZE);
+    if (pages) methods->xCachesize(pages, size);
     return pages != 0;
+}
+
+/* The number of the i-th page that is asked for. */
+static unsigned key_of(const char *kind, long i) {
+    if (strcmp(kind, "skewed") == 0) return skewed();
+    if (strcmp(kind, "hits") == 0 && i >= HITS) return 1 + (unsigned)(draw() * HITS);
+    return (unsigned)i + 1;
 }
 
 int main(int count, char **words) {
     long many = count == 4 ? atol(words[3]) : 0, before = 200000;
-    if (many < 1 || !begin(words[1])) return 2;
-    int is_skewed = strcmp(words[2], "skewed") == 0;
+    if (many < 1) return 2;
+    const char *kind = words[2];
+    int is_pinned = strcmp(kind, "pinned") == 0, is_large = is_pinned || strcmp(kind, "misses") == 0;
+    if (!begin(words[1], is_large ? LARGE : SIZE)) return 2;
     unsigned *keys = malloc((size_t)(before + many) * sizeof *keys);
     if (!keys) return 1;
-    for (long i = 0; i < before + many; i++)
-        keys[i] = is_skewed ? skewed() : i < HITS ? (unsigned)i + 1 : 1 + (unsigned)(draw() * HITS);
-    use(keys, before);
+    for (long i = 0; i < before + many; i++) keys[i] = key_of(kind, i);
+    long held = is_pinned ? HELD : 0;
+    hold(keys, held);
+    use(keys + held, before - held);
     printf("%ld\n", counted(keys + before, many));
     if (methods) methods->xDestroy(pages);
     pinpool_cache_free(cache);
