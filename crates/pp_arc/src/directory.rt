@@ -168,6 +168,42 @@ impl Directory {
         self.request_by_place(page, search, busy)
     }
 
+    /// Asks for a page if it is cached, and tells whether it is.
+    ///
+    /// Where it is, this is [`Directory::request`], whatever pages are busy; else nothing has changed.
+    #[inline(always)]
+    pub fn touch(&mut self, page: u32, search: &mut Search) -> bool
+        requires below { page < self.old.pages }
+        ensures cached { result ≡ is_cached self.old page }
+        ensures requests { IsTrue result → (busy : ℕ → Bool) → request self.old page busy ≡ (Answer.Hit, self.new) }
+        ensures unchanged { IsFalse result → (self.new ≡ self.old) × (search.new ≡ search.old) }
+        ensures bounds { IsWithinBounds self.new }
+        ensures knows { (busy : ℕ → Bool) → KnowsBusy self.old search.old busy → KnowsBusy self.new search.new busy }
+    {
+        match self.place_below(page) {
+            Some(List::T1) | Some(List::T2) => {
+                self.hit(page, search);
+                true
+            }
+            _ => false,
+        }
+    }
+
+    /// The request of a cached page.
+    #[inline(always)]
+    fn hit(&mut self, page: u32, search: &mut Search) -> Answer
+        requires below { page < self.old.pages }
+        requires cached { IsTrue (is_cached self.old page) }
+        ensures answer { result ≡ Answer.Hit }
+        ensures lists { self.new ≡ with_front_of_t2 self.old page }
+        ensures bounds { IsWithinBounds self.new }
+        ensures knows { (busy : ℕ → Bool) → KnowsBusy self.old search.old busy → KnowsBusy self.new search.new busy }
+    {
+        search.leave(&self.links, page);
+        self.move_to_t2(page);
+        Answer::Hit
+    }
+
     /// The request, by the list in which the page stands.
     fn request_by_place<B: Busy>(&mut self, page: u32, search: &mut Search, busy: &B) -> Answer
         requires below { page < self.old.pages }
@@ -179,11 +215,7 @@ impl Directory {
         ensures knows { KnowsBusy self.new search.new (B.busy busy.now) }
     {
         match self.place_below(page) {
-            Some(List::T1) | Some(List::T2) => {
-                search.leave(&self.links, page);
-                self.move_to_t2(page);
-                Answer::Hit
-            }
+            Some(List::T1) | Some(List::T2) => self.hit(page, search),
             Some(List::B1) => {
                 self.request_remembered(page, self.raised_target(), false, search, busy)
             }
@@ -198,6 +230,7 @@ impl Directory {
     fn place_below(&self, page: u32) -> Option<List>
         requires { page < self.now.pages }
         ensures place { result ≡ place self.now page }
+        ensures cached { IsTrue (is_cached self.now page) ↔ ((result ≡ Some List.T1) ⊎ (result ≡ Some List.T2)) }
         ensures bounds { IsWithinBounds self.now }
     {
         self.links.place_below(page)

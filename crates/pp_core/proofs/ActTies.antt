@@ -3,7 +3,7 @@ use Rattle.std.proofs.Common.{false, ◌≡◌, ◌∙◌, ℕ, ◌+◌, ◌<◌
 use Rattle.std.proofs.Common.{sym, ap}
 use Rattle.std.proofs.Common.{subst, arith}
 use Rattle.std.specs.Prelude.{slice_get, slice_set, option_map, if◌then◌else◌}
-use Rattle.std.proofs.lemmas.List.{length-append}
+use Rattle.std.proofs.lemmas.List.{length-append, set-set}
 use Rattle.pp_plan.specs.declared.mode.Mode.{Mode}
 use Rattle.pp_plan.specs.declared.action.Action.{Action}
 use Rattle.pp_plan.specs.declared.action.Action.TheVariants as action
@@ -11,7 +11,7 @@ use Rattle.pp_plan.specs.Limits.{most_slots}
 use Rattle.pp_plan.specs.Terms.{Terms}
 use Rattle.pp_plan.specs.PlanTraces.{PlanAsks}
 use Rattle.pp_plan.specs.FlatList.{Spot}
-use Rattle.pp_plan.specs.Cursor.{StandsFor as CursorStandsFor}
+use Rattle.pp_plan.specs.Cursor.{StandsFor as CursorStandsFor, IsCursorOf}
 use Rattle.pp_cert.specs.Accepted.{Acceptance}
 use Rattle.pp_cert.specs.Held.{Holding, holding_at}
 use Rattle.pp_model.specs.Fixing.{fixes}
@@ -26,11 +26,13 @@ use Rattle.pp_model.proofs.BoundSteps as numbers
 use Rattle.pp_core.specs.declared.seat.Hold.{Hold}
 use Rattle.pp_core.specs.declared.seat.Seat.{Seat}
 use Rattle.pp_core.specs.Slots.{slots_after, count_after}
+use Rattle.pp_core.specs.declared.seat.Phase.{Phase}
+use Rattle.pp_core.specs.declared.seat.Phase.TheVariants.{Acting, Writing, Reading, Leaving}
 use Rattle.pp_core.specs.Seats.{FitsSlots, Did}
 use Rattle.pp_core.specs.Parts.{Parts}
-use Rattle.pp_core.specs.StandsFor.{FitsRunning, FitsSeat, FitsCrew, StandsFor}
-use Rattle.pp_core.specs.Effects.{IsIn, CanAct, Acted}
-use Rattle.pp_core.proofs.Crew.{seat_to, seat_set}
+use Rattle.pp_core.specs.StandsFor.{FitsStage, FitsRunning, FitsSeat, FitsCrew, StandsFor}
+use Rattle.pp_core.specs.Effects.{IsIn, CanAct, Acted, at_phase}
+use Rattle.pp_core.proofs.Crew.{set_at, seat_to, seat_set}
 use Rattle.pp_core.proofs.Asking.{both, runs}
 use Rattle.pp_core.proofs.SlotTies.{Tell, tell_set, tell_as, acted_fits}
 use Rattle.std.specs.Option.{is_some}
@@ -103,30 +105,101 @@ cursor_of plans x r fits on = fits.cursor
 
 -- What the state says of an action that the core is about to do.
 pub record IsDue (r : Running) (a : Action) : Type 0 where
-  pub on : IsOnPlan r.stage
   pub asks : PlanAsks r.accepted.plan r.done a
   pub few : length r.done < 1000000
   pub slots : FitsSlots a (held_slots most_slots (holdings r)) 32
 
+-- What an action needs of a worker's seat beside its phase.
+record MayDo (plan : Terms) (x : Seat) (a : Action) : Type 0 where
+  cursor : IsCursorOf plan x.cursor
+  asks : (before : List Action) → CursorStandsFor plan x.cursor before → PlanAsks plan before a
+  actions : x.actions + 1 < 2 ^ 32
+  slots : FitsSlots a x.holds (length x.slots)
+
+may_do : (plans : List Acceptance) (x : Seat) (r : Running) (a : Action) → FitsRunning plans x r → IsDue r a
+    → MayDo r.accepted.plan x a
+may_do plans x r a fits due = record {
+  cursor = (r.done, fits.cursor);
+  asks = λ before h. asks_same r.accepted.plan x.cursor r.done before a fits.cursor h due.asks;
+  actions = omega (arith, fits.actions, due.few);
+  slots = subst (λ (n : ℕ). FitsSlots a n (length x.slots)) (sym fits.holds)
+      (subst (λ (n : ℕ). FitsSlots a (held_slots most_slots (holdings r)) n) (sym fits.width) due.slots);
+}
+
+phase_acts : (p : Phase) (g : Stage) → g ≡ acting → FitsStage p g → p ≡ Acting
+phase_acts Acting g e h = refl
+phase_acts (Writing slot page v) acting e h = absurd h
+phase_acts (Writing slot page v) (writing t x u) e h = cc
+phase_acts (Writing slot page v) (reading t x) e h = cc
+phase_acts (Writing slot page v) (leaving given) e h = cc
+phase_acts (Reading slot page) acting e h = absurd h
+phase_acts (Reading slot page) (writing t x u) e h = cc
+phase_acts (Reading slot page) (reading t x) e h = cc
+phase_acts (Reading slot page) (leaving given) e h = cc
+phase_acts Leaving acting e h = absurd h
+phase_acts Leaving (writing t x u) e h = cc
+phase_acts Leaving (reading t x) e h = cc
+phase_acts Leaving (leaving given) e h = cc
+
 pub can_act : (f : Parts) (s : State) (w : ℕ) (r : Running) (a : Action) → StandsFor f s → seat_of s w ≡ Some (Some r)
-    → IsDue r a → CanAct f w a
-can_act f s w r a st e due =
+    → r.stage ≡ acting → IsDue r a → CanAct f w a
+can_act f s w r a st e acts due =
     let k = kept f s w r st e in
     let x = k.seat in
-    let cursor = cursor_of s.plans x r k.fits due.on in
-    let slots = subst (λ (n : ℕ). FitsSlots a n (length x.slots)) (sym k.fits.holds)
-    (subst (λ (n : ℕ). FitsSlots a (held_slots most_slots (holdings r)) n) (sym k.fits.width) due.slots) in
-    let room : x.actions + 1 < 2 ^ 32 = omega (arith, k.fits.actions, due.few) in
+    let may = may_do s.plans x r a k.fits due in
     record {
       seat = x;
       accepted = r.accepted;
       runs = runs f s w x r st k.is_in k.fits;
       can = record {
-        cursor = (r.done, cursor);
-        asks = λ before h. asks_same r.accepted.plan x.cursor r.done before a cursor h due.asks;
-        actions = room;
-        slots = slots;
+        cursor = may.cursor;
+        asks = may.asks;
+        acts = phase_acts x.phase r.stage acts k.fits.phase;
+        actions = may.actions;
+        slots = may.slots;
       };
+    }
+
+-- A worker whose errand is over can do the action once it acts.
+pub can_act_then : (f : Parts) (s : State) (w : ℕ) (r : Running) (x : Seat) (a : Action) → StandsFor f s → IsIn f w x
+    → seat_of s w ≡ Some (Some r) → IsDue r a → CanAct (at_phase f w x Acting) w a
+can_act_then f s w r x a st is_in e due =
+    let fits = fits_running f s w x r st is_in e in
+    let may = may_do s.plans x r a fits due in
+    record {
+      seat = record x { phase = Acting };
+      accepted = r.accepted;
+      runs = record {
+        is_in = set_at f.seats w (Some x) (Some (record x { phase = Acting })) is_in;
+        plan = (runs f s w x r st is_in fits).plan;
+      };
+      can = record { cursor = may.cursor; asks = may.asks; acts = refl; actions = may.actions; slots = may.slots };
+    }
+
+-- What it has done then, it has done before.
+pub acted_then : (f g : Parts) (w : ℕ) (x : Seat) (a : Action) → IsIn f w x → Acted (at_phase f w x Acting) g w a
+    → Acted f g w a
+acted_then f g w x a is_in h =
+    let now : h.seat ≡ record x { phase = Acting } =
+    one_seat (at_phase f w x Acting) w h.seat (record x { phase = Acting }) h.runs.is_in
+    (set_at f.seats w (Some x) (Some (record x { phase = Acting })) is_in) in
+    let did : Did h.accepted.plan (record x { phase = Acting }) h.after a =
+    subst (λ (y : Seat). Did h.accepted.plan y h.after a) now h.did in
+    record {
+      seat = x;
+      accepted = h.accepted;
+      runs = record { is_in = is_in; plan = ap (λ (y : Seat). slice_get f.plans y.plan) (sym now) ∙ h.runs.plan };
+      after = h.after;
+      did = record {
+        number = did.number;
+        cursor = did.cursor;
+        ask = did.ask;
+        actions = did.actions;
+        holds = did.holds;
+        slots = did.slots;
+        phase = did.phase;
+      };
+      seats = h.seats ∙ set-set f.seats w (Some (record x { phase = Acting })) (Some h.after);
     }
 
 -- ---- after it
@@ -171,7 +244,6 @@ module _ (f : Parts) (s : State) (w : ℕ) (r : Running) (st : StandsFor f s) wh
 
   asked_due : (a : Action) → IsAsked s w r a → FitsSlots a (held_slots most_slots (holdings r)) 32 → IsDue r a
   asked_due a asked fits = record {
-    on = acting_on a asked;
     asks = steps.asks_it s st.reached w r a asked;
     few = limited asked.at.seat (numbers.asked_few s st.reached w r a asked);
     slots = fits;
@@ -191,7 +263,6 @@ module _ (f : Parts) (s : State) (w : ℕ) (r : Running) (st : StandsFor f s) wh
 
   pub load_due : (slot page : ℕ) → IsAt s w r (reading slot page) → IsDue r (fixes (asked_by r) slot page)
   load_due slot page at = record {
-    on = reading_on slot page at;
     asks = steps.reading_asks s st.reached w r slot page at;
     few = limited at.seat (numbers.reading_few s st.reached w r slot page at);
     slots = goes_fit (asked_by r) slot page (steps.reading_finds s st.reached w r slot page at).few;

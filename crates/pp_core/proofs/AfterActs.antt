@@ -34,7 +34,8 @@ use Rattle.pp_core.specs.AfterMoves.{HasChosen, ChooseActs, IsUnwindReply, HasUn
 use Rattle.pp_core.specs.AfterMoves.{FinishIdles}
 use Rattle.pp_core.proofs.MoveWays.{IsAsking, named, of_unfix, of_latch, of_unlatch, of_choose, of_unwind}
 use Rattle.pp_core.proofs.MoveWays.{of_finish}
-use Rattle.pp_core.proofs.AfterSeats.{set_at, asked_at, acts_at, leaving_at, held_at, held_found, bundle_at, bundle_by, some_same}
+use Rattle.pp_core.proofs.Crew.{set_at}
+use Rattle.pp_core.proofs.AfterSeats.{asked_at, acts_at, leaving_at, held_at, held_found, bundle_at, bundle_by, some_same}
 use Rattle.pp_core.proofs.AfterSeats.{one_slot, same_slots, bundle_slots, same_bundles, bundle_here, other_bundles, own_is, own_unless}
 use Rattle.pp_core.proofs.AfterSeats.{released_known, released_seat, same_page}
 use Rattle.pp_core.proofs.AfterFixes.{Told, no_refusal}

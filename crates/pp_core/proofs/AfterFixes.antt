@@ -47,7 +47,8 @@ use Rattle.pp_core.specs.AfterMoves.{FixSends, FixSendsVictim, WrittenReads, Wri
 use Rattle.pp_core.proofs.Gathered.{Gathers, SameBundles, Gathered, bundled_pages, bundle_is, same_holdings, nothing_held}
 use Rattle.pp_core.proofs.Gathered.{asks_gathers}
 use Rattle.pp_core.proofs.MoveWays.{OfRefusals, AsksPage, of_take, of_fix, of_write, of_read}
-use Rattle.pp_core.proofs.AfterSeats.{set_at, ask_at, acts_at, leaving_at, errand_at, held_at, bundle_at, pending_at, wanted_at}
+use Rattle.pp_core.proofs.Crew.{set_at}
+use Rattle.pp_core.proofs.AfterSeats.{ask_at, acts_at, leaving_at, errand_at, held_at, bundle_at, pending_at, wanted_at}
 use Rattle.pp_core.proofs.AfterSeats.{some_same, own_is, none_of_its_own, one_slot, same_slots, bundle_slots, same_bundles}
 use Rattle.pp_core.proofs.AfterSeats.{bundle_here, other_bundles}
 

@@ -23,17 +23,9 @@ use Rattle.pp_core.specs.Gathered.{bundle_in}
 use Rattle.pp_core.specs.Queries.{ask_in, ask_by, ask_of, leaves, leaving_by, is_leaving, own_of, held_by, held_of, errand_in}
 use Rattle.pp_core.specs.Queries.{idle_by, pending_by, pending_of, bundle_of, errand_by, errand_of}
 use Rattle.pp_core.specs.AfterMoves.{Acts, wanted_of, WorkerStays, SlotsStay, OtherSlotsStay, BundlesStay, OtherBundlesStay}
-use Rattle.pp_core.proofs.Crew.{set_apart}
+use Rattle.pp_core.proofs.Crew.{set_at, set_apart}
 use Rattle.pp_core.proofs.Gathered.{Gathers, SameBundles}
 use Rattle.pp_core.proofs.MoveWays.{IsAsking}
-
--- ---- one place of a list is written
-
-pub set_at : {A : Type 0} (xs : List A) (w : ℕ) (x y : A) → slice_get xs w ≡ Some x
-    → slice_get (slice_set xs w y) w ≡ Some y
-set_at [] w x y e = cc
-set_at (a ∷ xs) zero x y e = refl
-set_at (a ∷ xs) (suc w) x y e = set_at xs w x y e
 
 -- ---- what is told by a seat
 

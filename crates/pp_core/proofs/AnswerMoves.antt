@@ -48,7 +48,7 @@ use Rattle.pp_core.specs.declared.seat.Phase.TheVariants.{Acting, Writing, Readi
 use Rattle.pp_core.specs.declared.seat.Seat.{Seat}
 use Rattle.pp_core.specs.Parts.{Parts}
 use Rattle.pp_core.specs.StandsFor.{FitsStage, FitsRunning, FitsSeat, StandsFor, IsKept, Moves}
-use Rattle.pp_core.specs.Effects.{phase_of, ask_in, IsIn, Runs, CanAct, displaced, frame_at as frame_in, Acted, stacks_after}
+use Rattle.pp_core.specs.Effects.{phase_of, ask_in, IsIn, Runs, CanAct, at_phase, displaced, frame_at as frame_in, Acted, stacks_after}
 use Rattle.pp_core.specs.Gathered.{BundlesFit}
 use Rattle.pp_core.specs.Answering.{writing_of, reading_of, is_misread, left_of, CanLose, CanWrite, written, CanBring}
 use Rattle.pp_core.specs.Answering.{brought}
@@ -56,7 +56,7 @@ use Rattle.pp_core.specs.Answering.{CanForget, forgotten, CanLoad, Loaded}
 use Rattle.pp_core.proofs.Crew.{set_length, seat_from, seat_none}
 use Rattle.pp_core.proofs.Asking.{in_phase, both, runs}
 use Rattle.pp_core.proofs.Ties.{Leads, moves_by, refuses, SameFrame, stands_with, flies_set, flies_both}
-use Rattle.pp_core.proofs.ActTies.{can_act, acted_crew, reading_on, load_due, load_follow}
+use Rattle.pp_core.proofs.ActTies.{can_act_then, acted_crew, reading_on, load_due, load_follow}
 use Rattle.pp_core.proofs.SentTies.{staged_crew}
 use Rattle.pp_core.proofs.Gathered.{asked_bundles, staged_bundles, bundles_few, has_record}
 
@@ -614,8 +614,10 @@ module _ (f : Parts) (w : ℕ) (e : Read) (reads : ◌≡◌ {A = Result Read Ca
       let x = here s st in
       let r = x.running in
       record {
-        can = subst (λ k. CanAct f w (fixes k e.slot e.page)) (sym (ask_told s st))
-            (can_act f s w r (fixes (asked_by r) e.slot e.page) st x.at.seat
+        seat = x.seat;
+        is_in = x.is_in;
+        can = subst (λ k. CanAct (at_phase f w x.seat Acting) w (fixes k e.slot e.page)) (sym (ask_told s st))
+            (can_act_then f s w r x.seat (fixes (asked_by r) e.slot e.page) st x.is_in x.at.seat
             (load_due f s w r st e.slot e.page x.at));
         record_free = has_record f.bundles s st.reached w r (ask_in f w) e.slot e.page st.bundles x.at.seat
             (steps.reading_finds s st.reached w r e.slot e.page x.at).few

@@ -29,6 +29,12 @@ set_length [] i x = refl
 set_length (y ∷ ys) zero x = refl
 set_length (y ∷ ys) (suc i) x = ap suc (set_length ys i x)
 
+pub set_at : {A : Type 0} (xs : List A) (w : ℕ) (x y : A) → slice_get xs w ≡ Some x
+    → slice_get (slice_set xs w y) w ≡ Some y
+set_at [] w x y e = cc
+set_at (a ∷ xs) zero x y e = refl
+set_at (a ∷ xs) (suc w) x y e = set_at xs w x y e
+
 pub set_here : {A : Type 0} (xs : List A) (i k : ℕ) (x y : A) → k ≡ i → slice_get (slice_set xs i x) k ≡ Some y → y ≡ x
 set_here {A = A} xs i k x y same e = at xs i (subst (λ (j : ℕ). slice_get (slice_set xs i x) j ≡ Some y) same e)
   where

@@ -263,7 +263,7 @@ module _ (f : Parts) (w page slot region : ℕ) (wants : Ask) (into : AsksIn wan
           record {
             can = subst (λ z. CanAct (record f { lists = after }) w (fixes z slot page)) (asks s st).2
                 (can_act_listed f after w d
-                (can_act f s w r d st h.asked.at.seat (fix_due f s w r st slot page h.asked)));
+                (can_act f s w r d st h.asked.at.seat h.asked.at.stage (fix_due f s w r st slot page h.asked)));
             record_free = has_record f.bundles s st.reached w r wants slot page st.bundles h.asked.at.seat
                 (steps.fix_finds s st.reached w r slot page h.asked).few
                 (bundles_few s st.reached w r h.asked.at.seat more);

@@ -81,6 +81,9 @@ acts_so s w a (Some (Some r)) at e =
     let in_it = in_stage r r.stage a e in
     (r, record { seat = at; stage = in_it.0 }, in_it.1)
 
+pub asks_told : (f : Parts) (w : ℕ) (a : Ask) → ((s : State) → StandsFor f s → ask_of s w ≡ Some a) → Asks f w a
+asks_told f w a told s st = acts_so s w a (seat_of s w) refl (told s st)
+
 -- ---- its slot
 
 -- A page of a slot's own.

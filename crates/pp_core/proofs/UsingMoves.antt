@@ -140,7 +140,7 @@ asked_bound s w r a h asked =
 pub spend_needs : (f : Parts) (w : ℕ) (a : Action) (h : Asked f w a) → IsDue h.running a
     → stacks_after w a f.bundles ≡ f.bundles → CanSpend f w a
 spend_needs f w a h due stacks = record {
-  can = can_act f h.state w h.running a h.stands h.asked.at.seat due;
+  can = can_act f h.state w h.running a h.stands h.asked.at.seat h.asked.at.stage due;
   budget = omega (arith, h.stands.budget, asked_bound h.state w h.running a h.stands.reached h.asked);
   stacks = stacks;
 }
@@ -271,7 +271,7 @@ can_scatter f w slot k asks =
     let goes = scatters f s w slot r st h.asked in
     let due = scatter_due f s w r st slot h.asked in
     record {
-      can = can_act f s w r (action.Scatter slot) st h.asked.at.seat due;
+      can = can_act f s w r (action.Scatter slot) st h.asked.at.seat h.asked.at.stage due;
       place = omega (
         arith,
         st.bundles.places,

@@ -121,8 +121,11 @@ forgotten f w x a page =
       in_flight = slice_set f.in_flight page false;
     }
 
+-- The page can go into the slot once the worker acts again.
 pub record CanLoad (f : Parts) (w slot page : ℕ) : Type 0 where
-  pub can : CanAct f w (fixes (ask_in f w) slot page)
+  pub seat : Seat
+  pub is_in : IsIn f w seat
+  pub can : CanAct (at_phase f w seat Acting) w (fixes (ask_in f w) slot page)
   pub record_free : HasRecord w (fixes (ask_in f w) slot page) f.bundles
   pub flight : page < length f.in_flight
   pub low : page < length f.marks.pages

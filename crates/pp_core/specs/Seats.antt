@@ -30,10 +30,11 @@ FitsSlots (Gather slot page) count slots = (slot < slots) × (count ≤ 32)
 FitsSlots (Scatter slot) count slots = (slot < slots) × (0 < count)
 FitsSlots (Choose i) count slots = Unit {0}
 
--- The plan asks the action of the worker, and its counters have room for it.
+-- The plan asks the action of the worker, which acts, and its counters have room for it.
 pub record CanDo (plan : Terms) (x : Seat) (a : Action) : Type 0 where
   pub cursor : IsCursorOf plan x.cursor
   pub asks : (before : List Action) → StandsFor plan x.cursor before → PlanAsks plan before a
+  pub acts : x.phase ≡ Acting
   pub actions : x.actions + 1 < 2 ^ 32
   pub slots : FitsSlots a x.holds (length x.slots)
 
@@ -42,7 +43,6 @@ abbrev pub counted : Action → Seat → Seat
 counted a x =
     record x {
       actions = x.actions + 1;
-      phase = Acting;
       holds = count_after a x.slots x.holds;
       slots = slots_after a x.slots;
     }

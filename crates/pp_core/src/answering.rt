@@ -180,6 +180,7 @@ impl Table {
         ensures { Loaded (parts_of self.old) (parts_of self.new) worker slot page stamp }
     {
         let ask = self.next_ask(worker);
+        self.set_phase(worker, Phase::Acting);
         self.put_in(worker, ask, slot, page);
         self.marks.set_stamp(page, stamp);
         self.in_flight[page as usize] = false;

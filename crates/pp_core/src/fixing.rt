@@ -1,15 +1,16 @@
 //! Fix: a page that is cached is pinned at once; another gets a frame, that of a victim where none is free, and an
 //! errand of the device is sent out.
 
-ghost use Rattle.std.specs.Prelude.{◌≡◌, ◌<◌, ◌≤◌, ◌-◌, ℕ, IsTrue, Some};
+ghost use Rattle.std.specs.Prelude.{◌≡◌, ◌<◌, ◌≤◌, ◌-◌, ℕ, IsTrue, IsFalse, Some};
 ghost use Rattle.pp_plan.specs.Asked.{region_has};
+ghost use Rattle.pp_arc.specs.FourLists.{is_cached};
 ghost use Rattle.pp_arc.specs.Figure.{request};
 ghost use Rattle.pp_model.specs.Fixing.{fixes};
 ghost use Rattle.pp_model.specs.Moves.{is_refusal};
 ghost use Rattle.pp_core.specs.declared.seat.Seat.{Seat};
 ghost use Rattle.pp_core.specs.declared.seat.Phase.TheVariants.{Writing, Reading};
 ghost use Rattle.pp_core.specs.Parts.{parts_of};
-ghost use Rattle.pp_core.specs.StandsFor.{IsKept, Moves};
+ghost use Rattle.pp_core.specs.StandsFor.{IsKept, Moves, Asks};
 ghost use Rattle.pp_core.specs.Effects.{IsIn, Spent, ask_in, frame_at, mark_at, pinned, is_flying, flushed_page};
 ghost use Rattle.pp_core.specs.Effects.{is_busy};
 ghost use Rattle.pp_core.specs.Fixing.{CanHit, CanFill, CanEvict, CanSend, CanTakeOver, filled, evicted, sent};
@@ -58,16 +59,25 @@ impl Table {
     }
 
     /// A worker fixes a page into the slot that its plan names.
-    #[inline(always)]
     pub(crate) fn fix(&mut self, worker: u32, page: u32) -> Reply
         requires { IsKept (parts_of self.old) }
         ensures moves { Moves (parts_of self.old) (Move.Fix worker page) result (parts_of self.new) }
         ensures refusal { IsTrue (is_refusal result) → parts_of self.new ≡ parts_of self.old }
     {
-        let ask = match self.asked(worker) {
-            Ok(ask) => ask,
-            Err(cause) => return Reply::OffPlan(cause),
-        };
+        match self.asked(worker) {
+            Ok(ask) => self.fix_asked(worker, ask, page),
+            Err(cause) => Reply::OffPlan(cause),
+        }
+    }
+
+    /// A worker fixes a page, where its plan asks this.
+    #[inline(always)]
+    pub(crate) fn fix_asked(&mut self, worker: u32, ask: Ask, page: u32) -> Reply
+        requires kept { IsKept (parts_of self.old) }
+        requires asks { Asks (parts_of self.old) worker ask }
+        ensures moves { Moves (parts_of self.old) (Move.Fix worker page) result (parts_of self.new) }
+        ensures refusal { IsTrue (is_refusal result) → parts_of self.new ≡ parts_of self.old }
+    {
         let Some((slot, region)) = wanted(ask) else {
             return Reply::OffPlan(Cause::NotAsked);
         };
@@ -77,8 +87,11 @@ impl Table {
         if self.is_flying(page) {
             return Reply::NotNow(Delay::InFlight);
         }
+        if self.touch(page) {
+            return self.hit(worker, ask, slot, page);
+        }
         match self.request(page) {
-            Answer::Hit => self.hit(worker, ask, slot, page),
+            Answer::Hit => unreachable!(),
             Answer::Free => self.fill(worker, slot, page),
             Answer::Evict(victim) => {
                 if self.marks.is_dirty(victim) {
@@ -91,10 +104,25 @@ impl Table {
         }
     }
 
+    /// Asks ARC for the page if it is cached, and tells whether it is.
+    #[inline(always)]
+    fn touch(&mut self, page: u32) -> bool
+        requires { page < self.old.directory.pages }
+        ensures cached { result ≡ is_cached self.old.directory page }
+        ensures answer { IsTrue result → (request self.old.directory page (is_busy (parts_of self.old))).0 ≡ Answer.Hit }
+        ensures parts { IsTrue result → parts_of self.new ≡ record (parts_of self.old) {
+          lists = (request self.old.directory page (is_busy (parts_of self.old))).1;
+        } }
+        ensures unchanged { IsFalse result → parts_of self.new ≡ parts_of self.old }
+    {
+        self.directory.touch(page, &mut self.search)
+    }
+
     /// Asks ARC for the page. The pages that are taken, and the one that is being flushed, may not leave the cache.
     fn request(&mut self, page: u32) -> Answer
         requires { page < self.old.directory.pages }
         ensures answer { result ≡ (request self.old.directory page (is_busy (parts_of self.old))).0 }
+        ensures hit { result ≡ Answer.Hit → IsTrue (is_cached self.old.directory page) }
         ensures parts { parts_of self.new ≡ record (parts_of self.old) {
           lists = (request self.old.directory page (is_busy (parts_of self.old))).1;
         } }

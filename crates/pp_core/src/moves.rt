@@ -5,7 +5,7 @@ ghost use Rattle.pp_cert.specs.declared.note.Held.TheVariants.{Free};
 ghost use Rattle.pp_model.specs.Pool.{State};
 ghost use Rattle.pp_model.specs.Moves.{is_refusal};
 ghost use Rattle.pp_core.specs.StandsFor.{StandsFor, IsKept, Moves};
-ghost use Rattle.pp_core.specs.Queries.{ask_holding};
+ghost use Rattle.pp_core.specs.Queries.{ask_of, ask_holding};
 ghost use Rattle.pp_core.specs.Headline.{HeadlineHolds};
 
 use crate::machine::Core;
@@ -36,6 +36,20 @@ impl Core {
         ensures budget { self.new.budget + (if is_refusal result then 0 else 1) ≤ self.old.budget }
     {
         self.table.fix(worker, page)
+    }
+
+    /// A worker fixes or gathers a page, as its plan asks: [`Move::Fix`]. Who has asked [`Core::ask`] spares another look at
+    /// what the worker is at.
+    #[inline(always)]
+    pub fn fix_asked(&mut self, worker: u32, ask: Ask, page: u32) -> Reply
+        requires { (s : State) → StandsFor self.old s → ask_of s worker ≡ Some ask }
+        ensures moves { Moves self.old (Move.Fix worker page) result self.new }
+        ensures refusal { IsTrue (is_refusal result) → self.new ≡ self.old }
+        ensures kept { IsKept self.new }
+        ensures headline { HeadlineHolds self.new }
+        ensures budget { self.new.budget + (if is_refusal result then 0 else 1) ≤ self.old.budget }
+    {
+        self.table.fix_asked(worker, ask, page)
     }
 
     /// The device has written a worker's victim back, or has failed to: [`Move::WriteDone`].

@@ -104,7 +104,6 @@ impl Seat {
         ensures { self.new ≡ counted action self.old }
     {
         self.actions += 1;
-        self.phase = Phase::Acting;
         match action {
             Action::Fix { slot, page } => self.fill(slot, page),
             Action::Unfix { slot } => self.empty(slot),

@@ -161,7 +161,7 @@ asked_there slot b a true at e =
     record { is = e; names = at; named = ap (λ k. slot == fix_slot k) (sym same) ∙ at }
 asked_there slot b a false at e = absurd (none_some e)
 
-asked_so : (slot : ℕ) (o : Option Ask) (a : Ask) → asked_at slot o ≡ Some a → AskedAt slot o a
+pub asked_so : (slot : ℕ) (o : Option Ask) (a : Ask) → asked_at slot o ≡ Some a → AskedAt slot o a
 asked_so slot None a e = absurd (none_some e)
 asked_so slot (Some b) a e = asked_there slot b a (slot == fix_slot b) refl e
 

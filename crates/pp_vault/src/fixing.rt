@@ -5,8 +5,9 @@ ghost use Rattle.pp_vault.specs.Parts.{parts_of};
 ghost use Rattle.pp_vault.specs.Fixes.{FixAnswers};
 ghost use Rattle.pp_vault.specs.Fits.{fix_slot, fix_call, asked_at};
 ghost use Rattle.pp_vault.specs.Events.{Refuses, Tells};
-ghost use Rattle.pp_vault.specs.StandsFor.{StandsFor, IsKept};
+ghost use Rattle.pp_vault.specs.StandsFor.{IsKept};
 ghost use Rattle.pp_model.specs.Pool.{State};
+ghost use Rattle.pp_core.specs.StandsFor.{StandsFor as CoreStandsFor};
 ghost use Rattle.pp_core.specs.Queries.{ask_of};
 
 use crate::guards::{BundleGuard, PinGuard};
@@ -41,8 +42,9 @@ fn slot_of(ask: Ask) -> u32
 
 impl Store {
     /// What the plan of the session's worker asks, where the worker acts and the session tells the slot of it.
+    #[inline(always)]
     fn asked_slot(&self, session: &Session) -> Option<Ask>
-        ensures { (s : State) → StandsFor (parts_of self.now) s
+        ensures { (s : State) → CoreStandsFor (parts_of self.now).core s
             → result ≡ asked_at (fix_slot session.now.ask) (ask_of s session.now.worker) }
     {
         match self.core.ask(session.worker) {
@@ -71,7 +73,7 @@ impl Store {
         };
         let worker = session.worker;
         let slot = slot_of(session.ask);
-        let reply = match self.step_fix(worker, page) {
+        let reply = match self.step_fix(worker, asked, page) {
             Ok(reply) => reply,
             Err(refusal) => return Err((session, refusal)),
         };

@@ -4,7 +4,7 @@ ghost use Rattle.std.specs.Prelude.{◌≡◌, ◌<◌, None, Some, IsSome, IfOk
 ghost use Rattle.pp_cert.specs.declared.note.Held.TheVariants.{Free};
 ghost use Rattle.pp_model.specs.Pool.{State};
 ghost use Rattle.pp_core.specs.StandsFor.{StandsFor as CoreStandsFor};
-ghost use Rattle.pp_core.specs.Queries.{ask_holding};
+ghost use Rattle.pp_core.specs.Queries.{ask_of, ask_holding};
 ghost use Rattle.pp_vault.specs.Parts.{parts_of};
 ghost use Rattle.pp_vault.specs.StandsFor.{image_in};
 ghost use Rattle.pp_vault.specs.Steps.{Stepped, Refused, IsDone, IsRefusal};
@@ -49,13 +49,14 @@ impl Store {
         answered(self.core.step(&asked))
     }
 
-    /// Does the fix, if it is possible.
+    /// Does the fix, which the plan asks so, if it is possible.
     #[inline(always)]
-    pub(crate) fn step_fix(&mut self, worker: u32, page: u32) -> Result<Reply, Refusal>
+    pub(crate) fn step_fix(&mut self, worker: u32, ask: Ask, page: u32) -> Result<Reply, Refusal>
+        requires { (s : State) → CoreStandsFor (parts_of self.old).core s → ask_of s worker ≡ Some ask }
         ensures done { IfOk result (λ reply. Stepped (parts_of self.old) (parts_of self.new) (Move.Fix worker page) reply) }
         ensures refused { IfErr result (λ refusal. Refused (parts_of self.old) (parts_of self.new) (Move.Fix worker page) refusal) }
     {
-        answered(self.core.fix(worker, page))
+        answered(self.core.fix_asked(worker, ask, page))
     }
 
     /// Does the answer to a read, if it is possible.
