@@ -388,8 +388,8 @@ impl Busy for Counted {
     }
 }
 
-/// Asks for the pages below 1,064, and says how many of them had a victim.
-fn victims(directory: &mut Directory, search: &mut Search, busy: &Counted) -> u32
+/// Asks for the pages below 1,064, each a second time where that is wanted, and says how many of them had a victim.
+fn victims(directory: &mut Directory, search: &mut Search, busy: &Counted, twice: bool) -> u32
     requires pages { directory.old.pages ≡ 2048 }
     requires knows { KnowsBusy directory.old search.old (λ page. nat_lt page 60) }
 {
@@ -398,23 +398,34 @@ fn victims(directory: &mut Directory, search: &mut Search, busy: &Counted) -> u3
         if matches!(directory.request(page, search, busy), Answer::Evict(_)) {
             count = count.wrapping_add(1);
         }
+        if twice {
+            let _hit = directory.request(page, search, busy);
+        }
     }
     count
 }
 
-/// Of 64 pages 60 stay busy while a thousand others come in: each of the 60 is looked at once, and each victim twice at most.
-#[test]
-fn a_busy_page_is_looked_at_once(rt: HostRuntime) -> Result<(), Fail> {
-    let mut directory = Directory::new(rt.alloc(), 64, 2048)?;
-    let mut search = Search::new(rt.alloc(), 2048)?;
+/// How many victims there are where 64 pages are cached, and how often a page is looked at for them.
+fn looks(alloc: Global, twice: bool) -> Result<(u32, u64), AllocError> {
+    let mut directory = Directory::new(alloc, 64, 2048)?;
+    let mut search = Search::new(alloc, 2048)?;
     let busy = Counted {
         looks: AtomicU64::new(0),
     };
-    let victims = victims(&mut directory, &mut search, &busy);
-    let looks = busy.looks.load(Ordering::SeqCst);
-    assert!(rt;
-        victims == 1000 && looks <= 2060,
-        "{victims} victims by {looks} looks"
-    );
+    let victims = victims(&mut directory, &mut search, &busy, twice);
+    Ok((victims, busy.looks.load(Ordering::SeqCst)))
+}
+
+/// Of 64 pages 60 stay busy while a thousand others come in: each of the 60 is looked at once, and each victim twice at most,
+/// whether pages stand in `T1` or, asked for twice, in `T2`.
+#[test]
+fn a_busy_page_is_looked_at_once(rt: HostRuntime) -> Result<(), Fail> {
+    for twice in [false, true] {
+        let (victims, looks) = looks(rt.alloc(), twice)?;
+        assert!(rt;
+            victims == 1000 && looks <= 2060,
+            "{victims} victims by {looks} looks"
+        );
+    }
     Ok(())
 }
