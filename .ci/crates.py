@@ -1,5 +1,5 @@
 """What crates.txt, docs/architecture.md and the folders of edits say of the crates, for the scripts of the gate."""
-import os, re, shutil
+import glob, os, re, shutil
 
 TOP = os.path.dirname(os.path.dirname(os.path.realpath(__file__)))
 # What a check of a crate reads.
@@ -43,15 +43,20 @@ def above(crate, uses):
 ASIDE = ("Callers to copy from", "Tests", "Times")
 
 
-def of_product(top=TOP):
-    """The crates of the product: those that aren't tests, callers to copy from, or measurements."""
-    found, heading = [], ""
+def headings(top=TOP):
+    """The heading of crates.txt below which each crate stands, by the crate's name, in their order."""
+    found, heading = {}, ""
     for line in text_of(f"{top}/crates.txt").splitlines():
         if line.startswith("# "):
             heading = line[2:].strip()
-        elif ":" in line and heading not in ASIDE:
-            found.append(line.split(":")[0].split()[0])
+        elif ":" in line:
+            found[line.split(":")[0].split()[0]] = heading
     return found
+
+
+def of_product(top=TOP):
+    """The crates of the product: those that aren't tests, callers to copy from, or measurements."""
+    return [it for it, heading in headings(top).items() if heading not in ASIDE]
 
 
 def files_of(crate, top=TOP):
@@ -60,6 +65,11 @@ def files_of(crate, top=TOP):
         for at, folders, names in os.walk(f"{top}/crates/{crate}/{part}"):
             folders.sort()
             yield from (f"{at}/{name}" for name in sorted(names))
+
+
+def sources_of(crate, top=TOP):
+    """The files of the crate's src/."""
+    return sorted(glob.glob(f"{top}/crates/{crate}/src/**/*.rt", recursive=True))
 
 
 def is_program(crate, top=TOP):
