@@ -6,12 +6,24 @@ TOP = os.path.dirname(os.path.dirname(os.path.realpath(__file__)))
 PARTS = ("src", "specs", "proofs", "c")
 # The kinds of work of the gate's table, in the order of its columns.
 KINDS = ("proof", "tests", "wrong bodies")
+# What the largest proof of all crates was seen to take, in kilobytes: that of pp_cli.
+LARGEST_PROOF = 5_000_000
 
 
 def text_of(path):
     """The text of a file."""
     with open(path, encoding="utf-8") as file:
         return file.read()
+
+
+def for_proofs():
+    """The environment for `rt ci`: a proof for each processor, where there is memory for as many of the largest.
+
+    By itself it reckons with twice what a large crate takes, so two of them keep the others waiting, and processors idle.
+    """
+    free = int(re.search(r"MemAvailable: *(\d+)", text_of("/proc/meminfo"))[1])
+    lanes = min(len(os.sched_getaffinity(0)), free // LARGEST_PROOF)
+    return {**({"RT_JOBS": str(lanes)} if lanes > 1 else {}), **os.environ}
 
 
 def head_lines(top=TOP):
