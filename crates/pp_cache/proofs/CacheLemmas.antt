@@ -616,3 +616,21 @@ together-resized s lists size h e = rw e (record {
   cached_has_frame = h.cached_has_frame;
   unpinned_is_cached = h.unpinned_is_cached;
 })
+
+-- ---- a page goes to the front of its list
+
+pub together-first : (s : PageCache) (lists : FourLists) (k : ℕ) → IsTogether s → lists.pages ≡ s.lists.pages
+    → CachesRenamed s.lists lists k k → IsTogether (record s { lists = lists })
+together-first s lists k h pages moved = record {
+  keys = pages ∙ h.keys;
+  cached_has_frame = λ x here. elim ((moved x).0 here) [
+    | inl w ↦ rw w.0 (h.cached_has_frame k w.1)
+    | inr w ↦ h.cached_has_frame x w.0
+  ];
+  unpinned_is_cached = λ x some free.
+      let was : IsTrue (is_cached s.lists x) = h.unpinned_is_cached x some free in
+      elim (cases_eq x k) [
+        | inl is ↦ (moved x).1 (inl (is, rw is at was))
+        | inr ne ↦ (moved x).1 (inr (was, ne, ne))
+      ];
+}

@@ -5,3 +5,4 @@ pub mod LawLemmas
 pub mod NameLemmas
 pub mod WalkLemmas
 pub mod SearchTies
+pub mod TouchLemmas

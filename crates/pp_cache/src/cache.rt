@@ -3,10 +3,11 @@
 ghost use Rattle.std.specs.Prelude.{◌≡◌, ◌≢◌, ℕ, ◌+◌, ◌*◌, ◌<◌, ◌≤◌, ◌↔◌, Bool, true, false, not, nat_lt, is_some, length, ◌&&◌, ◌==◌};
 ghost use Rattle.std.specs.Prelude.{◌||◌, Option, None, Some, IfSome, IsSome, IsTrue, IsFalse, IfOk, IsOk, IsErr, if◌then◌else◌};
 ghost use Rattle.pp_arc.specs.Pages.{contains};
-ghost use Rattle.pp_arc.specs.FourLists.{list_of, is_cached, cached_count};
+ghost use Rattle.pp_arc.specs.FourLists.{list_of, is_cached, cached_count, place};
+ghost use Rattle.pp_arc.specs.Sizes.{dropped_name, renamed};
 ghost use Rattle.pp_arc.specs.Laws.{AllCachedAreBusy};
 ghost use Rattle.pp_cache.specs.Frames.{page_of, frame_of, is_pinned, resident_count, pinned_count, IsFree, with_page};
-ghost use Rattle.pp_cache.specs.Frames.{with_pinned};
+ghost use Rattle.pp_cache.specs.Frames.{with_pinned, with_free_frame};
 ghost use Rattle.pp_cache.specs.declared.left.Left.{Left};
 ghost use Rattle.pp_cache.specs.Cache.{keys_for, without_victim, left_of};
 
@@ -36,9 +37,10 @@ impl Busy for Pinned<'_> {
 
 /// A page cache: which page is in which frame, which pages are pinned, and which page leaves for another.
 ///
-/// It keeps no bytes: frames are numbers, from 0 on, and there are no more of them than pages stood in frames at one
-/// time. Its memory grows with the greatest key and is never given back: 44 bytes for each key up to that one, or up to
-/// twice as many. No call blocks, and a cache belongs to one thread at a time.
+/// It keeps no bytes: frames are numbers, from 0 on, and there is one more of them at most than pages stood in frames at
+/// one time. Its memory grows with the greatest key and is never given back: 44 bytes for each key up to that one, or up
+/// to twice as many. So where keys lie far apart, it is the inner cache of one that gives them small names (`pp_keyed`).
+/// No call blocks, and a cache belongs to one thread at a time.
 ///
 /// A cache whose pages are all pinned gives none away, whatever its size is: so a host keeps what may not be lost.
 #[derive(Drop)]
@@ -178,7 +180,7 @@ impl Cache {
     }
 
     /// Whether a page that stands in no frame may be brought in.
-    fn may_bring_in(&self, create: Create) -> bool
+    pub fn may_bring_in(&self, create: Create) -> bool
         ensures { result ≡ may_bring_in self.now create }
     {
         match create {
@@ -193,6 +195,21 @@ impl Cache {
         ensures { result ≡ is_cached self.now.lists key }
     {
         matches!(self.directory.place(key), Some(List::T1) | Some(List::T2))
+    }
+
+    /// Whether the key stands in a list, or its page in a frame.
+    pub fn stands(&self, key: u32) -> bool
+        ensures value { result ≡ (is_some (place self.now.lists key) || is_some (page_of self.now.table key)) }
+    {
+        self.directory.place(key).is_some() || self.frames.page(key).is_some()
+    }
+
+    /// The remembered key that is dropped where the page of this one is brought in, if one is. Where that page gets a frame
+    /// beyond the size of the cache, none is dropped.
+    pub fn dropped_key(&self, key: u32) -> Option<u32>
+        ensures value { result ≡ dropped_name self.now.lists key }
+    {
+        self.directory.dropped_name(key)
     }
 
     // ---- a page is asked for
@@ -262,16 +279,13 @@ impl Cache {
         ensures sound { IsSound self.new }
     {
         let _page = self.frames.page(key);
-        let pinned = Pinned {
-            frames: &self.frames,
-        };
-        let _answer = self.directory.request(key, &mut self.search, &pinned);
+        self.directory.touch(key, &mut self.search);
         self.frames.set_pinned(key, true);
     }
 
     /// Puts the page of a key, which stands in no frame, into one, and pins it. There is room for the key, and a frame for
     /// one more page.
-    fn bring_in(&mut self, key: u32) -> (u32, Option<Left>)
+    pub fn bring_in(&mut self, key: u32) -> (u32, Option<Left>)
         requires key { key < length self.old.table.pages }
         requires absent { page_of self.old.table key ≡ None }
         requires room { resident_count self.old.table < self.old.table.frames }
@@ -359,16 +373,33 @@ impl Cache {
         self.frames.make_free()
     }
 
+    /// Makes a frame for one more page.
+    ///
+    /// # Errors
+    ///
+    /// Where the memory can't be had; then nothing has changed. Where there is such a frame already, it takes no memory.
+    pub fn reserve_frame(&mut self) -> Result<(), AllocError>
+        ensures reserved { IsOk result → self.new ≡ (record self.old { table = with_free_frame self.old.table }) }
+        ensures room { IsOk result → resident_count self.new.table < self.new.table.frames }
+        ensures succeeds { resident_count self.old.table < self.old.table.frames → IsOk result }
+        ensures unchanged { IsErr result → self.new ≡ self.old }
+        ensures sound { IsSound self.new }
+    {
+        let _ = &self.directory;
+        self.frames.make_free()
+    }
+
     /// Makes room for the key.
     ///
     /// # Errors
     ///
-    /// Where the memory can't be had, and for a key from 4,294,967,292 on. Then no page and no list has changed. Where there
-    /// is room already, it takes no memory, and none comes.
+    /// Where the memory can't be had, and for a key from 4,294,967,292 on. Then nothing has changed. Where there is room
+    /// already, it takes no memory, and none comes.
     pub fn reserve_key(&mut self, alloc: Global, key: u32) -> Result<(), AllocError>
         ensures reserved { IsOk result → self.new ≡ with_key self.old key }
         ensures key { IsOk result → key < length self.new.table.pages }
         ensures succeeds { key < length self.old.table.pages → IsOk result }
+        ensures unchanged { IsErr result → self.new ≡ self.old }
         ensures same_pages { SamePages self.old self.new }
         ensures sound { IsSound self.new }
     {
@@ -383,7 +414,7 @@ impl Cache {
     }
 
     /// Makes room for so many keys. Want of memory leaves all as it was.
-    fn grow(&mut self, alloc: Global, keys: u32) -> Result<(), AllocError>
+    pub fn grow(&mut self, alloc: Global, keys: u32) -> Result<(), AllocError>
         requires more { length self.old.table.pages ≤ keys }
         requires fits { keys ≤ 4294967292 }
         ensures grown { IsOk result → self.new ≡ grown self.old keys }
@@ -449,7 +480,7 @@ impl Cache {
     }
 
     /// The page of the key leaves its frame, pinned or not, and its name leaves the lists.
-    fn drop_page(&mut self, key: u32)
+    pub fn drop_page(&mut self, key: u32)
         ensures exact { self.new ≡ dropped self.old key }
         ensures others_stay { (other : ℕ) → other ≢ key → page_of self.new.table other ≡ page_of self.old.table other }
         ensures sound { IsSound self.new }
@@ -484,6 +515,16 @@ impl Cache {
         self.frames.release(new);
         self.frames.rename(old, new);
         self.directory.rename(old, new, &mut self.search);
+    }
+
+    /// The page of the key goes to the front of its list, if it stands in one.
+    pub fn move_first(&mut self, key: u32)
+        requires below { key < length self.old.table.pages }
+        ensures exact { self.new ≡ (record self.old { lists = renamed self.old.lists key key }) }
+        ensures sound { IsSound self.new }
+    {
+        let _ = &self.frames;
+        self.directory.rename(key, key, &mut self.search);
     }
 
     // ---- many pages at once

@@ -1,0 +1,3 @@
+-- What contracts cite.
+pub mod Renamed
+pub mod Keyed
