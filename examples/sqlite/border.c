@@ -5,6 +5,7 @@
 #include <stdio.h>
 #include <stdlib.h>
 #include <string.h>
+#include <time.h>
 
 static int wrong;
 #define SEE(it) ((it) ? (void)0 : (void)(wrong++, printf("border: line %d: %s\n", __LINE__, #it)))
@@ -17,7 +18,7 @@ static int is_within;
 
 static void see_busy(void) {
     pinpool_page page = {PINPOOL_HIT, 9, 9, 9};
-    pinpool_counts counts = {9, 9, 9, 9, 9, 9, 9, 9, 9};
+    pinpool_counts counts = {9, 9, 9, 9, 9, 9, 9, 9, 9, 9};
     uint32_t key = 7;
     int stays = 0;
     SEE(pinpool_cache_fetch(within, 1, PINPOOL_ALWAYS, &page) == PINPOOL_BUSY && page.found == PINPOOL_NOTHING);
@@ -27,7 +28,7 @@ static void see_busy(void) {
     SEE(pinpool_cache_next(within, 1, &key, &page) == PINPOOL_BUSY && page.found == PINPOOL_NOTHING && key == 7);
     SEE(pinpool_cache_counts(within, &counts) == PINPOOL_BUSY && !counts.size && !counts.bytes);
     SEE(pinpool_cache_unpin(within, 1, 0, &stays) == PINPOOL_BUSY && stays == 1);
-    SEE(pinpool_cache_reserve(within, 1) == PINPOOL_BUSY && pinpool_cache_rekey(within, 1, 2) == PINPOOL_BUSY);
+    SEE(pinpool_cache_reserve(within) == PINPOOL_BUSY && pinpool_cache_rekey(within, 1, 2) == PINPOOL_BUSY);
     SEE(pinpool_cache_truncate(within, 0) == PINPOOL_BUSY && pinpool_cache_shrink(within) == PINPOOL_BUSY);
     SEE(pinpool_cache_resize(within, 5) == PINPOOL_BUSY);
     pinpool_cache_free(within);
@@ -70,12 +71,12 @@ static void *get_second(size_t bytes) { return blocks_of[1]++, malloc(bytes); }
 static void *resize_second(void *at, size_t bytes) { return realloc(at, bytes); }
 static void give_second(void *at) { blocks_of[1]--, free(at); }
 
-/* A cache has 44 bytes for each key that there is room for, 4 to 8 for each frame, and some 600 more. */
+/* A cache has 64 bytes for each name that there is room for, 4 to 8 for each frame, and some 700 more. */
 static void see_bytes(pinpool_cache *of) {
     pinpool_counts counts;
     SEE(pinpool_cache_counts(of, &counts) == PINPOOL_OK);
-    SEE(counts.bytes >= 44ull * counts.keys + 4ull * counts.frames);
-    SEE(counts.bytes < 44ull * counts.keys + 8ull * counts.frames + 600);
+    SEE(counts.used <= counts.names && counts.bytes >= 64ull * counts.names + 4ull * counts.frames);
+    SEE(counts.bytes < 64ull * counts.names + 8ull * counts.frames + 700);
 }
 
 /* A source that knows how many bytes it has given, and how many at most. What it resizes it copies. */
@@ -100,7 +101,7 @@ static void *resize_measured(void *at, size_t bytes) {
     return larger;
 }
 
-/* While room grows there is half as much memory more. All of it is told, and given back. */
+/* Keys that lie far apart. While room grows there is half as much memory more. All of it is told, and given back. */
 static void see_growth(void) {
     static const pinpool_memory measured = {get_measured, resize_measured, give_measured};
     pinpool_cache *cache;
@@ -108,16 +109,45 @@ static void see_growth(void) {
     pinpool_counts counts;
     pinpool_cache_memory(&measured);
     SEE(pinpool_cache_new(100, &cache) == PINPOOL_OK);
-    for (uint32_t key = 0; key < 70000; key++) {
+    for (uint32_t i = 0; i < 70000; i++) {
+        uint32_t key = i * 61356;
         SEE(pinpool_cache_fetch(cache, key, PINPOOL_ALWAYS, &page) == PINPOOL_OK && page.found == PINPOOL_NEW && page.frame <= 5000);
-        if (key >= 5000) SEE(pinpool_cache_unpin(cache, key, 0, 0) == PINPOOL_OK);
-        if (key == 5000 || key == 69999) see_bytes(cache);
+        if (i >= 5000) SEE(pinpool_cache_unpin(cache, key, 0, 0) == PINPOOL_OK);
+        if (i == 5000 || i == 69999) see_bytes(cache);
     }
     SEE(pinpool_cache_counts(cache, &counts) == PINPOOL_OK && counts.bytes == given && counts.pinned == 5000 && counts.frames == 5001);
+    SEE(counts.names == 8192 && counts.used >= 5000 && counts.used <= 5100 + 100);
     SEE(most > counts.bytes && most < counts.bytes + counts.bytes / 2 + 1000);
     pinpool_cache_free(cache);
     SEE(!given);
     pinpool_cache_memory(0);
+}
+
+/* The greatest key of all costs no more than another one, in memory and in time. */
+static void see_far_keys(void) {
+    static const uint32_t far[] = {60000000, PINPOOL_KEYS - 1, 0};
+    pinpool_cache *cache;
+    pinpool_page page;
+    pinpool_counts counts;
+    clock_t begun = clock();
+    SEE(pinpool_cache_new(100, &cache) == PINPOOL_OK);
+    for (int i = 0; i < 3; i++) SEE(pinpool_cache_fetch(cache, far[i], PINPOOL_ALWAYS, &page) == PINPOOL_OK && page.found == PINPOOL_NEW);
+    SEE(pinpool_cache_counts(cache, &counts) == PINPOOL_OK && counts.bytes < 2000 && counts.names == 16 && counts.used == 3);
+    pinpool_cache_free(cache);
+    SEE(clock() - begun < CLOCKS_PER_SEC / 10);
+}
+
+/* Where there is room, no fetch is refused, nor a rekey, which takes none. */
+static void see_reserved(pinpool_cache *cache) {
+    pinpool_page page;
+    SEE(pinpool_cache_reserve(cache) == PINPOOL_OK);
+    refused = 1;
+    SEE(pinpool_cache_fetch(cache, 4000000000u, PINPOOL_ALWAYS, &page) == PINPOOL_OK && page.found == PINPOOL_NEW);
+    SEE(pinpool_cache_rekey(cache, 4000000000u, PINPOOL_KEYS - 1) == PINPOOL_OK);
+    SEE(pinpool_cache_rekey(cache, PINPOOL_KEYS - 1, PINPOOL_KEYS) == PINPOOL_BAD_KEY && refused == 1);
+    refused = 0;
+    SEE(pinpool_cache_find(cache, PINPOOL_KEYS - 1, &page) == PINPOOL_OK && page.found == PINPOOL_HIT);
+    SEE(pinpool_cache_unpin(cache, PINPOOL_KEYS - 1, 1, 0) == PINPOOL_OK);
 }
 
 static void see_null_pointers(pinpool_cache *cache) {
@@ -129,6 +159,7 @@ static void see_null_pointers(pinpool_cache *cache) {
     SEE(pinpool_cache_fetch(cache, PINPOOL_KEYS, PINPOOL_ALWAYS, &page) == PINPOOL_BAD_KEY && page.found == PINPOOL_NOTHING);
     SEE(pinpool_cache_fetch(cache, 1, PINPOOL_ALWAYS, 0) == PINPOOL_BAD_ARGUMENT && pinpool_cache_fetch(0, 1, PINPOOL_ALWAYS, 0) < 0);
     SEE(pinpool_cache_find(0, 1, &page) == PINPOOL_NO_CACHE && pinpool_cache_find(cache, 1, 0) == PINPOOL_BAD_ARGUMENT);
+    SEE(pinpool_cache_reserve(0) == PINPOOL_NO_CACHE && pinpool_cache_rekey(0, 1, 2) == PINPOOL_NO_CACHE);
     SEE(pinpool_cache_next(cache, 1, 0, &page) == PINPOOL_BAD_ARGUMENT && pinpool_cache_counts(cache, 0) == PINPOOL_BAD_ARGUMENT);
     SEE(pinpool_cache_resize(cache, 0) == PINPOOL_BAD_ARGUMENT && pinpool_cache_resize(0, 1) == PINPOOL_NO_CACHE);
     SEE(pinpool_cache_new(0, &cache) == PINPOOL_BAD_ARGUMENT && !cache && pinpool_cache_new(1, 0) == PINPOOL_BAD_ARGUMENT);
@@ -173,9 +204,12 @@ int main(void) {
     see_bytes(cache);
     see_bytes(other);
     see_growth();
+    see_far_keys();
+    see_reserved(cache);
     within = cache; /* from now on each of its blocks is asked for, and given back, with other calls from within */
-    SEE(pinpool_cache_fetch(cache, 100, PINPOOL_ALWAYS, &page) == PINPOOL_OK && page.found == PINPOOL_NEW);
-    SEE(pinpool_cache_reserve(cache, 5000) == PINPOOL_OK && pinpool_cache_rekey(cache, 100, 20000) == PINPOOL_OK);
+    for (uint32_t key = 100; key < 140; key++)
+        SEE(pinpool_cache_fetch(cache, key, PINPOOL_ALWAYS, &page) == PINPOOL_OK && page.found == PINPOOL_NEW);
+    SEE(pinpool_cache_reserve(cache) == PINPOOL_OK && pinpool_cache_rekey(cache, 100, 20000) == PINPOOL_OK);
     see_bytes(cache);
     see_bytes(other);
     pinpool_cache_free(cache);

@@ -35,7 +35,8 @@ typedef struct counts {
     uint32_t pages;
     uint32_t pinned;
     uint32_t frames;
-    uint32_t keys;
+    uint32_t names;
+    uint32_t used;
 } counts;
 
 uint32_t pinpool_handle_new(handle *handle, uint32_t size);
@@ -44,7 +45,7 @@ uint32_t pinpool_handle_fetch(handle *handle, uint32_t key, uint32_t create, pla
 uint32_t pinpool_handle_frame(handle *handle, uint32_t key, uint32_t *frame);
 uint32_t pinpool_handle_unpin(handle *handle, uint32_t key, uint32_t discard);
 uint32_t pinpool_handle_rekey(handle *handle, uint32_t old, uint32_t new_one);
-uint32_t pinpool_handle_reserve(handle *handle, uint32_t key);
+uint32_t pinpool_handle_reserve(handle *handle);
 uint32_t pinpool_handle_truncate(handle *handle, uint32_t limit);
 uint32_t pinpool_handle_shrink(handle *handle);
 uint32_t pinpool_handle_resize(handle *handle, uint32_t size);
@@ -258,11 +259,9 @@ inline pinpool_status pinpool_cache_unpin(pinpool_cache *cache, uint32_t key, in
     return status_of(answer, 0);
 }
 
-pinpool_status pinpool_cache_reserve(pinpool_cache *cache, uint32_t key) {
+pinpool_status pinpool_cache_reserve(pinpool_cache *cache) {
     pinpool_status status = begin(cache, true);
-    if (status != PINPOOL_OK) return status;
-    uint32_t answer = pinpool_handle_reserve(&cache->held, key);
-    return status_of(answer, key);
+    return status == PINPOOL_OK ? status_of(pinpool_handle_reserve(&cache->held), 0) : status;
 }
 
 pinpool_status pinpool_cache_rekey(pinpool_cache *cache, uint32_t from, uint32_t to) {
@@ -288,7 +287,7 @@ pinpool_status pinpool_cache_resize(pinpool_cache *cache, uint32_t size) {
 }
 
 pinpool_status pinpool_cache_counts(pinpool_cache *cache, pinpool_counts *into) {
-    counts has = {0, 0, 0, 0, 0};
+    counts has = {0, 0, 0, 0, 0, 0};
     if (into) memset(into, 0, sizeof *into);
     pinpool_status status = begin(cache, into);
     if (status != PINPOOL_OK) return status;
@@ -298,7 +297,8 @@ pinpool_status pinpool_cache_counts(pinpool_cache *cache, pinpool_counts *into) 
     into->pages = has.pages;
     into->pinned = has.pinned;
     into->frames = has.frames;
-    into->keys = has.keys;
+    into->names = has.names;
+    into->used = has.used;
     into->hits = cache->hits;
     into->misses = cache->misses;
     into->left = cache->left;

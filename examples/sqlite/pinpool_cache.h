@@ -3,8 +3,8 @@
 **
 ** A frame is a number, from 0 on, and the host keeps its bytes. There is one frame more at most than pages stood in frames at one
 ** time. These are `size` pages, and those that came while all others were pinned. So `size` + 1 buffers are enough where never
-** more than `size` pages are pinned. A key is a number below PINPOOL_KEYS. Keys are best dense, from 0 on, since memory grows
-** with the greatest one. Pages that nobody has pinned leave by ARC.
+** more than `size` pages are pinned. A key is a number below PINPOOL_KEYS, and keys may lie as far apart as they like. Pages that
+** nobody has pinned leave by ARC.
 **
 ** What the calls of the proved side do to the cache is proved (crates/pp_cache_c, docs/guarantees.md); pinpool_cache.c, which is
 ** short, passes the calls below on to these, and isn't proved. Each call answers a pinpool_status: 0 where all is well, and below
@@ -14,15 +14,20 @@
 ** One call at a time is made on a cache, by whichever thread; this goes for find, counts and next too, and nothing tells a host
 ** that breaks it. Different caches can be used by different threads at once.
 **
-** Memory: a cache takes 44 bytes for each key below the greatest one that ever came, or twice that one, 4 to 8 bytes for
-** each frame, and some 600 more. It is given back by pinpool_cache_free alone. pinpool_cache_counts tells it.
-** pinpool_cache_memory says where it comes from. Only new, fetch, reserve and rekey take memory, and where there is room
-** for the key and for one more frame (pinpool_cache_reserve) fetch and rekey take none. As room for keys grows, to twice as
-** many at least, the tables are copied: that takes a step for each key, and for that time half as much more memory.
+** Memory: a cache has a name for each key whose page is in a frame or is remembered by ARC. These are twice `size` at most, and one
+** more for each page beyond the size. It takes 64 bytes for each name that there is room for, 4 to 8 for each frame, and some 700
+** more. Room for names is made where all are used and one more is wanted: for 16 at first, and then for twice as many. So memory goes
+** with the greatest number of pages that were in frames or remembered at one time, whatever their keys are. It is given back by
+** pinpool_cache_free alone. pinpool_cache_counts tells it, and pinpool_cache_memory says where it comes from. Only new, fetch and
+** reserve take memory, and where there is room for one more name and one more frame (pinpool_cache_reserve) fetch takes none. As
+** room for names grows, the tables are copied: that takes a step for each name, and for that time half as much more memory. Where
+** memory is refused in the midst of that, 44 bytes a name more may be kept, which the next growth doesn't ask for again.
 **
-** Steps: each call says how many it takes. ARC's search for a page that may leave passes over pinned ones, over each once while it
-** is pinned, and once more after room for keys has grown. A page that was passed over costs some steps more, once, in the call by which
-** it is unpinned or leaves, and in the one that finds it: one for each time that the number of keys can be halved.
+** Steps: each call says how many it takes. A key's name is found by a hash with linear probing, over two places a name: a step or two,
+** which is told as a fixed number below. The hash is the same in all programs, so who chooses the keys can choose them such that it
+** takes a step for each name. ARC's search for a page that may leave passes over pinned ones, over each once while it
+** is pinned, and once more after room for names has grown. A page that was passed over costs some steps more, once, in the call by
+** which it is unpinned or leaves, and in the one that finds it: one for each time that the number of names can be halved.
 **
 ** A host with changed pages that aren't pinned writes them before it lets them go. A fetch names the page that left for it. But
 ** resize, shrink, truncate and rekey let pages go without naming them: so such a host writes changed pages first (next goes over
@@ -34,8 +39,8 @@
 #include <stddef.h>
 #include <stdint.h>
 
-#define PINPOOL_CACHE_VERSION "0.2.0"
-#define PINPOOL_CACHE_VERSION_NUMBER 200 /* 10,000 for each major version, 100 for each minor one */
+#define PINPOOL_CACHE_VERSION "0.3.0"
+#define PINPOOL_CACHE_VERSION_NUMBER 300 /* 10,000 for each major version, 100 for each minor one */
 
 /* Keys are below this number. */
 #define PINPOOL_KEYS 4294967292u
@@ -95,13 +100,14 @@ typedef struct pinpool_counts {
     uint32_t pages;  /* how many pages are in frames */
     uint32_t pinned; /* how many of these are pinned */
     uint32_t frames; /* frames' numbers are below this one */
-    uint32_t keys;   /* there is room for the keys below this one */
+    uint32_t names;  /* for how many keys there is room: for pages in frames, and for those that are remembered */
+    uint32_t used;   /* how many of these names are used */
     uint64_t hits, misses, left; /* fetches that were HIT, and NEW; pages that left for another */
     uint64_t bytes;  /* what the cache has of memory, all in all */
 } pinpool_counts;
 
 /* Where memory comes from. The three are as malloc, realloc and free, and what get and resize answer is at 8 bytes. They are called in
-** new, fetch, reserve, rekey and free, by the thread that makes the call; where several threads use caches, they have to bear that.
+** new, fetch, reserve and free, by the thread that makes the call; where several threads use caches, they have to bear that.
 ** They return: no longjmp, and no exception of C++, leaves them. From within them, other caches can be used; a call on the same cache
 ** is answered PINPOOL_BUSY, and free does nothing there. */
 typedef struct pinpool_memory {
@@ -110,7 +116,7 @@ typedef struct pinpool_memory {
     void (*give)(void *at);
 } pinpool_memory;
 
-/* The version of the library, and whether it was built from proved code: "0.2.0 proved", or "0.2.0 unproved". */
+/* The version of the library, and whether it was built from proved code: "0.3.0 proved", or "0.3.0 unproved". */
 PINPOOL_API const char *pinpool_cache_version(void);
 
 /* Has each cache that is made from now on take its memory from these; null: from malloc. Caches that are there keep theirs. No
@@ -149,29 +155,27 @@ PINPOOL_API PINPOOL_MUST_USE pinpool_status pinpool_cache_find(pinpool_cache *ca
 ** OK; NO_CACHE; BUSY. But for OK, *stays is 1. */
 PINPOOL_API pinpool_status pinpool_cache_unpin(pinpool_cache *cache, uint32_t key, int discard, int *stays);
 
-/* Makes room for the key, and a frame for one more page. So neither a fetch of this key, nor a rekey to it, is refused or takes
-** memory, if it comes next. (The code keeps all room that it has made, so a rekey to the key may come at any later time; that is
-** proved where no call between them is refused memory.) A fixed number of steps, but where room for keys grows.
-** OK; NO_MEMORY, but never where there is room; BAD_KEY; NO_CACHE; BUSY. */
-PINPOOL_API PINPOOL_MUST_USE pinpool_status pinpool_cache_reserve(pinpool_cache *cache, uint32_t key);
+/* Makes room for one more name, and a frame for one more page. So the next fetch that brings a page in isn't refused and takes no
+** memory, whatever its key is; no other call uses that room up. There is room where counts tells fewer names used than there are, and
+** fewer pages than frames. A fixed number of steps, but where room for names grows.
+** OK; NO_MEMORY, but never where there is room; NO_CACHE; BUSY. */
+PINPOOL_API PINPOOL_MUST_USE pinpool_status pinpool_cache_reserve(pinpool_cache *cache);
 
 /* Gives the page of the key `from` the key `to`, in its frame and with its pin. What had that key is dropped, pinned or not, and its
-** frame is free. Where no page has the key `from`, no page changes; but room is made for `to` all the same, and NO_MEMORY or BAD_KEY
-** may be the answer. A fixed number of steps, but where it makes room.
-** OK; NO_MEMORY, but never where there is room for `to`; BAD_KEY; NO_CACHE; BUSY. */
+** frame is free. Where no page has the key `from`, nothing changes. It takes no memory, and is refused only where `to` is too great,
+** whatever `from` is. A fixed number of steps. OK; BAD_KEY; NO_CACHE; BUSY. */
 PINPOOL_API PINPOOL_MUST_USE pinpool_status pinpool_cache_rekey(pinpool_cache *cache, uint32_t from, uint32_t to);
 
-/* Drops each page whose key is at least limit, pinned or not, and forgets such keys. It takes a step for each key from the
-** limit on that there is room for, whether a page has it or not; or, where these are fewer, one for each key that the cache
-** knows: twice its size at most. Where pages stand beyond the size, it goes over the keys. OK; NO_CACHE; BUSY. */
+/* Drops each page whose key is at least limit, pinned or not, and forgets such keys. It takes a step for each name that there is room
+** for. OK; NO_CACHE; BUSY. */
 PINPOOL_API pinpool_status pinpool_cache_truncate(pinpool_cache *cache, uint32_t limit);
 
-/* Drops each page that isn't pinned. It takes a step for each page within the size of the cache. OK; NO_CACHE; BUSY. */
+/* Drops each page that isn't pinned. It takes a step for each name that there is room for. OK; NO_CACHE; BUSY. */
 PINPOOL_API pinpool_status pinpool_cache_shrink(pinpool_cache *cache);
 
 /* Makes the cache one of `size` pages that nobody has pinned. Where it becomes smaller, pages leave as ARC chooses them;
-** pinned ones keep their frames. It takes no memory. A larger size takes a fixed number of steps. A smaller one takes a step for each
-** page that leaves, for each key that is remembered no more, and for each pinned page that it passes over.
+** pinned ones keep their frames. It takes no memory. It takes a step for each name that there is room for, and a smaller size one for
+** each pinned page that it passes over.
 ** OK; BAD_ARGUMENT where size is 0; NO_CACHE; BUSY. */
 PINPOOL_API pinpool_status pinpool_cache_resize(pinpool_cache *cache, uint32_t size);
 
@@ -179,7 +183,8 @@ PINPOOL_API pinpool_status pinpool_cache_resize(pinpool_cache *cache, uint32_t s
 PINPOOL_API PINPOOL_MUST_USE pinpool_status pinpool_cache_counts(pinpool_cache *cache, pinpool_counts *counts);
 
 /* Writes to *key the least key from `from` on whose page is in a frame, and to *page where: so a host goes over all pages
-** that are cached. HIT, or NOTHING where there is none, and then *key stays. It takes a step for each key that it passes over.
+** that are cached, from 0 on and from one behind each answer. HIT, or NOTHING where there is none, and then *key stays. It takes a
+** step for each name that there is room for.
 ** OK; BAD_ARGUMENT; NO_CACHE; BUSY. But for OK, *page says NOTHING, and *key stays. */
 PINPOOL_API PINPOOL_MUST_USE pinpool_status pinpool_cache_next(
     pinpool_cache *cache, uint32_t from, uint32_t *key, pinpool_page *page);

@@ -11,11 +11,9 @@
 #ifdef PINPOOL_IN_TESTFIXTURE
 void sqlite3BeginBenignMalloc(void);
 void sqlite3EndBenignMalloc(void);
-extern int sqlite3PendingByte; /* which tests change */
 #else
 static void sqlite3BeginBenignMalloc(void) {}
 static void sqlite3EndBenignMalloc(void) {}
-static const int sqlite3PendingByte = 0x40000000;
 #endif
 
 /* More pages than a cache ever has to keep. */
@@ -34,8 +32,6 @@ _Static_assert(sizeof(bytes) % 8 == 0, "SQLite wants its pages at 8 bytes");
 typedef struct cache {
     pinpool_cache *held;
     bytes **by_frame;
-    uint32_t lock_page; /* the page at the pending byte, which SQLite never stores */
-    uint32_t below;     /* for keys below this one there is room, and for the one behind each */
     uint32_t blocks;    /* how many places of by_frame have bytes, and so how many pages are in frames */
     uint32_t pinned;    /* how many of these pages SQLite uses */
     uint32_t full;      /* with so many pages the cache is full: `size`, or more than any where it is squeezed (see may_come) */
@@ -43,17 +39,14 @@ typedef struct cache {
     int keeps_none;     /* SQLite asked for a size of 0, and a cache has 1 at least */
     int is_purgeable;
     uint32_t size;      /* the size that SQLite asked for */
-    uint32_t greatest;  /* no page has a greater key */
+    uint32_t greatest;  /* no page has a greater key, */
+    uint32_t second;    /* and a page that hasn't this greatest one has no greater key than this */
     uint32_t frames;    /* how many places there are in by_frame */
     size_t page_bytes, extra_bytes;
 } cache;
 
 /* `full` of a cache that is squeezed. */
 #define NEVER_FULL UINT32_MAX
-
-/* SQLite numbers its pages from 1. While it sorts the pages of a balance it gives one of them the number of the page at the
-** pending byte, at 1 GB of the file. Here this is key 0, since memory grows with the greatest key. */
-static uint32_t key_of(const cache *c, unsigned number) { return number == c->lock_page ? 0 : number; }
 
 static int init(void *unused) {
     (void)unused;
@@ -68,14 +61,6 @@ static pinpool_counts counts_of(const cache *c) {
     return counts;
 }
 
-/* Makes room for the key and the one behind it, so that no later rekey to these is refused. */
-static int has_room(cache *c, uint32_t key) {
-    if (key < c->below) return 1;
-    if (pinpool_cache_reserve(c->held, key + 1) != PINPOOL_OK) return 0;
-    c->below = counts_of(c).keys - 1;
-    return 1;
-}
-
 static sqlite3_pcache *create(int page_bytes, int extra_bytes, int is_purgeable) {
     cache *c = sqlite3_malloc64(sizeof *c);
     if (!c) return 0;
@@ -83,7 +68,6 @@ static sqlite3_pcache *create(int page_bytes, int extra_bytes, int is_purgeable)
     c->page_bytes = (size_t)page_bytes;
     c->extra_bytes = (size_t)extra_bytes;
     c->is_purgeable = is_purgeable;
-    c->lock_page = (uint32_t)sqlite3PendingByte / (unsigned)page_bytes + 1;
     c->size = c->full = 1;
     /* SQLite tells the size before its first fetch. All pages of an unpurgeable cache stay pinned, whatever the size. */
     if (pinpool_cache_new(1, &c->held) != PINPOOL_OK) {
@@ -182,6 +166,16 @@ static bytes *bytes_of(cache *c, uint32_t frame) {
     return c->by_frame[frame];
 }
 
+/* A page has the key from now on. */
+static void hear_of(cache *c, uint32_t key) {
+    if (key > c->greatest) {
+        c->second = c->greatest;
+        c->greatest = key;
+    } else if (key < c->greatest && key > c->second) {
+        c->second = key;
+    }
+}
+
 /* What a page that was brought in has; none where memory can't be had. */
 static bytes *filled(cache *c, uint32_t key, const pinpool_page *page) {
     if (page->left_key != PINPOOL_NO_KEY && page->left_frame != page->frame) give_back(c, page->left_frame);
@@ -190,7 +184,7 @@ static bytes *filled(cache *c, uint32_t key, const pinpool_page *page) {
         pinpool_cache_unpin(c->held, key, 1, 0);
         return 0;
     }
-    if (key > c->greatest) c->greatest = key;
+    hear_of(c, key);
     c->pinned++;
     b->key = key;
     b->fetches = 1;
@@ -198,29 +192,27 @@ static bytes *filled(cache *c, uint32_t key, const pinpool_page *page) {
     return b;
 }
 
-/* Whether a fetch can be passed on as it is, since bring_in would do no more: there is room for the key, and may_come would answer
-** that the page may come, and leave the cache's size. That one only asks for the heap where the cache isn't full, where it was
-** squeezed before, or where fewer pages are idle than in use. So in a full cache a miss is one call, and no look at the heap. */
-static inline int comes_at_once(const cache *c, uint32_t key, int way) {
-    return way != PINPOOL_NEVER && key < c->below && c->blocks >= c->full &&
-           (way == PINPOOL_ALWAYS || c->blocks - c->pinned >= c->pinned);
+/* Whether a fetch can be passed on as it is, since bring_in would do no more: may_come would answer that the page may come, and
+** leave the cache's size. That one only asks for the heap where the cache isn't full, where it was squeezed before, or where fewer
+** pages are idle than in use. So in a full cache a miss is one call, and no look at the heap. */
+static inline int comes_at_once(const cache *c, int way) {
+    return way != PINPOOL_NEVER && c->blocks >= c->full && (way == PINPOOL_ALWAYS || c->blocks - c->pinned >= c->pinned);
 }
 
 /* Brings in a page that is in no frame, or answers where it was brought in at once. None where it may not be, or memory can't be
 ** had. */
 static bytes *bring_in(cache *c, uint32_t key, int way, pinpool_page *page) {
     if (page->found == PINPOOL_NEW) return filled(c, key, page);
-    if (comes_at_once(c, key, way) || !may_come(c, way) || !has_room(c, key)) return 0;
+    if (comes_at_once(c, way) || !may_come(c, way)) return 0;
     if (pinpool_cache_fetch(c->held, key, (pinpool_create)way, page) != PINPOOL_OK || page->found != PINPOOL_NEW) return 0;
     return filled(c, key, page);
 }
 
-static sqlite3_pcache_page *fetch(sqlite3_pcache *p, unsigned number, int way) {
+static sqlite3_pcache_page *fetch(sqlite3_pcache *p, unsigned key, int way) {
     cache *c = (cache *)p;
     pinpool_page page;
-    uint32_t key = key_of(c, number);
     if (c->is_broken) return 0;
-    pinpool_create at_once = comes_at_once(c, key, way) ? (pinpool_create)way : PINPOOL_NEVER;
+    pinpool_create at_once = comes_at_once(c, way) ? (pinpool_create)way : PINPOOL_NEVER;
     if (pinpool_cache_fetch(c->held, key, at_once, &page) != PINPOOL_OK) return 0;
     if (page.found == PINPOOL_HIT) {
         bytes *b = c->by_frame[page.frame];
@@ -254,17 +246,16 @@ static void unpin(sqlite3_pcache *p, sqlite3_pcache_page *page, int discard) {
         pinpool_cache_unpin(c->held, b->key, 0, 0);
 }
 
-/* SQLite gives a page the number of another one, of the page at the pending byte, or the one behind its last. There is room
-** for each of these (has_room), and then a rekey isn't refused. If it were, SQLite couldn't hear of it: so no page of this
-** cache is given out or gets a number any more, none is dropped by its number, and SQLite is out of memory. What had the number is
-** dropped, if SQLite hasn't done so before, pinned or not, and its bytes are given back. */
+/* SQLite gives a page the number of another one, of the page at 1 GB of the file, which it never stores, or the one behind its last.
+** That takes no memory, and only a number from PINPOOL_KEYS on is refused, of a file of 2 TB or more. SQLite couldn't hear of it: so
+** no page of this cache is given out or gets a number any more, none is dropped by its number, and SQLite is out of memory. What had
+** the number is dropped, if SQLite hasn't done so before, pinned or not, and its bytes are given back. */
 static void rekey(sqlite3_pcache *p, sqlite3_pcache_page *page, unsigned from, unsigned to) {
     cache *c = (cache *)p;
-    uint32_t key = key_of(c, to), before = key_of(c, from);
     pinpool_page other;
-    if (c->is_broken || key == before) return;
-    int is_there = pinpool_cache_find(c->held, key, &other) == PINPOOL_OK && other.found == PINPOOL_HIT;
-    if (pinpool_cache_rekey(c->held, before, key) != PINPOOL_OK) {
+    if (c->is_broken || to == from) return;
+    int is_there = pinpool_cache_find(c->held, to, &other) == PINPOOL_OK && other.found == PINPOOL_HIT;
+    if (pinpool_cache_rekey(c->held, from, to) != PINPOOL_OK) {
         c->is_broken = 1;
         sqlite3_log(SQLITE_NOMEM, "pinpool: page %u can't be page %u", from, to);
         return;
@@ -273,19 +264,21 @@ static void rekey(sqlite3_pcache *p, sqlite3_pcache_page *page, unsigned from, u
         c->pinned -= c->by_frame[other.frame]->fetches > 0;
         give_back(c, other.frame);
     }
-    if (key > c->greatest) c->greatest = key;
-    ((bytes *)page)->key = key;
+    if (from == c->greatest) c->greatest = c->second;
+    hear_of(c, to);
+    ((bytes *)page)->key = to;
 }
 
-/* SQLite truncates after each transaction, and mostly nothing is there to drop. Key 0, the page at the pending byte, stays unless
-** the limit is 0, since it is below each other limit. That does no harm: SQLite has that page only while it balances, and drops
-** it itself. Where a page couldn't get its number, its key may be beyond the limit and its number not, so nothing is dropped. */
+/* SQLite truncates after each transaction, and mostly nothing is there to drop, so the greatest key is kept, and the second, since
+** SQLite gives a page the number of the one at 1 GB only for a moment. Where a page couldn't get its number, its key may be
+** beyond the limit and its number not, so nothing is dropped. */
 static void truncate_from(sqlite3_pcache *p, unsigned limit) {
     cache *c = (cache *)p;
     if (c->is_broken || limit > c->greatest) return;
     uint32_t before = counts_of(c).pages;
     pinpool_cache_truncate(c->held, limit);
     c->greatest = limit ? limit - 1 : 0;
+    if (c->second > c->greatest) c->second = c->greatest;
     sweep(c, before);
 }
 

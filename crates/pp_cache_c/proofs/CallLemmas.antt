@@ -4,14 +4,14 @@ use Rattle.std.specs.Prelude.{Option, None, Some, IsSome, ◌↔◌}
 use Rattle.pp_cache.specs.declared.fetched.Fetched.{Fetched}
 use Rattle.pp_cache.specs.declared.fetched.Fetched.TheVariants.{Hit}
 use Rattle.pp_cache.specs.declared.left.Left.{Left}
-use Rattle.pp_cache.specs.Cache.{PageCache}
+use Rattle.pp_keyed.specs.Keyed.{Keyed}
 use Rattle.pp_cache_c.specs.Calls.{code, place_of, Goes}
 use Rattle.pp_cache_c.specs.declared.handle.Kept.{Kept}
 use Rattle.pp_cache_c.specs.declared.place.Place.{Place}
 use Rattle.pp_cache_c.specs.declared.status.Status.{Status}
 use Rattle.pp_cache_c.specs.declared.status.Status.TheVariants as status
 
-pub goes : (are : PageCache → PageCache → Type 0) (old new : Option Kept) (before after : Kept) → old ≡ Some before
+pub goes : (are : Keyed → Keyed → Type 0) (old new : Option Kept) (before after : Kept) → old ≡ Some before
     → new ≡ Some after → are before.cache after.cache → Goes are old new
 goes are old new before after e f h = rw (e, f) h
 

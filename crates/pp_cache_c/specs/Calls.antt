@@ -1,11 +1,11 @@
 -- What calls from C answer, and what they do to the cache that a handle holds.
-use Rattle.std.specs.Prelude.{◌≡◌, ℕ, Option, None, Some, zero, suc, length}
+use Rattle.std.specs.Prelude.{◌≡◌, ◌≤◌, ◌<◌, ◌+◌, ◌*◌, ℕ, Option, None, Some, zero, suc}
 use Rattle.std.specs.Option.{MatchOption}
 use Rattle.pp_cache.specs.declared.create.Create.{Create}
 use Rattle.pp_cache.specs.declared.create.Create.TheVariants.{Never, IfRoom, Always}
 use Rattle.pp_cache.specs.declared.left.Left.{Left}
 use Rattle.pp_cache.specs.Frames.{resident_count, pinned_count}
-use Rattle.pp_cache.specs.Cache.{PageCache}
+use Rattle.pp_keyed.specs.Keyed.{Keyed}
 use Rattle.pp_cache_c.specs.declared.counts.Counts.{Counts}
 use Rattle.pp_cache_c.specs.declared.place.Place.{Place}
 use Rattle.pp_cache_c.specs.declared.handle.Kept.{Kept}
@@ -35,16 +35,26 @@ place_of frame None = record { frame = frame; left_key = 4294967295; left_frame 
 place_of frame (Some left) = record { frame = frame; left_key = left.key; left_frame = left.frame }
 
 -- What C sees of how much a cache has.
-abbrev pub counts_of : PageCache → Counts
-counts_of s = record {
-  size = s.lists.c;
-  pages = resident_count s.table;
-  pinned = pinned_count s.table;
-  frames = s.table.frames;
-  keys = length s.table.pages;
+abbrev pub counts_of : Keyed → Counts
+counts_of k = record {
+  size = k.cache.lists.c;
+  pages = resident_count k.cache.table;
+  pinned = pinned_count k.cache.table;
+  frames = k.cache.table.frames;
+  names = k.room;
+  used = k.used;
 }
 
+-- There is as much room for keys as before, and no more of it is used: so room that was made for a fetch stays.
+abbrev pub KeepsRoom : Keyed → Keyed → Type 0
+KeepsRoom old new = (new.room ≡ old.room) × (new.used ≤ old.used)
+
+-- No room is taken away. It grows where all of it is used, and in no other case, to twice as much and 32 places at most.
+abbrev pub GrowsRoom : Keyed → Keyed → Type 0
+GrowsRoom old new =
+    (old.room ≤ new.room) × (old.used < old.room → new.room ≡ old.room) × (new.room ≤ 2 * old.room + 32)
+
 -- A handle holds a cache after the call exactly where it held one before, and these two caches are so.
-abbrev pub Goes : (PageCache → PageCache → Type 0) → Option Kept → Option Kept → Type 0
+abbrev pub Goes : (Keyed → Keyed → Type 0) → Option Kept → Option Kept → Type 0
 Goes are old new =
     MatchOption old (new ≡ None) (λ before. MatchOption new ⊥ (λ after. are before.cache after.cache))

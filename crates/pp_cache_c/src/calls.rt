@@ -1,21 +1,25 @@
 //! The calls that C makes.
 
-ghost use Rattle.std.specs.Prelude.{◌≡◌, ◌≢◌, ◌↔◌, ℕ, ◌<◌, ◌≤◌, IsTrue, IsFalse, IsSome, is_some, not, nat_lt, ◌==◌, length};
-ghost use Rattle.std.specs.Prelude.{Some, None, if◌then◌else◌};
+ghost use Rattle.std.specs.Prelude.{◌≡◌, ◌≢◌, ◌↔◌, ℕ, ◌+◌, ◌<◌, ◌≤◌, IsTrue, IsFalse, IsSome, is_some, not, nat_lt, ◌==◌};
+ghost use Rattle.std.specs.Prelude.{Some, None, length, if◌then◌else◌};
 ghost use Rattle.std.specs.Option.{MatchOption, IfSome, option_map_or};
 ghost use Rattle.pp_cache.specs.declared.create.Create.{Create};
 ghost use Rattle.pp_cache.specs.Frames.{page_of, frame_of, resident_count, IsFree};
-ghost use Rattle.pp_cache.specs.Cache.{empty_cache, asked, without_victim, with_key, with_room, may_bring_in, after_pin};
-ghost use Rattle.pp_cache.specs.Cache.{after_bring_in, after_unpin, after_rekey, after_resize, is_idle, KeepsOnly, SamePages};
-ghost use Rattle.pp_cache.specs.Cache.{PinnedStay, left_of};
-ghost use Rattle.pp_cache_c.specs.Calls.{code, create_of, counts_of, place_of, Goes};
+ghost use Rattle.pp_cache.specs.Cache.{asked, without_victim, may_bring_in, after_pin, after_bring_in, after_unpin, after_rekey};
+ghost use Rattle.pp_cache.specs.Cache.{after_resize, is_idle, KeepsOnly, PinnedStay, left_of};
+ghost use Rattle.pp_keyed.specs.Keyed.{empty_keyed, with_frame};
+ghost use Rattle.pp_cache_c.specs.Calls.{code, create_of, counts_of, place_of, Goes, KeepsRoom, GrowsRoom};
 
 use crate::counts::Counts;
 use crate::handle::{Handle, Kept, put, take};
 use crate::place::Place;
 use crate::status::Status;
-use pp_cache::{Cache, Create, Fetched};
+use pp_cache::{Create, Fetched};
+use pp_keyed::KeyedCache;
 use std::alloc::Global;
+
+/// Each key is below this number.
+const MOST_KEYS: u32 = 4_294_967_292;
 
 // ---- a cache
 
@@ -28,7 +32,7 @@ pub extern "C" fn pinpool_handle_new(alloc: Global, handle: &mut Handle, size: u
     ensures no_room { result ≢ code Status.Done → result ≢ code Status.BadArgument → result ≡ code Status.NoRoom }
     ensures unchanged { result ≢ code Status.Done → handle.new.value ≡ handle.old.value }
     ensures made { result ≡ code Status.Done
-        → MatchOption handle.new.value ⊥ (λ kept. kept.cache ≡ empty_cache size) }
+        → MatchOption handle.new.value ⊥ (λ kept. kept.cache ≡ record { cache = empty_keyed size; room = 0; used = 0 }) }
 {
     if size == 0 {
         return Status::BadArgument.code();
@@ -44,9 +48,9 @@ pub extern "C" fn pinpool_handle_new(alloc: Global, handle: &mut Handle, size: u
 /// An empty cache in a box, where there is memory for it.
 fn kept_of(alloc: Global, size: u32) -> Option<Box<Kept>>
     requires holds_a_page { 1 ≤ size }
-    ensures empty { IfSome result (λ kept. kept.value.cache ≡ empty_cache size) }
+    ensures empty { IfSome result (λ kept. kept.value.cache ≡ record { cache = empty_keyed size; room = 0; used = 0 }) }
 {
-    let cache = Cache::new(alloc, size).ok()?;
+    let cache = KeyedCache::new(alloc, size).ok()?;
     Box::new(alloc, Kept { cache }).ok()
 }
 
@@ -75,23 +79,27 @@ pub extern "C" fn pinpool_handle_fetch(
 ) -> u32
     ensures null { (result ≡ code Status.NoCache) ↔ (handle.old.value ≡ None) }
     ensures hit { Goes (λ old new. result ≡ code Status.Hit
-        → (frame_of old.table key ≡ Some place.new.frame) × (place.new ≡ place_of place.new.frame None)
-        × (new ≡ after_pin old key)) handle.old.value handle.new.value }
-    ensures resident { Goes (λ old new. create < 3 → IsSome (frame_of old.table key) → result ≡ code Status.Hit)
+        → (frame_of old.cache.table key ≡ Some place.new.frame) × (place.new ≡ place_of place.new.frame None)
+        × (new ≡ record old { cache = after_pin old.cache key })) handle.old.value handle.new.value }
+    ensures resident { Goes (λ old new. create < 3 → IsSome (frame_of old.cache.table key) → result ≡ code Status.Hit)
         handle.old.value handle.new.value }
-    ensures new { Goes (λ old new. result ≡ code Status.New
-        → (new ≡ after_bring_in (with_room old key) key place.new.frame)
-        × IsFree (without_victim (with_room old key).table (asked (with_room old key) key).0) place.new.frame
-        × (place.new ≡ place_of place.new.frame (left_of (with_room old key).table (asked (with_room old key) key).0))
-        × IfSome (create_of create) (λ way. IsTrue (may_bring_in old way))) handle.old.value handle.new.value }
+    ensures new { Goes (λ old new. result ≡ code Status.New → (key < 4294967292)
+        × (new.cache ≡ after_bring_in (with_frame old.cache) key place.new.frame)
+        × IsFree (without_victim (with_frame old.cache).table (asked old.cache key).0) place.new.frame
+        × (place.new ≡ place_of place.new.frame (left_of old.cache.table (asked old.cache key).0))
+        × IfSome (create_of create) (λ way. IsTrue (may_bring_in old.cache way))) handle.old.value handle.new.value }
     ensures nothing { Goes (λ old new. result ≡ code Status.Nothing → (new ≡ old)
-        × IfSome (create_of create) (λ way. IsFalse (may_bring_in old way))) handle.old.value handle.new.value }
-    ensures no_room { Goes (λ old new. result ≡ code Status.NoRoom → SamePages old new) handle.old.value handle.new.value }
-    ensures succeeds { Goes (λ old new. key < length old.table.pages → resident_count old.table < old.table.frames
-        → result ≢ code Status.NoRoom) handle.old.value handle.new.value }
+        × IfSome (create_of create) (λ way. IsFalse (may_bring_in old.cache way))) handle.old.value handle.new.value }
+    ensures no_room { Goes (λ old new. result ≡ code Status.NoRoom → (new.cache ≡ old.cache) × (new.used ≡ old.used))
+        handle.old.value handle.new.value }
+    ensures succeeds { Goes (λ old new. key < 4294967292 → old.used < old.room
+        → resident_count old.cache.table < old.cache.table.frames → result ≢ code Status.NoRoom)
+        handle.old.value handle.new.value }
+    ensures used { Goes (λ old new. new.used ≤ old.used + 1) handle.old.value handle.new.value }
+    ensures room { Goes GrowsRoom handle.old.value handle.new.value }
     ensures bad { Goes (λ old new. (result ≡ code Status.BadArgument) ↔ (3 ≤ create)) handle.old.value handle.new.value }
     ensures unchanged { Goes (λ old new. 3 ≤ create → new ≡ old) handle.old.value handle.new.value }
-    ensures pinned_stay { Goes (λ old new. PinnedStay old.table new.table) handle.old.value handle.new.value }
+    ensures pinned_stay { Goes (λ old new. PinnedStay old.cache.table new.cache.table) handle.old.value handle.new.value }
     ensures place { result ≢ code Status.Hit → result ≢ code Status.New → place.new ≡ place.old }
 {
     match take(alloc, handle) {
@@ -117,32 +125,33 @@ fn way_of(create: u32) -> Option<Create>
     }
 }
 
-fn fetch(alloc: Global, cache: &mut Cache, key: u32, create: u32, place: &mut Place) -> Status
+fn fetch(alloc: Global, kept: &mut KeyedCache, key: u32, create: u32, place: &mut Place) -> Status
     ensures there { result ≢ Status.NoCache }
     ensures hit { result ≡ Status.Hit
-        → (frame_of cache.old.table key ≡ Some place.new.frame) × (place.new ≡ place_of place.new.frame None)
-        × (cache.new ≡ after_pin cache.old key) }
-    ensures resident { create < 3 → IsSome (frame_of cache.old.table key) → result ≡ Status.Hit }
-    ensures new { result ≡ Status.New → (cache.new ≡ after_bring_in (with_room cache.old key) key place.new.frame)
-        × IsFree (without_victim (with_room cache.old key).table (asked (with_room cache.old key) key).0) place.new.frame
-        × (place.new ≡ place_of place.new.frame
-        (left_of (with_room cache.old key).table (asked (with_room cache.old key) key).0))
-        × IfSome (create_of create) (λ way. IsTrue (may_bring_in cache.old way)) }
-    ensures nothing { result ≡ Status.Nothing → (cache.new ≡ cache.old)
-        × IfSome (create_of create) (λ way. IsFalse (may_bring_in cache.old way)) }
-    ensures no_room { result ≡ Status.NoRoom → SamePages cache.old cache.new }
-    ensures succeeds { key < length cache.old.table.pages → resident_count cache.old.table < cache.old.table.frames
-        → result ≢ Status.NoRoom }
+        → (frame_of kept.old.cache.table key ≡ Some place.new.frame) × (place.new ≡ place_of place.new.frame None)
+        × (kept.new ≡ record kept.old { cache = after_pin kept.old.cache key }) }
+    ensures resident { create < 3 → IsSome (frame_of kept.old.cache.table key) → result ≡ Status.Hit }
+    ensures new { result ≡ Status.New → (key < 4294967292) × (kept.new.cache ≡ after_bring_in (with_frame kept.old.cache) key place.new.frame)
+        × IsFree (without_victim (with_frame kept.old.cache).table (asked kept.old.cache key).0) place.new.frame
+        × (place.new ≡ place_of place.new.frame (left_of kept.old.cache.table (asked kept.old.cache key).0))
+        × IfSome (create_of create) (λ way. IsTrue (may_bring_in kept.old.cache way)) }
+    ensures nothing { result ≡ Status.Nothing → (kept.new ≡ kept.old)
+        × IfSome (create_of create) (λ way. IsFalse (may_bring_in kept.old.cache way)) }
+    ensures no_room { result ≡ Status.NoRoom → (kept.new.cache ≡ kept.old.cache) × (kept.new.used ≡ kept.old.used) }
+    ensures succeeds { key < 4294967292 → kept.old.used < kept.old.room
+        → resident_count kept.old.cache.table < kept.old.cache.table.frames → result ≢ Status.NoRoom }
+    ensures used { kept.new.used ≤ kept.old.used + 1 }
+    ensures room { GrowsRoom kept.old kept.new }
     ensures bad { (result ≡ Status.BadArgument) ↔ (3 ≤ create) }
-    ensures unchanged { 3 ≤ create → cache.new ≡ cache.old }
-    ensures pinned_stay { PinnedStay cache.old.table cache.new.table }
+    ensures unchanged { 3 ≤ create → kept.new ≡ kept.old }
+    ensures pinned_stay { PinnedStay kept.old.cache.table kept.new.cache.table }
     ensures place { result ≢ Status.Hit → result ≢ Status.New → place.new ≡ place.old }
 {
     let way = match way_of(create) {
         None => return Status::BadArgument,
         Some(way) => way,
     };
-    match cache.fetch(alloc, key, way) {
+    match kept.fetch(alloc, key, way) {
         Fetched::Hit(frame) => {
             *place = Place::of(frame, None);
             Status::Hit
@@ -168,8 +177,9 @@ pub extern "C" fn pinpool_handle_frame(
 ) -> u32
     ensures null { (result ≡ code Status.NoCache) ↔ (handle.old.value ≡ None) }
     ensures unchanged { handle.new.value ≡ handle.old.value }
+    ensures keys { IfSome handle.old.value (λ kept. length kept.cache.cache.table.pages ≡ 4294967292) }
     ensures hit { IfSome handle.old.value (λ kept.
-        frame_of kept.cache.table key ≡ (if result == code Status.Hit then Some frame.new else None)) }
+        frame_of kept.cache.cache.table key ≡ (if result == code Status.Hit then Some frame.new else None)) }
     ensures frame { result ≢ code Status.Hit → frame.new ≡ frame.old }
 {
     match take(alloc, handle) {
@@ -200,8 +210,10 @@ pub extern "C" fn pinpool_handle_unpin(
 ) -> u32
     ensures null { (result ≡ code Status.NoCache) ↔ (handle.old.value ≡ None) }
     ensures stays { IfSome handle.new.value (λ kept.
-        result ≡ (if is_some (page_of kept.cache.table key) then code Status.Done else code Status.Nothing)) }
-    ensures exact { Goes (λ old new. new ≡ after_unpin old key (nat_lt 0 discard)) handle.old.value handle.new.value }
+        result ≡ (if is_some (page_of kept.cache.cache.table key) then code Status.Done else code Status.Nothing)) }
+    ensures exact { Goes (λ old new. new.cache ≡ after_unpin old.cache key (nat_lt 0 discard))
+        handle.old.value handle.new.value }
+    ensures room { Goes KeepsRoom handle.old.value handle.new.value }
 {
     match take(alloc, handle) {
         None => Status::NoCache.code(),
@@ -219,7 +231,7 @@ pub extern "C" fn pinpool_handle_unpin(
 
 /// Gives the page of the key `old`, where it stands in a frame, the key `new`. What had that key is dropped.
 ///
-/// It answers `Done`; `NoRoom`, which changes no page, and never comes where there is room for the key `new`; or `NoCache`.
+/// It takes no memory. It answers `Done`; `NoRoom`, where the key `new` is too great, which changes nothing; or `NoCache`.
 #[unsafe(no_mangle)]
 pub extern "C" fn pinpool_handle_rekey(
     alloc: Global,
@@ -228,72 +240,78 @@ pub extern "C" fn pinpool_handle_rekey(
     new: u32,
 ) -> u32
     ensures null { (result ≡ code Status.NoCache) ↔ (handle.old.value ≡ None) }
-    ensures done { Goes (λ before after. result ≡ code Status.Done → after ≡ after_rekey (with_key before new) old new)
+    ensures done { Goes (λ before after. result ≡ code Status.Done → after.cache ≡ after_rekey before.cache old new)
         handle.old.value handle.new.value }
-    ensures same { Goes (λ before after. result ≢ code Status.Done → SamePages before after)
+    ensures same { Goes (λ before after. result ≢ code Status.Done → after ≡ before) handle.old.value handle.new.value }
+    ensures room { Goes KeepsRoom handle.old.value handle.new.value }
+    ensures succeeds { Goes (λ before after. new < 4294967292 → result ≡ code Status.Done)
         handle.old.value handle.new.value }
-    ensures succeeds { Goes (λ before after. new < length before.table.pages → result ≡ code Status.Done)
+    ensures great { Goes (λ before after. 4294967292 ≤ new → result ≡ code Status.NoRoom)
         handle.old.value handle.new.value }
 {
     match take(alloc, handle) {
         None => Status::NoCache.code(),
         Some(mut kept) => {
-            let status = rekey(alloc, &mut kept.cache, old, new);
+            let status = rekey(&mut kept.cache, old, new);
             put(handle, kept);
             status.code()
         }
     }
 }
 
-fn rekey(alloc: Global, cache: &mut Cache, old: u32, new: u32) -> Status
+fn rekey(kept: &mut KeyedCache, old: u32, new: u32) -> Status
     ensures there { result ≢ Status.NoCache }
-    ensures done { result ≡ Status.Done → cache.new ≡ after_rekey (with_key cache.old new) old new }
-    ensures same { result ≢ Status.Done → SamePages cache.old cache.new }
-    ensures succeeds { new < length cache.old.table.pages → result ≡ Status.Done }
+    ensures done { result ≡ Status.Done → kept.new.cache ≡ after_rekey kept.old.cache old new }
+    ensures same { result ≢ Status.Done → kept.new ≡ kept.old }
+    ensures room { KeepsRoom kept.old kept.new }
+    ensures succeeds { new < 4294967292 → result ≡ Status.Done }
+    ensures great { 4294967292 ≤ new → result ≡ Status.NoRoom }
 {
-    match cache.reserve_key(alloc, new) {
-        Err(_) => Status::NoRoom,
-        Ok(()) => {
-            cache.rekey(old, new);
-            Status::Done
-        }
+    if new >= MOST_KEYS {
+        return Status::NoRoom;
     }
+    kept.rekey(old, new);
+    Status::Done
 }
 
-/// Makes room for the key, and a frame for one more page, so that neither the next fetch of this key nor a rekey to it is
-/// refused.
+/// Makes room for one more key, and a frame for one more page, so that the next fetch isn't refused, whatever its key.
 ///
 /// It answers `Done`; `NoRoom`, which changes no page, and never comes where there is room; or `NoCache`.
 #[unsafe(no_mangle)]
-pub extern "C" fn pinpool_handle_reserve(alloc: Global, handle: &mut Handle, key: u32) -> u32
+pub extern "C" fn pinpool_handle_reserve(alloc: Global, handle: &mut Handle) -> u32
     ensures null { (result ≡ code Status.NoCache) ↔ (handle.old.value ≡ None) }
-    ensures done { Goes (λ old new. result ≡ code Status.Done → new ≡ with_room old key) handle.old.value handle.new.value }
-    ensures room { Goes (λ old new. result ≡ code Status.Done
-        → (key < length new.table.pages) × (resident_count new.table < new.table.frames)) handle.old.value handle.new.value }
-    ensures same { Goes (λ old new. SamePages old new) handle.old.value handle.new.value }
-    ensures succeeds { Goes (λ old new. key < length old.table.pages → resident_count old.table < old.table.frames
+    ensures done { Goes (λ old new. result ≡ code Status.Done → new.cache ≡ with_frame old.cache)
+        handle.old.value handle.new.value }
+    ensures room { Goes (λ old new. result ≡ code Status.Done → (new.used < new.room)
+        × (resident_count new.cache.table < new.cache.table.frames)) handle.old.value handle.new.value }
+    ensures same { Goes (λ old new. result ≢ code Status.Done → new.cache ≡ old.cache) handle.old.value handle.new.value }
+    ensures used { Goes (λ old new. new.used ≡ old.used) handle.old.value handle.new.value }
+    ensures grows { Goes GrowsRoom handle.old.value handle.new.value }
+    ensures succeeds { Goes (λ old new. old.used < old.room → resident_count old.cache.table < old.cache.table.frames
         → result ≡ code Status.Done) handle.old.value handle.new.value }
 {
     match take(alloc, handle) {
         None => Status::NoCache.code(),
         Some(mut kept) => {
-            let status = reserve(alloc, &mut kept.cache, key);
+            let status = reserve(alloc, &mut kept.cache);
             put(handle, kept);
             status.code()
         }
     }
 }
 
-fn reserve(alloc: Global, cache: &mut Cache, key: u32) -> Status
+fn reserve(alloc: Global, kept: &mut KeyedCache) -> Status
     ensures there { result ≢ Status.NoCache }
-    ensures done { result ≡ Status.Done → cache.new ≡ with_room cache.old key }
+    ensures done { result ≡ Status.Done → kept.new.cache ≡ with_frame kept.old.cache }
     ensures room { result ≡ Status.Done
-        → (key < length cache.new.table.pages) × (resident_count cache.new.table < cache.new.table.frames) }
-    ensures same { SamePages cache.old cache.new }
-    ensures succeeds { key < length cache.old.table.pages → resident_count cache.old.table < cache.old.table.frames
-        → result ≡ Status.Done }
+        → (kept.new.used < kept.new.room) × (resident_count kept.new.cache.table < kept.new.cache.table.frames) }
+    ensures same { result ≢ Status.Done → kept.new.cache ≡ kept.old.cache }
+    ensures used { kept.new.used ≡ kept.old.used }
+    ensures grows { GrowsRoom kept.old kept.new }
+    ensures succeeds { kept.old.used < kept.old.room
+        → resident_count kept.old.cache.table < kept.old.cache.table.frames → result ≡ Status.Done }
 {
-    match cache.reserve(alloc, key) {
+    match kept.reserve(alloc) {
         Err(_) => Status::NoRoom,
         Ok(()) => Status::Done,
     }
@@ -305,7 +323,9 @@ fn reserve(alloc: Global, cache: &mut Cache, key: u32) -> Status
 #[unsafe(no_mangle)]
 pub extern "C" fn pinpool_handle_truncate(alloc: Global, handle: &mut Handle, limit: u32) -> u32
     ensures status { result ≡ option_map_or (λ _. code Status.Done) handle.old.value (code Status.NoCache) }
-    ensures exact { Goes (λ old new. KeepsOnly (λ key. nat_lt key limit) old new) handle.old.value handle.new.value }
+    ensures exact { Goes (λ old new. KeepsOnly (λ key. nat_lt key limit) old.cache new.cache)
+        handle.old.value handle.new.value }
+    ensures room { Goes KeepsRoom handle.old.value handle.new.value }
 {
     match take(alloc, handle) {
         None => Status::NoCache.code(),
@@ -321,8 +341,9 @@ pub extern "C" fn pinpool_handle_truncate(alloc: Global, handle: &mut Handle, li
 #[unsafe(no_mangle)]
 pub extern "C" fn pinpool_handle_shrink(alloc: Global, handle: &mut Handle) -> u32
     ensures status { result ≡ option_map_or (λ _. code Status.Done) handle.old.value (code Status.NoCache) }
-    ensures exact { Goes (λ old new. KeepsOnly (λ key. not (is_idle old.table key)) old new)
+    ensures exact { Goes (λ old new. KeepsOnly (λ key. not (is_idle old.cache.table key)) old.cache new.cache)
         handle.old.value handle.new.value }
+    ensures room { Goes KeepsRoom handle.old.value handle.new.value }
 {
     match take(alloc, handle) {
         None => Status::NoCache.code(),
@@ -341,8 +362,10 @@ pub extern "C" fn pinpool_handle_shrink(alloc: Global, handle: &mut Handle) -> u
 pub extern "C" fn pinpool_handle_resize(alloc: Global, handle: &mut Handle, size: u32) -> u32
     ensures bad { (result ≡ code Status.BadArgument) ↔ (size ≡ 0) }
     ensures unchanged { size ≡ 0 → handle.new.value ≡ handle.old.value }
-    ensures exact { 1 ≤ size → Goes (λ old new. new ≡ after_resize old size) handle.old.value handle.new.value }
-    ensures pinned_stay { 1 ≤ size → Goes (λ old new. PinnedStay old.table new.table) handle.old.value handle.new.value }
+    ensures exact { 1 ≤ size → Goes (λ old new. new.cache ≡ after_resize old.cache size) handle.old.value handle.new.value }
+    ensures pinned_stay { 1 ≤ size → Goes (λ old new. PinnedStay old.cache.table new.cache.table)
+        handle.old.value handle.new.value }
+    ensures room { 1 ≤ size → Goes KeepsRoom handle.old.value handle.new.value }
 {
     if size == 0 {
         return Status::BadArgument.code();
@@ -360,7 +383,7 @@ pub extern "C" fn pinpool_handle_resize(alloc: Global, handle: &mut Handle, size
 /// How many pages stand in frames: 0 for a null handle.
 #[unsafe(no_mangle)]
 pub extern "C" fn pinpool_handle_pages(alloc: Global, handle: &mut Handle) -> u32
-    ensures value { result ≡ option_map_or (λ kept. resident_count kept.cache.table) handle.old.value 0 }
+    ensures value { result ≡ option_map_or (λ kept. resident_count kept.cache.cache.table) handle.old.value 0 }
     ensures unchanged { handle.new.value ≡ handle.old.value }
 {
     match take(alloc, handle) {
@@ -395,15 +418,16 @@ pub extern "C" fn pinpool_handle_counts(
     }
 }
 
-fn counts_of(cache: &Cache) -> Counts
-    ensures { result ≡ counts_of cache.now }
+fn counts_of(kept: &KeyedCache) -> Counts
+    ensures { result ≡ counts_of kept.now }
 {
     Counts {
-        size: cache.size(),
-        pages: cache.pages(),
-        pinned: cache.pinned(),
-        frames: cache.frames(),
-        keys: cache.keys(),
+        size: kept.size(),
+        pages: kept.pages(),
+        pinned: kept.pinned(),
+        frames: kept.frames(),
+        names: kept.room(),
+        used: kept.used(),
     }
 }
 
@@ -419,9 +443,9 @@ pub extern "C" fn pinpool_handle_next(
 ) -> u32
     ensures null { (result ≡ code Status.NoCache) ↔ (handle.old.value ≡ None) }
     ensures first { IfSome handle.old.value (λ kept. result ≡ code Status.Hit
-        → (from ≤ key.new) × IsSome (page_of kept.cache.table key.new)) }
+        → (from ≤ key.new) × IsSome (page_of kept.cache.cache.table key.new)) }
     ensures least { IfSome handle.old.value (λ kept. (other : ℕ) → from ≤ other → (result ≡ code Status.Hit → other < key.new)
-        → page_of kept.cache.table other ≡ None) }
+        → page_of kept.cache.cache.table other ≡ None) }
     ensures key { result ≢ code Status.Hit → key.new ≡ key.old }
     ensures unchanged { handle.new.value ≡ handle.old.value }
 {

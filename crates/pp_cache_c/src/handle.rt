@@ -7,8 +7,8 @@ ghost use Rattle.std.specs.declared.option.Option.TheVariants.{None, Some};
 ghost use Rattle.std_heap.specs.declared.Global.{Global};
 ghost use Rattle.pp_cache_c.specs.declared.handle.Kept.{Kept};
 
-use pp_cache::Cache;
 use pp_handle::BoxParts;
+use pp_keyed::KeyedCache;
 use std::alloc::Global;
 use std::marker::Model;
 use std::mem;
@@ -18,7 +18,7 @@ use std::ptr::null_mut;
 #[derive(Drop)]
 pub struct Kept {
     /// The cache.
-    pub cache: Cache,
+    pub cache: KeyedCache,
 }
 
 /// A cache that C holds, or none where the pointer is null.

@@ -1,4 +1,4 @@
-//! The page cache of `pp_cache`, called from C.
+//! The page cache of `pp_keyed`, called from C.
 //!
 //! A program in C holds a cache by a [`Handle`], which is one pointer, and calls the functions of `calls`. Each of them is
 //! total: a null handle, a size of 0 and a number that says nothing are answered by a status, and no call asks for more

@@ -52,7 +52,7 @@ impl Tried for Caching<'_> {
 }
 
 /// A fetch answers that there is no room where the memory for the page can't be had.
-fn fetched(fetched: Fetched) -> Answer {
+pub(crate) fn fetched(fetched: Fetched) -> Answer {
     match fetched {
         Fetched::Hit(frame) => Answer::One("hit", u64::from(frame)),
         Fetched::New(frame, _left) => Answer::One("new", u64::from(frame)),

@@ -7,6 +7,7 @@
 mod caches;
 mod journals;
 mod judging;
+mod keyed;
 mod making;
 mod playing;
 mod samples;
@@ -40,10 +41,14 @@ fn case<R: Files<File = File> + AllocGlobal + Print + Wait + Copy + Drop>(
             rt, call, row,
         ),
         "pp_cache" if call != "Cache::new" => caches::case(rt, call),
+        "pp_keyed" if call != "KeyedCache::new" => keyed::case(rt, call),
+        "pp_names" if call != "Names::new" => keyed::case(rt, call),
         "pp_arc"
         | "pp_frames"
         | "pp_bundles"
         | "pp_cache"
+        | "pp_keyed"
+        | "pp_names"
         | "pp_core"
         | "pp_outset"
         | "pp_device"

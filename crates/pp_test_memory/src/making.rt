@@ -1,5 +1,5 @@
-//! The calls that make a directory, a search, marks, stacks of pages, a cache, a core, an outset, a device and a vault, and a run of a
-//! core.
+//! The calls that make a directory, a search, marks, stacks of pages, names, two caches, a core, an outset, a device and a vault, and
+//! a run of a core.
 
 use crate::samples::MOVES;
 use pp_arc::{Directory, List, Search};
@@ -8,7 +8,9 @@ use pp_cache::Cache;
 use pp_core::Core;
 use pp_device::{Device, SoloDevice};
 use pp_frames::Marks;
+use pp_keyed::KeyedCache;
 use pp_model::Reply;
+use pp_names::Names;
 use pp_outset::Outset;
 use pp_settings::Settings;
 use pp_test_plain::accepted;
@@ -27,6 +29,8 @@ pub fn case<R: AllocGlobal + Print>(rt: &R, call: &str) -> anyhow::Result<()> {
         | "Marks::new"
         | "Bundles::new"
         | "SoloDevice::new"
+        | "Names::new"
+        | "KeyedCache::new"
         | "Cache::new" => twice(rt, &mut Plain { alloc, call }),
         "Core::new" | "Outset::new" | "Vault::new" => twice(
             rt,
@@ -58,6 +62,8 @@ impl Tried for Plain<'_> {
             "Marks::new" => marks(self.alloc),
             "Bundles::new" => bundles(self.alloc),
             "Cache::new" => cache(self.alloc),
+            "Names::new" => names(self.alloc),
+            "KeyedCache::new" => keyed(self.alloc),
             _ => solo(self.alloc),
         }
     }
@@ -112,6 +118,30 @@ fn bundles(alloc: Global) -> Answer {
 fn cache(alloc: Global) -> Answer {
     match Cache::new(alloc, 2) {
         Ok(made) => Answer::One("pages", u64::from(made.pages())),
+        Err(error) => Answer::Lacking(error),
+    }
+}
+
+fn names(alloc: Global) -> Answer {
+    match Names::new(alloc, 5) {
+        Ok(made) => Answer::Two(
+            "names",
+            u64::from(made.len()),
+            "used",
+            u64::from(made.used()),
+        ),
+        Err(error) => Answer::Lacking(error),
+    }
+}
+
+fn keyed(alloc: Global) -> Answer {
+    match KeyedCache::new(alloc, 2) {
+        Ok(made) => Answer::Two(
+            "pages",
+            u64::from(made.pages()),
+            "room",
+            u64::from(made.room()),
+        ),
         Err(error) => Answer::Lacking(error),
     }
 }

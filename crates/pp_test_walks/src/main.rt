@@ -2,15 +2,13 @@
 //!
 //! Rows on a core come first (`rows`). Then moves that look like chance are made on cores, and cores are driven to their end
 //! (`cores`, `ends`). Scripts are played over devices that fail or lie at one call (`scripts`), and pools live lives by chance
-//! (`lives`). Last, calls that look like chance are made on a page cache (`cache`).
+//! (`lives`).
 //!
 //! Beside cores and vaults stands one plain pool (`plain`), which keeps lists of what is held, cached, changed and known, and
 //! goes through them for each answer; a vault's has the bytes as well, over a plain device (`store`). They share nothing with
 //! the pool but the moves, the cues and the replies. ARC's plain lists are those of pp_test_plain.
 #![tactic(auto)]
 
-mod cache;
-mod cache_plain;
 mod common;
 mod cores;
 mod ends;
@@ -40,7 +38,6 @@ fn run<R: std::rt::Files + Print + AllocGlobal>(rt: &R) -> anyhow::Result<()> {
     rt.println(cores::walked(rt.alloc())?)?;
     rt.println(scripts::played(rt)?)?;
     rt.println(lives::lived(rt.alloc())?)?;
-    rt.println(cache::walked(rt.alloc())?)?;
     Ok(())
 }
 

@@ -20,7 +20,7 @@ returns-in-Hit-clause-hit c = λ e.
 
 pub returns-in-New-clause-resident : goal.returns-in-New-clause-resident
 returns-in-New-clause-resident c = λ below some.
-    let is = some_is_hit (New c.in-New.frame c.in-New.left) (frame_of c.args.cache.now.table c.args.key)
+    let is = some_is_hit (New c.in-New.frame c.in-New.left) (frame_of c.args.kept.now.cache.table c.args.key)
     c.in-New.ensures.hit some in
     let n : New c.in-New.frame c.in-New.left ≡ Hit is.0 = is.1 in
     absurd (cc)
@@ -29,29 +29,30 @@ pub returns-in-New-clause-new : goal.returns-in-New-clause-new
 returns-in-New-clause-new c = λ e.
     let at : c.of-in-New.result.frame ≡ c.in-New.frame = framed c.of-in-New.result c.in-New.frame c.in-New.left
     c.of-in-New.ensures in (
+      c.in-New.ensures.key c.in-New.frame c.in-New.left refl,
       rw at (c.in-New.ensures.new c.in-New.frame c.in-New.left refl),
       rw at (c.in-New.ensures.new_is_free c.in-New.frame c.in-New.left refl),
       c.of-in-New.ensures ∙ ap (λ n. place_of n c.in-New.left) (sym at)
           ∙ ap (place_of c.of-in-New.result.frame) (c.in-New.ensures.left c.in-New.frame c.in-New.left refl),
-      subst (λ (way : Option Create). IfSome way (λ w. IsTrue (may_bring_in c.args.cache.now w)))
+      subst (λ (way : Option Create). IfSome way (λ w. IsTrue (may_bring_in c.args.kept.now.cache w)))
           c.in-Some.ensures.value (c.in-New.ensures.may_be_new c.in-New.frame c.in-New.left refl),
     )
 
 pub returns-in-Nothing-clause-resident : goal.returns-in-Nothing-clause-resident
 returns-in-Nothing-clause-resident c = λ below some.
-    let is = some_is_hit Nothing (frame_of c.args.cache.now.table c.args.key) c.in-Nothing.ensures.hit some in
+    let is = some_is_hit Nothing (frame_of c.args.kept.now.cache.table c.args.key) c.in-Nothing.ensures.hit some in
     let n : Nothing ≡ Hit is.0 = is.1 in
     absurd (cc)
 
 pub returns-in-Nothing-clause-nothing : goal.returns-in-Nothing-clause-nothing
 returns-in-Nothing-clause-nothing c = λ e. (
   c.in-Nothing.ensures.unchanged refl,
-  subst (λ (way : Option Create). IfSome way (λ w. IsFalse (may_bring_in c.args.cache.now w)))
+  subst (λ (way : Option Create). IfSome way (λ w. IsFalse (may_bring_in c.args.kept.now.cache w)))
       c.in-Some.ensures.value (c.in-Nothing.ensures.nothing.0 refl).1,
 )
 
 pub returns-in-NoRoom-clause-resident : goal.returns-in-NoRoom-clause-resident
 returns-in-NoRoom-clause-resident c = λ below some.
-    let is = some_is_hit NoRoom (frame_of c.args.cache.now.table c.args.key) c.in-NoRoom.ensures.hit some in
+    let is = some_is_hit NoRoom (frame_of c.args.kept.now.cache.table c.args.key) c.in-NoRoom.ensures.hit some in
     let n : NoRoom ≡ Hit is.0 = is.1 in
     absurd (cc)

@@ -7,6 +7,6 @@ use Rattle.pp_cache_c.proofs.calls.pinpool_handle_shrink.Goals as goal
 
 pub returns-in-Some-clause-exact : goal.returns-in-Some-clause-exact
 returns-in-Some-clause-exact c =
-    goes (λ old new. KeepsOnly (λ key. not (is_idle old.table key)) old new) c.args.handle.now.value
+    goes (λ old new. KeepsOnly (λ key. not (is_idle old.cache.table key)) old.cache new.cache) c.args.handle.now.value
     c.put.new.handle.value c.deref_mut.result.now (record { cache = c.shrink.new.self })
     (c.in-Some.ensures.taken ∙ ap Some (sym c.deref_mut.ensures.value)) c.put.ensures c.shrink.ensures.exact

@@ -7,6 +7,6 @@ use Rattle.pp_cache_c.proofs.calls.pinpool_handle_truncate.Goals as goal
 
 pub returns-in-Some-clause-exact : goal.returns-in-Some-clause-exact
 returns-in-Some-clause-exact c =
-    goes (KeepsOnly (λ key. nat_lt key c.args.limit)) c.args.handle.now.value c.put.new.handle.value
+    goes (λ old new. KeepsOnly (λ key. nat_lt key c.args.limit) old.cache new.cache) c.args.handle.now.value c.put.new.handle.value
     c.deref_mut.result.now (record { cache = c.truncate.new.self })
     (c.in-Some.ensures.taken ∙ ap Some (sym c.deref_mut.ensures.value)) c.put.ensures c.truncate.ensures.exact

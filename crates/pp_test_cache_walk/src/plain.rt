@@ -62,6 +62,11 @@ impl PlainCache {
         self.pages.len()
     }
 
+    /// Whether the page of the key stands in a frame, or is remembered.
+    pub fn knows(&self, key: u32) -> bool {
+        self.page(key).is_some() || self.lists.b1.contains(&key) || self.lists.b2.contains(&key)
+    }
+
     /// How many pages are pinned.
     pub fn pinned_count(&self) -> usize {
         let mut count: usize = 0;

@@ -1,0 +1,73 @@
+//! The calls of names that are to be more, and of a page cache of keys that lie far apart, which has no page yet.
+
+use crate::caches::fetched;
+use pp_cache::Create;
+use pp_keyed::KeyedCache;
+use pp_names::Names;
+use pp_test_rounds::{Answer, Tried, twice};
+use std::alloc::Global;
+
+/// The greatest key of all.
+const KEY: u32 = 4_294_967_291;
+
+/// Does the case of this call. Then the page of the key is fetched once more, and the name of the key is looked up.
+pub fn case<R: AllocGlobal + Print>(rt: &R, call: &str) -> anyhow::Result<()> {
+    let cache = KeyedCache::new(rt.alloc(), 2)?;
+    let mut names = Names::new(rt.alloc(), 1)?;
+    let name = names.give(KEY);
+    let mut naming = Naming {
+        alloc: rt.alloc(),
+        call,
+        cache,
+        names,
+    };
+    twice(rt, &mut naming)?;
+    println!(rt;
+        "{:?}, name {name} is {:?}",
+        naming.cache.fetch(rt.alloc(), KEY, Create::Always),
+        naming.names.name(KEY)
+    )?;
+    Ok(())
+}
+
+/// A cache and names, and a call on one of them.
+#[derive(Drop)]
+struct Naming<'a> {
+    alloc: Global,
+    call: &'a str,
+    cache: KeyedCache,
+    names: Names,
+}
+
+impl Tried for Naming<'_> {
+    type Told = Answer;
+
+    fn stand(&self) -> Option<Answer> {
+        Some(self.told())
+    }
+
+    fn call(&mut self) -> Answer {
+        let made = match self.call {
+            "KeyedCache::reserve" => self.cache.reserve(self.alloc),
+            "Names::grow" => self.names.grow(self.alloc, 40),
+            _ => return fetched(self.cache.fetch(self.alloc, KEY, Create::Always)),
+        };
+        match made {
+            Ok(()) => self.told(),
+            Err(error) => Answer::Lacking(error),
+        }
+    }
+}
+
+impl Naming<'_> {
+    fn told(&self) -> Answer {
+        Answer::Three(
+            "pages",
+            u64::from(self.cache.pages()),
+            "room",
+            u64::from(self.cache.room()),
+            "names",
+            u64::from(self.names.len()),
+        )
+    }
+}
