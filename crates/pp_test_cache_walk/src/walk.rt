@@ -5,6 +5,8 @@
 //! and after some thousand calls all pages are dropped, and other keys come. In a quarter of the calls pages are unpinned so
 //! seldom that in the end all are pinned.
 
+ghost use Rattle.std.specs.Prelude.{◌<◌};
+
 use crate::plain::{PlainCache, Want};
 use pp_cache::{Create, Fetched, Left};
 use pp_keyed::KeyedCache;
@@ -52,15 +54,19 @@ impl Walk {
     }
 
     /// The key of this place, from 0 on. They rise, and the last one is the greatest of all.
-    fn key_at(&self, place: u32) -> u32 {
+    fn key_at(&self, place: u32) -> u32
+        ensures { result < 4294967292 }
+    {
         if place.saturating_add(1) < KEYS {
-            place.saturating_mul(self.apart)
+            place.saturating_mul(self.apart).min(GREATEST)
         } else {
             GREATEST
         }
     }
 
-    fn key(&mut self) -> u32 {
+    fn key(&mut self) -> u32
+        ensures { result < 4294967292 }
+    {
         let most = self.chance.below(KEYS).saturating_add(1);
         let place = self.chance.below(most);
         self.key_at(place)
@@ -146,14 +152,14 @@ impl Walk {
         stays == self.plain.frame(key).is_some()
     }
 
-    fn rekey(&mut self, alloc: Global) -> anyhow::Result<()> {
+    /// A page gets another key, for which no room has to be made.
+    fn rekey(&mut self) -> anyhow::Result<()> {
         let old = self.key();
         let new = self.key();
         self.count(5);
         if let Some(frame) = self.cache.frame(old) {
             self.fill(frame, new)?;
         }
-        self.cache.reserve(alloc)?;
         self.cache.rekey(old, new);
         self.plain.rekey(old, new)?;
         Ok(())
@@ -175,7 +181,7 @@ impl Walk {
             self.count(9);
         }
         if kind < 94 {
-            self.rekey(alloc)?;
+            self.rekey()?;
         } else if kind < 95 {
             let place = self.chance.below(25).saturating_add(15);
             let limit = self.key_at(place).saturating_add(self.chance.below(2));
