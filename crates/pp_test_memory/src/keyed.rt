@@ -49,7 +49,7 @@ impl Tried for Naming<'_> {
     fn call(&mut self) -> Answer {
         let made = match self.call {
             "KeyedCache::reserve" => self.cache.reserve(self.alloc),
-            "Names::grow" => self.names.grow(self.alloc, 40),
+            "Names::grow" => self.names.grow(self.alloc, self.names.len().max(40)),
             _ => return fetched(self.cache.fetch(self.alloc, KEY, Create::Always)),
         };
         match made {
