@@ -43,7 +43,7 @@ impl Tried for Naming<'_> {
     type Told = Answer;
 
     fn stand(&self) -> Option<Answer> {
-        Some(self.told())
+        Some(self.told("used", self.cache.used()))
     }
 
     fn call(&mut self) -> Answer {
@@ -53,19 +53,20 @@ impl Tried for Naming<'_> {
             _ => return fetched(self.cache.fetch(self.alloc, KEY, Create::Always)),
         };
         match made {
-            Ok(()) => self.told(),
+            Ok(()) => self.told("room", self.cache.room()),
             Err(error) => Answer::Lacking(error),
         }
     }
 }
 
 impl Naming<'_> {
-    fn told(&self) -> Answer {
+    /// How many pages and names there are, and a number of the cache's. A refused call may leave more room, and nothing else.
+    fn told(&self, what: &'static str, number: u32) -> Answer {
         Answer::Three(
             "pages",
             u64::from(self.cache.pages()),
-            "room",
-            u64::from(self.cache.room()),
+            what,
+            u64::from(number),
             "names",
             u64::from(self.names.len()),
         )
