@@ -14,6 +14,15 @@
 #define PINPOOL_CACHE_IS "unproved"
 #endif
 
+/* A test that mostly holds, and what a hit doesn't need: that stands in functions of its own, so that a hit saves no registers. */
+#if defined(__GNUC__)
+#define MOSTLY(holds) __builtin_expect(holds, 1)
+#define NOT_INLINE __attribute__((noinline))
+#else
+#define MOSTLY(holds) (holds)
+#define NOT_INLINE
+#endif
+
 /* ---- the proved side */
 
 /* A handle: null, or what the proved side keeps. */
@@ -62,7 +71,8 @@ struct pinpool_cache {
     handle held;
     pinpool_memory memory; /* where its blocks come from, and this one */
     uint32_t busy;         /* how many of these functions are under way for it, and one more while it is freed */
-    uint64_t hits, misses, left, bytes;
+    uint64_t asked, others; /* fetches that began, and those of them that weren't hits */
+    uint64_t misses, left, bytes;
 };
 
 /* ---- memory */
@@ -168,9 +178,9 @@ void pinpool_cache_memory(const pinpool_memory *from) { memory = from ? *from : 
 /* Begins a call on the cache that has somewhere to put its answers. From within get, resize or give none may begin on the same
 ** cache: another one is under way there, and the proved side has taken that cache out of its handle. */
 static inline pinpool_status begin(pinpool_cache *cache, bool has_answers) {
-    if (!cache) return PINPOOL_NO_CACHE;
-    if (cache->busy) return PINPOOL_BUSY;
-    if (!has_answers) return PINPOOL_BAD_ARGUMENT;
+    if (!MOSTLY(cache != 0)) return PINPOOL_NO_CACHE;
+    if (!MOSTLY(!cache->busy)) return PINPOOL_BUSY;
+    if (!MOSTLY(has_answers)) return PINPOOL_BAD_ARGUMENT;
     asking = cache;
     return PINPOOL_OK;
 }
@@ -222,23 +232,35 @@ void pinpool_cache_free(pinpool_cache *cache) {
     cache->memory.give(cache);
 }
 
-/* (inline, as unpin is: so a compiler that sees the whole program puts them into the calls) */
-inline pinpool_status pinpool_cache_fetch(pinpool_cache *cache, uint32_t key, pinpool_create create, pinpool_page *page) {
-    if (page) *page = nowhere;
-    pinpool_status status = begin(cache, page);
-    if (status != PINPOOL_OK) return status;
-    uint32_t answer = pinpool_handle_fetch(&cache->held, key, (uint32_t)create, (place *)(void *)&page->frame);
-    if (answer == HIT) {
-        cache->hits++;
-        page->found = PINPOOL_HIT;
-        return PINPOOL_OK;
-    }
+/* A fetch that was no hit. Its cache is the one that asks for memory: that one is put back after each of the host's functions. Its key
+** stands in the page, where the answer isn't NEW: then the proved side leaves the place alone. */
+static NOT_INLINE pinpool_status fetched_other(uint32_t answer, pinpool_page *page) {
+    pinpool_cache *cache = asking;
+    cache->others++;
     if (answer == NEW) {
         cache->misses++;
         cache->left += page->left_key != PINPOOL_NO_KEY;
         page->found = PINPOOL_NEW;
+        return PINPOOL_OK;
     }
-    return status_of(answer, key);
+    pinpool_status status = status_of(answer, page->left_key);
+    *page = nowhere;
+    return status;
+}
+
+/* (inline, as unpin is: so a compiler that sees the whole program puts them into the calls) */
+inline pinpool_status pinpool_cache_fetch(pinpool_cache *cache, uint32_t key, pinpool_create create, pinpool_page *page) {
+    pinpool_status status = begin(cache, page);
+    if (!MOSTLY(status == PINPOOL_OK)) {
+        if (page) *page = nowhere;
+        return status;
+    }
+    cache->asked++;
+    page->left_key = key;
+    uint32_t answer = pinpool_handle_fetch(&cache->held, key, (uint32_t)create, (place *)(void *)&page->frame);
+    if (!MOSTLY(answer == HIT)) return fetched_other(answer, page);
+    page->found = PINPOOL_HIT;
+    return PINPOOL_OK;
 }
 
 pinpool_status pinpool_cache_find(pinpool_cache *cache, uint32_t key, pinpool_page *page) {
@@ -299,7 +321,7 @@ pinpool_status pinpool_cache_counts(pinpool_cache *cache, pinpool_counts *into) 
     into->frames = has.frames;
     into->names = has.names;
     into->used = has.used;
-    into->hits = cache->hits;
+    into->hits = cache->asked - cache->others;
     into->misses = cache->misses;
     into->left = cache->left;
     into->bytes = cache->bytes;

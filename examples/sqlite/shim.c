@@ -16,24 +16,40 @@ static void sqlite3BeginBenignMalloc(void) {}
 static void sqlite3EndBenignMalloc(void) {}
 #endif
 
+/* What a hit doesn't need stands in functions of its own, so that it saves no registers; a test that mostly holds; and what holds at all
+** times, so that nothing looks whether it does. */
+#if defined(__GNUC__)
+#define NOT_INLINE __attribute__((noinline))
+#define MOSTLY(holds) __builtin_expect(holds, 1)
+#define SURELY(holds) do { if (!(holds)) __builtin_unreachable(); } while (0)
+#else
+#define NOT_INLINE
+#define MOSTLY(holds) (holds)
+#define SURELY(holds)
+#endif
+
 /* More pages than a cache ever has to keep. */
 #define MOST_PAGES 100000000
+
+typedef struct cache cache;
 
 /* The bytes of a frame: SQLite's page and what SQLite keeps beside it follow. */
 typedef struct bytes {
     sqlite3_pcache_page page;
+    cache *owner;
     uint32_t key;
     uint32_t frame;
     uint32_t fetches; /* since it was unpinned */
-    uint32_t unused;  /* so that the page begins at 8 bytes, where a pointer has 4, too */
 } bytes;
-_Static_assert(sizeof(bytes) % 8 == 0, "SQLite wants its pages at 8 bytes");
 
-typedef struct cache {
+/* How many bytes stand before a page, which SQLite wants at 8 bytes. */
+enum { BYTES_BEFORE = (sizeof(bytes) + 7) / 8 * 8 };
+
+struct cache {
     pinpool_cache *held;
     bytes **by_frame;
+    uint32_t at_once;   /* PINPOOL_ALWAYS where the cache is full, else PINPOOL_NEVER (see set_at_once) */
     uint32_t blocks;    /* how many places of by_frame have bytes, and so how many pages are in frames */
-    uint32_t pinned;    /* how many of these pages SQLite uses */
     uint32_t full;      /* with so many pages the cache is full: `size`, or more than any where it is squeezed (see may_come) */
     int is_broken;      /* a page couldn't get its number: then each fetch fails (see rekey) */
     int keeps_none;     /* SQLite asked for a size of 0, and a cache has 1 at least */
@@ -43,7 +59,7 @@ typedef struct cache {
     uint32_t second;    /* and a page that hasn't this greatest one has no greater key than this */
     uint32_t frames;    /* how many places there are in by_frame */
     size_t page_bytes, extra_bytes;
-} cache;
+};
 
 /* `full` of a cache that is squeezed. */
 #define NEVER_FULL UINT32_MAX
@@ -61,6 +77,12 @@ static pinpool_counts counts_of(const cache *c) {
     return counts;
 }
 
+/* A fetch with ALWAYS is passed on as it is where the cache is full, since bring_in would do no more: may_come would answer that the page
+** may come, and leave the cache's size. So in a full cache such a miss is one call. What SQLite asks is masked by at_once, and else passed
+** on as NEVER. */
+_Static_assert(PINPOOL_NEVER == 0 && (PINPOOL_IF_ROOM & PINPOOL_ALWAYS) == 0, "IF_ROOM masked by ALWAYS is NEVER");
+static void set_at_once(cache *c) { c->at_once = c->blocks >= c->full ? PINPOOL_ALWAYS : PINPOOL_NEVER; }
+
 static sqlite3_pcache *create(int page_bytes, int extra_bytes, int is_purgeable) {
     cache *c = sqlite3_malloc64(sizeof *c);
     if (!c) return 0;
@@ -68,7 +90,7 @@ static sqlite3_pcache *create(int page_bytes, int extra_bytes, int is_purgeable)
     c->page_bytes = (size_t)page_bytes;
     c->extra_bytes = (size_t)extra_bytes;
     c->is_purgeable = is_purgeable;
-    c->size = c->full = 1;
+    c->size = c->full = 1; /* (nothing comes at once yet) */
     /* SQLite tells the size before its first fetch. All pages of an unpurgeable cache stay pinned, whatever the size. */
     if (pinpool_cache_new(1, &c->held) != PINPOOL_OK) {
         sqlite3_free(c);
@@ -83,13 +105,12 @@ static void give_back(cache *c, uint32_t frame) {
     sqlite3_free(c->by_frame[frame]);
     c->by_frame[frame] = 0;
     c->blocks--;
+    set_at_once(c);
 }
 
 /* Gives back the bytes of each frame that has no page, where pages have left since there were so many. */
 static void sweep(cache *c, uint32_t pages_before) {
-    pinpool_counts counts = counts_of(c);
-    c->pinned = counts.pinned;
-    if (counts.pages == pages_before) return;
+    if (counts_of(c).pages == pages_before) return;
     for (uint32_t at = 0; at < c->frames; at++) {
         pinpool_page page;
         bytes *b = c->by_frame[at];
@@ -113,6 +134,7 @@ static void cache_size(sqlite3_pcache *p, int pages) {
     if (pages < 1) pages = 1;
     if (pages > MOST_PAGES) pages = MOST_PAGES;
     c->size = c->full = (uint32_t)pages;
+    set_at_once(c);
     resize(c, c->size);
 }
 
@@ -121,25 +143,29 @@ static int page_count(sqlite3_pcache *p) { return (int)counts_of((cache *)p).pag
 /* Whether one more page would reach the soft heap limit, if there is one. */
 static int heap_is_nearly_full(const cache *c) {
     sqlite3_int64 limit = sqlite3_soft_heap_limit64(-1);
-    return limit > 0 && sqlite3_memory_used() + (sqlite3_int64)(sizeof(bytes) + c->page_bytes + c->extra_bytes) >= limit;
+    return limit > 0 && sqlite3_memory_used() + (sqlite3_int64)(BYTES_BEFORE + c->page_bytes + c->extra_bytes) >= limit;
 }
 
 /* Before a page comes in: where the heap is nearly full, it takes the place of another one that nobody has pinned, as in
 ** SQLite's own cache. For that the cache is squeezed: it is of as many pages as it has, until the heap has room again. False where
-** the page may not come in. */
+** the page may not come in. In a full cache it takes the place of another anyway; so there the heap is looked at only where fewer
+** pages are idle than in use. */
 static int may_come(cache *c, int way) {
     if (!c->is_purgeable || c->keeps_none) return 1;
+    pinpool_counts counts = counts_of(c);
+    uint32_t idle = counts.pages - counts.pinned;
+    if (c->blocks >= c->full && (way == PINPOOL_ALWAYS || idle >= counts.pinned)) return 1;
     if (!heap_is_nearly_full(c)) {
         if (c->full == NEVER_FULL) pinpool_cache_resize(c->held, c->size);
         c->full = c->size;
+        set_at_once(c);
         return 1;
     }
-    pinpool_counts counts = counts_of(c);
-    uint32_t idle = counts.pages - counts.pinned;
     if (way == PINPOOL_IF_ROOM && idle < counts.pinned) return 0;
     if (idle && counts.pages < counts.size) {
         pinpool_cache_resize(c->held, counts.pages);
         c->full = NEVER_FULL;
+        set_at_once(c);
     }
     return 1;
 }
@@ -155,13 +181,15 @@ static bytes *bytes_of(cache *c, uint32_t frame) {
         c->frames = (uint32_t)more;
     }
     if (!c->by_frame[frame]) {
-        bytes *b = sqlite3_malloc64(sizeof *b + c->page_bytes + c->extra_bytes);
+        bytes *b = sqlite3_malloc64(BYTES_BEFORE + c->page_bytes + c->extra_bytes);
         if (!b) return 0;
-        b->page.pBuf = b + 1;
-        b->page.pExtra = (char *)(b + 1) + c->page_bytes;
+        b->page.pBuf = (char *)b + BYTES_BEFORE;
+        b->page.pExtra = (char *)b->page.pBuf + c->page_bytes;
+        b->owner = c;
         b->frame = frame;
         c->by_frame[frame] = b;
         c->blocks++;
+        set_at_once(c);
     }
     return c->by_frame[frame];
 }
@@ -185,65 +213,79 @@ static bytes *filled(cache *c, uint32_t key, const pinpool_page *page) {
         return 0;
     }
     hear_of(c, key);
-    c->pinned++;
     b->key = key;
     b->fetches = 1;
     *(void **)b->page.pExtra = 0; /* by which SQLite sees that the page is new: its own cache clears no more */
     return b;
 }
 
-/* Whether a fetch can be passed on as it is, since bring_in would do no more: may_come would answer that the page may come, and
-** leave the cache's size. That one only asks for the heap where the cache isn't full, where it was squeezed before, or where fewer
-** pages are idle than in use. So in a full cache a miss is one call, and no look at the heap. */
-static inline int comes_at_once(const cache *c, int way) {
-    return way != PINPOOL_NEVER && c->blocks >= c->full && (way == PINPOOL_ALWAYS || c->blocks - c->pinned >= c->pinned);
-}
+/* What SQLite asks for, and what the cache answered. */
+typedef struct request {
+    uint32_t key;
+    int way;
+    pinpool_page page;
+} request;
 
 /* Brings in a page that is in no frame, or answers where it was brought in at once. None where it may not be, or memory can't be
 ** had. */
-static bytes *bring_in(cache *c, uint32_t key, int way, pinpool_page *page) {
-    if (page->found == PINPOOL_NEW) return filled(c, key, page);
-    if (comes_at_once(c, way) || !may_come(c, way)) return 0;
-    if (pinpool_cache_fetch(c->held, key, (pinpool_create)way, page) != PINPOOL_OK || page->found != PINPOOL_NEW) return 0;
-    return filled(c, key, page);
+static bytes *bring_in(cache *c, request *asked) {
+    if (asked->page.found == PINPOOL_NEW) return filled(c, asked->key, &asked->page);
+    if (!may_come(c, asked->way)) return 0;
+    if (pinpool_cache_fetch(c->held, asked->key, (pinpool_create)asked->way, &asked->page) != PINPOOL_OK) return 0;
+    return asked->page.found == PINPOOL_NEW ? filled(c, asked->key, &asked->page) : 0;
 }
 
-static sqlite3_pcache_page *fetch(sqlite3_pcache *p, unsigned key, int way) {
-    cache *c = (cache *)p;
-    pinpool_page page;
-    if (c->is_broken) return 0;
-    pinpool_create at_once = comes_at_once(c, way) ? (pinpool_create)way : PINPOOL_NEVER;
-    if (pinpool_cache_fetch(c->held, key, at_once, &page) != PINPOOL_OK) return 0;
-    if (page.found == PINPOOL_HIT) {
-        bytes *b = c->by_frame[page.frame];
-        c->pinned += !b->fetches++;
-        return &b->page;
-    }
-    if (way == PINPOOL_NEVER) return 0;
-    if (way == PINPOOL_IF_ROOM) sqlite3BeginBenignMalloc();
-    bytes *b = bring_in(c, key, way, &page);
-    if (way == PINPOOL_IF_ROOM) sqlite3EndBenignMalloc();
+/* The page was in no frame, or the cache refused the fetch. */
+static NOT_INLINE sqlite3_pcache_page *missed(cache *c, request *asked, pinpool_status status) {
+    if (status != PINPOOL_OK || asked->way == PINPOOL_NEVER) return 0;
+    if (asked->way == PINPOOL_IF_ROOM) sqlite3BeginBenignMalloc();
+    bytes *b = bring_in(c, asked);
+    if (asked->way == PINPOOL_IF_ROOM) sqlite3EndBenignMalloc();
     return b ? &b->page : 0;
 }
 
+/* (What bring_in wants stands in `asked`, where a hit doesn't touch it again.) */
+static sqlite3_pcache_page *fetch(sqlite3_pcache *p, unsigned key, int way) {
+    cache *c = (cache *)p;
+    request asked;
+    SURELY(c->held);
+    if (!MOSTLY(!c->is_broken)) return 0;
+    asked.key = key;
+    asked.way = way;
+    pinpool_status status = pinpool_cache_fetch(c->held, key, (pinpool_create)((uint32_t)way & c->at_once), &asked.page);
+    if (!MOSTLY(status == PINPOOL_OK && asked.page.found == PINPOOL_HIT)) return missed(c, &asked, status);
+    bytes *b = c->by_frame[asked.page.frame];
+    b->fetches++;
+    return &b->page;
+}
+
+/* The page was unpinned, and left its frame. */
+static NOT_INLINE void left(bytes *b) { give_back(b->owner, b->frame); }
+
 /* SQLite keeps a page pinned as long as it is dirty, for all of a transaction, and the cache counts no fetch of a pinned page.
 ** So where there were such fetches, the page is asked for once more, after its last use. */
+static NOT_INLINE void unpin_again(cache *c, bytes *b, int discard) {
+    pinpool_page again;
+    int stays = 0;
+    b->fetches = 0;
+    pinpool_cache_unpin(c->held, b->key, discard | c->keeps_none, &stays);
+    if (!stays) left(b);
+    else if (pinpool_cache_fetch(c->held, b->key, PINPOOL_NEVER, &again) == PINPOOL_OK && again.found == PINPOOL_HIT)
+        pinpool_cache_unpin(c->held, b->key, 0, 0);
+}
+
 static void unpin(sqlite3_pcache *p, sqlite3_pcache_page *page, int discard) {
     cache *c = (cache *)p;
     bytes *b = (bytes *)page;
-    pinpool_page again;
-    int leaves = discard | c->keeps_none, stays = 0;
-    uint32_t fetches = b->fetches;
-    b->fetches = 0;
-    c->pinned--;
-    pinpool_cache_unpin(c->held, b->key, leaves, &stays);
-    if (!stays) {
-        give_back(c, b->frame);
+    int stays = 0;
+    SURELY(c->held);
+    if (!MOSTLY(b->fetches < 2)) {
+        unpin_again(c, b, discard);
         return;
     }
-    if (fetches < 2) return;
-    if (pinpool_cache_fetch(c->held, b->key, PINPOOL_NEVER, &again) == PINPOOL_OK && again.found == PINPOOL_HIT)
-        pinpool_cache_unpin(c->held, b->key, 0, 0);
+    b->fetches = 0;
+    pinpool_cache_unpin(c->held, b->key, discard | c->keeps_none, &stays);
+    if (!MOSTLY(stays)) left(b);
 }
 
 /* SQLite gives a page the number of another one, of the page at 1 GB of the file, which it never stores, or the one behind its last.
@@ -260,10 +302,7 @@ static void rekey(sqlite3_pcache *p, sqlite3_pcache_page *page, unsigned from, u
         sqlite3_log(SQLITE_NOMEM, "pinpool: page %u can't be page %u", from, to);
         return;
     }
-    if (is_there) {
-        c->pinned -= c->by_frame[other.frame]->fetches > 0;
-        give_back(c, other.frame);
-    }
+    if (is_there) give_back(c, other.frame);
     if (from == c->greatest) c->greatest = c->second;
     hear_of(c, to);
     ((bytes *)page)->key = to;

@@ -191,6 +191,7 @@ impl Cache {
     }
 
     /// Whether the page of the key is one of `T1` or `T2`.
+    #[inline(always)]
     fn is_cached(&self, key: u32) -> bool
         ensures { result ≡ is_cached self.now.lists key }
     {
@@ -221,6 +222,7 @@ impl Cache {
     /// [`Fetched::Nothing`] comes where the page is in no frame and `create` forbids to bring it in, and
     /// [`Fetched::NoRoom`] where the memory for it can't be had. Where there is room for the key and a frame for one more page,
     /// as [`Cache::reserve`] makes them, that never comes.
+    #[inline(always)]
     pub fn fetch(&mut self, alloc: Global, key: u32, create: Create) -> Fetched
         ensures hit { (frame : ℕ) → (result ≡ Fetched.Hit frame) ↔ (frame_of self.old.table key ≡ Some frame) }
         ensures after_hit { (frame : ℕ) → result ≡ Fetched.Hit frame → self.new ≡ after_pin self.old key }
@@ -241,9 +243,34 @@ impl Cache {
         ensures pinned_stay { PinnedStay self.old.table self.new.table }
         ensures sound { IsSound self.new }
     {
-        if let Some(frame) = self.pin(key) {
-            return Fetched::Hit(frame);
+        match self.pin(key) {
+            Some(frame) => Fetched::Hit(frame),
+            None => self.fetch_absent(alloc, key, create),
         }
+    }
+
+    /// The fetch of a page that stands in no frame.
+    #[inline(never)]
+    fn fetch_absent(&mut self, alloc: Global, key: u32, create: Create) -> Fetched
+        requires absent { frame_of self.old.table key ≡ None }
+        ensures no_hit { (frame : ℕ) → result ≢ Fetched.Hit frame }
+        ensures new { (frame : ℕ) (left : Option Left) → result ≡ Fetched.New frame left
+            → self.new ≡ after_bring_in (with_room self.old key) key frame }
+        ensures new_is_free { (frame : ℕ) (left : Option Left) → result ≡ Fetched.New frame left
+            → IsFree (without_victim (with_room self.old key).table (asked (with_room self.old key) key).0) frame }
+        ensures left { (frame : ℕ) (left : Option Left) → result ≡ Fetched.New frame left
+            → left ≡ left_of (with_room self.old key).table (asked (with_room self.old key) key).0 }
+        ensures may_be_new { (frame : ℕ) (left : Option Left) → result ≡ Fetched.New frame left
+            → IsTrue (may_bring_in self.old create) }
+        ensures nothing { (result ≡ Fetched.Nothing) ↔ IsFalse (may_bring_in self.old create) }
+        ensures unchanged { result ≡ Fetched.Nothing → self.new ≡ self.old }
+        ensures no_room { result ≡ Fetched.NoRoom → SamePages self.old self.new }
+        ensures succeeds { key < length self.old.table.pages → resident_count self.old.table < self.old.table.frames
+            → result ≢ Fetched.NoRoom }
+        ensures pinned_stay { PinnedStay self.old.table self.new.table }
+        ensures sound { IsSound self.new }
+    {
+        let _ = &self.directory;
         if !self.may_bring_in(create) {
             return Fetched::Nothing;
         }
@@ -257,6 +284,7 @@ impl Cache {
     }
 
     /// Pins the page of the key where it stands in a frame.
+    #[inline(always)]
     pub fn pin(&mut self, key: u32) -> Option<u32>
         ensures value { result ≡ frame_of self.old.table key }
         ensures exact { self.new ≡ (if is_some result then after_pin self.old key else self.old) }
@@ -271,6 +299,7 @@ impl Cache {
     }
 
     /// Asks for a page that stands in a frame and isn't pinned, and pins it.
+    #[inline(always)]
     fn pin_again(&mut self, key: u32)
         requires resident { IsSome (page_of self.old.table key) }
         requires unpinned { IsFalse (is_pinned self.old.table key) }
@@ -436,34 +465,42 @@ impl Cache {
     ///
     /// A page beyond the size of the cache leaves its frame too. A page that isn't pinned stays as it is. The result says
     /// whether the page stands in a frame afterwards: where not, the host can give its bytes back.
+    #[inline(always)]
     pub fn unpin(&mut self, key: u32, discard: bool) -> bool
         ensures stays { result ≡ is_some (page_of self.new.table key) }
         ensures exact { self.new ≡ after_unpin self.old key discard }
         ensures others_stay { (other : ℕ) → other ≢ key → page_of self.new.table other ≡ page_of self.old.table other }
         ensures sound { IsSound self.new }
     {
-        self.take_pin(key, discard);
-        self.frames.page(key).is_some()
+        if let Some(page) = self.frames.page(key) {
+            !page.is_pinned || self.take_pin(key, discard)
+        } else {
+            false
+        }
     }
 
-    /// Takes the pin off the page of the key.
-    fn take_pin(&mut self, key: u32, discard: bool)
+    /// Takes the pin off a pinned page. The result says whether it stands in a frame afterwards.
+    #[inline(always)]
+    fn take_pin(&mut self, key: u32, discard: bool) -> bool
+        requires pinned { IsTrue (is_pinned self.old.table key) }
+        ensures stays { result ≡ is_some (page_of self.new.table key) }
         ensures exact { self.new ≡ after_unpin self.old key discard }
         ensures others_stay { (other : ℕ) → other ≢ key → page_of self.new.table other ≡ page_of self.old.table other }
         ensures sound { IsSound self.new }
     {
-        if !self.frames.is_pinned(key) {
-            return;
-        }
         if discard {
             self.drop_page(key);
+            false
         } else {
-            self.let_go(key);
+            self.let_go(key)
         }
     }
 
-    /// Takes the pin off a pinned page, which leaves its frame where it isn't one of `T1` or `T2`.
-    fn let_go(&mut self, key: u32)
+    /// Takes the pin off a pinned page, which leaves its frame where it isn't one of `T1` or `T2`. The result says whether it stays.
+    #[inline(always)]
+    fn let_go(&mut self, key: u32) -> bool
+        requires pinned { IsTrue (is_pinned self.old.table key) }
+        ensures stays { result ≡ is_some (page_of self.new.table key) }
         ensures exact { self.new ≡ (record self.old {
           table = if is_cached self.old.lists key then with_pinned self.old.table key false
               else with_page self.old.table key None;
@@ -473,13 +510,31 @@ impl Cache {
     {
         if self.is_cached(key) {
             self.frames.set_pinned(key, false);
+            self.directory.freed(key, &mut self.search);
+            true
         } else {
-            self.frames.release(key);
+            self.leave_beyond(key);
+            false
         }
-        self.directory.freed(key, &mut self.search);
+    }
+
+    /// The page, which is none of `T1` or `T2`, leaves its frame.
+    #[cold]
+    #[inline(never)]
+    fn leave_beyond(&mut self, key: u32)
+        requires beyond { IsFalse (is_cached self.old.lists key) }
+        ensures exact { self.new ≡ (record self.old { table = with_page self.old.table key None }) }
+        ensures others_stay { (other : ℕ) → other ≢ key → page_of self.new.table other ≡ page_of self.old.table other }
+        ensures sound { IsSound self.new }
+    {
+        self.frames.release(key);
+        let search = &mut self.search;
+        self.directory.freed(key, search);
     }
 
     /// The page of the key leaves its frame, pinned or not, and its name leaves the lists.
+    #[cold]
+    #[inline(never)]
     pub fn drop_page(&mut self, key: u32)
         ensures exact { self.new ≡ dropped self.old key }
         ensures others_stay { (other : ℕ) → other ≢ key → page_of self.new.table other ≡ page_of self.old.table other }

@@ -67,6 +67,7 @@ impl Frames {
     }
 
     /// Where the page of the key is, if it stands in a frame.
+    #[inline(always)]
     pub(crate) fn page(&self, key: u32) -> Option<Resident>
         ensures value { result ≡ page_of self.now key }
         ensures below { IfSome result (λ _. key < length self.now.pages) }
@@ -185,6 +186,7 @@ impl Frames {
     }
 
     /// Pins the page of the key, or unpins it, if it stands in a frame.
+    #[inline(always)]
     pub(crate) fn set_pinned(&mut self, key: u32, is_pinned: bool)
         ensures exact { self.new ≡ with_pinned self.old key is_pinned }
         ensures one_to_one { IsOneToOne self.new }

@@ -125,6 +125,7 @@ fn way_of(create: u32) -> Option<Create>
     }
 }
 
+#[inline(always)]
 fn fetch(alloc: Global, kept: &mut KeyedCache, key: u32, create: u32, place: &mut Place) -> Status
     ensures there { result ≢ Status.NoCache }
     ensures hit { result ≡ Status.Hit

@@ -78,6 +78,7 @@ fn done(handle: Handle)
 }
 
 /// Takes the cache out, and leaves the handle null.
+#[inline(always)]
 pub(crate) fn take(alloc: Global, handle: &mut Handle) -> Option<Box<Kept>>
     ensures taken { MatchOption result (handle.old.value ≡ None) (λ kept. handle.old.value ≡ Some kept.value) }
     ensures left { handle.new.value ≡ None }
@@ -90,6 +91,7 @@ pub(crate) fn take(alloc: Global, handle: &mut Handle) -> Option<Box<Kept>>
 }
 
 /// Puts a cache into a null handle.
+#[inline(always)]
 pub(crate) fn put(handle: &mut Handle, kept: Box<Kept>)
     requires { handle.old.value ≡ None }
     ensures { handle.new.value ≡ Some kept.value }

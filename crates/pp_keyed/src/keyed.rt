@@ -8,7 +8,7 @@ ghost use Rattle.pp_cache.specs.declared.left.Left.{Left};
 ghost use Rattle.pp_cache.specs.Cache.{without_victim, left_of};
 
 use crate::keys::{is_from, lower};
-use crate::names::{give, left_by_key, name_of, sweep, take_unused};
+use crate::names::{give, left_by_key, name_of, sweep, take_left, take_unused};
 use pp_cache::{Cache, Create, Fetched, Left};
 use pp_names::Names;
 use std::alloc::{AllocError, Global};
@@ -164,6 +164,7 @@ impl KeyedCache {
     /// [`Fetched::Nothing`] comes where the page is in no frame and `create` forbids to bring it in, and
     /// [`Fetched::NoRoom`] where the memory for it can't be had. Where there is room for one more key and a frame for one more
     /// page, as [`KeyedCache::reserve`] makes them, that never comes.
+    #[inline(always)]
     pub fn fetch(&mut self, alloc: Global, key: u32, create: Create) -> Fetched
         ensures hit { (frame : ℕ) → (result ≡ Fetched.Hit frame) ↔ (frame_of self.old.cache.table key ≡ Some frame) }
         ensures after_hit { (frame : ℕ) → result ≡ Fetched.Hit frame → self.new ≡ (record self.old {
@@ -202,6 +203,7 @@ impl KeyedCache {
     }
 
     /// Pins the page of the key where it stands in a frame.
+    #[inline(always)]
     pub fn pin(&mut self, key: u32) -> Option<u32>
         ensures value { result ≡ frame_of self.old.cache.table key }
         ensures exact { self.new ≡ (if is_some result then (record self.old { cache = after_pin self.old.cache key })
@@ -335,6 +337,7 @@ impl KeyedCache {
     ///
     /// A page beyond the size of the cache leaves its frame too. A page that isn't pinned stays as it is. The result says
     /// whether the page stands in a frame afterwards: where not, the host can give its bytes back.
+    #[inline(always)]
     pub fn unpin(&mut self, key: u32, discard: bool) -> bool
         ensures stays { result ≡ is_some (page_of self.new.cache.table key) }
         ensures exact { self.new.cache ≡ after_unpin self.old.cache key discard }
@@ -348,7 +351,7 @@ impl KeyedCache {
             return false;
         };
         let stays = self.cache.unpin(name, discard);
-        take_unused(&mut self.names, &self.cache, Some(name));
+        take_left(&mut self.names, &self.cache, name, stays);
         stays
     }
 

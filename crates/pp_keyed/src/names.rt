@@ -1,8 +1,9 @@
 //! Names that are given to keys, and taken back where they stand for nothing any more.
 
-ghost use Rattle.std.specs.Prelude.{◌≡◌, ℕ, ◌<◌, ◌≤◌, Option, None, Some, IsSome, IsTrue, length, if◌then◌else◌};
+ghost use Rattle.std.specs.Prelude.{◌≡◌, ℕ, ◌<◌, ◌≤◌, Option, None, Some, IsSome, is_some, IsTrue, length, if◌then◌else◌};
 ghost use Rattle.std.specs.Option.{option_map};
 ghost use Rattle.pp_names.specs.Names.{key_of, IsUnnamed, named_count};
+ghost use Rattle.pp_cache.specs.Frames.{page_of};
 ghost use Rattle.pp_cache.specs.Cache.{PageCache};
 ghost use Rattle.pp_cache.specs.declared.left.Left.{Left};
 ghost use Rattle.pp_keyed.specs.Keyed.{IsGiven, key_of_left, name_of_left, unused_taken, IsSwept};
@@ -50,6 +51,17 @@ pub(crate) fn take_unused(names: &mut Names, cache: &Cache, name: Option<u32>)
         if !cache.stands(name) {
             names.take(name);
         }
+    }
+}
+
+/// Takes its key from a name whose page was unpinned, where that didn't stay in its frame, and the name stands in no list.
+#[inline(always)]
+pub(crate) fn take_left(names: &mut Names, cache: &Cache, name: u32, stays: bool)
+    requires stays { stays ≡ is_some (page_of cache.now.table name) }
+    ensures exact { names.new ≡ unused_taken names.old cache.now (Some name) }
+{
+    if !stays {
+        take_unused(names, cache, Some(name));
     }
 }
 

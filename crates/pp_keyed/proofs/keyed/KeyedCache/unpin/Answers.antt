@@ -34,7 +34,7 @@ invariant_of-self c =
     after-one c.self.inside.names c.self.inside.cache c.unpin-stays.new.self c.in-Some.name c.args.key c.self.invariant c.unpin-stays.ensures.sound
     named (subst (λ (s : PageCache). OnlyOne c.self.inside.cache s c.in-Some.name) (sym c.unpin-stays.ensures.exact)
     (one-unpin c.self.inside.cache c.in-Some.name c.args.discard)) in
-    subst (λ (v : List (Option ℕ)). IsKeyed v c.unpin-stays.new.self) (sym c.take_unused.ensures.exact) w.keyed
+    subst (λ (v : List (Option ℕ)). IsKeyed v c.unpin-stays.new.self) (sym c.take_left.ensures.exact) w.keyed
 
 pub returns-clause-stays : goal.returns-clause-stays
 returns-clause-stays c =
@@ -49,7 +49,7 @@ returns-clause-stays c =
     (subst (λ (s : PageCache). OnlyOne c.self.inside.cache s c.in-Some.name) (sym c.unpin-stays.ensures.exact)
     (one-unpin c.self.inside.cache c.in-Some.name c.args.discard))) named))
     ∙ ap (λ (s : PageCache). is_some (page_of s.table c.args.key)) (sym (ap (λ (v : List (Option ℕ)). seen v c.unpin-stays.new.self)
-    c.take_unused.ensures.exact ∙ w.same))
+    c.take_left.ensures.exact ∙ w.same))
 
 pub returns-clause-exact : goal.returns-clause-exact
 returns-clause-exact c =
@@ -59,8 +59,8 @@ returns-clause-exact c =
     named (subst (λ (s : PageCache). OnlyOne c.self.inside.cache s c.in-Some.name) (sym c.unpin-stays.ensures.exact)
     (one-unpin c.self.inside.cache c.in-Some.name c.args.discard)) in
     let e : seen c.self.inside.names c.self.inside.cache ≡ c.args.self.now.cache = ap (λ (v : Keyed). v.cache) c.self.view_is in
-    let exact : seen c.take_unused.new.names c.unpin-stays.new.self ≡ after_unpin c.args.self.now.cache c.args.key c.args.discard =
-    ap (λ (v : List (Option ℕ)). seen v c.unpin-stays.new.self) c.take_unused.ensures.exact ∙ w.same
+    let exact : seen c.take_left.new.names c.unpin-stays.new.self ≡ after_unpin c.args.self.now.cache c.args.key c.args.discard =
+    ap (λ (v : List (Option ℕ)). seen v c.unpin-stays.new.self) c.take_left.ensures.exact ∙ w.same
     ∙ ap (seen c.self.inside.names) c.unpin-stays.ensures.exact
     ∙ unpin-seen c.self.inside.names c.self.inside.cache c.in-Some.name c.args.key c.args.discard
     (named_of c.self.inside.names c.self.inside.cache c.self.invariant) named
@@ -77,8 +77,8 @@ returns-clause-others_stay c = λ other ne.
     named (subst (λ (s : PageCache). OnlyOne c.self.inside.cache s c.in-Some.name) (sym c.unpin-stays.ensures.exact)
     (one-unpin c.self.inside.cache c.in-Some.name c.args.discard)) in
     let e : seen c.self.inside.names c.self.inside.cache ≡ c.args.self.now.cache = ap (λ (v : Keyed). v.cache) c.self.view_is in
-    let exact : seen c.take_unused.new.names c.unpin-stays.new.self ≡ after_unpin c.args.self.now.cache c.args.key c.args.discard =
-    ap (λ (v : List (Option ℕ)). seen v c.unpin-stays.new.self) c.take_unused.ensures.exact ∙ w.same
+    let exact : seen c.take_left.new.names c.unpin-stays.new.self ≡ after_unpin c.args.self.now.cache c.args.key c.args.discard =
+    ap (λ (v : List (Option ℕ)). seen v c.unpin-stays.new.self) c.take_left.ensures.exact ∙ w.same
     ∙ ap (seen c.self.inside.names) c.unpin-stays.ensures.exact
     ∙ unpin-seen c.self.inside.names c.self.inside.cache c.in-Some.name c.args.key c.args.discard
     (named_of c.self.inside.names c.self.inside.cache c.self.invariant) named
@@ -95,7 +95,7 @@ returns-clause-room c =
     after-one c.self.inside.names c.self.inside.cache c.unpin-stays.new.self c.in-Some.name c.args.key c.self.invariant c.unpin-stays.ensures.sound
     named (subst (λ (s : PageCache). OnlyOne c.self.inside.cache s c.in-Some.name) (sym c.unpin-stays.ensures.exact)
     (one-unpin c.self.inside.cache c.in-Some.name c.args.discard)) in
-    ap length c.take_unused.ensures.exact ∙ w.taken.size ∙ ap (λ (v : Keyed). v.room) c.self.view_is
+    ap length c.take_left.ensures.exact ∙ w.taken.size ∙ ap (λ (v : Keyed). v.room) c.self.view_is
 
 pub returns-clause-used : goal.returns-clause-used
 returns-clause-used c =
@@ -106,7 +106,7 @@ returns-clause-used c =
     (one-unpin c.self.inside.cache c.in-Some.name c.args.discard)) in
     omega (
       arith,
-      ap named_count c.take_unused.ensures.exact,
+      ap named_count c.take_left.ensures.exact,
       count-taken c.self.inside.names (unused_taken c.self.inside.names c.unpin-stays.new.self (Some c.in-Some.name))
           c.unpin-stays.new.self w.taken,
       ap (λ (v : Keyed). v.used) c.self.view_is,
@@ -119,5 +119,5 @@ returns-clause-sound c =
     after-one c.self.inside.names c.self.inside.cache c.unpin-stays.new.self c.in-Some.name c.args.key c.self.invariant c.unpin-stays.ensures.sound
     named (subst (λ (s : PageCache). OnlyOne c.self.inside.cache s c.in-Some.name) (sym c.unpin-stays.ensures.exact)
     (one-unpin c.self.inside.cache c.in-Some.name c.args.discard)) in
-    subst (λ (v : List (Option ℕ)). IsSound (seen v c.unpin-stays.new.self)) (sym c.take_unused.ensures.exact)
+    subst (λ (v : List (Option ℕ)). IsSound (seen v c.unpin-stays.new.self)) (sym c.take_left.ensures.exact)
     (keyed-sound _ c.unpin-stays.new.self w.keyed)
