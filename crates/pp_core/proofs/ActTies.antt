@@ -10,8 +10,8 @@ use Rattle.pp_plan.specs.declared.action.Action.TheVariants as action
 use Rattle.pp_plan.specs.Limits.{most_slots}
 use Rattle.pp_plan.specs.Terms.{Terms}
 use Rattle.pp_plan.specs.PlanTraces.{PlanAsks}
-use Rattle.pp_plan.specs.FlatList.{Spot}
-use Rattle.pp_plan.specs.Cursor.{StandsFor as CursorStandsFor, IsCursorOf}
+use Rattle.pp_cursor.specs.Positions.{Spot}
+use Rattle.pp_cursor.specs.Cursor.{StandsFor as CursorStandsFor, IsCursorOf}
 use Rattle.pp_cert.specs.Accepted.{Acceptance}
 use Rattle.pp_cert.specs.Held.{Holding, holding_at}
 use Rattle.pp_model.specs.Fixing.{fixes}

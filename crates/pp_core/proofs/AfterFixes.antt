@@ -7,8 +7,8 @@ use Rattle.pp_settings.specs.Layout.{Geometry}
 use Rattle.pp_plan.specs.declared.action.Action.TheVariants as action
 use Rattle.pp_plan.specs.declared.action.Ask.{Ask}
 use Rattle.pp_plan.specs.declared.action.Ask.TheVariants as ask
-use Rattle.pp_plan.specs.Cursor.{NamesAction}
-use Rattle.pp_plan.proofs.Asking.{asks_named}
+use Rattle.pp_cursor.specs.Cursor.{NamesAction}
+use Rattle.pp_cursor.proofs.Asking.{asks_named}
 use Rattle.pp_cert.specs.Held.{holding_slot, holding_at}
 use Rattle.pp_cert.proofs.Slots.{slot_all}
 use Rattle.pp_arc.specs.declared.answer.Answer.TheVariants as answer

@@ -12,8 +12,8 @@ use Rattle.pp_plan.specs.declared.action.Action.{Action}
 use Rattle.pp_plan.specs.declared.action.Action.TheVariants as action
 use Rattle.pp_plan.specs.declared.action.Ask.{Ask}
 use Rattle.pp_plan.specs.declared.action.Ask.TheVariants as ask
-use Rattle.pp_plan.specs.Cursor.{NamesAction, IsAskOf}
-use Rattle.pp_plan.proofs.Asking.{asks_named, asked_within}
+use Rattle.pp_cursor.specs.Cursor.{NamesAction, IsAskOf}
+use Rattle.pp_cursor.proofs.Asking.{asks_named, asked_within}
 use Rattle.pp_cert.specs.Held.{Holding, Holdings, holding_at}
 use Rattle.pp_model.specs.declared.moves.Move.{Move}
 use Rattle.pp_model.specs.declared.moves.Move.TheVariants as move

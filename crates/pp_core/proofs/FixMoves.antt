@@ -5,7 +5,7 @@ use Rattle.std.specs.Prelude.{slice_set, slice_index_or, option_map, unwrap_or, 
 use Rattle.std.proofs.lemmas.Option.{slice_get-get_or}
 use Rattle.pp_plan.specs.declared.action.Ask.TheVariants as ask
 use Rattle.pp_plan.specs.declared.action.Ask.{Ask}
-use Rattle.pp_plan.specs.Asked.{region_has}
+use Rattle.pp_cursor.specs.Asked.{region_has}
 use Rattle.pp_arc.specs.declared.answer.Answer.{Answer}
 use Rattle.pp_arc.specs.declared.answer.Answer.TheVariants as answer
 use Rattle.pp_arc.specs.FourLists.{FourLists}

@@ -8,9 +8,9 @@ use Rattle.pp_plan.specs.declared.mode.Mode.{Mode}
 use Rattle.pp_plan.specs.declared.action.Action.{Action}
 use Rattle.pp_plan.specs.declared.action.Ask.{Ask}
 use Rattle.pp_plan.specs.declared.action.Ask.TheVariants as ask
-use Rattle.pp_plan.specs.Asked.{region_has}
-use Rattle.pp_plan.specs.Cursor.{NamesAction}
-use Rattle.pp_plan.proofs.Asking.{region_found}
+use Rattle.pp_cursor.specs.Asked.{region_has}
+use Rattle.pp_cursor.specs.Cursor.{NamesAction}
+use Rattle.pp_cursor.proofs.Asking.{region_found}
 use Rattle.pp_cert.specs.Accepted.{Acceptance}
 use Rattle.pp_cert.specs.Held.{Holding, Holdings, holding_at}
 use Rattle.pp_arc.specs.declared.answer.Answer.{Answer}

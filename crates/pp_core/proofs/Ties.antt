@@ -6,7 +6,7 @@ use Rattle.std.specs.Prelude.{slice_get, slice_set}
 use Rattle.pp_arc.specs.FourLists.{FourLists}
 use Rattle.pp_plan.specs.declared.action.Action.{Action}
 use Rattle.pp_plan.specs.declared.action.Ask.{Ask}
-use Rattle.pp_plan.specs.Cursor.{NamesAction}
+use Rattle.pp_cursor.specs.Cursor.{NamesAction}
 use Rattle.pp_frames.specs.Marks.{PageMap}
 use Rattle.pp_model.specs.declared.moves.Move.{Move}
 use Rattle.pp_model.specs.declared.reply.Reply.{Reply}

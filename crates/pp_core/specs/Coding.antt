@@ -7,9 +7,9 @@ use Rattle.pp_settings.specs.Layout.{Geometry}
 use Rattle.pp_plan.specs.declared.mode.Mode.TheVariants as mode
 use Rattle.pp_plan.specs.declared.action.Ask.{Ask}
 use Rattle.pp_plan.specs.declared.action.Ask.TheVariants as ask
-use Rattle.pp_plan.specs.declared.cursor.Entry.{Entry}
-use Rattle.pp_plan.specs.Left.{Place}
-use Rattle.pp_plan.specs.FlatList.{Spot}
+use Rattle.pp_cursor.specs.declared.cursor.Entry.{Entry}
+use Rattle.pp_cursor.specs.Left.{Place}
+use Rattle.pp_cursor.specs.Positions.{Spot}
 use Rattle.pp_cert.specs.declared.note.Held.{Held}
 use Rattle.pp_cert.specs.declared.note.Held.TheVariants.{Free, S, X}
 use Rattle.pp_cert.specs.Accepted.{Acceptance, coded_acceptance}

@@ -4,8 +4,8 @@ use Rattle.pp_plan.specs.declared.action.Action.{Action}
 use Rattle.pp_plan.specs.declared.action.Action.TheVariants.{Fix, Unfix, Latch, Unlatch, Gather, Scatter, Choose}
 use Rattle.pp_plan.specs.Terms.{Terms}
 use Rattle.pp_plan.specs.PlanTraces.{PlanAsks}
-use Rattle.pp_plan.specs.Asked.{asked}
-use Rattle.pp_plan.specs.Cursor.{StandsFor, IsCursorOf}
+use Rattle.pp_cursor.specs.Asked.{asked}
+use Rattle.pp_cursor.specs.Cursor.{StandsFor, IsCursorOf}
 use Rattle.pp_core.specs.declared.seat.Seat.{Seat}
 use Rattle.pp_core.specs.declared.seat.Phase.TheVariants.{Acting}
 use Rattle.pp_core.specs.Slots.{slots_after, count_after}

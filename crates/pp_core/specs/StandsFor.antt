@@ -2,7 +2,7 @@
 -- and one map of marks; the state has lists of actions done.
 use Rattle.std.specs.Prelude.{◌≡◌, ℕ, Bool, Option, None, Some, option_map, List, length, slice_get}
 use Rattle.pp_plan.specs.Limits.{most_slots}
-use Rattle.pp_plan.specs.Cursor as cursor
+use Rattle.pp_cursor.specs.Cursor as cursor
 use Rattle.pp_cert.specs.Held.{holding_at}
 use Rattle.pp_cert.specs.Accepted.{Acceptance}
 use Rattle.pp_model.specs.declared.moves.Move.{Move}

@@ -2,7 +2,7 @@
 //! errand of the device is sent out.
 
 ghost use Rattle.std.specs.Prelude.{◌≡◌, ◌<◌, ◌≤◌, ◌-◌, ℕ, IsTrue, IsFalse, Some};
-ghost use Rattle.pp_plan.specs.Asked.{region_has};
+ghost use Rattle.pp_cursor.specs.Asked.{region_has};
 ghost use Rattle.pp_arc.specs.FourLists.{is_cached};
 ghost use Rattle.pp_arc.specs.Figure.{request};
 ghost use Rattle.pp_model.specs.Fixing.{fixes};

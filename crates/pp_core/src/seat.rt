@@ -1,8 +1,8 @@
 //! A worker in its plan.
 
 ghost use Rattle.std.specs.Prelude.{◌≡◌, ◌<◌, ◌≤◌, ◌+◌, ◌-◌, ◌^◌, IfSome, Some, None, List, [], ◌∷◌, ◌++◌, length, slice_set};
-ghost use Rattle.pp_plan.specs.Cursor.{StandsFor};
-ghost use Rattle.pp_plan.specs.Asked.{asked};
+ghost use Rattle.pp_cursor.specs.Cursor.{StandsFor};
+ghost use Rattle.pp_cursor.specs.Asked.{asked};
 ghost use Rattle.pp_plan.specs.declared.action.Action.{Action};
 ghost use Rattle.pp_plan.specs.declared.action.Action.TheVariants.{Gather};
 ghost use Rattle.pp_core.specs.Slots.{hold_at, plain_hold, bundle_hold, count_after, held_as, first_filled};
@@ -10,7 +10,8 @@ ghost use Rattle.pp_core.specs.Queries.{own_hold, ask_holding_seat};
 ghost use Rattle.pp_core.specs.Seats.{IsBegun, FitsSlots, CanDo, Did, counted};
 
 use pp_cert::Held;
-use pp_plan::{Action, Ask, Cursor, Plan};
+use pp_cursor::Cursor;
+use pp_plan::{Action, Ask, Plan};
 
 /// The most slots that a plan has.
 pub(crate) const MOST_SLOTS: usize = 32;

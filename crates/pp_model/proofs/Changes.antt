@@ -11,7 +11,7 @@ use Rattle.pp_plan.specs.declared.action.Action.{Action}
 use Rattle.pp_plan.specs.declared.action.Action.TheVariants as action
 use Rattle.pp_plan.specs.declared.action.Ask.{Ask}
 use Rattle.pp_plan.specs.declared.action.Ask.TheVariants as ask
-use Rattle.pp_plan.specs.Cursor.{NamesAction}
+use Rattle.pp_cursor.specs.Cursor.{NamesAction}
 use Rattle.pp_cert.specs.declared.note.Held.{Held}
 use Rattle.pp_cert.specs.declared.note.Held.TheVariants.{Free, S, X}
 use Rattle.pp_cert.specs.Accepted.{Acceptance}
@@ -30,7 +30,7 @@ use Rattle.pp_model.specs.declared.reply.Failure.TheVariants.{WriteFault, ReadFa
 use Rattle.pp_model.specs.declared.reply.Reply.{Reply}
 use Rattle.pp_model.specs.declared.reply.Reply.TheVariants.{Taken, Hit, MustRead, MustWrite, Failed, Loaded, Did}
 use Rattle.pp_model.specs.declared.reply.Reply.TheVariants.{Latched, Unlatched, Finished, Flushing, Flushed}
-use Rattle.pp_plan.specs.Asked.{region_has}
+use Rattle.pp_cursor.specs.Asked.{region_has}
 use Rattle.pp_model.specs.Pool.{Stage, acting, writing, reading, leaving, Running, Flush, State, is_dirty, known_mark}
 use Rattle.pp_model.specs.Pool.{frame_at, mark_at}
 use Rattle.pp_model.specs.Holders.{holdings, is_in_flight, is_busy, latches_of, page_in}
@@ -49,7 +49,7 @@ use Rattle.pp_model.specs.Leaving.{finish_by}
 use Rattle.pp_model.specs.Flushing.{flush_begun, flush_where, flush_by, flush_over, is_clean, flushed_where, flushed_by}
 use Rattle.pp_model.specs.Moves.{asked_by, act_in, act_by, seat_of, outcome_of, reply_of, next_of, is_refusal, is_possible}
 use Rattle.pp_model.specs.Moves.{IsPossible}
-use Rattle.pp_plan.proofs.Asking.{region_found}
+use Rattle.pp_cursor.proofs.Asking.{region_found}
 
 -- ---- the ways
 

@@ -12,9 +12,9 @@ use Rattle.pp_plan.specs.declared.action.Ask.TheVariants as ask
 use Rattle.pp_plan.specs.Traces.{IsTrace, Begins}
 use Rattle.pp_plan.specs.Terms.{Terms, IsPlan}
 use Rattle.pp_plan.specs.PlanTraces.{PlanAsks}
-use Rattle.pp_plan.specs.Cursor.{NamesAction, IsAskOf}
-use Rattle.pp_plan.specs.Asked.{asked}
-use Rattle.pp_plan.proofs.Asking.{asks_named, asked_within}
+use Rattle.pp_cursor.specs.Cursor.{NamesAction, IsAskOf}
+use Rattle.pp_cursor.specs.Asked.{asked}
+use Rattle.pp_cursor.proofs.Asking.{asks_named, asked_within}
 use Rattle.pp_cert.specs.declared.note.Held.TheVariants.{Free}
 use Rattle.pp_cert.specs.Held.{Holding, Holdings, plain_page, bundle_page, held_next, held_after, held_in as held_for}
 use Rattle.pp_model.specs.Pool.{Running}

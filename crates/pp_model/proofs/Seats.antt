@@ -7,7 +7,7 @@ use Rattle.pp_settings.specs.Layout.{Geometry}
 use Rattle.pp_plan.specs.declared.action.Action.{Action}
 use Rattle.pp_plan.specs.declared.action.Action.TheVariants as action
 use Rattle.pp_plan.specs.Traces.{IsTrace, Begins as BeginsTrace}
-use Rattle.pp_plan.proofs.Lasting.{body_lasts}
+use Rattle.pp_cursor.proofs.Lasting.{body_lasts}
 use Rattle.pp_cert.specs.Accepted.{Acceptance, IsAccepted}
 use Rattle.pp_cert.specs.Walk.{same_layout}
 use Rattle.pp_model.specs.declared.refusals.SubmitError.{SubmitError}
@@ -18,7 +18,7 @@ use Rattle.pp_model.specs.Turns.{Asks}
 use Rattle.pp_model.specs.Reached.{IsReached}
 use Rattle.pp_model.specs.Fixing.{fixes}
 use Rattle.pp_model.specs.Moves.{asked_by}
-use Rattle.pp_plan.proofs.Asking.{asks_named}
+use Rattle.pp_cursor.proofs.Asking.{asks_named}
 use Rattle.pp_model.proofs.Layouts.{layouts_same}
 use Rattle.pp_model.proofs.Crews.{AsksNow, IsErrand, Goes, acts, sends, reads, loads, loses, gives, ends, Crew, crew_of}
 use Rattle.pp_model.proofs.Crews.{Begins, begins}

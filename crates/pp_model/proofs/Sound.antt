@@ -10,7 +10,7 @@ use Rattle.pp_settings.specs.Layout.{Geometry, has_page, page_count, end_of}
 use Rattle.pp_plan.specs.declared.action.Action.TheVariants as action
 use Rattle.pp_plan.specs.declared.action.Ask.{Ask}
 use Rattle.pp_plan.specs.declared.action.Ask.TheVariants as ask
-use Rattle.pp_plan.specs.Cursor.{NamesAction}
+use Rattle.pp_cursor.specs.Cursor.{NamesAction}
 use Rattle.pp_cert.specs.Held.{Holding, Holdings}
 use Rattle.pp_arc.specs.declared.answer.Answer.{Answer}
 use Rattle.pp_arc.specs.declared.answer.Answer.TheVariants as answer

@@ -12,9 +12,9 @@ use Rattle.pp_plan.specs.declared.action.Action.{Action}
 use Rattle.pp_plan.specs.declared.action.Action.TheVariants as action
 use Rattle.pp_plan.specs.declared.action.Ask.{Ask}
 use Rattle.pp_plan.specs.declared.action.Ask.TheVariants as ask
-use Rattle.pp_plan.specs.Asked.{extent_has, region_has}
-use Rattle.pp_plan.specs.Cursor.{NamesAction, IsAskOf}
-use Rattle.pp_plan.proofs.Asking.{asks_named, asked_within}
+use Rattle.pp_cursor.specs.Asked.{extent_has, region_has}
+use Rattle.pp_cursor.specs.Cursor.{NamesAction, IsAskOf}
+use Rattle.pp_cursor.proofs.Asking.{asks_named, asked_within}
 use Rattle.pp_arc.specs.declared.answer.Answer.{Answer}
 use Rattle.pp_arc.specs.declared.answer.Answer.TheVariants as answer
 use Rattle.pp_arc.specs.FourLists.{FourLists}

@@ -13,7 +13,7 @@ use Rattle.pp_frames.specs.Marks.{least_free}
 use Rattle.pp_model.specs.declared.refusals.Delay.TheVariants.{InFlight, FlushHolds}
 use Rattle.pp_model.specs.declared.refusals.Cause.TheVariants.{NotAsked}
 use Rattle.pp_model.specs.declared.reply.Reply.TheVariants.{Hit, MustRead, MustWrite}
-use Rattle.pp_plan.specs.Asked.{region_has}
+use Rattle.pp_cursor.specs.Asked.{region_has}
 use Rattle.pp_model.specs.Pool.{writing, reading, Running, State, is_dirty, frame_at, mark_at}
 use Rattle.pp_model.specs.Holders.{is_in_flight, is_busy}
 use Rattle.pp_model.specs.Marks.{marks}

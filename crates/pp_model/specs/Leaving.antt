@@ -10,7 +10,7 @@ use Rattle.pp_model.specs.declared.reply.Ending.{Ending}
 use Rattle.pp_model.specs.declared.reply.Ending.TheVariants.{Done, Gone}
 use Rattle.pp_model.specs.declared.reply.Reply.{Reply}
 use Rattle.pp_model.specs.declared.reply.Reply.TheVariants.{Did, Unlatched, Finished}
-use Rattle.pp_plan.specs.Asked.{asked}
+use Rattle.pp_cursor.specs.Asked.{asked}
 use Rattle.pp_model.specs.Pool.{Stage, acting, writing, reading, leaving, Running, State, mark_at}
 use Rattle.pp_model.specs.Holders.{holdings}
 use Rattle.pp_model.specs.Outcome.{Outcome, off_plan, with_seat, with_stage, released}

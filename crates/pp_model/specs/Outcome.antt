@@ -2,7 +2,7 @@
 use Rattle.std.specs.Prelude.{ℕ, ◌+◌, Bool, true, Option, Some, [], ◌∷◌, ◌++◌, slice_set}
 use Rattle.pp_plan.specs.declared.action.Action.{Action}
 use Rattle.pp_plan.specs.declared.action.Ask.{Ask}
-use Rattle.pp_plan.specs.Asked.{asked}
+use Rattle.pp_cursor.specs.Asked.{asked}
 use Rattle.pp_cert.specs.declared.note.Held.{Held}
 use Rattle.pp_cert.specs.declared.note.Held.TheVariants.{Free, S, X}
 use Rattle.pp_arc.specs.FourLists.{FourLists}

@@ -1,14 +1,25 @@
--- A plan's statements as one flat list of steps, and which of them a place stands at.
-use Rattle.std.specs.Prelude.{ℕ, zero, suc, ◌+◌, ◌-◌, ◌^◌, min, List, [], ◌∷◌, ◌++◌}
-use Rattle.pp_plan.specs.Tree.{Statement, step, loop, choice, Sequence, skip, andthen, Alternatives, none, either}
-use Rattle.pp_plan.specs.Tree.{branch_count}
-use Rattle.pp_plan.specs.Asked.{statement_ask}
-use Rattle.pp_plan.specs.Left.{sequence_drop, Place, body_at}
-use Rattle.pp_plan.specs.declared.cursor.Entry.{Entry}
+-- A plan's statements as one flat list of steps.
+use Rattle.std.specs.Prelude.{ℕ, ◌+◌, ◌-◌, ◌^◌, min, List, [], ◌∷◌, ◌++◌}
+use Rattle.pp_plan.specs.Tree.{fix, unfix, latch, unlatch, gather, scatter, Statement, step, loop, choice}
+use Rattle.pp_plan.specs.Tree.{Sequence, skip, andthen, Alternatives, none, either, branch_count}
 use Rattle.pp_plan.specs.declared.flat.Next.{Next}
 use Rattle.pp_plan.specs.declared.flat.Next.TheVariants.{Enter, Leave, Asks}
 use Rattle.pp_plan.specs.declared.flat.FlatStep.{FlatStep}
+use Rattle.pp_plan.specs.declared.action.Ask.{Ask}
 use Rattle.pp_plan.specs.declared.action.Ask.TheVariants as ask
+
+-- ---- what is asked
+
+-- What a statement asks that makes an action, which a loop doesn't.
+abbrev pub statement_ask : Statement → Ask
+statement_ask (step (fix s r)) = ask.Fix s r
+statement_ask (step (unfix s)) = ask.Unfix s
+statement_ask (step (latch s m)) = ask.Latch s m
+statement_ask (step (unlatch s)) = ask.Unlatch s
+statement_ask (step (gather s r)) = ask.Gather s r
+statement_ask (step (scatter s)) = ask.Scatter s
+statement_ask (loop n b) = ask.End
+statement_ask (choice bs) = ask.Choose (branch_count bs)
 
 -- ---- how many steps
 
@@ -73,43 +84,3 @@ abbrev mutual
 -- A plan's body, and behind it the end.
 abbrev pub flat_body : Sequence → List FlatStep
 flat_body b = flat b ++ row (Asks ask.End) 1 ∷ []
-
--- ---- places in the list
-
--- How many steps the first statements of a body come to, so many of them.
-abbrev pub steps_before : ℕ → Sequence → ℕ
-steps_before zero b = 0
-steps_before (suc n) skip = 0
-steps_before (suc n) (andthen s b) = statement_steps s + steps_before n b
-
--- How many steps of the branches come before the branch of this number.
-abbrev pub before_branch : Alternatives → ℕ → ℕ
-before_branch none i = 0
-before_branch (either b bs) zero = 0
-before_branch (either b bs) (suc i) = sequence_steps b + 1 + before_branch bs i
-
--- How many steps of a statement come before the body that is done inside it.
-abbrev pub before_body : Statement → ℕ → ℕ
-before_body (step s) i = 0
-before_body (loop n b) i = 1
-before_body (choice bs) i = branch_count bs + before_branch bs i + 1
-
--- The same of a body's first statement.
-abbrev pub first_before_body : Sequence → ℕ → ℕ
-first_before_body skip i = 0
-first_before_body (andthen s b) i = before_body s i
-
--- The number of the step where the innermost body begins.
-abbrev pub origin : Sequence → List Entry → ℕ
-origin b [] = 0
-origin b (e ∷ es) = origin b es + steps_before e.index (body_at b es)
-    + first_before_body (sequence_drop e.index (body_at b es)) e.branch
-
--- The number of the step at a place.
-abbrev pub position : Sequence → Place → ℕ
-position b p = origin b p.entries + steps_before p.index (body_at b p.entries)
-
--- A place, and the number of its step.
-pub record Spot : Type 0 where
-  pub place : Place
-  pub at : ℕ

@@ -10,11 +10,7 @@ pub mod Terms
 pub mod Fields
 pub mod Slots
 pub mod PlanTraces
-pub mod Left
-pub mod Asked
 pub mod FlatList
-pub mod Cursor
-pub mod CursorMoves
 pub mod Refusals
 pub mod Keys
 pub mod Shapes

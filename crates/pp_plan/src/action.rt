@@ -41,8 +41,3 @@ pub enum Ask {
     /// Nothing: the plan is at its end.
     End,
 }
-
-/// The action isn't one that the plan asks.
-#[derive(Clone, Copy, Debug, PartialEq, Eq, thiserror::Error)]
-#[error("the plan asks another action")]
-pub struct OffPlan;

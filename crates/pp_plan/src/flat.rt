@@ -13,7 +13,7 @@ use std::alloc::{AllocError, Global};
 
 /// What is next at a step.
 #[derive(Clone, Copy, Debug)]
-pub(crate) enum Next {
+pub enum Next {
     /// A loop of so many turns, which is entered.
     Enter(u16),
     /// The end of a body inside another, which is left.
@@ -25,11 +25,11 @@ pub(crate) enum Next {
 /// A step of the list. Loops and choices have further ones: a choice is followed by one for each branch, which tells
 /// how far on the branch begins, and behind each body stands one that leaves it.
 #[derive(Clone, Copy, Debug)]
-pub(crate) struct FlatStep {
+pub struct FlatStep {
     /// What is next here.
-    pub(crate) next: Next,
+    pub next: Next,
     /// Where a statement begins, how many steps it comes to; where a body is left, how far back its statement begins.
-    pub(crate) reach: u32,
+    pub reach: u32,
 }
 
 /// The statements of a body, and behind them the end.

@@ -2,11 +2,9 @@
 #![tactic(auto)]
 
 mod action;
-mod cursor;
 mod error;
 mod flat;
 mod kind;
-pub mod laws;
 mod limits;
 mod mode;
 mod names;
@@ -18,9 +16,10 @@ mod shape;
 mod stmt;
 mod writing;
 
-pub use action::{Action, Ask, OffPlan};
-pub use cursor::Cursor;
+pub use action::{Action, Ask};
 pub use error::PlanError;
+pub use flat::{FlatStep, Next};
+pub use limits::MOST_DEPTH;
 pub use mode::Mode;
 pub use plan::Plan;
 pub use stmt::{Body, Branches, Stmt};

@@ -4,7 +4,7 @@
 pub(crate) const MOST_STATEMENTS: u32 = 4_096;
 
 /// How deep statements may stand inside each other.
-pub(crate) const MOST_DEPTH: u8 = 16;
+pub const MOST_DEPTH: u8 = 16;
 
 /// How many slots a plan may name.
 pub(crate) const MOST_SLOTS: usize = 32;

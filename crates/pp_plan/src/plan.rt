@@ -174,7 +174,7 @@ impl Plan {
 
     /// The step of this number of the body as one list.
     #[inline(always)]
-    pub(crate) fn step(&self, at: usize) -> FlatStep
+    pub fn step(&self, at: usize) -> FlatStep
         requires { at < length (flat_body self.now.body) }
         ensures is { slice_get (flat_body self.now.body) at ≡ Some result }
         ensures facts { IsPlan self.now }

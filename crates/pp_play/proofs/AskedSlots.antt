@@ -12,9 +12,9 @@ use Rattle.pp_plan.specs.declared.action.Ask.{Ask}
 use Rattle.pp_plan.specs.declared.action.Ask.TheVariants as ask
 use Rattle.pp_plan.specs.Terms.{Terms, IsPlan}
 use Rattle.pp_plan.specs.Traces.{IsTrace}
-use Rattle.pp_plan.specs.Cursor.{NamesAction}
-use Rattle.pp_plan.specs.Asked.{asked}
-use Rattle.pp_plan.proofs.Asking.{asks_named, asks_end}
+use Rattle.pp_cursor.specs.Cursor.{NamesAction}
+use Rattle.pp_cursor.specs.Asked.{asked}
+use Rattle.pp_cursor.proofs.Asking.{asks_named, asks_end}
 use Rattle.pp_cert.specs.declared.note.Held.{Held}
 use Rattle.pp_cert.specs.declared.note.Held.TheVariants.{Free, S, X}
 use Rattle.pp_cert.specs.Held.{Holding, Holdings, holding_slot, holding_at}

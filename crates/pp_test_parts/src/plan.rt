@@ -1,9 +1,10 @@
 //! Tests of plans: each public call once, at its limits.
 
-ghost use Rattle.pp_plan.specs.Cursor.{IsCursorOf};
+ghost use Rattle.pp_cursor.specs.Cursor.{IsCursorOf};
 
 use crate::common::{is_printed, same, two_regions};
-use pp_plan::{Action, Ask, Cursor, Plan, PlanError, Stmt};
+use pp_cursor::Cursor;
+use pp_plan::{Action, Ask, Plan, PlanError, Stmt};
 use std::alloc::Global;
 use std::process::Abort;
 use std::test::*;

@@ -1,6 +1,6 @@
 use Rattle.std.proofs.Common.{◌∙◌, refl, sym, subst}
 use Rattle.pp_plan.specs.declared.action.Action.TheVariants as action
-use Rattle.pp_plan.specs.Cursor.{NamesAction}
+use Rattle.pp_cursor.specs.Cursor.{NamesAction}
 use Rattle.pp_core.specs.Draining.{host_of}
 use Rattle.pp_core.specs.Parts.{parts_of}
 use Rattle.pp_core.specs.StandsFor.{Asks}

@@ -1,5 +1,5 @@
 use Rattle.std.proofs.Common.{◌≡◌, ◌∙◌, ◌<◌, true, false, subst, sym, refl, rules}
-use Rattle.pp_plan.specs.Asked.{region_has}
+use Rattle.pp_cursor.specs.Asked.{region_has}
 use Rattle.pp_arc.specs.declared.answer.Answer.TheVariants as answer
 use Rattle.pp_arc.specs.FourLists.{is_cached}
 use Rattle.pp_arc.specs.Figure.{request}

@@ -1,5 +1,5 @@
 use Rattle.std.proofs.Common.{◌≡◌, ◌∙◌, true, false, sym, refl, rules}
-use Rattle.pp_plan.specs.Asked.{region_has}
+use Rattle.pp_cursor.specs.Asked.{region_has}
 use Rattle.pp_arc.specs.Figure.{request, is_all_busy}
 use Rattle.pp_model.specs.declared.moves.Move.TheVariants as move
 use Rattle.pp_model.specs.declared.reply.Reply.TheVariants.{NotNow, OffPlan}

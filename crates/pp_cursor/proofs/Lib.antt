@@ -1,0 +1,12 @@
+pub mod Joined
+pub mod Sequences
+pub mod Stack
+pub mod Paths
+pub mod CursorMoves
+pub mod Rows
+pub mod Lasting
+pub mod Passing
+pub mod Standing
+pub mod Ahead
+pub mod Asking
+pub mod OneAsk
