@@ -26,6 +26,7 @@ use Rattle.pp_annotate.specs.Growth.{first_note}
 use Rattle.pp_annotate.specs.Made.{after_statement, after_sequence, statement_notes, sequence_notes, branches_notes}
 use Rattle.pp_annotate.specs.Made.{made_notes, made}
 use Rattle.pp_annotate.specs.Annotation.{IsPlansFault}
+use Rattle.pp_annotate.proofs.Once.{step_expected}
 use Rattle.pp_annotate.proofs.Forms.{Forms, step_forms}
 use Rattle.pp_annotate.proofs.Rises.{first_forms}
 use Rattle.pp_annotate.proofs.Low.{Low, first_note_low, statement_low}
@@ -79,13 +80,14 @@ module _ (g : Geometry) (c : Claims) where
     Here k ns = Stand c.peak c.notes k ns
 
     -- what is noted after a statement is what the check expects
-    pub expected_is : (k : ℕ) (s : Statement) (n : Entries) → note_at c k ≡ n → Here (k + 1) (statement_notes kind s n)
+    pub expected_is : (k : ℕ) (s : Statement) (n : Entries) → note_at c k ≡ n
+        → first_fault g c (statement_tests false k s) ≡ None → Here (k + 1) (statement_notes kind s n)
         → expected_note c (outcome false k s) ≡ after_statement kind s n
-    expected_is k (step s) n e h = ap (noted_with false s) e
-    expected_is k (loop turns b) n e h =
+    expected_is k (step s) n e may h = ap (noted_with false s) e ∙ sym (step_expected g c k s n e may)
+    expected_is k (loop turns b) n e may h =
         ends_at c kind (k + 1) b (first_note kind turns b n) (is_at c (k + 1) (first_note kind turns b n) h.0) h.2
-    expected_is k (choice none) n e h = e
-    expected_is k (choice (either b bs)) n e h =
+    expected_is k (choice none) n e may h = e
+    expected_is k (choice (either b bs)) n e may h =
         let end : ℕ = sequence_end (k + 1) b in
         let at : k + 1 + length (n ∷ sequence_notes kind b n) ≡ end + 1 =
         omega (arith, sequence_places kind (k + 1) b n) in
@@ -161,15 +163,14 @@ module _ (g : Geometry) (c : Claims) where
           stand_split c.peak c.notes (k + 1) next (statement_notes kind s n) (after ∷ sequence_notes kind b after)
           (statement_places kind k s n) h in
           let inner = statement_fares k s n is.0 e f low p.0 in
-          let note : first_fault g c between ≡ None =
-          note_none g c next (outcome false k s) after p.1.0 p.1.1
-          (expected_is k s n e p.0) in
+          let note : first_fault g c front ≡ None → first_fault g c between ≡ None = λ x.
+          note_none g c next (outcome false k s) after p.1.0 p.1.1 (expected_is k s n e x p.0) in
           let rest : first_fault g c front ≡ None → Fares back (after_sequence kind b after) = λ x.
           sequence_fares next b after is.1 (is_at c next after p.1.0) (inner.forms x) (statement_low kind few s n low)
           p.1.2 in
           record {
             blames = blames_then (front ++ between) back
-                (blames_then front between inner.blames (λ x. blames_none between note))
+                (blames_then front between inner.blames (λ x. blames_none between (note x)))
                 (λ x. (rest (both_pass g c front between x).0).blames);
             forms = λ x.
                 let q = both_pass g c (front ++ between) back x in

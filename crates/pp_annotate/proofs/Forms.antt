@@ -1,6 +1,6 @@
 -- Notes whose entries stand by rising slot, none of which pins nothing, and where no bundle has a page of its own.
-use Rattle.std.proofs.Common.{◌≡◌, ℕ, ◌+◌, ◌<◌, ◌≤◌, Bool, true, false, cond, Some, None, [], ◌∷◌, refl, sym, ap, ◌∙◌}
-use Rattle.std.proofs.Common.{min, arith}
+use Rattle.std.proofs.Common.{◌≡◌, ℕ, ◌+◌, ◌<◌, ◌≤◌, Bool, true, false, cond, Some, None, [], ◌∷◌, refl, sym, ap, subst}
+use Rattle.std.proofs.Common.{◌∙◌, min, arith}
 use Rattle.std.specs.Prelude.{◌==◌, ◌&&◌, not, nat_lt, nat_le, is_some, if◌then◌else◌, option_map, unwrap_or}
 use Rattle.std.proofs.lemmas.Bool.{and_parts, not-true, ltb-true, leb-true, lt-ltb, le-leb, eqb-true}
 use Rattle.std.proofs.lemmas.Bool.Decides.{nat_tests}
@@ -14,10 +14,12 @@ use Rattle.pp_cert.specs.Slots.{slot_insert}
 use Rattle.pp_cert.specs.Held.{held_in}
 use Rattle.pp_cert.specs.Notes.{Entries, entry_slot, entry_pins, entry_held, is_slot, is_bundle_of, entry_at, noted_at}
 use Rattle.pp_cert.specs.Notes.{bundle_at, bound_at, plain_part, entry_as, noted_as, without_page, without_bundle}
-use Rattle.pp_cert.specs.Notes.{one_more, noted_with, with_bound, is_rising}
+use Rattle.pp_cert.specs.Notes.{one_more, with_bound, is_rising}
 use Rattle.pp_cert.specs.Walk.{Claims, note_at, slot_unused, first_fault, step_tests}
 use Rattle.pp_cert.proofs.Passing.{first_passes}
 use Rattle.pp_cert.proofs.SlotKinds.{KeepsKinds}
+use Rattle.pp_annotate.specs.Made.{after_step}
+use Rattle.pp_annotate.proofs.Once.{step_expected}
 
 -- No entry is of the slot.
 abbrev pub Absent : ℕ → Entries → Type 0
@@ -166,14 +168,15 @@ module _ (kind : ℕ → Bool) where
       (forms_without_bundle 0 s n f)
 
   pub step_forms : (g : Geometry) (c : Claims) (k : ℕ) (s : Step) (n : Entries) → KeepsKinds kind s → note_at c k ≡ n
-      → first_fault g c (step_tests k s) ≡ None → Forms 0 n → Forms 0 (noted_with false s n)
+      → first_fault g c (step_tests k s) ≡ None → Forms 0 n → Forms 0 (after_step s n)
   step_forms g c k (fix s r) n is e h f =
       let p = first_passes g c (slot_unused k s) [] h in
       let q = and_parts (not (is_some (noted_at (note_at c k) s))) (bound_at (note_at c k) s == 0) p.0 in
       let free : is_some (noted_at n s) ≡ false = ap (λ x. is_some (noted_at x s)) (sym e)
       ∙ not-true (is_some (noted_at (note_at c k) s)) q.0 in
       let empty : bound_at n s ≡ 0 = ap (λ x. bound_at x s) (sym e) ∙ eqb-true (bound_at (note_at c k) s) 0 q.1 in
-      forms_insert 0 (Slot s r Free) n (omega arith) (omega arith) is (absent_unused s 0 n free empty f) f
+      subst (λ x. Forms 0 x) (sym (step_expected g c k (fix s r) n e h))
+      (forms_insert 0 (Slot s r Free) n (omega arith) (omega arith) is (absent_unused s 0 n free empty f) f)
   step_forms g c k (unfix s) n is e h f = forms_without_page 0 s n f
   step_forms g c k (latch s m) n is e h f = forms_as 0 (held_in m) s n f
   step_forms g c k (unlatch s) n is e h f = forms_as 0 Free s n f

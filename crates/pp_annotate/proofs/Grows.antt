@@ -18,6 +18,7 @@ use Rattle.pp_annotate.specs.Growth.{step_growth, statement_growth, growth, firs
 use Rattle.pp_annotate.specs.Made.{after_statement, after_sequence, after_first, statement_notes, sequence_notes}
 use Rattle.pp_annotate.specs.Made.{branches_notes, greatest}
 use Rattle.pp_annotate.proofs.Pins.{bound_pins}
+use Rattle.pp_annotate.proofs.Once.{step_bound}
 use Rattle.pp_annotate.proofs.Rises.{first_bundle, first_plain}
 
 or_false : (a b : Bool) → (a || b) ≡ false → (a ≡ false) × (b ≡ false)
@@ -149,7 +150,8 @@ module _ (kind : ℕ → Bool) where
           → note_pins n ≤ most_frames → greatest (statement_notes kind d n) ≤ most_frames
           → bound_at (after_statement kind d n) t ≡ bound_at n t + statement_growth d t
       statement_grows (step d) n t is still small h =
-          ap (λ x. bound_at x t) (sym (noted_in_full d n (λ x. omega (arith, bound_pins x n, small))))
+          step_bound d n t
+          ∙ ap (λ x. bound_at x t) (sym (noted_in_full d n (λ x. omega (arith, bound_pins x n, small))))
           ∙ step_grows d n t still
       statement_grows (loop turns b) n t is still small h =
           let first : Entries = first_note kind turns b n in

@@ -1,6 +1,7 @@
 pub mod Splices
 pub mod Walk
 pub mod Pins
+pub mod Once
 pub mod Forms
 pub mod Alike
 pub mod Rises

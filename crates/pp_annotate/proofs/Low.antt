@@ -12,6 +12,7 @@ use Rattle.pp_cert.proofs.Pages.{bound_page, bound_without_page, bound_as, bound
 use Rattle.pp_cert.proofs.Pages.{bound_with_here, bound_with_other}
 use Rattle.pp_annotate.specs.Growth.{first_note}
 use Rattle.pp_annotate.specs.Made.{after_statement, after_sequence}
+use Rattle.pp_annotate.proofs.Once.{step_bound}
 use Rattle.pp_annotate.proofs.Grows.{by_slot}
 use Rattle.pp_annotate.proofs.Rises.{first_low}
 
@@ -39,7 +40,7 @@ module _ (kind : ℕ → Bool) (few : (s : ℕ) → kind s ≡ true → s < most
 
   mutual
     pub statement_low : (s : Statement) (n : Entries) → Low kind n → Low kind (after_statement kind s n)
-    statement_low (step s) n low = λ t k. step_low s n t (low t k)
+    statement_low (step s) n low = λ t k. omega (arith, step_bound s n t, step_low s n t (low t k))
     statement_low (loop c b) n low = sequence_low b (first_note kind c b n) (first_note_low c b n)
     statement_low (choice none) n low = low
     statement_low (choice (either b bs)) n low = sequence_low b n low

@@ -284,12 +284,12 @@ module _ (g : Geometry) (d c : Claims) where
           stand_split c.peak c.notes (k + 1) next (statement_notes kind s n) (m ∷ sequence_notes kind b m)
           (statement_places kind k s n) h in
           let inner = statement_same k s n is.0 e f form small p.0 in
-          let expected = expected_is g c kind few k s n f p.0 in
-          let note : Same theirs_between between =
+          let note : first_fault g d (statement_tests true k s) ≡ None → Same theirs_between between = λ q.
+          let expected = expected_is g c kind few k s n f (inner.0 q) p.0 in
           same_never theirs_between between (note_none g c next (outcome false k s) m p.1.0 p.1.1 expected)
           (note_never next (outcome true k s)) in
           let first : Same (statement_tests true k s ++ theirs_between) (statement_tests false k s ++ between) =
-          same_then (statement_tests true k s) (statement_tests false k s) theirs_between between inner (λ q. note) in
+          same_then (statement_tests true k s) (statement_tests false k s) theirs_between between inner note in
           same_then (statement_tests true k s ++ theirs_between) (statement_tests false k s ++ between)
           (sequence_tests true next b) (sequence_tests false next b) first (λ q.
           let r = both_pass g d (statement_tests true k s) theirs_between q in

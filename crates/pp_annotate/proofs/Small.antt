@@ -13,11 +13,12 @@ use Rattle.pp_cert.specs.declared.note.Held.{Held}
 use Rattle.pp_cert.specs.declared.note.Held.TheVariants.{Free}
 use Rattle.pp_cert.specs.Held.{held_in}
 use Rattle.pp_cert.specs.Notes.{Entries, entry_slot, entry_pins, note_pins, is_slot, entry_as, noted_as, without_page}
-use Rattle.pp_cert.specs.Notes.{bound_at, one_more as one_page_more, noted_with}
+use Rattle.pp_cert.specs.Notes.{bound_at, one_more as one_page_more}
 use Rattle.pp_annotate.specs.Growth.{first_note}
-use Rattle.pp_annotate.specs.Made.{after_statement, after_sequence, after_first, statement_notes, sequence_notes}
-use Rattle.pp_annotate.specs.Made.{branches_notes, made_notes, greatest}
-use Rattle.pp_annotate.proofs.Pins.{one_more, others_pins, bounded_pins}
+use Rattle.pp_annotate.specs.Made.{after_step, after_statement, after_sequence, after_first, statement_notes}
+use Rattle.pp_annotate.specs.Made.{sequence_notes, branches_notes, made_notes, greatest}
+use Rattle.pp_annotate.proofs.Pins.{others_pins, bounded_pins}
+use Rattle.pp_annotate.proofs.Once.{page_pins}
 use Rattle.pp_annotate.proofs.Rises.{first_pins}
 
 -- ---- one step
@@ -43,8 +44,8 @@ as_many held s (y ∷ n) =
       | false ↦ omega (arith, as_many held s n)
     ]
 
-step_small : (s : Step) (n : Entries) → note_pins (noted_with false s n) ≤ note_pins n + 1
-step_small (fix s r) n = omega (arith, one_more (Slot s r Free) n)
+step_small : (s : Step) (n : Entries) → note_pins (after_step s n) ≤ note_pins n + 1
+step_small (fix s r) n = page_pins s r n
 step_small (unfix s) n = omega (arith, no_more s n)
 step_small (latch s m) n = omega (arith, as_many (held_in m) s n)
 step_small (unlatch s) n = omega (arith, as_many Free s n)

@@ -23,7 +23,7 @@ use Rattle.pp_cert.specs.Slots.{slot_insert}
 use Rattle.pp_cert.specs.Held.{held_in}
 use Rattle.pp_cert.specs.Longest.{sequence_longest}
 use Rattle.pp_cert.specs.Notes.{Entries, entry_slot, note_pins, is_slot, is_bundle_of, noted_at, bound_at, noted_as, one_more}
-use Rattle.pp_cert.specs.Notes.{noted_with, without_page, without_bundle, with_bound}
+use Rattle.pp_cert.specs.Notes.{without_page, without_bundle, with_bound}
 use Rattle.pp_cert.specs.Walk.{Claims, note_at, empty, same, outcome, Test, same_settings, slot_unused, loop_keeps}
 use Rattle.pp_cert.specs.Walk.{branch_agrees, holds_nothing, no_more_notes, steps_allowed, steps_enough, peak_allowed}
 use Rattle.pp_cert.specs.Walk.{first_fault, note_tests, turn_tests, step_tests, statement_tests, sequence_tests}
@@ -33,8 +33,9 @@ use Rattle.pp_cert.proofs.Passing.{first_passes, both_pass, layout_same}
 use Rattle.pp_cert.proofs.Places.{sequence_end-most}
 use Rattle.pp_cert.proofs.SlotKinds.{KeepsKinds, StatementKeeps, IsOfKinds, BranchesKeep}
 use Rattle.pp_annotate.specs.Growth.{rise, risen, with_rise, risen_below, first_note}
-use Rattle.pp_annotate.specs.Made.{after_statement, after_sequence, statement_notes, sequence_notes, branches_notes}
-use Rattle.pp_annotate.specs.Made.{made_notes, made}
+use Rattle.pp_annotate.specs.Made.{after_step, after_statement, after_sequence, statement_notes, sequence_notes}
+use Rattle.pp_annotate.specs.Made.{branches_notes, made_notes, made}
+use Rattle.pp_annotate.proofs.Once.{step_expected}
 use Rattle.pp_annotate.proofs.Forms.{Forms, Absent, absent_unused, absent_bundle}
 use Rattle.pp_annotate.proofs.Rises.{above_it}
 use Rattle.pp_annotate.proofs.Bundles.{sequence_few, own_kinds}
@@ -148,7 +149,7 @@ module _ (kind : ℕ → Bool) (slots regions : ℕ) where
     module _ (g : Geometry) (c : Claims) where
       step_rises : (k : ℕ) (s : Step) (n : Entries) → KeepsKinds kind s → note_at c k ≡ n
           → first_fault g c (step_tests k s) ≡ None → IsStep slots regions s → Rises 0 n
-          → Rises 0 (noted_with false s n)
+          → Rises 0 (after_step s n)
       step_rises k (fix s r) n keeps e h is rises =
           let p = first_passes g c (slot_unused k s) [] h in
           let q = and_parts (not (is_some (noted_at (note_at c k) s))) (bound_at (note_at c k) s == 0) p.0 in
@@ -156,8 +157,9 @@ module _ (kind : ℕ → Bool) (slots regions : ℕ) where
           ∙ not-true (is_some (noted_at (note_at c k) s)) q.0 in
           let none_held : bound_at n s ≡ 0 = ap (λ x. bound_at x s) (sym e)
           ∙ eqb-true (bound_at (note_at c k) s) 0 q.1 in
-          rises_insert 0 (Slot s r Free) n (omega arith) is.0 (is.1, keeps)
-          (absent_unused kind s 0 n free none_held (rises_forms 0 n rises)) rises
+          subst (λ x. Rises 0 x) (sym (step_expected g c k (fix s r) n e h))
+          (rises_insert 0 (Slot s r Free) n (omega arith) is.0 (is.1, keeps)
+          (absent_unused kind s 0 n free none_held (rises_forms 0 n rises)) rises)
       step_rises k (unfix s) n keeps e h is rises = rises_remove 0 s n rises
       step_rises k (latch s m) n keeps e h is rises = rises_held_as 0 (held_in m) s n rises
       step_rises k (unlatch s) n keeps e h is rises = rises_held_as 0 Free s n rises

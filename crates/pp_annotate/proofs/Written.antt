@@ -25,6 +25,7 @@ use Rattle.pp_annotate.specs.Made.{after_statement, after_sequence, statement_no
 use Rattle.pp_annotate.specs.Made.{made_notes, greatest}
 use Rattle.pp_annotate.proofs.Pins.{bound_pins}
 use Rattle.pp_annotate.proofs.Forms.{Forms, ArePlain, forms_plain, part_plain, plain_of_part, rising_forms, step_forms}
+use Rattle.pp_annotate.proofs.Once.{step_expected}
 use Rattle.pp_annotate.proofs.Alike.{alike}
 use Rattle.pp_annotate.proofs.Rises.{first_part, first_forms, first_bundle, first_plain, first_same}
 use Rattle.pp_annotate.proofs.Grows.{noted_in_full, plain_sequence, sequence_grows}
@@ -126,7 +127,7 @@ module _ (g : Geometry) (c : Claims) (kind : ℕ → Bool) (few : (s : ℕ) → 
         × Forms kind 0 (after_statement kind s n)
     statement_written k (step s) n is e f small h = (
       tt,
-      ap (noted_with true s) e ∙ noted_in_full s n (in_full k n e small),
+      ap (noted_with true s) e ∙ noted_in_full s n (in_full k n e small) ∙ sym (step_expected g c k s n e h),
       step_forms kind g c k s n is e h f,
     )
     statement_written k (loop turns b) n is e f small h =

@@ -1,22 +1,40 @@
 -- The certificate that is made of a plan: what is held at each place, noted statement by statement. Nothing is tested
 -- here: a statement that may not happen is noted as if it did. `is_bundle` tells which slots are bundles.
-use Rattle.std.specs.Prelude.{ℕ, min, max, Bool, false, List, [], ◌∷◌, ◌++◌}
-use Rattle.pp_plan.specs.Tree.{Statement, step, loop, choice, Sequence, skip, andthen, Alternatives, none, either}
+use Rattle.std.specs.Prelude.{ℕ, min, max, Bool, false, is_some, if◌then◌else◌, List, [], ◌∷◌, ◌++◌}
+use Rattle.pp_plan.specs.Tree.{Step, fix, unfix, latch, unlatch, gather, scatter, Statement, step, loop, choice}
+use Rattle.pp_plan.specs.Tree.{Sequence, skip, andthen, Alternatives, none, either}
 use Rattle.pp_plan.specs.Rules.{uses_bundle}
 use Rattle.pp_plan.specs.Terms.{Terms}
 use Rattle.pp_cert.specs.Limits.{counted}
 use Rattle.pp_cert.specs.Claims.{Claims}
-use Rattle.pp_cert.specs.Notes.{Entries, note_pins, noted_with}
+use Rattle.pp_cert.specs.declared.note.Entry.{Entry}
+use Rattle.pp_cert.specs.declared.note.Entry.TheVariants.{Slot}
+use Rattle.pp_cert.specs.declared.note.Held.TheVariants.{Free}
+use Rattle.pp_cert.specs.Slots.{slot_insert}
+use Rattle.pp_cert.specs.Notes.{Entries, entry_slot, noted_at, note_pins, noted_with}
 use Rattle.pp_cert.specs.Longest.{sequence_longest}
 use Rattle.pp_annotate.specs.Growth.{first_note}
 
 -- ---- what is noted after a part of a plan, where `n` is noted before it
 
+-- With one more page, at its place by rising slot; the same where its slot has a page already. So no slot is noted twice.
+abbrev pub with_page : Entry → Entries → Entries
+with_page e n = if is_some (noted_at n (entry_slot e)) then n else slot_insert entry_slot e n
+
+-- After a step: what the check expects where the step may happen, with bounds that are counted no further than to the first
+-- that is too large.
+abbrev pub after_step : Step → Entries → Entries
+after_step (fix s r) n = with_page (Slot s r Free) n
+after_step (unfix s) n = noted_with false (unfix s) n
+after_step (latch s m) n = noted_with false (latch s m) n
+after_step (unlatch s) n = noted_with false (unlatch s) n
+after_step (gather s r) n = noted_with false (gather s r) n
+after_step (scatter s) n = noted_with false (scatter s) n
+
 abbrev mutual
-  -- After a step what the check expects, with bounds that are counted no further than to the first that is too large. After
-  -- a loop what is noted at the end of its body; after a choice what is noted at the end of its first branch.
+  -- After a loop what is noted at the end of its body; after a choice what is noted at the end of its first branch.
   pub after_statement : (is_bundle : ℕ → Bool) → Statement → Entries → Entries
-  after_statement is_bundle (step s) n = noted_with false s n
+  after_statement is_bundle (step s) n = after_step s n
   after_statement is_bundle (loop c b) n = after_sequence is_bundle b (first_note is_bundle c b n)
   after_statement is_bundle (choice bs) n = after_first is_bundle bs n
 

@@ -1,9 +1,10 @@
 //! What is held after a step, from what is held before it.
 
-ghost use Rattle.std.specs.Prelude.{◌≡◌, false, IfOk, nat_lt, position};
-ghost use Rattle.pp_cert.specs.Notes.{entry_slot, is_slot, noted_as, without_page, bound_at, one_more, without_bundle};
+ghost use Rattle.std.specs.Prelude.{◌≡◌, false, IfOk, is_some, nat_lt, position};
+ghost use Rattle.pp_cert.specs.Notes.{entry_slot, is_slot, noted_at, noted_as, without_page, bound_at, one_more, without_bundle};
 ghost use Rattle.pp_cert.specs.Notes.{with_bound};
 ghost use Rattle.pp_cert.specs.Slots.{slot_insert};
+ghost use Rattle.pp_annotate.specs.Made.{with_page};
 
 use pp_cert::{Entry, Held, MOST_COUNTED};
 use std::alloc::{AllocError, Global};
@@ -15,6 +16,21 @@ fn position_of(note: &[Entry], slot: u8) -> Option<usize>
     note.iter().position(|entry| entry.is_slot(slot))
 }
 
+/// How the slot holds its page, if it has one of its own.
+fn noted_at(note: &[Entry], slot: u8) -> Option<Held>
+    ensures { result ≡ noted_at note.now slot }
+{
+    let entry = note.iter().find(|entry| entry.is_slot(slot))?;
+    Some(entry.held())
+}
+
+/// Whether the slot has a page of its own.
+fn has_page(note: &[Entry], slot: u8) -> bool
+    ensures { result ≡ is_some (noted_at note.now slot) }
+{
+    noted_at(note, slot).is_some()
+}
+
 /// The place of the first entry of a greater slot, if there is one.
 fn position_after(note: &[Entry], entry: Entry) -> Option<usize>
     ensures { result ≡ position (λ other. nat_lt (entry_slot entry) (entry_slot other)) note.now }
@@ -24,7 +40,7 @@ fn position_after(note: &[Entry], entry: Entry) -> Option<usize>
 
 /// What is held with one more entry, at its place by rising slot. `AllocError` where memory runs out.
 #[tactic(auto, using(crate::proofs::Splices::inserts))]
-pub fn inserted(alloc: Global, before: &[Entry], entry: Entry) -> Result<Vec<Entry>, AllocError>
+fn put_in(alloc: Global, before: &[Entry], entry: Entry) -> Result<Vec<Entry>, AllocError>
     ensures { IfOk result (λ after. after.items ≡ slot_insert entry_slot entry before.now) }
 {
     let mut after = Vec::from_slice(alloc, before)?;
@@ -33,6 +49,17 @@ pub fn inserted(alloc: Global, before: &[Entry], entry: Entry) -> Result<Vec<Ent
         None => after.push(entry)?,
     }
     Ok(after)
+}
+
+/// What is held with one more page, at its place by rising slot, and the same where its slot has a page already. `AllocError`
+/// where memory runs out.
+pub fn inserted(alloc: Global, before: &[Entry], entry: Entry) -> Result<Vec<Entry>, AllocError>
+    ensures { IfOk result (λ after. after.items ≡ with_page entry before.now) }
+{
+    if has_page(before, entry.slot()) {
+        return Vec::from_slice(alloc, before);
+    }
+    put_in(alloc, before, entry)
 }
 
 /// What is held without the slot's entry. `AllocError` where memory runs out.
@@ -90,7 +117,7 @@ pub(crate) fn bounded(
     ensures { IfOk result (λ after. after.items ≡ with_bound slot bound before.now) }
 {
     let others = scattered(alloc, before, slot)?;
-    inserted(alloc, &others, Entry::Bundle { slot, bound })
+    put_in(alloc, &others, Entry::Bundle { slot, bound })
 }
 
 /// What is held with one more page in the bundle, whose bound counts no further than to the first that is too large.

@@ -23,8 +23,8 @@ use std::alloc::{AllocError, Global};
 /// Makes the least certificate of the plan: what is held at each place, the pins of the note with most as peak, and
 /// the length of the longest trace as steps.
 ///
-/// What it does grows with the statements of the plan and the entries of the notes that it writes, and with the bundles and
-/// the loops around each statement.
+/// What it does grows with the statements of the plan and the entries of the notes that it writes, at most one for each slot,
+/// and with the bundles and the loops around each statement; also where the plan has a fault.
 ///
 /// # Errors
 ///
