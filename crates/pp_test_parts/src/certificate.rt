@@ -1,7 +1,7 @@
 //! Certificates: how they are made, written, read and checked at their limits, and how refusals are told.
 
 use crate::common::{is_printed, same, two_regions};
-use pp_annotate::{AnnotateError, annotate};
+use pp_annotate::{AnnotateError, annotate, inserted};
 use pp_cert::{
     CertError, Certificate, CheckError, Entry, Held, Note, check, fault_under, longest_trace,
 };
@@ -239,6 +239,33 @@ fn the_greatest_plan_is_annotated_and_checked(rt: HostRuntime) -> Result<(), Fai
     same(&rt, figures, (32, 4096, 12_322));
     same(&rt, accepted.layout().frames(), 32);
     same(&rt, accepted.plan().body().len(), 4096);
+    Ok(())
+}
+
+/// A plan of 4,096 fixes of one slot.
+fn fixes_of_one_slot(alloc: Global) -> Result<String, Fail> {
+    let mut text = String::from_str(alloc, "{\"body\":[{\"fix\":\"a\",\"region\":\"leaf\"}")?;
+    repeat(&mut text, ",{\"fix\":\"a\",\"region\":\"leaf\"}", 4095)?;
+    text.push_str("],\"version\":1}")?;
+    Ok(text)
+}
+
+#[test]
+fn a_slot_is_noted_once(rt: HostRuntime) -> Result<(), Fail> {
+    let settings = two_regions(rt.alloc(), 3)?;
+    let plan = Plan::from_text(rt.alloc(), &settings, &fixes_of_one_slot(rt.alloc())?)?;
+    let Err(error) = annotate(rt.alloc(), &settings, &plan) else {
+        panic!(rt; "annotated")
+    };
+    same(&rt, (error.number(), error.place()), (34, Some(1)));
+    let page = Entry::Slot {
+        slot: 0,
+        region: 1,
+        held: Held::Free,
+    };
+    let once = inserted(rt.alloc(), &[], page)?;
+    let again = inserted(rt.alloc(), &once, page)?;
+    same(&rt, again.as_slice(), [page].as_slice());
     Ok(())
 }
 
