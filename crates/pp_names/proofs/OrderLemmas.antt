@@ -1,8 +1,8 @@
 -- Lemmas on the names without a key: one is given out, taken back, and there are more.
-use Rattle.std.proofs.Common.{◌≡◌, ◌≢◌, ℕ, suc, ◌+◌, ◌-◌, ◌*◌, ◌<◌, ◌≤◌, List, [], ◌∷◌, ◌++◌, length, drop, get_or, set, replicate}
-use Rattle.std.proofs.Common.{Bool, true, false, cond, eqb, arith, ap, sym, refl, subst, ◌∙◌, inl, inr, add-one}
+use Rattle.std.proofs.Common.{◌≡◌, ◌≢◌, ℕ, suc, ◌+◌, ◌-◌, ◌<◌, ◌≤◌, List, [], ◌∷◌, ◌++◌, length, drop, get_or, set, replicate}
+use Rattle.std.proofs.Common.{true, false, eqb, arith, ap, sym, refl, ◌∙◌, inl, inr, add-one}
 use Rattle.std.proofs.Common.{drop-cons, length-append, get_or-set_other, get_or-set_same, length-set}
-use Rattle.std.specs.Prelude.{Option, None, Some, is_some, count_by, sum_by}
+use Rattle.std.specs.Prelude.{Option, None, Some, is_some}
 use Rattle.std.proofs.lemmas.Bool.{cases_eq, cases_lt, ne_eqb, eq-eqb}
 use Rattle.std.proofs.lemmas.List.{get_or_past, drop-append-le, drop-set-lt, length-replicate, get_or_append_left, get_or-append_right}
 use Rattle.std.proofs.lemmas.List.{get_or-replicate, set-set}

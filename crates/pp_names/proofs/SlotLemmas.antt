@@ -1,12 +1,13 @@
 -- Lemmas on slots: a name is found, comes, and goes.
-use Rattle.std.proofs.Common.{◌≡◌, ◌≢◌, ℕ, zero, suc, ◌+◌, ◌-◌, ◌*◌, ◌<◌, ◌≤◌, List, length, take, get_or, set, replicate}
-use Rattle.std.proofs.Common.{Bool, true, false, not, cond, eqb, arith, ap, sym, refl, subst, ◌∙◌, inl, inr}
+use Rattle.std.proofs.Common.{◌≡◌, ◌≢◌, ℕ, suc, ◌+◌, ◌-◌, ◌*◌, ◌%◌, ◌^◌, ◌<◌, ◌≤◌, List, [], ◌∷◌, length, get_or, set, replicate}
+use Rattle.std.proofs.Common.{Bool, true, false, not, cond, arith, ap, sym, refl, subst, ◌∙◌, inl, inr, ◌⊎◌}
 use Rattle.std.proofs.Common.{get_or-set_other, get_or-set_same, length-set}
 use Rattle.std.specs.Prelude.{count_by}
-use Rattle.std.proofs.lemmas.Bool.{cases_eq, cases_lt, ne_eqb, eq-eqb}
+use Rattle.std.proofs.Math.Nat.{mul-le-mul_right}
+use Rattle.std.proofs.lemmas.Bool.{cases_eq, cases_lt, ne_eqb, eq-eqb, lt-ltb, le-ltb}
 use Rattle.std.proofs.lemmas.List.{get_or_past, get_or_default, get_or-replicate, length-replicate}
-use Rattle.std.proofs.lemmas.List.Sums.{sum_by-set, sum_by-take-le, count_by_more_yes, count_by-le-length}
-use Rattle.pp_names.specs.Slots.{none, at, is_full, home_of, IsLaid, IsTable}
+use Rattle.std.proofs.lemmas.List.Sums.{sum_by-set, sum_by-cons, count_by-le-length}
+use Rattle.pp_names.specs.Slots.{none, at, is_full, home_of, next_of, distance_of, IsLaid, IsTable}
 
 -- ---- what stands at a place
 
@@ -45,37 +46,152 @@ pub count_same : (xs : List ℕ) (i x : ℕ) → i < length xs → at xs i ≢ n
 count_same xs i x lt e f =
     omega (arith, count-set xs i x lt, ap one_for (full-true (at xs i) e), ap one_for (full-true x f))
 
--- where a place is empty, fewer are full than there are
-pub count_below : (xs : List ℕ) (i : ℕ) → i < length xs → at xs i ≡ none → count_by is_full xs < length xs
-count_below xs i lt e = omega (
+-- where all places are full, as many are as there are
+pub all_full : (xs : List ℕ) → ((j : ℕ) → j < length xs → at xs j ≢ none) → length xs ≤ count_by is_full xs
+all_full [] f = omega arith
+all_full (x ∷ xs) f = omega (
   arith,
-  count_more xs i 0 lt e (omega arith),
-  count_by-le-length is_full (set xs i 0),
-  length-set xs i 0,
+  sum_by-cons (λ y. one_for (is_full y)) x xs,
+  ap one_for (full-true x (f 0 (omega arith))),
+  all_full xs (λ j lt. f (suc j) (omega arith)),
 )
 
--- a run of full places is no longer than there are full ones
-pub run_fits : (xs : List ℕ) (a b : ℕ) → b ≤ length xs → ((j : ℕ) → a ≤ j → j < b → at xs j ≢ none)
-    → b ≤ a + count_by is_full xs
-run_fits xs a b le f = omega (arith, go b le f, sum_by-take-le (λ y. one_for (is_full y)) xs b)
+-- ---- the way round
+
+pub home_low : (names key : ℕ) → home_of names key ≤ 2 * names
+home_low names key = omega (arith, mul-le-mul_right names (low (key * 2654435769)))
   where
-    go : (n : ℕ) → n ≤ length xs → ((j : ℕ) → a ≤ j → j < n → at xs j ≢ none) → n ≤ a + count_by is_full (take n xs)
-    go zero le f = omega arith
-    go (suc n) le f = elim (cases_lt n a) [
-      | inl lt ↦ omega arith
-      | inr ge ↦
-          let more : count_by is_full (take (n + 1) xs) ≡ count_by is_full (take n xs) + 1 =
-          count_by_more_yes is_full xs n none (omega arith) (full-true (at xs n) (f n ge (omega arith))) in
-          let next : suc n ≡ n + 1 = omega arith in
-          subst (λ (m : ℕ). m ≤ a + count_by is_full (take m xs)) (sym next)
-          (omega (arith, more, go n (omega arith) (λ j lo hi. f j lo (omega arith))))
-    ]
+    low : (n : ℕ) → n % 2 ^ 32 ≤ 2 ^ 32
+    low n = omega arith
+
+pub next_is : (size place : ℕ) → place < size
+    → ((place + 1 < size) × (next_of size place ≡ place + 1)) ⊎ ((place + 1 ≡ size) × (next_of size place ≡ 0))
+next_is size place low = elim (cases_lt (place + 1) size) [
+  | inl lt ↦ inl (lt, ap (λ (b : Bool). cond b (place + 1) 0) (lt-ltb (place + 1) size lt))
+  | inr le ↦ inr (omega arith, ap (λ (b : Bool). cond b (place + 1) 0) (le-ltb (place + 1) size le))
+]
+
+pub distance_is : (size from to : ℕ) → from < size
+    → ((from ≤ to) × (distance_of size from to + from ≡ to)) ⊎ ((to < from) × (distance_of size from to + from ≡ to + size))
+distance_is size from to low = elim (cases_lt to from) [
+  | inl lt ↦ inr (lt, omega (arith, low, lt, ap (λ (b : Bool). cond b (size - from + to) (to - from)) (lt-ltb to from lt)))
+  | inr le ↦ inl (le, omega (arith, low, le, ap (λ (b : Bool). cond b (size - from + to) (to - from)) (le-ltb to from le)))
+]
+
+-- a slot b on the way from a to c parts the way
+pub by_way : (size a b c : ℕ) → a < size → b < size → c < size → distance_of size a b ≤ distance_of size a c
+    → distance_of size a c ≡ distance_of size a b + distance_of size b c
+by_way size a b c al bl cl le =
+    omega (arith, al, bl, cl, le, distance_is size a b al, distance_is size a c al, distance_is size b c bl)
+
+pub by_way' : (size a b c : ℕ) → a < size → b < size → c < size → distance_of size b c ≤ distance_of size a c
+    → distance_of size a c ≡ distance_of size a b + distance_of size b c
+by_way' size a b c al bl cl le =
+    omega (arith, al, bl, cl, le, distance_is size a b al, distance_is size a c al, distance_is size b c bl)
+
+-- no two slots are as far from one
+pub apart : (size a b c : ℕ) → a < size → b < size → c < size → b ≢ c → distance_of size a b ≢ distance_of size a c
+apart size a b c al bl cl ne = omega (arith, al, bl, cl, ne, distance_is size a b al, distance_is size a c al)
+
+abbrev pub IsFull : List ℕ → ℕ → Type 0
+IsFull slots j = at slots j ≢ none
+
+-- a full slot with a name of another key
+abbrev pub IsOther : List ℕ → List ℕ → ℕ → ℕ → Type 0
+IsOther keys slots key j = (at slots j ≢ none) × (at keys (at slots j) ≢ key)
+
+-- All slots from one on to a place have been passed, and of each something holds.
+pub record IsPassed (size : ℕ) (P : ℕ → Type 0) (start place : ℕ) : Type 0 where
+  pub from : start < size
+  pub low : place < size
+  pub all : (j : ℕ) → j < size → distance_of size start j < distance_of size start place → P j
+
+pub passed_first : (size : ℕ) (P : ℕ → Type 0) (start : ℕ) → start < size → IsPassed size P start start
+passed_first size P start low = record {
+  from = low;
+  low = low;
+  all = λ j lj lt. absurd (omega (arith, lt, distance_is size start start low));
+}
+
+pub passed_as : (size : ℕ) (P Q : ℕ → Type 0) (start place : ℕ) → ((j : ℕ) → j < size → P j → Q j)
+    → IsPassed size P start place → IsPassed size Q start place
+passed_as size P Q start place f h = record { from = h.from; low = h.low; all = λ j lj lt. f j lj (h.all j lj lt) }
+
+-- what does not hold of all slots isn't passed all the way round
+pub distance_next : (size : ℕ) (P : ℕ → Type 0) (start place : ℕ) → IsPassed size P start place → P place
+    → (((j : ℕ) → j < size → P j) → ⊥)
+    → distance_of size start (next_of size place) ≡ distance_of size start place + 1
+distance_next size P start place h here ends = elim (cases_eq (distance_of size start place + 1) size) [
+  | inl round ↦ absurd (ends (λ j lj. elim (cases_eq j place) [
+    | inl is ↦ subst P (sym is) here
+    | inr ne ↦ h.all j lj (omega (
+      arith,
+      round,
+      lj,
+      h.from,
+      distance_is size start j h.from,
+      apart size start j place h.from lj h.low ne,
+    ))
+  ]))
+  | inr ne ↦ omega (
+    arith,
+    ne,
+    h.from,
+    h.low,
+    next_is size place h.low,
+    distance_is size start place h.from,
+    distance_is size start (next_of size place) h.from,
+  )
+]
+
+pub passed_next : (size : ℕ) (P : ℕ → Type 0) (start place : ℕ) → IsPassed size P start place → P place
+    → (((j : ℕ) → j < size → P j) → ⊥) → IsPassed size P start (next_of size place)
+passed_next size P start place h here ends = record {
+  from = h.from;
+  low = omega (arith, h.low, next_is size place h.low);
+  all = λ j lj lt. elim (cases_eq j place) [
+    | inl is ↦ subst P (sym is) here
+    | inr ne ↦ h.all j lj (omega (
+      arith,
+      lt,
+      distance_next size P start place h here ends,
+      apart size start j place h.from lj h.low ne,
+    ))
+  ];
+}
+
+-- the search ends: fewer steps are left
+pub less_next : (size size' : ℕ) (P : ℕ → Type 0) (start place next : ℕ) → IsPassed size P start place → P place
+    → (((j : ℕ) → j < size → P j) → ⊥) → size' ≡ size → next ≡ next_of size' place
+    → size' - distance_of size' start next < size - distance_of size start place
+less_next size size' P start place next h here ends same is = rw (is, same) (omega (
+  arith,
+  h.from,
+  h.low,
+  distance_next size P start place h here ends,
+  distance_is size start place h.from,
+))
+
+-- one slot is always empty
+pub not_all : (keys slots : List ℕ) → length slots ≡ 2 * length keys + 1 → count_by is_full slots ≡ count_by is_full keys
+    → ((j : ℕ) → j < length slots → at slots j ≢ none) → ⊥
+not_all keys slots size count full = omega (arith, size, count, all_full slots full, count_by-le-length is_full keys)
+
+pub home_slot : (keys slots : List ℕ) (key : ℕ) → length slots ≡ 2 * length keys + 1
+    → home_of (length keys) key < length slots
+home_slot keys slots key size = omega (arith, size, home_low (length keys) key)
 
 -- ---- a name is found
 
 -- what is read in a slot, and then of its name's key
 pub read_slot : (slots : List ℕ) (place : ℕ) → place < length slots → get_or slots place 0 ≡ at slots place
 read_slot slots place low = get_or_default slots place 0 none low
+
+pub read_full : (slots : List ℕ) (place : ℕ) → place < length slots → get_or slots place 0 ≢ none → IsFull slots place
+read_full slots place low full = λ z. full (read_slot slots place low ∙ z)
+
+pub read_empty : (slots : List ℕ) (place : ℕ) → place < length slots → get_or slots place 0 ≡ none → at slots place ≡ none
+read_empty slots place low empty = sym (read_slot slots place low) ∙ empty
 
 pub record IsRead (keys slots : List ℕ) (place : ℕ) : Type 0 where
   pub below : get_or slots place 0 < length keys
@@ -95,94 +211,71 @@ read_key keys slots place named low full =
       used = used;
     }
 
+-- where a name stands that has a key
+pub record IsPlaced (keys slots : List ℕ) (name : ℕ) : Type 0 where
+  pub place : ℕ
+  pub is : at slots place ≡ name
+  pub full : at slots place ≢ none
+  pub low : place < length slots
+
+pub place_of : (keys slots : List ℕ) (name : ℕ) → IsTable keys slots → at keys name ≢ none → IsPlaced keys slots name
+place_of keys slots name t used =
+    let low : name < length keys = within keys name used in
+    let there : (i : ℕ) × (at slots i ≡ name) = t.laid.placed name used in
+    let full : at slots there.0 ≢ none = λ z.
+    let n : name ≡ none = sym there.1 ∙ z in omega (arith, n, low, t.fits) in
+    record { place = there.0; is = there.1; full = full; low = within slots there.0 full }
+
+-- not all slots are without a name that has a key
+pub not_without : (keys slots : List ℕ) (name : ℕ) → IsTable keys slots → at keys name ≢ none
+    → ((j : ℕ) → j < length slots → at slots j ≢ name) → ⊥
+not_without keys slots name t used all =
+    let there : IsPlaced keys slots name = place_of keys slots name t used in all there.place there.low there.is
+
+-- a name of another key is passed
+pub read_other : (keys slots : List ℕ) (key place : ℕ) → IsTable keys slots → place < length slots
+    → get_or slots place 0 ≢ none → get_or keys (get_or slots place 0) 0 ≢ key → IsOther keys slots key place
+read_other keys slots key place t low full other =
+    (read_full slots place low full, λ z. other ((read_key keys slots place t.laid.named low full).key ∙ z))
+
 -- the empty slot ends the search
 pub not_found : (keys slots : List ℕ) (key place : ℕ) → IsTable keys slots → at slots place ≡ none
-    → home_of (length keys) key ≤ place
-    → ((j : ℕ) → home_of (length keys) key ≤ j → j < place → at keys (at slots j) ≢ key)
+    → IsPassed (length slots) (IsOther keys slots key) (home_of (length keys) key) place
     → (name : ℕ) → key ≢ none → at keys name ≢ key
-not_found keys slots key place t empty from passed name kn e =
-    let used : at keys name ≢ none = λ z. kn (sym e ∙ z) in
-    let low : name < length keys = within keys name used in
-    let there : (i : ℕ) × (at slots i ≡ name) = t.laid.placed name used in
-    let full : at slots there.0 ≢ none = λ z.
-    let n : name ≡ none = sym there.1 ∙ z in omega (arith, n, low, t.fits) in
-    let same : at keys (at slots there.0) ≡ key = ap (at keys) there.1 ∙ e in
-    let home : home_of (length keys) (at keys (at slots there.0)) ≡ home_of (length keys) key =
-    ap (home_of (length keys)) same in
-    let behind : home_of (length keys) key ≤ there.0 =
-    subst (λ (m : ℕ). m ≤ there.0) home (t.laid.behind there.0 full) in
-    elim (cases_lt there.0 place) [
-      | inl lt ↦ passed there.0 behind lt same
-      | inr le ↦ t.laid.no_gap there.0 place full (subst (λ (m : ℕ). m ≤ place) (sym home) from) le empty
-    ]
-
--- a full slot isn't the last one
-pub not_last : (keys slots : List ℕ) (place : ℕ) → IsTable keys slots → at slots place ≢ none
-    → place < 3 * length keys
-not_last keys slots place t f = elim (cases_eq place (3 * length keys)) [
-  | inl is ↦ absurd (f (ap (at slots) is ∙ t.last))
-  | inr away ↦ omega (arith, within slots place f, t.size, away)
-]
-
--- the search for a name stays among the slots
-pub before_slot : (keys slots : List ℕ) (name place : ℕ) → IsTable keys slots → at keys name ≢ none
-    → ((j : ℕ) → home_of (length keys) (at keys name) ≤ j → j < place → at slots j ≢ name)
-    → place < length slots
-before_slot keys slots name place t used passed =
-    let low : name < length keys = within keys name used in
-    let there : (i : ℕ) × (at slots i ≡ name) = t.laid.placed name used in
-    let full : at slots there.0 ≢ none = λ z.
-    let n : name ≡ none = sym there.1 ∙ z in omega (arith, n, low, t.fits) in
-    let home : home_of (length keys) (at keys (at slots there.0)) ≡ home_of (length keys) (at keys name) =
-    ap (λ (n : ℕ). home_of (length keys) (at keys n)) there.1 in
-    let behind : home_of (length keys) (at keys name) ≤ there.0 =
-    subst (λ (m : ℕ). m ≤ there.0) home (t.laid.behind there.0 full) in
-    elim (cases_lt there.0 place) [
-      | inl lt ↦ absurd (passed there.0 behind lt there.1)
-      | inr le ↦ omega (arith, within slots there.0 full, le)
+not_found keys slots key place t empty h name kn e =
+    let there : IsPlaced keys slots name = place_of keys slots name t (λ z. kn (sym e ∙ z)) in
+    let same : at keys (at slots there.place) ≡ key = ap (at keys) there.is ∙ e in
+    elim (cases_lt (distance_of (length slots) (home_of (length keys) key) there.place)
+    (distance_of (length slots) (home_of (length keys) key) place)) [
+      | inl lt ↦ (h.all there.place there.low lt).1 same
+      | inr le ↦ t.laid.no_gap there.place place there.full h.low
+          (subst (λ (k : ℕ). distance_of (length slots) (home_of (length keys) k) place
+          ≤ distance_of (length slots) (home_of (length keys) k) there.place) (sym same) le) empty
     ]
 
 -- ---- a name comes
 
--- a free name leaves an empty slot in front of the last one
-pub room : (keys slots : List ℕ) (name home place : ℕ) → IsTable keys slots → name < length keys → at keys name ≡ none
-    → home ≤ 2 * length keys → place < 3 * length keys
-    → ((j : ℕ) → home ≤ j → j < place → at slots j ≢ none) → at slots place ≢ none
-    → place + 1 < 3 * length keys
-room keys slots name home place t low unused from below run full = omega (
-  arith,
-  run_fits slots home (place + 1) (omega (arith, t.size)) longer,
-  t.count,
-  count_below keys name low unused,
-  from,
-)
-  where
-    longer : (j : ℕ) → home ≤ j → j < place + 1 → at slots j ≢ none
-    longer j lo hi = elim (cases_eq j place) [
-      | inl is ↦ λ z. full (ap (at slots) (sym is) ∙ z)
-      | inr away ↦ run j lo (omega arith)
-    ]
-
-pub laid_more : (home key slot key' slot' : ℕ → ℕ) (name k place : ℕ) → IsLaid home key slot → key none ≡ none
-    → key name ≡ none → k ≢ none → name ≢ none → slot place ≡ none
+pub laid_more : (size : ℕ) (home key slot key' slot' : ℕ → ℕ) (name k place : ℕ) → IsLaid size home key slot
+    → key none ≡ none → key name ≡ none → k ≢ none → name ≢ none → slot place ≡ none
     → slot' place ≡ name → ((i : ℕ) → i ≢ place → slot' i ≡ slot i)
     → key' name ≡ k → ((n : ℕ) → n ≢ name → key' n ≡ key n)
-    → home k ≤ place → ((j : ℕ) → home k ≤ j → j < place → slot j ≢ none)
-    → IsLaid home key' slot'
-laid_more home key slot key' slot' name k place l past unused kn nn empty sp so kp ko low run = record {
+    → IsPassed size (λ j. slot j ≢ none) (home k) place → IsLaid size home key' slot'
+laid_more size home key slot key' slot' name k place l past unused kn nn empty sp so kp ko h = record {
   named = λ i f. elim (cases_eq i place) [
     | inl is ↦ λ z. kn (sym (mine i is) ∙ z)
     | inr ne ↦ λ z. l.named i (was i ne f) (sym (same i ne f) ∙ z)
   ];
-  behind = λ i f. elim (cases_eq i place) [
-    | inl is ↦ omega (arith, ap home (mine i is), is, low)
-    | inr ne ↦ omega (arith, ap home (same i ne f), l.behind i (was i ne f))
-  ];
-  no_gap = λ i j f lo hi. elim (cases_eq j place) [
+  no_gap = λ i j f lj near. elim (cases_eq j place) [
     | inl js ↦ λ z. nn (sym sp ∙ ap slot' (sym js) ∙ z)
     | inr nj ↦ elim (cases_eq i place) [
-      | inl is ↦ λ z. run j (omega (arith, ap home (mine i is), lo)) (omega (arith, is, hi, nj)) (sym (so j nj) ∙ z)
-      | inr ne ↦ λ z. l.no_gap i j (was i ne f) (omega (arith, ap home (same i ne f), lo)) hi (sym (so j nj) ∙ z)
+      | inl is ↦
+          let near' : distance_of size (home k) j ≤ distance_of size (home k) place =
+          subst (λ (m : ℕ). distance_of size (home k) j ≤ distance_of size (home k) m) is
+          (subst (λ (m : ℕ). distance_of size (home m) j ≤ distance_of size (home m) i) (mine i is) near) in
+          λ z. h.all j lj (omega (arith, near', apart size (home k) j place h.from lj h.low nj)) (sym (so j nj) ∙ z)
+      | inr ne ↦ λ z. l.no_gap i j (was i ne f) lj
+          (subst (λ (m : ℕ). distance_of size (home m) j ≤ distance_of size (home m) i) (same i ne f) near)
+          (sym (so j nj) ∙ z)
     ]
   ];
   once = λ i j f e. elim (cases_eq i place) [
@@ -223,127 +316,154 @@ laid_more home key slot key' slot' name k place l past unused kn nn empty sp so 
         (there.0, so there.0 away ∙ there.1)
 
 pub table_more : (keys slots : List ℕ) (name key place : ℕ) → IsTable keys slots → name < length keys
-    → at keys name ≡ none → key < none → at slots place ≡ none → place < 3 * length keys
-    → home_of (length keys) key ≤ place
-    → ((j : ℕ) → home_of (length keys) key ≤ j → j < place → at slots j ≢ none)
+    → at keys name ≡ none → key < none → at slots place ≡ none
+    → IsPassed (length slots) (IsFull slots) (home_of (length keys) key) place
     → IsTable (set keys name key) (set slots place name)
-table_more keys slots name key place t low unused fits empty below from run = record {
+table_more keys slots name key place t low unused fits empty h = record {
   size = omega (arith, t.size, length-set slots place name, length-set keys name key);
   fits = omega (arith, t.fits, length-set keys name key);
-  last = subst (λ (n : ℕ). at (set slots place name) (3 * n) ≡ none) (sym (length-set keys name key))
-      (get_or-set_other slots place (3 * length keys) name none (omega arith) ∙ t.last);
   count = omega (
     arith,
     t.count,
-    count_more slots place name (omega (arith, t.size)) empty (omega (arith, t.fits)),
+    count_more slots place name h.low empty (omega (arith, t.fits)),
     count_more keys name key low unused (omega arith),
   );
-  laid = subst (λ (n : ℕ). IsLaid (home_of n) (at (set keys name key)) (at (set slots place name)))
-      (sym (length-set keys name key))
-      (laid_more (home_of (length keys)) (at keys) (at slots) (at (set keys name key)) (at (set slots place name)) name key
-      place t.laid (none_past keys t.fits) unused (omega arith) (omega (arith, t.fits)) empty
-      (get_or-set_same slots place name none (omega (arith, t.size)))
-      (λ i ne. get_or-set_other slots place i name none ne)
-      (get_or-set_same keys name key none low) (λ n ne. get_or-set_other keys name n key none ne) from run);
+  laid = rw (length-set slots place name, length-set keys name key)
+      (laid_more (length slots) (home_of (length keys)) (at keys) (at slots) (at (set keys name key)) (at (set slots place name))
+      name key place t.laid (none_past keys t.fits) unused (omega arith) (omega (arith, t.fits)) empty
+      (get_or-set_same slots place name none h.low) (λ i ne. get_or-set_other slots place i name none ne)
+      (get_or-set_same keys name key none low) (λ n ne. get_or-set_other keys name n key none ne) h);
 }
 
 -- ---- a name goes
 
--- While the gap is closed: the slots are as if the name that goes, `gone`, stood in the hole, whatever stands there. The
--- names between the hole and the place that is looked at may not move into the hole.
-pub record IsHoled (home key slot : ℕ → ℕ) (gone hole place : ℕ) : Type 0 where
+-- A slot between the hole and the place that is looked at is full, and its name may not move into the hole.
+abbrev pub Stays : ℕ → (ℕ → ℕ) → (ℕ → ℕ) → (ℕ → ℕ) → ℕ → ℕ → Type 0
+Stays size home key slot hole j =
+    (slot j ≢ none) × (j ≢ hole → distance_of size (home (key (slot j))) j < distance_of size hole j)
+
+-- While the gap is closed: the slots are as if the name that goes, `gone`, stood in the hole, whatever stands there.
+pub record IsHoled (size : ℕ) (home key slot : ℕ → ℕ) (gone hole place : ℕ) : Type 0 where
   pub named : (i : ℕ) → slot i ≢ none → key (slot i) ≢ none
-  pub behind : (i : ℕ) → slot i ≢ none → home (key (slot i)) ≤ i
-  pub no_gap : (i j : ℕ) → slot i ≢ none → home (key (slot i)) ≤ j → j ≤ i → slot j ≢ none
-  pub order : hole < place
-  pub run : (j : ℕ) → hole ≤ j → j < place → slot j ≢ none
-  pub stay : (j : ℕ) → hole < j → j < place → hole < home (key (slot j))
+  pub no_gap : (i j : ℕ) → slot i ≢ none → j < size
+      → distance_of size (home (key (slot i))) j ≤ distance_of size (home (key (slot i))) i → slot j ≢ none
+  pub passed : IsPassed size (Stays size home key slot hole) hole place
+  pub ahead : place ≢ hole
   pub once : (i j : ℕ) → i ≢ hole → j ≢ hole → slot i ≢ none → slot i ≡ slot j → i ≡ j
   pub placed : (name : ℕ) → key name ≢ none → name ≢ gone → (i : ℕ) × (i ≢ hole) × (slot i ≡ name)
   pub away : (i : ℕ) → i ≢ hole → slot i ≢ gone
 
-pub holed_first : (home key slot : ℕ → ℕ) (start : ℕ) → IsLaid home key slot → slot start ≢ none
-    → IsHoled home key slot (slot start) start (start + 1)
-holed_first home key slot start l full = record {
+hole_full : (size : ℕ) (home key slot : ℕ → ℕ) (gone hole place : ℕ) → IsHoled size home key slot gone hole place
+    → slot hole ≢ none
+hole_full size home key slot gone hole place h = (h.passed.all hole h.passed.from (omega (
+  arith,
+  h.passed.from,
+  h.ahead,
+  distance_is size hole hole h.passed.from,
+  distance_is size hole place h.passed.from,
+))).0
+
+-- the place behind a hole is another one
+ahead_of : (size : ℕ) (P : ℕ → Type 0) (hole place : ℕ) → IsPassed size P hole place → P place
+    → (((j : ℕ) → j < size → P j) → ⊥) → next_of size place ≢ hole
+ahead_of size P hole place h here ends =
+    omega (arith, h.from, distance_next size P hole place h here ends, distance_is size hole (next_of size place) h.from)
+
+pub holed_first : (size : ℕ) (home key slot : ℕ → ℕ) (start : ℕ) → IsLaid size home key slot → start < size
+    → slot start ≢ none → (((j : ℕ) → j < size → slot j ≢ none) → ⊥)
+    → IsHoled size home key slot (slot start) start (next_of size start)
+holed_first size home key slot start l low full ends = record {
   named = l.named;
-  behind = l.behind;
   no_gap = l.no_gap;
-  order = omega arith;
-  run = λ j lo hi. let is : j ≡ start = omega arith in λ z. full (ap slot (sym is) ∙ z);
-  stay = λ j lo hi. absurd (omega arith);
+  passed = passed_next size (Stays size home key slot start) start start first (full, λ ne. absurd (ne refl)) no;
+  ahead = ahead_of size (Stays size home key slot start) start start first (full, λ ne. absurd (ne refl)) no;
   once = λ i j ni nj f e. l.once i j f e;
   placed = λ name f ne.
       let there : (i : ℕ) × (slot i ≡ name) = l.placed name f in
       (there.0, λ z. ne (sym there.1 ∙ ap slot z), there.1);
   away = λ i ne e. ne (sym (l.once start i full (sym e)));
 }
+  where
+    first : IsPassed size (Stays size home key slot start) start start
+    first = passed_first size (Stays size home key slot start) start low
+
+    no : ((j : ℕ) → j < size → Stays size home key slot start j) → ⊥
+    no all = ends (λ j lj. (all j lj).0)
 
 -- the name that is looked at stays
-pub holed_keep : (home key slot : ℕ → ℕ) (gone hole place : ℕ) → IsHoled home key slot gone hole place
-    → slot place ≢ none → hole < home (key (slot place)) → IsHoled home key slot gone hole (place + 1)
-holed_keep home key slot gone hole place h full stays = record {
+pub holed_keep : (size : ℕ) (home key slot : ℕ → ℕ) (gone hole place : ℕ) → IsHoled size home key slot gone hole place
+    → slot place ≢ none → distance_of size (home (key (slot place))) place < distance_of size hole place
+    → (((j : ℕ) → j < size → slot j ≢ none) → ⊥) → IsHoled size home key slot gone hole (next_of size place)
+holed_keep size home key slot gone hole place h full stays ends = record {
   named = h.named;
-  behind = h.behind;
   no_gap = h.no_gap;
-  order = omega (arith, h.order);
-  run = λ j lo hi. elim (cases_eq j place) [
-    | inl is ↦ λ z. full (ap slot (sym is) ∙ z)
-    | inr ne ↦ h.run j lo (omega arith)
-  ];
-  stay = λ j lo hi. elim (cases_eq j place) [
-    | inl is ↦ omega (arith, ap (λ (i : ℕ). home (key (slot i))) is, stays)
-    | inr ne ↦ h.stay j lo (omega arith)
-  ];
+  passed = passed_next size (Stays size home key slot hole) hole place h.passed (full, λ ne. stays) no;
+  ahead = ahead_of size (Stays size home key slot hole) hole place h.passed (full, λ ne. stays) no;
   once = h.once;
   placed = h.placed;
   away = h.away;
 }
+  where
+    no : ((j : ℕ) → j < size → Stays size home key slot hole j) → ⊥
+    no all = ends (λ j lj. (all j lj).0)
 
 -- it moves into the hole, and leaves one
-pub holed_move : (home key slot slot' : ℕ → ℕ) (gone hole place : ℕ) → IsHoled home key slot gone hole place
-    → slot place ≢ none → home (key (slot place)) ≤ hole
+pub holed_move : (size : ℕ) (home key slot slot' : ℕ → ℕ) (gone hole place : ℕ)
+    → IsHoled size home key slot gone hole place → ((k : ℕ) → home k < size)
+    → slot place ≢ none → distance_of size hole place ≤ distance_of size (home (key (slot place))) place
+    → (((j : ℕ) → j < size → slot j ≢ none) → ⊥)
     → slot' hole ≡ slot place → ((i : ℕ) → i ≢ hole → slot' i ≡ slot i)
-    → IsHoled home key slot' gone place (place + 1)
-holed_move home key slot slot' gone hole place h full moves sp so = record {
+    → IsHoled size home key slot' gone place (next_of size place)
+holed_move size home key slot slot' gone hole place h slots full moves ends sp so = record {
   named = λ i f. elim (cases_eq i hole) [
     | inl is ↦ λ z. h.named place full (sym (ap key (mine i is)) ∙ z)
     | inr ne ↦ λ z. h.named i (was i ne f) (sym (ap key (so i ne)) ∙ z)
   ];
-  behind = λ i f. elim (cases_eq i hole) [
-    | inl is ↦ omega (arith, ap (λ (n : ℕ). home (key n)) (mine i is), moves, is)
-    | inr ne ↦ omega (arith, ap (λ (n : ℕ). home (key n)) (so i ne), h.behind i (was i ne f))
-  ];
-  no_gap = λ i j f lo hi. elim (cases_eq j hole) [
+  no_gap = λ i j f lj near. elim (cases_eq j hole) [
     | inl js ↦ λ z. full (sym (mine j js) ∙ z)
     | inr nj ↦ elim (cases_eq i hole) [
-      | inl is ↦ λ z. h.no_gap place j full (omega (arith, ap (λ (n : ℕ). home (key n)) (mine i is), lo))
-          (omega (arith, is, hi, h.order)) (sym (so j nj) ∙ z)
-      | inr ne ↦ λ z. h.no_gap i j (was i ne f) (omega (arith, ap (λ (n : ℕ). home (key n)) (so i ne), lo)) hi
+      | inl is ↦ λ z. h.no_gap place j full lj (omega (
+        arith,
+        moves,
+        subst (λ (m : ℕ). distance_of size (home (key (slot place))) j ≤ distance_of size (home (key (slot place))) m) is
+            (subst (λ (m : ℕ). distance_of size (home (key m)) j ≤ distance_of size (home (key m)) i) (mine i is) near),
+        by_way' size (home (key (slot place))) hole place (slots (key (slot place))) h.passed.from h.passed.low moves,
+      )) (sym (so j nj) ∙ z)
+      | inr ne ↦ λ z. h.no_gap i j (was i ne f) lj
+          (subst (λ (m : ℕ). distance_of size (home (key m)) j ≤ distance_of size (home (key m)) i) (so i ne) near)
           (sym (so j nj) ∙ z)
     ]
   ];
-  order = omega arith;
-  run = λ j lo hi. let is : j ≡ place = omega arith in λ z. full (sym (so place ahead) ∙ ap slot' (sym is) ∙ z);
-  stay = λ j lo hi. absurd (omega arith);
+  passed = passed_next size (Stays size home key slot' place) place place first (now, λ ne. absurd (ne refl)) no;
+  ahead = ahead_of size (Stays size home key slot' place) place place first (now, λ ne. absurd (ne refl)) no;
   once = λ i j ni nj f e. elim (cases_eq i hole) [
     | inl is ↦ elim (cases_eq j hole) [
       | inl js ↦ is ∙ sym js
-      | inr aj ↦ absurd (nj (sym (h.once place j ahead aj full (sym (mine i is) ∙ e ∙ so j aj))))
+      | inr aj ↦ absurd (nj (sym (h.once place j h.ahead aj full (sym (mine i is) ∙ e ∙ so j aj))))
     ]
     | inr ai ↦ elim (cases_eq j hole) [
-      | inl js ↦ absurd (ni (h.once i place ai ahead (was i ai f) (sym (so i ai) ∙ e ∙ mine j js)))
+      | inl js ↦ absurd (ni (h.once i place ai h.ahead (was i ai f) (sym (so i ai) ∙ e ∙ mine j js)))
       | inr aj ↦ h.once i j ai aj (was i ai f) (sym (so i ai) ∙ e ∙ so j aj)
     ]
   ];
   placed = λ name f ne. found name (h.placed name f ne);
   away = λ i ni e. elim (cases_eq i hole) [
-    | inl is ↦ h.away place ahead (sym (mine i is) ∙ e)
+    | inl is ↦ h.away place h.ahead (sym (mine i is) ∙ e)
     | inr ai ↦ h.away i ai (sym (so i ai) ∙ e)
   ];
 }
   where
-    ahead : place ≢ hole
-    ahead = omega (arith, h.order)
+    now : slot' place ≢ none
+    now z = full (sym (so place h.ahead) ∙ z)
+
+    first : IsPassed size (Stays size home key slot' place) place place
+    first = passed_first size (Stays size home key slot' place) place h.passed.low
+
+    no : ((j : ℕ) → j < size → Stays size home key slot' place j) → ⊥
+    no all = ends (λ j lj. elim (cases_eq j hole) [
+      | inl is ↦ λ z. hole_full size home key slot gone hole place h (ap slot (sym is) ∙ z)
+      | inr ne ↦ λ z. (all j lj).0 (so j ne ∙ z)
+    ])
 
     mine : (i : ℕ) → i ≡ hole → slot' i ≡ slot place
     mine i is = ap slot' is ∙ sp
@@ -353,22 +473,24 @@ holed_move home key slot slot' gone hole place h full moves sp so = record {
 
     found : (name : ℕ) → (i : ℕ) × (i ≢ hole) × (slot i ≡ name) → (i : ℕ) × (i ≢ place) × (slot' i ≡ name)
     found name there = elim (cases_eq there.0 place) [
-      | inl is ↦ (hole, λ z. ahead (sym z), sp ∙ ap slot (sym is) ∙ there.2)
+      | inl is ↦ (hole, λ z. h.ahead (sym z), sp ∙ ap slot (sym is) ∙ there.2)
       | inr ne ↦ (there.0, ne, so there.0 there.1 ∙ there.2)
     ]
 
 -- an empty slot ends the run: the hole is emptied
-pub holed_last : (home key slot key' slot' : ℕ → ℕ) (gone hole place : ℕ) → IsHoled home key slot gone hole place
+pub holed_last : (size : ℕ) (home key slot key' slot' : ℕ → ℕ) (gone hole place : ℕ)
+    → IsHoled size home key slot gone hole place → ((k : ℕ) → home k < size) → ((i : ℕ) → slot i ≢ none → i < size)
     → slot place ≡ none → slot' hole ≡ none → ((i : ℕ) → i ≢ hole → slot' i ≡ slot i)
-    → key' gone ≡ none → ((n : ℕ) → n ≢ gone → key' n ≡ key n) → IsLaid home key' slot'
-holed_last home key slot key' slot' gone hole place h empty sp so kp ko = record {
+    → key' gone ≡ none → ((n : ℕ) → n ≢ gone → key' n ≡ key n) → IsLaid size home key' slot'
+holed_last size home key slot key' slot' gone hole place h slots within empty sp so kp ko = record {
   named = λ i f z. h.named i (was i f) (sym (same i f) ∙ z);
-  behind = λ i f. omega (arith, ap home (same i f), h.behind i (was i f));
-  no_gap = λ i j f lo hi.
-      let lo' : home (key (slot i)) ≤ j = omega (arith, ap home (same i f), lo) in
+  no_gap = λ i j f lj near.
+      let near' : distance_of size (home (key (slot i))) j ≤ distance_of size (home (key (slot i))) i =
+      subst (λ (m : ℕ). distance_of size (home m) j ≤ distance_of size (home m) i) (same i f) near in
       elim (cases_eq j hole) [
-        | inl js ↦ absurd (shut i j f lo' hi js)
-        | inr nj ↦ λ z. h.no_gap i j (was i f) lo' hi (sym (so j nj) ∙ z)
+        | inl js ↦ absurd (shut i f (subst
+            (λ (m : ℕ). distance_of size (home (key (slot i))) m ≤ distance_of size (home (key (slot i))) i) js near'))
+        | inr nj ↦ λ z. h.no_gap i j (was i f) lj near' (sym (so j nj) ∙ z)
       ];
   once = λ i j f e.
       let nj : j ≢ hole = λ js. f (e ∙ ap slot' js ∙ sp) in
@@ -388,109 +510,131 @@ holed_last home key slot key' slot' gone hole place h empty sp so kp ko = record
     same : (i : ℕ) → slot' i ≢ none → key' (slot' i) ≡ key (slot i)
     same i f = ap key' (so i (apart i f)) ∙ ko (slot i) (h.away i (apart i f))
 
-    shut : (i j : ℕ) → slot' i ≢ none → home (key (slot i)) ≤ j → j ≤ i → j ≡ hole → ⊥
-    shut i j f lo hi js = elim (cases_lt i place) [
-      | inl lt ↦ let ne : i ≢ hole = apart i f in
-          omega (arith, h.stay i (omega (arith, hi, js, ne)) lt, lo, js)
-      | inr le ↦ h.no_gap i place (was i f) (omega (arith, lo, js, h.order)) le empty
-    ]
+    shut : (i : ℕ) → slot' i ≢ none
+        → distance_of size (home (key (slot i))) hole ≤ distance_of size (home (key (slot i))) i → ⊥
+    shut i f near =
+        let start : home (key (slot i)) < size = slots (key (slot i)) in
+        let low : i < size = within i (was i f) in
+        let way : distance_of size (home (key (slot i))) i
+        ≡ distance_of size (home (key (slot i))) hole + distance_of size hole i =
+        by_way size (home (key (slot i))) hole i start h.passed.from low near in
+        elim (cases_lt (distance_of size hole i) (distance_of size hole place)) [
+          | inl lt ↦ omega (arith, way, (h.passed.all i low lt).1 (apart i f))
+          | inr le ↦ h.no_gap i place (was i f) h.passed.low (omega (
+            arith,
+            way,
+            by_way size hole place i h.passed.from h.passed.low low le,
+            by_way' size (home (key (slot i))) place i start h.passed.low low (omega (
+              arith,
+              way,
+              by_way size hole place i h.passed.from h.passed.low low le,
+            )),
+          )) empty
+        ]
 
 -- what the loop knows, and what it leaves
-pub record IsClosing (keys slots : List ℕ) (gone hole place : ℕ) : Type 0 where
-  pub size : length slots ≡ 3 * length keys + 1
-  pub last : at slots (3 * length keys) ≡ none
+pub record IsClosing (keys slots : List ℕ) (gone start hole place : ℕ) : Type 0 where
+  pub size : length slots ≡ 2 * length keys + 1
   pub count : count_by is_full slots ≡ count_by is_full keys
-  pub holed : IsHoled (home_of (length keys)) (at keys) (at slots) gone hole place
-  pub below : place ≤ 3 * length keys
+  pub passed : IsPassed (length slots) (IsFull slots) start place
+  pub holed : IsHoled (length slots) (home_of (length keys)) (at keys) (at slots) gone hole place
 
 pub closing_first : (keys slots : List ℕ) (start : ℕ) → IsTable keys slots → at slots start ≢ none
-    → IsClosing keys slots (at slots start) start (start + 1)
+    → IsClosing keys slots (at slots start) start start (next_of (length slots) start)
 closing_first keys slots start t full = record {
   size = t.size;
-  last = t.last;
   count = t.count;
-  holed = holed_first (home_of (length keys)) (at keys) (at slots) start t.laid full;
-  below = omega (arith, not_last keys slots start t full);
+  passed = passed_next (length slots) (IsFull slots) start start
+      (passed_first (length slots) (IsFull slots) start (within slots start full)) full
+      (not_all keys slots t.size t.count);
+  holed = holed_first (length slots) (home_of (length keys)) (at keys) (at slots) start t.laid (within slots start full) full
+      (not_all keys slots t.size t.count);
 }
 
-closing_below : (keys slots : List ℕ) (gone hole place : ℕ) → IsClosing keys slots gone hole place
-    → at slots place ≢ none → place < 3 * length keys
-closing_below keys slots gone hole place h full = elim (cases_eq place (3 * length keys)) [
-  | inl is ↦ absurd (full (ap (at slots) is ∙ h.last))
-  | inr ne ↦ omega (arith, h.below, ne)
-]
-
-pub closing_keep : (keys slots : List ℕ) (gone hole place : ℕ) → IsClosing keys slots gone hole place
-    → at slots place ≢ none → hole < home_of (length keys) (at keys (at slots place))
-    → IsClosing keys slots gone hole (place + 1)
-closing_keep keys slots gone hole place h full stays = record {
+pub closing_keep : (keys slots : List ℕ) (gone start hole place : ℕ) → IsClosing keys slots gone start hole place
+    → at slots place ≢ none
+    → distance_of (length slots) (home_of (length keys) (at keys (at slots place))) place
+    < distance_of (length slots) hole place → IsClosing keys slots gone start hole (next_of (length slots) place)
+closing_keep keys slots gone start hole place h full stays = record {
   size = h.size;
-  last = h.last;
   count = h.count;
-  holed = holed_keep (home_of (length keys)) (at keys) (at slots) gone hole place h.holed full stays;
-  below = omega (arith, closing_below keys slots gone hole place h full);
+  passed = passed_next (length slots) (IsFull slots) start place h.passed full (not_all keys slots h.size h.count);
+  holed = holed_keep (length slots) (home_of (length keys)) (at keys) (at slots) gone hole place h.holed full stays
+      (not_all keys slots h.size h.count);
 }
 
-pub closing_move : (keys slots : List ℕ) (gone hole place : ℕ) → IsClosing keys slots gone hole place
-    → at slots place ≢ none → home_of (length keys) (at keys (at slots place)) ≤ hole
-    → IsClosing keys (set slots hole (at slots place)) gone place (place + 1)
-closing_move keys slots gone hole place h full moves =
-    let low : hole < length slots = omega (arith, h.holed.order, h.below, h.size) in
-    record {
-      size = omega (arith, h.size, length-set slots hole (at slots place));
-      last = get_or-set_other slots hole (3 * length keys) (at slots place) none (omega (arith, h.holed.order, h.below))
-          ∙ h.last;
-      count = count_same slots hole (at slots place) low (h.holed.run hole (omega arith) h.holed.order) full ∙ h.count;
-      holed = holed_move (home_of (length keys)) (at keys) (at slots) (at (set slots hole (at slots place))) gone hole place
-          h.holed full moves (get_or-set_same slots hole (at slots place) none low)
-          (λ i ne. get_or-set_other slots hole i (at slots place) none ne);
-      below = omega (arith, closing_below keys slots gone hole place h full);
-    }
+pub closing_move : (keys slots : List ℕ) (gone start hole place : ℕ) → IsClosing keys slots gone start hole place
+    → at slots place ≢ none
+    → distance_of (length slots) hole place
+    ≤ distance_of (length slots) (home_of (length keys) (at keys (at slots place))) place
+    → IsClosing keys (set slots hole (at slots place)) gone start place (next_of (length slots) place)
+closing_move keys slots gone start hole place h full moves = record {
+  size = omega (arith, h.size, length-set slots hole (at slots place));
+  count = count_same slots hole (at slots place) h.holed.passed.from
+      (hole_full (length slots) (home_of (length keys)) (at keys) (at slots) gone hole place h.holed) full ∙ h.count;
+  passed = rw (length-set slots hole (at slots place))
+      (passed_as (length slots) (IsFull slots) (IsFull (set slots hole (at slots place))) start
+      (next_of (length slots) place)
+      (λ j lj f. elim (cases_eq j hole) [
+        | inl is ↦ λ z. full (sym (ap (at (set slots hole (at slots place))) is
+            ∙ get_or-set_same slots hole (at slots place) none h.holed.passed.from) ∙ z)
+        | inr ne ↦ λ z. f (sym (get_or-set_other slots hole j (at slots place) none ne) ∙ z)
+      ])
+      (passed_next (length slots) (IsFull slots) start place h.passed full (not_all keys slots h.size h.count)));
+  holed = rw (length-set slots hole (at slots place))
+      (holed_move (length slots) (home_of (length keys)) (at keys) (at slots) (at (set slots hole (at slots place))) gone hole
+      place h.holed (λ k. home_slot keys slots k h.size) full moves (not_all keys slots h.size h.count)
+      (get_or-set_same slots hole (at slots place) none h.holed.passed.from)
+      (λ i ne. get_or-set_other slots hole i (at slots place) none ne));
+}
 
-pub closing_last : (keys slots : List ℕ) (gone hole place : ℕ) → IsClosing keys slots gone hole place
+pub closing_last : (keys slots : List ℕ) (gone start hole place : ℕ) → IsClosing keys slots gone start hole place
     → length keys < none → at keys gone ≢ none → at slots place ≡ none
     → IsTable (set keys gone none) (set slots hole none)
-closing_last keys slots gone hole place h fits used empty =
-    let low : hole < length slots = omega (arith, h.holed.order, h.below, h.size) in
+closing_last keys slots gone start hole place h fits used empty =
     let there : gone < length keys = within keys gone used in
     record {
       size = omega (arith, h.size, length-set slots hole none, length-set keys gone none);
       fits = omega (arith, fits, length-set keys gone none);
-      last = subst (λ (n : ℕ). at (set slots hole none) (3 * n) ≡ none) (sym (length-set keys gone none))
-          (get_or-set_other slots hole (3 * length keys) none none (omega (arith, h.holed.order, h.below)) ∙ h.last);
       count = omega (
         arith,
         h.count,
-        count_fewer slots hole low (h.holed.run hole (omega arith) h.holed.order),
+        count_fewer slots hole h.holed.passed.from
+            (hole_full (length slots) (home_of (length keys)) (at keys) (at slots) gone hole place h.holed),
         count_fewer keys gone there used,
       );
-      laid = subst (λ (n : ℕ). IsLaid (home_of n) (at (set keys gone none)) (at (set slots hole none)))
-          (sym (length-set keys gone none))
-          (holed_last (home_of (length keys)) (at keys) (at slots) (at (set keys gone none)) (at (set slots hole none)) gone
-          hole place h.holed empty (get_or-set_same slots hole none none low)
+      laid = rw (length-set slots hole none, length-set keys gone none)
+          (holed_last (length slots) (home_of (length keys)) (at keys) (at slots) (at (set keys gone none))
+          (at (set slots hole none)) gone hole place h.holed (λ k. home_slot keys slots k h.size) (within slots) empty
+          (get_or-set_same slots hole none none h.holed.passed.from)
           (λ i ne. get_or-set_other slots hole i none none ne)
           (get_or-set_same keys gone none none there) (λ n ne. get_or-set_other keys gone n none none ne));
     }
 
 -- the steps, as the code takes them
-pub closing_kept : (keys slots slots' : List ℕ) (gone hole hole' place home : ℕ) → IsClosing keys slots gone hole place
-    → get_or slots place 0 ≢ none → home ≡ home_of (length keys) (get_or keys (get_or slots place 0) 0) → hole < home
-    → slots' ≡ slots → hole' ≡ hole → IsClosing keys slots' gone hole' (place + 1)
-closing_kept keys slots slots' gone hole hole' place home h full at_home stays ss hh =
-    let low : place < length slots = omega (arith, h.below, h.size) in
-    let read : IsRead keys slots place = read_key keys slots place h.holed.named low full in
-    let e : home ≡ home_of (length keys) (at keys (at slots place)) = at_home ∙ ap (home_of (length keys)) read.key in
-    rw (ss, hh) (closing_keep keys slots gone hole place h (λ z. full (read_slot slots place low ∙ z)) (omega (arith, e, stays)))
+pub closing_kept : (keys slots slots' : List ℕ) (gone start hole hole' place first from to : ℕ)
+    → IsClosing keys slots gone start hole place → get_or slots place 0 ≢ none
+    → first ≡ home_of (length keys) (get_or keys (get_or slots place 0) 0) → from ≡ distance_of (length slots) hole place
+    → to ≡ distance_of (length slots) first place → to < from → slots' ≡ slots → hole' ≡ hole
+    → IsClosing keys slots' gone start hole' (next_of (length slots') place)
+closing_kept keys slots slots' gone start hole hole' place first from to h full home fs ts stays ss hh =
+    let read : IsRead keys slots place = read_key keys slots place h.holed.named h.passed.low full in
+    let e : first ≡ home_of (length keys) (at keys (at slots place)) = home ∙ ap (home_of (length keys)) read.key in
+    rw (ss, hh) (closing_keep keys slots gone start hole place h (read_full slots place h.passed.low full)
+    (omega (arith, fs, ts, ap (λ (m : ℕ). distance_of (length slots) m place) e, stays)))
 
-pub closing_moved : (keys slots slots' : List ℕ) (gone hole hole' place home : ℕ) → IsClosing keys slots gone hole place
-    → get_or slots place 0 ≢ none → home ≡ home_of (length keys) (get_or keys (get_or slots place 0) 0) → home ≤ hole
-    → slots' ≡ set slots hole (get_or slots place 0) → hole' ≡ place → IsClosing keys slots' gone hole' (place + 1)
-closing_moved keys slots slots' gone hole hole' place home h full at_home moves ss hh =
-    let low : place < length slots = omega (arith, h.below, h.size) in
-    let read : IsRead keys slots place = read_key keys slots place h.holed.named low full in
-    let e : home ≡ home_of (length keys) (at keys (at slots place)) = at_home ∙ ap (home_of (length keys)) read.key in
-    let s : slots' ≡ set slots hole (at slots place) = ss ∙ ap (set slots hole) (read_slot slots place low) in
-    rw (s, hh) (closing_move keys slots gone hole place h (λ z. full (read_slot slots place low ∙ z)) (omega (arith, e, moves)))
+pub closing_moved : (keys slots slots' : List ℕ) (gone start hole hole' place first from to : ℕ)
+    → IsClosing keys slots gone start hole place → get_or slots place 0 ≢ none
+    → first ≡ home_of (length keys) (get_or keys (get_or slots place 0) 0) → from ≡ distance_of (length slots) hole place
+    → to ≡ distance_of (length slots) first place → from ≤ to → slots' ≡ set slots hole (get_or slots place 0)
+    → hole' ≡ place → IsClosing keys slots' gone start hole' (next_of (length slots') place)
+closing_moved keys slots slots' gone start hole hole' place first from to h full home fs ts moves ss hh =
+    let read : IsRead keys slots place = read_key keys slots place h.holed.named h.passed.low full in
+    let e : first ≡ home_of (length keys) (at keys (at slots place)) = home ∙ ap (home_of (length keys)) read.key in
+    let s : slots' ≡ set slots hole (at slots place) = ss ∙ ap (set slots hole) (read_slot slots place h.passed.low) in
+    rw (s, hh, length-set slots hole (at slots place))
+    (closing_move keys slots gone start hole place h (read_full slots place h.passed.low full)
+    (omega (arith, fs, ts, ap (λ (m : ℕ). distance_of (length slots) m place) e, moves)))
 
 -- ---- a table without a key
 

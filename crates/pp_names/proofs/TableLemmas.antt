@@ -1,15 +1,15 @@
 -- Lemmas on a table: what its keys say in a caller's words, and what stays true where a key comes and goes.
-use Rattle.std.proofs.Common.{◌≡◌, ◌≢◌, ℕ, ◌+◌, ◌*◌, ◌<◌, ◌≤◌, List, length, ◌-◌, ◌++◌, get_or, set, map, replicate, Bool, true, false, cond, ltb, length-append}
-use Rattle.std.proofs.Common.{arith, ap, sym, refl, subst, ◌∙◌, inl, inr, get_or-set_other, get_or-set_same, length-set}
+use Rattle.std.proofs.Common.{◌≡◌, ◌≢◌, ℕ, ◌+◌, ◌*◌, ◌<◌, ◌≤◌, List, length, ◌-◌, ◌++◌, set, replicate, Bool, true, false, cond, ltb, length-append}
+use Rattle.std.proofs.Common.{arith, ap, sym, refl, ◌∙◌, inl, inr, get_or-set_other, get_or-set_same}
 use Rattle.std.specs.Prelude.{Option, None, Some, is_some, count_by}
 use Rattle.std.proofs.Math.ListN.{get_or-map}
 use Rattle.std.proofs.lemmas.Bool.{cases_eq, cases_lt, ne_eqb, eq-eqb, lt-ltb, le-ltb}
 use Rattle.std.proofs.lemmas.List.{map-set, length-map, length-replicate, get_or-replicate, ext_get_or, get_or_past, get_or_append_left, get_or-append_right}
 use Rattle.std.proofs.lemmas.List.Folds.{sum_by-replicate}
 use Rattle.pp_names.specs.Names.{key_of, IsUnnamed, IsOneToOne}
-use Rattle.pp_names.specs.Slots.{none, at, is_full, home_of, IsLaid, IsTable}
+use Rattle.pp_names.specs.Slots.{none, at, is_full, IsTable}
 use Rattle.pp_names.specs.Kept.{as_key, keys_of, IsKept}
-use Rattle.pp_names.proofs.SlotLemmas.{within, at_blank, one_for, full-false}
+use Rattle.pp_names.proofs.SlotLemmas.{at_blank, one_for, full-false}
 
 -- ---- keys in a caller's words
 
@@ -181,17 +181,15 @@ blank_count n =
     let z : one_for (is_full none) ≡ 0 = ap one_for (full-false none refl) in
     sum_by-replicate (λ y. one_for (is_full y)) n none ∙ omega (arith, ap (λ (m : ℕ). n * m) z)
 
-pub kept_new : (n m : ℕ) → n < none → m ≡ 3 * n + 1 → IsKept (replicate n none) (replicate m none)
+pub kept_new : (n m : ℕ) → n < none → m ≡ 2 * n + 1 → IsKept (replicate n none) (replicate m none)
 kept_new n m fits size = record {
   table = record {
     size = omega (arith, length-replicate n none, length-replicate m none, size);
     fits = omega (arith, length-replicate n none, fits);
-    last = at_blank m (3 * length (replicate n none));
     count = blank_count m ∙ sym (blank_count n);
     laid = record {
       named = λ i f. absurd (f (at_blank m i));
-      behind = λ i f. absurd (f (at_blank m i));
-      no_gap = λ i j f lo hi. absurd (f (at_blank m i));
+      no_gap = λ i j f low near. absurd (f (at_blank m i));
       once = λ i j f e. absurd (f (at_blank m i));
       placed = λ name f. absurd (f (at_blank n name));
     };

@@ -1,5 +1,5 @@
 -- How what the code keeps stands for the names and their keys.
-use Rattle.std.specs.Prelude.{◌≡◌, ◌≢◌, ℕ, ◌+◌, ◌<◌, ◌≤◌, ◌==◌, Bool, Option, None, Some, is_some, List, length, map, drop, if◌then◌else◌}
+use Rattle.std.specs.Prelude.{◌≡◌, ◌≢◌, ℕ, ◌≤◌, ◌==◌, Option, None, Some, List, map, if◌then◌else◌}
 use Rattle.pp_names.specs.Slots.{none, at, IsTable}
 
 -- the key, if it is one

@@ -10,7 +10,7 @@ use std::marker::Model;
 
 /// Which key each name has, and which names have none: a key that comes gets one of these.
 ///
-/// Contracts see it as the list of the names' keys. It takes 20 bytes for each name, whatever the keys are. What a look-up takes is
+/// Contracts see it as the list of the names' keys. It takes 16 bytes for each name, whatever the keys are. What a look-up takes is
 /// said at [`Table`].
 #[derive(Drop)]
 pub struct Names {
@@ -53,7 +53,7 @@ impl Names {
     ///
     /// # Errors
     ///
-    /// Only where 20 bytes for each name and 4 more can't be had.
+    /// Only where 16 bytes for each name and 4 more can't be had.
     pub fn new(alloc: Global, names: u32) -> Result<Names, AllocError>
         requires fits { names < 4294967295 }
         ensures empty { IfOk result (λ empty. empty ≡ replicate names None) }
@@ -138,7 +138,7 @@ impl Names {
     ///
     /// # Errors
     ///
-    /// Only where 20 bytes for each name and 4 more can't be had; then nothing has changed.
+    /// Only where 16 bytes for each name and 4 more can't be had; then nothing has changed.
     pub fn grow(&mut self, alloc: Global, names: u32) -> Result<(), AllocError>
         requires more { length self.old ≤ names }
         requires fits { names < 4294967295 }

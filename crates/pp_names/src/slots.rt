@@ -1,11 +1,11 @@
 //! The slots of a table of keys: open addressing with linear probing.
 //!
-//! A name stands in a slot at or behind the home of its key, and no slot between the two is empty (Knuth, The Art of
-//! Computer Programming, volume 3, section 6.4, algorithms L and R). The slots don't go round: behind the last home there
-//! is a slot for each name, and one that stays empty.
+//! The slots go round: behind the last one comes the first. A name stands in a slot at or behind the home of its key, and no
+//! slot on the way from the one to the other is empty (Knuth, The Art of Computer Programming, volume 3, section 6.4,
+//! algorithms L and R). There are more than two slots for each name, so a search ends at an empty one.
 
 ghost use Rattle.std.specs.Prelude.{◌≡◌, ◌≢◌, ℕ, ◌+◌, ◌*◌, ◌^◌, ◌<◌, ◌≤◌, List, length, slice_set, Option, Some, None};
-ghost use Rattle.pp_names.specs.Slots.{none, at, home_of, IsTable};
+ghost use Rattle.pp_names.specs.Slots.{none, at, home_of, next_of, distance_of, IsTable};
 
 /// What stands in an empty slot, and in the place of the key of a name that has none.
 pub(crate) const NONE: u32 = 4_294_967_295;
@@ -13,7 +13,7 @@ pub(crate) const NONE: u32 = 4_294_967_295;
 /// An odd number near 2^32 divided by the golden ratio: its products scatter keys that lie close together.
 const MULTIPLIER: u32 = 2_654_435_769;
 
-/// Where the search for a key begins where there are so many names: one of the first `2 * names` slots.
+/// Where the search for a key begins where there are so many names.
 fn home(key: u32, names: usize) -> usize
     requires fits { names < 2 ^ 32 }
     ensures value { result ≡ home_of names key }
@@ -21,6 +21,27 @@ fn home(key: u32, names: usize) -> usize
 {
     let mixed = u64::from(key.wrapping_mul(MULTIPLIER));
     (mixed * names as u64 >> 31) as usize
+}
+
+/// The next of so many slots: behind the last one comes the first.
+fn next(place: usize, slots: usize) -> usize
+    requires within { place < slots }
+    ensures value { result ≡ next_of slots place }
+{
+    if place + 1 < slots { place + 1 } else { 0 }
+}
+
+/// How many steps lead from one of so many slots to another.
+fn distance(from: usize, to: usize, slots: usize) -> usize
+    requires from { from < slots }
+    requires to { to < slots }
+    ensures value { result ≡ distance_of slots from to }
+{
+    if to < from {
+        slots - from + to
+    } else {
+        to - from
+    }
 }
 
 /// The name that has this key, if one has it.
@@ -35,7 +56,7 @@ pub(crate) fn find(slots: &[u32], keys: &[u32], key: u32) -> Option<u32>
         if keys[name as usize] == key {
             return Some(name);
         }
-        place += 1;
+        place = next(place, slots.len());
     }
     None
 }
@@ -50,7 +71,7 @@ pub(crate) fn put(slots: &mut [u32], keys: &[u32], name: u32, key: u32)
 {
     let mut place = home(key, keys.len());
     while slots[place] != NONE {
-        place += 1;
+        place = next(place, slots.len());
     }
     slots[place] = name;
 }
@@ -63,12 +84,12 @@ fn slot_of(slots: &[u32], keys: &[u32], name: u32) -> usize
 {
     let mut place = home(keys[name as usize], keys.len());
     while slots[place] != name {
-        place += 1;
+        place = next(place, slots.len());
     }
     place
 }
 
-/// Takes a name, which loses its key, out of its slot, and closes the gap: names behind it move up where their homes
+/// Takes a name, which loses its key, out of its slot, and closes the gap: names behind it move back where their homes
 /// allow it.
 pub(crate) fn take_out(slots: &mut [u32], keys: &[u32], name: u32)
     requires table { IsTable keys.now slots.old }
@@ -86,14 +107,15 @@ fn close(slots: &mut [u32], keys: &[u32], start: usize)
     ensures table { IsTable (slice_set keys.now (at slots.old start) none) slots.new }
 {
     let mut hole = start;
-    let mut place = start + 1;
+    let mut place = next(start, slots.len());
     while slots[place] != NONE {
         let name = slots[place];
-        if home(keys[name as usize], keys.len()) <= hole {
+        let first = home(keys[name as usize], keys.len());
+        if distance(hole, place, slots.len()) <= distance(first, place, slots.len()) {
             slots[hole] = name;
             hole = place;
         }
-        place += 1;
+        place = next(place, slots.len());
     }
     slots[hole] = NONE;
 }

@@ -9,7 +9,7 @@ use std::marker::Model;
 
 /// Which key each name has, and which name a key.
 ///
-/// Contracts see it as the list of the names' keys. It takes 16 bytes for each name. A look-up takes a step for each slot that it
+/// Contracts see it as the list of the names' keys. It takes 12 bytes for each name. A look-up takes a step for each slot that it
 /// looks at: 1.5 on average where each name has a key and these are scattered, and at worst one for each name.
 #[derive(Drop)]
 pub struct Table {
@@ -38,14 +38,14 @@ impl Table {
     ///
     /// # Errors
     ///
-    /// Only where 16 bytes for each name and 4 more can't be had.
+    /// Only where 12 bytes for each name and 4 more can't be had.
     pub fn new(alloc: Global, names: u32) -> Result<Table, AllocError>
         requires fits { names < 4294967295 }
         ensures empty { IfOk result (λ table. table ≡ replicate names None) }
     {
         Ok(Table {
             keys: vec![in alloc; NONE; names as usize]?,
-            slots: vec![in alloc; NONE; 3 * names as usize + 1]?,
+            slots: vec![in alloc; NONE; 2 * names as usize + 1]?,
         })
     }
 
@@ -104,7 +104,7 @@ impl Table {
     ///
     /// # Errors
     ///
-    /// Only where 16 bytes for each name and 4 more can't be had; then nothing has changed.
+    /// Only where 12 bytes for each name and 4 more can't be had; then nothing has changed.
     pub fn grow(&mut self, alloc: Global, names: u32) -> Result<(), AllocError>
         requires more { length self.old ≤ names }
         requires fits { names < 4294967295 }

@@ -1,9 +1,8 @@
 -- What is left to show of Names::give: the first of the names behind the used ones has no key.
-use Rattle.std.proofs.Common.{◌≡◌, ℕ, ◌<◌, List, length, get_or, Option, Some, sym, subst, ap, ◌∙◌}
+use Rattle.std.proofs.Common.{ℕ, ◌<◌, List, length, Option, sym, subst}
 use Rattle.std.proofs.lemmas.List.{get_or_read}
 use Rattle.pp_names.specs.Names.{named_count}
-use Rattle.pp_names.specs.Ordered.{IsOrdered}
-use Rattle.pp_names.proofs.OrderLemmas.{IsOpen, room_of, open_first, ordered-give}
+use Rattle.pp_names.proofs.OrderLemmas.{room_of, open_first, ordered-give}
 use Rattle.pp_names.proofs.names.Names.give.Goals as goal
 
 pub insert-requires-clause-name : goal.insert-requires-clause-name

@@ -2,7 +2,6 @@
 use Rattle.std.proofs.Common.{◌≡◌, ℕ, ◌-◌, ◌≤◌, ◌++◌, length, replicate, List, Option, refl, sym, subst}
 use Rattle.std.specs.Prelude.{None}
 use Rattle.pp_names.proofs.OrderLemmas.{ordered-grow}
-use Rattle.pp_names.specs.Ordered.{IsLengthened}
 use Rattle.pp_names.proofs.names.Names.grow.Goals as goal
 
 pub invariant_of-self-2 : goal.invariant_of-self-2

@@ -1,6 +1,6 @@
 -- What is left to show of Names::rename.
-use Rattle.std.proofs.Common.{◌≡◌, ℕ, true, set, List, Option, Some, sym, subst, ap, ◌∙◌}
-use Rattle.std.specs.Prelude.{is_some, None}
+use Rattle.std.proofs.Common.{◌≡◌, ℕ, true, set, List, Option, Some, ap, ◌∙◌}
+use Rattle.std.specs.Prelude.{is_some}
 use Rattle.pp_names.specs.Names.{key_of}
 use Rattle.pp_names.proofs.OrderLemmas.{ordered-rename, renamed_key}
 use Rattle.pp_names.proofs.names.Names.rename.Goals as goal

@@ -1,5 +1,5 @@
 -- What is left to show of Names::take: the name stands in front of those without a key.
-use Rattle.std.proofs.Common.{◌≡◌, ℕ, true, List, Option, sym, ap, ◌∙◌}
+use Rattle.std.proofs.Common.{◌≡◌, true}
 use Rattle.std.specs.Prelude.{is_some}
 use Rattle.pp_names.specs.Names.{key_of}
 use Rattle.pp_names.proofs.OrderLemmas.{ordered-take}

@@ -1,5 +1,5 @@
 -- What is left to show of Table::grow: the keys that were passed are all keys.
-use Rattle.std.proofs.Common.{◌≡◌, length, arith}
+use Rattle.std.proofs.Common.{arith}
 use Rattle.pp_names.proofs.TableLemmas.{unnamed_yet, all_grown}
 use Rattle.pp_names.proofs.table.Table.grow.Goals as goal
 

@@ -1,5 +1,5 @@
 -- What the loop in Table::grow keeps true.
-use Rattle.std.proofs.Common.{◌≡◌, ℕ, ◌<◌, length, ltb, cond}
+use Rattle.std.proofs.Common.{◌≡◌, ℕ, length, ltb, cond}
 use Rattle.std.specs.Prelude.{None}
 use Rattle.pp_names.specs.Names.{key_of}
 use Rattle.pp_names.proofs.table.Table.grow.Given as goal

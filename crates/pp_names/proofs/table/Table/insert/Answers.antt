@@ -1,8 +1,7 @@
 -- What is left to show of Table::insert.
-use Rattle.std.proofs.Common.{◌≡◌, ◌≢◌, ℕ, ◌<◌, Option, Some, None, List, length, set, subst, sym, ap, ◌∙◌, arith}
+use Rattle.std.proofs.Common.{◌≡◌, ℕ, ◌<◌, Option, Some, List, length, set, subst, sym, ap, ◌∙◌, arith}
 use Rattle.std.proofs.lemmas.List.{with_items_is, length-map}
-use Rattle.pp_names.specs.Slots.{none, IsTable}
-use Rattle.pp_names.specs.Names.{key_of, IsUnnamed}
+use Rattle.pp_names.specs.Names.{IsUnnamed}
 use Rattle.pp_names.specs.Kept.{as_key, keys_of, IsKept}
 use Rattle.pp_names.proofs.TableLemmas.{kept_insert, set_key}
 use Rattle.pp_names.proofs.table.Table.insert.Goals as goal

@@ -1,6 +1,5 @@
 -- What is left to show of Table::name.
-use Rattle.std.proofs.Common.{◌≡◌, ◌≢◌, ℕ, Option, Some, None, List, subst, sym, ap, ◌∙◌}
-use Rattle.pp_names.specs.Slots.{none, at}
+use Rattle.std.proofs.Common.{◌≡◌, ℕ, Option, List, subst, sym, ap, ◌∙◌}
 use Rattle.pp_names.specs.Names.{key_of, IsUnnamed}
 use Rattle.pp_names.proofs.TableLemmas.{found, unnamed, named_as}
 use Rattle.pp_names.proofs.table.Table.name.Goals as goal
