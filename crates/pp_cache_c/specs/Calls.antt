@@ -1,5 +1,5 @@
 -- What calls from C answer, and what they do to the cache that a handle holds.
-use Rattle.std.specs.Prelude.{◌≡◌, ◌≤◌, ◌<◌, ◌+◌, ◌*◌, ℕ, Option, None, Some, zero, suc}
+use Rattle.std.specs.Prelude.{◌≡◌, ◌≤◌, ◌<◌, ◌+◌, ◌*◌, ℕ, max, Option, None, Some, zero, suc}
 use Rattle.std.specs.Option.{MatchOption}
 use Rattle.pp_cache.specs.declared.create.Create.{Create}
 use Rattle.pp_cache.specs.declared.create.Create.TheVariants.{Never, IfRoom, Always}
@@ -49,10 +49,10 @@ counts_of k = record {
 abbrev pub KeepsRoom : Keyed → Keyed → Type 0
 KeepsRoom old new = (new.room ≡ old.room) × (new.used ≤ old.used)
 
--- No room is taken away. It grows where all of it is used, and in no other case, to twice as much and 32 places at most.
+-- No room is taken away. It grows where all of it is used, and in no other case, to twice as much at most, or 16 places.
 abbrev pub GrowsRoom : Keyed → Keyed → Type 0
 GrowsRoom old new =
-    (old.room ≤ new.room) × (old.used < old.room → new.room ≡ old.room) × (new.room ≤ 2 * old.room + 32)
+    (old.room ≤ new.room) × (old.used < old.room → new.room ≡ old.room) × (new.room ≤ max (2 * old.room) 16)
 
 -- A handle holds a cache after the call exactly where it held one before, and these two caches are so.
 abbrev pub Goes : (Keyed → Keyed → Type 0) → Option Kept → Option Kept → Type 0

@@ -1,5 +1,5 @@
 -- What a key without a name is to the cache of keys, and what the clauses of calls follow from.
-use Rattle.std.proofs.Common.{◌≡◌, ◌≢◌, ℕ, ◌+◌, ◌-◌, ◌<◌, ◌≤◌, Bool, true, false, not, cond, eqb, leb, List, length}
+use Rattle.std.proofs.Common.{◌≡◌, ◌≢◌, ℕ, ◌+◌, ◌-◌, ◌<◌, ◌≤◌, max, Bool, true, false, not, cond, eqb, leb, List, length}
 use Rattle.std.proofs.Common.{get_or, set, refl, ap, sym, subst, ◌∙◌, arith, inl, inr, eq-eqb, replicate, ◌++◌, length-append}
 use Rattle.std.specs.Prelude.{Option, None, Some, IfSome, is_some, is_none, nat_lt, ◌||◌, Result, Ok, Err, IsOk, IsErr, ◌*◌, ◌/◌}
 use Rattle.std.specs.Option.{option_map}
@@ -17,7 +17,7 @@ use Rattle.pp_cache.specs.declared.create.Create.TheVariants.{Never, IfRoom, Alw
 use Rattle.pp_cache.proofs.CacheLemmas.{page_there}
 use Rattle.pp_names.specs.Names.{key_of, IsUnnamed, named_count}
 use Rattle.pp_keyed.specs.Renamed.{lists_by}
-use Rattle.pp_keyed.specs.Keyed.{key_count, key_count-is, key_or_past, placed, seen, stands, keyed, IsKeyed, with_frame}
+use Rattle.pp_keyed.specs.Keyed.{key_count, key_count-is, key_or_past, placed, seen, stands, keyed, IsKeyed, IsSpare, with_frame}
 use Rattle.pp_keyed.proofs.PlacedLemmas.{IsApart, placed-same}
 use Rattle.pp_keyed.proofs.SeenLemmas.{IsNamed, named_of, key-named, page-key, page-unnamed, bool_cases, Placed, placed-of, some_is}
 use Rattle.pp_keyed.proofs.SeenLemmas.{stands-place, resident-seen, pinned-seen, lists_agree, key_agree, sound-seen, stay-seen}
@@ -149,21 +149,28 @@ more-key s key = go (nat_lt key (length s.table.pages))
       length-append s.table.pages (replicate (keys_for (length s.table.pages) key - length s.table.pages) None),
     )
 
--- there is room for no more than twice as many, and 32
-pub spare-key : (s : PageCache) (key n : ℕ) → length s.table.pages ≤ 2 * n + 32 → key ≤ n + 15
-    → length (with_key s key).table.pages ≤ 2 * n + 32
-spare-key s key n spare low = go (nat_lt key (length s.table.pages)) refl
+-- there is room for no more than twice as many, or for 16
+spare-grown : (n keys key more : ℕ) → n ≤ keys → IsSpare n keys → key ≡ max n 15 → keys ≤ key
+    → more ≡ keys + (keys_for keys key - keys) → IsSpare n more
+spare-grown n keys key more room spare is low e = elim (cases_lt 0 keys) [
+  | inl some ↦ let least : 16 ≤ keys = spare.1 some in omega (arith, room, spare, is, low, e, least)
+  | inr none ↦ omega (arith, room, spare, is, low, e, none)
+]
+
+pub spare-key : (s : PageCache) (key n : ℕ) → n ≤ length s.table.pages → IsSpare n (length s.table.pages) → key ≡ max n 15
+    → IsSpare n (length (with_key s key).table.pages)
+spare-key s key n room spare is = go (nat_lt key (length s.table.pages)) refl
   where
     go : (b : Bool) → nat_lt key (length s.table.pages) ≡ b
-        → length (cond b s (grown s (keys_for (length s.table.pages) key))).table.pages ≤ 2 * n + 32
+        → IsSpare n (length (cond b s (grown s (keys_for (length s.table.pages) key))).table.pages)
     go true e = spare
-    go false e = omega (
-      arith,
-      low,
-      ltb-false key (length s.table.pages) e,
-      length-append s.table.pages (replicate (keys_for (length s.table.pages) key - length s.table.pages) None),
-      length-replicate (keys_for (length s.table.pages) key - length s.table.pages) (let none : Option Resident = None in none),
-    )
+    go false e = spare-grown n (length s.table.pages) key
+        (length (grown s (keys_for (length s.table.pages) key)).table.pages) room spare is
+        (ltb-false key (length s.table.pages) e) (omega (
+          arith,
+          length-append s.table.pages (replicate (keys_for (length s.table.pages) key - length s.table.pages) None),
+          length-replicate (keys_for (length s.table.pages) key - length s.table.pages) (let none : Option Resident = None in none),
+        ))
 
 -- What holds where there is room for more names, whether there are more or not.
 pub record IsRoomier (names new : List (Option ℕ)) (c d : PageCache) : Type 0 where
@@ -171,12 +178,12 @@ pub record IsRoomier (names new : List (Option ℕ)) (c d : PageCache) : Type 0 
   pub same : seen new d ≡ seen names c
   pub used : named_count new ≡ named_count names
   pub more : length names ≤ length new
-  pub bounded : length new ≤ 2 * length names + 32
+  pub bounded : length new ≤ max (2 * length names) 16
 
 pub roomier : (names new : List (Option ℕ)) (c d : PageCache) → IsKeyed names c → IsSound d → SamePages c d
     → d.table.frames ≡ c.table.frames → length new ≤ length d.table.pages
-    → length d.table.pages ≤ 4294967292 → length d.table.pages ≤ 2 * length new + 32 → length names ≤ length new
-    → length new ≤ 2 * length names + 32 → ((x : ℕ) → key_of new x ≡ key_of names x) → named_count new ≡ named_count names
+    → length d.table.pages ≤ 4294967292 → IsSpare (length new) (length d.table.pages) → length names ≤ length new
+    → length new ≤ max (2 * length names) 16 → ((x : ℕ) → key_of new x ≡ key_of names x) → named_count new ≡ named_count names
     → IsRoomier names new c d
 roomier names new c d k s same frames room fits spare more bounded keys used = record {
   keyed = record {
@@ -318,10 +325,10 @@ resident-unnamed names c s key e some u =
 -- ---- room for one more name
 
 pub grown-names : {T E : Type 0} (names new : List (Option ℕ)) (c d : PageCache) (key : ℕ) (r : Result T E) → IsKeyed names c
-    → IsSound d → d ≡ with_key c key → SamePages c d → key ≤ length names + 15
+    → IsSound d → d ≡ with_key c key → SamePages c d → key ≡ max (length names) 15
     → (IsOk r → new ≡ names ++ replicate (length d.table.pages - length names) None) → (IsErr r → new ≡ names)
     → IsRoomier names new c d
-grown-names names new c d key r k s e same low ok err = go r ok err
+grown-names names new c d key r k s e same is ok err = go r ok err
   where
     frames : d.table.frames ≡ c.table.frames
     frames = ap (λ (w : PageCache). w.table.frames) e ∙ frames-key c key
@@ -332,8 +339,8 @@ grown-names names new c d key r k s e same low ok err = go r ok err
     fits : length d.table.pages ≤ 4294967292
     fits = omega (arith, ap (λ (w : PageCache). length w.table.pages) e, fits-key c key k.fits)
 
-    spare : length d.table.pages ≤ 2 * length names + 32
-    spare = omega (arith, ap (λ (w : PageCache). length w.table.pages) e, spare-key c key (length names) k.spare low)
+    spare : IsSpare (length names) (length d.table.pages)
+    spare = rw e (spare-key c key (length names) k.room k.spare is)
 
     n : ℕ
     n = length d.table.pages - length names
@@ -343,7 +350,7 @@ grown-names names new c d key r k s e same low ok err = go r ok err
 
     longer : IsRoomier names (names ++ replicate n None) c d
     longer = roomier names (names ++ replicate n None) c d k s same frames (omega (arith, size, k.room, more)) fits
-        (omega (arith, size, k.room, more)) (omega (arith, size)) (omega (arith, size, k.room, more, spare)) (key-more names n) (used-more names n)
+        (omega (arith, size, k.room, more), spare.1) (omega (arith, size)) (omega (arith, size, k.room, more, spare)) (key-more names n) (used-more names n)
 
     go : {T E : Type 0} (r : Result T E) → (IsOk r → new ≡ names ++ replicate n None) → (IsErr r → new ≡ names)
         → IsRoomier names new c d

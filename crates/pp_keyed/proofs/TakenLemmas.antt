@@ -8,7 +8,7 @@ use Rattle.std.proofs.lemmas.List.{get_or_past}
 use Rattle.std.proofs.lemmas.List.Sums.{sum_by-cons, sum_by-set}
 use Rattle.pp_cache.specs.Cache.{PageCache, IsSound}
 use Rattle.pp_names.specs.Names.{key_of, IsUnnamed, named_count}
-use Rattle.pp_keyed.specs.Keyed.{key_count, seen, stands, IsKeyed, IsGiven, IsSwept, unused_taken}
+use Rattle.pp_keyed.specs.Keyed.{key_count, seen, stands, IsKeyed, IsSpare, IsGiven, IsSwept, unused_taken}
 use Rattle.pp_keyed.proofs.PlacedLemmas.{IsApart}
 use Rattle.pp_keyed.proofs.SeenLemmas.{IsNamed, named_of, some_is, seen_agree, bool_cases}
 
@@ -96,7 +96,7 @@ taken-seen old new c h t = seen_agree new old c (apart_fewer old new c h.apart t
 
 -- the names are as they should be where those that stand nowhere have no keys
 pub keyed-end : (names : List (Option ℕ)) (c : PageCache) → IsNamed names c → IsSound c → length c.table.pages ≤ 4294967292
-    → length c.table.pages ≤ 2 * length names + 32 → ((x : ℕ) → stands c x ≡ false → key_of names x ≡ None)
+    → IsSpare (length names) (length c.table.pages) → ((x : ℕ) → stands c x ≡ false → key_of names x ≡ None)
     → IsKeyed names c
 keyed-end names c h sound fits spare gone = record {
   sound = sound;

@@ -1,6 +1,6 @@
 -- A cache of keys that lie far apart: each key that it knows has a name, and a cache of these names does the work.
 -- Contracts see it as the cache of the keys.
-use Rattle.std.specs.Prelude.{◌≡◌, ◌⊎◌, ℕ, ◌+◌, ◌*◌, ◌<◌, ◌≤◌, Bool, false, ◌&&◌, ◌||◌, nat_le, nat_lt, Option, None, Some, is_some, unwrap_or, List, ◌∷◌}
+use Rattle.std.specs.Prelude.{◌≡◌, ◌⊎◌, ℕ, ◌+◌, ◌*◌, ◌<◌, ◌≤◌, max, Bool, false, ◌&&◌, ◌||◌, nat_le, nat_lt, Option, None, Some, is_some, unwrap_or, List, ◌∷◌}
 use Rattle.std.specs.Prelude.{length, replicate, slice_set, refl, if◌then◌else◌}
 use Rattle.std.specs.Option.{option_map}
 use Rattle.pp_arc.specs.FourLists.{empty_lists, place}
@@ -69,6 +69,11 @@ with_frame s = record s { table = with_free_frame s.table }
 abbrev pub stands : PageCache → ℕ → Bool
 stands c name = is_some (place c.lists name) || is_some (page_of c.table name)
 
+-- Where there is room for so many names, the cache has room for none or for 16 at least, and for no more than 16 or twice as many:
+-- names grow after the cache, and may find no memory.
+abbrev pub IsSpare : ℕ → ℕ → Type 0
+IsSpare names keys = (keys ≤ max (2 * names) 16) × (0 < keys → 16 ≤ keys)
+
 -- The names stand for what a cache of names has.
 pub record IsKeyed (names : List (Option ℕ)) (c : PageCache) : Type 0 where
   pub sound : IsSound c
@@ -78,8 +83,7 @@ pub record IsKeyed (names : List (Option ℕ)) (c : PageCache) : Type 0 where
   -- there is room for each name in the cache
   pub room : length names ≤ length c.table.pages
   pub fits : length c.table.pages ≤ 4294967292
-  -- and for no more than twice as many, and 32
-  pub spare : length c.table.pages ≤ 2 * length names + 32
+  pub spare : IsSpare (length names) (length c.table.pages)
   -- a name has a key while it stands in a list, or its page in a frame, and no longer
   pub named : (name : ℕ) → is_some (key_of names name) ≡ stands c name
 

@@ -1,6 +1,6 @@
 //! A page cache of keys that lie far apart.
 
-ghost use Rattle.std.specs.Prelude.{◌≡◌, ◌≢◌, ℕ, ◌+◌, ◌*◌, ◌<◌, ◌≤◌, ◌↔◌, Bool, not, nat_lt, is_some, length, ◌||◌};
+ghost use Rattle.std.specs.Prelude.{◌≡◌, ◌≢◌, ℕ, ◌+◌, ◌*◌, ◌<◌, ◌≤◌, max, ◌↔◌, Bool, not, nat_lt, is_some, length, ◌||◌};
 ghost use Rattle.std.specs.Prelude.{Option, None, Some, IfSome, IsSome, IsNone, IsTrue, IsFalse, IfOk, IsOk, IsErr, if◌then◌else◌};
 ghost use Rattle.pp_arc.specs.FourLists.{place};
 ghost use Rattle.pp_cache.specs.Frames.{page_of, frame_of, resident_count, pinned_count, IsFree};
@@ -14,6 +14,9 @@ use pp_names::Names;
 use std::alloc::{AllocError, Global};
 use std::marker::Model;
 
+/// Each key is below this number.
+const MOST_KEYS: u32 = 4_294_967_292;
+
 /// The least room that is made for keys is for this one and those that are lower in number.
 const FIRST_ROOM: u32 = 15;
 
@@ -21,8 +24,8 @@ const FIRST_ROOM: u32 = 15;
 ///
 /// It keeps no bytes: frames are numbers, from 0 on, and there is one more of them, at most, than pages stood in frames at one
 /// time. Its keys may lie far apart: each page that stands in a frame, or is remembered, needs room for one key, whatever that
-/// is. Room for a key takes 60 bytes, and a frame 8 at most. Where all room is used it becomes twice as large, and 32 keys more, at
-/// most; meanwhile it takes half as much again. Memory is never given back.
+/// is. Room for a key takes 60 bytes, and a frame 8 at most. Where all room is used, room is made for twice as many keys, for 16 at
+/// first; meanwhile it takes half as much again. Memory is never given back.
 ///
 /// A call looks the key up, which takes a step for each slot that is looked at: 1.5 on average, and at worst one for each key
 /// that there is room for. No call blocks, and a cache belongs to one thread at a time.
@@ -189,7 +192,7 @@ impl KeyedCache {
             → resident_count self.old.cache.table < self.old.cache.table.frames → result ≢ Fetched.NoRoom }
         ensures more { self.old.room ≤ self.new.room }
         ensures kept { self.old.used < self.old.room → self.new.room ≡ self.old.room }
-        ensures bounded { self.new.room ≤ 2 * self.old.room + 32 }
+        ensures bounded { self.new.room ≤ max (2 * self.old.room) 16 }
         ensures pinned_stay { PinnedStay self.old.cache.table self.new.cache.table }
         ensures sound { IsSound self.new.cache }
     {
@@ -233,12 +236,12 @@ impl KeyedCache {
             → resident_count self.old.cache.table < self.old.cache.table.frames → result ≢ Fetched.NoRoom }
         ensures more { self.old.room ≤ self.new.room }
         ensures kept { self.old.used < self.old.room → self.new.room ≡ self.old.room }
-        ensures bounded { self.new.room ≤ 2 * self.old.room + 32 }
+        ensures bounded { self.new.room ≤ max (2 * self.old.room) 16 }
         ensures pinned_stay { PinnedStay self.old.cache.table self.new.cache.table }
         ensures sound { IsSound self.new.cache }
     {
         let _ = &self.names;
-        if key >= 4_294_967_292 {
+        if key >= MOST_KEYS {
             return Fetched::NoRoom;
         }
         match self.reserve(alloc) {
@@ -293,7 +296,7 @@ impl KeyedCache {
         ensures used { self.new.used ≡ self.old.used }
         ensures more { self.old.room ≤ self.new.room }
         ensures kept { self.old.used < self.old.room → self.new.room ≡ self.old.room }
-        ensures bounded { self.new.room ≤ 2 * self.old.room + 32 }
+        ensures bounded { self.new.room ≤ max (2 * self.old.room) 16 }
         ensures sound { IsSound self.new.cache }
     {
         self.reserve_name(alloc)?;
@@ -312,7 +315,7 @@ impl KeyedCache {
         self.cache.reserve_frame()
     }
 
-    /// Makes room for one more key: where all room is used, for twice as many keys, or 32 keys more.
+    /// Makes room for one more key: where all room is used, for twice as many keys, or for 16 at first.
     fn reserve_name(&mut self, alloc: Global) -> Result<(), AllocError>
         ensures room { IsOk result → self.new.used < self.new.room }
         ensures succeeds { self.old.used < self.old.room → IsOk result }
@@ -320,7 +323,7 @@ impl KeyedCache {
         ensures used { self.new.used ≡ self.old.used }
         ensures more { self.old.room ≤ self.new.room }
         ensures kept { self.old.used < self.old.room → self.new.room ≡ self.old.room }
-        ensures bounded { self.new.room ≤ 2 * self.old.room + 32 }
+        ensures bounded { self.new.room ≤ max (2 * self.old.room) 16 }
         ensures sound { IsSound self.new.cache }
     {
         if self.names.used() < self.names.len() {

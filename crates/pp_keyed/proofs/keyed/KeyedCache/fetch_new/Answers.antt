@@ -6,8 +6,8 @@ use Rattle.pp_keyed.specs.Keyed.{Keyed, with_frame}
 use Rattle.pp_keyed.proofs.AnswerLemmas.{keyed-sound}
 use Rattle.pp_keyed.proofs.keyed.KeyedCache.fetch_new.Goals as goal
 
-pub returns-then-key-ge4294967292-clause-sound : goal.returns-then-key-ge4294967292-clause-sound
-returns-then-key-ge4294967292-clause-sound c =
+pub returns-then-key-ge-MOST_KEYS-clause-sound : goal.returns-then-key-ge-MOST_KEYS-clause-sound
+returns-then-key-ge-MOST_KEYS-clause-sound c =
     subst (λ (v : Keyed). IsSound v.cache) c.self.view_is (keyed-sound c.self.inside.names c.self.inside.cache c.self.invariant)
 
 pub returns-in-Ok-clause-new_is_free : goal.returns-in-Ok-clause-new_is_free

@@ -1,6 +1,6 @@
 -- What is left to show of KeyedCache::reserve_name: names without a key change nothing else.
 use Rattle.std.proofs.Common.{ℕ, ap, sym, subst, ◌∙◌, refl}
-use Rattle.std.proofs.Common.{◌≤◌, ◌+◌, ◌*◌, ◌-◌, ◌++◌, length, replicate, arith}
+use Rattle.std.proofs.Common.{◌≤◌, ◌+◌, ◌*◌, ◌-◌, max, ◌++◌, length, replicate, arith}
 use Rattle.std.specs.Prelude.{None}
 use Rattle.pp_cache.specs.Cache.{PageCache, IsSound}
 use Rattle.pp_keyed.specs.Keyed.{Keyed, seen}
@@ -59,4 +59,4 @@ returns-clause-bounded c =
     c.self.invariant c.reserve_key.ensures.sound (c.in_ok-reserve_key.ensures.reserved refl) c.reserve_key.ensures.same_pages
     (omega (arith, c.max.ensures, c.len-2.ensures.value)) (λ ok. c.grow.ensures.grown ok ∙ ap (λ (n : ℕ). c.self.inside.names ++ replicate (n - length c.self.inside.names) None)
     c.keys.ensures.value) c.grow.ensures.unchanged in
-    subst (λ (v : Keyed). length c.grow.new.self ≤ 2 * v.room + 32) c.self.view_is w.bounded
+    subst (λ (v : Keyed). length c.grow.new.self ≤ max (2 * v.room) 16) c.self.view_is w.bounded
