@@ -17,30 +17,30 @@ use Rattle.pp_cache.specs.declared.create.Create.TheVariants.{Never, IfRoom, Alw
 use Rattle.pp_cache.proofs.CacheLemmas.{page_there}
 use Rattle.pp_names.specs.Names.{key_of, IsUnnamed, named_count}
 use Rattle.pp_keyed.specs.Renamed.{lists_by}
-use Rattle.pp_keyed.specs.Keyed.{key_count, key_count-is, key_or_past, placed, seen, stands, keyed, IsKeyed, IsSpare, with_frame}
+use Rattle.pp_keyed.specs.Keyed.{key_count, key_count-is, key_or_past, placed, by_keys, stands, keyed, IsKeyed, IsSpare, with_frame}
 use Rattle.pp_keyed.proofs.PlacedLemmas.{IsApart, placed-same}
-use Rattle.pp_keyed.proofs.SeenLemmas.{IsNamed, named_of, key-named, page-key, page-unnamed, bool_cases, Placed, placed-of, some_is}
-use Rattle.pp_keyed.proofs.SeenLemmas.{stands-place, resident-seen, pinned-seen, lists_agree, key_agree, sound-seen, stay-seen}
-use Rattle.pp_keyed.proofs.SeenLemmas.{absent-unnamed}
+use Rattle.pp_keyed.proofs.ByKeysLemmas.{IsNamed, named_of, key-named, page-key, page-unnamed, bool_cases, Placed, placed-of, some_is}
+use Rattle.pp_keyed.proofs.ByKeysLemmas.{stands-place, resident-by_keys, pinned-by_keys, lists_agree, key_agree, sound-by_keys, stay-by_keys}
+use Rattle.pp_keyed.proofs.ByKeysLemmas.{absent-unnamed}
 use Rattle.pp_keyed.proofs.TakenLemmas.{one_if}
-use Rattle.pp_keyed.proofs.CallLemmas.{pin-seen, keyed-pin}
+use Rattle.pp_keyed.proofs.CallLemmas.{pin-by_keys, keyed-pin}
 use Rattle.pp_keyed.proofs.RekeyLemmas.{NewKey, forget-absent}
 use Rattle.pp_keyed.proofs.BringLemmas.{cache_of, map_of}
 
 -- ---- frames by key
 
-pub frame-none : (names : List (Option ℕ)) (c : PageCache) (key : ℕ) → IsUnnamed names key → frame_of (seen names c).table key ≡ None
+pub frame-none : (names : List (Option ℕ)) (c : PageCache) (key : ℕ) → IsUnnamed names key → frame_of (by_keys names c).table key ≡ None
 frame-none names c key u = ap (option_map (λ (page : Resident). page.frame)) (page-unnamed names c key u)
 
 pub frame-some : (names : List (Option ℕ)) (c : PageCache) (x key : ℕ) → IsNamed names c → key_of names x ≡ Some key
-    → frame_of (seen names c).table key ≡ frame_of c.table x
+    → frame_of (by_keys names c).table key ≡ frame_of c.table x
 frame-some names c x key h e = ap (option_map (λ (page : Resident). page.frame)) (page-key names c x key h e)
 
 -- ---- a key without a name
 
 pub place-none : (names : List (Option ℕ)) (c : PageCache) (key : ℕ) → IsNamed names c → IsUnnamed names key
-    → is_some (place (seen names c).lists key) ≡ false
-place-none names c key h u = elim (bool_cases (is_some (place (seen names c).lists key))) [
+    → is_some (place (by_keys names c).lists key) ≡ false
+place-none names c key h u = elim (bool_cases (is_some (place (by_keys names c).lists key))) [
   | inr no' ↦ no'
   | inl some ↦
       let w : Placed names c.lists key = placed-of names c.lists key_count key some in
@@ -50,10 +50,10 @@ place-none names c key h u = elim (bool_cases (is_some (place (seen names c).lis
 ]
 
 pub dropped-none : (names : List (Option ℕ)) (c : PageCache) (key : ℕ) → IsNamed names c → IsUnnamed names key
-    → seen names c ≡ dropped (seen names c) key
+    → by_keys names c ≡ dropped (by_keys names c) key
 dropped-none names c key h u = cache_of _ _ _ _
-    (sym (forget-absent (seen names c).lists key (place-none names c key h u)))
-    (map_of c.table.frames _ _ (same (seen names c).table.pages (page-unnamed names c key u)))
+    (sym (forget-absent (by_keys names c).lists key (place-none names c key h u)))
+    (map_of c.table.frames _ _ (same (by_keys names c).table.pages (page-unnamed names c key u)))
   where
     same : (pages : List (Option Resident)) → get_or pages key None ≡ None → pages ≡ set pages key None
     same pages e = sym (ap (set pages key) (sym e) ∙ set-get_or pages key None)
@@ -175,7 +175,7 @@ spare-key s key n room spare is = go (nat_lt key (length s.table.pages)) refl
 -- What holds where there is room for more names, whether there are more or not.
 pub record IsRoomier (names new : List (Option ℕ)) (c d : PageCache) : Type 0 where
   pub keyed : IsKeyed new d
-  pub same : seen new d ≡ seen names c
+  pub same : by_keys new d ≡ by_keys names c
   pub used : named_count new ≡ named_count names
   pub more : length names ≤ length new
   pub bounded : length new ≤ max (2 * length names) 16
@@ -223,14 +223,14 @@ roomier names new c d k s same frames room fits spare more bounded keys used = r
 
 -- ---- what holds of the cache of keys
 
-pub keyed-sound : (names : List (Option ℕ)) (c : PageCache) → IsKeyed names c → IsSound (seen names c)
-keyed-sound names c k = sound-seen names c (named_of names c k) k.sound
+pub keyed-sound : (names : List (Option ℕ)) (c : PageCache) → IsKeyed names c → IsSound (by_keys names c)
+keyed-sound names c k = sound-by_keys names c (named_of names c k) k.sound
 
-pub may-seen : (names : List (Option ℕ)) (c : PageCache) (create : Create) → IsNamed names c
-    → may_bring_in (seen names c) create ≡ may_bring_in c create
-may-seen names c Never h = refl
-may-seen names c IfRoom h = ap (λ (n : ℕ). not (leb (c.lists.c * 9 / 10) n)) (pinned-seen names c h)
-may-seen names c Always h = refl
+pub may-by_keys : (names : List (Option ℕ)) (c : PageCache) (create : Create) → IsNamed names c
+    → may_bring_in (by_keys names c) create ≡ may_bring_in c create
+may-by_keys names c Never h = refl
+may-by_keys names c IfRoom h = ap (λ (n : ℕ). not (leb (c.lists.c * 9 / 10) n)) (pinned-by_keys names c h)
+may-by_keys names c Always h = refl
 
 -- ---- a page is pinned
 
@@ -241,8 +241,8 @@ some_frame (Some r) frame e = refl
 -- What holds once the page of a name was pinned, where it stands in a frame.
 pub record IsPinned (names : List (Option ℕ)) (c d : PageCache) (key : ℕ) (r : Option ℕ) : Type 0 where
   pub holds : IsKeyed names d
-  pub exact : keyed names d ≡ cond (is_some r) (record (keyed names c) { cache = after_pin (seen names c) key }) (keyed names c)
-  pub stay : PinnedStay (seen names c).table (seen names d).table
+  pub exact : keyed names d ≡ cond (is_some r) (record (keyed names c) { cache = after_pin (by_keys names c) key }) (keyed names c)
+  pub stay : PinnedStay (by_keys names c).table (by_keys names d).table
 
 pub pinned-key : (names : List (Option ℕ)) (c d : PageCache) (x key : ℕ) (r : Option ℕ) → IsKeyed names c → IsSound d
     → key_of names x ≡ Some key → r ≡ frame_of c.table x → d ≡ cond (is_some r) (after_pin c x) c → PinnedStay c.table d.table
@@ -250,13 +250,13 @@ pub pinned-key : (names : List (Option ℕ)) (c d : PageCache) (x key : ℕ) (r 
 pinned-key names c d x key None k s e f is stay = record {
   holds = subst (IsKeyed names) (sym is) k;
   exact = ap (keyed names) is;
-  stay = stay-seen names names c d (named_of names c k) (subst (IsNamed names) (sym is) (named_of names c k)) (λ y held. refl) stay;
+  stay = stay-by_keys names names c d (named_of names c k) (subst (IsNamed names) (sym is) (named_of names c k)) (λ y held. refl) stay;
 }
 pinned-key names c d x key (Some frame) k s e f is stay = record {
   holds = k';
   exact = ap (λ (w : PageCache). record (keyed names c) { cache = w })
-      (ap (seen names) is ∙ pin-seen names c x key h e ∙ ap (after_pin (seen names c)) (key-named names x key e));
-  stay = stay-seen names names c d h (named_of names d k') (λ y held. refl) stay;
+      (ap (by_keys names) is ∙ pin-by_keys names c x key h e ∙ ap (after_pin (by_keys names c)) (key-named names x key e));
+  stay = stay-by_keys names names c d h (named_of names d k') (λ y held. refl) stay;
 }
   where
     h : IsNamed names c
@@ -267,13 +267,13 @@ pinned-key names c d x key (Some frame) k s e f is stay = record {
 
 -- ---- a frame more
 
-pub frame-seen : (names : List (Option ℕ)) (c : PageCache) → IsNamed names c
-    → seen names (record c { table = with_free_frame c.table }) ≡ with_frame (seen names c)
-frame-seen names c h =
-    ap (λ (n : ℕ). record (seen names c) {
-      table = record (seen names c).table { frames = cond (eqb n c.table.frames) (c.table.frames + 1) c.table.frames };
+pub frame-by_keys : (names : List (Option ℕ)) (c : PageCache) → IsNamed names c
+    → by_keys names (record c { table = with_free_frame c.table }) ≡ with_frame (by_keys names c)
+frame-by_keys names c h =
+    ap (λ (n : ℕ). record (by_keys names c) {
+      table = record (by_keys names c).table { frames = cond (eqb n c.table.frames) (c.table.frames + 1) c.table.frames };
     })
-    (sym (resident-seen names c h))
+    (sym (resident-by_keys names c h))
 
 keyed-frame : (names : List (Option ℕ)) (c d : PageCache) → IsKeyed names c → IsSound d
     → d ≡ record c { table = with_free_frame c.table } → IsKeyed names d
@@ -301,7 +301,7 @@ reserved-keyed names c d (Err x) k s ok err = subst (IsKeyed names) (sym (err re
 pub low-key : (key : ℕ) → key < 4294967292 → key < key_count
 low-key key lt = omega (arith, lt, key_count-is)
 
-pub new-key : (names : List (Option ℕ)) (c s : PageCache) (x old new : ℕ) → IsKeyed names c → seen names c ≡ s
+pub new-key : (names : List (Option ℕ)) (c s : PageCache) (x old new : ℕ) → IsKeyed names c → by_keys names c ≡ s
     → key_of names x ≡ Some old → new < 4294967292 → page_of s.table new ≡ None → is_some (place s.lists new) ≡ false
     → NewKey names c x old new
 new-key names c s x old new k e named low absent none = record {
@@ -312,11 +312,11 @@ new-key names c s x old new k e named low absent none = record {
   low = low-key new low;
 }
   where
-    nowhere : is_some (place (seen names c).lists new) ≡ false
+    nowhere : is_some (place (by_keys names c).lists new) ≡ false
     nowhere = ap (λ (w : PageCache). is_some (place w.lists new)) e ∙ none
 
 -- a page that stands in a frame has a key with a name
-pub resident-unnamed : (names : List (Option ℕ)) (c s : PageCache) (key : ℕ) → seen names c ≡ s
+pub resident-unnamed : (names : List (Option ℕ)) (c s : PageCache) (key : ℕ) → by_keys names c ≡ s
     → is_some (page_of s.table key) ≡ true → IsUnnamed names key → ⊥
 resident-unnamed names c s key e some u =
     let n : false ≡ true = sym (ap is_some (page-unnamed names c key u)) ∙ ap (λ (w : PageCache). is_some (page_of w.table key)) e

@@ -21,17 +21,17 @@ use Rattle.pp_cache.proofs.CacheLemmas.{page_here, page_there, victim_back, vict
 use Rattle.pp_cache.proofs.NameLemmas.{instead-request}
 use Rattle.pp_names.specs.Names.{key_of}
 use Rattle.pp_keyed.specs.Renamed.{IsInjective, answer_by}
-use Rattle.pp_keyed.specs.Keyed.{key_count, key_or_past, placed, seen, stands, IsKeyed, unused_taken, key_of_left, name_of_left}
+use Rattle.pp_keyed.specs.Keyed.{key_count, key_or_past, placed, by_keys, stands, IsKeyed, unused_taken, key_of_left, name_of_left}
 use Rattle.pp_keyed.proofs.RenamedLemmas.{answer-by, request-by}
 use Rattle.pp_keyed.proofs.PlacedLemmas.{IsApart}
-use Rattle.pp_keyed.proofs.SeenLemmas.{IsNamed, named_of, injective, key-named, page-by, same_busy, page-gone, bool_cases, or-cases}
-use Rattle.pp_keyed.proofs.SeenLemmas.{cached-place, stands-place, stands-page, some_is, none_is, FrameName, frame-from, stay-seen}
-use Rattle.pp_keyed.proofs.TakenLemmas.{IsTaken, IsReady, taken-unused, gone-unused, taken-named, taken-seen, keyed-end, taken-then}
+use Rattle.pp_keyed.proofs.ByKeysLemmas.{IsNamed, named_of, injective, key-named, page-by, same_busy, page-gone, bool_cases, or-cases}
+use Rattle.pp_keyed.proofs.ByKeysLemmas.{cached-place, stands-place, stands-page, some_is, none_is, FrameName, frame-from, stay-by_keys}
+use Rattle.pp_keyed.proofs.TakenLemmas.{IsTaken, IsReady, taken-unused, gone-unused, taken-named, taken-by_keys, keyed-end, taken-then}
 use Rattle.pp_keyed.proofs.CallLemmas.{set-named}
 
 -- the map of keys that a map of names stands for
-abbrev seen_map : List (Option ℕ) → FrameMap → FrameMap
-seen_map names m = record { frames = m.frames; pages = placed key_count names m.pages }
+abbrev map_by_keys : List (Option ℕ) → FrameMap → FrameMap
+map_by_keys names m = record { frames = m.frames; pages = placed key_count names m.pages }
 
 pub cache_of : (a b : FourLists) (m n : FrameMap) → a ≡ b → m ≡ n
     → (let s : PageCache = record { lists = a; table = m } in s) ≡ record { lists = b; table = n }
@@ -41,23 +41,23 @@ pub map_of : (n : ℕ) (p q : List (Option Resident)) → p ≡ q
     → (let m : FrameMap = record { frames = n; pages = p } in m) ≡ record { frames = n; pages = q }
 map_of n p q e = rw e refl
 
-victim-seen : (names : List (Option ℕ)) (m : FrameMap) (a : Answer) → IsApart key_count names → length names ≤ length m.pages
-    → seen_map names (without_victim m a) ≡ without_victim (seen_map names m) (answer_by (key_or_past names) a)
-victim-seen names m Hit h room = refl
-victim-seen names m Free h room = refl
-victim-seen names m AllBusy h room = refl
-victim-seen names m (Evict v) h room = map_of m.frames _ _ (page-gone names m.pages v h room)
+victim-by_keys : (names : List (Option ℕ)) (m : FrameMap) (a : Answer) → IsApart key_count names → length names ≤ length m.pages
+    → map_by_keys names (without_victim m a) ≡ without_victim (map_by_keys names m) (answer_by (key_or_past names) a)
+victim-by_keys names m Hit h room = refl
+victim-by_keys names m Free h room = refl
+victim-by_keys names m AllBusy h room = refl
+victim-by_keys names m (Evict v) h room = map_of m.frames _ _ (page-gone names m.pages v h room)
 
 -- ---- the step
 
-pub brought-seen : (names : List (Option ℕ)) (c : PageCache) (x key frame : ℕ) → IsNamed names c → key_of names x ≡ Some key
-    → seen names (after_bring_in c x frame) ≡ after_bring_in (seen names c) (key_or_past names x) frame
-brought-seen names c x key frame h e = cache_of _ _ _ _
-    (sym (request-by f key_count c.lists x (is_pinned c.table) (is_pinned (seen names c).table) inj (same_busy names c h)))
+pub brought-by_keys : (names : List (Option ℕ)) (c : PageCache) (x key frame : ℕ) → IsNamed names c → key_of names x ≡ Some key
+    → by_keys names (after_bring_in c x frame) ≡ after_bring_in (by_keys names c) (key_or_past names x) frame
+brought-by_keys names c x key frame h e = cache_of _ _ _ _
+    (sym (request-by f key_count c.lists x (is_pinned c.table) (is_pinned (by_keys names c).table) inj (same_busy names c h)))
     (map_of (without_victim c.table a).frames _ _ (set-named names (without_victim c.table a).pages x key new h.apart room e)
-    ∙ ap (λ (m : FrameMap). with_page m (f x) new) (victim-seen names c.table a h.apart h.room)
-    ∙ ap (λ (b : Answer). with_page (without_victim (seen names c).table b) (f x) new)
-    (sym (answer-by f key_count c.lists x (is_pinned c.table) (is_pinned (seen names c).table) inj (same_busy names c h))))
+    ∙ ap (λ (m : FrameMap). with_page m (f x) new) (victim-by_keys names c.table a h.apart h.room)
+    ∙ ap (λ (b : Answer). with_page (without_victim (by_keys names c).table b) (f x) new)
+    (sym (answer-by f key_count c.lists x (is_pinned c.table) (is_pinned (by_keys names c).table) inj (same_busy names c h))))
   where
     f : ℕ → ℕ
     f = key_or_past names
@@ -179,7 +179,7 @@ victim_left m (Evict v) = refl
 pub record IsBrought (old given new : List (Option ℕ)) (c d : PageCache) (x key frame : ℕ) : Type 0 where
   pub keyed : IsKeyed new d
   pub taken : IsTaken given new d
-  pub same : seen new d ≡ after_bring_in (seen old c) key frame
+  pub same : by_keys new d ≡ after_bring_in (by_keys old c) key frame
   pub size : length new ≡ length old
 
 -- the names from which two candidates lost their keys
@@ -201,8 +201,8 @@ brought old given c d x key frame dropped left k r named lt s is e f = record {
   keyed = keyed-end new d (taken-named given new d h taken) s (omega (arith, k.fits, mv.size))
       (omega (arith, k.spare, mv.size, taken.size, r.size)) gone;
   taken = taken;
-  same = taken-seen given new d h taken ∙ ap (seen given) is ∙ brought-seen given c x key frame r.named named
-      ∙ ap (λ (i : ℕ). after_bring_in (seen given c) i frame) (key-named given x key named)
+  same = taken-by_keys given new d h taken ∙ ap (by_keys given) is ∙ brought-by_keys given c x key frame r.named named
+      ∙ ap (λ (i : ℕ). after_bring_in (by_keys given c) i frame) (key-named given x key named)
       ∙ ap (λ (w : PageCache). after_bring_in w key frame) r.same;
   size = taken.size ∙ r.size;
 }
@@ -257,20 +257,20 @@ brought old given c d x key frame dropped left k r named lt s is e f = record {
 
 -- ---- who left, and the frame
 
-pub left-seen : (names : List (Option ℕ)) (c : PageCache) (x key : ℕ) → IsSound c → IsNamed names c → key_of names x ≡ Some key
-    → key_of_left names (left_of c.table (asked c x).0) ≡ left_of (seen names c).table (asked (seen names c) key).0
-left-seen names c x key s h e =
+pub left-by_keys : (names : List (Option ℕ)) (c : PageCache) (x key : ℕ) → IsSound c → IsNamed names c → key_of names x ≡ Some key
+    → key_of_left names (left_of c.table (asked c x).0) ≡ left_of (by_keys names c).table (asked (by_keys names c) key).0
+left-by_keys names c x key s h e =
     go (asked c x).0 (λ v i. h.named v (stands-place c v (cached-place c.lists v
     ((RequestAnswers-request c.lists x (is_pinned c.table) s.bounds).cached v i))))
-    ∙ ap (left_of (seen names c).table) (sym (answer-by f key_count c.lists x (is_pinned c.table)
-    (is_pinned (seen names c).table) (injective names h.apart) (same_busy names c h)))
-    ∙ ap (λ (i : ℕ). left_of (seen names c).table (asked (seen names c) i).0) (key-named names x key e)
+    ∙ ap (left_of (by_keys names c).table) (sym (answer-by f key_count c.lists x (is_pinned c.table)
+    (is_pinned (by_keys names c).table) (injective names h.apart) (same_busy names c h)))
+    ∙ ap (λ (i : ℕ). left_of (by_keys names c).table (asked (by_keys names c) i).0) (key-named names x key e)
   where
     f : ℕ → ℕ
     f = key_or_past names
 
     evicted : (v : ℕ) → is_some (key_of names v) ≡ true
-        → key_of_left names (left_of c.table (Evict v)) ≡ left_of (seen names c).table (Evict (f v))
+        → key_of_left names (left_of c.table (Evict v)) ≡ left_of (by_keys names c).table (Evict (f v))
     evicted v some =
         let w : (k : ℕ) × (key_of names v ≡ Some k) = some_is (key_of names v) some in
         ap (option_map (λ k. record { key = k; frame = unwrap_or (frame_of c.table v) 0 })) w.1
@@ -279,21 +279,21 @@ left-seen names c x key s h e =
         (sym (page-by names c v h))
 
     go : (a : Answer) → ((v : ℕ) → a ≡ Evict v → is_some (key_of names v) ≡ true)
-        → key_of_left names (left_of c.table a) ≡ left_of (seen names c).table (answer_by f a)
+        → key_of_left names (left_of c.table a) ≡ left_of (by_keys names c).table (answer_by f a)
     go Hit w = refl
     go Free w = refl
     go AllBusy w = refl
     go (Evict v) w = evicted v (w v refl)
 
-pub free-seen : (names : List (Option ℕ)) (c : PageCache) (x key frame : ℕ) → IsNamed names c → key_of names x ≡ Some key
+pub free-by_keys : (names : List (Option ℕ)) (c : PageCache) (x key frame : ℕ) → IsNamed names c → key_of names x ≡ Some key
     → IsFree (without_victim c.table (asked c x).0) frame
-    → IsFree (without_victim (seen names c).table (asked (seen names c) key).0) frame
-free-seen names c x key frame h e free =
-    subst (λ (i : ℕ). IsFree (without_victim (seen names c).table (asked (seen names c) i).0) frame) (key-named names x key e)
-    (subst (λ (a : Answer). IsFree (without_victim (seen names c).table a) frame)
-    (sym (answer-by f key_count c.lists x (is_pinned c.table) (is_pinned (seen names c).table) (injective names h.apart)
+    → IsFree (without_victim (by_keys names c).table (asked (by_keys names c) key).0) frame
+free-by_keys names c x key frame h e free =
+    subst (λ (i : ℕ). IsFree (without_victim (by_keys names c).table (asked (by_keys names c) i).0) frame) (key-named names x key e)
+    (subst (λ (a : Answer). IsFree (without_victim (by_keys names c).table a) frame)
+    (sym (answer-by f key_count c.lists x (is_pinned c.table) (is_pinned (by_keys names c).table) (injective names h.apart)
     (same_busy names c h)))
-    (subst (λ (m : FrameMap). IsFree m frame) (victim-seen names c.table (asked c x).0 h.apart h.room) (λ k i.
+    (subst (λ (m : FrameMap). IsFree m frame) (victim-by_keys names c.table (asked c x).0 h.apart h.room) (λ k i.
     let w : FrameName names (without_victim c.table (asked c x).0) k frame =
     frame-from names (without_victim c.table (asked c x).0) k frame i in
     free w.name w.here)))
@@ -303,8 +303,8 @@ free-seen names c x key frame h e free =
 
 -- pinned pages stay in their frames
 pub stay-brought : (old given new : List (Option ℕ)) (c d : PageCache) → IsNamed given c → IsKeyed new d → IsTaken given new d
-    → seen given c ≡ seen old c → PinnedStay c.table d.table → PinnedStay (seen old c).table (seen new d).table
+    → by_keys given c ≡ by_keys old c → PinnedStay c.table d.table → PinnedStay (by_keys old c).table (by_keys new d).table
 stay-brought old given new c d h k t same stay =
-    subst (λ (w : PageCache). PinnedStay w.table (seen new d).table) same
-    (stay-seen given new c d h (named_of new d k)
+    subst (λ (w : PageCache). PinnedStay w.table (by_keys new d).table) same
+    (stay-by_keys given new c d h (named_of new d k)
     (λ y held. sym (t.kept y (stands-page d y (ap is_some (stay y held) ∙ held_some _ held)))) stay)

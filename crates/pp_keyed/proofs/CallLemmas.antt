@@ -20,17 +20,17 @@ use Rattle.pp_cache.proofs.CacheLemmas.{page_there, some_pinned}
 use Rattle.pp_cache.proofs.NameLemmas.{instead-request}
 use Rattle.pp_names.specs.Names.{key_of}
 use Rattle.pp_names.proofs.TableLemmas.{low_if_some}
-use Rattle.pp_keyed.specs.Keyed.{key_count, key_or_past, placed, seen, stands, IsKeyed, unused_taken}
+use Rattle.pp_keyed.specs.Keyed.{key_count, key_or_past, placed, by_keys, stands, IsKeyed, unused_taken}
 use Rattle.pp_keyed.proofs.RenamedLemmas.{is_cached-by, forget-by, request-by}
 use Rattle.pp_keyed.proofs.PlacedLemmas.{IsApart, placed-set}
-use Rattle.pp_keyed.proofs.SeenLemmas.{IsNamed, named_of, injective, key-named, cache_is, page-by, same_busy, page-gone}
-use Rattle.pp_keyed.proofs.SeenLemmas.{cached-place, none_is}
-use Rattle.pp_keyed.proofs.TakenLemmas.{IsTaken, taken-unused, gone-unused, taken-named, taken-seen, keyed-end}
+use Rattle.pp_keyed.proofs.ByKeysLemmas.{IsNamed, named_of, injective, key-named, cache_is, page-by, same_busy, page-gone}
+use Rattle.pp_keyed.proofs.ByKeysLemmas.{cached-place, none_is}
+use Rattle.pp_keyed.proofs.TakenLemmas.{IsTaken, taken-unused, gone-unused, taken-named, taken-by_keys, keyed-end}
 
-pub cond-seen : (names : List (Option ℕ)) (b : Bool) (s t : PageCache)
-    → seen names (cond b s t) ≡ cond b (seen names s) (seen names t)
-cond-seen names true s t = refl
-cond-seen names false s t = refl
+pub cond-by_keys : (names : List (Option ℕ)) (b : Bool) (s t : PageCache)
+    → by_keys names (cond b s t) ≡ cond b (by_keys names s) (by_keys names t)
+cond-by_keys names true s t = refl
+cond-by_keys names false s t = refl
 
 -- two tests that imply each other
 pub same_bool : (a b : Bool) → (a ≡ true → b ≡ true) → (b ≡ true → a ≡ true) → a ≡ b
@@ -52,27 +52,27 @@ set-named names pages x key o a room e = rw (key-named names x key e) (placed-se
 
 -- ---- the steps, whoever has a key
 
-pub dropped-seen : (names : List (Option ℕ)) (c : PageCache) (x : ℕ) → IsNamed names c
-    → seen names (dropped c x) ≡ dropped (seen names c) (key_or_past names x)
-dropped-seen names c x h = cache_is _ _ c.table.frames _ _
+pub dropped-by_keys : (names : List (Option ℕ)) (c : PageCache) (x : ℕ) → IsNamed names c
+    → by_keys names (dropped c x) ≡ dropped (by_keys names c) (key_or_past names x)
+dropped-by_keys names c x h = cache_is _ _ c.table.frames _ _
     (sym (forget-by (key_or_past names) key_count c.lists x (injective names h.apart)))
     (page-gone names c.table.pages x h.apart h.room)
 
-pub held-seen : (names : List (Option ℕ)) (c : PageCache) (x key : ℕ) (b : Bool) → IsNamed names c → key_of names x ≡ Some key
+pub held-by_keys : (names : List (Option ℕ)) (c : PageCache) (x key : ℕ) (b : Bool) → IsNamed names c → key_of names x ≡ Some key
     → placed key_count names (set c.table.pages x (pinned_to b (page_of c.table x)))
     ≡ set (placed key_count names c.table.pages) (key_or_past names x)
-    (pinned_to b (page_of (seen names c).table (key_or_past names x)))
-held-seen names c x key b h e = set-named names c.table.pages x key (pinned_to b (page_of c.table x)) h.apart h.room e
+    (pinned_to b (page_of (by_keys names c).table (key_or_past names x)))
+held-by_keys names c x key b h e = set-named names c.table.pages x key (pinned_to b (page_of c.table x)) h.apart h.room e
     ∙ ap (λ (o : Option Resident). set (placed key_count names c.table.pages) (key_or_past names x) (pinned_to b o))
     (sym (page-by names c x h))
 
 -- ---- a page that stands in a frame is pinned
 
-pub pin-seen : (names : List (Option ℕ)) (c : PageCache) (x key : ℕ) → IsNamed names c → key_of names x ≡ Some key
-    → seen names (after_pin c x) ≡ after_pin (seen names c) (key_or_past names x)
-pin-seen names c x key h e = cond-seen names (is_pinned c.table x) c fresh
-    ∙ ap (λ (d : PageCache). cond (is_pinned c.table x) (seen names c) d) step
-    ∙ ap (λ (b : Bool). cond b (seen names c) fresh') (sym (same_busy names c h x))
+pub pin-by_keys : (names : List (Option ℕ)) (c : PageCache) (x key : ℕ) → IsNamed names c → key_of names x ≡ Some key
+    → by_keys names (after_pin c x) ≡ after_pin (by_keys names c) (key_or_past names x)
+pin-by_keys names c x key h e = cond-by_keys names (is_pinned c.table x) c fresh
+    ∙ ap (λ (d : PageCache). cond (is_pinned c.table x) (by_keys names c) d) step
+    ∙ ap (λ (b : Bool). cond b (by_keys names c) fresh') (sym (same_busy names c h x))
   where
     f : ℕ → ℕ
     f = key_or_past names
@@ -81,13 +81,13 @@ pin-seen names c x key h e = cond-seen names (is_pinned c.table x) c fresh
     fresh = record { lists = (asked c x).1; table = with_pinned c.table x true }
 
     fresh' : PageCache
-    fresh' = record { lists = (asked (seen names c) (f x)).1; table = with_pinned (seen names c).table (f x) true }
+    fresh' = record { lists = (asked (by_keys names c) (f x)).1; table = with_pinned (by_keys names c).table (f x) true }
 
-    step : seen names fresh ≡ fresh'
+    step : by_keys names fresh ≡ fresh'
     step = cache_is _ _ c.table.frames _ _
-        (sym (request-by f key_count c.lists x (is_pinned c.table) (is_pinned (seen names c).table)
+        (sym (request-by f key_count c.lists x (is_pinned c.table) (is_pinned (by_keys names c).table)
         (injective names h.apart) (same_busy names c h)))
-        (held-seen names c x key true h e)
+        (held-by_keys names c x key true h e)
 
 -- a hit loses no name
 lost-hit : (s : FourLists) (x : ℕ) (answer : Answer) → is_some (place s x) ≡ true → lost_name s x answer ≡ None
@@ -154,7 +154,7 @@ pub record OnlyOne (c d : PageCache) (x : ℕ) : Type 0 where
 -- What holds after such a call once the name has lost its key, where it stands nowhere.
 pub record IsAfter (names new : List (Option ℕ)) (d : PageCache) : Type 0 where
   pub keyed : IsKeyed new d
-  pub same : seen new d ≡ seen names d
+  pub same : by_keys new d ≡ by_keys names d
   pub taken : IsTaken names new d
 
 pub named-one : (names : List (Option ℕ)) (c d : PageCache) (x key : ℕ) → IsKeyed names c → key_of names x ≡ Some key
@@ -173,7 +173,7 @@ pub after-one : (names : List (Option ℕ)) (c d : PageCache) (x key : ℕ) → 
 after-one names c d x key k s e o = record {
   keyed = keyed-end (unused_taken names d (Some x)) d (taken-named names (unused_taken names d (Some x)) d h t) s
       (omega (arith, k.fits, o.size)) (omega (arith, k.spare, o.size, t.size)) gone;
-  same = taken-seen names (unused_taken names d (Some x)) d h t;
+  same = taken-by_keys names (unused_taken names d (Some x)) d h t;
   taken = t;
 }
   where
@@ -248,9 +248,9 @@ one-unpin c x discard = one-cond c c _ x (not (is_pinned c.table x)) (one-none c
     (subst (λ (d : PageCache). OnlyOne c d x) (sym (kept-or-gone c x (is_cached c.lists x)))
     (one-cond c _ _ x (is_cached c.lists x) (one-page c x (pinned_to false (page_of c.table x))) (one-page c x None))))
 
-pub unpin-seen : (names : List (Option ℕ)) (c : PageCache) (x key : ℕ) (discard : Bool) → IsNamed names c
-    → key_of names x ≡ Some key → seen names (after_unpin c x discard) ≡ after_unpin (seen names c) (key_or_past names x) discard
-unpin-seen names c x key discard h e =
+pub unpin-by_keys : (names : List (Option ℕ)) (c : PageCache) (x key : ℕ) (discard : Bool) → IsNamed names c
+    → key_of names x ≡ Some key → by_keys names (after_unpin c x discard) ≡ after_unpin (by_keys names c) (key_or_past names x) discard
+unpin-by_keys names c x key discard h e =
     rw (same_busy names c h x, is_cached-by f key_count c.lists x (injective names h.apart))
     (go (is_pinned c.table x) discard (is_cached c.lists x))
   where
@@ -258,13 +258,13 @@ unpin-seen names c x key discard h e =
     f = key_or_past names
 
     go : (p d q : Bool)
-        → seen names (cond (not p) c (cond d (dropped c x) (record c {
+        → by_keys names (cond (not p) c (cond d (dropped c x) (record c {
           table = cond q (with_pinned c.table x false) (with_page c.table x None);
         })))
-        ≡ cond (not p) (seen names c) (cond d (dropped (seen names c) (f x)) (record (seen names c) {
-          table = cond q (with_pinned (seen names c).table (f x) false) (with_page (seen names c).table (f x) None);
+        ≡ cond (not p) (by_keys names c) (cond d (dropped (by_keys names c) (f x)) (record (by_keys names c) {
+          table = cond q (with_pinned (by_keys names c).table (f x) false) (with_page (by_keys names c).table (f x) None);
         }))
     go false d q = refl
-    go true true q = dropped-seen names c x h
-    go true false true = cache_is _ _ c.table.frames _ _ refl (held-seen names c x key false h e)
+    go true true q = dropped-by_keys names c x h
+    go true false true = cache_is _ _ c.table.frames _ _ refl (held-by_keys names c x key false h e)
     go true false false = cache_is _ _ c.table.frames _ _ refl (page-gone names c.table.pages x h.apart h.room)

@@ -12,8 +12,8 @@ use Rattle.pp_cache.specs.Frames.{page_of, resident_count}
 use Rattle.pp_cache.specs.Cache.{PageCache}
 use Rattle.pp_cache.proofs.LawLemmas.{contains-append}
 use Rattle.pp_names.specs.Names.{key_of, named_count}
-use Rattle.pp_keyed.specs.Keyed.{key_or_past, seen, IsKeyed}
-use Rattle.pp_keyed.proofs.SeenLemmas.{named_of, or-cases, or_left, place-some, resident-seen}
+use Rattle.pp_keyed.specs.Keyed.{key_or_past, by_keys, IsKeyed}
+use Rattle.pp_keyed.proofs.ByKeysLemmas.{named_of, or-cases, or_left, place-some, resident-by_keys}
 use Rattle.pp_keyed.proofs.TakenLemmas.{one_if, if_more, key-set, key-taken}
 
 -- where each name that has a key has a page
@@ -66,13 +66,13 @@ count-listed names pages (y ∷ ys) h =
     ]
 
 pub few-names : (names : List (Option ℕ)) (c : PageCache) → IsKeyed names c
-    → named_count names ≤ resident_count (seen names c).table + length (seen names c).lists.b1
-    + length (seen names c).lists.b2
+    → named_count names ≤ resident_count (by_keys names c).table + length (by_keys names c).lists.b1
+    + length (by_keys names c).lists.b2
 few-names names c k = omega (
   arith,
   count-listed names c.table.pages (c.lists.b1 ++ c.lists.b2) listed,
   length-append c.lists.b1 c.lists.b2,
-  resident-seen names c (named_of names c k),
+  resident-by_keys names c (named_of names c k),
   length-map c.lists.b1 (key_or_past names),
   length-map c.lists.b2 (key_or_past names),
 )

@@ -1,7 +1,7 @@
 -- The lemmas: that ARC's figure is the same under other names, and so is a cache.
 pub mod RenamedLemmas
 pub mod PlacedLemmas
-pub mod SeenLemmas
+pub mod ByKeysLemmas
 pub mod TakenLemmas
 pub mod CallLemmas
 pub mod BringLemmas

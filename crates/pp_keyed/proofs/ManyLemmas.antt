@@ -17,12 +17,12 @@ use Rattle.pp_cache.specs.Cache.{after_resize}
 use Rattle.pp_cache.proofs.CacheLemmas.{contains-first, page_there, page_gone}
 use Rattle.pp_names.specs.Names.{key_of}
 use Rattle.pp_keyed.specs.Renamed.{lists_by}
-use Rattle.pp_keyed.specs.Keyed.{key_count, key_or_past, seen, stands, IsKeyed, IsSwept}
+use Rattle.pp_keyed.specs.Keyed.{key_count, key_or_past, by_keys, stands, IsKeyed, IsSwept}
 use Rattle.pp_keyed.proofs.RenamedLemmas.{forget-by, victim-by, after_giving_up-by, last_page-by, or-by, resized-by, cached_count-by}
-use Rattle.pp_keyed.proofs.SeenLemmas.{IsNamed, named_of, injective, key-named, cache_is, page-by, page-key, same_busy, page-gone}
-use Rattle.pp_keyed.proofs.SeenLemmas.{bool_cases, or-cases, or_left, cached-place, stands-place, stands-page, some-from}
-use Rattle.pp_keyed.proofs.SeenLemmas.{in-t1, in-t2, in-b1, in-b2, place-some}
-use Rattle.pp_keyed.proofs.TakenLemmas.{IsTaken, taken-swept, gone-swept, taken-named, taken-seen, keyed-end}
+use Rattle.pp_keyed.proofs.ByKeysLemmas.{IsNamed, named_of, injective, key-named, cache_is, page-by, page-key, same_busy, page-gone}
+use Rattle.pp_keyed.proofs.ByKeysLemmas.{bool_cases, or-cases, or_left, cached-place, stands-place, stands-page, some-from}
+use Rattle.pp_keyed.proofs.ByKeysLemmas.{in-t1, in-t2, in-b1, in-b2, place-some}
+use Rattle.pp_keyed.proofs.TakenLemmas.{IsTaken, taken-swept, gone-swept, taken-named, taken-by_keys, keyed-end}
 
 -- ---- who stands in a part of the lists
 
@@ -156,36 +156,36 @@ part-one : (c : PageCache) → IsPart c (one_fewer c)
 part-one c = part-fewer_of c (given_up c.lists (is_pinned c.table)) (last_cached c.lists)
     (λ v e. cached-place c.lists v (is_cached-victim c.lists false (is_pinned c.table) v e))
 
-one-seen : (names : List (Option ℕ)) (c : PageCache) (o l : Option ℕ) → IsNamed names c
-    → seen names (one_fewer_of c o l)
-    ≡ one_fewer_of (seen names c) (option_map (key_or_past names) o) (option_map (key_or_past names) l)
-one-seen names c (Some v) l h = cache_is _ _ c.table.frames _ _
+one-by_keys : (names : List (Option ℕ)) (c : PageCache) (o l : Option ℕ) → IsNamed names c
+    → by_keys names (one_fewer_of c o l)
+    ≡ one_fewer_of (by_keys names c) (option_map (key_or_past names) o) (option_map (key_or_past names) l)
+one-by_keys names c (Some v) l h = cache_is _ _ c.table.frames _ _
     (sym (after_giving_up-by (key_or_past names) key_count c.lists (Some v) (injective names h.apart)))
     (page-gone names c.table.pages v h.apart h.room)
-one-seen names c None (Some page) h = cache_is _ _ c.table.frames _ _
+one-by_keys names c None (Some page) h = cache_is _ _ c.table.frames _ _
     (sym (forget-by (key_or_past names) key_count c.lists page (injective names h.apart))) refl
-one-seen names c None None h = refl
+one-by_keys names c None None h = refl
 
-one_fewer-seen : (names : List (Option ℕ)) (c : PageCache) → IsNamed names c → seen names (one_fewer c) ≡ one_fewer (seen names c)
-one_fewer-seen names c h = one-seen names c (given_up c.lists (is_pinned c.table)) (last_cached c.lists) h
-    ∙ ap (λ (o : Option ℕ). one_fewer_of (seen names c) o (option_map f (last_cached c.lists)))
-    (sym (victim-by f key_count c.lists false (is_pinned c.table) (is_pinned (seen names c).table) (same_busy names c h)))
-    ∙ ap (one_fewer_of (seen names c) (given_up (seen names c).lists (is_pinned (seen names c).table))) (sym last)
+one_fewer-by_keys : (names : List (Option ℕ)) (c : PageCache) → IsNamed names c → by_keys names (one_fewer c) ≡ one_fewer (by_keys names c)
+one_fewer-by_keys names c h = one-by_keys names c (given_up c.lists (is_pinned c.table)) (last_cached c.lists) h
+    ∙ ap (λ (o : Option ℕ). one_fewer_of (by_keys names c) o (option_map f (last_cached c.lists)))
+    (sym (victim-by f key_count c.lists false (is_pinned c.table) (is_pinned (by_keys names c).table) (same_busy names c h)))
+    ∙ ap (one_fewer_of (by_keys names c) (given_up (by_keys names c).lists (is_pinned (by_keys names c).table))) (sym last)
   where
     f : ℕ → ℕ
     f = key_or_past names
 
-    last : last_cached (seen names c).lists ≡ option_map f (last_cached c.lists)
+    last : last_cached (by_keys names c).lists ≡ option_map f (last_cached c.lists)
     last = rw (last_page-by f c.lists.t1, last_page-by f c.lists.t2) (or-by f (last_page c.lists.t1) (last_page c.lists.t2))
 
 part-fewer : (n : ℕ) (c : PageCache) → IsPart c (fewer n c)
 part-fewer zero c = record { stood = λ y h. h; size = refl }
 part-fewer (suc n) c = part-then c (one_fewer c) (fewer n (one_fewer c)) (part-one c) (part-fewer n (one_fewer c))
 
-fewer-seen : (n : ℕ) (names : List (Option ℕ)) (c : PageCache) → IsNamed names c → seen names (fewer n c) ≡ fewer n (seen names c)
-fewer-seen zero names c h = refl
-fewer-seen (suc n) names c h = fewer-seen n names (one_fewer c) (part-named names c (one_fewer c) h (part-one c))
-    ∙ ap (fewer n) (one_fewer-seen names c h)
+fewer-by_keys : (n : ℕ) (names : List (Option ℕ)) (c : PageCache) → IsNamed names c → by_keys names (fewer n c) ≡ fewer n (by_keys names c)
+fewer-by_keys zero names c h = refl
+fewer-by_keys (suc n) names c h = fewer-by_keys n names (one_fewer c) (part-named names c (one_fewer c) h (part-one c))
+    ∙ ap (fewer n) (one_fewer-by_keys names c h)
 
 pub part-resize : (c : PageCache) (size : ℕ) → IsPart c (after_resize c size)
 part-resize c size = part-then c (fewer (cached_count c.lists - size) c) (after_resize c size)
@@ -195,12 +195,12 @@ part-resize c size = part-then c (fewer (cached_count c.lists - size) c) (after_
       size = refl;
     })
 
-pub resize-seen : (names : List (Option ℕ)) (c : PageCache) (size : ℕ) → IsNamed names c
-    → seen names (after_resize c size) ≡ after_resize (seen names c) size
-resize-seen names c size h =
-    ap (λ (l : FourLists). record (seen names t) { lists = l }) (sym (resized-by f key_count t.lists size))
-    ∙ ap (λ (w : PageCache). record w { lists = resized w.lists size }) (fewer-seen (cached_count c.lists - size) names c h)
-    ∙ ap (λ (n : ℕ). record (fewer (n - size) (seen names c)) { lists = resized (fewer (n - size) (seen names c)).lists size })
+pub resize-by_keys : (names : List (Option ℕ)) (c : PageCache) (size : ℕ) → IsNamed names c
+    → by_keys names (after_resize c size) ≡ after_resize (by_keys names c) size
+resize-by_keys names c size h =
+    ap (λ (l : FourLists). record (by_keys names t) { lists = l }) (sym (resized-by f key_count t.lists size))
+    ∙ ap (λ (w : PageCache). record w { lists = resized w.lists size }) (fewer-by_keys (cached_count c.lists - size) names c h)
+    ∙ ap (λ (n : ℕ). record (fewer (n - size) (by_keys names c)) { lists = resized (fewer (n - size) (by_keys names c)).lists size })
     (sym (cached_count-by f key_count c.lists))
   where
     f : ℕ → ℕ
@@ -215,7 +215,7 @@ resize-seen names c size h =
 pub record IsSweptPart (old new : List (Option ℕ)) (d : PageCache) : Type 0 where
   pub keyed : IsKeyed new d
   pub taken : IsTaken old new d
-  pub same : seen new d ≡ seen old d
+  pub same : by_keys new d ≡ by_keys old d
 
 pub swept : (old new : List (Option ℕ)) (c d : PageCache) → IsKeyed old c → IsPart c d → IsSound d → IsSwept old new d
     → IsSweptPart old new d
@@ -223,7 +223,7 @@ swept old new c d k p s w = record {
   keyed = keyed-end new d (taken-named old new d h (taken-swept old new d w)) s (omega (arith, k.fits, p.size))
       (omega (arith, k.spare, p.size, w.size)) (λ x n. gone-swept old new d x w n);
   taken = taken-swept old new d w;
-  same = taken-seen old new d h (taken-swept old new d w);
+  same = taken-by_keys old new d h (taken-swept old new d w);
 }
   where
     h : IsNamed old d
@@ -275,35 +275,35 @@ cond-none : (b : Bool) (o : Option Resident) → o ≡ None → cond b o None �
 cond-none true o e = e
 cond-none false o e = refl
 
-pub keeps-seen : (names : List (Option ℕ)) (test keys : ℕ → Bool) (c d : PageCache) → IsNamed names c → IsNamed names d
+pub keeps-by_keys : (names : List (Option ℕ)) (test keys : ℕ → Bool) (c d : PageCache) → IsNamed names c → IsNamed names d
     → KeepsOnly test c d → ((x : ℕ) → stands c x ≡ true → keys (key_or_past names x) ≡ test x)
-    → KeepsOnly keys (seen names c) (seen names d)
-keeps-seen names test keys c d h g k same = record {
+    → KeepsOnly keys (by_keys names c) (by_keys names d)
+keeps-by_keys names test keys c d h g k same = record {
   lists = ap (lists_by (key_or_past names) key_count) k.lists
       ∙ where-by (key_or_past names) key_count test keys c.lists (λ x p. same x (stands-place c x p));
-  pages = λ key. elim (bool_cases (is_some (page_of (seen names c).table key))) [
+  pages = λ key. elim (bool_cases (is_some (page_of (by_keys names c).table key))) [
     | inl some ↦
         let w : (name : ℕ) × (key_of names name ≡ Some key) = some-from names c key some in
-        let e : page_of (seen names c).table key ≡ page_of c.table w.0 = page-key names c w.0 key h w.1 in
+        let e : page_of (by_keys names c).table key ≡ page_of c.table w.0 = page-key names c w.0 key h w.1 in
         let t : keys key ≡ test w.0 = ap keys (sym (key-named names w.0 key w.1))
         ∙ same w.0 (stands-page c w.0 (sym (ap is_some e) ∙ some)) in
         page-key names d w.0 key g w.1 ∙ k.pages w.0 ∙ ap (λ (b : Bool). cond b (page_of c.table w.0) None) (sym t)
         ∙ ap (λ (o : Option Resident). cond (keys key) o None) (sym e)
-    | inr none ↦ gone key (no_page (page_of (seen names c).table key) none)
-        ∙ sym (cond-none (keys key) (page_of (seen names c).table key) (no_page (page_of (seen names c).table key) none))
+    | inr none ↦ gone key (no_page (page_of (by_keys names c).table key) none)
+        ∙ sym (cond-none (keys key) (page_of (by_keys names c).table key) (no_page (page_of (by_keys names c).table key) none))
   ];
   frames = k.frames;
 }
   where
-    gone : (key : ℕ) → page_of (seen names c).table key ≡ None → page_of (seen names d).table key ≡ None
-    gone key none = elim (bool_cases (is_some (page_of (seen names d).table key))) [
-      | inr e ↦ no_page (page_of (seen names d).table key) e
+    gone : (key : ℕ) → page_of (by_keys names c).table key ≡ None → page_of (by_keys names d).table key ≡ None
+    gone key none = elim (bool_cases (is_some (page_of (by_keys names d).table key))) [
+      | inr e ↦ no_page (page_of (by_keys names d).table key) e
       | inl some ↦
           let w : (name : ℕ) × (key_of names name ≡ Some key) = some-from names d key some in
           page-key names d w.0 key g w.1 ∙ k.pages w.0
           ∙ cond-none (test w.0) (page_of c.table w.0) (sym (page-key names c w.0 key h w.1) ∙ none)
     ]
 
-pub idle-seen : (names : List (Option ℕ)) (c : PageCache) (x : ℕ) → IsNamed names c
-    → not (is_idle (seen names c).table (key_or_past names x)) ≡ not (is_idle c.table x)
-idle-seen names c x h = ap (λ (o : Option Resident). not (is_some o && not (is_held o))) (page-by names c x h)
+pub idle-by_keys : (names : List (Option ℕ)) (c : PageCache) (x : ℕ) → IsNamed names c
+    → not (is_idle (by_keys names c).table (key_or_past names x)) ≡ not (is_idle c.table x)
+idle-by_keys names c x h = ap (λ (o : Option Resident). not (is_some o && not (is_held o))) (page-by names c x h)

@@ -20,11 +20,11 @@ use Rattle.pp_cache.proofs.CacheLemmas.{filter_pass, page_gone}
 use Rattle.pp_names.specs.Names.{key_of, IsUnnamed, named_count}
 use Rattle.pp_names.proofs.TableLemmas.{low_if_some}
 use Rattle.pp_keyed.specs.Renamed.{IsInjective, lists_by}
-use Rattle.pp_keyed.specs.Keyed.{key_count, key_or_past, placed, seen, stands, IsKeyed}
+use Rattle.pp_keyed.specs.Keyed.{key_count, key_or_past, placed, by_keys, stands, IsKeyed}
 use Rattle.pp_keyed.proofs.RenamedLemmas.{forget-by, place-by, renamed_in-by}
 use Rattle.pp_keyed.proofs.PlacedLemmas.{IsApart, placed-named, placed-unnamed, placed-key, length-placed}
-use Rattle.pp_keyed.proofs.SeenLemmas.{named_of, injective, key-named, key_agree, lists_agree, cache_is}
-use Rattle.pp_keyed.proofs.SeenLemmas.{place-some, or-none}
+use Rattle.pp_keyed.proofs.ByKeysLemmas.{named_of, injective, key-named, key_agree, lists_agree, cache_is}
+use Rattle.pp_keyed.proofs.ByKeysLemmas.{place-some, or-none}
 use Rattle.pp_keyed.proofs.TakenLemmas.{key-set, apart_given, count-fewer}
 use Rattle.pp_keyed.proofs.CallLemmas.{place-forget}
 use Rattle.pp_keyed.proofs.BringLemmas.{cache_of, map_of}
@@ -152,7 +152,7 @@ pub record NewKey (names : List (Option ℕ)) (c : PageCache) (x old new : ℕ) 
   pub keyed : IsKeyed names c
   pub named : key_of names x ≡ Some old
   pub unnamed : IsUnnamed names new
-  pub nowhere : is_some (place (seen names c).lists new) ≡ false
+  pub nowhere : is_some (place (by_keys names c).lists new) ≡ false
   pub low : new < key_count
 
 other_key : (names : List (Option ℕ)) (x old new : ℕ) → key_of names x ≡ Some old → IsUnnamed names new → old ≢ new
@@ -210,7 +210,7 @@ moved-lists names c x old new k =
 
 moved-pages : (names : List (Option ℕ)) (c : PageCache) (x old new : ℕ) → NewKey names c x old new
     → placed key_count (set names x (Some new)) c.table.pages
-    ≡ (moved (with_page (seen names c).table new None) old new).pages
+    ≡ (moved (with_page (by_keys names c).table new None) old new).pages
 moved-pages names c x old new k =
     ext_get_or None _ _ (length-placed key_count names' c.table.pages ∙ sym size) at
   where
@@ -289,7 +289,7 @@ moved-pages names c x old new k =
 -- What holds once the name has its new key, and stands at the front of its list.
 pub record IsMoved (names : List (Option ℕ)) (c d : PageCache) (x old new : ℕ) : Type 0 where
   pub keyed : IsKeyed (set names x (Some new)) d
-  pub same : seen (set names x (Some new)) d ≡ moved_page (seen names c) old new
+  pub same : by_keys (set names x (Some new)) d ≡ moved_page (by_keys names c) old new
   pub used : named_count (set names x (Some new)) ≡ named_count names
 
 pub moved-key : (names : List (Option ℕ)) (c d : PageCache) (x old new : ℕ) → NewKey names c x old new → IsSound d
@@ -304,7 +304,7 @@ moved-key names c d x old new k s e = record {
     spare = omega (arith, k.keyed.spare, length-set names x (Some new), size);
     named = λ y. some_same y ∙ k.keyed.named y ∙ sym (stood y);
   };
-  same = ap (seen names') e ∙ cache_is _ _ c.table.frames _ _ (moved-lists names c x old new k) (moved-pages names c x old new k);
+  same = ap (by_keys names') e ∙ cache_is _ _ c.table.frames _ _ (moved-lists names c x old new k) (moved-pages names c x old new k);
   used = omega (
     arith,
     count-fewer names names' (length-set names x (Some new)) (λ y h. sym (some_same y) ∙ h),

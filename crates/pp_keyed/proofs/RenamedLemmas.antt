@@ -58,18 +58,18 @@ cond-some : (f : ℕ → ℕ) (b : Bool) (y : ℕ) (o : Option ℕ)
 cond-some f true y o = refl
 cond-some f false y o = refl
 
-find-by : (f : ℕ → ℕ) (busy seen : ℕ → Bool) (ys : List ℕ) → IsSameBusy f busy seen
-    → find (λ y. not (seen y)) (map f ys) ≡ option_map f (find (λ y. not (busy y)) ys)
-find-by f busy seen [] same = refl
-find-by f busy seen (y ∷ ys) same =
-    ap (λ (b : Bool). cond (not b) (Some (f y)) (find (λ z. not (seen z)) (map f ys))) (same y)
-    ∙ ap (λ (o : Option ℕ). cond (not (busy y)) (Some (f y)) o) (find-by f busy seen ys same)
+find-by : (f : ℕ → ℕ) (busy busy_by : ℕ → Bool) (ys : List ℕ) → IsSameBusy f busy busy_by
+    → find (λ y. not (busy_by y)) (map f ys) ≡ option_map f (find (λ y. not (busy y)) ys)
+find-by f busy busy_by [] same = refl
+find-by f busy busy_by (y ∷ ys) same =
+    ap (λ (b : Bool). cond (not b) (Some (f y)) (find (λ z. not (busy_by z)) (map f ys))) (same y)
+    ∙ ap (λ (o : Option ℕ). cond (not (busy y)) (Some (f y)) o) (find-by f busy busy_by ys same)
     ∙ cond-some f (not (busy y)) y (find (λ z. not (busy z)) ys)
 
-last_not_busy-by : (f : ℕ → ℕ) (busy seen : ℕ → Bool) (xs : List ℕ) → IsSameBusy f busy seen
-    → last_not_busy (map f xs) seen ≡ option_map f (last_not_busy xs busy)
-last_not_busy-by f busy seen xs same =
-    ap (λ (ys : List ℕ). find (λ y. not (seen y)) ys) (reverse-by f xs) ∙ find-by f busy seen (reverse xs) same
+last_not_busy-by : (f : ℕ → ℕ) (busy busy_by : ℕ → Bool) (xs : List ℕ) → IsSameBusy f busy busy_by
+    → last_not_busy (map f xs) busy_by ≡ option_map f (last_not_busy xs busy)
+last_not_busy-by f busy busy_by xs same =
+    ap (λ (ys : List ℕ). find (λ y. not (busy_by y)) ys) (reverse-by f xs) ∙ find-by f busy busy_by (reverse xs) same
 
 first-by : (f : ℕ → ℕ) (ys : List ℕ) → slice_get (map f ys) 0 ≡ option_map f (slice_get ys 0)
 first-by f [] = refl
@@ -150,12 +150,12 @@ cond-option : (f : ℕ → ℕ) (b : Bool) (o p : Option ℕ)
 cond-option f true o p = refl
 cond-option f false o p = refl
 
-pub victim-by : (f : ℕ → ℕ) (m : ℕ) (s : FourLists) (in_b2 : Bool) (busy seen : ℕ → Bool) → IsSameBusy f busy seen
-    → victim (lists_by f m s) in_b2 seen ≡ option_map f (victim s in_b2 busy)
-victim-by f m s in_b2 busy seen same = rw (
+pub victim-by : (f : ℕ → ℕ) (m : ℕ) (s : FourLists) (in_b2 : Bool) (busy busy_by : ℕ → Bool) → IsSameBusy f busy busy_by
+    → victim (lists_by f m s) in_b2 busy_by ≡ option_map f (victim s in_b2 busy)
+victim-by f m s in_b2 busy busy_by same = rw (
   chooses-by f m s in_b2,
-  last_not_busy-by f busy seen s.t1 same,
-  last_not_busy-by f busy seen s.t2 same,
+  last_not_busy-by f busy busy_by s.t1 same,
+  last_not_busy-by f busy busy_by s.t2 same,
   or-by f (last_not_busy s.t1 busy) (last_not_busy s.t2 busy),
   or-by f (last_not_busy s.t2 busy) (last_not_busy s.t1 busy),
 ) (
@@ -172,11 +172,11 @@ cond-answer : (f : ℕ → ℕ) (b : Bool) (p q : Answer)
 cond-answer f true p q = refl
 cond-answer f false p q = refl
 
-replacement-by : (f : ℕ → ℕ) (m : ℕ) (s : FourLists) (in_b2 : Bool) (busy seen : ℕ → Bool) → IsSameBusy f busy seen
-    → replacement (lists_by f m s) in_b2 seen ≡ answer_by f (replacement s in_b2 busy)
-replacement-by f m s in_b2 busy seen same =
-    ap (λ (n : ℕ). cond (eqb n s.c) (evict_or_all_busy (victim (lists_by f m s) in_b2 seen)) Free) (cached_count-by f m s)
-    ∙ ap (λ (o : Option ℕ). cond (eqb (cached_count s) s.c) (evict_or_all_busy o) Free) (victim-by f m s in_b2 busy seen same)
+replacement-by : (f : ℕ → ℕ) (m : ℕ) (s : FourLists) (in_b2 : Bool) (busy busy_by : ℕ → Bool) → IsSameBusy f busy busy_by
+    → replacement (lists_by f m s) in_b2 busy_by ≡ answer_by f (replacement s in_b2 busy)
+replacement-by f m s in_b2 busy busy_by same =
+    ap (λ (n : ℕ). cond (eqb n s.c) (evict_or_all_busy (victim (lists_by f m s) in_b2 busy_by)) Free) (cached_count-by f m s)
+    ∙ ap (λ (o : Option ℕ). cond (eqb (cached_count s) s.c) (evict_or_all_busy o) Free) (victim-by f m s in_b2 busy busy_by same)
     ∙ ap (λ (a : Answer). cond (eqb (cached_count s) s.c) a Free) (evict-by f (victim s in_b2 busy))
     ∙ cond-answer f (eqb (cached_count s) s.c) (evict_or_all_busy (victim s in_b2 busy)) Free
 
@@ -210,43 +210,43 @@ cond-same-at : (f : ℕ → ℕ) (m : ℕ) (b d : Bool) (p q v w : Answer × Fou
 cond-same-at f m b d p q v w e h k =
     subst (λ (a : Bool). IsSame f m (cond a p v) (cond d q w)) (sym e) (cond-same f m d p q v w h k)
 
-replace-by : (f : ℕ → ℕ) (m : ℕ) (s : FourLists) (in_b2 : Bool) (busy seen : ℕ → Bool) → IsInjective f → IsSameBusy f busy seen
-    → IsSame f m (replace (lists_by f m s) in_b2 seen) (replace s in_b2 busy)
-replace-by f m s in_b2 busy seen inj same = record {
-  answer = replacement-by f m s in_b2 busy seen same;
-  lists = ap (after_replace (lists_by f m s)) (replacement-by f m s in_b2 busy seen same)
+replace-by : (f : ℕ → ℕ) (m : ℕ) (s : FourLists) (in_b2 : Bool) (busy busy_by : ℕ → Bool) → IsInjective f → IsSameBusy f busy busy_by
+    → IsSame f m (replace (lists_by f m s) in_b2 busy_by) (replace s in_b2 busy)
+replace-by f m s in_b2 busy busy_by inj same = record {
+  answer = replacement-by f m s in_b2 busy busy_by same;
+  lists = ap (after_replace (lists_by f m s)) (replacement-by f m s in_b2 busy busy_by same)
       ∙ after_replace-by f m s (replacement s in_b2 busy) inj;
 }
 
-replace_in_t1-by : (f : ℕ → ℕ) (m : ℕ) (s : FourLists) (busy seen : ℕ → Bool) → IsInjective f → IsSameBusy f busy seen
-    → IsSame f m (replace_in_t1 (lists_by f m s) seen) (replace_in_t1 s busy)
-replace_in_t1-by f m s busy seen inj same =
-    let answer : evict_or_all_busy (last_not_busy (map f s.t1) seen) ≡ answer_by f (evict_or_all_busy (last_not_busy s.t1 busy)) =
-    ap evict_or_all_busy (last_not_busy-by f busy seen s.t1 same) ∙ evict-by f (last_not_busy s.t1 busy) in
+replace_in_t1-by : (f : ℕ → ℕ) (m : ℕ) (s : FourLists) (busy busy_by : ℕ → Bool) → IsInjective f → IsSameBusy f busy busy_by
+    → IsSame f m (replace_in_t1 (lists_by f m s) busy_by) (replace_in_t1 s busy)
+replace_in_t1-by f m s busy busy_by inj same =
+    let answer : evict_or_all_busy (last_not_busy (map f s.t1) busy_by) ≡ answer_by f (evict_or_all_busy (last_not_busy s.t1 busy)) =
+    ap evict_or_all_busy (last_not_busy-by f busy busy_by s.t1 same) ∙ evict-by f (last_not_busy s.t1 busy) in
     record {
       answer = answer;
       lists = ap (after_replace_in_t1 (lists_by f m s)) answer
           ∙ after_replace_in_t1-by f m s (evict_or_all_busy (last_not_busy s.t1 busy)) inj;
     }
 
-same_start : (f : ℕ → ℕ) (m : ℕ) (s t u : FourLists) (in_b2 : Bool) (busy seen : ℕ → Bool) → t ≡ lists_by f m u
-    → IsInjective f → IsSameBusy f busy seen → IsSame f m (replace t in_b2 seen) (replace u in_b2 busy)
-same_start f m s t u in_b2 busy seen e inj same =
-    subst (λ (w : FourLists). IsSame f m (replace w in_b2 seen) (replace u in_b2 busy)) (sym e)
-    (replace-by f m u in_b2 busy seen inj same)
+same_start : (f : ℕ → ℕ) (m : ℕ) (s t u : FourLists) (in_b2 : Bool) (busy busy_by : ℕ → Bool) → t ≡ lists_by f m u
+    → IsInjective f → IsSameBusy f busy busy_by → IsSame f m (replace t in_b2 busy_by) (replace u in_b2 busy)
+same_start f m s t u in_b2 busy busy_by e inj same =
+    subst (λ (w : FourLists). IsSame f m (replace w in_b2 busy_by) (replace u in_b2 busy)) (sym e)
+    (replace-by f m u in_b2 busy busy_by inj same)
 
-room-by : (f : ℕ → ℕ) (m : ℕ) (s : FourLists) (busy seen : ℕ → Bool) → IsInjective f → IsSameBusy f busy seen
-    → IsSame f m (room_for_new (lists_by f m s) seen) (room_for_new s busy)
-room-by f m s busy seen inj same =
+room-by : (f : ℕ → ℕ) (m : ℕ) (s : FourLists) (busy busy_by : ℕ → Bool) → IsInjective f → IsSameBusy f busy busy_by
+    → IsSame f m (room_for_new (lists_by f m s) busy_by) (room_for_new s busy)
+room-by f m s busy busy_by inj same =
     cond-same-at f m (eqb (recent_count (lists_by f m s)) s.c) (eqb (recent_count s) s.c) _ _ _ _
     (ap (λ (n : ℕ). eqb n s.c) (recent_count-by f m s))
     (cond-same-at f m (ltb (length (map f s.t1)) s.c) (ltb (length s.t1) s.c) _ _ _ _
     (ap (λ (n : ℕ). ltb n s.c) (length-map s.t1 f))
-    (same_start f m s (without_last_of_b1 (lists_by f m s)) (without_last_of_b1 s) false busy seen
+    (same_start f m s (without_last_of_b1 (lists_by f m s)) (without_last_of_b1 s) false busy busy_by
     (ap (λ (xs : List ℕ). record (lists_by f m s) { b1 = xs }) (without_last-by f s.b1)) inj same)
-    (replace_in_t1-by f m s busy seen inj same))
+    (replace_in_t1-by f m s busy busy_by inj same))
     (same_start f m s (cond (eqb (total_count (lists_by f m s)) (2 * s.c)) (without_last_of_b2 (lists_by f m s)) (lists_by f m s))
-    (cond (eqb (total_count s) (2 * s.c)) (without_last_of_b2 s) s) false busy seen
+    (cond (eqb (total_count s) (2 * s.c)) (without_last_of_b2 s) s) false busy busy_by
     (ap (λ (n : ℕ). cond (eqb n (2 * s.c)) (without_last_of_b2 (lists_by f m s)) (lists_by f m s)) (total_count-by f m s)
     ∙ ap (λ (xs : List ℕ). cond (eqb (total_count s) (2 * s.c)) (record (lists_by f m s) { b2 = xs }) (lists_by f m s))
     (without_last-by f s.b2)
@@ -266,17 +266,17 @@ put_t2-by f m x p q inj h = record {
   lists = ap (λ (t : FourLists). with_front_of_t2 t (f x)) h.lists ∙ front_of_t2-by f m q.1 x inj;
 }
 
-cases-by : (f : ℕ → ℕ) (m : ℕ) (at : Option ListName) (s : FourLists) (x : ℕ) (busy seen : ℕ → Bool) → IsInjective f
-    → IsSameBusy f busy seen → IsSame f m (cases at (lists_by f m s) (f x) seen) (cases at s x busy)
-cases-by f m (Some T1) s x busy seen inj same = record { answer = refl; lists = front_of_t2-by f m s x inj }
-cases-by f m (Some T2) s x busy seen inj same = record { answer = refl; lists = front_of_t2-by f m s x inj }
-cases-by f m (Some B1) s x busy seen inj same = put_t2-by f m x _ _ inj
-    (same_start f m s _ (record s { target = raised_target s }) false busy seen
+cases-by : (f : ℕ → ℕ) (m : ℕ) (at : Option ListName) (s : FourLists) (x : ℕ) (busy busy_by : ℕ → Bool) → IsInjective f
+    → IsSameBusy f busy busy_by → IsSame f m (cases at (lists_by f m s) (f x) busy_by) (cases at s x busy)
+cases-by f m (Some T1) s x busy busy_by inj same = record { answer = refl; lists = front_of_t2-by f m s x inj }
+cases-by f m (Some T2) s x busy busy_by inj same = record { answer = refl; lists = front_of_t2-by f m s x inj }
+cases-by f m (Some B1) s x busy busy_by inj same = put_t2-by f m x _ _ inj
+    (same_start f m s _ (record s { target = raised_target s }) false busy busy_by
     (ap (λ (n : ℕ). record (lists_by f m s) { target = n }) (raised-by f m s)) inj same)
-cases-by f m (Some B2) s x busy seen inj same = put_t2-by f m x _ _ inj
-    (same_start f m s _ (record s { target = lowered_target s }) true busy seen
+cases-by f m (Some B2) s x busy busy_by inj same = put_t2-by f m x _ _ inj
+    (same_start f m s _ (record s { target = lowered_target s }) true busy busy_by
     (ap (λ (n : ℕ). record (lists_by f m s) { target = n }) (lowered-by f m s)) inj same)
-cases-by f m None s x busy seen inj same = put_t1-by f m x _ _ (room-by f m s busy seen inj same)
+cases-by f m None s x busy busy_by inj same = put_t1-by f m x _ _ (room-by f m s busy busy_by inj same)
 
 all_busy-by : (f : ℕ → ℕ) (a : Answer) → is_all_busy (answer_by f a) ≡ is_all_busy a
 all_busy-by f Hit = refl
@@ -294,22 +294,22 @@ unchanged-by f m s p q h = record {
       ∙ cond-lists f m (is_all_busy q.0) s q.1;
 }
 
-request-same : (f : ℕ → ℕ) (m : ℕ) (s : FourLists) (x : ℕ) (busy seen : ℕ → Bool) → IsInjective f → IsSameBusy f busy seen
-    → IsSame f m (request (lists_by f m s) (f x) seen) (request s x busy)
-request-same f m s x busy seen inj same =
+request-same : (f : ℕ → ℕ) (m : ℕ) (s : FourLists) (x : ℕ) (busy busy_by : ℕ → Bool) → IsInjective f → IsSameBusy f busy busy_by
+    → IsSame f m (request (lists_by f m s) (f x) busy_by) (request s x busy)
+request-same f m s x busy busy_by inj same =
     subst (λ (at : Option ListName). IsSame f m
-    (unchanged_if_all_busy (lists_by f m s) (cases at (lists_by f m s) (f x) seen)) (request s x busy))
+    (unchanged_if_all_busy (lists_by f m s) (cases at (lists_by f m s) (f x) busy_by)) (request s x busy))
     (sym (place-by f m s x inj))
-    (unchanged-by f m s (cases (place s x) (lists_by f m s) (f x) seen) (cases (place s x) s x busy)
-    (cases-by f m (place s x) s x busy seen inj same))
+    (unchanged-by f m s (cases (place s x) (lists_by f m s) (f x) busy_by) (cases (place s x) s x busy)
+    (cases-by f m (place s x) s x busy busy_by inj same))
 
-pub answer-by : (f : ℕ → ℕ) (m : ℕ) (s : FourLists) (x : ℕ) (busy seen : ℕ → Bool) → IsInjective f → IsSameBusy f busy seen
-    → (request (lists_by f m s) (f x) seen).0 ≡ answer_by f (request s x busy).0
-answer-by f m s x busy seen inj same = (request-same f m s x busy seen inj same).answer
+pub answer-by : (f : ℕ → ℕ) (m : ℕ) (s : FourLists) (x : ℕ) (busy busy_by : ℕ → Bool) → IsInjective f → IsSameBusy f busy busy_by
+    → (request (lists_by f m s) (f x) busy_by).0 ≡ answer_by f (request s x busy).0
+answer-by f m s x busy busy_by inj same = (request-same f m s x busy busy_by inj same).answer
 
-pub request-by : (f : ℕ → ℕ) (m : ℕ) (s : FourLists) (x : ℕ) (busy seen : ℕ → Bool) → IsInjective f → IsSameBusy f busy seen
-    → (request (lists_by f m s) (f x) seen).1 ≡ lists_by f m (request s x busy).1
-request-by f m s x busy seen inj same = (request-same f m s x busy seen inj same).lists
+pub request-by : (f : ℕ → ℕ) (m : ℕ) (s : FourLists) (x : ℕ) (busy busy_by : ℕ → Bool) → IsInjective f → IsSameBusy f busy busy_by
+    → (request (lists_by f m s) (f x) busy_by).1 ≡ lists_by f m (request s x busy).1
+request-by f m s x busy busy_by inj same = (request-same f m s x busy busy_by inj same).lists
 
 -- ---- beside the figure
 

@@ -8,9 +8,9 @@ use Rattle.std.proofs.lemmas.List.{get_or_past}
 use Rattle.std.proofs.lemmas.List.Sums.{sum_by-cons, sum_by-set}
 use Rattle.pp_cache.specs.Cache.{PageCache, IsSound}
 use Rattle.pp_names.specs.Names.{key_of, IsUnnamed, named_count}
-use Rattle.pp_keyed.specs.Keyed.{key_count, seen, stands, IsKeyed, IsSpare, IsGiven, IsSwept, unused_taken}
+use Rattle.pp_keyed.specs.Keyed.{key_count, by_keys, stands, IsKeyed, IsSpare, IsGiven, IsSwept, unused_taken}
 use Rattle.pp_keyed.proofs.PlacedLemmas.{IsApart}
-use Rattle.pp_keyed.proofs.SeenLemmas.{IsNamed, named_of, some_is, seen_agree, bool_cases}
+use Rattle.pp_keyed.proofs.ByKeysLemmas.{IsNamed, named_of, some_is, by_keys_agree, bool_cases}
 
 -- Some names that stand nowhere have lost their keys.
 pub record IsTaken (old new : List (Option ℕ)) (c : PageCache) : Type 0 where
@@ -91,8 +91,8 @@ taken-named old new c h t = record {
   named = λ x s. ap is_some (t.kept x s) ∙ h.named x s;
 }
 
-pub taken-seen : (old new : List (Option ℕ)) (c : PageCache) → IsNamed old c → IsTaken old new c → seen new c ≡ seen old c
-taken-seen old new c h t = seen_agree new old c (apart_fewer old new c h.apart t) h.apart t.kept
+pub taken-by_keys : (old new : List (Option ℕ)) (c : PageCache) → IsNamed old c → IsTaken old new c → by_keys new c ≡ by_keys old c
+taken-by_keys old new c h t = by_keys_agree new old c (apart_fewer old new c h.apart t) h.apart t.kept
 
 -- the names are as they should be where those that stand nowhere have no keys
 pub keyed-end : (names : List (Option ℕ)) (c : PageCache) → IsNamed names c → IsSound c → length c.table.pages ≤ 4294967292
@@ -177,7 +177,7 @@ apart_given names x key a lt none = record {
 -- What is known once a key has a name: the cache is as before, though the name may stand nowhere yet.
 pub record IsReady (old new : List (Option ℕ)) (c : PageCache) (key x : ℕ) : Type 0 where
   pub named : IsNamed new c
-  pub same : seen new c ≡ seen old c
+  pub same : by_keys new c ≡ by_keys old c
   pub size : length new ≡ length old
   pub others : (y : ℕ) → y ≢ x → key_of new y ≡ key_of old y
 
@@ -191,7 +191,7 @@ ready old new c key x k lt g = go g.way
     go : (new ≡ old) ⊎ ((key_of old x ≡ None) × IsUnnamed old key × (new ≡ set old x (Some key))) → IsReady old new c key x
     go (inl e) = record {
       named = subst (λ (w : List (Option ℕ)). IsNamed w c) (sym e) h;
-      same = ap (λ (w : List (Option ℕ)). seen w c) e;
+      same = ap (λ (w : List (Option ℕ)). by_keys w c) e;
       size = ap length e;
       others = λ y ne. ap (λ (w : List (Option ℕ)). key_of w y) e;
     }
@@ -206,7 +206,7 @@ ready old new c key x k lt g = go g.way
             room = omega (arith, h.room, length-set old x (Some key));
             named = λ y s. ap is_some (agree y s) ∙ h.named y s;
           });
-          same = ap (λ (v : List (Option ℕ)). seen v c) w.2 ∙ seen_agree (set old x (Some key)) old c a h.apart agree;
+          same = ap (λ (v : List (Option ℕ)). by_keys v c) w.2 ∙ by_keys_agree (set old x (Some key)) old c a h.apart agree;
           size = ap length w.2 ∙ length-set old x (Some key);
           others = λ y ne. ap (λ (v : List (Option ℕ)). key_of v y) w.2 ∙ key-set old x y (Some key) ne;
         }

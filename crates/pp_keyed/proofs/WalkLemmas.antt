@@ -12,17 +12,17 @@ use Rattle.pp_cache.specs.Cache.{PageCache, IsSound, KeepsOnly, lists_where, dro
 use Rattle.pp_cache.proofs.CacheLemmas.{contains-first, keeps_all, keeps_fewer, page_gone}
 use Rattle.pp_names.specs.Names.{key_of, named_count}
 use Rattle.pp_names.proofs.TableLemmas.{low_if_some}
-use Rattle.pp_keyed.specs.Keyed.{key_count, seen, stands, IsKeyed, unused_taken, is_from, lower_key}
-use Rattle.pp_keyed.proofs.SeenLemmas.{IsNamed, named_of, key-named, page-key, some-from, some_is, bool_cases}
-use Rattle.pp_keyed.proofs.SeenLemmas.{stands-place, stands-page, Placed, placed-of, in-t1, in-t2, in-b1, in-b2}
+use Rattle.pp_keyed.specs.Keyed.{key_count, by_keys, stands, IsKeyed, unused_taken, is_from, lower_key}
+use Rattle.pp_keyed.proofs.ByKeysLemmas.{IsNamed, named_of, key-named, page-key, some-from, some_is, bool_cases}
+use Rattle.pp_keyed.proofs.ByKeysLemmas.{stands-place, stands-page, Placed, placed-of, in-t1, in-t2, in-b1, in-b2}
 use Rattle.pp_keyed.proofs.TakenLemmas.{count-taken, gone-unused}
-use Rattle.pp_keyed.proofs.CallLemmas.{OnlyOne, IsAfter, after-one, one-dropped, dropped-seen, same_bool}
+use Rattle.pp_keyed.proofs.CallLemmas.{OnlyOne, IsAfter, after-one, one-dropped, dropped-by_keys, same_bool}
 use Rattle.pp_keyed.proofs.RekeyLemmas.{gone-forget}
 use Rattle.pp_keyed.proofs.ManyLemmas.{no_page}
 
 -- ---- keys from a limit on are dropped
 
--- How far the walk has come: the cache that was seen at the start lost some pages whose keys aren't below the limit, and
+-- How far the walk has come: the cache of keys at the start lost some pages whose keys aren't below the limit, and
 -- the names that were passed have keys below it, if any.
 pub record IsTruncated (old : PageCache) (room used : ℕ) (limit i : ℕ) (names : List (Option ℕ)) (c : PageCache) : Type 0 where
   pub keyed : IsKeyed names c
@@ -30,18 +30,18 @@ pub record IsTruncated (old : PageCache) (room used : ℕ) (limit i : ℕ) (name
   pub fewer : named_count names ≤ used
   pub test : ℕ → Bool
   pub low : (key : ℕ) → ltb key limit ≡ true → test key ≡ true
-  pub keeps : KeepsOnly test old (seen names c)
+  pub keeps : KeepsOnly test old (by_keys names c)
   pub passed : (name key : ℕ) → name < i → key_of names name ≡ Some key → ltb key limit ≡ true
 
 pub truncated-start : (names : List (Option ℕ)) (c : PageCache) (limit : ℕ) → IsKeyed names c
-    → IsTruncated (seen names c) (length names) (named_count names) limit 0 names c
+    → IsTruncated (by_keys names c) (length names) (named_count names) limit 0 names c
 truncated-start names c limit k = record {
   keyed = k;
   size = refl;
   fewer = omega arith;
   test = λ key. true;
   low = λ key h. refl;
-  keeps = keeps_all (λ key. true) (seen names c) (λ key. refl);
+  keeps = keeps_all (λ key. true) (by_keys names c) (λ key. refl);
   passed = λ name key lt e. absurd (omega arith);
 }
 
@@ -90,9 +90,9 @@ truncated-dropped old room used limit i names c d t from e s = go (key_of names 
       test = λ key. t.test key && not (eqb key k);
       low = λ key lt. ap (λ (b : Bool). b && not (eqb key k)) (t.low key lt)
           ∙ ap not (ne_eqb key k (λ same. let n : true ≡ false = sym lt ∙ ap (λ (x : ℕ). ltb x limit) same ∙ above in cc));
-      keeps = keeps_fewer t.test (λ key. t.test key && not (eqb key k)) old (seen names c)
-          (seen (unused_taken names d (Some i)) d) k t.keeps
-          (a.same ∙ ap (seen names) e ∙ dropped-seen names c i h ∙ ap (dropped (seen names c)) (key-named names i k f))
+      keeps = keeps_fewer t.test (λ key. t.test key && not (eqb key k)) old (by_keys names c)
+          (by_keys (unused_taken names d (Some i)) d) k t.keeps
+          (a.same ∙ ap (by_keys names) e ∙ dropped-by_keys names c i h ∙ ap (dropped (by_keys names c)) (key-named names i k f))
           (λ key. refl);
       passed = λ name key lt g. elim (cases_eq name i) [
         | inl same ↦ let n : None ≡ Some key = sym gone ∙ ap (key_of (unused_taken names d (Some i))) (sym same) ∙ g in absurd (cc)
@@ -135,7 +135,7 @@ filter_same p q (x ∷ xs) same =
 
 -- once all names were passed, the pages and names below the limit are left
 pub truncated-end : (old : PageCache) (room used limit i : ℕ) (names : List (Option ℕ)) (c : PageCache)
-    → IsTruncated old room used limit i names c → length names ≤ i → KeepsOnly (λ key. ltb key limit) old (seen names c)
+    → IsTruncated old room used limit i names c → length names ≤ i → KeepsOnly (λ key. ltb key limit) old (by_keys names c)
 truncated-end old room used limit i names c t all = record {
   lists = t.keeps.lists ∙ rw (
     filter_same t.test (λ key. ltb key limit) old.lists.t1 (λ y h. agree y (λ k. in-t1 (lists_where t.test old.lists) y
@@ -159,7 +159,7 @@ truncated-end old room used limit i names c t all = record {
         let lt : name < length names = low_if_some names name (ap is_some e) in
         t.passed name key (omega (arith, lt, all)) e
 
-    placed_low : (y : ℕ) → is_some (place (seen names c).lists y) ≡ true → ltb y limit ≡ true
+    placed_low : (y : ℕ) → is_some (place (by_keys names c).lists y) ≡ true → ltb y limit ≡ true
     placed_low y h =
         let w : Placed names c.lists y = placed-of names c.lists key_count y h in
         let k : (k : ℕ) × (key_of names w.name ≡ Some k) =
@@ -170,9 +170,9 @@ truncated-end old room used limit i names c t all = record {
     agree y here = same_bool (t.test y) (ltb y limit)
         (λ h. placed_low y (ap (λ (l : FourLists). is_some (place l y)) t.keeps.lists ∙ here h)) (t.low y)
 
-    gone : (key : ℕ) → ltb key limit ≡ false → page_of (seen names c).table key ≡ None
-    gone key ge = elim (bool_cases (is_some (page_of (seen names c).table key))) [
-      | inr none ↦ no_page (page_of (seen names c).table key) none
+    gone : (key : ℕ) → ltb key limit ≡ false → page_of (by_keys names c).table key ≡ None
+    gone key ge = elim (bool_cases (is_some (page_of (by_keys names c).table key))) [
+      | inr none ↦ no_page (page_of (by_keys names c).table key) none
       | inl some ↦ let w : (name : ℕ) × (key_of names name ≡ Some key) = some-from names c key some in
           let n : true ≡ false = sym (named_low w.0 key w.1) ∙ ge in absurd (cc)
     ]
@@ -181,7 +181,7 @@ truncated-end old room used limit i names c t all = record {
 
 -- What was found among the names that were passed.
 pub record IsLowest (names : List (Option ℕ)) (c : PageCache) (from i : ℕ) (first : Option ℕ) : Type 0 where
-  pub found : (key : ℕ) → first ≡ Some key → (from ≤ key) × (is_some (page_of (seen names c).table key) ≡ true)
+  pub found : (key : ℕ) → first ≡ Some key → (from ≤ key) × (is_some (page_of (by_keys names c).table key) ≡ true)
   pub least : (name key : ℕ) → name < i → key_of names name ≡ Some key → is_some (page_of c.table name) ≡ true → from ≤ key
       → (l : ℕ) × (first ≡ Some l) × (l ≤ key)
 
@@ -254,7 +254,7 @@ lowest-next names c from i first k w some = go (key_of names i) refl
     go (Some j) e = record {
       found = λ key f. elim (lw.either key f) [
         | inl s ↦ w.found key s
-        | inr s ↦ (omega (arith, s.0, s.1), ap is_some (ap (page_of (seen names c).table) s.0 ∙ page-key names c i j h e) ∙ some)
+        | inr s ↦ (omega (arith, s.0, s.1), ap is_some (ap (page_of (by_keys names c).table) s.0 ∙ page-key names c i j h e) ∙ some)
       ];
       least = λ name key lt f there le. elim (cases_eq name i) [
         | inl same ↦ let s : j ≡ key = same_some j key (sym e ∙ ap (key_of names) (sym same) ∙ f) in
@@ -275,9 +275,9 @@ lowest-next names c from i first k w some = go (key_of names i) refl
 
 pub lowest-end : (names : List (Option ℕ)) (c : PageCache) (from i : ℕ) (first : Option ℕ) (key : ℕ) → IsKeyed names c
     → IsLowest names c from i first → length names ≤ i → from ≤ key → IfSome first (λ l. key < l)
-    → page_of (seen names c).table key ≡ None
-lowest-end names c from i first key k w all le below = elim (bool_cases (is_some (page_of (seen names c).table key))) [
-  | inr none ↦ no_page (page_of (seen names c).table key) none
+    → page_of (by_keys names c).table key ≡ None
+lowest-end names c from i first key k w all le below = elim (bool_cases (is_some (page_of (by_keys names c).table key))) [
+  | inr none ↦ no_page (page_of (by_keys names c).table key) none
   | inl some ↦
       let n : (name : ℕ) × (key_of names name ≡ Some key) = some-from names c key some in
       let lt : n.0 < length names = low_if_some names n.0 (ap is_some n.1) in

@@ -33,8 +33,8 @@ placed keys (None ∷ names) (page ∷ pages) = placed keys names pages
 placed keys _ _ = replicate keys None
 
 -- The cache in which each name gives way to its key.
-abbrev pub seen : List (Option ℕ) → PageCache → PageCache
-seen names c =
+abbrev pub by_keys : List (Option ℕ) → PageCache → PageCache
+by_keys names c =
     record {
       lists = lists_by (key_or_past names) key_count c.lists;
       table = record { frames = c.table.frames; pages = placed key_count names c.table.pages };
@@ -49,7 +49,7 @@ pub record Keyed : Type 0 where
 
 -- What names and a cache of names stand for.
 abbrev pub keyed : List (Option ℕ) → PageCache → Keyed
-keyed names c = record { cache = seen names c; room = length names; used = named_count names }
+keyed names c = record { cache = by_keys names c; room = length names; used = named_count names }
 
 -- Nothing is cached.
 abbrev pub empty_keyed : ℕ → PageCache

@@ -1,4 +1,4 @@
--- Lists of names, seen as lists of what the names stand for.
+-- Lists of names, as lists of what the names stand for.
 use Rattle.std.specs.Prelude.{◌≡◌, ℕ, Bool, map}
 use Rattle.pp_arc.specs.declared.answer.Answer.{Answer}
 use Rattle.pp_arc.specs.declared.answer.Answer.TheVariants.{Hit, Free, Evict, AllBusy}
@@ -22,4 +22,4 @@ answer_by f AllBusy = AllBusy
 
 -- what a name stands for is busy where the name is
 abbrev pub IsSameBusy : (ℕ → ℕ) → (ℕ → Bool) → (ℕ → Bool) → Type 0
-IsSameBusy f busy seen = (x : ℕ) → seen (f x) ≡ busy x
+IsSameBusy f busy busy_by = (x : ℕ) → busy_by (f x) ≡ busy x

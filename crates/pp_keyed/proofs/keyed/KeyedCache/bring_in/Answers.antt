@@ -4,10 +4,10 @@ use Rattle.std.proofs.Common.{◌<◌, List, arith}
 use Rattle.std.specs.Prelude.{Option, None}
 use Rattle.pp_cache.specs.Frames.{page_of, resident_count, IsFree}
 use Rattle.pp_cache.specs.Cache.{PageCache, PinnedStay, asked, after_bring_in, without_victim, left_of}
-use Rattle.pp_keyed.specs.Keyed.{Keyed, seen, IsKeyed, unused_taken, key_of_left}
-use Rattle.pp_keyed.proofs.SeenLemmas.{named_of, page-key, resident-seen}
+use Rattle.pp_keyed.specs.Keyed.{Keyed, by_keys, IsKeyed, unused_taken, key_of_left}
+use Rattle.pp_keyed.proofs.ByKeysLemmas.{named_of, page-key, resident-by_keys}
 use Rattle.pp_keyed.proofs.TakenLemmas.{IsReady, ready, count-taken, count-given}
-use Rattle.pp_keyed.proofs.BringLemmas.{IsBrought, brought, left-seen, free-seen, stay-brought}
+use Rattle.pp_keyed.proofs.BringLemmas.{IsBrought, brought, left-by_keys, free-by_keys, stay-brought}
 use Rattle.pp_keyed.proofs.AnswerLemmas.{keyed-sound, low-key}
 use Rattle.pp_keyed.proofs.keyed.KeyedCache.bring_in.Goals as goal
 
@@ -17,20 +17,20 @@ bring_in-frame-requires-clause-absent c =
     let r : IsReady c.self.inside.names c.give-name.new.names c.self.inside.cache c.args.key c.give-name.result =
     ready c.self.inside.names c.give-name.new.names c.self.inside.cache c.args.key c.give-name.result k
     (low-key c.args.key c.requires.key) c.give-name.ensures.given in
-    let e : seen c.self.inside.names c.self.inside.cache ≡ c.args.self.now.cache = ap (λ (v : Keyed). v.cache) c.self.view_is in
-    let absent : page_of (seen c.self.inside.names c.self.inside.cache).table c.args.key ≡ None =
+    let e : by_keys c.self.inside.names c.self.inside.cache ≡ c.args.self.now.cache = ap (λ (v : Keyed). v.cache) c.self.view_is in
+    let absent : page_of (by_keys c.self.inside.names c.self.inside.cache).table c.args.key ≡ None =
     subst (λ (v : Keyed). page_of v.cache.table c.args.key ≡ None) (sym c.self.view_is) c.requires.absent in
     sym (page-key c.give-name.new.names c.self.inside.cache c.give-name.result c.args.key r.named c.give-name.ensures.given.named)
     ∙ ap (λ (s : PageCache). page_of s.table c.args.key) r.same ∙ absent
 
 pub bring_in-frame-requires-clause-room : goal.bring_in-frame-requires-clause-room
 bring_in-frame-requires-clause-room c =
-    let less : resident_count (seen c.self.inside.names c.self.inside.cache).table < c.self.inside.cache.table.frames =
+    let less : resident_count (by_keys c.self.inside.names c.self.inside.cache).table < c.self.inside.cache.table.frames =
     subst (λ (v : Keyed). resident_count v.cache.table < v.cache.table.frames) (sym c.self.view_is) c.requires.frame in
     omega (
       arith,
       less,
-      resident-seen c.self.inside.names c.self.inside.cache
+      resident-by_keys c.self.inside.names c.self.inside.cache
           (named_of c.self.inside.names c.self.inside.cache c.self.invariant),
     )
 
@@ -82,7 +82,7 @@ returns-clause-free c =
     (low-key c.args.key c.requires.key) c.give-name.ensures.given in
     subst (λ (s : PageCache). IsFree (without_victim s.table (asked s c.args.key).0) c.bring_in-frame.result.0)
     (r.same ∙ ap (λ (v : Keyed). v.cache) c.self.view_is)
-    (free-seen c.give-name.new.names c.self.inside.cache c.give-name.result c.args.key c.bring_in-frame.result.0 r.named
+    (free-by_keys c.give-name.new.names c.self.inside.cache c.give-name.result c.args.key c.bring_in-frame.result.0 r.named
     c.give-name.ensures.given.named c.bring_in-frame.ensures.free)
 
 pub returns-clause-left : goal.returns-clause-left
@@ -93,7 +93,7 @@ returns-clause-left c =
     (low-key c.args.key c.requires.key) c.give-name.ensures.given in
     c.left_by_key-left_by_key.ensures.value
     ∙ ap (key_of_left c.give-name.new.names) c.bring_in-frame.ensures.left
-    ∙ left-seen c.give-name.new.names c.self.inside.cache c.give-name.result c.args.key k.sound r.named
+    ∙ left-by_keys c.give-name.new.names c.self.inside.cache c.give-name.result c.args.key k.sound r.named
     c.give-name.ensures.given.named
     ∙ ap (λ (s : PageCache). left_of s.table (asked s c.args.key).0) (r.same ∙ ap (λ (v : Keyed). v.cache) c.self.view_is)
 
@@ -115,7 +115,7 @@ returns-clause-pinned_stay c =
     c.bring_in-frame.result.0 c.dropped_key-dropped.result c.bring_in-frame.result.1 k r c.give-name.ensures.given.named
     (omega (arith, c.give-name.ensures.given.low, k.room)) c.bring_in-frame.ensures.sound c.bring_in-frame.ensures.exact
     c.dropped_key-dropped.ensures.value c.bring_in-frame.ensures.left) in
-    subst (λ (v : Keyed). PinnedStay v.cache.table (seen c.take_unused-2.new.names c.bring_in-frame.new.self).table) c.self.view_is
+    subst (λ (v : Keyed). PinnedStay v.cache.table (by_keys c.take_unused-2.new.names c.bring_in-frame.new.self).table) c.self.view_is
     (stay-brought c.self.inside.names c.give-name.new.names c.take_unused-2.new.names c.self.inside.cache
     c.bring_in-frame.new.self r.named w.keyed w.taken r.same c.bring_in-frame.ensures.pinned_stay)
 

@@ -5,10 +5,10 @@ use Rattle.std.specs.Prelude.{Option, Some}
 use Rattle.pp_cache.specs.Frames.{page_of}
 use Rattle.pp_cache.specs.Cache.{PageCache, IsSound, dropped}
 use Rattle.pp_names.specs.Names.{key_of, named_count}
-use Rattle.pp_keyed.specs.Keyed.{Keyed, seen, IsKeyed, unused_taken}
-use Rattle.pp_keyed.proofs.SeenLemmas.{named_of, key-named}
+use Rattle.pp_keyed.specs.Keyed.{Keyed, by_keys, IsKeyed, unused_taken}
+use Rattle.pp_keyed.proofs.ByKeysLemmas.{named_of, key-named}
 use Rattle.pp_keyed.proofs.TakenLemmas.{count-taken}
-use Rattle.pp_keyed.proofs.CallLemmas.{OnlyOne, IsAfter, after-one, one-dropped, dropped-seen}
+use Rattle.pp_keyed.proofs.CallLemmas.{OnlyOne, IsAfter, after-one, one-dropped, dropped-by_keys}
 use Rattle.pp_keyed.proofs.AnswerLemmas.{keyed-sound, dropped-none, others-dropped}
 use Rattle.pp_keyed.proofs.keyed.KeyedCache.drop_page.Goals as goal
 
@@ -28,13 +28,13 @@ returns-in-Some-clause-exact c =
     after-one c.self.inside.names c.self.inside.cache c.drop_page.new.self c.in-Some.name c.args.key c.self.invariant c.drop_page.ensures.sound
     named (subst (λ (s : PageCache). OnlyOne c.self.inside.cache s c.in-Some.name) (sym c.drop_page.ensures.exact)
     (one-dropped c.self.inside.cache c.in-Some.name)) in
-    let e : seen c.self.inside.names c.self.inside.cache ≡ c.args.self.now.cache = ap (λ (v : Keyed). v.cache) c.self.view_is in
-    let exact : seen c.take_unused.new.names c.drop_page.new.self ≡ dropped c.args.self.now.cache c.args.key =
-    ap (λ (v : List (Option ℕ)). seen v c.drop_page.new.self) c.take_unused.ensures.exact ∙ w.same
-    ∙ ap (seen c.self.inside.names) c.drop_page.ensures.exact
-    ∙ dropped-seen c.self.inside.names c.self.inside.cache c.in-Some.name
+    let e : by_keys c.self.inside.names c.self.inside.cache ≡ c.args.self.now.cache = ap (λ (v : Keyed). v.cache) c.self.view_is in
+    let exact : by_keys c.take_unused.new.names c.drop_page.new.self ≡ dropped c.args.self.now.cache c.args.key =
+    ap (λ (v : List (Option ℕ)). by_keys v c.drop_page.new.self) c.take_unused.ensures.exact ∙ w.same
+    ∙ ap (by_keys c.self.inside.names) c.drop_page.ensures.exact
+    ∙ dropped-by_keys c.self.inside.names c.self.inside.cache c.in-Some.name
     (named_of c.self.inside.names c.self.inside.cache c.self.invariant)
-    ∙ ap (dropped (seen c.self.inside.names c.self.inside.cache)) (key-named c.self.inside.names c.in-Some.name c.args.key named)
+    ∙ ap (dropped (by_keys c.self.inside.names c.self.inside.cache)) (key-named c.self.inside.names c.in-Some.name c.args.key named)
     ∙ ap (λ (s : PageCache). dropped s c.args.key) e in
     exact
 
@@ -45,13 +45,13 @@ returns-in-Some-clause-others_stay c = λ other ne.
     after-one c.self.inside.names c.self.inside.cache c.drop_page.new.self c.in-Some.name c.args.key c.self.invariant c.drop_page.ensures.sound
     named (subst (λ (s : PageCache). OnlyOne c.self.inside.cache s c.in-Some.name) (sym c.drop_page.ensures.exact)
     (one-dropped c.self.inside.cache c.in-Some.name)) in
-    let e : seen c.self.inside.names c.self.inside.cache ≡ c.args.self.now.cache = ap (λ (v : Keyed). v.cache) c.self.view_is in
-    let exact : seen c.take_unused.new.names c.drop_page.new.self ≡ dropped c.args.self.now.cache c.args.key =
-    ap (λ (v : List (Option ℕ)). seen v c.drop_page.new.self) c.take_unused.ensures.exact ∙ w.same
-    ∙ ap (seen c.self.inside.names) c.drop_page.ensures.exact
-    ∙ dropped-seen c.self.inside.names c.self.inside.cache c.in-Some.name
+    let e : by_keys c.self.inside.names c.self.inside.cache ≡ c.args.self.now.cache = ap (λ (v : Keyed). v.cache) c.self.view_is in
+    let exact : by_keys c.take_unused.new.names c.drop_page.new.self ≡ dropped c.args.self.now.cache c.args.key =
+    ap (λ (v : List (Option ℕ)). by_keys v c.drop_page.new.self) c.take_unused.ensures.exact ∙ w.same
+    ∙ ap (by_keys c.self.inside.names) c.drop_page.ensures.exact
+    ∙ dropped-by_keys c.self.inside.names c.self.inside.cache c.in-Some.name
     (named_of c.self.inside.names c.self.inside.cache c.self.invariant)
-    ∙ ap (dropped (seen c.self.inside.names c.self.inside.cache)) (key-named c.self.inside.names c.in-Some.name c.args.key named)
+    ∙ ap (dropped (by_keys c.self.inside.names c.self.inside.cache)) (key-named c.self.inside.names c.in-Some.name c.args.key named)
     ∙ ap (λ (s : PageCache). dropped s c.args.key) e in
     ap (λ (s : PageCache). page_of s.table other) exact ∙ others-dropped c.args.self.now.cache c.args.key other ne
 
@@ -86,7 +86,7 @@ returns-in-Some-clause-sound c =
     after-one c.self.inside.names c.self.inside.cache c.drop_page.new.self c.in-Some.name c.args.key c.self.invariant c.drop_page.ensures.sound
     named (subst (λ (s : PageCache). OnlyOne c.self.inside.cache s c.in-Some.name) (sym c.drop_page.ensures.exact)
     (one-dropped c.self.inside.cache c.in-Some.name)) in
-    subst (λ (v : List (Option ℕ)). IsSound (seen v c.drop_page.new.self)) (sym c.take_unused.ensures.exact)
+    subst (λ (v : List (Option ℕ)). IsSound (by_keys v c.drop_page.new.self)) (sym c.take_unused.ensures.exact)
     (keyed-sound _ c.drop_page.new.self w.keyed)
 
 pub returns-in_default-clause-exact : goal.returns-in_default-clause-exact

@@ -4,14 +4,14 @@ use Rattle.std.proofs.Common.{cond}
 use Rattle.std.specs.Prelude.{is_some}
 use Rattle.pp_cache.specs.Frames.{frame_of}
 use Rattle.pp_cache.specs.Cache.{PageCache, IsSound, PinnedStay, after_pin}
-use Rattle.pp_keyed.specs.Keyed.{Keyed, seen, keyed}
-use Rattle.pp_keyed.proofs.SeenLemmas.{named_of}
+use Rattle.pp_keyed.specs.Keyed.{Keyed, by_keys, keyed}
+use Rattle.pp_keyed.proofs.ByKeysLemmas.{named_of}
 use Rattle.pp_keyed.proofs.AnswerLemmas.{frame-none, frame-some, keyed-sound, IsPinned, pinned-key}
 use Rattle.pp_keyed.proofs.keyed.KeyedCache.pin.Goals as goal
 
 pub returns-in_err-name-clause-value : goal.returns-in_err-name-clause-value
 returns-in_err-name-clause-value c =
-    let e : seen c.self.inside.names c.self.inside.cache ≡ c.args.self.now.cache = ap (λ (w : Keyed). w.cache) c.self.view_is in
+    let e : by_keys c.self.inside.names c.self.inside.cache ≡ c.args.self.now.cache = ap (λ (w : Keyed). w.cache) c.self.view_is in
     c.from_residual.ensures
     ∙ sym (frame-none c.self.inside.names c.self.inside.cache c.args.key (c.in_err-name.ensures.none refl))
     ∙ ap (λ (s : PageCache). frame_of s.table c.args.key) e
@@ -30,7 +30,7 @@ invariant_of-self c =
 
 pub returns-clause-value : goal.returns-clause-value
 returns-clause-value c =
-    let e : seen c.self.inside.names c.self.inside.cache ≡ c.args.self.now.cache = ap (λ (w : Keyed). w.cache) c.self.view_is in
+    let e : by_keys c.self.inside.names c.self.inside.cache ≡ c.args.self.now.cache = ap (λ (w : Keyed). w.cache) c.self.view_is in
     c.pin.ensures.value
     ∙ sym (frame-some c.self.inside.names c.self.inside.cache c.in_ok-name.name c.args.key
     (named_of c.self.inside.names c.self.inside.cache c.self.invariant)
@@ -52,7 +52,7 @@ returns-clause-pinned_stay c =
     pinned-key c.self.inside.names c.self.inside.cache c.pin.new.self c.in_ok-name.name c.args.key c.pin.result c.self.invariant
     c.pin.ensures.sound ((c.in_ok-name.ensures.exact c.in_ok-name.name).0 refl) c.pin.ensures.value c.pin.ensures.exact
     c.pin.ensures.pinned_stay in
-    subst (λ (v : Keyed). PinnedStay v.cache.table (seen c.self.inside.names c.pin.new.self).table) c.self.view_is w.stay
+    subst (λ (v : Keyed). PinnedStay v.cache.table (by_keys c.self.inside.names c.pin.new.self).table) c.self.view_is w.stay
 
 pub returns-clause-sound : goal.returns-clause-sound
 returns-clause-sound c =

@@ -3,9 +3,9 @@ use Rattle.std.proofs.Common.{◌≡◌, ap, sym, subst, ◌∙◌}
 use Rattle.std.proofs.Common.{◌<◌, arith}
 use Rattle.pp_cache.specs.Frames.{resident_count}
 use Rattle.pp_cache.specs.Cache.{PageCache}
-use Rattle.pp_keyed.specs.Keyed.{Keyed, seen, keyed, IsKeyed, with_frame}
-use Rattle.pp_keyed.proofs.SeenLemmas.{named_of, resident-seen}
-use Rattle.pp_keyed.proofs.AnswerLemmas.{keyed-sound, frame-seen, reserved-keyed}
+use Rattle.pp_keyed.specs.Keyed.{Keyed, by_keys, keyed, IsKeyed, with_frame}
+use Rattle.pp_keyed.proofs.ByKeysLemmas.{named_of, resident-by_keys}
+use Rattle.pp_keyed.proofs.AnswerLemmas.{keyed-sound, frame-by_keys, reserved-keyed}
 use Rattle.pp_keyed.proofs.keyed.KeyedCache.reserve_frame.Goals as goal
 
 pub returns-clause-reserved : goal.returns-clause-reserved
@@ -14,7 +14,7 @@ returns-clause-reserved c = λ ok.
     c.self.view_is
     (ap (λ (s : PageCache). keyed c.self.inside.names s) (c.reserve_frame.ensures.reserved ok)
     ∙ ap (λ (s : PageCache). record (keyed c.self.inside.names c.self.inside.cache) { cache = s })
-    (frame-seen c.self.inside.names c.self.inside.cache (named_of c.self.inside.names c.self.inside.cache c.self.invariant)))
+    (frame-by_keys c.self.inside.names c.self.inside.cache (named_of c.self.inside.names c.self.inside.cache c.self.invariant)))
 
 pub returns-clause-frame : goal.returns-clause-frame
 returns-clause-frame c = λ ok.
@@ -26,18 +26,18 @@ returns-clause-frame c = λ ok.
     omega (
       arith,
       room,
-      resident-seen c.self.inside.names c.reserve_frame.new.self
+      resident-by_keys c.self.inside.names c.reserve_frame.new.self
           (named_of c.self.inside.names c.reserve_frame.new.self k),
     )
 
 pub returns-clause-succeeds : goal.returns-clause-succeeds
 returns-clause-succeeds c = λ less.
-    let less' : resident_count (seen c.self.inside.names c.self.inside.cache).table < c.self.inside.cache.table.frames =
+    let less' : resident_count (by_keys c.self.inside.names c.self.inside.cache).table < c.self.inside.cache.table.frames =
     subst (λ (v : Keyed). resident_count v.cache.table < v.cache.table.frames) (sym c.self.view_is) less in
     c.reserve_frame.ensures.succeeds (omega (
       arith,
       less',
-      resident-seen c.self.inside.names c.self.inside.cache
+      resident-by_keys c.self.inside.names c.self.inside.cache
           (named_of c.self.inside.names c.self.inside.cache c.self.invariant),
     ))
 

@@ -3,7 +3,7 @@ use Rattle.std.proofs.Common.{ℕ, ap, sym, subst, ◌∙◌, refl}
 use Rattle.std.proofs.Common.{◌≤◌, ◌+◌, ◌*◌, ◌-◌, max, ◌++◌, length, replicate, arith}
 use Rattle.std.specs.Prelude.{None}
 use Rattle.pp_cache.specs.Cache.{PageCache, IsSound}
-use Rattle.pp_keyed.specs.Keyed.{Keyed, seen}
+use Rattle.pp_keyed.specs.Keyed.{Keyed, by_keys}
 use Rattle.pp_keyed.proofs.AnswerLemmas.{keyed-sound, IsRoomier, grown-names}
 use Rattle.pp_keyed.proofs.keyed.KeyedCache.reserve_name.Goals as goal
 
@@ -13,7 +13,7 @@ returns-then-used-len-clause-sound c =
 
 pub returns-in_err-reserve_key-clause-sound : goal.returns-in_err-reserve_key-clause-sound
 returns-in_err-reserve_key-clause-sound c =
-    subst (λ (s : PageCache). IsSound (seen c.self.inside.names s)) (sym (c.in_err-reserve_key.ensures.unchanged refl))
+    subst (λ (s : PageCache). IsSound (by_keys c.self.inside.names s)) (sym (c.in_err-reserve_key.ensures.unchanged refl))
     (keyed-sound c.self.inside.names c.self.inside.cache c.self.invariant)
 
 pub invariant_of-self-2 : goal.invariant_of-self-2

@@ -2,10 +2,10 @@
 use Rattle.std.proofs.Common.{ap, sym, subst, ◌∙◌, refl}
 use Rattle.std.proofs.Common.{arith}
 use Rattle.pp_cache.specs.Cache.{PageCache, PinnedStay, after_resize}
-use Rattle.pp_keyed.specs.Keyed.{Keyed, seen}
-use Rattle.pp_keyed.proofs.SeenLemmas.{named_of}
+use Rattle.pp_keyed.specs.Keyed.{Keyed, by_keys}
+use Rattle.pp_keyed.proofs.ByKeysLemmas.{named_of}
 use Rattle.pp_keyed.proofs.TakenLemmas.{count-taken}
-use Rattle.pp_keyed.proofs.ManyLemmas.{IsPart, part-resize, resize-seen, IsSweptPart, swept}
+use Rattle.pp_keyed.proofs.ManyLemmas.{IsPart, part-resize, resize-by_keys, IsSweptPart, swept}
 use Rattle.pp_keyed.proofs.BringLemmas.{stay-brought}
 use Rattle.pp_keyed.proofs.AnswerLemmas.{keyed-sound}
 use Rattle.pp_keyed.proofs.keyed.KeyedCache.resize.Goals as goal
@@ -26,8 +26,8 @@ returns-clause-exact c =
     let w : IsSweptPart c.self.inside.names c.sweep.new.names c.resize.new.self =
     swept c.self.inside.names c.sweep.new.names c.self.inside.cache c.resize.new.self c.self.invariant p c.resize.ensures.sound
     c.sweep.ensures.swept in
-    w.same ∙ ap (seen c.self.inside.names) c.resize.ensures.exact
-    ∙ resize-seen c.self.inside.names c.self.inside.cache c.args.size
+    w.same ∙ ap (by_keys c.self.inside.names) c.resize.ensures.exact
+    ∙ resize-by_keys c.self.inside.names c.self.inside.cache c.args.size
     (named_of c.self.inside.names c.self.inside.cache c.self.invariant)
     ∙ ap (λ (v : Keyed). after_resize v.cache c.args.size) c.self.view_is
 
@@ -38,7 +38,7 @@ returns-clause-pinned_stay c =
     let w : IsSweptPart c.self.inside.names c.sweep.new.names c.resize.new.self =
     swept c.self.inside.names c.sweep.new.names c.self.inside.cache c.resize.new.self c.self.invariant p c.resize.ensures.sound
     c.sweep.ensures.swept in
-    subst (λ (v : Keyed). PinnedStay v.cache.table (seen c.sweep.new.names c.resize.new.self).table) c.self.view_is
+    subst (λ (v : Keyed). PinnedStay v.cache.table (by_keys c.sweep.new.names c.resize.new.self).table) c.self.view_is
     (stay-brought c.self.inside.names c.self.inside.names c.sweep.new.names c.self.inside.cache c.resize.new.self
     (named_of c.self.inside.names c.self.inside.cache c.self.invariant) w.keyed w.taken refl c.resize.ensures.pinned_stay)
 

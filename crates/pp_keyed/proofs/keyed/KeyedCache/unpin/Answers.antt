@@ -5,10 +5,10 @@ use Rattle.std.specs.Prelude.{Option, Some, is_some}
 use Rattle.pp_cache.specs.Frames.{page_of}
 use Rattle.pp_cache.specs.Cache.{PageCache, IsSound, after_unpin}
 use Rattle.pp_names.specs.Names.{key_of, named_count}
-use Rattle.pp_keyed.specs.Keyed.{Keyed, seen, IsKeyed, unused_taken}
-use Rattle.pp_keyed.proofs.SeenLemmas.{named_of, key-named, page-key, page-unnamed}
+use Rattle.pp_keyed.specs.Keyed.{Keyed, by_keys, IsKeyed, unused_taken}
+use Rattle.pp_keyed.proofs.ByKeysLemmas.{named_of, key-named, page-key, page-unnamed}
 use Rattle.pp_keyed.proofs.TakenLemmas.{count-taken}
-use Rattle.pp_keyed.proofs.CallLemmas.{OnlyOne, IsAfter, after-one, one-unpin, unpin-seen, named-one}
+use Rattle.pp_keyed.proofs.CallLemmas.{OnlyOne, IsAfter, after-one, one-unpin, unpin-by_keys, named-one}
 use Rattle.pp_keyed.proofs.AnswerLemmas.{keyed-sound, unpin-none, others-unpin}
 use Rattle.pp_keyed.proofs.keyed.KeyedCache.unpin.Goals as goal
 
@@ -20,7 +20,7 @@ returns-in_default-clause-stays c =
 pub returns-in_default-clause-exact : goal.returns-in_default-clause-exact
 returns-in_default-clause-exact c =
     subst (λ (v : Keyed). v.cache ≡ after_unpin v.cache c.args.key c.args.discard) c.self.view_is
-    (unpin-none (seen c.self.inside.names c.self.inside.cache) c.args.key c.args.discard
+    (unpin-none (by_keys c.self.inside.names c.self.inside.cache) c.args.key c.args.discard
     (page-unnamed c.self.inside.names c.self.inside.cache c.args.key (c.name.ensures.none c.in_default.is)))
 
 pub returns-in_default-clause-sound : goal.returns-in_default-clause-sound
@@ -48,7 +48,7 @@ returns-clause-stays c =
     (named-one c.self.inside.names c.self.inside.cache c.unpin-stays.new.self c.in-Some.name c.args.key c.self.invariant named
     (subst (λ (s : PageCache). OnlyOne c.self.inside.cache s c.in-Some.name) (sym c.unpin-stays.ensures.exact)
     (one-unpin c.self.inside.cache c.in-Some.name c.args.discard))) named))
-    ∙ ap (λ (s : PageCache). is_some (page_of s.table c.args.key)) (sym (ap (λ (v : List (Option ℕ)). seen v c.unpin-stays.new.self)
+    ∙ ap (λ (s : PageCache). is_some (page_of s.table c.args.key)) (sym (ap (λ (v : List (Option ℕ)). by_keys v c.unpin-stays.new.self)
     c.take_left.ensures.exact ∙ w.same))
 
 pub returns-clause-exact : goal.returns-clause-exact
@@ -58,13 +58,13 @@ returns-clause-exact c =
     after-one c.self.inside.names c.self.inside.cache c.unpin-stays.new.self c.in-Some.name c.args.key c.self.invariant c.unpin-stays.ensures.sound
     named (subst (λ (s : PageCache). OnlyOne c.self.inside.cache s c.in-Some.name) (sym c.unpin-stays.ensures.exact)
     (one-unpin c.self.inside.cache c.in-Some.name c.args.discard)) in
-    let e : seen c.self.inside.names c.self.inside.cache ≡ c.args.self.now.cache = ap (λ (v : Keyed). v.cache) c.self.view_is in
-    let exact : seen c.take_left.new.names c.unpin-stays.new.self ≡ after_unpin c.args.self.now.cache c.args.key c.args.discard =
-    ap (λ (v : List (Option ℕ)). seen v c.unpin-stays.new.self) c.take_left.ensures.exact ∙ w.same
-    ∙ ap (seen c.self.inside.names) c.unpin-stays.ensures.exact
-    ∙ unpin-seen c.self.inside.names c.self.inside.cache c.in-Some.name c.args.key c.args.discard
+    let e : by_keys c.self.inside.names c.self.inside.cache ≡ c.args.self.now.cache = ap (λ (v : Keyed). v.cache) c.self.view_is in
+    let exact : by_keys c.take_left.new.names c.unpin-stays.new.self ≡ after_unpin c.args.self.now.cache c.args.key c.args.discard =
+    ap (λ (v : List (Option ℕ)). by_keys v c.unpin-stays.new.self) c.take_left.ensures.exact ∙ w.same
+    ∙ ap (by_keys c.self.inside.names) c.unpin-stays.ensures.exact
+    ∙ unpin-by_keys c.self.inside.names c.self.inside.cache c.in-Some.name c.args.key c.args.discard
     (named_of c.self.inside.names c.self.inside.cache c.self.invariant) named
-    ∙ ap (λ (i : ℕ). after_unpin (seen c.self.inside.names c.self.inside.cache) i c.args.discard)
+    ∙ ap (λ (i : ℕ). after_unpin (by_keys c.self.inside.names c.self.inside.cache) i c.args.discard)
     (key-named c.self.inside.names c.in-Some.name c.args.key named)
     ∙ ap (λ (s : PageCache). after_unpin s c.args.key c.args.discard) e in
     exact
@@ -76,13 +76,13 @@ returns-clause-others_stay c = λ other ne.
     after-one c.self.inside.names c.self.inside.cache c.unpin-stays.new.self c.in-Some.name c.args.key c.self.invariant c.unpin-stays.ensures.sound
     named (subst (λ (s : PageCache). OnlyOne c.self.inside.cache s c.in-Some.name) (sym c.unpin-stays.ensures.exact)
     (one-unpin c.self.inside.cache c.in-Some.name c.args.discard)) in
-    let e : seen c.self.inside.names c.self.inside.cache ≡ c.args.self.now.cache = ap (λ (v : Keyed). v.cache) c.self.view_is in
-    let exact : seen c.take_left.new.names c.unpin-stays.new.self ≡ after_unpin c.args.self.now.cache c.args.key c.args.discard =
-    ap (λ (v : List (Option ℕ)). seen v c.unpin-stays.new.self) c.take_left.ensures.exact ∙ w.same
-    ∙ ap (seen c.self.inside.names) c.unpin-stays.ensures.exact
-    ∙ unpin-seen c.self.inside.names c.self.inside.cache c.in-Some.name c.args.key c.args.discard
+    let e : by_keys c.self.inside.names c.self.inside.cache ≡ c.args.self.now.cache = ap (λ (v : Keyed). v.cache) c.self.view_is in
+    let exact : by_keys c.take_left.new.names c.unpin-stays.new.self ≡ after_unpin c.args.self.now.cache c.args.key c.args.discard =
+    ap (λ (v : List (Option ℕ)). by_keys v c.unpin-stays.new.self) c.take_left.ensures.exact ∙ w.same
+    ∙ ap (by_keys c.self.inside.names) c.unpin-stays.ensures.exact
+    ∙ unpin-by_keys c.self.inside.names c.self.inside.cache c.in-Some.name c.args.key c.args.discard
     (named_of c.self.inside.names c.self.inside.cache c.self.invariant) named
-    ∙ ap (λ (i : ℕ). after_unpin (seen c.self.inside.names c.self.inside.cache) i c.args.discard)
+    ∙ ap (λ (i : ℕ). after_unpin (by_keys c.self.inside.names c.self.inside.cache) i c.args.discard)
     (key-named c.self.inside.names c.in-Some.name c.args.key named)
     ∙ ap (λ (s : PageCache). after_unpin s c.args.key c.args.discard) e in
     ap (λ (s : PageCache). page_of s.table other) exact
@@ -119,5 +119,5 @@ returns-clause-sound c =
     after-one c.self.inside.names c.self.inside.cache c.unpin-stays.new.self c.in-Some.name c.args.key c.self.invariant c.unpin-stays.ensures.sound
     named (subst (λ (s : PageCache). OnlyOne c.self.inside.cache s c.in-Some.name) (sym c.unpin-stays.ensures.exact)
     (one-unpin c.self.inside.cache c.in-Some.name c.args.discard)) in
-    subst (λ (v : List (Option ℕ)). IsSound (seen v c.unpin-stays.new.self)) (sym c.take_left.ensures.exact)
+    subst (λ (v : List (Option ℕ)). IsSound (by_keys v c.unpin-stays.new.self)) (sym c.take_left.ensures.exact)
     (keyed-sound _ c.unpin-stays.new.self w.keyed)

@@ -2,7 +2,7 @@
 use Rattle.std.proofs.Common.{false}
 use Rattle.pp_keyed.proofs.RenamedLemmas.{place-by, is_cached-by, answer-by, request-by, dropped-by, victim-by, after_giving_up-by}
 use Rattle.pp_keyed.proofs.RenamedLemmas.{forget-by, renamed-by, resized-by, last-by}
-use Rattle.pp_keyed.proofs.laws.names_are_all_one.Goals as goal
+use Rattle.pp_keyed.proofs.laws.lists_ignore_names.Goals as goal
 
 pub returns-clause-place : goal.returns-clause-place
 returns-clause-place c = place-by
@@ -20,7 +20,7 @@ pub returns-clause-dropped : goal.returns-clause-dropped
 returns-clause-dropped c = dropped-by
 
 pub returns-clause-given_up : goal.returns-clause-given_up
-returns-clause-given_up c = λ f m s busy seen same. victim-by f m s false busy seen same
+returns-clause-given_up c = λ f m s busy busy_by same. victim-by f m s false busy busy_by same
 
 pub returns-clause-after_giving_up : goal.returns-clause-after_giving_up
 returns-clause-after_giving_up c = after_giving_up-by

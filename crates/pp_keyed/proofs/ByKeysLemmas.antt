@@ -19,7 +19,7 @@ use Rattle.pp_cache.proofs.CacheLemmas.{contains-first}
 use Rattle.pp_names.specs.Names.{key_of, IsUnnamed}
 use Rattle.pp_names.proofs.TableLemmas.{low_if_some}
 use Rattle.pp_keyed.specs.Renamed.{IsInjective, IsSameBusy, lists_by}
-use Rattle.pp_keyed.specs.Keyed.{key_count, key_or_past, placed, seen, stands, IsKeyed}
+use Rattle.pp_keyed.specs.Keyed.{key_count, key_or_past, placed, by_keys, stands, IsKeyed}
 use Rattle.pp_keyed.proofs.RenamedLemmas.{place-by, is_cached-by, cached_count-by, recent_count-by, total_count-by}
 use Rattle.pp_keyed.proofs.RenamedLemmas.{eqb-by}
 use Rattle.pp_keyed.proofs.PlacedLemmas.{IsApart, FromName, placed-from, placed-named, placed-unnamed, placed-same}
@@ -135,9 +135,9 @@ pub cache_is : (a b : FourLists) (n : ℕ) (p q : List (Option Resident)) → a 
 cache_is a b n p q e f = rw (e, f) refl
 
 -- Names are given to what stands nowhere, and taken from it: nobody sees it.
-pub seen_agree : (names names' : List (Option ℕ)) (c : PageCache) → IsApart key_count names → IsApart key_count names'
-    → ((x : ℕ) → stands c x ≡ true → key_of names x ≡ key_of names' x) → seen names c ≡ seen names' c
-seen_agree names names' c a a' agree = cache_is _ _ c.table.frames _ _
+pub by_keys_agree : (names names' : List (Option ℕ)) (c : PageCache) → IsApart key_count names → IsApart key_count names'
+    → ((x : ℕ) → stands c x ≡ true → key_of names x ≡ key_of names' x) → by_keys names c ≡ by_keys names' c
+by_keys_agree names names' c a a' agree = cache_is _ _ c.table.frames _ _
     (lists_agree (key_or_past names) (key_or_past names') key_count c.lists
     (λ x h. key_agree names names' x (agree x (stands-place c x h))))
     (placed-same key_count names names' c.table.pages c.table.pages a a' (λ x. refl) (λ x h. agree x (stands-page c x h)))
@@ -145,14 +145,14 @@ seen_agree names names' c a a' agree = cache_is _ _ c.table.frames _ _
 -- ---- pages by key
 
 pub page-by : (names : List (Option ℕ)) (c : PageCache) (x : ℕ) → IsNamed names c
-    → page_of (seen names c).table (key_or_past names x) ≡ page_of c.table x
+    → page_of (by_keys names c).table (key_or_past names x) ≡ page_of c.table x
 page-by names c x h = go (key_of names x) refl
   where
     unnamed : (o : Option Resident) → (is_some o ≡ true → false ≡ true) → o ≡ None
     unnamed None k = refl
     unnamed (Some r) k = let n : false ≡ true = k refl in absurd (cc)
 
-    go : (o : Option ℕ) → key_of names x ≡ o → page_of (seen names c).table (key_or_past names x) ≡ page_of c.table x
+    go : (o : Option ℕ) → key_of names x ≡ o → page_of (by_keys names c).table (key_or_past names x) ≡ page_of c.table x
     go (Some k) e = rw (key-named names x k e) (placed-named key_count names c.table.pages x k h.apart e)
     go None e = rw (key-unnamed names x e)
         (get_or_past (placed key_count names c.table.pages) (key_count + x) None
@@ -160,15 +160,15 @@ page-by names c x h = go (key_of names x) refl
         ∙ sym (unnamed (page_of c.table x) (λ some. sym (ap is_some e) ∙ h.named x (stands-page c x some))))
 
 pub page-key : (names : List (Option ℕ)) (c : PageCache) (x key : ℕ) → IsNamed names c → key_of names x ≡ Some key
-    → page_of (seen names c).table key ≡ page_of c.table x
+    → page_of (by_keys names c).table key ≡ page_of c.table x
 page-key names c x key h e = placed-named key_count names c.table.pages x key h.apart e
 
 pub page-unnamed : (names : List (Option ℕ)) (c : PageCache) (key : ℕ) → IsUnnamed names key
-    → page_of (seen names c).table key ≡ None
+    → page_of (by_keys names c).table key ≡ None
 page-unnamed names c key u = placed-unnamed key_count names c.table.pages key u
 
 pub same_busy : (names : List (Option ℕ)) (c : PageCache) → IsNamed names c
-    → IsSameBusy (key_or_past names) (is_pinned c.table) (is_pinned (seen names c).table)
+    → IsSameBusy (key_or_past names) (is_pinned c.table) (is_pinned (by_keys names c).table)
 same_busy names c h x = ap is_held (page-by names c x h)
 
 -- a page that leaves its frame
@@ -187,14 +187,14 @@ page-gone names pages x a room = go (key_of names x) refl
 
 -- ---- counts
 
-pub resident-seen : (names : List (Option ℕ)) (c : PageCache) → IsNamed names c
-    → resident_count (seen names c).table ≡ resident_count c.table
-resident-seen names c h = count-placed key_count is_some names c.table.pages refl h.apart
+pub resident-by_keys : (names : List (Option ℕ)) (c : PageCache) → IsNamed names c
+    → resident_count (by_keys names c).table ≡ resident_count c.table
+resident-by_keys names c h = count-placed key_count is_some names c.table.pages refl h.apart
     (λ x some. h.named x (stands-page c x some))
 
-pub pinned-seen : (names : List (Option ℕ)) (c : PageCache) → IsNamed names c
-    → pinned_count (seen names c).table ≡ pinned_count c.table
-pinned-seen names c h = count-placed key_count is_held names c.table.pages refl h.apart
+pub pinned-by_keys : (names : List (Option ℕ)) (c : PageCache) → IsNamed names c
+    → pinned_count (by_keys names c).table ≡ pinned_count c.table
+pinned-by_keys names c h = count-placed key_count is_held names c.table.pages refl h.apart
     (λ x some. h.named x (stands-page c x some))
 
 -- ---- what holds of the cache of keys
@@ -266,25 +266,25 @@ times_named-by : (f : ℕ → ℕ) (m : ℕ) (s : FourLists) (x : ℕ) → IsInj
 times_named-by f m s x inj =
     rw (times-by f s.t1 x inj, times-by f s.t2 x inj, times-by f s.b1 x inj, times-by f s.b2 x inj) refl
 
-pub bounds-seen : (names : List (Option ℕ)) (c : PageCache) → IsNamed names c → IsWithinBounds c.lists
-    → IsWithinBounds (seen names c).lists
-bounds-seen names c h b = record {
+pub bounds-by_keys : (names : List (Option ℕ)) (c : PageCache) → IsNamed names c → IsWithinBounds c.lists
+    → IsWithinBounds (by_keys names c).lists
+bounds-by_keys names c h b = record {
   holds_a_page = b.holds_a_page;
   cached = omega (arith, b.cached, cached_count-by f key_count c.lists);
   recent = omega (arith, b.recent, recent_count-by f key_count c.lists);
   total = omega (arith, b.total, total_count-by f key_count c.lists);
-  once = λ key. elim (bool_cases (is_some (place (seen names c).lists key))) [
+  once = λ key. elim (bool_cases (is_some (place (by_keys names c).lists key))) [
     | inl some ↦ let w : Placed names c.lists key = placed-of names c.lists key_count key some in
-        subst (λ (k : ℕ). times_named (seen names c).lists k ≤ 1) w.is
+        subst (λ (k : ℕ). times_named (by_keys names c).lists k ≤ 1) w.is
         (omega (arith, b.once w.name, times_named-by f key_count c.lists w.name inj))
-    | inr none ↦ omega (arith, times-none (seen names c).lists key none)
+    | inr none ↦ omega (arith, times-none (by_keys names c).lists key none)
   ];
-  below = λ key some. elim (bool_cases (is_some (place (seen names c).lists key))) [
+  below = λ key some. elim (bool_cases (is_some (place (by_keys names c).lists key))) [
     | inl here ↦ let w : Placed names c.lists key = placed-of names c.lists key_count key here in
         let k : (k : ℕ) × (key_of names w.name ≡ Some k) =
         some_is (key_of names w.name) (h.named w.name (stands-place c w.name w.here)) in
         omega (arith, w.is, key-named names w.name k.0 k.1, h.apart.low w.name k.0 k.1)
-    | inr none ↦ absurd (omega (arith, some, times-none (seen names c).lists key none))
+    | inr none ↦ absurd (omega (arith, some, times-none (by_keys names c).lists key none))
   ];
   aimed = b.aimed;
 }
@@ -317,9 +317,9 @@ frame-from names m key frame e = go (get_or (placed key_count names m.pages) key
           here = ap (option_map (λ (page : Resident). page.frame)) w.here ∙ f;
         }
 
-pub frames-seen : (names : List (Option ℕ)) (c : PageCache) → IsNamed names c → IsOneToOneMap c.table
-    → IsOneToOneMap (seen names c).table
-frames-seen names c h one = record {
+pub frames-by_keys : (names : List (Option ℕ)) (c : PageCache) → IsNamed names c → IsOneToOneMap c.table
+    → IsOneToOneMap (by_keys names c).table
+frames-by_keys names c h one = record {
   in_range = λ key frame e. let w : FrameName names c.table key frame = frame-from names c.table key frame e in
       one.in_range w.name frame w.here;
   no_frame_twice = λ p q frame e f.
@@ -346,59 +346,59 @@ cached-of names s m key h = elim (or-cases _ _ h) [
 ]
 
 -- a page that stands in a frame by its key is that of a name
-pub some-from : (names : List (Option ℕ)) (c : PageCache) (key : ℕ) → is_some (page_of (seen names c).table key) ≡ true
+pub some-from : (names : List (Option ℕ)) (c : PageCache) (key : ℕ) → is_some (page_of (by_keys names c).table key) ≡ true
     → (name : ℕ) × (key_of names name ≡ Some key)
-some-from names c key some = go (page_of (seen names c).table key) refl some
+some-from names c key some = go (page_of (by_keys names c).table key) refl some
   where
-    go : (o : Option Resident) → page_of (seen names c).table key ≡ o → is_some o ≡ true
+    go : (o : Option Resident) → page_of (by_keys names c).table key ≡ o → is_some o ≡ true
         → (name : ℕ) × (key_of names name ≡ Some key)
     go None e h = absurd (cc)
     go (Some r) e h =
         let w : FromName names c.table.pages key r = placed-from key_count names c.table.pages key r e in (w.name, w.named)
 
-pub together-seen : (names : List (Option ℕ)) (c : PageCache) → IsNamed names c → IsTogether c → IsTogether (seen names c)
-together-seen names c h t = record {
+pub together-by_keys : (names : List (Option ℕ)) (c : PageCache) → IsNamed names c → IsTogether c → IsTogether (by_keys names c)
+together-by_keys names c h t = record {
   keys = sym (length-placed key_count names c.table.pages);
   cached_has_frame = λ key cached.
       let w : CachedName names c.lists key = cached-of names c.lists key_count key cached in
-      subst (λ (k : ℕ). is_some (page_of (seen names c).table k) ≡ true) w.is
+      subst (λ (k : ℕ). is_some (page_of (by_keys names c).table k) ≡ true) w.is
       (ap is_some (page-by names c w.name h) ∙ t.cached_has_frame w.name w.here);
   unpinned_is_cached = λ key some free.
       let w : (name : ℕ) × (key_of names name ≡ Some key) = some-from names c key some in
-      let e : page_of (seen names c).table key ≡ page_of c.table w.0 = page-key names c w.0 key h w.1 in
-      subst (λ (k : ℕ). is_cached (seen names c).lists k ≡ true) (key-named names w.0 key w.1)
+      let e : page_of (by_keys names c).table key ≡ page_of c.table w.0 = page-key names c w.0 key h w.1 in
+      subst (λ (k : ℕ). is_cached (by_keys names c).lists k ≡ true) (key-named names w.0 key w.1)
       (is_cached-by (key_or_past names) key_count c.lists w.0 (injective names h.apart)
       ∙ t.unpinned_is_cached w.0 (sym (ap is_some e) ∙ some) (sym (ap is_held e) ∙ free));
 }
 
-pub sound-seen : (names : List (Option ℕ)) (c : PageCache) → IsNamed names c → IsSound c → IsSound (seen names c)
-sound-seen names c h s = record {
-  bounds = bounds-seen names c h s.bounds;
-  frames = frames-seen names c h s.frames;
-  together = together-seen names c h s.together;
+pub sound-by_keys : (names : List (Option ℕ)) (c : PageCache) → IsNamed names c → IsSound c → IsSound (by_keys names c)
+sound-by_keys names c h s = record {
+  bounds = bounds-by_keys names c h s.bounds;
+  frames = frames-by_keys names c h s.frames;
+  together = together-by_keys names c h s.together;
 }
 
 held-some : (o : Option Resident) → is_held o ≡ true → is_some o ≡ true
 held-some None h = absurd (cc)
 held-some (Some r) h = refl
 
-pub stay-seen : (names names' : List (Option ℕ)) (c c' : PageCache) → IsNamed names c → IsNamed names' c'
+pub stay-by_keys : (names names' : List (Option ℕ)) (c c' : PageCache) → IsNamed names c → IsNamed names' c'
     → ((x : ℕ) → is_pinned c.table x ≡ true → key_of names x ≡ key_of names' x) → PinnedStay c.table c'.table
-    → PinnedStay (seen names c).table (seen names' c').table
-stay-seen names names' c c' h h' agree stay key held =
+    → PinnedStay (by_keys names c).table (by_keys names' c').table
+stay-by_keys names names' c c' h h' agree stay key held =
     let w : (name : ℕ) × (key_of names name ≡ Some key) = some-from names c key (held-some _ held) in
-    let e : page_of (seen names c).table key ≡ page_of c.table w.0 = page-key names c w.0 key h w.1 in
+    let e : page_of (by_keys names c).table key ≡ page_of c.table w.0 = page-key names c w.0 key h w.1 in
     let here : is_pinned c.table w.0 ≡ true = sym (ap is_held e) ∙ held in
     page-key names' c' w.0 key h' (sym (agree w.0 here) ∙ w.1) ∙ stay w.0 here ∙ sym e
 
 -- a key that stands nowhere has no name
 pub absent-unnamed : (names : List (Option ℕ)) (c : PageCache) (key : ℕ) → IsKeyed names c
-    → page_of (seen names c).table key ≡ None → is_some (place (seen names c).lists key) ≡ false → IsUnnamed names key
+    → page_of (by_keys names c).table key ≡ None → is_some (place (by_keys names c).lists key) ≡ false → IsUnnamed names key
 absent-unnamed names c key k none nowhere name e =
     let h : IsNamed names c = named_of names c k in
     let p : is_some (place c.lists name) ≡ false =
     sym (ap is_some (place-by (key_or_past names) key_count c.lists name (injective names h.apart)))
-    ∙ subst (λ (i : ℕ). is_some (place (seen names c).lists i) ≡ false) (sym (key-named names name key e)) nowhere in
+    ∙ subst (λ (i : ℕ). is_some (place (by_keys names c).lists i) ≡ false) (sym (key-named names name key e)) nowhere in
     let q : is_some (page_of c.table name) ≡ false =
     sym (ap is_some (page-key names c name key h e)) ∙ ap is_some none in
     let n : stands c name ≡ false = ap (λ (b : Bool). b || is_some (page_of c.table name)) p ∙ q in
