@@ -74,7 +74,7 @@ fits_running f s w x r st is_in e =
     let two = both f s w x st is_in in
     subst (FitsRunning s.plans x) (same_running (seat_of s w) r two.running e two.there) two.fits
 
-same_plan : (o : Option Acceptance) (a b : Acceptance) → o ≡ Some a → o ≡ Some b → a ≡ b
+pub same_plan : (o : Option Acceptance) (a b : Acceptance) → o ≡ Some a → o ≡ Some b → a ≡ b
 same_plan o a b e f = cc
 
 same_seat : (o : Option (Option Seat)) (x y : Seat) → o ≡ Some (Some x) → o ≡ Some (Some y) → x ≡ y

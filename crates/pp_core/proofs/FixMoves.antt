@@ -93,9 +93,9 @@ placed_in m page = placed m page (free_frame m)
 -- ---- what is asked
 
 -- A worker's plan asks that the page go into the slot.
-record AskedFix (s : State) (w slot page : ℕ) : Type 0 where
-  running : Running
-  asked : IsAsked s w running (fixes (asked_by running) slot page)
+pub record AskedFix (s : State) (w slot page : ℕ) : Type 0 where
+  pub running : Running
+  pub asked : IsAsked s w running (fixes (asked_by running) slot page)
 
 -- The plan asks a page of the region into the slot: a fix, or a gather.
 abbrev pub AsksIn : Ask → (slot region : ℕ) → Type 0
@@ -145,7 +145,7 @@ module _ (f : Parts) (w page slot region : ℕ) (wants : Ask) (into : AsksIn wan
       let layout = (steps.seat_is s st.reached w r (asks s st).1.seat).layout in
       ap (λ g. region_has g region page) (sym (st.layout ∙ layout)) ∙ e
 
-  slot_is : (s : State) (st : StandsFor f s) (b : Bool) → region_has f.layout region page ≡ b
+  pub slot_is : (s : State) (st : StandsFor f s) (b : Bool) → region_has f.layout region page ≡ b
       → fix_slot (asks s st).0 page (asked_by (asks s st).0) ≡ cond b (Some slot) None
   slot_is s st b e =
       ap (fix_slot (asks s st).0 page) (asks s st).2
@@ -162,7 +162,7 @@ module _ (f : Parts) (w page slot region : ℕ) (wants : Ask) (into : AsksIn wan
   fix_elsewhere e = refuses f (move.Fix w page) (OffPlan NotAsked) (λ s st. outcome_is s st false e)
 
   module _ (has : region_has f.layout region page ≡ true) where
-    abbrev fix_of : (s : State) → StandsFor f s → AskedFix s w slot page
+    abbrev pub fix_of : (s : State) → StandsFor f s → AskedFix s w slot page
     fix_of s st =
         let a = asks s st in
         let r = a.0 in
@@ -174,7 +174,7 @@ module _ (f : Parts) (w page slot region : ℕ) (wants : Ask) (into : AsksIn wan
           };
         }
 
-    low_in : (s : State) → StandsFor f s → page < length s.notes
+    pub low_in : (s : State) → StandsFor f s → page < length s.notes
     low_in s st =
         let h = fix_of s st in
         omega (

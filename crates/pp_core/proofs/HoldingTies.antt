@@ -73,7 +73,7 @@ in_stage r (writing slot page victim) a e = absurd (none_some e)
 in_stage r (reading slot page) a e = absurd (none_some e)
 in_stage r (leaving given) a e = absurd (none_some e)
 
-acts_so : (s : State) (w : ℕ) (a : Ask) (o : Option (Option Running)) → seat_of s w ≡ o → ask_by o ≡ Some a
+pub acts_so : (s : State) (w : ℕ) (a : Ask) (o : Option (Option Running)) → seat_of s w ≡ o → ask_by o ≡ Some a
     → (r : Running) × IsActing s w r × (asked_by r ≡ a)
 acts_so s w a None at e = absurd (none_some e)
 acts_so s w a (Some None) at e = absurd (none_some e)

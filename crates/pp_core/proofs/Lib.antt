@@ -19,6 +19,9 @@ mod LeaveMoves
 mod TakeMoves
 mod UnwindMoves
 mod RefusalTies
+pub mod ReadAsks
+mod ReadTies
+mod ReadMoves
 pub mod Standing
 mod OpeningTies
 mod SubmitTies

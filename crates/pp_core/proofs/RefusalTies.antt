@@ -168,7 +168,7 @@ module _ (f : Parts) where
       let low = cached_low s st.reached x (subst (λ (l : FourLists). is_cached l x ≡ true) st.lists here) in
       below x (omega (arith, le, low, ap (λ (m : PageMap). map.page_count m) st.marks, count_told s)) here
 
-  bounds : IsKept f → IsWithinBounds f.lists
+  pub bounds : IsKept f → IsWithinBounds f.lists
   bounds k = subst IsWithinBounds (sym k.stands.lists) (sound k.state k.stands.reached).bounds
 
   pub size_is : IsKept f → f.lists.c ≡ f.layout.frames

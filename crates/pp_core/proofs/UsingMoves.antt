@@ -368,7 +368,7 @@ pub page_low : (s : State) (w slot : ℕ) (r : Running) (h : Holding) → IsReac
 page_low s w slot r h reached e found =
     omega (arith, (steps.slots_are_within s reached w r e slot h found).page, notes_length s reached)
 
-goes_told : (s : State) (m : Mode) (page : ℕ) → page < length s.notes
+pub goes_told : (s : State) (m : Mode) (page : ℕ) → page < length s.notes
     → goes_with s m page ≡ map.is_compatible (latch_mode_of m) (map.latches_of (marks s) page)
 goes_told s mode.S page low = ap (map.is_compatible latch_mode.S) (sym (latches_told s page low))
 goes_told s mode.X page low = ap (map.is_compatible latch_mode.X) (sym (latches_told s page low))

@@ -21,3 +21,4 @@ pub mod Queries
 pub mod Refusals
 pub mod Draining
 pub mod AfterMoves
+pub mod Reading

@@ -22,6 +22,7 @@ mod machine;
 mod moves;
 mod opening;
 mod queries;
+mod reading;
 mod refusing;
 mod renewing;
 mod seat;

@@ -1,10 +1,11 @@
 //! The entries of a journal: events in 16 bytes.
 
-ghost use Rattle.std.specs.Prelude.{◌≡◌, List, true, IfSome, slice_index_or};
+ghost use Rattle.std.specs.Prelude.{◌≡◌, ◌↔◌, ℕ, List, true, Some, IfSome, slice_index_or};
 ghost use Rattle.pp_model.specs.declared.event.Event.{Event};
 ghost use Rattle.pp_model.specs.declared.moves.Came.TheVariants.{Image};
 ghost use Rattle.pp_model.specs.declared.moves.Move.TheVariants as moves;
 ghost use Rattle.pp_model.specs.declared.event.Event.TheVariants.{Submit, Step};
+ghost use Rattle.pp_model.specs.WorkerParts.{names_worker};
 ghost use Rattle.pp_journal.specs.Entries.{event_of, StandsAlone};
 
 use core::mem::size_of;
@@ -226,6 +227,67 @@ pub(crate) fn is_one_event(left: Entry, right: Entry) -> bool
     match left {
         Entry::Other { .. } => false,
         _ => left == right,
+    }
+}
+
+/// Whether the events of two entries are the same, by the events themselves.
+// Not inlined, since events that are the same are mostly packed alike.
+#[inline(never)]
+pub(crate) fn is_same_event(others: &[Event], left: Entry, more: &[Event], right: Entry) -> bool
+    ensures { (result ≡ true) ↔ (event_of others.now left ≡ event_of more.now right) }
+{
+    let first = event_of(others, left);
+    let second = event_of(more, right);
+    first == second
+}
+
+/// The worker whose move the entry's event is, if it is one's.
+#[inline(always)]
+pub(crate) fn worker_of(others: &[Event], entry: Entry) -> Option<u32>
+    ensures { (w : ℕ) → (names_worker w (event_of others.now entry) ≡ true) ↔ (result ≡ Some w) }
+{
+    match entry {
+        Entry::Take { worker, .. }
+        | Entry::MustRead { worker, .. }
+        | Entry::Written { worker, .. }
+        | Entry::Unwritten { worker }
+        | Entry::Unread { worker }
+        | Entry::Unfix { worker }
+        | Entry::Latch { worker, .. }
+        | Entry::Unlatch { worker, .. }
+        | Entry::Choose { worker, .. }
+        | Entry::Unwind { worker, .. }
+        | Entry::Finish { worker, .. } => Some(worker),
+        Entry::Hit { worker, .. }
+        | Entry::MustWrite { worker, .. }
+        | Entry::Loaded { worker, .. }
+        | Entry::Misread { worker, .. }
+        | Entry::UnwindExclusive { worker, .. } => Some(u32::from(worker)),
+        Entry::Submit { .. } | Entry::Flush { .. } | Entry::Flushed { .. } => None,
+        Entry::Other { place } => worker_aside(others, place),
+    }
+}
+
+/// The same of an event that stands beside the entries.
+#[inline(never)]
+fn worker_aside(others: &[Event], place: u64) -> Option<u32>
+    ensures { (w : ℕ) → (names_worker w (slice_index_or others.now place (Submit 0)) ≡ true) ↔ (result ≡ Some w) }
+{
+    match other(others, place) {
+        Event::Submit { .. } => None,
+        Event::Step { did, .. } => match did {
+            Move::Take { worker }
+            | Move::Fix { worker, .. }
+            | Move::WriteDone { worker, .. }
+            | Move::ReadDone { worker, .. }
+            | Move::Unfix { worker }
+            | Move::Latch { worker }
+            | Move::Unlatch { worker }
+            | Move::Choose { worker, .. }
+            | Move::Unwind { worker, .. }
+            | Move::Finish { worker } => Some(worker),
+            Move::FlushBegin { .. } | Move::FlushDone { .. } => None,
+        },
     }
 }
 

@@ -1,12 +1,15 @@
 //! A list of events that takes 16 bytes for each.
 
 ghost use Rattle.std.specs.Iterator.{YieldsFirst, item_count};
-ghost use Rattle.std.specs.Prelude.{◌≡◌, ◌==◌, true, ◌≤◌, ◌<◌, ◌+◌, ◌^◌, ◌++◌, ◌∷◌, [], IfOk, OnOk, OnErr};
+ghost use Rattle.std.specs.Prelude.{◌≡◌, ◌==◌, ◌↔◌, ℕ, true, false, ◌≤◌, ◌<◌, ◌+◌, ◌^◌, ◌++◌, ◌∷◌, []};
+ghost use Rattle.std.specs.Prelude.{None, Some, IfOk, OnOk, OnErr};
 ghost use Rattle.std.specs.Prelude.{length, map, slice_get, slice_index_or, vec_capacity};
+ghost use Rattle.pp_model.specs.declared.event.Event.{Event};
+ghost use Rattle.pp_model.specs.WorkerParts.{names_worker};
 ghost use Rattle.pp_journal.specs.Entries.{event_of, IsInside};
 ghost use Rattle.pp_journal.specs.Packing.{IsMore};
 
-use crate::entry::{Entry, entry_of, event_of, is_one_event};
+use crate::entry::{Entry, entry_of, event_of, is_one_event, is_same_event, worker_of};
 use pp_model::Event;
 use std::alloc::{AllocError, Global};
 use std::marker::Model;
@@ -190,17 +193,37 @@ impl Journal {
         }
     }
 
-    /// Whether the events at these places of two journals are seen to be the same without unpacking them. So they are where it
-    /// is true. Where it is false, they may be the same all the same: one of them may stand beside the entries.
+    /// Whether the events at these places of two journals are the same. Mostly that is seen of their entries, without unpacking
+    /// them. False where one of the places is past the last event.
     #[inline(always)]
-    pub fn is_seen_same(&self, place: usize, other: &Journal, at: usize) -> bool
-        ensures same { result ≡ true → slice_get self.now.items place ≡ slice_get other.now.items at }
+    pub fn is_same(&self, place: usize, other: &Journal, at: usize) -> bool
+        ensures same { (event : Event) → slice_get other.now.items at ≡ Some event
+            → (result ≡ true) ↔ (slice_get self.now.items place ≡ Some event) }
         ensures within { result ≡ true → place < length self.now.items }
+        ensures past { slice_get other.now.items at ≡ None → result ≡ false }
     {
         match (self.entries.get(place), other.entries.get(at)) {
-            (Some(left), Some(right)) => is_one_event(*left, *right),
+            (Some(left), Some(right)) => {
+                is_one_event(*left, *right)
+                    || is_same_event(
+                        self.others.as_slice(),
+                        *left,
+                        other.others.as_slice(),
+                        *right,
+                    )
+            }
             _ => false,
         }
+    }
+
+    /// The worker whose move the event at this place is. None where it is no worker's, or the place is past the last event.
+    #[inline(always)]
+    pub fn worker(&self, place: usize) -> Option<u32>
+        ensures names { (event : Event) → slice_get self.now.items place ≡ Some event
+            → (w : ℕ) → (names_worker w event ≡ true) ↔ (result ≡ Some w) }
+        ensures past { slice_get self.now.items place ≡ None → result ≡ None }
+    {
+        worker_of(self.others.as_slice(), *self.entries.get(place)?)
     }
 
     /// Its events as they are by themselves, in memory of their own.

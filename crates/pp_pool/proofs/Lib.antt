@@ -11,5 +11,6 @@ pub mod Placing
 pub mod Turning
 pub mod Keeping
 pub mod Flushed
-pub mod AtOnce
+pub mod Readings
 pub mod ShortTurns
+pub mod QuickTurns

@@ -8,7 +8,7 @@ pub mod Renewals
 pub mod BookErrors
 pub mod Replies
 pub mod Performs
-pub mod AtOnce
+pub mod Readings
 pub mod Fronts
 pub mod Flushings
 pub mod FlushTurns

@@ -1,5 +1,5 @@
 -- What comes of a request, and what a turn does that wants no device, where that is possible at once.
-use Rattle.std.specs.Prelude.{◌≡◌, ◌≤◌, ◌++◌, if◌then◌else◌, ℕ, Bool, false, List, length, Option, Some}
+use Rattle.std.specs.Prelude.{◌≡◌, ◌<◌, ◌≤◌, ◌++◌, if◌then◌else◌, ℕ, Bool, false, List, [], ◌∷◌, length, Option, None, Some}
 use Rattle.pp_settings.specs.Layout.{Geometry}
 use Rattle.pp_journal.specs.Events.{Events}
 use Rattle.pp_vault.specs.declared.tokens.Session.{Session}
@@ -10,7 +10,7 @@ use Rattle.pp_pool.specs.declared.request.Request.{Request}
 use Rattle.pp_pool.specs.declared.response.BookAnswer.{BookAnswer}
 use Rattle.pp_pool.specs.declared.response.Response.{Response}
 use Rattle.pp_pool.specs.declared.turned.Turned.{Turned}
-use Rattle.pp_pool.specs.declared.turned.Turned.TheVariants.{Broken}
+use Rattle.pp_pool.specs.declared.turned.Turned.TheVariants.{Done, Broken}
 use Rattle.pp_pool.specs.declared.site.Site as Site
 use Rattle.pp_pool.specs.declared.work.Work as Work
 use Rattle.pp_pool.specs.Replies.{Replies}
@@ -34,17 +34,43 @@ pub record Comes {S W : Type 0} (s : Site.Ghosts S) (k : Work.Ghosts W) (room : 
   pub guards : places' ≡ places_with rest (guard_in after)
   pub ended : turned ≡ (if is_logged then ends else Broken)
 
+-- What a turn changes that wants no device: the stage, the guards in their places, the site, the log and the work.
+pub record Scene (S W : Type 0) : Type 0 where
+  pub stage : Stage
+  pub places : List (Option Guard)
+  pub site : S
+  pub log : Events
+  pub work : W
+
 -- The worker acts in its plan, and makes the request that the plan asks, which wants no device. The work is asked for what the
--- request wants.
-pub record TurnsAtOnce {S W : Type 0} (s : Site.Ghosts S) (k : Work.Ghosts W) (layout : Geometry) (room : ℕ) (old : Stage)
-    (places : List (Option Guard)) (site : S) (log : Events) (before : W) (turned : Turned) (new : Stage)
-    (places' : List (Option Guard)) (site' : S) (log' : Events) (left : W) : Type 0 where
+-- request wants. The log has room for its event, and the memory that it had.
+pub record TurnAtOnce {S W : Type 0} (s : Site.Ghosts S) (k : Work.Ghosts W) (layout : Geometry) (room : ℕ) (old : Scene S W)
+    (turned : Turned) (new : Scene S W) : Type 0 where
   pub asked : Request
   pub rest : List (Option Guard)
   pub between : W
   pub session : Session
-  pub acts : old ≡ stage.In session
+  pub acts : old.stage ≡ stage.In session
+  pub has_room : length old.log.items < old.log.capacity
+  pub memory : new.log.capacity ≡ old.log.capacity
   pub step : IsStep layout session asked
-  pub consults : Consults k layout before asked between
-  pub prepares : Prepares places asked rest
-  pub comes : Comes s k room asked rest site log between turned new places' site' log' left
+  pub consults : Consults k layout old.work asked between
+  pub prepares : Prepares old.places asked rest
+  pub comes : Comes s k room asked rest old.site old.log between turned new.stage new.places new.site new.log new.work
+
+-- Such turns follow one another, and lead over these scenes: each but the last is done, and the last ends so.
+abbrev pub TurnsAtOnceOver : {S W : Type 0} → Site.Ghosts S → Work.Ghosts W → Geometry → (room : ℕ) → (old : Scene S W)
+    → List (Scene S W) → Turned → (new : Scene S W) → Type 0
+TurnsAtOnceOver s k layout room old [] turned new = TurnAtOnce s k layout room old turned new
+TurnsAtOnceOver s k layout room old (mid ∷ rest) turned new =
+    TurnAtOnce s k layout room old Done mid × TurnsAtOnceOver s k layout room mid rest turned new
+
+abbrev pub TurnsAtOnce : {S W : Type 0} → Site.Ghosts S → Work.Ghosts W → Geometry → (room : ℕ) → (old : Scene S W) → Turned
+    → (new : Scene S W) → Type 0
+TurnsAtOnce s k layout room old turned new = (over : List (Scene _ _)) × TurnsAtOnceOver s k layout room old over turned new
+
+-- Such turns, that end so; or none, and nothing has changed.
+abbrev pub TurnsIfAny : {S W : Type 0} → Site.Ghosts S → Work.Ghosts W → Geometry → (room : ℕ) → (old : Scene S W)
+    → Option Turned → (new : Scene S W) → Type 0
+TurnsIfAny s k layout room old None new = new ≡ old
+TurnsIfAny s k layout room old (Some turned) new = TurnsAtOnce s k layout room old turned new

@@ -1,6 +1,6 @@
 -- What a turn of a worker does.
 use Rattle.std.specs.Prelude.{◌≡◌, ◌≢◌, ◌⊎◌, ◌==◌, if◌then◌else◌, ℕ, ◌+◌, ◌-◌, ◌^◌, ◌<◌, ◌≤◌, nat_lt, min, max, Bool, true, false, ◌&&◌, ◌||◌}
-use Rattle.std.specs.Prelude.{List, [], length, ◌++◌, slice_get, slice_set}
+use Rattle.std.specs.Prelude.{List, [], ◌∷◌, length, ◌++◌, slice_get, slice_set}
 use Rattle.std.specs.Prelude.{Option, None, Some, IfSome, IsSome}
 use Rattle.std.specs.Option.{is_some}
 use Rattle.pp_settings.specs.Layout.{Geometry, HasPage}
@@ -419,6 +419,27 @@ abbrev pub TurnIs : {S D W : Type 0} → Site.Ghosts S → Device.Ghosts D → W
     → Turned → (new : Worker S D) → (left : W) → Type 0
 TurnIs s d k old before turned new left =
     MakesOne s d k old before turned new left ⊎ Waits old before turned new left
+
+-- The rest of a worker stays as it was: the layout, how many bytes a page has, and the room for a page and for events.
+pub record KeepsRest {S D : Type 0} (old new : Worker S D) : Type 0 where
+  pub layout : new.layout ≡ old.layout
+  pub page_bytes : new.page_bytes ≡ old.page_bytes
+  pub page : room_of new ≡ room_of old
+  pub events : new.log.capacity ≡ old.log.capacity
+
+-- Turns follow one another, and lead over these workers and works: each but the last is done and keeps the rest of the worker,
+-- and the last ends so.
+abbrev pub TurnsOver : {S D W : Type 0} → Site.Ghosts S → Device.Ghosts D → Work.Ghosts W → (old : Worker S D) → (before : W)
+    → List (Worker S D × W) → Turned → (new : Worker S D) → (left : W) → Type 0
+TurnsOver s d k old before [] turned new left = TurnIs s d k old before turned new left
+TurnsOver s d k old before (mid ∷ rest) turned new left =
+    TurnIs s d k old before Done mid.0 mid.1 × TurnsOver s d k mid.0 mid.1 rest turned new left × KeepsRest old mid.0
+
+-- One turn at least is made, and all turns but the last are done.
+abbrev pub TurnsBehind : {S D W : Type 0} → Site.Ghosts S → Device.Ghosts D → Work.Ghosts W → (old : Worker S D) → (before : W)
+    → Turned → (new : Worker S D) → (left : W) → Type 0
+TurnsBehind s d k old before turned new left =
+    (over : List (Worker _ _ × _)) × TurnsOver s d k old before over turned new left
 
 -- ---- room
 

@@ -17,6 +17,7 @@ use pp_vault::{
 };
 
 /// Makes the call of the request. Tells what it is answered, and what the vault did, where it isn't refused.
+#[inline(always)]
 pub(crate) fn ask(vault: &mut Vault, request: Request) -> (BookAnswer, Option<Done>)
     ensures comes { ComesTo vault.old request result.0 vault.new }
     ensures does { DoesUnless vault.old request result.0 vault.new }
@@ -120,6 +121,7 @@ fn give_back(vault: &mut Vault, leaver: Leaver, guard: Guard) -> (BookAnswer, Op
 // ---- a worker and its slots
 
 #[tactic(auto, using(crate::proofs::Noted::refused_does, crate::proofs::Tokens::sent_worker))]
+#[inline(always)]
 fn fix(vault: &mut Vault, session: Session, page: u32) -> (BookAnswer, Option<Done>)
     ensures comes { ComesTo vault.old (request.Fix session page) result.0 vault.new }
     ensures does { DoesUnless vault.old (request.Fix session page) result.0 vault.new }
@@ -212,6 +214,7 @@ fn scatter(vault: &mut Vault, session: Session, guard: BundleGuard) -> (BookAnsw
 }
 
 #[tactic(auto, using(crate::proofs::Noted::refused_does))]
+#[inline(always)]
 fn latch_shared(vault: &mut Vault, session: Session, guard: PinGuard) -> (BookAnswer, Option<Done>)
     ensures comes { ComesTo vault.old (request.LatchShared session guard) result.0 vault.new }
     ensures does { DoesUnless vault.old (request.LatchShared session guard) result.0 vault.new }

@@ -1,6 +1,6 @@
 //! A vault with its journal.
 
-ghost use Rattle.std.specs.Prelude.{◌≡◌, ◌≤◌, ◌<◌, ◌↔◌, ◌++◌, ◌∷◌, true, false, [], None, Some, IsSome, is_ok, IfOk, IfErr};
+ghost use Rattle.std.specs.Prelude.{◌≡◌, ◌≤◌, ◌<◌, ◌+◌, ◌↔◌, ◌++◌, true, false, [], None, Some, IsSome, is_ok, IfOk, IfErr};
 ghost use Rattle.std.specs.Prelude.{OnOk, OnErr, IfSome, length, option_map};
 ghost use Rattle.std.specs.Option.{is_some};
 ghost use Rattle.pp_model.specs.declared.event.Event.TheVariants.{Step};
@@ -18,8 +18,8 @@ ghost use Rattle.pp_pool.specs.Requests.{event_for, events_in};
 ghost use Rattle.pp_pool.specs.Performing.{ComesTo};
 ghost use Rattle.pp_pool.specs.Replies.{Replies};
 ghost use Rattle.pp_pool.specs.Performs.{Performs};
-ghost use Rattle.pp_pool.specs.AtOnce.{fixed, latched_shared, unlatched_shared, unfixed};
-ghost use Rattle.pp_pool.specs.declared.request.Request.TheVariants as request;
+ghost use Rattle.pp_pool.specs.Readings.{ReadsBy, EndsReadBy, read_events, end_events};
+ghost use Rattle.pp_vault.specs.Reads.{may_read, may_end_read};
 ghost use Rattle.pp_pool.specs.Submits.{TakesIn, IsCause, HadRoom, HasRoom, LacksRoom};
 ghost use Rattle.pp_pool.specs.Renewals.{HasLifeRoom};
 ghost use Rattle.pp_model.specs.Submitting.{submit_error};
@@ -32,10 +32,7 @@ use pp_journal::Journal;
 use pp_model::{Event, Move, Reply, SubmitError, Turn};
 use pp_outset::Outset;
 use pp_settings::Settings;
-use pp_vault::{
-    Accepted, Done, Fixed, Hands, LookError, PinGuard, PlanId, ReadGuard, Session, Vault,
-    VaultError,
-};
+use pp_vault::{Accepted, Done, Hands, LookError, PlanId, ReadGuard, Session, Vault, VaultError};
 use std::alloc::Global;
 use std::marker::Model;
 
@@ -196,6 +193,7 @@ impl Book {
     /// possible; its reply is the model's, in the state that the journal leads to. The answer is then the vault's. Else
     /// the request comes back with its tokens, and with the cause: [`pp_vault::Refusal::Stranger`] where a token
     /// doesn't fit. It takes no memory.
+    #[inline(always)]
     pub fn perform(&mut self, request: Request) -> Response
         ensures event { result.event ≡ event_for self.old request }
         ensures journal { self.new.journal ≡ self.old.journal ++ events_in result.event }
@@ -213,109 +211,62 @@ impl Book {
         Response { event, answer }
     }
 
-    /// Performs [`Request::Fix`], where it is possible, and answers what it comes to with the event's reply. No request and no
-    /// response are built for it.
+    /// Performs [`Request::Fix`] of a page that is cached and then [`Request::LatchShared`], where both are possible at once: two
+    /// events. Answers the tokens and the frame, which the first event tells. No request and no response are built for it.
     ///
     /// # Errors
     ///
-    /// The session, exactly where the request would be refused. Nothing has changed.
-    pub fn fix(&mut self, session: Session, page: u32) -> Result<(Fixed, Reply), Session>
-        ensures ok { IfOk result (λ now. Performs self.old (request.Fix session page) (fixed session page now) self.new) }
-        ensures fits { IfOk result (λ now. Replies (request.Fix session page) (fixed session page now)) }
-        ensures err { OnErr result (event_for self.old (request.Fix session page) ≡ None) }
+    /// The session, exactly where [`Vault::read`] refuses it. Nothing has changed.
+    #[inline(always)]
+    pub fn read(
+        &mut self,
+        session: Session,
+        page: u32,
+    ) -> Result<(Session, ReadGuard, u32), Session>
+        ensures exact { is_ok result ≡ may_read session page (state_of self.old) }
+        ensures ok { IfOk result (λ now. ReadsBy Performs self.old session page self.new now.0 now.1 now.2) }
         ensures back { IfErr result (λ e. e ≡ session) }
         ensures unchanged { OnErr result (self.new ≡ self.old) }
         ensures kept { IsBook self.new }
         ensures headline { HeadlineHolds self.new }
     {
-        match self.vault.fix(session, page) {
-            Ok((fixed, done)) => {
-                let reply = added_fix(done, &mut self.journal);
-                Ok((fixed, reply))
+        let worker = session.worker();
+        match self.vault.read(session, page) {
+            Ok((session, guard, frame)) => {
+                let mark = guard.mark();
+                note_read(worker, page, frame, mark, &mut self.journal);
+                Ok((session, guard, frame))
             }
-            Err((session, _refusal)) => Err(session),
+            Err(session) => Err(session),
         }
     }
 
-    /// Performs [`Request::LatchShared`], where it is possible, and answers the tokens with the event's reply. No request and
-    /// no response are built for it.
+    /// Performs [`Request::UnlatchShared`] and then [`Request::Unfix`], where the plan asks both: two events. Answers the session
+    /// and the mark, which the first event tells. The guard is spent.
     ///
     /// # Errors
     ///
-    /// The tokens, exactly where the request would be refused. Nothing has changed.
-    pub fn latch_shared(
-        &mut self,
-        session: Session,
-        guard: PinGuard,
-    ) -> Result<(Session, ReadGuard, Reply), (Session, PinGuard)>
-        ensures ok { IfOk result (λ now. Performs self.old (request.LatchShared session guard) (latched_shared session now) self.new) }
-        ensures fits { IfOk result (λ now. Replies (request.LatchShared session guard) (latched_shared session now)) }
-        ensures err { OnErr result (event_for self.old (request.LatchShared session guard) ≡ None) }
-        ensures back { IfErr result (λ e. e ≡ (session, guard)) }
-        ensures unchanged { OnErr result (self.new ≡ self.old) }
-        ensures kept { IsBook self.new }
-        ensures headline { HeadlineHolds self.new }
-    {
-        match self.vault.latch_shared(session, guard) {
-            Ok((session, guard, done)) => {
-                let reply = added_latch(done, &mut self.journal);
-                Ok((session, guard, reply))
-            }
-            Err((session, guard, _refusal)) => Err((session, guard)),
-        }
-    }
-
-    /// Performs [`Request::UnlatchShared`] so.
-    ///
-    /// # Errors
-    ///
-    /// The tokens, exactly where the request would be refused. Nothing has changed.
-    pub fn unlatch_shared(
+    /// The tokens, exactly where [`Vault::end_read`] refuses them. Nothing has changed.
+    #[inline(always)]
+    pub fn end_read(
         &mut self,
         session: Session,
         guard: ReadGuard,
-    ) -> Result<(Session, PinGuard, Reply), (Session, ReadGuard)>
-        ensures ok { IfOk result (λ now. Performs self.old (request.UnlatchShared session guard) (unlatched_shared session now) self.new) }
-        ensures fits { IfOk result (λ now. Replies (request.UnlatchShared session guard) (unlatched_shared session now)) }
-        ensures err { OnErr result (event_for self.old (request.UnlatchShared session guard) ≡ None) }
+    ) -> Result<(Session, u64), (Session, ReadGuard)>
+        ensures exact { is_ok result ≡ may_end_read session guard (state_of self.old) }
+        ensures ok { IfOk result (λ now. EndsReadBy Performs self.old session guard self.new now.0 now.1) }
         ensures back { IfErr result (λ e. e ≡ (session, guard)) }
         ensures unchanged { OnErr result (self.new ≡ self.old) }
         ensures kept { IsBook self.new }
         ensures headline { HeadlineHolds self.new }
     {
-        match self.vault.unlatch_shared(session, guard) {
-            Ok((session, guard, done)) => {
-                let reply = added_unlatch(done, &mut self.journal);
-                Ok((session, guard, reply))
+        let worker = session.worker();
+        match self.vault.end_read(session, guard) {
+            Ok((session, mark)) => {
+                note_end(worker, mark, &mut self.journal);
+                Ok((session, mark))
             }
-            Err((session, guard, _refusal)) => Err((session, guard)),
-        }
-    }
-
-    /// Performs [`Request::Unfix`] so.
-    ///
-    /// # Errors
-    ///
-    /// The tokens, exactly where the request would be refused. Nothing has changed.
-    pub fn unfix(
-        &mut self,
-        session: Session,
-        guard: PinGuard,
-    ) -> Result<(Session, Reply), (Session, PinGuard)>
-        ensures ok { IfOk result (λ now. Performs self.old (request.Unfix session guard) (unfixed session now) self.new) }
-        ensures fits { IfOk result (λ now. Replies (request.Unfix session guard) (unfixed session now)) }
-        ensures err { OnErr result (event_for self.old (request.Unfix session guard) ≡ None) }
-        ensures back { IfErr result (λ e. e ≡ (session, guard)) }
-        ensures unchanged { OnErr result (self.new ≡ self.old) }
-        ensures kept { IsBook self.new }
-        ensures headline { HeadlineHolds self.new }
-    {
-        match self.vault.unfix(session, guard) {
-            Ok((session, done)) => {
-                let reply = added_unfix(done, &mut self.journal);
-                Ok((session, reply))
-            }
-            Err((session, guard, _refusal)) => Err((session, guard)),
+            Err((session, guard)) => Err((session, guard)),
         }
     }
 
@@ -411,6 +362,7 @@ impl Book {
 }
 
 /// Adds what the vault did to the journal, its move with the reply, where it did one.
+#[inline(always)]
 fn noted(done: Option<Done>, journal: &mut Journal) -> Option<Event>
     requires { IsSome done → length journal.old.items < journal.old.capacity }
     ensures event { result ≡ option_map (λ t. Step t.0 t.1) done }
@@ -418,97 +370,33 @@ fn noted(done: Option<Done>, journal: &mut Journal) -> Option<Event>
     ensures memory { journal.new.capacity ≡ journal.old.capacity }
 {
     let (did, reply) = done?;
-    let reply = added_any((did, reply), journal);
-    Some(Event::Step { did, reply })
+    let event = Event::Step { did, reply };
+    journal.push_reserved(event);
+    Some(event)
 }
 
-/// Adds what the vault did to the journal, and tells its reply. Where the kind of the move is known, little is left of the
-/// packing.
+/// Adds the two events of a reading that began: a fix that was a hit, and a latch S.
 #[inline(always)]
-fn added(done: Done, journal: &mut Journal) -> Reply
-    requires { length journal.old.items < journal.old.capacity }
-    ensures reply { result ≡ done.1 }
-    ensures journal { journal.new.items ≡ journal.old.items ++ Step done.0 done.1 ∷ [] }
+pub(crate) fn note_read(worker: u32, page: u32, frame: u32, mark: u64, journal: &mut Journal)
+    requires { length journal.old.items + 2 ≤ journal.old.capacity }
+    ensures journal { journal.new.items ≡ journal.old.items ++ read_events worker page frame mark }
     ensures memory { journal.new.capacity ≡ journal.old.capacity }
 {
-    let (did, reply) = done;
+    let (did, reply) = (Move::Fix { worker, page }, Reply::Hit { frame, mark });
     journal.push_reserved(Event::Step { did, reply });
-    reply
+    let (did, reply) = (Move::Latch { worker }, Reply::Latched { mark });
+    journal.push_reserved(Event::Step { did, reply });
 }
 
-/// The same, where the kind isn't known.
-#[inline(never)]
-fn added_any(done: Done, journal: &mut Journal) -> Reply
-    requires { length journal.old.items < journal.old.capacity }
-    ensures reply { result ≡ done.1 }
-    ensures journal { journal.new.items ≡ journal.old.items ++ Step done.0 done.1 ∷ [] }
+/// Adds the two events of a reading that ended: the unlatch, and the unfix.
+#[inline(always)]
+pub(crate) fn note_end(worker: u32, mark: u64, journal: &mut Journal)
+    requires { length journal.old.items + 2 ≤ journal.old.capacity }
+    ensures journal { journal.new.items ≡ journal.old.items ++ end_events worker mark }
     ensures memory { journal.new.capacity ≡ journal.old.capacity }
 {
-    added(done, journal)
-}
-
-/// The same for a fix that hits.
-fn added_fix(done: Done, journal: &mut Journal) -> Reply
-    requires { length journal.old.items < journal.old.capacity }
-    ensures reply { result ≡ done.1 }
-    ensures journal { journal.new.items ≡ journal.old.items ++ Step done.0 done.1 ∷ [] }
-    ensures memory { journal.new.capacity ≡ journal.old.capacity }
-{
-    match done {
-        (Move::Fix { worker, page }, Reply::Hit { frame, mark }) => {
-            added(
-                (Move::Fix { worker, page }, Reply::Hit { frame, mark }),
-                journal,
-            )
-        }
-        done => added_any(done, journal),
-    }
-}
-
-/// The same for a latch.
-fn added_latch(done: Done, journal: &mut Journal) -> Reply
-    requires { length journal.old.items < journal.old.capacity }
-    ensures reply { result ≡ done.1 }
-    ensures journal { journal.new.items ≡ journal.old.items ++ Step done.0 done.1 ∷ [] }
-    ensures memory { journal.new.capacity ≡ journal.old.capacity }
-{
-    match done {
-        (Move::Latch { worker }, Reply::Latched { mark }) => {
-            added((Move::Latch { worker }, Reply::Latched { mark }), journal)
-        }
-        done => added_any(done, journal),
-    }
-}
-
-/// The same for an unlatch.
-fn added_unlatch(done: Done, journal: &mut Journal) -> Reply
-    requires { length journal.old.items < journal.old.capacity }
-    ensures reply { result ≡ done.1 }
-    ensures journal { journal.new.items ≡ journal.old.items ++ Step done.0 done.1 ∷ [] }
-    ensures memory { journal.new.capacity ≡ journal.old.capacity }
-{
-    match done {
-        (Move::Unlatch { worker }, Reply::Unlatched { mark }) => {
-            added(
-                (Move::Unlatch { worker }, Reply::Unlatched { mark }),
-                journal,
-            )
-        }
-        done => added_any(done, journal),
-    }
-}
-
-/// The same for an unfix.
-fn added_unfix(done: Done, journal: &mut Journal) -> Reply
-    requires { length journal.old.items < journal.old.capacity }
-    ensures reply { result ≡ done.1 }
-    ensures journal { journal.new.items ≡ journal.old.items ++ Step done.0 done.1 ∷ [] }
-    ensures memory { journal.new.capacity ≡ journal.old.capacity }
-{
-    match done {
-        (Move::Unfix { worker }, Reply::Did) => {
-            added((Move::Unfix { worker }, Reply::Did), journal)
-        }
-        done => added_any(done, journal),
-    }
+    let (did, reply) = (Move::Unlatch { worker }, Reply::Unlatched { mark });
+    journal.push_reserved(Event::Step { did, reply });
+    let (did, reply) = (Move::Unfix { worker }, Reply::Did);
+    journal.push_reserved(Event::Step { did, reply });
 }

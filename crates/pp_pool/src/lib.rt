@@ -16,10 +16,10 @@ pub use worker::Worker;
 
 mod asked;
 mod asking;
-mod at_once;
 mod book;
 mod error;
 mod flusher;
+mod reading;
 mod renewing;
 mod request;
 mod response;

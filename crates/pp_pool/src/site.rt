@@ -6,16 +6,14 @@ ghost use Rattle.pp_vault.specs.declared.guards.ReadGuard.{ReadGuard};
 ghost use Rattle.pp_pool.specs.declared.request.Request.{Request};
 ghost use Rattle.pp_pool.specs.declared.response.Response.{Response};
 ghost use Rattle.pp_pool.specs.Replies.{Replies};
-ghost use Rattle.pp_pool.specs.AtOnce.{fixed, latched_shared, unlatched_shared, unfixed};
-ghost use Rattle.pp_pool.specs.declared.request.Request.TheVariants as request;
+ghost use Rattle.pp_pool.specs.Readings.{ReadsBy, EndsReadBy};
 
 use crate::book::Book;
 use crate::request::Request;
 use crate::response::Response;
 use pp_device::image;
 use pp_device::image::HEAD;
-use pp_model::Reply;
-use pp_vault::{Fixed, PinGuard, ReadGuard, Session};
+use pp_vault::{ReadGuard, Session};
 
 /// How many bytes of an image a work is shown at least.
 pub(crate) const SHORTEST: usize = 64;
@@ -62,74 +60,34 @@ pub trait Site {
         ensures same { self.new ≡ self.old }
     {}
 
-    /// Fixes a page into the slot that the session's plan names, or gathers it into the bundle there, where that is possible at
-    /// once, and answers what it comes to with the event's reply: what [`Site::perform`] does for [`Request::Fix`], without a
-    /// request and a response. A site may leave this to `perform`.
+    /// Fixes a page that is cached into the slot that the session's plan names, and latches it S, where both are possible at once:
+    /// what [`Site::perform`] does for [`Request::Fix`] and then for [`Request::LatchShared`], without a request and a response.
+    /// Answers the tokens and the page's frame, which the reply of the fix tells; the guard has the mark, which both replies tell.
+    /// A site may leave this to `perform`.
     ///
     /// # Errors
     ///
-    /// The session, where it isn't possible at once, or is left to `perform`. Nothing has changed.
-    fn fix(&mut self, session: Session, page: u32) -> Result<(Fixed, Reply), Session>
-        ensures given { IfOk result (λ now. gives self.old (request.Fix session page) (fixed session page now) self.new) }
-        ensures fits { IfOk result (λ now. Replies (request.Fix session page) (fixed session page now)) }
+    /// The session, where the two aren't possible at once, or are left to `perform`. Nothing has changed.
+    fn read(&mut self, session: Session, _page: u32) -> Result<(Session, ReadGuard, u32), Session>
+        ensures given { IfOk result (λ now. ReadsBy gives self.old session _page self.new now.0 now.1 now.2) }
         ensures back { IfErr result (λ e. e ≡ session) }
         ensures same { OnErr result (self.new ≡ self.old) }
     {
         Err(session)
     }
 
-    /// Latches the page of a slot S, where that is possible at once, and answers the tokens with the event's reply: what
-    /// [`Site::perform`] does for [`Request::LatchShared`], without a request and a response. A site may leave this to
-    /// `perform`.
+    /// Takes a reader's latch off and gives the page back so: what `perform` does for [`Request::UnlatchShared`] and then for
+    /// [`Request::Unfix`]. Answers the session and the mark, which the reply of the unlatch tells.
     ///
     /// # Errors
     ///
-    /// The tokens, where it isn't possible at once, or is left to `perform`. Nothing has changed.
-    fn latch_shared(
-        &mut self,
-        session: Session,
-        guard: PinGuard,
-    ) -> Result<(Session, ReadGuard, Reply), (Session, PinGuard)>
-        ensures given { IfOk result (λ now. gives self.old (request.LatchShared session guard) (latched_shared session now)
-            self.new) }
-        ensures fits { IfOk result (λ now. Replies (request.LatchShared session guard) (latched_shared session now)) }
-        ensures back { IfErr result (λ e. e ≡ (session, guard)) }
-        ensures same { OnErr result (self.new ≡ self.old) }
-    {
-        Err((session, guard))
-    }
-
-    /// Takes a reader's latch off so.
-    ///
-    /// # Errors
-    ///
-    /// The tokens, as for [`Site::latch_shared`].
-    fn unlatch_shared(
+    /// The tokens, where the plan doesn't ask both, or they are left to `perform`. Nothing has changed.
+    fn end_read(
         &mut self,
         session: Session,
         guard: ReadGuard,
-    ) -> Result<(Session, PinGuard, Reply), (Session, ReadGuard)>
-        ensures given { IfOk result (λ now. gives self.old (request.UnlatchShared session guard)
-            (unlatched_shared session now) self.new) }
-        ensures fits { IfOk result (λ now. Replies (request.UnlatchShared session guard) (unlatched_shared session now)) }
-        ensures back { IfErr result (λ e. e ≡ (session, guard)) }
-        ensures same { OnErr result (self.new ≡ self.old) }
-    {
-        Err((session, guard))
-    }
-
-    /// Gives the page of a slot that isn't latched back so.
-    ///
-    /// # Errors
-    ///
-    /// The tokens, as for [`Site::latch_shared`].
-    fn unfix(
-        &mut self,
-        session: Session,
-        guard: PinGuard,
-    ) -> Result<(Session, Reply), (Session, PinGuard)>
-        ensures given { IfOk result (λ now. gives self.old (request.Unfix session guard) (unfixed session now) self.new) }
-        ensures fits { IfOk result (λ now. Replies (request.Unfix session guard) (unfixed session now)) }
+    ) -> Result<(Session, u64), (Session, ReadGuard)>
+        ensures given { IfOk result (λ now. EndsReadBy gives self.old session guard self.new now.0 now.1) }
         ensures back { IfErr result (λ e. e ≡ (session, guard)) }
         ensures same { OnErr result (self.new ≡ self.old) }
     {
@@ -177,6 +135,7 @@ impl Site for OwnSite {
 
     ghost tells = { λ s most. most ≡ greatest_cost (plans_of s.book) };
 
+    #[inline(always)]
     fn perform(&mut self, request: Request) -> Response {
         self.book.perform(request)
     }
@@ -194,31 +153,15 @@ impl Site for OwnSite {
         self.book.most()
     }
 
-    fn fix(&mut self, session: Session, page: u32) -> Result<(Fixed, Reply), Session> {
-        self.book.fix(session, page)
+    fn read(&mut self, session: Session, page: u32) -> Result<(Session, ReadGuard, u32), Session> {
+        self.book.read(session, page)
     }
 
-    fn latch_shared(
-        &mut self,
-        session: Session,
-        guard: PinGuard,
-    ) -> Result<(Session, ReadGuard, Reply), (Session, PinGuard)> {
-        self.book.latch_shared(session, guard)
-    }
-
-    fn unlatch_shared(
+    fn end_read(
         &mut self,
         session: Session,
         guard: ReadGuard,
-    ) -> Result<(Session, PinGuard, Reply), (Session, ReadGuard)> {
-        self.book.unlatch_shared(session, guard)
-    }
-
-    fn unfix(
-        &mut self,
-        session: Session,
-        guard: PinGuard,
-    ) -> Result<(Session, Reply), (Session, PinGuard)> {
-        self.book.unfix(session, guard)
+    ) -> Result<(Session, u64), (Session, ReadGuard)> {
+        self.book.end_read(session, guard)
     }
 }

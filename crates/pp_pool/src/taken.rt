@@ -10,6 +10,7 @@ use crate::response::BookAnswer;
 use pp_vault::{Guard, Guards, Stage};
 
 /// The stage of the answer's tokens. Its guard, if there is one, comes into its place.
+#[inline(always)]
 pub(crate) fn stage_after(guards: &mut Guards, answer: BookAnswer) -> Stage
     requires stage { IsSome (stage_in answer) }
     requires place { IfSome (guard_in answer) (λ guard. is_free guards.old (slot_by guard) ≡ true) }
@@ -25,6 +26,7 @@ pub(crate) fn stage_after(guards: &mut Guards, answer: BookAnswer) -> Stage
 }
 
 /// The tokens of an answer: the stage's, and a guard, if there is one.
+#[inline(always)]
 fn tokens(answer: BookAnswer) -> (Stage, Option<Guard>)
     requires { IsSome (stage_in answer) }
     ensures stage { stage_in answer ≡ Some result.0 }
@@ -46,6 +48,7 @@ fn tokens(answer: BookAnswer) -> (Stage, Option<Guard>)
 }
 
 /// The tokens of a request that came back.
+#[inline(always)]
 fn tokens_back(request: Request) -> (Stage, Option<Guard>)
     requires { IsSome (stage_asked request) }
     ensures stage { stage_asked request ≡ Some result.0 }

@@ -4,14 +4,14 @@ ghost use Rattle.std.specs.Prelude.{◌≡◌, ◌<◌, ◌≤◌, ◌+◌, ◌=
 ghost use Rattle.pp_vault.specs.Stages.{is_chair, stage_worker};
 ghost use Rattle.pp_settings.specs.Settings.{geometry_of};
 ghost use Rattle.pp_pool.specs.declared.turned.Turned.TheVariants.{Broken};
-ghost use Rattle.pp_pool.specs.Turns.{TurnIs, TurnOf, MakesOne, MakesRoom, room_of, reach_of, worker_with, Uses, LooksAt};
+ghost use Rattle.pp_pool.specs.Turns.{TurnIs, TurnOf, TurnsBehind, MakesOne, MakesRoom, room_of, reach_of, worker_with, Uses, LooksAt};
 ghost use Rattle.pp_pool.specs.Turns.{IsLong, IsReach, all_bytes};
 ghost use Rattle.pp_pool.specs.Turns.{KeepsPlace, keeps_place, logged_events, IsWorkers, FindsPlace};
 ghost use Rattle.pp_pool.specs.ShortTurns.{Comes};
 ghost use Rattle.pp_pool.specs.Turns.{has_errand as errand_is_there, turned_by as turned_then};
 
 use crate::asked::next;
-use crate::at_once::at_once;
+use crate::reading::read_on;
 use crate::request::Request;
 use crate::response::{BookAnswer, Response};
 use crate::site::{SHORTEST, Site};
@@ -21,7 +21,7 @@ use crate::work::Work;
 use core::mem;
 use pp_device::{Device, image};
 use pp_journal::Journal;
-use pp_model::{Event, Move, Reply};
+use pp_model::Event;
 use pp_plan::Ask;
 use pp_settings::{Layout, Settings};
 use pp_vault::{Delay, Guards, Hand, ReadGuard, Refusal, Session, Stage};
@@ -145,14 +145,49 @@ impl<S: Site, D: Device> Worker<S, D> {
         turned
     }
 
-    /// The same, where the next turn is made at once, with the same work. A shared site may keep its lock for that, but only
-    /// where the next request wants neither the work nor the device: while one of these is called it has let it go.
+    /// Makes turns one after another, each as [`Worker::turn`] makes it, with the same work: all of them were done but the
+    /// last, which ends so. Who calls it makes the next turn at once too. A shared site may keep its lock for that, but while
+    /// the work or the device is called it has let it go.
     ///
-    /// How far the work reaches is asked with the page that it names, where that is, so that no work is called between the
-    /// fix and the look. A new worker knows of no reach, and after [`Worker::turn`] none is relied on.
+    /// Where the plan reads pages that are cached, it makes four turns for each without putting its tokens into the hand: a
+    /// fix, a latch S behind which the work sees the page, an unlatch and an unfix. It goes on so while the plan asks just that
+    /// and the log has room. Else it makes one turn.
+    ///
+    /// How far the work reaches is asked with the page that it names, so that no work is called between the fix and the look.
+    /// A new worker knows of no reach, and after [`Worker::turn`] none is relied on.
     ///
     /// Who makes no turn more lets the site go: `worker.site.let_go()`.
-    pub fn turn_on<W: Work>(&mut self, work: &mut W) -> Turned
+    pub fn quick_turns<W: Work>(&mut self, work: &mut W) -> Turned
+        requires { IsReach W.Work (reach_of self.old) work.old }
+        ensures turns { TurnsBehind S.Site D.Device W.Work self.old work.old result self.new work.new }
+        ensures errand { errand_is_there self.old.hand.stage ≡ true → KeepsPlace self.old.hand
+            → MakesOne S.Site D.Device W.Work self.old work.old result self.new work.new }
+        ensures keeps { KeepsPlace self.old.hand → KeepsPlace self.new.hand }
+        ensures room { MakesRoom S.Site self.old result self.new }
+        ensures worker { stage_worker self.new.hand.stage ≡ stage_worker self.old.hand.stage }
+        ensures layout { self.new.layout ≡ self.old.layout }
+        ensures page_bytes { self.new.page_bytes ≡ self.old.page_bytes }
+        ensures reach { IsReach W.Work (reach_of self.new) work.new }
+    {
+        let read = read_on(
+            &mut self.hand.stage,
+            &mut self.hand.guards,
+            &self.layout,
+            &mut self.site,
+            &mut self.log,
+            &mut self.seen,
+            &mut self.reach,
+            work,
+        );
+        match read {
+            Some(turned) => turned,
+            None => self.turn_on(work),
+        }
+    }
+
+    /// The same, where the next turn is made at once, with the same work, and is no reading. A shared site may keep its lock
+    /// for that, but only where the next request wants neither the work nor the device.
+    fn turn_on<W: Work>(&mut self, work: &mut W) -> Turned
         requires { IsReach W.Work (reach_of self.old) work.old }
         ensures turn { TurnIs S.Site D.Device W.Work self.old work.old result self.new work.new }
         ensures errand { errand_is_there self.old.hand.stage ≡ true → KeepsPlace self.old.hand
@@ -255,39 +290,9 @@ fn has_errand(stage: &Stage) -> bool
     matches!(stage, Stage::Out(_) | Stage::Back(_))
 }
 
-/// Makes the request, if the stage has one; the log has room for its event, or an errand is in hand.
+/// Makes the request, if the stage has one; the log has room for its event, or an errand is in hand. The stage alone goes out
+/// of its place for that, since it is small.
 fn ask<S: Site, D: Device, W: Work>(
-    stage: &mut Stage,
-    guards: &mut Guards,
-    layout: &Layout,
-    site: &mut S,
-    device: &mut D,
-    log: &mut Journal,
-    seen: &mut Vec<u8>,
-    reach: &mut Option<usize>,
-    work: &mut W,
-) -> Turned
-    requires room { errand_is_there stage.old ≡ false → length log.old.items < log.old.capacity }
-    requires reach { IsReach W.Work reach.old work.old }
-    ensures turn { TurnOf S.Site D.Device W.Work layout.now (length seen.old.items)
-        (λ w. worker_with w stage.old guards.old site.old device.old log.old) work.old result
-        (λ w. worker_with w stage.new guards.new site.new device.new log.new) work.new }
-    ensures keeps { keeps_place guards.old stage.old ≡ true → keeps_place guards.new stage.new ≡ true }
-    ensures memory { log.new.capacity ≡ log.old.capacity }
-    ensures seen { length seen.new.items ≡ length seen.old.items }
-    ensures worker { stage_worker stage.new ≡ stage_worker stage.old }
-    ensures reach { IsReach W.Work reach.new work.new }
-{
-    match at_once(stage, guards, layout, site, log, seen, reach, work) {
-        Some(turned) => turned,
-        None => ask_by_value(stage, guards, layout, site, device, log, seen, reach, work),
-    }
-}
-
-/// The same by a request and a response. The stage alone goes out of its place for that, since it is small.
-// Not inlined, since the turns that are made at once would pay for its locals.
-#[inline(never)]
-fn ask_by_value<S: Site, D: Device, W: Work>(
     stage: &mut Stage,
     guards: &mut Guards,
     layout: &Layout,
@@ -363,16 +368,16 @@ fn asked<S: Site, D: Device, W: Work>(
     match next(stage, guards, layout, device, work) {
         Ok(request) => {
             ask_reach(&request, reach, work);
-            made(request, guards, site, log, seen, reach, work)
+            made_any(request, guards, site, log, seen, reach, work)
         }
         Err(stage) => (stage, Turned::Broken),
     }
 }
 
 /// Makes the request, whose guard is out of its place. The stage after it, and how the turn ends.
-// Not inlined, since a fix that is done at once would pay for its locals.
+// Inlined, since little is left of it where the kind of the request is known.
 #[tactic(auto, using(crate::proofs::Turning::long_by))]
-#[inline(never)]
+#[inline(always)]
 pub(crate) fn made<S: Site, W: Work>(
     request: Request,
     guards: &mut Guards,
@@ -392,11 +397,34 @@ pub(crate) fn made<S: Site, W: Work>(
     ensures reach { IsReach W.Work reach.new work.new }
 {
     let Response { event, answer } = site.perform(request);
-    let is_logged = add_any(log, event);
+    let is_logged = add(log, event);
     let (answer, turned) = used(answer, site, seen, reach, work);
     let stage = stage_after(guards, answer);
     let_go_unless_at_once(&stage, site);
     (stage, ended(is_logged, turned))
+}
+
+/// The same, where the kind of the request isn't known.
+#[inline(never)]
+fn made_any<S: Site, W: Work>(
+    request: Request,
+    guards: &mut Guards,
+    site: &mut S,
+    log: &mut Journal,
+    seen: &mut Vec<u8>,
+    reach: &mut Option<usize>,
+    work: &mut W,
+) -> (Stage, Turned)
+    requires workers { IsWorkers request }
+    requires finds { FindsPlace guards.old request }
+    requires reach { IsReach W.Work reach.old work.old }
+    ensures comes { Comes S.Site W.Work (length seen.old.items) request guards.old site.old log.old work.old result.1 result.0
+        guards.new site.new log.new work.new }
+    ensures memory { log.new.capacity ≡ log.old.capacity }
+    ensures seen { length seen.new.items ≡ length seen.old.items }
+    ensures reach { IsReach W.Work reach.new work.new }
+{
+    made(request, guards, site, log, seen, reach, work)
 }
 
 /// Lets the site go, unless the stage's next request wants neither the work nor the device.
@@ -410,7 +438,7 @@ fn let_go_unless_at_once<S: Site>(stage: &Stage, site: &mut S)
 }
 
 /// Lets the site go where the session's plan asks something of the work: a page or a branch.
-pub(crate) fn let_go_unless_asked<S: Site>(session: &Session, site: &mut S)
+fn let_go_unless_asked<S: Site>(session: &Session, site: &mut S)
     ensures { site.new ≡ site.old }
 {
     match session.ask() {
@@ -434,9 +462,8 @@ fn ask_reach<W: Work>(request: &Request, reach: &mut Option<usize>, work: &W)
 }
 
 /// Adds the event, if there is one and the log has room for it. Tells whether none is left out.
-// Inlined, since little is left of the packing where the kind of the move is known.
 #[inline(always)]
-pub(crate) fn add(log: &mut Journal, event: Option<Event>) -> bool
+fn add(log: &mut Journal, event: Option<Event>) -> bool
     ensures items { log.new.items ≡ log.old.items ++ logged_events result event }
     ensures full { result ≡ false → log.old.capacity ≤ length log.old.items }
     ensures memory { log.new.capacity ≡ log.old.capacity }
@@ -453,44 +480,15 @@ pub(crate) fn add(log: &mut Journal, event: Option<Event>) -> bool
     }
 }
 
-/// The same of the event of a fix. One that hits is packed at once.
-pub(crate) fn add_fix(log: &mut Journal, event: Option<Event>) -> bool
-    ensures items { log.new.items ≡ log.old.items ++ logged_events result event }
-    ensures full { result ≡ false → log.old.capacity ≤ length log.old.items }
-    ensures memory { log.new.capacity ≡ log.old.capacity }
-{
-    match event {
-        Some(
-            Event::Step {
-                did: Move::Fix { worker, page },
-                reply: Reply::Hit { frame, mark },
-            },
-        ) => {
-            let (did, reply) = (Move::Fix { worker, page }, Reply::Hit { frame, mark });
-            add(log, Some(Event::Step { did, reply }))
-        }
-        event => add_any(log, event),
-    }
-}
-
-/// The same, where the kind isn't known.
-#[inline(never)]
-fn add_any(log: &mut Journal, event: Option<Event>) -> bool
-    ensures items { log.new.items ≡ log.old.items ++ logged_events result event }
-    ensures full { result ≡ false → log.old.capacity ≤ length log.old.items }
-    ensures memory { log.new.capacity ≡ log.old.capacity }
-{
-    add(log, event)
-}
-
 /// How a turn ends: as its answer says, but broken where its event is left out.
-pub(crate) fn ended(is_logged: bool, turned: Turned) -> Turned
+fn ended(is_logged: bool, turned: Turned) -> Turned
     ensures { result ≡ (if is_logged then turned else Broken) }
 {
     if is_logged { turned } else { Turned::Broken }
 }
 
 /// What the work does with an answer's page, and how the turn ends.
+#[inline(always)]
 fn used<S: Site, W: Work>(
     answer: BookAnswer,
     site: &mut S,

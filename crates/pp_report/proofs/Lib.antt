@@ -4,7 +4,6 @@ pub mod Plain
 pub mod Spoken
 pub mod Splitting
 pub mod Same
-pub mod SameEvents
 pub mod Passing
 pub mod LivesPassing
 pub mod Verdicts

@@ -1,6 +1,6 @@
-//! Whose move an event is, whether two events are the same, and how large their numbers are.
+//! Whose move an event is, and how large its numbers are.
 
-ghost use Rattle.std.specs.Prelude.{◌≡◌, ◌↔◌, true, map};
+ghost use Rattle.std.specs.Prelude.{◌≡◌, map};
 ghost use Rattle.std.specs.List.{AllByRecursion};
 ghost use Rattle.pp_model.specs.WorkerParts.{worker_of, names_worker};
 ghost use Rattle.pp_report.specs.Lines.{HasNumbers};
@@ -35,13 +35,6 @@ pub fn names_worker(worker: u32, event: Event) -> bool
         Event::Submit { .. } => false,
         Event::Step { did, .. } => worker_of(did) == Some(worker),
     }
-}
-
-/// Whether two events are the same.
-pub fn is_same_event(left: Event, right: Event) -> bool
-    ensures { (result ≡ true) ↔ (left ≡ right) }
-{
-    left == right
 }
 
 /// The numbers of an event have as many bits as their types. It does nothing: its contract is what is known.

@@ -4,7 +4,7 @@
 pub use auditing::{Audited, audit};
 pub use auditor::{Auditor, RENEWAL_LINE, first_line, line_in};
 pub use error::{AuditError, Next};
-pub use events::{is_same_event, names_worker, worker_of};
+pub use events::{names_worker, worker_of};
 pub use figure::{FIGURES, Figure};
 pub use journal::{journal_text, packed_journal_text};
 pub use line::{Asked, Line, Told};

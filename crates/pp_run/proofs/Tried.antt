@@ -1,15 +1,21 @@
 -- What a call leaves that is done at once, or changes nothing.
-use Rattle.std.proofs.Common.{◌≡◌, ◌∙◌, true, List, length, take, drop, sym, subst}
+use Rattle.std.proofs.Common.{◌≡◌, ◌∙◌, ℕ, true, List, length, take, drop, sym, subst}
 use Rattle.std.specs.Prelude.{Result, Ok, Err, IfOk, OnErr}
 use Rattle.std.specs.List.{list_all}
 use Rattle.pp_cert.specs.Accepted.{Acceptance}
 use Rattle.pp_model.specs.Pool.{Settings}
 use Rattle.pp_outset.specs.Outsets.{Outset}
+use Rattle.pp_vault.specs.declared.tokens.Session.{Session}
+use Rattle.pp_vault.specs.declared.guards.ReadGuard.{ReadGuard}
 use Rattle.pp_pool.specs.declared.request.Request.{Request}
 use Rattle.pp_pool.specs.declared.response.Response.{Response}
+use Rattle.pp_pool.specs.declared.response.BookAnswer.TheVariants.{No}
+use Rattle.pp_vault.specs.declared.refusal.Refusal.{Refusal}
 use Rattle.pp_pool.specs.declared.site.OwnSite.{OwnSite}
 use Rattle.pp_pool.specs.Parts.{Parts, settings_of, plans_of}
 use Rattle.pp_pool.specs.Performs.{Performs}
+use Rattle.pp_pool.specs.Readings.{ReadsBy, EndsReadBy}
+use Rattle.pp_pool.specs.Replies.{TokensFit, Replies}
 use Rattle.pp_report.specs.Reports.{is_move}
 use Rattle.pp_run.specs.Runs.{submits}
 use Rattle.pp_run.proofs.Begun.{performs_submits, performs_moves}
@@ -34,11 +40,60 @@ performs_kept k plans o old asked response new p h =
       moving = performs_moves (length plans) old asked response new p h.begun h.moving;
     }
 
-pub tried_kept : {A E : Type 0} (k : Settings) (plans : List Acceptance) (o : Outset) (old : OwnSite) (asked : Request)
-    (done : A → Response) (new : OwnSite) (r : Result A E) → IfOk r (λ now. Performs old.book asked (done now) new.book) → OnErr r (new ≡ old)
-    → IsOfRun k plans o old.book → IsOfRun k plans o new.book
-tried_kept k plans o old asked done new (Ok now) p same h = performs_kept k plans o old.book asked (done now) new.book p h
-tried_kept k plans o old asked done new (Err e) p same h = subst (λ (t : OwnSite). IsOfRun k plans o t.book) (sym same) h
+-- So it is after a reading that began, and after one that ended.
+pub read_kept : (k : Settings) (plans : List Acceptance) (o : Outset) (old new : OwnSite) (x : Session) (page : ℕ)
+    (r : Result (Session × ReadGuard × ℕ) Session)
+    → IfOk r (λ now. ReadsBy (λ s asked response t. Performs s.book asked response t.book) old x page new now.0 now.1 now.2)
+    → OnErr r (new ≡ old) → IsOfRun k plans o old.book → IsOfRun k plans o new.book
+read_kept k plans o old new x page (Ok now) p same h =
+    performs_kept k plans o p.between.book _ _ new.book p.latches (performs_kept k plans o old.book _ _ p.between.book p.fixes h)
+read_kept k plans o old new x page (Err e) p same h = subst (λ (t : OwnSite). IsOfRun k plans o t.book) (sym same) h
+
+pub ended_kept : (k : Settings) (plans : List Acceptance) (o : Outset) (old new : OwnSite) (x : Session) (g : ReadGuard)
+    (r : Result (Session × ℕ) (Session × ReadGuard))
+    → IfOk r (λ now. EndsReadBy (λ s asked response t. Performs s.book asked response t.book) old x g new now.0 now.1)
+    → OnErr r (new ≡ old) → IsOfRun k plans o old.book → IsOfRun k plans o new.book
+ended_kept k plans o old new x g (Ok now) p same h =
+    performs_kept k plans o p.between.book _ _ new.book p.unfixes
+    (performs_kept k plans o old.book _ _ p.between.book p.unlatches h)
+ended_kept k plans o old new x g (Err e) p same h = subst (λ (t : OwnSite). IsOfRun k plans o t.book) (sym same) h
+
+-- A site that gives what fits gives what another gave.
+pub read_fits : {S T : Type 0} (gives : S → Request → Response → S → Type 0) (old new : S) (a b : T) (x : Session) (page : ℕ)
+    (r : Result (Session × ReadGuard × ℕ) Session) → IfOk r (λ now. ReadsBy gives old x page new now.0 now.1 now.2)
+    → IfOk r (λ now. ReadsBy (λ (_ : T) asked response (_ : T). Replies asked response) a x page b now.0 now.1 now.2)
+read_fits gives old new a b x page (Ok now) p = record {
+  between = a;
+  session = p.session;
+  guard = p.guard;
+  fixes = p.fix_fits;
+  fix_fits = p.fix_fits;
+  asks = p.asks;
+  latches = p.latch_fits;
+  latch_fits = p.latch_fits;
+}
+read_fits gives old new a b x page (Err e) p = tt
+
+pub ended_fits : {S T : Type 0} (gives : S → Request → Response → S → Type 0) (old new : S) (a b : T) (x : Session)
+    (g : ReadGuard) (r : Result (Session × ℕ) (Session × ReadGuard)) → IfOk r (λ now. EndsReadBy gives old x g new now.0 now.1)
+    → IfOk r (λ now. EndsReadBy (λ (_ : T) asked response (_ : T). Replies asked response) a x g b now.0 now.1)
+ended_fits gives old new a b x g (Ok now) p = record {
+  between = a;
+  session = p.session;
+  guard = p.guard;
+  unlatches = p.unlatch_fits;
+  unlatch_fits = p.unlatch_fits;
+  asks = p.asks;
+  unfixes = p.unfix_fits;
+  unfix_fits = p.unfix_fits;
+}
+ended_fits gives old new a b x g (Err e) p = tt
+
+-- What is answered to a request that came back is answered to it.
+pub refused_replies : (asked back : Request) (why : Refusal) (first second : Response) → first.answer ≡ No back why
+    → Replies asked first → Replies back second → Replies asked second
+refused_replies asked back why first second is fits later =
+    subst (λ q. Replies q second) (subst (TokensFit asked) is fits.tokens) later
 
 -- What holds on an error of the one holds there of the other.
 pub on_error : {A E : Type 0} {P Q : Type 0} (r : Result A E) → (P → Q) → OnErr r P → OnErr r Q

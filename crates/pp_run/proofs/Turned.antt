@@ -1,5 +1,5 @@
 -- A turn of a worker calls its device as often as its event tells.
-use Rattle.std.proofs.Common.{◌≡◌, ◌≢◌, ◌∙◌, ◌+◌, ◌++◌, inl, inr, ℕ, Bool, true, false, Option, Some, None, List, []}
+use Rattle.std.proofs.Common.{◌≡◌, ◌≢◌, ◌∙◌, ◌+◌, ◌++◌, inl, inr, ℕ, Bool, true, false, Option, Some, None, List, [], ◌∷◌}
 use Rattle.std.proofs.Common.{refl, sym, ap, subst, arith}
 use Rattle.std.specs.Prelude.{is_ok, if◌then◌else◌}
 use Rattle.std.proofs.lemmas.Bool.{false≢true}
@@ -29,7 +29,7 @@ use Rattle.pp_pool.specs.Requests.{events_in}
 use Rattle.pp_pool.specs.Performing.{is_no}
 use Rattle.pp_pool.specs.Replies.{TokensFit, IsMoveOf, duty_move}
 use Rattle.pp_pool.specs.Turns.{Asks, IsStep, IsWayOut, IsTold, Uses, turned_by, stage_asked, stage_in, Turns}
-use Rattle.pp_pool.specs.Turns.{TurnIs}
+use Rattle.pp_pool.specs.Turns.{TurnIs, TurnsOver}
 use Rattle.pp_run.specs.Calling.{calls_of, failed_calls_of, total}
 use Rattle.pp_run.specs.Counted.{IsAtWork}
 use Rattle.pp_run.specs.Ends.{CountsBy}
@@ -376,3 +376,43 @@ pub counts_join : {D : Type 0} (calls failures : D → ℕ) (d e f : D) (a b c :
     → CountsBy calls failures d a e b → CountsBy calls failures e b f c → CountsBy calls failures d a f c
 counts_join calls failures d e f a b c x y =
     record { called = omega (arith, x.called, y.called); failed = omega (arith, x.failed, y.failed) }
+
+-- ---- turns one behind another
+
+module _ {S D W : Type 0} (s : Site.Ghosts S) (d : Device.Ghosts D) (k : Work.Ghosts W) where
+  pub over_kept : (old : Worker S D) (before : W) (over : List (Worker S D × W)) (new : Worker S D) (left : W)
+      → TurnsOver s d k old before over Done new left → IsAtWork old.hand.stage → Kept d.calls d.failures old new
+  over_kept old before [] new left t work = done_kept s d k old new before left t work
+  over_kept old before (mid ∷ rest) new left t work =
+      let first = done_kept s d k old mid.0 before mid.1 t.0 work in
+      let others = over_kept mid.0 mid.1 rest new left t.1 first.work in
+      record {
+        counts =
+            counts_join d.calls d.failures old.device mid.0.device new.device old.log.items mid.0.log.items new.log.items
+            first.counts others.counts;
+        work = others.work;
+      }
+
+  -- What holds of the counts after the last turn, if that ends so, holds after all of them.
+  over_counts : (turned : Turned) (new : Worker S D) (left : W)
+      → ((old : Worker S D) (before : W) → TurnIs s d k old before turned new left
+      → CountsBy d.calls d.failures old.device old.log.items new.device new.log.items)
+      → (old : Worker S D) (before : W) (over : List (Worker S D × W)) → TurnsOver s d k old before over turned new left
+      → IsAtWork old.hand.stage → CountsBy d.calls d.failures old.device old.log.items new.device new.log.items
+  over_counts turned new left last old before [] t work = last old before t
+  over_counts turned new left last old before (mid ∷ rest) t work =
+      let first = done_kept s d k old mid.0 before mid.1 t.0 work in
+      counts_join d.calls d.failures old.device mid.0.device new.device old.log.items mid.0.log.items new.log.items first.counts
+      (over_counts turned new left last mid.0 mid.1 rest t.1 first.work)
+
+  pub over_no_memory : (old : Worker S D) (before : W) (over : List (Worker S D × W)) (new : Worker S D) (left : W)
+      → TurnsOver s d k old before over NoMemory new left → IsAtWork old.hand.stage
+      → CountsBy d.calls d.failures old.device old.log.items new.device new.log.items
+  over_no_memory old before over new left =
+      over_counts NoMemory new left (λ x w. no_memory_counts s d k x new w left) old before over
+
+  pub over_ended : (old : Worker S D) (before : W) (over : List (Worker S D × W)) (new : Worker S D) (left : W)
+      → TurnsOver s d k old before over Ended new left → is_chair new.hand.stage ≡ true → IsAtWork old.hand.stage
+      → CountsBy d.calls d.failures old.device old.log.items new.device new.log.items
+  over_ended old before over new left t chair =
+      over_counts Ended new left (λ x w u. ended_counts s d k x new w left u chair) old before over t

@@ -6,9 +6,8 @@ ghost use Rattle.pp_model.specs.WorkerParts.{part_of, names_worker};
 ghost use Rattle.pp_run.specs.Agreeing.{Agrees, AllAgree};
 
 use crate::stop::Worked;
-use pp_model::Event;
 use pp_pool::Journal;
-use pp_report::{is_same_event, names_worker, worker_of};
+use pp_report::names_worker;
 
 /// How many logs are compared in one pass: as many as a pool may have workers.
 const TOGETHER: usize = 32;
@@ -33,23 +32,12 @@ fn compare<D>(counts: &mut Agreement, worked: &[Worked<D>], events: &Journal, pl
     ensures { AllAgree counts.old worked.now events.now.items place
         → AllAgree counts.new worked.now events.now.items (place + 1) }
 {
-    let event = events.event(place);
-    let Some(worker) = worker_in(event) else {
+    let Some(worker) = events.worker(place) else {
         return;
     };
     let worker = worker as usize;
     if worker < TOGETHER && worker < worked.len() {
         counts[worker] = after(counts[worker], &worked[worker].log, events, place);
-    }
-}
-
-/// The worker whose move the event is, if it is one's.
-fn worker_in(event: Event) -> Option<u32>
-    ensures { (w : ℕ) → (names_worker w event ≡ true) ↔ (result ≡ Some w) }
-{
-    match event {
-        Event::Submit { .. } => None,
-        Event::Step { did, .. } => worker_of(did),
     }
 }
 
@@ -95,26 +83,12 @@ fn is_part_alone(log: &Journal, events: &Journal, worker: u32) -> bool
     next == log.len()
 }
 
-/// Whether the event at a place of the journal stands at this place of the log. Mostly that is seen as they are packed.
+/// Whether the event at a place of the journal stands at this place of the log.
 fn stands_at(log: &Journal, at: usize, events: &Journal, place: usize) -> bool
     ensures same { (event : Event) → slice_get events.now.items place ≡ Some event
         → (result ≡ true) ↔ (slice_get log.now.items at ≡ Some event) }
     ensures counted { result ≡ true → at + 1 < 2 ^ 64 }
 {
     log.known();
-    log.is_seen_same(at, events, place) || is_same_unpacked(log, at, events, place)
-}
-
-/// The same by the events themselves.
-// Not inlined, since events that are the same are mostly packed alike.
-#[inline(never)]
-fn is_same_unpacked(log: &Journal, at: usize, events: &Journal, place: usize) -> bool
-    ensures same { (event : Event) → slice_get events.now.items place ≡ Some event
-        → (result ≡ true) ↔ (slice_get log.now.items at ≡ Some event) }
-    ensures counted { result ≡ true → at < length log.now.items }
-{
-    match (log.get(at), events.get(place)) {
-        (Some(left), Some(right)) => is_same_event(left, right),
-        _ => false,
-    }
+    log.is_same(at, events, place)
 }

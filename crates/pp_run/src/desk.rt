@@ -15,7 +15,7 @@ ghost use Rattle.pp_run.specs.Runs.{submits, coded_events};
 use pp_model::{Event, Reply};
 use pp_pool::{Book, OwnSite, Request, Response, Site};
 use pp_settings::Layout;
-use pp_vault::{Fixed, Flushing, Hand, Hands, PinGuard, ReadGuard, Session};
+use pp_vault::{Flushing, Hand, Hands, ReadGuard, Session};
 use std::marker::{Brand, PhantomData};
 use std::sync::atomic::{AtomicU64, Ordering};
 
@@ -131,6 +131,7 @@ impl<'a, N: Naming> Site for RunDesk<'a, N> {
 
     ghost tells = { λ s most. most ≡ greatest_cost N.plans };
 
+    #[inline(always)]
     fn perform(&mut self, request: Request) -> Response {
         let response = self.site.perform(request);
         if ends_plan(response.event.as_ref()) {
@@ -147,32 +148,16 @@ impl<'a, N: Naming> Site for RunDesk<'a, N> {
         self.site.most()
     }
 
-    fn fix(&mut self, session: Session, page: u32) -> Result<(Fixed, Reply), Session> {
-        self.site.fix(session, page)
+    fn read(&mut self, session: Session, page: u32) -> Result<(Session, ReadGuard, u32), Session> {
+        self.site.read(session, page)
     }
 
-    fn latch_shared(
-        &mut self,
-        session: Session,
-        guard: PinGuard,
-    ) -> Result<(Session, ReadGuard, Reply), (Session, PinGuard)> {
-        self.site.latch_shared(session, guard)
-    }
-
-    fn unlatch_shared(
+    fn end_read(
         &mut self,
         session: Session,
         guard: ReadGuard,
-    ) -> Result<(Session, PinGuard, Reply), (Session, ReadGuard)> {
-        self.site.unlatch_shared(session, guard)
-    }
-
-    fn unfix(
-        &mut self,
-        session: Session,
-        guard: PinGuard,
-    ) -> Result<(Session, Reply), (Session, PinGuard)> {
-        self.site.unfix(session, guard)
+    ) -> Result<(Session, u64), (Session, ReadGuard)> {
+        self.site.end_read(session, guard)
     }
 }
 

@@ -1,12 +1,13 @@
 //! The site of a worker's thread, whose requests may come one after another under one hold of the lock.
 
+ghost use Rattle.pp_pool.specs.Replies.{Replies};
+
 use crate::desk::Desk;
 use crate::locked::Locked;
 use crate::owed::Owed;
-use crate::site::LockedSite;
-use pp_model::Reply;
-use pp_pool::{Request, Response, Site};
-use pp_vault::{Fixed, PinGuard, ReadGuard, Session};
+use crate::site::{LockedSite, has_failed_to_write, takes_writer_off};
+use pp_pool::{BookAnswer, Request, Response, Site};
+use pp_vault::{ReadGuard, Session};
 use std::marker::Model;
 use std::sync::{MutexGuard, Wait};
 
@@ -57,6 +58,17 @@ impl<'a, B: Desk, R: Wait> WorkerSite<'a, B, R> {
         }
     }
 
+    /// Performs a request that was refused, and may have to wait for what it wants.
+    #[inline(never)]
+    fn perform_later(&mut self, request: Request, locked: MutexGuard<'a, Locked<B>>) -> Response
+        ensures { Replies request result }
+    {
+        let (response, locked, owed) = self.site.perform_under(request, locked, self.owed);
+        self.owed = owed;
+        self.held = Some(locked);
+        response
+    }
+
     /// Keeps the lock for the next call, after a move that was done, or none.
     fn keep(&mut self, locked: MutexGuard<'a, Locked<B>>, is_done: bool) {
         if is_done {
@@ -75,12 +87,21 @@ impl<'a, B: Desk, R: Wait> Site for WorkerSite<'a, B, R> {
 
     ghost tells = { λ s most. (desk : B) × B.tells desk most };
 
+    #[tactic(auto, using(crate::proofs::Tried::refused_replies))]
+    #[inline(always)]
     fn perform(&mut self, request: Request) -> Response {
-        let locked = self.hold();
-        let (response, locked, owed) = self.site.perform_under(request, locked, self.owed);
-        self.owed = owed;
-        self.held = Some(locked);
-        response
+        let mut locked = self.hold();
+        let takes_writer_off = takes_writer_off(&request);
+        let Response { event, answer } = locked.desk.perform(request);
+        match answer {
+            BookAnswer::No(request, _refusal) => self.perform_later(request, locked),
+            answer => {
+                let lets_flush = takes_writer_off || has_failed_to_write(event);
+                self.owed = self.owed.and(lets_flush);
+                self.held = Some(locked);
+                Response { event, answer }
+            }
+        }
     }
 
     fn look(&mut self, guard: &ReadGuard, bytes: &mut [u8]) -> bool {
@@ -104,43 +125,21 @@ impl<'a, B: Desk, R: Wait> Site for WorkerSite<'a, B, R> {
         }
     }
 
-    fn fix(&mut self, session: Session, page: u32) -> Result<(Fixed, Reply), Session> {
+    fn read(&mut self, session: Session, page: u32) -> Result<(Session, ReadGuard, u32), Session> {
         let mut locked = self.hold();
-        let fixed = locked.desk.fix(session, page);
-        self.keep(locked, fixed.is_ok());
-        fixed
+        let read = locked.desk.read(session, page);
+        self.keep(locked, read.is_ok());
+        read
     }
 
-    fn latch_shared(
-        &mut self,
-        session: Session,
-        guard: PinGuard,
-    ) -> Result<(Session, ReadGuard, Reply), (Session, PinGuard)> {
-        let mut locked = self.hold();
-        let latched = locked.desk.latch_shared(session, guard);
-        self.keep(locked, latched.is_ok());
-        latched
-    }
-
-    fn unlatch_shared(
+    fn end_read(
         &mut self,
         session: Session,
         guard: ReadGuard,
-    ) -> Result<(Session, PinGuard, Reply), (Session, ReadGuard)> {
+    ) -> Result<(Session, u64), (Session, ReadGuard)> {
         let mut locked = self.hold();
-        let unlatched = locked.desk.unlatch_shared(session, guard);
-        self.keep(locked, unlatched.is_ok());
-        unlatched
-    }
-
-    fn unfix(
-        &mut self,
-        session: Session,
-        guard: PinGuard,
-    ) -> Result<(Session, Reply), (Session, PinGuard)> {
-        let mut locked = self.hold();
-        let unfixed = locked.desk.unfix(session, guard);
-        self.keep(locked, unfixed.is_ok());
-        unfixed
+        let ended = locked.desk.end_read(session, guard);
+        self.keep(locked, ended.is_ok());
+        ended
     }
 }

@@ -224,7 +224,7 @@ impl<'a, B: Desk, R: Wait> LockedSite<'a, B, R> {
 
 /// Whether the request takes a writer's latch off a page, which can be flushed then. A reader's latch keeps no page from
 /// being flushed.
-fn takes_writer_off(request: &Request) -> bool {
+pub(crate) fn takes_writer_off(request: &Request) -> bool {
     matches!(
         request,
         Request::UnlatchExclusive(_, _) | Request::GiveBack(_, Guard::Write(_))
@@ -232,7 +232,7 @@ fn takes_writer_off(request: &Request) -> bool {
 }
 
 /// Whether the event tells that a victim couldn't be written, so that it is in its frame again and can be flushed.
-fn has_failed_to_write(event: Option<Event>) -> bool {
+pub(crate) fn has_failed_to_write(event: Option<Event>) -> bool {
     matches!(
         event,
         Some(Event::Step {

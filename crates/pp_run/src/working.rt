@@ -57,7 +57,7 @@ fn turns<'a, B: Desk, D: Device, W: Work, R: Wait>(
         worker.new.log.items) }
 {
     for _ in rt.forever() {
-        match worker.turn_on(work) {
+        match worker.quick_turns(work) {
             Turned::Done => {}
             Turned::NoMemory => return Stop::NoMemory,
             Turned::Ended => {

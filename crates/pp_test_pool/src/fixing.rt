@@ -1,4 +1,4 @@
-//! A fix that is made without a request: of a page that isn't cached, of one that is on its way, and of one that is cached.
+//! A reading in two calls: of a page that isn't cached, of one that is on its way, and of one that is cached.
 
 use crate::stand::{
     Disk, Stand, close, disk_of, hand_of, plan_of, put_back, same_text, settings_of, stand_of,
@@ -6,7 +6,7 @@ use crate::stand::{
 };
 use pp_pool::{Book, BookAnswer, Request, Response};
 use pp_test_plain::samples::{READ, SETTINGS};
-use pp_vault::{Errand, Fixed, Guard, Guards, Hand, Hands, PinGuard, Reply, Session, Stage};
+use pp_vault::{Errand, Guard, Guards, Hand, Hands, PinGuard, Session, Stage};
 use std::alloc::Global;
 use std::process::Abort;
 use std::test::*;
@@ -19,6 +19,9 @@ take 0 = taken 1
 fix 1 17 = mustread 0
 came 1 17 0 = loaded 0
 fix 0 17 = hit 0 0
+latch 0 = latched 0
+unlatch 0 = unlatched 0
+unfix 0 = did
 ";
 
 /// What a request comes to.
@@ -40,55 +43,46 @@ fn takes(rt: &impl Abort, stand: &mut Stand, worker: u32) -> (Session, Guards) {
     }
 }
 
-/// The fix comes to this reply, or to none where the session comes back.
-fn fixes(
-    rt: &impl Abort,
-    book: &mut Book,
-    session: Session,
-    reply: Option<Reply>,
-) -> Result<Fixed, Session> {
-    match book.fix(session, 17) {
-        Ok((fixed, got)) => {
-            if Some(got) != reply {
-                panic!(rt; "{got:?}");
-            }
-            Ok(fixed)
-        }
-        Err(back) => {
-            if reply.is_some() {
-                panic!(rt; "refused");
-            }
-            Err(back)
-        }
-    }
-}
-
 /// The page isn't cached, and gets frame 0.
 fn misses(rt: &impl Abort, book: &mut Book, session: Session) -> Errand {
-    match fixes(rt, book, session, Some(Reply::MustRead { frame: 0 })) {
-        Ok(Fixed::Away(errand)) => errand,
+    let session = is_refused(rt, book, session);
+    match answer(book, Request::Fix(session, 17)) {
+        BookAnswer::Away(errand) => errand,
         _ => panic!(rt; "no errand"),
     }
 }
 
 /// The session comes back.
 fn is_refused(rt: &impl Abort, book: &mut Book, session: Session) -> Session {
-    match fixes(rt, book, session, None) {
-        Ok(_) => panic!(rt; "fixed"),
+    match book.read(session, 17) {
+        Ok(_) => panic!(rt; "read"),
         Err(back) => back,
     }
 }
 
-/// The page is in frame 0.
-fn hits(rt: &impl Abort, book: &mut Book, session: Session) -> (Session, PinGuard) {
-    match fixes(rt, book, session, Some(Reply::Hit { frame: 0, mark: 0 })) {
-        Ok(Fixed::Got(session, guard)) => {
-            if guard.page() != 17 {
-                panic!(rt; "page {}", guard.page());
+/// The page is in frame 0, with mark 0, and is read and given back.
+fn hits(rt: &impl Abort, book: &mut Book, session: Session) -> Session {
+    let (session, guard) = match book.read(session, 17) {
+        Ok((session, guard, frame)) => {
+            if (guard.page(), guard.mark(), frame) != (17, 0, 0) {
+                panic!(rt;
+                    "page {}, mark {}, frame {frame}",
+                    guard.page(),
+                    guard.mark()
+                );
             }
             (session, guard)
         }
-        _ => panic!(rt; "no guard"),
+        Err(_) => panic!(rt; "refused"),
+    };
+    match book.end_read(session, guard) {
+        Ok((session, mark)) => {
+            if mark != 0 {
+                panic!(rt; "mark {mark}");
+            }
+            session
+        }
+        Err(_) => panic!(rt; "still read"),
     }
 }
 
@@ -106,19 +100,23 @@ fn reads(
 }
 
 /// The worker's tokens go back.
-fn gives_back(rt: &impl Abort, hands: &mut Hands, worker: (Session, PinGuard), mut guards: Guards) {
-    let (session, guard) = worker;
-    match guards.put(Guard::Pin(guard)) {
-        Ok(()) => {}
-        Err(_) => panic!(rt; "the slot has a guard"),
-    }
+fn gives_back(rt: &impl Abort, hands: &mut Hands, session: Session, guards: Guards) {
     let stage = Stage::In(session);
     put_back(rt, hands, Hand { stage, guards });
 }
 
-/// A miss answers an errand, and a hit a guard. While the page is on its way nobody else gets it, and nothing is noted.
+/// Puts a page's guard to the others.
+fn puts(rt: &impl Abort, guards: &mut Guards, guard: PinGuard) {
+    match guards.put(Guard::Pin(guard)) {
+        Ok(()) => {}
+        Err(_) => panic!(rt; "the slot has a guard"),
+    }
+}
+
+/// A reading is refused of a page that isn't cached, and of one that is on its way, and nothing is noted then. One that is cached
+/// is fixed and latched, and unlatched and unfixed.
 #[test]
-fn a_fix_misses_is_refused_and_hits(rt: HostRuntime) {
+fn a_reading_is_refused_and_hits(rt: HostRuntime) {
     let alloc: Global = rt.alloc();
     let settings = settings_of(&rt, alloc, SETTINGS);
     let device = disk_of(&rt, alloc, 24, 64, 0);
@@ -127,11 +125,12 @@ fn a_fix_misses_is_refused_and_hits(rt: HostRuntime) {
         let plan = plan_of(&rt, alloc, &settings, READ);
         submits(&rt, &mut stand.book, plan, number);
     }
-    let (second, places) = takes(&rt, &mut stand, 1);
+    let (second, mut places) = takes(&rt, &mut stand, 1);
     let (first, guards) = takes(&rt, &mut stand, 0);
     let errand = misses(&rt, &mut stand.book, second);
     let first = is_refused(&rt, &mut stand.book, first);
-    let second = reads(&rt, &mut stand.book, errand, &mut stand.device);
+    let (second, guard) = reads(&rt, &mut stand.book, errand, &mut stand.device);
+    puts(&rt, &mut places, guard);
     let first = hits(&rt, &mut stand.book, first);
     gives_back(&rt, &mut stand.hands, first, guards);
     gives_back(&rt, &mut stand.hands, second, places);

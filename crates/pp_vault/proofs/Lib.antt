@@ -22,6 +22,7 @@ mod Asked
 pub mod AfterSteps
 pub mod UseReplies
 pub mod Using
+mod Readings
 pub mod Writing
 pub mod Flushed
 pub mod GoingBack

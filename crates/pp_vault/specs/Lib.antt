@@ -17,6 +17,7 @@ pub mod Fixes
 pub mod Answers
 pub mod Looks
 pub mod Uses
+pub mod Reads
 pub mod Leaves
 pub mod Carrying
 pub mod Flushes

@@ -31,7 +31,7 @@ pub enum Fixed {
 }
 
 /// The slot of a plan that asks a fix or a gather; zero where it asks something else.
-fn slot_of(ask: Ask) -> u32
+pub(crate) fn slot_of(ask: Ask) -> u32
     ensures { result ≡ fix_slot ask }
 {
     match ask {

@@ -35,6 +35,7 @@ mod leaving;
 mod looking;
 mod opening;
 mod places;
+mod reading;
 mod refusal;
 mod renewing;
 mod seating;

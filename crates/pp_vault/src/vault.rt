@@ -31,6 +31,7 @@ ghost use Rattle.pp_vault.specs.Answers.{answer_call, AnswerComesTo};
 ghost use Rattle.pp_cert.specs.declared.note.Held.TheVariants.{S};
 ghost use Rattle.pp_plan.specs.declared.mode.Mode.TheVariants as mode;
 ghost use Rattle.pp_vault.specs.Uses.{Unfixes, Scatters, LatchesShared, LatchesExclusive, UnlatchesShared, UnlatchesExclusive};
+ghost use Rattle.pp_vault.specs.Reads.{may_read, may_end_read, Reads, EndsRead};
 
 use crate::answering::Answered;
 use crate::fixing::Fixed;
@@ -567,5 +568,56 @@ impl Vault {
         ensures holds { Holds self.new }
     {
         self.store.give_back(leaver, guard)
+    }
+
+    // ---- two moves at once
+
+    /// A worker fixes a page that is cached into the slot that its plan names, and latches it S: [`Vault::fix`] and then
+    /// [`Vault::latch_shared`], by one call, where both are possible at once. Each is a move of its own. It gives the page's
+    /// frame, which the fix tells beside the mark; the latch tells the mark, which the guard has.
+    ///
+    /// # Errors
+    ///
+    /// The session comes back, and nothing has changed, exactly where the two can't be made so: the session isn't one of this
+    /// state; the plan asks another slot, a gather, or something else behind the fix than the latch S of its slot; the page isn't
+    /// the region's, or isn't cached, or is still on its way; or a writer has it. [`Vault::fix`] goes on from there.
+    #[inline(always)]
+    pub fn read(
+        &mut self,
+        session: Session,
+        page: u32,
+    ) -> Result<(Session, ReadGuard, u32), Session>
+        ensures exact { (s : State) → StandsFor self.old s → is_ok result ≡ may_read session page s }
+        ensures ok { IfOk result (λ now. Reads self.old session page self.new now.0 now.1 now.2) }
+        ensures back { IfErr result (λ e. e ≡ session) }
+        ensures unchanged { OnErr result (self.new ≡ self.old) }
+        ensures holds { Holds self.new }
+    {
+        self.store.fix_and_share(session, page)
+    }
+
+    /// A worker takes its latch S off the page of a slot and gives the page back: [`Vault::unlatch_shared`] and then
+    /// [`Vault::unfix`], by one call, where its plan asks both. Each is a move of its own. The guard is spent. It gives the mark
+    /// that the unlatch tells; the unfix tells nothing.
+    ///
+    /// # Errors
+    ///
+    /// Both tokens come back, and nothing has changed, exactly where the two can't be made so: a token isn't one of this state, or
+    /// the plan doesn't ask the unlatch of the slot and its unfix behind it.
+    #[inline(always)]
+    pub fn end_read(
+        &mut self,
+        session: Session,
+        guard: ReadGuard,
+    ) -> Result<(Session, u64), (Session, ReadGuard)>
+        ensures exact { (s : State) → StandsFor self.old s → is_ok result ≡ may_end_read session guard s }
+        ensures ok { IfOk result (λ now. EndsRead self.old session guard self.new now.0 now.1) }
+        ensures empty { IfOk result (λ _. (s : State) → StandsFor self.new s
+            → IsEmpty s session.worker guard.slot) }
+        ensures back { IfErr result (λ e. (e.0 ≡ session) × (e.1 ≡ guard)) }
+        ensures unchanged { OnErr result (self.new ≡ self.old) }
+        ensures holds { Holds self.new }
+    {
+        self.store.unshare_and_unfix(session, guard)
     }
 }

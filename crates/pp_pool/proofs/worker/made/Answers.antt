@@ -19,11 +19,11 @@ pub returns-clause-comes : goal.returns-clause-comes
 returns-clause-comes g c =
     comes_of g.S.Site g.W.Work (length c.args.seen.now.items) c.args.request c.args.guards.now c.args.site.now
     c.perform-event.new.self c.let_go_unless_at_once.new.site c.args.log.now c.args.work.now c.ended.result
-    c.stage_after-stage.result c.stage_after-stage.new.guards c.add_any-is_logged.new.log c.used-answer.new.work
-    c.perform-event.result c.used-answer.result.0 c.add_any-is_logged.result c.used-answer.result.1
+    c.stage_after-stage.result c.stage_after-stage.new.guards c.add-is_logged.new.log c.used-answer.new.work
+    c.perform-event.result c.used-answer.result.0 c.add-is_logged.result c.used-answer.result.1
     c.perform-event.ensures.given c.perform-event.ensures.fits
-    (c.let_go_unless_at_once.ensures ∙ c.used-answer.ensures.site) c.add_any-is_logged.ensures.items
-    c.add_any-is_logged.ensures.full
+    (c.let_go_unless_at_once.ensures ∙ c.used-answer.ensures.site) c.add-is_logged.ensures.items
+    c.add-is_logged.ensures.full
     (subst (λ xs. Uses g.S.Site g.W.Work c.perform-event.new.self (length xs) c.args.work.now c.perform-event.result.answer
     c.used-answer.result.1 c.used-answer.result.0 c.used-answer.new.work) c.deref_mut.ensures.value
     c.used-answer.ensures.uses)

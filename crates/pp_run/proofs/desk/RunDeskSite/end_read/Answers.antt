@@ -1,0 +1,24 @@
+use Rattle.std.proofs.Common.{ap}
+use Rattle.pp_run.proofs.Desks.{same_desk}
+use Rattle.pp_run.proofs.Tried.{IsOfRun, ended_kept, ended_fits, on_error}
+use Rattle.pp_run.proofs.desk.RunDeskSite.end_read.Goals as goal
+
+pub invariant_of-self : goal.invariant_of-self
+invariant_of-self g c =
+    let d = c.args.self.now in
+    let k : IsOfRun g.N.Naming.settings g.N.Naming.plans g.N.Naming.outset c.end_read.new.self.book
+    = ended_kept g.N.Naming.settings g.N.Naming.plans g.N.Naming.outset d.site c.end_read.new.self c.args.session c.args.guard
+    c.end_read.result c.end_read.ensures.given c.end_read.ensures.same
+    record { settings = d.settings; taken = d.plans; outset = d.outset; begun = d.begun; moving = d.moving } in
+    record { settings = k.settings; plans = k.taken; outset = k.outset; begun = k.begun; moving = k.moving }
+
+pub returns-clause-given : goal.returns-clause-given
+returns-clause-given g c =
+    ended_fits _ c.args.self.now.site c.end_read.new.self _ _ c.args.session c.args.guard c.end_read.result c.end_read.ensures.given
+
+pub returns-clause-same : goal.returns-clause-same
+returns-clause-same g c =
+    let d = c.args.self.now in
+    on_error c.end_read.result
+    (λ same. same_desk g.row.N g.N.Naming _ d (ap (λ s. (s, (d.hands, (d.pages, (d.of, (d.finished, tt)))))) same))
+    c.end_read.ensures.same

@@ -1,0 +1,24 @@
+use Rattle.std.proofs.Common.{ap}
+use Rattle.pp_run.proofs.Desks.{same_desk}
+use Rattle.pp_run.proofs.Tried.{IsOfRun, read_kept, read_fits, on_error}
+use Rattle.pp_run.proofs.desk.RunDeskSite.read.Goals as goal
+
+pub invariant_of-self : goal.invariant_of-self
+invariant_of-self g c =
+    let d = c.args.self.now in
+    let k : IsOfRun g.N.Naming.settings g.N.Naming.plans g.N.Naming.outset c.read.new.self.book
+    = read_kept g.N.Naming.settings g.N.Naming.plans g.N.Naming.outset d.site c.read.new.self c.args.session c.args.page
+    c.read.result c.read.ensures.given c.read.ensures.same
+    record { settings = d.settings; taken = d.plans; outset = d.outset; begun = d.begun; moving = d.moving } in
+    record { settings = k.settings; plans = k.taken; outset = k.outset; begun = k.begun; moving = k.moving }
+
+pub returns-clause-given : goal.returns-clause-given
+returns-clause-given g c =
+    read_fits _ c.args.self.now.site c.read.new.self _ _ c.args.session c.args.page c.read.result c.read.ensures.given
+
+pub returns-clause-same : goal.returns-clause-same
+returns-clause-same g c =
+    let d = c.args.self.now in
+    on_error c.read.result
+    (λ same. same_desk g.row.N g.N.Naming _ d (ap (λ s. (s, (d.hands, (d.pages, (d.of, (d.finished, tt)))))) same))
+    c.read.ensures.same
