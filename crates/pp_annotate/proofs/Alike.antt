@@ -38,7 +38,7 @@ module _ (kind : ℕ → Bool) where
       ∙ none_below (t + 1) s n (omega (arith, l, f.0)) f.3
 
   -- nor a page
-  page_from : (low : ℕ) (n : Entries) (e : Entry) (rest : Entries) → Forms kind low n → plain_part n ≡ e ∷ rest
+  pub page_from : (low : ℕ) (n : Entries) (e : Entry) (rest : Entries) → Forms kind low n → plain_part n ≡ e ∷ rest
       → low ≤ entry_slot e
   page_from low [] e rest f h = absurd (cc)
   page_from low (Slot t r i ∷ n) e rest f h =

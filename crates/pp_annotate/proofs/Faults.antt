@@ -1,17 +1,16 @@
 -- What is made of a plan fails no test of how a certificate was written: its first fault is the plan's own.
-use Rattle.std.proofs.Common.{◌≡◌, ℕ, ◌+◌, ◌<◌, ◌≤◌, min, Bool, true, false, Some, None, List, [], ◌∷◌, ◌++◌, length, refl}
+use Rattle.std.proofs.Common.{◌≡◌, ℕ, ◌+◌, ◌<◌, min, Bool, true, false, Some, None, List, [], ◌∷◌, ◌++◌, length, refl}
 use Rattle.std.proofs.Common.{sym, ap, subst, ◌∙◌, arith}
-use Rattle.std.specs.Prelude.{slice_get, if◌then◌else◌, nat_le}
+use Rattle.std.specs.Prelude.{if◌then◌else◌, nat_le}
 use Rattle.std.proofs.lemmas.Bool.{leb-true, le-leb}
 use Rattle.pp_settings.specs.Layout.{Geometry}
 use Rattle.pp_plan.specs.Limits.{most_slots}
 use Rattle.pp_plan.specs.Tree.{Step, fix, unfix, latch, unlatch, gather, scatter, Statement, step, loop, choice}
-use Rattle.pp_plan.specs.Tree.{Sequence, skip, andthen, Alternatives, none, either, scatters}
+use Rattle.pp_plan.specs.Tree.{Sequence, skip, andthen, Alternatives, none, either}
 use Rattle.pp_plan.specs.Rules.{uses_bundle}
 use Rattle.pp_plan.specs.Terms.{Terms, IsPlan}
 use Rattle.pp_cert.specs.declared.check_error.CheckError.{CheckError}
-use Rattle.pp_cert.specs.declared.check_error.CheckError.TheVariants.{StepsTooMany}
-use Rattle.pp_cert.specs.Notes.{Entries, noted_with, begins_turns}
+use Rattle.pp_cert.specs.Notes.{Entries, noted_with}
 use Rattle.pp_cert.specs.Longest.{sequence_longest}
 use Rattle.pp_cert.specs.Walk.{Claims, note_at, empty, same, expected_note, outcome, Test, same_settings, slot_unused}
 use Rattle.pp_cert.specs.Walk.{slot_fixed, slot_unlatched, slot_latched, slot_in_order, bundle_gathered, loop_keeps}

@@ -1,6 +1,6 @@
 -- Notes whose entries stand by rising slot, none of which pins nothing, and where no bundle has a page of its own.
 use Rattle.std.proofs.Common.{◌≡◌, ℕ, ◌+◌, ◌<◌, ◌≤◌, Bool, true, false, cond, Some, None, [], ◌∷◌, refl, sym, ap, subst}
-use Rattle.std.proofs.Common.{◌∙◌, min, arith}
+use Rattle.std.proofs.Common.{◌∙◌, arith}
 use Rattle.std.specs.Prelude.{◌==◌, ◌&&◌, not, nat_lt, nat_le, is_some, if◌then◌else◌, option_map, unwrap_or}
 use Rattle.std.proofs.lemmas.Bool.{and_parts, not-true, ltb-true, leb-true, lt-ltb, le-leb, eqb-true}
 use Rattle.std.proofs.lemmas.Bool.Decides.{nat_tests}
@@ -13,8 +13,8 @@ use Rattle.pp_cert.specs.declared.note.Entry.TheVariants.{Slot, Bundle}
 use Rattle.pp_cert.specs.Slots.{slot_insert}
 use Rattle.pp_cert.specs.Held.{held_in}
 use Rattle.pp_cert.specs.Notes.{Entries, entry_slot, entry_pins, entry_held, is_slot, is_bundle_of, entry_at, noted_at}
-use Rattle.pp_cert.specs.Notes.{bundle_at, bound_at, plain_part, entry_as, noted_as, without_page, without_bundle}
-use Rattle.pp_cert.specs.Notes.{one_more, with_bound, is_rising}
+use Rattle.pp_cert.specs.Notes.{bundle_at, bound_at, plain_part, noted_as, without_page, without_bundle}
+use Rattle.pp_cert.specs.Notes.{one_more, noted_with, with_bound, is_rising}
 use Rattle.pp_cert.specs.Walk.{Claims, note_at, slot_unused, first_fault, step_tests}
 use Rattle.pp_cert.proofs.Passing.{first_passes}
 use Rattle.pp_cert.proofs.SlotKinds.{KeepsKinds}
@@ -167,18 +167,27 @@ module _ (kind : ℕ → Bool) where
       forms_insert 0 (Bundle s k) (without_bundle s n) (omega arith) some tt (absent_bundle s 0 n is f)
       (forms_without_bundle 0 s n f)
 
-  pub step_forms : (g : Geometry) (c : Claims) (k : ℕ) (s : Step) (n : Entries) → KeepsKinds kind s → note_at c k ≡ n
-      → first_fault g c (step_tests k s) ≡ None → Forms 0 n → Forms 0 (after_step s n)
-  step_forms g c k (fix s r) n is e h f =
+  some_more : (told : Bool) (bound : ℕ) → 1 ≤ one_more told bound
+  some_more true bound = omega arith
+  some_more false bound = omega arith
+
+  pub noted_forms : (told : Bool) (g : Geometry) (c : Claims) (k : ℕ) (s : Step) (n : Entries) → KeepsKinds kind s
+      → note_at c k ≡ n → first_fault g c (step_tests k s) ≡ None → Forms 0 n → Forms 0 (noted_with told s n)
+  noted_forms told g c k (fix s r) n is e h f =
       let p = first_passes g c (slot_unused k s) [] h in
       let q = and_parts (not (is_some (noted_at (note_at c k) s))) (bound_at (note_at c k) s == 0) p.0 in
       let free : is_some (noted_at n s) ≡ false = ap (λ x. is_some (noted_at x s)) (sym e)
       ∙ not-true (is_some (noted_at (note_at c k) s)) q.0 in
       let empty : bound_at n s ≡ 0 = ap (λ x. bound_at x s) (sym e) ∙ eqb-true (bound_at (note_at c k) s) 0 q.1 in
-      subst (λ x. Forms 0 x) (sym (step_expected g c k (fix s r) n e h))
-      (forms_insert 0 (Slot s r Free) n (omega arith) (omega arith) is (absent_unused s 0 n free empty f) f)
-  step_forms g c k (unfix s) n is e h f = forms_without_page 0 s n f
-  step_forms g c k (latch s m) n is e h f = forms_as 0 (held_in m) s n f
-  step_forms g c k (unlatch s) n is e h f = forms_as 0 Free s n f
-  step_forms g c k (gather s r) n is e h f = forms_bound s (one_more false (bound_at n s)) n is (omega arith) f
-  step_forms g c k (scatter s) n is e h f = forms_without_bundle 0 s n f
+      forms_insert 0 (Slot s r Free) n (omega arith) (omega arith) is (absent_unused s 0 n free empty f) f
+  noted_forms told g c k (unfix s) n is e h f = forms_without_page 0 s n f
+  noted_forms told g c k (latch s m) n is e h f = forms_as 0 (held_in m) s n f
+  noted_forms told g c k (unlatch s) n is e h f = forms_as 0 Free s n f
+  noted_forms told g c k (gather s r) n is e h f =
+      forms_bound s (one_more told (bound_at n s)) n is (some_more told (bound_at n s)) f
+  noted_forms told g c k (scatter s) n is e h f = forms_without_bundle 0 s n f
+
+  pub step_forms : (g : Geometry) (c : Claims) (k : ℕ) (s : Step) (n : Entries) → KeepsKinds kind s → note_at c k ≡ n
+      → first_fault g c (step_tests k s) ≡ None → Forms 0 n → Forms 0 (after_step s n)
+  step_forms g c k s n is e h f =
+      subst (λ x. Forms 0 x) (sym (step_expected g c k s n e h)) (noted_forms false g c k s n is e h f)

@@ -11,21 +11,21 @@ use Rattle.pp_plan.specs.Tree.{scatters, branches_scatter}
 use Rattle.pp_cert.specs.declared.note.Held.TheVariants.{Free}
 use Rattle.pp_cert.specs.Held.{held_in}
 use Rattle.pp_cert.specs.Notes.{Entries, note_pins, bound_at, noted_with, with_bound}
-use Rattle.pp_cert.proofs.Pages.{bound_page, bound_without_page, bound_as, bound_without_here, bound_without_other}
+use Rattle.pp_cert.proofs.Pages.{bound_page, bound_without_page, bound_as, bound_without_other}
 use Rattle.pp_cert.proofs.Pages.{bound_with_here, bound_with_other}
 use Rattle.pp_cert.proofs.SlotKinds.{KeepsKinds, StatementKeeps, IsOfKinds, BranchesKeep}
 use Rattle.pp_annotate.specs.Growth.{step_growth, statement_growth, growth, first_growth, rise, risen, first_note}
-use Rattle.pp_annotate.specs.Made.{after_statement, after_sequence, after_first, statement_notes, sequence_notes}
+use Rattle.pp_annotate.specs.Made.{after_statement, after_sequence, statement_notes, sequence_notes}
 use Rattle.pp_annotate.specs.Made.{branches_notes, greatest}
 use Rattle.pp_annotate.proofs.Pins.{bound_pins}
 use Rattle.pp_annotate.proofs.Once.{step_bound}
 use Rattle.pp_annotate.proofs.Rises.{first_bundle, first_plain}
 
-or_false : (a b : Bool) → (a || b) ≡ false → (a ≡ false) × (b ≡ false)
+pub or_false : (a b : Bool) → (a || b) ≡ false → (a ≡ false) × (b ≡ false)
 or_false true b h = absurd (cc)
 or_false false b h = (refl, h)
 
-times_zero : (m g : ℕ) → g ≡ 0 → m * g ≡ 0
+pub times_zero : (m g : ℕ) → g ≡ 0 → m * g ≡ 0
 times_zero m g h = ap (λ x. m * x) h ∙ omega arith
 
 -- ---- the greatest of some notes
@@ -77,7 +77,7 @@ step_grows (scatter s) n t h = omega (arith, bound_without_other s t n h)
 in_full : (b r : ℕ) → risen b r ≤ most_frames → risen b r ≡ b + r
 in_full b r h = omega (arith, h)
 
-turn_more : (n b g : ℕ) → 1 ≤ n → b + (n - 1) * g + g ≡ b + n * g
+pub turn_more : (n b g : ℕ) → 1 ≤ n → b + (n - 1) * g + g ≡ b + n * g
 turn_more zero b g h = absurd (omega (arith, h))
 turn_more (suc m) b g h =
     let p : suc m - 1 ≡ m = omega arith in
@@ -104,7 +104,7 @@ module _ (kind : ℕ → Bool) where
   plain_step (scatter s) t h k = (apart s t k h, refl)
 
   mutual
-    plain_statement : (d : Statement) (t : ℕ) → kind t ≡ false → StatementKeeps kind d
+    pub plain_statement : (d : Statement) (t : ℕ) → kind t ≡ false → StatementKeeps kind d
         → (statement_scatters d t ≡ false) × (statement_growth d t ≡ 0)
     plain_statement (step d) t h k = plain_step d t h k
     plain_statement (loop n b) t h k = let p = plain_sequence b t h k.1 in (p.0, times_zero n (growth b t) p.1)

@@ -20,3 +20,6 @@ pub mod Tight
 pub mod Small
 pub mod Same
 pub mod Writable
+pub mod Exact
+pub mod Beside
+pub mod Own

@@ -1,9 +1,8 @@
 -- The bounds that are made are counted no further than to the first that is too large.
-use Rattle.std.proofs.Common.{◌≡◌, ℕ, ◌<◌, ◌≤◌, Bool, true, false, [], ◌∷◌, refl, arith}
-use Rattle.std.specs.Prelude.{◌==◌}
+use Rattle.std.proofs.Common.{◌≡◌, ℕ, ◌<◌, ◌≤◌, Bool, true, false, arith}
 use Rattle.pp_plan.specs.Limits.{most_slots}
 use Rattle.pp_plan.specs.Tree.{Step, fix, unfix, latch, unlatch, gather, scatter, Statement, step, loop, choice}
-use Rattle.pp_plan.specs.Tree.{Sequence, skip, andthen, Alternatives, none, either}
+use Rattle.pp_plan.specs.Tree.{Sequence, skip, andthen, none, either}
 use Rattle.pp_cert.specs.Limits.{most_counted}
 use Rattle.pp_cert.specs.declared.note.Held.TheVariants.{Free}
 use Rattle.pp_cert.specs.Held.{held_in}

@@ -14,6 +14,10 @@ use Rattle.pp_cert.proofs.Passing.{first_passes}
 use Rattle.pp_annotate.specs.Made.{with_page, after_step}
 use Rattle.pp_annotate.proofs.Pins.{one_more}
 
+pub page_added : (s r : ℕ) (n : Entries) → is_some (noted_at n s) ≡ false
+    → with_page (Slot s r Free) n ≡ slot_insert entry_slot (Slot s r Free) n
+page_added s r n h = ap (λ b. if b then n else slot_insert entry_slot (Slot s r Free) n) h
+
 pub step_expected : (g : Geometry) (c : Claims) (k : ℕ) (s : Step) (n : Entries) → note_at c k ≡ n
     → first_fault g c (step_tests k s) ≡ None → after_step s n ≡ noted_with false s n
 step_expected g c k (fix s r) n e h =
@@ -21,7 +25,7 @@ step_expected g c k (fix s r) n e h =
     let q = and_parts (not (is_some (noted_at (note_at c k) s))) (bound_at (note_at c k) s == 0) p.0 in
     let free : is_some (noted_at n s) ≡ false = ap (λ x. is_some (noted_at x s)) (sym e)
     ∙ not-true (is_some (noted_at (note_at c k) s)) q.0 in
-    ap (λ b. if b then n else slot_insert entry_slot (Slot s r Free) n) free
+    page_added s r n free
 step_expected g c k (unfix s) n e h = refl
 step_expected g c k (latch s m) n e h = refl
 step_expected g c k (unlatch s) n e h = refl

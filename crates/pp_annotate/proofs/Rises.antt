@@ -6,16 +6,15 @@ use Rattle.std.proofs.lemmas.Bool.{eqb-true}
 use Rattle.std.proofs.lemmas.Bool.Decides.{nat_tests}
 use Rattle.pp_plan.specs.Limits.{most_slots}
 use Rattle.pp_plan.specs.Tree.{Sequence}
-use Rattle.pp_cert.specs.declared.note.Entry.{Entry}
 use Rattle.pp_cert.specs.declared.note.Entry.TheVariants.{Slot, Bundle}
 use Rattle.pp_cert.specs.Slots.{slot_insert}
-use Rattle.pp_cert.specs.Notes.{Entries, entry_slot, entry_pins, note_pins, is_bundle_of, bound_at, plain_part}
+use Rattle.pp_cert.specs.Notes.{Entries, entry_slot, note_pins, bound_at, plain_part}
 use Rattle.pp_cert.specs.Notes.{without_bundle, with_bound}
 use Rattle.pp_cert.proofs.Pages.{bound_with_here, bound_with_other}
 use Rattle.pp_cert.specs.Limits.{most_counted}
 use Rattle.pp_annotate.specs.Growth.{rise, risen, with_rise, risen_below, first_note}
 use Rattle.pp_annotate.proofs.Forms.{Forms, forms_bound}
-use Rattle.pp_annotate.proofs.Pins.{bounded_pins, bound_pins}
+use Rattle.pp_annotate.proofs.Pins.{bounded_pins}
 
 -- ---- one bundle
 
@@ -34,7 +33,7 @@ with_rise_other s k t n d =
       | false ↦ bound_with_other s k t n d
     ]
 
-part_insert : (s k : ℕ) (n : Entries) → plain_part (slot_insert entry_slot (Bundle s k) n) ≡ plain_part n
+pub part_insert : (s k : ℕ) (n : Entries) → plain_part (slot_insert entry_slot (Bundle s k) n) ≡ plain_part n
 part_insert s k [] = refl
 part_insert s k (Slot t r h ∷ n) =
     elim (nat_lt s t)
@@ -53,7 +52,7 @@ part_insert s k (Bundle t l ∷ n) =
       | false ↦ part_insert s k n
     ]
 
-part_without : (s : ℕ) (n : Entries) → plain_part (without_bundle s n) ≡ plain_part n
+pub part_without : (s : ℕ) (n : Entries) → plain_part (without_bundle s n) ≡ plain_part n
 part_without s [] = refl
 part_without s (Slot t r h ∷ n) = ap (λ x. Slot t r h ∷ x) (part_without s n)
 part_without s (Bundle t l ∷ n) =

@@ -1,7 +1,7 @@
 -- In version 1 a certificate without bundles that is refused for what the plan does is refused as the one that is made.
 use Rattle.std.proofs.Common.{◌≡◌, ℕ, zero, suc, ◌+◌, ◌<◌, ◌≤◌, Bool, true, false, Some, None, List, [], ◌∷◌, ◌++◌}
-use Rattle.std.proofs.Common.{length, refl, sym, ap, subst, ◌∙◌, arith, inl, inr}
-use Rattle.std.specs.Prelude.{slice_get, unwrap_or, is_some, if◌then◌else◌, not, ◌==◌, ◌&&◌, ◌⊎◌, nat_lt, All}
+use Rattle.std.proofs.Common.{length, refl, sym, ap, subst, ◌∙◌, arith, inr}
+use Rattle.std.specs.Prelude.{slice_get, unwrap_or, is_some, if◌then◌else◌, not, ◌==◌, ◌&&◌, nat_lt, All}
 use Rattle.std.proofs.lemmas.Bool.{and_parts}
 use Rattle.pp_settings.specs.Layout.{Geometry}
 use Rattle.pp_plan.specs.Limits.{most_slots}
@@ -10,14 +10,12 @@ use Rattle.pp_plan.specs.Tree.{Sequence, skip, andthen, Alternatives, none, eith
 use Rattle.pp_plan.specs.Rules.{uses_bundle}
 use Rattle.pp_plan.specs.Terms.{Terms, IsPlan}
 use Rattle.pp_cert.specs.declared.check_error.CheckError.{CheckError}
-use Rattle.pp_cert.specs.declared.note.Entry.{Entry}
 use Rattle.pp_cert.specs.declared.note.Entry.TheVariants.{Slot, Bundle}
 use Rattle.pp_cert.specs.Held.{is_latched_page}
 use Rattle.pp_cert.specs.Notes.{Entries, note_pins, noted_at, bound_at, plain_part, is_bundle, same_note, is_in_form}
 use Rattle.pp_cert.specs.Notes.{is_above_latched, is_begun, has_grown, all_bundles, begins_turns, ends_as_begun}
-use Rattle.pp_cert.specs.Notes.{grows_by_turns}
 use Rattle.pp_cert.specs.Longest.{sequence_longest}
-use Rattle.pp_cert.specs.Walk.{Claims, note_at, Expectation, empty, same, expected_note, outcome, Test, same_settings}
+use Rattle.pp_cert.specs.Walk.{Claims, note_at, Expectation, empty, same, outcome, Test, same_settings}
 use Rattle.pp_cert.specs.Walk.{there, as_expected, may_begin, within_peak, slot_unused, slot_fixed, slot_unlatched}
 use Rattle.pp_cert.specs.Walk.{slot_latched, slot_in_order, bundle_gathered, loop_keeps, loop_grows, branch_agrees}
 use Rattle.pp_cert.specs.Walk.{holds_nothing, no_more_notes, steps_allowed, steps_enough, peak_allowed, passes, fault_of}

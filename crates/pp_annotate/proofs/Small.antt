@@ -12,7 +12,7 @@ use Rattle.pp_cert.specs.declared.note.Entry.TheVariants.{Slot, Bundle}
 use Rattle.pp_cert.specs.declared.note.Held.{Held}
 use Rattle.pp_cert.specs.declared.note.Held.TheVariants.{Free}
 use Rattle.pp_cert.specs.Held.{held_in}
-use Rattle.pp_cert.specs.Notes.{Entries, entry_slot, entry_pins, note_pins, is_slot, entry_as, noted_as, without_page}
+use Rattle.pp_cert.specs.Notes.{Entries, entry_pins, note_pins, is_slot, entry_as, noted_as, without_page}
 use Rattle.pp_cert.specs.Notes.{bound_at, one_more as one_page_more}
 use Rattle.pp_annotate.specs.Growth.{first_note}
 use Rattle.pp_annotate.specs.Made.{after_step, after_statement, after_sequence, after_first, statement_notes}

@@ -1,8 +1,8 @@
 -- What is made of a plan can be written as a text, where it is accepted.
-use Rattle.std.proofs.Common.{◌≡◌, ℕ, zero, suc, ◌+◌, ◌<◌, ◌≤◌, Bool, true, false, Some, None, List, [], ◌∷◌, ◌++◌, length}
-use Rattle.std.proofs.Common.{refl, sym, ap, subst, ◌∙◌, arith}
-use Rattle.std.specs.Prelude.{◌==◌, ◌&&◌, not, nat_lt, is_some, if◌then◌else◌, All}
-use Rattle.std.proofs.lemmas.Bool.{and_parts, not-true, ltb-true, eqb-true}
+use Rattle.std.proofs.Common.{◌≡◌, ℕ, zero, suc, ◌+◌, ◌<◌, ◌≤◌, Bool, true, false, cond, Some, None, List, [], ◌∷◌, ◌++◌}
+use Rattle.std.proofs.Common.{length, get_or, refl, sym, ap, subst, ◌∙◌, arith}
+use Rattle.std.specs.Prelude.{◌==◌, nat_lt, is_some, option_map, if◌then◌else◌, All}
+use Rattle.std.proofs.lemmas.Bool.{ltb-true, eqb-true}
 use Rattle.std.proofs.lemmas.Bool.Decides.{nat_tests}
 use Rattle.std.proofs.lemmas.List.{length-map}
 use Rattle.std.proofs.lemmas.List.Elements.{All-nil, All-cons, All-append, All-weaker}
@@ -22,25 +22,22 @@ use Rattle.pp_cert.specs.Claims.{IsEntry, IsNote, AreClaims}
 use Rattle.pp_cert.specs.Slots.{slot_insert}
 use Rattle.pp_cert.specs.Held.{held_in}
 use Rattle.pp_cert.specs.Longest.{sequence_longest}
-use Rattle.pp_cert.specs.Notes.{Entries, entry_slot, note_pins, is_slot, is_bundle_of, noted_at, bound_at, noted_as, one_more}
-use Rattle.pp_cert.specs.Notes.{without_page, without_bundle, with_bound}
-use Rattle.pp_cert.specs.Walk.{Claims, note_at, empty, same, outcome, Test, same_settings, slot_unused, loop_keeps}
-use Rattle.pp_cert.specs.Walk.{branch_agrees, holds_nothing, no_more_notes, steps_allowed, steps_enough, peak_allowed}
-use Rattle.pp_cert.specs.Walk.{first_fault, note_tests, turn_tests, step_tests, statement_tests, sequence_tests}
-use Rattle.pp_cert.specs.Walk.{later_tests, tests_with, statement_end, sequence_end}
+use Rattle.pp_cert.specs.Notes.{Entries, entry_slot, entry_held, note_pins, is_slot, is_bundle_of, entry_at, noted_at, bound_at}
+use Rattle.pp_cert.specs.Notes.{noted_as, one_more, without_page, without_bundle, with_bound}
+use Rattle.pp_cert.specs.Walk.{empty, Test, same_settings, holds_nothing, no_more_notes, steps_allowed, steps_enough}
+use Rattle.pp_cert.specs.Walk.{peak_allowed, first_fault, note_tests, sequence_tests, tests_with, sequence_end}
 use Rattle.pp_cert.specs.Limits.{most_bound, most_entries}
 use Rattle.pp_cert.proofs.Passing.{first_passes, both_pass, layout_same}
 use Rattle.pp_cert.proofs.Places.{sequence_end-most}
 use Rattle.pp_cert.proofs.SlotKinds.{KeepsKinds, StatementKeeps, IsOfKinds, BranchesKeep}
 use Rattle.pp_annotate.specs.Growth.{rise, risen, with_rise, risen_below, first_note}
 use Rattle.pp_annotate.specs.Made.{after_step, after_statement, after_sequence, statement_notes, sequence_notes}
-use Rattle.pp_annotate.specs.Made.{branches_notes, made_notes, made}
-use Rattle.pp_annotate.proofs.Once.{step_expected}
-use Rattle.pp_annotate.proofs.Forms.{Forms, Absent, absent_unused, absent_bundle}
+use Rattle.pp_annotate.specs.Made.{branches_notes, made_notes, greatest, made}
+use Rattle.pp_annotate.proofs.Forms.{Forms, Absent, absent_bundle}
 use Rattle.pp_annotate.proofs.Rises.{above_it}
 use Rattle.pp_annotate.proofs.Bundles.{sequence_few, own_kinds}
 use Rattle.pp_annotate.proofs.Told.{peak_of}
-use Rattle.pp_annotate.proofs.Stands.{Stand, stand_split, stand_itself, statement_places, sequence_places, is_at}
+use Rattle.pp_annotate.proofs.Stands.{sequence_places}
 
 -- ---- notes whose slots rise
 
@@ -66,7 +63,7 @@ module _ (kind : ℕ → Bool) (slots regions : ℕ) where
   rises_lower low lower [] h r = omega (arith, h, r)
   rises_lower low lower (e ∷ es) h r = (omega (arith, h, r.0), r.1, r.2)
 
-  rises_forms : (low : ℕ) (n : Entries) → Rises low n → Forms kind low n
+  pub rises_forms : (low : ℕ) (n : Entries) → Rises low n → Forms kind low n
   rises_forms low [] r = tt
   rises_forms low (Slot s q h ∷ n) r = (r.0, omega arith, r.1.1, rises_forms (s + 1) n r.2)
   rises_forms low (Bundle s k ∷ n) r = (r.0, r.1.0, tt, rises_forms (s + 1) n r.2)
@@ -140,117 +137,79 @@ module _ (kind : ℕ → Bool) (slots regions : ℕ) where
           | false ↦ λ e. below_rises m turns b n r
         ] refl
 
-    first_rises : (turns : ℕ) (b : Sequence) (n : Entries) → Rises 0 n → Rises 0 (first_note kind turns b n)
+    pub first_rises : (turns : ℕ) (b : Sequence) (n : Entries) → Rises 0 n → Rises 0 (first_note kind turns b n)
     unfolding first_note
     first_rises turns b n r = below_rises most_slots turns b n r
 
     -- ---- all notes
 
-    module _ (g : Geometry) (c : Claims) where
-      step_rises : (k : ℕ) (s : Step) (n : Entries) → KeepsKinds kind s → note_at c k ≡ n
-          → first_fault g c (step_tests k s) ≡ None → IsStep slots regions s → Rises 0 n
-          → Rises 0 (after_step s n)
-      step_rises k (fix s r) n keeps e h is rises =
-          let p = first_passes g c (slot_unused k s) [] h in
-          let q = and_parts (not (is_some (noted_at (note_at c k) s))) (bound_at (note_at c k) s == 0) p.0 in
-          let free : is_some (noted_at n s) ≡ false = ap (λ x. is_some (noted_at x s)) (sym e)
-          ∙ not-true (is_some (noted_at (note_at c k) s)) q.0 in
-          let none_held : bound_at n s ≡ 0 = ap (λ x. bound_at x s) (sym e)
-          ∙ eqb-true (bound_at (note_at c k) s) 0 q.1 in
-          subst (λ x. Rises 0 x) (sym (step_expected g c k (fix s r) n e h))
-          (rises_insert 0 (Slot s r Free) n (omega arith) is.0 (is.1, keeps)
-          (absent_unused kind s 0 n free none_held (rises_forms 0 n rises)) rises)
-      step_rises k (unfix s) n keeps e h is rises = rises_remove 0 s n rises
-      step_rises k (latch s m) n keeps e h is rises = rises_held_as 0 (held_in m) s n rises
-      step_rises k (unlatch s) n keeps e h is rises = rises_held_as 0 Free s n rises
-      step_rises k (gather s r) n keeps e h is rises =
-          rises_bound s (one_more false (bound_at n s)) n is.0 keeps (omega arith) rises
-      step_rises k (scatter s) n keeps e h is rises = rises_scatter 0 s n rises
+    -- a slot without a page of its own has no entry where it is no bundle
+    absent_page : (s low : ℕ) (n : Entries) → kind s ≡ false → is_some (noted_at n s) ≡ false → Rises low n → Absent s n
+    absent_page s low [] plain h r = tt
+    absent_page s low (Slot t q h ∷ n) plain free r =
+        elim (t == s) as (λ b. (t == s) ≡ b → is_some (option_map entry_held (cond b (Some (Slot t q h)) (entry_at n s))) ≡ false
+        → ((t == s) ≡ false) × Absent s n) [
+          | true ↦ λ e j. absurd (cc)
+          | false ↦ λ e j. (e, absent_page s (t + 1) n plain j r.2)
+        ] refl free
+    absent_page s low (Bundle t k ∷ n) plain free r =
+        let rest = absent_page s (t + 1) n plain free r.2 in
+        elim (t == s) as (λ b. (t == s) ≡ b → ((t == s) ≡ false) × Absent s n) [
+          | true ↦ λ e. absurd (let same : kind t ≡ kind s = ap kind (eqb-true t s e) in let is = r.1.1 in cc (same, is, plain))
+          | false ↦ λ e. (e, rest)
+        ] refl
 
-      -- it pins no more than the peak, too
-      abbrev Good : Entries → Type 0
-      Good n = Rises 0 n × (note_pins n ≤ c.peak)
+    pub step_rises : (s : Step) (n : Entries) → KeepsKinds kind s → IsStep slots regions s → Rises 0 n
+        → Rises 0 (after_step s n)
+    step_rises (fix s r) n keeps is rises =
+        elim (is_some (noted_at n s)) as (λ b. is_some (noted_at n s) ≡ b
+        → Rises 0 (if b then n else slot_insert entry_slot (Slot s r Free) n)) [
+          | true ↦ λ e. rises
+          | false ↦ λ e.
+              rises_insert 0 (Slot s r Free) n (omega arith) is.0 (is.1, keeps) (absent_page s 0 n keeps e rises) rises
+        ] refl
+    step_rises (unfix s) n keeps is rises = rises_remove 0 s n rises
+    step_rises (latch s m) n keeps is rises = rises_held_as 0 (held_in m) s n rises
+    step_rises (unlatch s) n keeps is rises = rises_held_as 0 Free s n rises
+    step_rises (gather s r) n keeps is rises =
+        rises_bound s (one_more false (bound_at n s)) n is.0 keeps (omega arith) rises
+    step_rises (scatter s) n keeps is rises = rises_scatter 0 s n rises
 
-      abbrev AllGood : List Entries → Type 0
-      AllGood ns = All Good ns
+    abbrev AllRise : List Entries → Type 0
+    AllRise ns = All (Rises 0) ns
 
-      abbrev Here : ℕ → List Entries → Type 0
-      Here k ns = Stand c.peak c.notes k ns
+    mutual
+      pub statement_rises : (s : Statement) (n : Entries) → StatementKeeps kind s → IsStatement slots regions s → Rises 0 n
+          → AllRise (statement_notes kind s n) × Rises 0 (after_statement kind s n)
+      statement_rises (step s) n keeps is r = (All-nil (Rises 0), step_rises s n keeps is r)
+      statement_rises (loop m b) n keeps is r =
+          let first : Entries = first_note kind m b n in
+          let start : Rises 0 first = first_rises m b n r in
+          let body = sequence_rises b first keeps.1 is.3 start in
+          (All-cons (Rises 0) first (sequence_notes kind b first) start body.0, body.1)
+      statement_rises (choice none) n keeps is r = (All-nil (Rises 0), r)
+      statement_rises (choice (either b bs)) n keeps is r =
+          (branches_rise (either b bs) n keeps is.2 r, (sequence_rises b n keeps.0 is.2.0 r).1)
 
-      mutual
-        statement_rises : (k : ℕ) (s : Statement) (n : Entries) → StatementKeeps kind s → note_at c k ≡ n
-            → Here (k + 1) (statement_notes kind s n) → first_fault g c (statement_tests false k s) ≡ None
-            → IsStatement slots regions s → Rises 0 n
-            → AllGood (statement_notes kind s n) × Rises 0 (after_statement kind s n)
-        statement_rises k (step s) n keeps e f h is r = (All-nil Good, step_rises k s n keeps e h is r)
-        statement_rises k (loop m b) n keeps e f h is r =
-            let end : ℕ = sequence_end (k + 1) b in
-            let front : List Test = turn_tests (k + 1) k b in
-            let first : Entries = first_note kind m b n in
-            let p = both_pass g c (front ++ sequence_tests false (k + 1) b) (loop_keeps end k b ∷ []) h in
-            let q = both_pass g c front (sequence_tests false (k + 1) b) p.0 in
-            let start : Rises 0 first = first_rises m b n r in
-            let body =
-            sequence_rises (k + 1) b first keeps.1 (is_at c (k + 1) first f.0) f.2 q.1 is.3 start in
-            (All-cons Good first (sequence_notes kind b first) (start, f.1) body.0, body.1)
-        statement_rises k (choice none) n keeps e f h is r = (All-nil Good, r)
-        statement_rises k (choice (either b bs)) n keeps e f h is r =
-            let end : ℕ = sequence_end (k + 1) b in
-            let front : List Test = note_tests (k + 1) (same k) in
-            let at : k + 1 + length (n ∷ sequence_notes kind b n) ≡ end + 1 =
-            omega (arith, sequence_places kind (k + 1) b n) in
-            let s =
-            stand_split c.peak c.notes (k + 1) (end + 1) (n ∷ sequence_notes kind b n) (branches_notes kind bs n) at f in
-            let p = both_pass g c (front ++ sequence_tests false (k + 1) b) (later_tests false k end (end + 1) bs) h in
-            let q = both_pass g c front (sequence_tests false (k + 1) b) p.0 in
-            let body = sequence_rises (k + 1) b n keeps.0 (is_at c (k + 1) n s.0.0) s.0.2 q.1 is.2.0 r in (
-              All-append Good (n ∷ sequence_notes kind b n) (branches_notes kind bs n)
-                  (All-cons Good n (sequence_notes kind b n) (r, s.0.1) body.0)
-                  (later_rises k end (end + 1) bs n keeps.1 s.1 p.1 is.2.1 r),
-              body.1,
-            )
+      sequence_rises : (b : Sequence) (n : Entries) → IsOfKinds kind b → IsSequence slots regions b → Rises 0 n
+          → AllRise (sequence_notes kind b n) × Rises 0 (after_sequence kind b n)
+      sequence_rises skip n keeps is r = (All-nil (Rises 0), r)
+      sequence_rises (andthen s b) n keeps is r =
+          let m : Entries = after_statement kind s n in
+          let inner = statement_rises s n keeps.0 is.0 r in
+          let rest = sequence_rises b m keeps.1 is.1 inner.1 in (
+            All-append (Rises 0) (statement_notes kind s n) (m ∷ sequence_notes kind b m) inner.0
+                (All-cons (Rises 0) m (sequence_notes kind b m) inner.1 rest.0),
+            rest.1,
+          )
 
-        sequence_rises : (k : ℕ) (b : Sequence) (n : Entries) → IsOfKinds kind b → note_at c k ≡ n
-            → Here (k + 1) (sequence_notes kind b n) → first_fault g c (sequence_tests false k b) ≡ None
-            → IsSequence slots regions b → Rises 0 n
-            → AllGood (sequence_notes kind b n) × Rises 0 (after_sequence kind b n)
-        sequence_rises k skip n keeps e f h is r = (All-nil Good, r)
-        sequence_rises k (andthen s b) n keeps e f h is r =
-            let next : ℕ = statement_end k s in
-            let m : Entries = after_statement kind s n in
-            let between : List Test = note_tests next (outcome false k s) in
-            let t =
-            stand_split c.peak c.notes (k + 1) next (statement_notes kind s n) (m ∷ sequence_notes kind b m)
-            (statement_places kind k s n) f in
-            let p = both_pass g c (statement_tests false k s ++ between) (sequence_tests false next b) h in
-            let q = both_pass g c (statement_tests false k s) between p.0 in
-            let inner = statement_rises k s n keeps.0 e t.0 q.0 is.0 r in
-            let rest = sequence_rises next b m keeps.1 (is_at c next m t.1.0) t.1.2 p.1 is.1 inner.1 in (
-              All-append Good (statement_notes kind s n) (m ∷ sequence_notes kind b m) inner.0
-                  (All-cons Good m (sequence_notes kind b m) (inner.1, t.1.1) rest.0),
-              rest.1,
-            )
-
-        -- of the second and later branches
-        later_rises : (before first k : ℕ) (bs : Alternatives) (n : Entries) → BranchesKeep kind bs
-            → Here k (branches_notes kind bs n) → first_fault g c (later_tests false before first k bs) ≡ None
-            → AreAlternatives slots regions bs → Rises 0 n → AllGood (branches_notes kind bs n)
-        later_rises before first k none n keeps f h is r = All-nil Good
-        later_rises before first k (either b bs) n keeps f h is r =
-            let end : ℕ = sequence_end k b in
-            let front : List Test = note_tests k (same before) in
-            let at : k + length (n ∷ sequence_notes kind b n) ≡ end + 1 = omega (arith, sequence_places kind k b n) in
-            let s =
-            stand_split c.peak c.notes k (end + 1) (n ∷ sequence_notes kind b n) (branches_notes kind bs n) at f in
-            let p =
-            both_pass g c (front ++ sequence_tests false k b)
-            (branch_agrees end first ∷ later_tests false before first (end + 1) bs) h in
-            let q = both_pass g c front (sequence_tests false k b) p.0 in
-            let rest = first_passes g c (branch_agrees end first) (later_tests false before first (end + 1) bs) p.1 in
-            All-append Good (n ∷ sequence_notes kind b n) (branches_notes kind bs n)
-            (All-cons Good n (sequence_notes kind b n) (r, s.0.1)
-            (sequence_rises k b n keeps.0 (is_at c k n s.0.0) s.0.2 q.1 is.0 r).0)
-            (later_rises before first (end + 1) bs n keeps.1 s.1 rest.1 is.1 r)
+      branches_rise : (bs : Alternatives) (n : Entries) → BranchesKeep kind bs → AreAlternatives slots regions bs
+          → Rises 0 n → AllRise (branches_notes kind bs n)
+      branches_rise none n keeps is r = All-nil (Rises 0)
+      branches_rise (either b bs) n keeps is r =
+          All-append (Rises 0) (n ∷ sequence_notes kind b n) (branches_notes kind bs n)
+          (All-cons (Rises 0) n (sequence_notes kind b n) r (sequence_rises b n keeps.0 is.0 r).0)
+          (branches_rise bs n keeps.1 is.1 r)
 
 -- ---- such a note is in form
 
@@ -293,6 +252,37 @@ module _ (c : Configuration) (p : Terms) where
         rising = AllPairs-cons (λ d f. entry_slot d < entry_slot f) e es above rest.rising;
       }
 
+-- each pins no more than the one with most
+all_within : (m : ℕ) (ns : List Entries) → greatest ns ≤ m → All (λ (n : Entries). note_pins n ≤ m) ns
+all_within m [] h = All-nil (λ (n : Entries). note_pins n ≤ m)
+all_within m (n ∷ ns) h =
+    All-cons (λ (n : Entries). note_pins n ≤ m) n ns (omega (arith, h)) (all_within m ns (omega (arith, h)))
+
+-- The notes that are made rise by slot, whether the plan is accepted or not.
+all_rise : (p : Terms) (regions : ℕ) → IsPlan p → length p.layout.extents ≡ regions
+    → All (Rises (uses_bundle p.body) (length p.slots) regions 0) (made_notes p)
+all_rise p regions plan count =
+    let kind : ℕ → Bool = uses_bundle p.body in
+    let slots : ℕ = length p.slots in
+    let parts : IsSequence slots regions p.body = subst (λ (r : ℕ). IsSequence slots r p.body) count plan.body.parts in
+    let few : (s : ℕ) → kind s ≡ true → s < slots = λ s k. sequence_few slots regions p.body s parts k in
+    let none_yet : Rises kind slots regions 0 [] = omega arith in
+    All-cons (Rises kind slots regions 0) [] (sequence_notes kind p.body []) none_yet
+    (sequence_rises kind slots regions few p.body [] (own_kinds p plan) parts none_yet).0
+
+rise_few : (p : Terms) (regions : ℕ) → IsPlan p
+    → All (Rises (uses_bundle p.body) (length p.slots) regions 0) (made_notes p)
+    → All (λ (n : Entries). length n ≤ most_entries) (made_notes p)
+rise_few p regions plan all =
+    let kind : ℕ → Bool = uses_bundle p.body in
+    let slots : ℕ = length p.slots in
+    All-weaker (Rises kind slots regions 0) (λ (n : Entries). length n ≤ most_entries)
+    (λ n r. omega (arith, rises_size kind slots regions 0 n r, plan.count)) (made_notes p) all
+
+-- So each has at most one entry for each slot.
+pub made_few : (p : Terms) → IsPlan p → All (λ (n : Entries). length n ≤ most_entries) (made_notes p)
+made_few p plan = rise_few p (length p.layout.extents) plan (all_rise p (length p.layout.extents) plan refl)
+
 pub writable : (c : Configuration) (p : Terms) → IsPlan p
     → first_fault (geometry_of c) (made p) (tests_with false p) ≡ None → AreClaims c p (made p)
 writable c p plan h =
@@ -314,13 +304,9 @@ writable c p plan h =
     let low : (made p).peak ≤ most_bound =
     omega (arith, peak_of g (made p) end (end + 1) longest q.1, frames, plan.layout.frames.1) in
     let parts : IsSequence slots regions p.body = subst (λ (r : ℕ). IsSequence slots r p.body) count plan.body.parts in
-    let none_yet : Rises kind slots regions 0 [] = omega arith in
-    let here : Stand (made p).peak (made p).notes 0 (made_notes p) = stand_itself (made_notes p) in
-    let few : (s : ℕ) → kind s ≡ true → s < slots = λ s k. sequence_few slots regions p.body s parts k in
-    let Good : Entries → Type 0 = λ n. Rises kind slots regions 0 n × (note_pins n ≤ (made p).peak) in
-    let rest =
-    sequence_rises kind slots regions few g (made p) 0 p.body [] (own_kinds p plan) refl here.2 r.1 parts none_yet in
-    let all : All Good (made_notes p) = All-cons Good [] (sequence_notes kind p.body []) (none_yet, here.1) rest.0 in
+    let rise : All (Rises kind slots regions 0) (made_notes p) = all_rise p regions plan count in
+    let within : All (λ (n : Entries). note_pins n ≤ most_bound) (made_notes p) =
+    all_within most_bound (made_notes p) low in
     record {
       few = record {
         notes_few =
@@ -330,9 +316,7 @@ writable c p plan h =
               sequence_end-most slots regions 0 p.body parts,
               plan.body.count,
             );
-        entries_few =
-            All-weaker Good (λ (n : Entries). length n ≤ most_entries)
-            (λ n r. omega (arith, rises_size kind slots regions 0 n r.0, plan.count)) (made_notes p) all;
+        entries_few = rise_few p regions plan rise;
       };
-      notes = All-weaker Good (IsNote c p) (λ n r. is_note c p 0 n r.0 (omega (arith, r.1, low))) (made_notes p) all;
+      notes = λ k d l. is_note c p 0 (get_or (made_notes p) k d) (rise k d l) (within k d l);
     }

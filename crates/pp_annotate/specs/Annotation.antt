@@ -1,6 +1,8 @@
 -- What the maker of certificates answers, and what holds of it.
-use Rattle.std.specs.Prelude.{◌≡◌, ◌≤◌, false, Result, Ok, Err, List, length, All}
+use Rattle.std.specs.Prelude.{◌≡◌, ◌≤◌, true, false, Option, None, Some, Result, Ok, Err, List, [], ◌∷◌, ◌++◌, length, All}
+use Rattle.std.specs.Prelude.{if◌then◌else◌}
 use Rattle.pp_settings.specs.Layout.{Geometry}
+use Rattle.pp_plan.specs.Rules.{uses_bundle}
 use Rattle.pp_plan.specs.Terms.{Terms}
 use Rattle.pp_plan.specs.Traces.{Begins}
 use Rattle.pp_plan.specs.PlanTraces.{IsTraceOf}
@@ -13,8 +15,12 @@ use Rattle.pp_cert.specs.declared.check_error.CheckError.TheVariants.{OverPeak, 
 use Rattle.pp_cert.specs.declared.check_error.CheckError.TheVariants.{StepsTooFew, StepsTooMany, PeakTooBig}
 use Rattle.pp_cert.specs.declared.check_error.CheckError.TheVariants.{OtherSettings}
 use Rattle.pp_cert.specs.Held.{pins}
-use Rattle.pp_cert.specs.Notes.{is_bundle}
-use Rattle.pp_cert.specs.Walk.{Claims, claims_of, Certifies, tests_with, first_fault, unless_fault}
+use Rattle.pp_cert.specs.Notes.{entry_slot, is_bundle}
+use Rattle.pp_cert.specs.Walk.{Claims, claims_of, Certifies, tests, tests_with, first_fault, unless_fault, passes}
+use Rattle.pp_cert.specs.Walk.{fault_of}
+use Rattle.pp_cert.specs.Walk.{Test, same_settings, there, as_expected, may_begin, within_peak, slot_unused, slot_fixed}
+use Rattle.pp_cert.specs.Walk.{slot_unlatched, slot_latched, slot_in_order, bundle_gathered, loop_keeps, loop_grows}
+use Rattle.pp_cert.specs.Walk.{branch_agrees, holds_nothing, no_more_notes, steps_allowed, steps_enough, peak_allowed}
 use Rattle.pp_annotate.specs.declared.error.AnnotateError.{AnnotateError}
 use Rattle.pp_annotate.specs.declared.error.AnnotateError.TheVariants.{Fault, OutOfMemory}
 use Rattle.pp_annotate.specs.Made.{made}
@@ -80,3 +86,45 @@ HasNone g p = (d : Claims) → ¬ (Certifies g p d)
 -- No entry of a note is a bundle's.
 abbrev pub HasPagesAlone : Claims → Type 0
 HasPagesAlone d = All (λ note. All (λ e. is_bundle e ≡ false) note) d.notes
+
+-- The first of the tests that fails.
+abbrev pub first_failed : Geometry → Claims → List Test → Option Test
+first_failed g d [] = None
+first_failed g d (t ∷ ts) = if passes g d t then first_failed g d ts else Some t
+
+-- A test of what the plan does, or of the settings that it was read for. The others are of how notes, peak and steps are
+-- written, of how bounds grow in a loop, and of the limits.
+abbrev pub IsOfPlan : Test → Type 0
+IsOfPlan (same_settings h) = Unit {0}
+IsOfPlan (there k) = ⊥
+IsOfPlan (as_expected k e) = ⊥
+IsOfPlan (may_begin k before b) = ⊥
+IsOfPlan (within_peak k) = ⊥
+IsOfPlan (slot_unused k s) = Unit {0}
+IsOfPlan (slot_fixed k s) = Unit {0}
+IsOfPlan (slot_unlatched k s) = Unit {0}
+IsOfPlan (slot_latched k s) = Unit {0}
+IsOfPlan (slot_in_order k s) = Unit {0}
+IsOfPlan (bundle_gathered k s) = Unit {0}
+IsOfPlan (loop_keeps k before b) = Unit {0}
+IsOfPlan (loop_grows k before first turns b) = ⊥
+IsOfPlan (branch_agrees k first) = Unit {0}
+IsOfPlan (holds_nothing k) = Unit {0}
+IsOfPlan (no_more_notes n) = ⊥
+IsOfPlan steps_allowed = ⊥
+IsOfPlan (steps_enough n) = ⊥
+IsOfPlan peak_allowed = ⊥
+
+-- Each entry of a bundle is of a slot that the plan uses as one.
+abbrev pub HasOwnBundles : Terms → Claims → Type 0
+HasOwnBundles p d = All (λ note. All (λ e. is_bundle e ≡ true → uses_bundle p.body (entry_slot e) ≡ true) note) d.notes
+
+-- No certificate whose bundles are the plan's own comes past the fault: one of the tests has it, and each such certificate fails
+-- that one or one before it.
+pub record IsWall (g : Geometry) (p : Terms) (f : CheckError) : Type 0 where
+  pub test : Test
+  pub fault : fault_of test ≡ f
+  pub before : List Test
+  pub behind : List Test
+  pub stands : tests p ≡ before ++ test ∷ behind
+  pub holds : (d : Claims) → HasOwnBundles p d → ¬ (first_fault g d (before ++ test ∷ []) ≡ None)

@@ -1,5 +1,5 @@
 -- By how much a plan's statements raise the bound of a bundle, and the bounds at the first place of a loop's body.
-use Rattle.std.specs.Prelude.{ℕ, zero, suc, ◌+◌, ◌-◌, ◌*◌, ◌==◌, Bool, min, if◌then◌else◌}
+use Rattle.std.specs.Prelude.{ℕ, zero, suc, ◌+◌, ◌-◌, ◌*◌, ◌==◌, Bool, min, max, if◌then◌else◌}
 use Rattle.pp_plan.specs.Limits.{most_slots}
 use Rattle.pp_plan.specs.Tree.{Step, fix, unfix, latch, unlatch, gather, scatter, Statement, step, loop, choice}
 use Rattle.pp_plan.specs.Tree.{Sequence, skip, andthen, Alternatives, none, either, scatters}
@@ -32,6 +32,33 @@ abbrev mutual
   pub first_growth : Alternatives → ℕ → ℕ
   first_growth none k = 0
   first_growth (either b bs) k = growth b k
+
+-- ---- the gathers of a run
+
+-- How many pages the step gathers.
+abbrev pub step_gathers : Step → ℕ
+step_gathers (fix s r) = 0
+step_gathers (unfix s) = 0
+step_gathers (latch s m) = 0
+step_gathers (unlatch s) = 0
+step_gathers (gather s r) = 1
+step_gathers (scatter s) = 0
+
+abbrev mutual
+  -- How many pages a run of the statement gathers at most, into all bundles together: a loop as many in each turn, a choice as
+  -- many as the branch that gathers most.
+  pub statement_gathers : Statement → ℕ
+  statement_gathers (step s) = step_gathers s
+  statement_gathers (loop n b) = n * sequence_gathers b
+  statement_gathers (choice bs) = branches_gather bs
+
+  pub sequence_gathers : Sequence → ℕ
+  sequence_gathers skip = 0
+  sequence_gathers (andthen s b) = statement_gathers s + sequence_gathers b
+
+  pub branches_gather : Alternatives → ℕ
+  branches_gather none = 0
+  branches_gather (either b bs) = max (sequence_gathers b) (branches_gather bs)
 
 -- ---- the first place of a loop's body
 

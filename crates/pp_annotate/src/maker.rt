@@ -1,17 +1,20 @@
 //! Makes a certificate.
 
-ghost use Rattle.std.specs.Prelude.{◌≡◌, IfOk, Err, Some, [], ◌∷◌};
+ghost use Rattle.std.specs.Prelude.{◌≡◌, ◌≤◌, IfOk, Err, Some, [], ◌∷◌, length, All};
 ghost use Rattle.pp_settings.specs.Settings.{geometry_of};
 ghost use Rattle.pp_plan.specs.View.{sequence_of};
 ghost use Rattle.pp_plan.specs.Rules.{uses_bundle};
 ghost use Rattle.pp_plan.specs.Terms.{IsPlan};
 ghost use Rattle.pp_cert.specs.declared.check_error.CheckError.{CheckError};
 ghost use Rattle.pp_cert.specs.Claims.{Claims, claims_of, AreClaims};
-ghost use Rattle.pp_cert.specs.Walk.{Certifies, first_fault, tests};
+ghost use Rattle.pp_cert.specs.Limits.{most_entries, most_counted};
+ghost use Rattle.pp_cert.specs.Walk.{Certifies, first_fault, tests, Test, fault_of};
 ghost use Rattle.pp_cert.specs.Longest.{sequence_longest, IsLongest};
+ghost use Rattle.pp_annotate.specs.Growth.{sequence_gathers};
 ghost use Rattle.pp_annotate.specs.Made.{greatest, made, sequence_notes};
 ghost use Rattle.pp_annotate.specs.Annotation.{annotation, AnswersAs, IfFault, IsPlansFault, IsBeforeLimits, IsTight};
-ghost use Rattle.pp_annotate.specs.Annotation.{IsLeast, HasNone, HasPagesAlone};
+ghost use Rattle.pp_annotate.specs.Annotation.{IsLeast, HasNone, HasPagesAlone, HasOwnBundles, first_failed, IsOfPlan};
+ghost use Rattle.pp_annotate.specs.Annotation.{IsWall};
 
 use crate::error::AnnotateError;
 use crate::writing::Draft;
@@ -55,6 +58,14 @@ pub fn annotate(
         → first_fault (geometry_of settings.now) d (tests plan.now) ≡ Some fault
         → IsBeforeLimits fault
         → AnswersAs result (Err fault) }
+    // Of any plan: no certificate comes past the fault that is answered, where that is one of what the plan does.
+    ensures wall { IfFault result (λ fault. IsBeforeLimits fault → IsWall (geometry_of settings.now) plan.now fault) }
+    // Of any plan of which no run gathers more than 4,097 pages: where the first test that some certificate fails is one of what
+    // the plan does, its fault is the answer. The certificate may note any bounds inside its loops.
+    ensures own { sequence_gathers plan.now.body ≤ most_counted → (d : Claims) (test : Test) → HasOwnBundles plan.now d
+        → first_failed (geometry_of settings.now) d (tests plan.now) ≡ Some test
+        → IsOfPlan test
+        → AnswersAs result (Err (fault_of test)) }
 {
     let layout = settings.layout();
     let certificate = made(alloc, plan)?;
@@ -69,6 +80,8 @@ fn made(alloc: Global, plan: &Plan) -> Result<Certificate, AllocError>
     ensures is { IfOk result (λ c. claims_of c ≡ made plan.now) }
     // The length that the steps are counted from is that of the longest trace.
     ensures longest { IsLongest plan.now.layout plan.now.body (sequence_longest plan.now.body) }
+    // No note has more entries than a plan may have slots, whether the plan has a fault or not.
+    ensures few { IfOk result (λ c. All (λ note. length note ≤ most_entries) (claims_of c).notes) }
     // What holds of every plan.
     ensures facts { IsPlan plan.now }
 {

@@ -269,6 +269,31 @@ fn a_slot_is_noted_once(rt: HostRuntime) -> Result<(), Fail> {
     Ok(())
 }
 
+/// A loop of 5,000 turns that gather two pages or three.
+const UNEVEN: &str = "{\"body\":[{\"body\":[{\"gather\":\"b\",\"region\":\"leaf\"},{\"choice\":[\
+    [{\"gather\":\"b\",\"region\":\"leaf\"}],\
+    [{\"gather\":\"b\",\"region\":\"leaf\"},{\"gather\":\"b\",\"region\":\"leaf\"}]]}],\
+    \"loop\":5000},{\"scatter\":\"b\"}],\"version\":2}";
+
+/// A certificate of it with the bounds of a first turn.
+const UNEVEN_NOTES: &str =
+    "{\"notes\":[{},{},{\"b\":1},{\"b\":1},{\"b\":2},{\"b\":1},{\"b\":2},{\"b\":3},\
+    {\"b\":2},{\"b\":2},{}],\"peak\":3,\"steps\":20001}";
+
+#[test]
+fn bounds_that_are_too_large_are_alike(rt: HostRuntime) -> Result<(), Fail> {
+    let settings = two_regions(rt.alloc(), 3)?;
+    let plan = Plan::from_text(rt.alloc(), &settings, UNEVEN)?;
+    let Err(error) = annotate(rt.alloc(), &settings, &plan) else {
+        panic!(rt; "annotated")
+    };
+    same(&rt, (error.number(), error.place()), (45, None));
+    let certificate = Certificate::from_text(rt.alloc(), &settings, &plan, UNEVEN_NOTES)?;
+    let fault = fault_under(&settings.layout(), &plan, &certificate);
+    same(&rt, told_of(fault), (41, 7));
+    Ok(())
+}
+
 /// What a program would say of a certificate with so many empty notes and then the last one, under the empty plan.
 fn answer(alloc: Global, settings: &Settings, count: u32, last: &str) -> Result<u8, Fail> {
     let plan = Plan::from_text(alloc, settings, "{\"body\":[],\"version\":1}")?;

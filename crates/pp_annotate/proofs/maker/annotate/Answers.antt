@@ -1,15 +1,16 @@
-use Rattle.std.proofs.Common.{◌≡◌, Err, Option, None, false, ap, sym, subst, ◌∙◌}
+use Rattle.std.proofs.Common.{◌≡◌, Err, Option, false, ap, sym, subst, ◌∙◌}
 use Rattle.pp_settings.specs.Layout.{Geometry}
 use Rattle.pp_settings.specs.Settings.{geometry_of}
 use Rattle.pp_plan.specs.Terms.{Terms}
 use Rattle.pp_cert.specs.declared.check_error.CheckError.{CheckError}
 use Rattle.pp_cert.specs.Claims.{AreClaims}
-use Rattle.pp_cert.specs.Walk.{Claims, Certifies, first_fault, tests_with}
+use Rattle.pp_cert.specs.Walk.{Claims, Certifies, first_fault, fault_of, tests_with}
 use Rattle.pp_annotate.specs.Annotation.{IsTight, IsLeast}
 use Rattle.pp_annotate.proofs.Least.{made_least, none_accepted}
 use Rattle.pp_annotate.proofs.Told.{made_told}
 use Rattle.pp_annotate.proofs.Faults.{made_faults}
 use Rattle.pp_annotate.proofs.Same.{made_same}
+use Rattle.pp_annotate.proofs.Own.{made_own, made_wall}
 use Rattle.pp_annotate.proofs.Tight.{tight}
 use Rattle.pp_annotate.proofs.Writable.{writable}
 use Rattle.pp_annotate.proofs.maker.annotate.Goals as goal
@@ -85,3 +86,30 @@ returns-in-None-clause-same c = λ one d fault pages e own.
     let answered =
     verdict p g _ _ _ _ c.layout-layout.ensures.is c.in_ok-certificate.ensures.is c.in-None.ensures in
     absurd (cc)
+
+pub returns-in-Some-clause-own : goal.returns-in-Some-clause-own
+returns-in-Some-clause-own c = λ few d test owns failed of_plan.
+    let p = c.args.plan.now in
+    let g : Geometry = geometry_of c.args.settings.now in
+    let own_fault = made_own g p c.in_ok-certificate.ensures.facts d test few owns failed of_plan in
+    let answered =
+    verdict p g _ _ _ _ c.layout-layout.ensures.is c.in_ok-certificate.ensures.is c.in-Some.ensures in
+    let is : fault_of test ≡ c.in-Some.fault = cc in
+    ap Err is
+
+pub returns-in-None-clause-own : goal.returns-in-None-clause-own
+returns-in-None-clause-own c = λ few d test owns failed of_plan.
+    let p = c.args.plan.now in
+    let g : Geometry = geometry_of c.args.settings.now in
+    let own_fault = made_own g p c.in_ok-certificate.ensures.facts d test few owns failed of_plan in
+    let answered =
+    verdict p g _ _ _ _ c.layout-layout.ensures.is c.in_ok-certificate.ensures.is c.in-None.ensures in
+    absurd (cc)
+
+pub returns-in-Some-clause-wall : goal.returns-in-Some-clause-wall
+returns-in-Some-clause-wall c = λ before.
+    let p = c.args.plan.now in
+    let g : Geometry = geometry_of c.args.settings.now in
+    let e =
+    verdict p g _ _ _ _ c.layout-layout.ensures.is c.in_ok-certificate.ensures.is c.in-Some.ensures in
+    made_wall g p c.in_ok-certificate.ensures.facts c.in-Some.fault before e
