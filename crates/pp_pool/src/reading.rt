@@ -204,7 +204,7 @@ fn has_room(log: &Journal) -> bool
 }
 
 /// Latches the page of a slot S that is fixed, as one is that a device has read, by a request.
-#[inline(always)]
+#[inline(never)]
 fn latch<S: Site, W: Work>(
     session: Session,
     slot: u8,
@@ -240,7 +240,8 @@ fn latch<S: Site, W: Work>(
 }
 
 /// Ends the reading of the page of a slot, where both moves are possible at once.
-#[inline(always)]
+// Not inlined, since it is made only behind a page that a device has read: the others end where they were begun.
+#[inline(never)]
 fn end<S: Site, W: Work>(
     session: Session,
     slot: u8,

@@ -97,6 +97,7 @@ pub trait Site {
 
 /// Copies the front of the image that has this head and this body into the slice, as far as the slice goes, where that is
 /// 64 bytes at least and no more than the image has. Tells whether it did.
+#[inline(always)]
 fn copy_front(page: u32, mark: u64, body: &[u8], bytes: &mut [u8]) -> bool
     ensures result { result ≡ (nat_le 64 (length bytes.old) && nat_le (length bytes.old - HEAD) (length body.now)) }
     ensures head { result ≡ true → head_of bytes.new ≡ (page, mark) }
@@ -141,6 +142,7 @@ impl Site for OwnSite {
     }
 
     #[tactic(auto, using(crate::proofs::Looking::no_page))]
+    #[inline(always)]
     fn look(&mut self, guard: &ReadGuard, bytes: &mut [u8]) -> bool {
         self.book.known();
         match self.book.see(guard) {
@@ -153,10 +155,12 @@ impl Site for OwnSite {
         self.book.most()
     }
 
+    #[inline(always)]
     fn read(&mut self, session: Session, page: u32) -> Result<(Session, ReadGuard, u32), Session> {
         self.book.read(session, page)
     }
 
+    #[inline(always)]
     fn end_read(
         &mut self,
         session: Session,

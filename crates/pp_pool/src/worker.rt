@@ -525,6 +525,7 @@ fn used<S: Site, W: Work>(
 }
 
 /// Looks at the guard's page as far as the work's reach goes, and shows that to the work.
+#[inline(always)]
 pub(crate) fn see<S: Site, W: Work>(
     site: &mut S,
     guard: &ReadGuard,

@@ -27,6 +27,7 @@ pub(crate) fn agreement<D>(worked: &[Worked<D>], events: &Journal) -> Agreement
 }
 
 /// Compares one more event, which stands at this place, with the log of its worker.
+#[inline(always)]
 fn compare<D>(counts: &mut Agreement, worked: &[Worked<D>], events: &Journal, place: usize)
     requires { place < length events.now.items }
     ensures { AllAgree counts.old worked.now events.now.items place
@@ -42,6 +43,7 @@ fn compare<D>(counts: &mut Agreement, worked: &[Worked<D>], events: &Journal, pl
 }
 
 /// How far the log agrees with its worker's part after one more event of that part, which stands at this place.
+#[inline(always)]
 fn after(count: Option<usize>, log: &Journal, events: &Journal, place: usize) -> Option<usize>
     ensures { (worker : ℕ) (event : Event) → slice_get events.now.items place ≡ Some event
         → names_worker worker event ≡ true → Agrees count log.now.items worker events.now.items place
@@ -84,6 +86,7 @@ fn is_part_alone(log: &Journal, events: &Journal, worker: u32) -> bool
 }
 
 /// Whether the event at a place of the journal stands at this place of the log.
+#[inline(always)]
 fn stands_at(log: &Journal, at: usize, events: &Journal, place: usize) -> bool
     ensures same { (event : Event) → slice_get events.now.items place ≡ Some event
         → (result ≡ true) ↔ (slice_get log.now.items at ≡ Some event) }

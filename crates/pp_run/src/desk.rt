@@ -140,6 +140,7 @@ impl<'a, N: Naming> Site for RunDesk<'a, N> {
         response
     }
 
+    #[inline(always)]
     fn look(&mut self, guard: &ReadGuard, bytes: &mut [u8]) -> bool {
         self.site.look(guard, bytes)
     }
@@ -148,10 +149,12 @@ impl<'a, N: Naming> Site for RunDesk<'a, N> {
         self.site.most()
     }
 
+    #[inline(always)]
     fn read(&mut self, session: Session, page: u32) -> Result<(Session, ReadGuard, u32), Session> {
         self.site.read(session, page)
     }
 
+    #[inline(always)]
     fn end_read(
         &mut self,
         session: Session,

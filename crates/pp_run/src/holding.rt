@@ -50,11 +50,25 @@ impl<'a, B: Desk, R: Wait> WorkerSite<'a, B, R> {
         site
     }
 
-    /// The lock: as it is held, or taken now.
+    /// The lock, out of its place: as it is held, or taken now.
+    #[inline(always)]
     fn hold(&mut self) -> MutexGuard<'a, Locked<B>> {
         match self.held.take() {
             Some(locked) => locked,
             None => self.site.hold(),
+        }
+    }
+
+    /// What lies under the lock, which is taken now if it isn't held. It stays in its place, so that nothing is moved where it is
+    /// held already.
+    #[inline(always)]
+    fn locked(&mut self) -> &mut Locked<B> {
+        if self.held.is_none() {
+            self.held = Some(self.site.hold());
+        }
+        match &mut self.held {
+            Some(locked) => &mut *locked,
+            None => unreachable!(),
         }
     }
 
@@ -69,12 +83,12 @@ impl<'a, B: Desk, R: Wait> WorkerSite<'a, B, R> {
         response
     }
 
-    /// Keeps the lock for the next call, after a move that was done, or none.
-    fn keep(&mut self, locked: MutexGuard<'a, Locked<B>>, is_done: bool) {
+    /// Notes what a call owes that did moves, or none.
+    #[inline(always)]
+    fn owe(&mut self, is_done: bool) {
         if is_done {
             self.owed = self.owed.and(false);
         }
-        self.held = Some(locked);
     }
 }
 
@@ -104,20 +118,16 @@ impl<'a, B: Desk, R: Wait> Site for WorkerSite<'a, B, R> {
         }
     }
 
+    #[inline(always)]
     fn look(&mut self, guard: &ReadGuard, bytes: &mut [u8]) -> bool {
-        let mut locked = self.hold();
-        let is_shown = locked.desk.look(guard, bytes);
-        self.keep(locked, false);
-        is_shown
+        self.locked().desk.look(guard, bytes)
     }
 
     fn most(&mut self) -> u64 {
-        let mut locked = self.hold();
-        let most = locked.desk.most();
-        self.keep(locked, false);
-        most
+        self.locked().desk.most()
     }
 
+    #[inline(always)]
     fn let_go(&mut self) {
         if let Some(locked) = self.held.take() {
             self.site.give_back(locked, self.owed);
@@ -125,21 +135,21 @@ impl<'a, B: Desk, R: Wait> Site for WorkerSite<'a, B, R> {
         }
     }
 
+    #[inline(always)]
     fn read(&mut self, session: Session, page: u32) -> Result<(Session, ReadGuard, u32), Session> {
-        let mut locked = self.hold();
-        let read = locked.desk.read(session, page);
-        self.keep(locked, read.is_ok());
+        let read = self.locked().desk.read(session, page);
+        self.owe(read.is_ok());
         read
     }
 
+    #[inline(always)]
     fn end_read(
         &mut self,
         session: Session,
         guard: ReadGuard,
     ) -> Result<(Session, u64), (Session, ReadGuard)> {
-        let mut locked = self.hold();
-        let ended = locked.desk.end_read(session, guard);
-        self.keep(locked, ended.is_ok());
+        let ended = self.locked().desk.end_read(session, guard);
+        self.owe(ended.is_ok());
         ended
     }
 }

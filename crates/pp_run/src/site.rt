@@ -124,6 +124,7 @@ impl<'a, B: Desk, R: Wait> LockedSite<'a, B, R> {
     }
 
     /// Gives the lock back, and then wakes whom something is owed.
+    #[inline(always)]
     pub(crate) fn give_back(&self, locked: MutexGuard<'a, Locked<B>>, owed: Owed) {
         let waiters = locked.waiters();
         drop(locked);
@@ -132,13 +133,23 @@ impl<'a, B: Desk, R: Wait> LockedSite<'a, B, R> {
 
     /// Takes the lock. Who has it mostly lets go sooner than a thread could fall asleep and be woken, so it is tried for a
     /// while first.
+    #[inline(always)]
     pub(crate) fn hold(&self) -> MutexGuard<'a, Locked<B>> {
-        for _ in 0..TRIES {
-            if let Some(locked) = self.lock.try_lock() {
-                return locked;
-            }
+        match self.lock.try_lock() {
+            Some(locked) => locked,
+            None => self.hold_later(),
+        }
+    }
+
+    /// The same, where the first try has failed.
+    #[inline(never)]
+    fn hold_later(&self) -> MutexGuard<'a, Locked<B>> {
+        for _ in 1..TRIES {
             for _ in 0..PAUSES {
                 spin_loop();
+            }
+            if let Some(locked) = self.lock.try_lock() {
+                return locked;
             }
         }
         self.lock.lock(self.rt)
@@ -146,6 +157,7 @@ impl<'a, B: Desk, R: Wait> LockedSite<'a, B, R> {
 
     /// Wakes those that wait for a move, where one was done, and those that wait for a page to be changed where a move lets
     /// one be flushed.
+    #[inline(always)]
     fn wake(&self, waiters: (u64, u64), owed: Owed) {
         let (waiting, idle) = waiters;
         if waiting > 0 && owed.is_moved {
