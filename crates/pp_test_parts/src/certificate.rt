@@ -184,6 +184,38 @@ fn a_refused_plan_comes_back(rt: HostRuntime) -> Result<(), Fail> {
     Ok(())
 }
 
+/// A bundle that a loop makes larger, up to six pages, beside a root.
+const BUNDLE: &str = "{\"body\":[{\"fix\":\"a\",\"region\":\"root\"},\
+{\"body\":[{\"gather\":\"g\",\"region\":\"leaf\"},{\"gather\":\"g\",\"region\":\"leaf\"}],\"loop\":3},\
+{\"scatter\":\"g\"},{\"unfix\":\"a\"}],\"version\":2}";
+
+/// A plan with a bundle, and its certificate, are checked under the settings for which the plan was read, and refused under
+/// others, with fewer frames or with more. Then the plan comes back, and is accepted under its own.
+#[test]
+fn a_bundle_is_checked_under_its_own_settings(rt: HostRuntime) -> Result<(), Fail> {
+    let alloc = rt.alloc();
+    let settings = two_regions(alloc, 7)?;
+    let mut plan = Plan::from_text(alloc, &settings, BUNDLE)?;
+    let certificate = annotate(alloc, &settings, &plan)?;
+    for frames in [6, 8] {
+        let others = two_regions(alloc, frames)?;
+        match check(&others, plan, &certificate) {
+            Ok(_) => panic!(rt; "accepted for {frames} frames"),
+            Err((back, fault)) => {
+                same(&rt, told_of(Some(fault)), (46, 9));
+                plan = back;
+            }
+        }
+        let made = annotate(alloc, &others, &plan);
+        same(&rt, made.err().map_or(0, |error| error.number()), 46);
+    }
+    match check(&settings, plan, &certificate) {
+        Ok(accepted) => same(&rt, (accepted.peak(), accepted.steps()), (7, 9)),
+        Err((_plan, fault)) => panic!(rt; "refused: {fault}"),
+    }
+    Ok(())
+}
+
 /// Writes the piece so many times.
 fn repeat(text: &mut String, piece: &str, count: u32) -> Result<(), AllocError> {
     for _ in 0..count {

@@ -5,6 +5,8 @@
 #![tactic(auto)]
 
 #[cfg(test)]
+mod bundling;
+#[cfg(test)]
 mod fixing;
 #[cfg(test)]
 mod lives;

@@ -31,6 +31,18 @@ const FIVE: &str =
 {\"body\":[{\"fix\":\"b\",\"region\":\"leaf\"},{\"latch\":\"b\",\"mode\":\"X\"},{\"unlatch\":\"b\"},{\"unfix\":\"b\"}],\
 \"loop\":5},{\"unlatch\":\"a\"},{\"unfix\":\"a\"}],\"version\":1}";
 
+/// Gathers two leaves and gives them back.
+const GATHER: &str =
+    "{\"body\":[{\"gather\":\"g\",\"region\":\"leaf\"},{\"gather\":\"g\",\"region\":\"leaf\"},\
+{\"scatter\":\"g\"}],\"version\":2}";
+
+/// Holds a root, a bundle of two leaves and a leaf, in slots 0 to 2, and fixes one leaf more.
+const HOLD: &str =
+    "{\"body\":[{\"fix\":\"a\",\"region\":\"root\"},{\"gather\":\"b\",\"region\":\"leaf\"},\
+{\"gather\":\"b\",\"region\":\"leaf\"},{\"fix\":\"c\",\"region\":\"leaf\"},{\"latch\":\"c\",\"mode\":\"X\"},\
+{\"fix\":\"d\",\"region\":\"leaf\"},{\"unlatch\":\"c\"},{\"unfix\":\"d\"},{\"unfix\":\"c\"},{\"scatter\":\"b\"},\
+{\"unfix\":\"a\"}],\"version\":2}";
+
 /// Three regions, none of which begins at page 0.
 const THREE: &str = "
 [[region]]
@@ -84,6 +96,44 @@ latch 0 = latched 0
 unlatch 0 = unlatched 0
 unfix 0 = did
 finish 0 = done
+";
+
+/// What the worker does that gathers two leaves, neither of which is cached.
+const GATHERED: &str = "take 0 = taken 0
+fix 0 16 = mustread 0
+came 0 16 0 = loaded 0
+fix 0 17 = mustread 1
+came 0 17 0 = loaded 0
+unfix 0 = did
+finish 0 = done
+";
+
+/// What the worker does that gathers one leaf twice, which isn't cached before.
+const GATHERED_TWICE: &str = "take 0 = taken 0
+fix 0 16 = mustread 0
+came 0 16 0 = loaded 0
+fix 0 16 = hit 0 0
+unfix 0 = did
+finish 0 = done
+";
+
+/// What the worker does whose last leaf isn't read: each slot is given back, the least first.
+const LEFT: &str = "take 0 = taken 0
+fix 0 0 = mustread 0
+came 0 0 0 = loaded 0
+fix 0 16 = mustread 1
+came 0 16 0 = loaded 0
+fix 0 17 = mustread 2
+came 0 17 0 = loaded 0
+fix 0 18 = mustread 3
+came 0 18 0 = loaded 0
+latch 0 = latched 0
+fix 0 19 = mustread 4
+came 0 fault = failed read
+unwind 0 0 = did
+unwind 0 1 = did
+unwind 0 2 = unlatched 1
+finish 0 = gone
 ";
 
 /// One worker's plans, and what comes of them.
@@ -221,6 +271,16 @@ see 26 1 26 1 65536 0
     },
     REACHES,
     Row {
+        reach: 64,
+        calls: "page 0 16 8\nchange 16 244 0\npage 0 16 8\nsee 16 1 16 1 64 0\n",
+        ..REACHES
+    },
+    Row {
+        reach: 65,
+        calls: "page 0 16 8\nchange 16 244 0\npage 0 16 8\nsee 16 1 16 1 65 0\n",
+        ..REACHES
+    },
+    Row {
         reach: 100,
         calls: "page 0 16 8\nchange 16 244 0\npage 0 16 8\nsee 16 1 16 1 100 0\n",
         ..REACHES
@@ -234,6 +294,24 @@ see 26 1 26 1 65536 0
         reach: usize::MAX,
         calls: "page 0 16 8\nchange 16 244 0\npage 0 16 8\nsee 16 1 16 1 256 0\n",
         ..REACHES
+    },
+    // A bundle is opened by its first page, and joined by the second, whether that is read or cached. All go back at once.
+    Row {
+        name: "a_bundle_is_gathered_and_given_back",
+        plans: &[GATHER],
+        picks: Picks::Next,
+        calls: "page 1 16 8\npage 1 16 8\n",
+        turns: "ddddddde",
+        log: GATHERED,
+        ..READS
+    },
+    Row {
+        name: "a_page_is_gathered_twice",
+        plans: &[GATHER],
+        calls: "page 1 16 8\npage 1 16 8\n",
+        turns: "dddddde",
+        log: GATHERED_TWICE,
+        ..READS
     },
     // The turn of a latch S is broken exactly where the page isn't shown with its mark; the work sees nothing then, and the
     // next turns go on.
@@ -392,6 +470,21 @@ fn a_failed_call_ends_its_plan(rt: HostRuntime) {
             panic!(rt; "call {call}: another ending: {log}");
         }
     }
+}
+
+/// A plan that holds pages in three slots, a bundle's and one latched X among them, as a fix for the fourth fails.
+const LEAVES: Row = Row {
+    name: "who_leaves_gives_the_least_slot_back_first",
+    frames: 6,
+    plans: &[HOLD],
+    ..FAILS
+};
+
+/// A worker that leaves its plan gives the least slot back first, whatever it holds there.
+#[test]
+fn who_leaves_gives_the_least_slot_back_first(rt: HostRuntime) {
+    let log = done(&rt, rt.alloc(), &LEAVES, 5);
+    same_text(&rt, LEAVES.name, &log, LEFT);
 }
 
 /// Settings of one frame, and else the sample ones.
