@@ -101,6 +101,8 @@ pub extern "C" fn pinpool_handle_fetch(
     ensures unchanged { Goes (λ old new. 3 ≤ create → new ≡ old) handle.old.value handle.new.value }
     ensures pinned_stay { Goes (λ old new. PinnedStay old.cache.table new.cache.table) handle.old.value handle.new.value }
     ensures place { result ≢ code Status.Hit → result ≢ code Status.New → place.new ≡ place.old }
+    ensures other { result ≢ code Status.Hit → result ≢ code Status.New → result ≢ code Status.Nothing
+        → result ≢ code Status.NoCache → result ≢ code Status.BadArgument → result ≡ code Status.NoRoom }
 {
     match take(alloc, handle) {
         None => Status::NoCache.code(),
@@ -147,6 +149,8 @@ fn fetch(alloc: Global, kept: &mut KeyedCache, key: u32, create: u32, place: &mu
     ensures unchanged { 3 ≤ create → kept.new ≡ kept.old }
     ensures pinned_stay { PinnedStay kept.old.cache.table kept.new.cache.table }
     ensures place { result ≢ Status.Hit → result ≢ Status.New → place.new ≡ place.old }
+    ensures other { result ≢ Status.Hit → result ≢ Status.New → result ≢ Status.Nothing → result ≢ Status.BadArgument
+        → result ≡ Status.NoRoom }
 {
     let way = match way_of(create) {
         None => return Status::BadArgument,
@@ -182,6 +186,7 @@ pub extern "C" fn pinpool_handle_frame(
     ensures hit { IfSome handle.old.value (λ kept.
         frame_of kept.cache.cache.table key ≡ (if result == code Status.Hit then Some frame.new else None)) }
     ensures frame { result ≢ code Status.Hit → frame.new ≡ frame.old }
+    ensures nothing { result ≢ code Status.Hit → result ≢ code Status.NoCache → result ≡ code Status.Nothing }
 {
     match take(alloc, handle) {
         None => Status::NoCache.code(),
@@ -290,6 +295,7 @@ pub extern "C" fn pinpool_handle_reserve(alloc: Global, handle: &mut Handle) -> 
     ensures grows { Goes GrowsRoom handle.old.value handle.new.value }
     ensures succeeds { Goes (λ old new. old.used < old.room → resident_count old.cache.table < old.cache.table.frames
         → result ≡ code Status.Done) handle.old.value handle.new.value }
+    ensures no_room { result ≢ code Status.Done → result ≢ code Status.NoCache → result ≡ code Status.NoRoom }
 {
     match take(alloc, handle) {
         None => Status::NoCache.code(),
@@ -311,6 +317,7 @@ fn reserve(alloc: Global, kept: &mut KeyedCache) -> Status
     ensures grows { GrowsRoom kept.old kept.new }
     ensures succeeds { kept.old.used < kept.old.room
         → resident_count kept.old.cache.table < kept.old.cache.table.frames → result ≡ Status.Done }
+    ensures no_room { result ≢ Status.Done → result ≡ Status.NoRoom }
 {
     match kept.reserve(alloc) {
         Err(_) => Status::NoRoom,
@@ -362,6 +369,7 @@ pub extern "C" fn pinpool_handle_shrink(alloc: Global, handle: &mut Handle) -> u
 #[unsafe(no_mangle)]
 pub extern "C" fn pinpool_handle_resize(alloc: Global, handle: &mut Handle, size: u32) -> u32
     ensures bad { (result ≡ code Status.BadArgument) ↔ (size ≡ 0) }
+    ensures status { 1 ≤ size → result ≡ option_map_or (λ _. code Status.Done) handle.old.value (code Status.NoCache) }
     ensures unchanged { size ≡ 0 → handle.new.value ≡ handle.old.value }
     ensures exact { 1 ≤ size → Goes (λ old new. new.cache ≡ after_resize old.cache size) handle.old.value handle.new.value }
     ensures pinned_stay { 1 ≤ size → Goes (λ old new. PinnedStay old.cache.table new.cache.table)
@@ -448,6 +456,7 @@ pub extern "C" fn pinpool_handle_next(
     ensures least { IfSome handle.old.value (λ kept. (other : ℕ) → from ≤ other → (result ≡ code Status.Hit → other < key.new)
         → page_of kept.cache.cache.table other ≡ None) }
     ensures key { result ≢ code Status.Hit → key.new ≡ key.old }
+    ensures nothing { result ≢ code Status.Hit → result ≢ code Status.NoCache → result ≡ code Status.Nothing }
     ensures unchanged { handle.new.value ≡ handle.old.value }
 {
     match take(alloc, handle) {
