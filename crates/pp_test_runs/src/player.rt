@@ -145,8 +145,7 @@ impl<'a, R: Clock> Work for Player<'a, R> {
 
     fn see(&mut self, page: u32, mark: u64, image: &[u8]) {
         self.note_page(page);
-        self.board
-            .note(tells(image, page, mark, self.board.case.page_bytes));
+        self.board.note(is_front(self.board, image, page, mark));
         self.board.tell(Thing::Seen);
         self.board.meet(&self.rt, Call::See, page);
     }
@@ -163,6 +162,21 @@ pub fn is_own(board: &Board, number: u32, page: u32) -> bool {
 /// Whether the body is as long as the case's pages have it.
 fn is_body(board: &Board, body: &[u8]) -> bool {
     body.len() == board.case.page_bytes.saturating_sub(image::HEAD)
+}
+
+/// Whether these are as many bytes of the page as works reach for, 64 at least and no more than it has, and are so as a page with
+/// this mark has them.
+fn is_front(board: &Board, bytes: &[u8], page: u32, mark: u64) -> bool {
+    let whole = board.case.page_bytes;
+    let reach = board.case.reach.max(64).min(whole);
+    if reach == whole {
+        return tells(bytes, page, mark, whole);
+    }
+    bytes.len() == reach
+        && bytes.len() > image::HEAD
+        && image::head(bytes) == (page, mark)
+        && u64::from(bytes[image::HEAD]) == mark % 256
+        && bytes[bytes.len() - 1] == 0
 }
 
 /// Whether the image is a whole one of this page, has this mark, and has it at both ends of its body.

@@ -200,6 +200,17 @@ const OTHER: &str =
     "{\"body\":[{\"choice\":[[{\"fix\":\"a\",\"region\":\"root\"},{\"latch\":\"a\",\"mode\":\"S\"},\
 {\"unlatch\":\"a\"},{\"unfix\":\"a\"}],[]]}],\"version\":1}";
 
+/// Gathers two leaves and gives them back.
+const GATHER: &str =
+    "{\"body\":[{\"gather\":\"g\",\"region\":\"leaf\"},{\"gather\":\"g\",\"region\":\"leaf\"},\
+{\"scatter\":\"g\"}],\"version\":2}";
+
+/// A page is told once one plan more has ended.
+const PLAN_MORE: Step = Step {
+    behind: 0,
+    until: Until::PlanMore,
+};
+
 /// A plan that ends waits before for a call that waits for that.
 const IN_TURN: Step = Step {
     behind: 0,
@@ -298,6 +309,42 @@ static ROWS: &[Case] = &[
             },
         ],
         counts: &[(Thing::Waited, 5), (Thing::Done, 6)],
+        ..SAMPLE
+    },
+    // The same where a page to gather is told, the first of a bundle and a further one.
+    Case {
+        name: "no_page_to_gather_is_told_under_the_lock",
+        plans: &[GATHER, TOUCH, TOUCH],
+        parts: &[
+            Part {
+                region: 1,
+                steps: &[PLAN_MORE, PLAN_MORE],
+            },
+            Part {
+                region: 0,
+                steps: &[IN_TURN, IN_TURN],
+            },
+        ],
+        counts: &[(Thing::Waited, 2), (Thing::Done, 3)],
+        ..SAMPLE
+    },
+    // Works see 100 bytes of 256, those of the front.
+    Case {
+        name: "works_see_as_far_as_they_reach",
+        page_bytes: 256,
+        flushes: 8,
+        reach: 100,
+        plans: &[WRITE, READ, READ, WRITE, READ],
+        counts: &[(Thing::Dirty, 0), (Thing::Changed, 2), (Thing::Seen, 3)],
+        ..SAMPLE
+    },
+    Case {
+        name: "works_see_64_bytes_of_256",
+        page_bytes: 256,
+        flushes: 8,
+        reach: 64,
+        plans: &[READ, WRITE, READ],
+        counts: &[(Thing::Dirty, 0), (Thing::Changed, 1), (Thing::Seen, 2)],
         ..SAMPLE
     },
     // Two workers share four plans, and each of these is counted once.

@@ -56,6 +56,15 @@ const HOLD_TWO: &str = "{\"body\":[{\"fix\":\"c\",\"region\":\"key\"},{\"unfix\"
 {\"unlatch\":\"b\"},{\"fix\":\"d\",\"region\":\"key\"},{\"unlatch\":\"a\"},{\"fix\":\"e\",\"region\":\"key\"},\
 {\"unfix\":\"e\"},{\"unfix\":\"d\"},{\"unfix\":\"b\"},{\"unfix\":\"a\"}],\"version\":1}";
 
+/// Reads the second page, gives it back, and fixes a key afterwards.
+const READ_THEN_KEY: &str =
+    "{\"body\":[{\"fix\":\"a\",\"region\":\"two\"},{\"latch\":\"a\",\"mode\":\"S\"},\
+{\"unlatch\":\"a\"},{\"unfix\":\"a\"},{\"fix\":\"b\",\"region\":\"key\"},{\"unfix\":\"b\"}],\"version\":1}";
+
+/// Fixes a key, and changes the second page afterwards.
+const KEY_THEN_CHANGE: &str = "{\"body\":[{\"fix\":\"b\",\"region\":\"key\"},{\"unfix\":\"b\"},\
+{\"fix\":\"a\",\"region\":\"two\"},{\"latch\":\"a\",\"mode\":\"X\"},{\"unlatch\":\"a\"},{\"unfix\":\"a\"}],\"version\":1}";
+
 /// Changes the first page.
 const CHANGE_ONE: &str =
     "{\"body\":[{\"fix\":\"a\",\"region\":\"one\"},{\"latch\":\"a\",\"mode\":\"X\"},\
@@ -586,6 +595,55 @@ static WAKES: &[Case] = &[
             },
         ],
         counts: &[(Thing::Dirty, 2), (Thing::Changed, 2), (Thing::Seen, 2)],
+        ..SAMPLE
+    },
+    // A reader sees a page, for whose latch X a writer waits, and unlatches and unfixes it by one call. It fixes its key only when
+    // the writer has changed the page: so the end of its reading wakes that.
+    Case {
+        name: "the_end_of_a_hit_wakes_who_waits_for_its_latch",
+        frames: 4,
+        flushes: 0,
+        regions: THREE_REGIONS,
+        areas: &[
+            Area { first: 0, count: 4 },
+            Area {
+                first: 16,
+                count: 4,
+            },
+            Area {
+                first: 20,
+                count: 4,
+            },
+        ],
+        plans: &[READ_THEN_KEY, KEY_THEN_CHANGE],
+        parts: &[
+            Part {
+                region: 2,
+                steps: &[
+                    FIRST,
+                    Step {
+                        behind: 0,
+                        until: Until::Come(Thing::Changed, 1),
+                    },
+                ],
+            },
+            Part {
+                region: 0,
+                steps: &[
+                    Step {
+                        behind: 1,
+                        until: Until::Come(Thing::Seen, 1),
+                    },
+                    FIRST,
+                ],
+            },
+        ],
+        cues: &[Cue {
+            at: Call::See,
+            page: 20,
+            until: Until::Come(Thing::Asked, 3),
+        }],
+        counts: &[(Thing::Dirty, 1), (Thing::Changed, 1), (Thing::Seen, 1)],
         ..SAMPLE
     },
 ];
