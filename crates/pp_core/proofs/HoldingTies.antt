@@ -108,6 +108,13 @@ held_own : (o : Option Hold) (page : ℕ) (held : Held) → own_hold o ≡ Some 
 held_own None page held e = absurd (none_some e)
 held_own (Some h) page held e = sym (ap (λ (p : ℕ × Held). p.1) (own_told h page held e))
 
+-- The page that a state has in the slot.
+pub page_held : (f : Parts) (s : State) (w slot page : ℕ) (held : Held) → StandsFor f s
+    → held_of s w slot ≡ Some (page, held) → IsPageIn f w slot page
+page_held f s w slot page held st e x is_in =
+    page_own (hold_at x.slots slot) page held
+    (sym (ap (λ o. held_seat o slot) is_in) ∙ held_told f s st w slot ∙ e)
+
 module _ (f : Parts) (w slot page : ℕ) (held : Held) (a : Ask)
     (told : (s : State) → StandsFor f s → ask_holding s w slot page held ≡ Some a) where
   pub asks_so : Asks f w a

@@ -1,11 +1,11 @@
 -- A fix and a latch S that are made at once, and an unlatch and an unfix: what they are answered, and where they lead.
-use Rattle.std.proofs.Common.{◌≡◌, ◌∙◌, ℕ, ◌+◌, ◌≤◌, Bool, true, false, not, Option, Some, None, refl, sym, ap, subst, arith}
+use Rattle.std.proofs.Common.{◌≡◌, ◌∙◌, ℕ, ◌+◌, ◌<◌, ◌≤◌, Bool, true, false, not, Option, Some, None, refl, sym, ap, subst, arith}
 use Rattle.std.specs.Prelude.{◌&&◌, IsSome, IfSome, IfNone, is_some, cond}
 use Rattle.std.proofs.lemmas.Bool.{false≢true}
 use Rattle.pp_plan.specs.declared.mode.Mode.TheVariants as mode
 use Rattle.pp_plan.specs.declared.action.Ask.{Ask}
 use Rattle.pp_plan.specs.declared.action.Ask.TheVariants as ask
-use Rattle.pp_cert.specs.declared.note.Held.TheVariants.{S}
+use Rattle.pp_cert.specs.declared.note.Held.TheVariants.{Free, S}
 use Rattle.pp_model.specs.declared.moves.Move.{Move}
 use Rattle.pp_model.specs.declared.moves.Move.TheVariants as move
 use Rattle.pp_model.specs.declared.refusals.Cause.{Cause}
@@ -17,14 +17,17 @@ use Rattle.pp_model.specs.Outcome.{Outcome}
 use Rattle.pp_model.specs.Using.{goes_with, latch_where, latch_asked, unlatched, unlatch_asked, unfix_asked}
 use Rattle.pp_model.specs.Moves.{asked_by, seat_of, outcome_of, reply_of, next_of, is_refusal, is_possible}
 use Rattle.pp_core.specs.Parts.{Parts}
-use Rattle.pp_core.specs.StandsFor.{StandsFor, IsKept, Moves, CannotAct}
+use Rattle.pp_core.specs.StandsFor.{StandsFor, IsKept, Moves, Asks, CannotAct}
+use Rattle.pp_core.specs.Effects.{IsPageIn, IsHeldIn}
 use Rattle.pp_core.specs.Queries.{ask_of, held_of, ask_holding}
-use Rattle.pp_core.specs.AfterMoves.{Acts, HasFixed, HasLatched}
+use Rattle.pp_core.specs.AfterMoves.{Acts, HasFixed, HasLatched, NowHeld}
 use Rattle.pp_core.specs.Reading.{MovesTwo, asks_fix, asks_share, asks_unlatch, asks_unfix, is_hit, can_read, can_end_read}
 use Rattle.pp_core.proofs.AfterMoves.{after_moves}
 use Rattle.pp_core.proofs.ReadAsks.{fix_asked, share_asked, unlatch_is_asked, unfix_is_asked}
-use Rattle.pp_core.proofs.HoldingTies.{acts_so, told_both}
+use Rattle.pp_core.proofs.Alike.{same_ask}
+use Rattle.pp_core.proofs.HoldingTies.{acts_so, told_both, asks_told, asks_so, page_so, held_so, page_held}
 use Rattle.pp_core.proofs.QueryTies.{none_told}
+use Rattle.pp_core.proofs.ReadTies.{unlatch_few}
 use Rattle.pp_core.proofs.Standing.{kept_after, budget_falls}
 use Rattle.pp_core.proofs.Ties.{acted_outcome}
 
@@ -99,12 +102,7 @@ module _ (f : Parts) (k : IsKept f) (w slot page : ℕ)
       (asks_share slot (ask_of (next_of k.state (move.Fix w page)) w))
       (is_possible (next_of k.state (move.Fix w page)) (move.Latch w)) (can k.state k.stands)
 
-  -- The fix is a hit.
-  pub fix_hits : (g : Parts) (one : Reply) → Moves f (move.Fix w page) one g → is_hit one ≡ true
-  fix_hits g one moves = ap is_hit (moves.replies k.state k.stands) ∙ tests.two
-
-  module _ (g h : Parts) (frame mark : ℕ) (two : Reply) (first : Moves f (move.Fix w page) (reply.Hit frame mark) g)
-      (second : Moves g (move.Latch w) two h) where
+  module _ (g : Parts) (frame mark : ℕ) (first : Moves f (move.Fix w page) (reply.Hit frame mark) g) where
     region_there : (region : ℕ) × (ask_of k.state w ≡ Some (ask.Fix slot region))
     region_there = fix_asked slot (ask_of k.state w) tests.one
 
@@ -116,8 +114,17 @@ module _ (f : Parts) (k : IsKept f) (w slot page : ℕ)
     there : StandsFor g fixed
     there = first.stands k.state k.stands
 
+    pub read_kept_between : IsKept g
+    read_kept_between = kept_after f g (move.Fix w page) (reply.Hit frame mark) k first
+
     shares : ask_of fixed w ≡ Some (ask.Latch slot mode.S)
     shares = share_asked slot (ask_of fixed w) tests.three
+
+    pub latch_asks : Asks g w (ask.Latch slot mode.S)
+    latch_asks = asks_told g w (ask.Latch slot mode.S) (λ t st. same_ask g t fixed st there w ∙ shares)
+
+    pub page_fixed : IsPageIn g w slot page
+    page_fixed = page_held g fixed w slot page Free there has_fixed.held
 
     told : (m : ℕ) × (reply_of fixed (move.Latch w) ≡ reply.Latched m)
     told = latch_told fixed w slot shares tests.four
@@ -126,23 +133,24 @@ module _ (f : Parts) (k : IsKept f) (w slot page : ℕ)
     has_latched =
         (after_moves fixed there.reached).latched w slot page told.0 mode.S told.1 shares has_fixed.held
 
-    two_is : two ≡ reply.Latched mark
-    two_is =
-        second.replies fixed there ∙ told.1
-        ∙ ap reply.Latched (same_mark told.0 mark (sym has_latched.known ∙ has_fixed.known))
+    module _ (h : Parts) (two : Reply) (second : Moves g (move.Latch w) two h) where
+      two_is : two ≡ reply.Latched mark
+      two_is =
+          second.replies fixed there ∙ told.1
+          ∙ ap reply.Latched (same_mark told.0 mark (sym has_latched.known ∙ has_fixed.known))
 
-    pub read_moves : MovesTwo f (move.Fix w page) (reply.Hit frame mark) (move.Latch w) (reply.Latched mark) h
-    read_moves =
-        record {
-          between = g;
-          kept = kept_after f g (move.Fix w page) (reply.Hit frame mark) k first;
-          begins = first;
-          goes_on = subst (λ (r : Reply). Moves g (move.Latch w) r h) two_is second;
-        }
+      pub read_moves : MovesTwo f (move.Fix w page) (reply.Hit frame mark) (move.Latch w) (reply.Latched mark) h
+      read_moves =
+          record {
+            between = g;
+            kept = read_kept_between;
+            begins = first;
+            goes_on = subst (λ (r : Reply). Moves g (move.Latch w) r h) two_is second;
+          }
 
-    pub read_acts : (cause : Cause) → CannotAct h w cause → ⊥
-    read_acts cause cannot =
-        no_cause h (next_of fixed (move.Latch w)) w cause (second.stands fixed there) has_latched.now.acts cannot
+      pub read_acts : (cause : Cause) → CannotAct h w cause → ⊥
+      read_acts cause cannot =
+          no_cause h (next_of fixed (move.Latch w)) w cause (second.stands fixed there) has_latched.now.acts cannot
 
 -- ---- an unlatch and an unfix
 
@@ -157,40 +165,70 @@ module _ (f : Parts) (k : IsKept f) (w slot page : ℕ)
       both_of (asks_unlatch slot (ask_holding k.state w slot page S))
       (asks_unfix slot (ask_of (next_of k.state (move.Unlatch w)) w)) (can k.state k.stands)
 
-  asks_it : ask_of k.state w ≡ Some (ask.Unlatch slot)
-  asks_it =
-      (told_both k.state w slot page S (ask.Unlatch slot)
-      (unlatch_is_asked slot (ask_holding k.state w slot page S) ends.0)).0
+  holding : (s : State) → StandsFor f s → ask_holding s w slot page S ≡ Some (ask.Unlatch slot)
+  holding s st =
+      unlatch_is_asked slot (ask_holding s w slot page S)
+      (both_of (asks_unlatch slot (ask_holding s w slot page S)) (asks_unfix slot (ask_of (next_of s (move.Unlatch w)) w))
+      (can s st)).0
+
+  asks_it : (ask_of k.state w ≡ Some (ask.Unlatch slot)) × (held_of k.state w slot ≡ Some (page, S))
+  asks_it = told_both k.state w slot page S (ask.Unlatch slot) (holding k.state k.stands)
+
+  pub unlatch_asks : Asks f w (ask.Unlatch slot)
+  unlatch_asks = asks_so f w slot page S (ask.Unlatch slot) holding
+
+  pub page_there : IsPageIn f w slot page
+  page_there = page_so f w slot page S (ask.Unlatch slot) holding k
+
+  pub held_there : IsHeldIn f w slot S
+  held_there = held_so f w slot page S (ask.Unlatch slot) holding k
+
+  pub end_few : slot < 32
+  end_few = unlatch_few f w slot page holding unlatch_asks k
 
   -- The unlatch is done.
   pub unlatch_goes : (g : Parts) (one : Reply) → Moves f (move.Unlatch w) one g → (m : ℕ) × (one ≡ reply.Unlatched m)
   unlatch_goes g one moves =
-      let t = unlatch_told k.state w slot asks_it in (t.0, moves.replies k.state k.stands ∙ t.1)
+      let t = unlatch_told k.state w slot asks_it.0 in (t.0, moves.replies k.state k.stands ∙ t.1)
 
-  module _ (g h : Parts) (mark : ℕ) (two : Reply) (first : Moves f (move.Unlatch w) (reply.Unlatched mark) g)
-      (second : Moves g (move.Unfix w) two h) where
+  module _ (g : Parts) (mark : ℕ) (first : Moves f (move.Unlatch w) (reply.Unlatched mark) g) where
     stands_there : StandsFor g freed
     stands_there = first.stands k.state k.stands
+
+    pub end_kept_between : IsKept g
+    end_kept_between = kept_after f g (move.Unlatch w) (reply.Unlatched mark) k first
 
     unfixes : ask_of freed w ≡ Some (ask.Unfix slot)
     unfixes = unfix_is_asked slot (ask_of freed w) ends.1
 
-    did_it : two ≡ reply.Did
-    did_it = second.replies freed stands_there ∙ unfix_told freed w slot unfixes
+    pub unfix_asks : Asks g w (ask.Unfix slot)
+    unfix_asks = asks_told g w (ask.Unfix slot) (λ t st. same_ask g t freed st stands_there w ∙ unfixes)
 
-    pub end_moves : MovesTwo f (move.Unlatch w) (reply.Unlatched mark) (move.Unfix w) reply.Did h
-    end_moves =
-        record {
-          between = g;
-          kept = kept_after f g (move.Unlatch w) (reply.Unlatched mark) k first;
-          begins = first;
-          goes_on = subst (λ (r : Reply). Moves g (move.Unfix w) r h) did_it second;
-        }
+    has_freed : NowHeld k.state freed w slot page mark Free
+    has_freed =
+        (after_moves k.state k.stands.reached).unlatched w slot page mark S (sym (first.replies k.state k.stands)) asks_it.0
+        asks_it.1
 
-    pub end_acts : (cause : Cause) → CannotAct h w cause → ⊥
-    end_acts cause cannot =
-        no_cause h (next_of freed (move.Unfix w)) w cause (second.stands freed stands_there)
-        ((after_moves freed stands_there.reached).unfixed w slot (unfix_told freed w slot unfixes) unfixes).acts cannot
+    pub page_stays : IsPageIn g w slot page
+    page_stays = page_held g freed w slot page Free stands_there has_freed.held
+
+    module _ (h : Parts) (two : Reply) (second : Moves g (move.Unfix w) two h) where
+      did_it : two ≡ reply.Did
+      did_it = second.replies freed stands_there ∙ unfix_told freed w slot unfixes
+
+      pub end_moves : MovesTwo f (move.Unlatch w) (reply.Unlatched mark) (move.Unfix w) reply.Did h
+      end_moves =
+          record {
+            between = g;
+            kept = end_kept_between;
+            begins = first;
+            goes_on = subst (λ (r : Reply). Moves g (move.Unfix w) r h) did_it second;
+          }
+
+      pub end_acts : (cause : Cause) → CannotAct h w cause → ⊥
+      end_acts cause cannot =
+          no_cause h (next_of freed (move.Unfix w)) w cause (second.stands freed stands_there)
+          ((after_moves freed stands_there.reached).unfixed w slot (unfix_told freed w slot unfixes) unfixes).acts cannot
 
 -- ---- what two moves leave
 

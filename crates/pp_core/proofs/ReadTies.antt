@@ -34,15 +34,17 @@ use Rattle.pp_model.specs.Using.{goes_with, latch_where, latch_asked, unlatched,
 use Rattle.pp_model.specs.Moves.{asked_by, seat_of, outcome_of, reply_of, next_of, is_refusal, is_possible}
 use Rattle.pp_model.specs.Laws.{IsActing}
 use Rattle.pp_model.proofs.Changes.{IsAsked}
+use Rattle.pp_model.proofs.HoldingSteps as steps
 use Rattle.pp_model.proofs.MarkChanges.{edit_here, count_told}
 use Rattle.pp_model.proofs.MarkSteps as marked
 use Rattle.pp_model.proofs.Requests.{hit_cached, miss_uncached}
 use Rattle.pp_core.specs.Parts.{Parts}
 use Rattle.pp_core.specs.StandsFor.{StandsFor, IsKept, Moves, Asks}
-use Rattle.pp_core.specs.Effects.{CanAct, is_flying, is_busy}
+use Rattle.pp_core.specs.Effects.{CanAct, Spent, pinned, is_flying, is_busy, frame_at as frame_in, mark_at as mark_in}
+use Rattle.pp_core.specs.Fixing.{CanHit}
 use Rattle.pp_core.specs.Queries.{ask_of, own_of, held_of, ask_holding, ask_holding_seat}
 use Rattle.pp_core.specs.AfterMoves.{HasFixed}
-use Rattle.pp_core.specs.Reading.{AsksBehind, asks_fix, asks_share, asks_unlatch, asks_unfix, is_hit, can_read}
+use Rattle.pp_core.specs.Reading.{AsksBehind, CanRead, asks_fix, asks_share, asks_unlatch, asks_unfix, is_hit, can_read}
 use Rattle.pp_core.specs.Reading.{can_end_read}
 use Rattle.pp_core.proofs.ActTies.{can_act, cursor_of, fits_running, same_plan, fix_due, unlatch_due, acting_on}
 use Rattle.pp_core.proofs.AfterMoves.{after_moves}
@@ -108,7 +110,7 @@ own_page (Some h) page how e = go h.bundled e
     go true e = cc
     go false e = same_page h.page page h.held how e
 
-same_ask : (x y : Ask) → Some x ≡ Some y → x ≡ y
+pub same_ask : (x y : Ask) → Some x ≡ Some y → x ≡ y
 same_ask x y e = cc
 
 slot_is : (a b : ℕ) → (a == b) ≡ true → a ≡ b
@@ -174,27 +176,32 @@ module _ (f : Parts) (w page slot region : ℕ) (asks : Asks f w (ask.Fix slot r
       ∙ unhit s after w (asks s st).0 slot page arc (λ e.
       let here = hit_cached f.lists page (is_busy f) (bounds f k) e in false≢true (sym gone ∙ here)))
 
+  abbrev done : Action
+  done = action.Fix slot page
+
+  pub asked_fix : (s : State) (st : StandsFor f s) → IsAsked s w (asks s st).0 done
+  asked_fix s st =
+      subst (λ x. IsAsked s w (asks s st).0 (fixes x slot page)) (asks s st).2
+      (fixing.fix_of f w page slot region (ask.Fix slot region) refl asks has s st).asked
+
+  pub can_fix : CanAct f w done
+  can_fix =
+      let s = k.state in
+      let st = k.stands in
+      let asked_so = (fixing.fix_of f w page slot region (ask.Fix slot region) refl asks has s st).asked in
+      subst (λ x. CanAct f w (fixes x slot page)) (asks s st).2
+      (can_act f s w (asks s st).0 (fixes (asked_by (asks s st).0) slot page) st asked_so.at.seat asked_so.at.stage
+      (fix_due f s w (asks s st).0 st slot page asked_so))
+
+  pub few : slot < 32
+  few =
+      (steps.fix_finds k.state k.stands.reached w (asks k.state k.stands).0 slot page
+      (fixing.fix_of f w page slot region (ask.Fix slot region) refl asks has k.state k.stands).asked).few
+
   module _ (here : is_cached f.lists page ≡ true) where
     hits : arc ≡ answer.Hit
     hits = hit_or arc (λ isnt.
         let gone = miss_uncached f.lists page (is_busy f) isnt in false≢true (sym gone ∙ here))
-
-    abbrev done : Action
-    done = action.Fix slot page
-
-    pub asked_fix : (s : State) (st : StandsFor f s) → IsAsked s w (asks s st).0 done
-    asked_fix s st =
-        subst (λ x. IsAsked s w (asks s st).0 (fixes x slot page)) (asks s st).2
-        (fixing.fix_of f w page slot region (ask.Fix slot region) refl asks has s st).asked
-
-    pub can_fix : CanAct f w done
-    can_fix =
-        let s = k.state in
-        let st = k.stands in
-        let asked_so = (fixing.fix_of f w page slot region (ask.Fix slot region) refl asks has s st).asked in
-        subst (λ x. CanAct f w (fixes x slot page)) (asks s st).2
-        (can_act f s w (asks s st).0 (fixes (asked_by (asks s st).0) slot page) st asked_so.at.seat asked_so.at.stage
-        (fix_due f s w (asks s st).0 st slot page asked_so))
 
     outcome_is : (s : State) (st : StandsFor f s)
         → outcome_of s (move.Fix w page)
@@ -301,6 +308,66 @@ module _ (f : Parts) (w page slot region : ℕ) (asks : Asks f w (ask.Fix slot r
             (ap (asks_share slot) (asks_next s st ∙ ap {B = Option Ask} Some shares) ∙ same_slot slot slot refl)
             (sym (latches s st b e))
 
+  -- This is what the plan asks behind the fix.
+  module _ (next : Ask) (behind : AsksBehind f w (action.Fix slot page) next) where
+    told_behind : (here : is_cached f.lists page ≡ true) (s : State) (st : StandsFor f s) → next ≡ asked_by (worker here s st)
+    told_behind here s st = asks_behind f w (action.Fix slot page) next behind s (asks s st).0 st (asked_fix s st)
+
+    -- No latch S of the slot.
+    pub unread : asks_share slot (Some next) ≡ false → (s : State) → StandsFor f s → false ≡ can_read s w slot page
+    unread isnt s st = go (is_cached f.lists page) refl
+      where
+        go : (b : Bool) → is_cached f.lists page ≡ b → false ≡ can_read s w slot page
+        go false gone = uncached gone s st
+        go true here = unshared here next (told_behind here) isnt s st
+
+    module _ (asks_it : asks_share slot (Some next) ≡ true) where
+      -- Another latch keeps it off.
+      pub kept_off : false ≡ map.is_compatible latch_mode.S (map.latches_of f.marks page) → (s : State) → StandsFor f s
+          → false ≡ can_read s w slot page
+      kept_off e s st = go (is_cached f.lists page) refl
+        where
+          go : (b : Bool) → is_cached f.lists page ≡ b → false ≡ can_read s w slot page
+          go false gone = uncached gone s st
+          go true here = shared here next (told_behind here) asks_it false e s st
+
+      pub read_at_once : is_cached f.lists page ≡ true
+          → true ≡ map.is_compatible latch_mode.S (map.latches_of f.marks page) → (s : State) → StandsFor f s
+          → true ≡ can_read s w slot page
+      read_at_once here e s st = shared here next (told_behind here) asks_it true e s st
+
+-- ---- a page that can be read if it is cached
+
+module _ (f : Parts) (w slot page region : ℕ) (k : IsKept f) (can : CanRead f w slot page region) where
+  pub read_few : slot < 32
+  read_few = few f w page slot region can.asks can.has can.free k
+
+  pub read_low : page < f.lists.pages
+  read_low = fixing.request_low f w page slot region (ask.Fix slot region) refl can.asks can.has k
+
+  pub not_read : is_cached f.lists page ≡ false → (s : State) → StandsFor f s → false ≡ can_read s w slot page
+  not_read gone s st = uncached f w page slot region can.asks can.has can.free k gone s st
+
+  pub is_read : is_cached f.lists page ≡ true → (s : State) → StandsFor f s → true ≡ can_read s w slot page
+  is_read here s st =
+      read_at_once f w page slot region can.asks can.has can.free k (ask.Latch slot mode.S) can.behind
+      (same_slot slot slot refl) here can.goes s st
+
+  -- ARC was asked, and has it.
+  module _ (h : Parts) (hit : (request f.lists page (is_busy f)).0 ≡ answer.Hit)
+      (parts : h ≡ record f { lists = (request f.lists page (is_busy f)).1 }) where
+    pub can_hit_there : CanHit h w (ask.Fix slot region) slot page
+    can_hit_there =
+        subst (λ (z : Parts). CanHit z w (ask.Fix slot region) slot page) (sym parts)
+        (fixing.can_hit f w page slot region (ask.Fix slot region) refl can.asks can.has can.free answer.Hit (sym hit) k refl)
+
+    pub hits_there : (g : Parts) (one : Reply) → Spent h g w (action.Fix slot page) (pinned h.marks page)
+        → one ≡ reply.Hit (frame_in h.marks page) (mark_in h.marks page) → Moves f (move.Fix w page) one g
+    hits_there g one spent tells =
+        fixing.hit_moves f w page slot region (ask.Fix slot region) refl can.asks can.has can.free answer.Hit (sym hit) g one
+        refl (subst (λ (z : Parts). Spent z g w (action.Fix slot page) (pinned z.marks page)) parts spent)
+        (subst (λ (z : Parts). one ≡ reply.Hit (frame_in z.marks page) (mark_in z.marks page)) parts tells)
+
 -- ---- an unlatch and an unfix
 
 module _ (f : Parts) (w slot page : ℕ)
@@ -311,6 +378,14 @@ module _ (f : Parts) (w slot page : ℕ)
 
   pub asked_unlatch : (s : State) (st : StandsFor f s) → IsAsked s w (asks s st).0 ends
   asked_unlatch s st = is_asked s w (asks s st).0 (ask.Unlatch slot) ends (asks s st).1 (asks s st).2 refl
+
+  pub unlatch_few : slot < 32
+  unlatch_few =
+      let s = k.state in
+      let st = k.stands in
+      let r = (asks s st).0 in
+      let finds = steps.unlatch_finds s st.reached w r slot (asked_unlatch s st) in
+      (steps.slots_are_within s st.reached w r (asks s st).1.seat slot finds.0 finds.1.found).few
 
   pub can_unlatch : CanAct f w ends
   can_unlatch =

@@ -2,13 +2,16 @@
 -- unfix.
 use Rattle.std.specs.Prelude.{◌≡◌, ℕ, Bool, true, false, ◌&&◌, ◌==◌, Option, Some, List, [], ◌∷◌, ◌++◌}
 use Rattle.pp_plan.specs.declared.action.Action.{Action}
+use Rattle.pp_plan.specs.declared.action.Action.TheVariants as action
 use Rattle.pp_plan.specs.declared.action.Ask.{Ask}
 use Rattle.pp_plan.specs.declared.action.Ask.TheVariants as ask
 use Rattle.pp_plan.specs.declared.mode.Mode.TheVariants as mode
-use Rattle.pp_cursor.specs.Asked.{asked}
+use Rattle.pp_cursor.specs.Asked.{asked, region_has}
 use Rattle.pp_cursor.specs.Cursor.{StandsFor as CursorStandsFor}
 use Rattle.pp_cert.specs.declared.note.Held.TheVariants.{S}
 use Rattle.pp_cert.specs.Accepted.{Acceptance}
+use Rattle.pp_frames.specs.Marks.{latches_of, is_compatible}
+use Rattle.pp_frames.specs.declared.mode.Mode.TheVariants as latch_mode
 use Rattle.pp_model.specs.declared.moves.Move.{Move}
 use Rattle.pp_model.specs.declared.moves.Move.TheVariants.{Fix, Latch, Unlatch}
 use Rattle.pp_model.specs.declared.reply.Reply.{Reply}
@@ -16,10 +19,10 @@ use Rattle.pp_model.specs.declared.reply.Reply.TheVariants.{Hit}
 use Rattle.pp_model.specs.Pool.{State}
 use Rattle.pp_model.specs.Moves.{reply_of, next_of, is_possible}
 use Rattle.pp_core.specs.Parts.{Parts}
-use Rattle.pp_core.specs.StandsFor.{IsKept, Moves}
+use Rattle.pp_core.specs.StandsFor.{IsKept, Moves, Asks}
 use Rattle.pp_core.specs.Queries.{ask_of, ask_holding}
 use Rattle.pp_core.specs.declared.seat.Seat.{Seat}
-use Rattle.pp_core.specs.Effects.{Runs}
+use Rattle.pp_core.specs.Effects.{Runs, is_flying}
 
 -- ---- one move behind another
 
@@ -80,3 +83,11 @@ pub record AsksBehind (f : Parts) (w : ℕ) (a : Action) (next : Ask) : Type 0 w
   pub runs : Runs f w seat accepted
   pub told : (before : List Action) → CursorStandsFor accepted.plan seat.cursor before
       → next ≡ asked accepted.plan (before ++ a ∷ [])
+
+-- Worker w can fix the page of the region into the slot if it is cached, and latch it S then.
+pub record CanRead (f : Parts) (w slot page region : ℕ) : Type 0 where
+  pub asks : Asks f w (ask.Fix slot region)
+  pub has : region_has f.layout region page ≡ true
+  pub free : is_flying f page ≡ false
+  pub behind : AsksBehind f w (action.Fix slot page) (ask.Latch slot mode.S)
+  pub goes : true ≡ is_compatible latch_mode.S (latches_of f.marks page)

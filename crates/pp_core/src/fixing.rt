@@ -106,7 +106,7 @@ impl Table {
 
     /// Asks ARC for the page if it is cached, and tells whether it is.
     #[inline(always)]
-    fn touch(&mut self, page: u32) -> bool
+    pub(crate) fn touch(&mut self, page: u32) -> bool
         requires { page < self.old.directory.pages }
         ensures cached { result ≡ is_cached self.old.directory page }
         ensures answer { IsTrue result → (request self.old.directory page (is_busy (parts_of self.old))).0 ≡ Answer.Hit }
@@ -137,7 +137,7 @@ impl Table {
 
     /// The page is cached: it is fixed at once.
     #[inline(always)]
-    fn hit(&mut self, worker: u32, ask: Ask, slot: u8, page: u32) -> Reply
+    pub(crate) fn hit(&mut self, worker: u32, ask: Ask, slot: u8, page: u32) -> Reply
         requires { CanHit (parts_of self.old) worker ask slot page }
         ensures spent { Spent (parts_of self.old) (parts_of self.new) worker
             (fixes ask slot page) (pinned self.old.marks page) }

@@ -1,6 +1,6 @@
 //! Two moves at once: a fix that hits and the latch S of its slot, and the unlatch of a slot and its unfix.
 
-ghost use Rattle.std.specs.Prelude.{◌≡◌, ◌+◌, ◌≤◌, List, [], ◌∷◌, ◌++◌, true, Some, IfSome, IfNone, is_some, if◌then◌else◌};
+ghost use Rattle.std.specs.Prelude.{◌≡◌, ◌+◌, ◌≤◌, List, [], ◌∷◌, ◌++◌, false, true, Some, IfSome, IfNone, is_some, if◌then◌else◌};
 ghost use Rattle.pp_cursor.specs.Asked.{asked};
 ghost use Rattle.pp_cursor.specs.Cursor.{StandsFor as CursorStandsFor};
 ghost use Rattle.pp_plan.specs.declared.action.Action.{Action};
@@ -11,7 +11,7 @@ ghost use Rattle.pp_core.specs.Seats.{CanDo};
 ghost use Rattle.pp_core.specs.Effects.{CanAct};
 ghost use Rattle.pp_core.specs.Queries.{ask_of};
 ghost use Rattle.pp_core.specs.Headline.{HeadlineHolds};
-ghost use Rattle.pp_core.specs.Reading.{AsksBehind, MovesTwo, asks_share, asks_unfix, can_read, can_end_read};
+ghost use Rattle.pp_core.specs.Reading.{AsksBehind, CanRead, MovesTwo, asks_share, asks_unfix, can_read, can_end_read};
 
 use crate::machine::Core;
 use crate::seat::Seat;
@@ -112,36 +112,37 @@ impl Table {
         }
     }
 
-    /// Whether the worker can fix the page into this slot and latch it S at once.
+    /// The region of the page, where the worker can fix the page into this slot and latch it S at once if it is cached.
     #[inline(always)]
-    fn can_read(&self, worker: u32, slot: u32, page: u32) -> bool
+    fn region_to_read(&self, worker: u32, slot: u32, page: u32) -> Option<u8>
         requires { IsKept (parts_of self.now) }
-        ensures { (s : State) → StandsFor (parts_of self.now) s → result ≡ can_read s worker slot page }
+        ensures can { IfSome result (CanRead (parts_of self.now) worker slot page) }
+        ensures cant { IfNone result ((s : State) → StandsFor (parts_of self.now) s → false ≡ can_read s worker slot page) }
     {
         let ask = match self.asked(worker) {
             Ok(ask) => ask,
-            Err(_) => return false,
+            Err(_) => return None,
         };
         let Ask::Fix { slot: own, region } = ask else {
-            return false;
+            return None;
         };
         if slot != u32::from(own) {
-            return false;
+            return None;
         }
         if !self.has_page(region, page) {
-            return false;
+            return None;
         }
         if self.is_flying(page) {
-            return false;
-        }
-        if !self.is_cached(page) {
-            return false;
+            return None;
         }
         let next = self.ask_after(worker, Action::Fix { slot: own, page });
         if !is_share(next, own) {
-            return false;
+            return None;
         }
-        self.marks.can_grant(page, LatchMode::S)
+        if !self.marks.can_grant(page, LatchMode::S) {
+            return None;
+        }
+        Some(region)
     }
 
     /// Does both moves of a reading, where they are possible at once.
@@ -160,13 +161,19 @@ impl Table {
             → ask_of s worker ≡ Some now.2) }
         ensures unchanged { IfNone result (parts_of self.new ≡ parts_of self.old) }
     {
-        if !self.can_read(worker, slot, page) {
+        let region = match self.region_to_read(worker, slot, page) {
+            Some(region) => region,
+            None => return None,
+        };
+        if !self.touch(page) {
             return None;
         }
-        let Reply::Hit { frame, mark } = self.fix(worker, page) else {
+        let own = slot as u8;
+        let Reply::Hit { frame, mark } = self.hit(worker, Ask::Fix { slot: own, region }, own, page)
+        else {
             unreachable!()
         };
-        let _latched = self.latch(worker);
+        let _latched = self.latch_held(worker, own, page, Mode::S);
         let ask = match self.asked(worker) {
             Ok(ask) => ask,
             Err(_) => unreachable!(),
@@ -213,10 +220,11 @@ impl Table {
         if !self.can_end_read(worker, slot, page) {
             return None;
         }
-        let Reply::Unlatched { mark } = self.unlatch(worker) else {
+        let own = slot as u8;
+        let Reply::Unlatched { mark } = self.unlatch_held(worker, own, page, Held::S) else {
             unreachable!()
         };
-        let _did = self.unfix(worker);
+        let _did = self.unfix_held(worker, own, page);
         let ask = match self.asked(worker) {
             Ok(ask) => ask,
             Err(_) => unreachable!(),

@@ -220,9 +220,10 @@ pub(crate) fn event_of(others: &[Event], entry: Entry) -> Event
 }
 
 /// Whether two entries are equal, and stand alone. Then they are one event, whatever stands beside them.
+// They are lent, since to compare copies would take as long as to copy them.
 #[inline(always)]
-pub(crate) fn is_one_event(left: Entry, right: Entry) -> bool
-    ensures { result ≡ true → (others more : List Event) → event_of others left ≡ event_of more right }
+pub(crate) fn is_one_event(left: &Entry, right: &Entry) -> bool
+    ensures { result ≡ true → (others more : List Event) → event_of others left.now ≡ event_of more right.now }
 {
     match left {
         Entry::Other { .. } => false,

@@ -204,7 +204,7 @@ impl Journal {
     {
         match (self.entries.get(place), other.entries.get(at)) {
             (Some(left), Some(right)) => {
-                is_one_event(*left, *right)
+                is_one_event(left, right)
                     || is_same_event(
                         self.others.as_slice(),
                         *left,

@@ -204,6 +204,7 @@ fn has_room(log: &Journal) -> bool
 }
 
 /// Latches the page of a slot S that is fixed, as one is that a device has read, by a request.
+// Not inlined, so that a page that is cached needs no room for it.
 #[inline(never)]
 fn latch<S: Site, W: Work>(
     session: Session,
@@ -240,7 +241,7 @@ fn latch<S: Site, W: Work>(
 }
 
 /// Ends the reading of the page of a slot, where both moves are possible at once.
-// Not inlined, since it is made only behind a page that a device has read: the others end where they were begun.
+// Not inlined, since it is made only behind a page that a device has read: another reading ends where it was begun.
 #[inline(never)]
 fn end<S: Site, W: Work>(
     session: Session,
