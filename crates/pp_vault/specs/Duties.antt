@@ -14,3 +14,9 @@ abbrev pub duty_slot : Duty → Option ℕ
 duty_slot (Read w slot page) = Some slot
 duty_slot (Write w slot page victim) = Some slot
 duty_slot (Flush page) = None
+
+-- The page that the device is called with: where a victim is to be written back, the victim.
+abbrev pub duty_page : Duty → ℕ
+duty_page (Read w slot page) = page
+duty_page (Write w slot page victim) = victim
+duty_page (Flush page) = page

@@ -1,7 +1,7 @@
 //! Tokens of workers and of the flusher.
 
 ghost use Rattle.std.specs.Prelude.{◌≡◌};
-ghost use Rattle.pp_vault.specs.Duties.{duty_worker, duty_slot};
+ghost use Rattle.pp_vault.specs.Duties.{duty_worker, duty_slot, duty_page};
 
 use crate::image::Image;
 use pp_device::Fault;
@@ -71,6 +71,16 @@ impl Duty {
         match *self {
             Duty::Read { worker, .. } | Duty::Write { worker, .. } => Some(worker),
             Duty::Flush { .. } => None,
+        }
+    }
+
+    /// The page that the device is called with: where a victim is to be written back, the victim.
+    pub(crate) fn page(&self) -> u32
+        ensures { result ≡ duty_page self.now }
+    {
+        match *self {
+            Duty::Read { page, .. } | Duty::Flush { page } => page,
+            Duty::Write { victim, .. } => victim,
         }
     }
 
@@ -148,5 +158,12 @@ impl Returned {
         ensures { result ≡ duty_slot self.now.duty }
     {
         self.duty.slot()
+    }
+
+    /// The page that the device was called with: where a victim was to be written back, the victim.
+    pub fn page(&self) -> u32
+        ensures { result ≡ duty_page self.now.duty }
+    {
+        self.duty.page()
     }
 }
