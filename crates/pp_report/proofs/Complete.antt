@@ -19,7 +19,7 @@ use Rattle.pp_model.specs.declared.reply.Reply.{Reply}
 use Rattle.pp_model.specs.declared.reply.Reply.TheVariants.{Taken, Hit, MustRead, MustWrite, Failed, Loaded, Did}
 use Rattle.pp_model.specs.declared.reply.Reply.TheVariants.{Latched, Unlatched, Finished, Flushing, Flushed}
 use Rattle.pp_model.specs.declared.reply.Reply.TheVariants.{NotNow, OffPlan}
-use Rattle.pp_model.specs.Pool.{Running, State, leaving, opening}
+use Rattle.pp_model.specs.Pool.{Running, State, leaving}
 use Rattle.pp_model.specs.Holders.{page_in, held_in}
 use Rattle.pp_model.specs.Outcome.{Outcome, at_stage, having_done, released}
 use Rattle.pp_model.specs.Taking.{has_room, beginning, take_where, take_by}
@@ -435,11 +435,12 @@ rows_there plans (Step m reply ∷ es) s n from below is_true rest =
 
 -- Each plan of a complete journal has one.
 pub each_has_row : (es : List Event) → EachHasRow es
-each_has_row es k plans c n below =
-    let s = replay plans (opening k) es in
+each_has_row es o plans c n below =
+    let s = replay plans o es in
     let all : length s.plans ≡ length plans = ap length c.submitted in
     let waits_none : s.taken < length s.plans → ⊥ = (λ less. c.over (inl less)) in
-    rows_there plans es (opening k) n (omega arith) (omega (arith, all, waits_none, below)) c.is_true
+    let none : o.taken ≡ 0 = c.none_taken in
+    rows_there plans es o n (omega (arith, none)) (omega (arith, all, waits_none, below)) c.is_true
     (λ w r h. c.over (inr (inl (w, r, h))))
 
 -- ---- lines
@@ -499,9 +500,9 @@ rows_from from (suc count) es some =
     }
 
 pub tells_each_plan : (r : RunRecord) (text : List ℕ) → text ≡ report_text r → TellsEachPlan r text
-tells_each_plan r text is k plans c count =
+tells_each_plan r text is o plans c count =
     let es = r.events.items in
-    let some = each_has_row es k plans c in
+    let some = each_has_row es o plans c in
     let all = rows_from 0 r.plans es (λ n low high. some n (omega (arith, high, count))) in
     record {
       rows = all.rows;

@@ -3,24 +3,25 @@ use Rattle.std.specs.Prelude.{◌≡◌, ℕ, ◌<◌, Some, List, ◌++◌, len
 use Rattle.std.specs.List.{range_with_len}
 use Rattle.pp_cert.specs.Accepted.{Acceptance}
 use Rattle.pp_model.specs.declared.event.Event.{Event}
-use Rattle.pp_model.specs.Pool.{Settings, opening}
+use Rattle.pp_model.specs.Pool.{State}
 use Rattle.pp_model.specs.Journals.{replay, IsTrueFrom}
 use Rattle.pp_model.specs.Turns.{IsUnderWay}
 use Rattle.pp_report.specs.declared.record.RunRecord.{RunRecord}
 use Rattle.pp_report.specs.declared.row.Row.{Row}
 use Rattle.pp_report.specs.Reports.{row_of, row_line, heading, figures, figure_lines}
 
--- The events are a true journal of these plans in a new pool of these settings. All plans are submitted in it, and at
--- its end none waits or is with a worker, and no flush is in flight.
-pub record IsComplete (k : Settings) (plans : List Acceptance) (es : List Event) : Type 0 where
-  pub is_true : IsTrueFrom plans (opening k) es
-  pub submitted : (replay plans (opening k) es).plans ≡ plans
-  pub over : IsUnderWay (replay plans (opening k) es) → ⊥
+-- The events are a true journal of these plans from a state on in which no plan was taken yet, as none was where a life begins, the
+-- first or a later one. All plans are submitted in it, and at its end none waits or is with a worker, and no flush is in flight.
+pub record IsComplete (o : State) (plans : List Acceptance) (es : List Event) : Type 0 where
+  pub none_taken : o.taken ≡ 0
+  pub is_true : IsTrueFrom plans o es
+  pub submitted : (replay plans o es).plans ≡ plans
+  pub over : IsUnderWay (replay plans o es) → ⊥
 
 -- Then each plan was taken, and the turn of the worker that took it ends: there is something to tell of it.
 abbrev pub EachHasRow : List Event → Type 0
 EachHasRow es =
-    (k : Settings) (plans : List Acceptance) → IsComplete k plans es → (n : ℕ) → n < length plans
+    (o : State) (plans : List Acceptance) → IsComplete o plans es → (n : ℕ) → n < length plans
     → IsSome (row_of n es)
 
 -- The text has one line for each plan, in the order of their numbers, between the names of the columns and the figures.
@@ -32,5 +33,5 @@ pub record HasEachPlan (r : RunRecord) (text : List ℕ) : Type 0 where
 -- So has the report of a record whose events are such a journal of so many plans.
 abbrev pub TellsEachPlan : RunRecord → List ℕ → Type 0
 TellsEachPlan r text =
-    (k : Settings) (plans : List Acceptance) → IsComplete k plans r.events.items → r.plans ≡ length plans
+    (o : State) (plans : List Acceptance) → IsComplete o plans r.events.items → r.plans ≡ length plans
     → HasEachPlan r text

@@ -1,15 +1,16 @@
 //! What an audit keeps: a core, and the plans that no line has submitted yet.
 
-ghost use Rattle.std.specs.Prelude.{◌≡◌, ◌∷◌, ◌<◌, ℕ, None, IfOk, length};
+ghost use Rattle.std.specs.Prelude.{◌≡◌, ◌∷◌, ◌<◌, ℕ, Option, None, IfOk, IfErr, length};
 ghost use Rattle.pp_core.specs.StandsFor.{StandsFor};
 ghost use Rattle.pp_report.specs.declared.line.Asked.TheVariants as asked;
+ghost use Rattle.pp_report.specs.declared.line.Line.{Line};
 ghost use Rattle.pp_report.specs.Journals.{journal_lines};
 ghost use Rattle.pp_report.specs.Reading.{line_in};
 ghost use Rattle.pp_report.specs.Sameness.{same_told};
 ghost use Rattle.pp_report.specs.Auditing.{Progress, outset, told_reply, pass, pass_text, is_over, auditing_from};
 ghost use Rattle.std.specs.Str.{bytes_eq};
 ghost use Rattle.pp_report.specs.AuditingLives.{renewal_line, pass_renewal, pass_in_lives, lives_from};
-ghost use Rattle.pp_report.specs.Auditors.{IsAt, Asks, Passes};
+ghost use Rattle.pp_report.specs.Auditors.{IsAt, Asks, Passes, StopsAt, progress_behind, progress_at};
 
 use crate::error::{AuditError, Next};
 use crate::line::{Asked, Line, Told};
@@ -50,7 +51,7 @@ impl Auditor {
         Ok(Auditor { core, waiting })
     }
 
-    /// Submits the next plan, if it has this number.
+    /// Submits the next plan, if it has this number. One that is refused waits on.
     fn submit(&mut self, number: u32) -> Option<Told>
         ensures { Asks self.old self.new (asked.Submit number) result }
     {
@@ -60,7 +61,10 @@ impl Auditor {
         let next = self.waiting.pop()?;
         match self.core.submit(next) {
             Ok(_) => Some(Told::Queued),
-            Err(_) => None,
+            Err((plan, _)) => {
+                self.waiting.push_reserved(plan);
+                None
+            }
         }
     }
 
@@ -83,7 +87,9 @@ impl Auditor {
 
     /// Does what the line asks, and compares what is told.
     fn pass(&mut self, number: u64, line: Line) -> Result<(), AuditError>
-        ensures { (p : Progress) → IsAt self.old p → Passes self.new (pass p number line) result }
+        ensures passes { (p : Progress) → IsAt self.old p → Passes self.new (pass p number line) result }
+        ensures stops { (p : Progress) → IsAt self.old p
+            → IfErr result (λ e. IsAt self.new (progress_behind p line.asked e)) }
     {
         let Some(due) = self.ask(line.asked) else {
             let next = Next {
@@ -101,9 +107,11 @@ impl Auditor {
     ///
     /// # Errors
     ///
-    /// `NotALine`, `NotPossible` or `ReplyDiffers` with this number, the first that applies.
+    /// `NotALine`, `NotPossible` or `ReplyDiffers` with this number, the first that applies. At `ReplyDiffers` what the line asks was
+    /// done, and else nothing (`stops`).
     pub fn pass_text(&mut self, number: u64, text: &[u8]) -> Result<(), AuditError>
-        ensures { (p : Progress) → IsAt self.old p → Passes self.new (pass_text p number text.now) result }
+        ensures passes { (p : Progress) → IsAt self.old p → Passes self.new (pass_text p number text.now) result }
+        ensures stops { StopsAt self.old self.new text.now result }
     {
         let line = line_in(text).ok_or(AuditError::NotALine(number))?;
         self.pass(number, line)
@@ -111,7 +119,9 @@ impl Auditor {
 
     /// Begins the next life, if the core can be renewed.
     fn renew(&mut self, number: u64) -> Result<(), AuditError>
-        ensures { (p : Progress) → IsAt self.old p → Passes self.new (pass_renewal p number) result }
+        ensures passes { (p : Progress) → IsAt self.old p → Passes self.new (pass_renewal p number) result }
+        ensures stops { (p : Progress) → IsAt self.old p
+            → IfErr result (λ e. (found : Option Line) → IsAt self.new (progress_at p found e)) }
     {
         match self.core.renew() {
             Ok(()) => Ok(()),
@@ -129,9 +139,10 @@ impl Auditor {
     ///
     /// # Errors
     ///
-    /// `NotRenewed` with this number at that line; else those of [`Auditor::pass_text`].
+    /// `NotRenewed` with this number at that line, where nothing was done; else those of [`Auditor::pass_text`].
     pub fn pass_in_lives(&mut self, number: u64, text: &[u8]) -> Result<(), AuditError>
-        ensures { (p : Progress) → IsAt self.old p → Passes self.new (pass_in_lives p number text.now) result }
+        ensures passes { (p : Progress) → IsAt self.old p → Passes self.new (pass_in_lives p number text.now) result }
+        ensures stops { StopsAt self.old self.new text.now result }
     {
         if is_renewal(text) {
             return self.renew(number);

@@ -25,8 +25,8 @@ pub fn journals_are_read_back()
         → (text ≡ journal_words es) ⊎ (text ++ codes "\n" ≡ journal_words es) }
 {}
 
-/// A report leaves no plan out: in a true journal at whose end all plans are submitted, none waits or is with a worker,
-/// and no flush is in flight, each plan was taken, and the turn at it ends; so it has a line.
+/// A report leaves no plan out: in the true journal of a life, the first or a later one, at whose end all plans are submitted, none
+/// waits or is with a worker, and no flush is in flight, each plan was taken, and the turn at it ends; so it has a line.
 pub fn reports_are_complete()
     ensures each { (es : List Event) → EachHasRow es }
 {}

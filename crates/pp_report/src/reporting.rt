@@ -14,7 +14,7 @@ use std::alloc::{AllocError, Global};
 /// their numbers, with the worker, the actions that were done, the hits and the loads among them, and how it ended; and
 /// nine figures of the whole run. Each line is ended by a line feed.
 ///
-/// Where the events are a true journal of so many plans, to their end, each plan has a line (`plans`).
+/// Where the events are the true journal of a life of so many plans, to their end, each plan has a line (`plans`).
 ///
 /// It goes over the events once for each figure, once for the takes, and at most once for each worker.
 ///

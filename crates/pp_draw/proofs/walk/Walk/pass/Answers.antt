@@ -8,7 +8,7 @@ use Rattle.pp_draw.proofs.walk.Walk.pass.Goals as goal
 pub returns-in_ok-add_column-clause-passed : goal.returns-in_ok-add_column-clause-passed
 returns-in_ok-add_column-clause-passed c = λ p at.
     let done = subst (λ r. Passes c.pass_text.new.self (pass_text p c.args.number c.args.text.now) r)
-    c.in_ok-pass_text.was (c.pass_text.ensures p at) in
+    c.in_ok-pass_text.was (c.pass_text.ensures.passes p at) in
     let (q, is, here) = passed c.pass_text.new.self (pass_text p c.args.number c.args.text.now)
     c.in_ok-pass_text.field-0 done in
     let there = subst (λ (a : Auditor). IsAt a q) (sym c.note_shares.ensures.auditor) here in
@@ -20,7 +20,7 @@ returns-in_ok-add_column-clause-passed c = λ p at.
 pub returns-else-ends-clause-passed : goal.returns-else-ends-clause-passed
 returns-else-ends-clause-passed c = λ p at.
     let done = subst (λ r. Passes c.pass_text.new.self (pass_text p c.args.number c.args.text.now) r)
-    c.in_ok-pass_text.was (c.pass_text.ensures p at) in
+    c.in_ok-pass_text.was (c.pass_text.ensures.passes p at) in
     let (q, is, here) = passed c.pass_text.new.self (pass_text p c.args.number c.args.text.now)
     c.in_ok-pass_text.field-0 done in
     let there = subst (λ (a : Auditor). IsAt a q) (sym c.note_shares.ensures.auditor) here in

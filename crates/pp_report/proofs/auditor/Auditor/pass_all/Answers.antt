@@ -12,7 +12,7 @@ loop-left-preserved c = record {
       let (q, here, e) = c.loop-left.invariant.goes p at in
       let line = c.first_line.result.0.now in
       let done = subst (λ r. Passes c.pass_text.new.self (pass_text q (c.loop-left.lines + 1) line) r)
-      c.in_ok-pass_text.was (c.pass_text.ensures q here) in
+      c.in_ok-pass_text.was (c.pass_text.ensures.passes q here) in
       let (r, there, f) =
       went_on c.pass_text.new.self q c.loop-left.lines (journal_lines c.loop-left.left.now) line
       (journal_lines c.first_line.result.1.now) c.in_ok-pass_text.field-0 c.first_line.ensures.lines done in
