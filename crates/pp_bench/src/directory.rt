@@ -4,7 +4,7 @@ ghost use Rattle.std.specs.Prelude.{◌≡◌, ◌≤◌, ◌<◌, false};
 ghost use Rattle.pp_arc.specs.Search.{KnowsBusy};
 
 use crate::trouble::Trouble;
-use crate::watch::{self, Watch};
+use crate::watch::{self, Counted, Watch};
 use pp_arc::{Answer, Busy, Directory, Search};
 use pp_bench_traces::{Kind, PAGES, Trace};
 
@@ -29,8 +29,7 @@ pub fn play(rt: &HostRuntime, words: &[String]) -> Result<(), Trouble> {
     let watch = Watch::start(rt);
     let misses = misses(&mut directory, &mut search, Trace::new(kind, frames), ops);
     let nanos = watch.nanos(rt);
-    println!(rt; "{misses}")?;
-    watch::tell(rt, nanos, ops, "an operation")
+    watch::tell(rt, Counted::One(misses), nanos, ops, "an operation")
 }
 
 /// What the words ask for: the kind, how many operations, and how many frames.

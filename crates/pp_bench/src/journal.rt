@@ -6,13 +6,13 @@
 ghost use Rattle.std.specs.Prelude.{◌≡◌, ◌++◌, ◌∷◌, [], IfOk, OnOk};
 ghost use Rattle.pp_model.specs.declared.event.Event.TheVariants.{Step};
 
+use crate::moves::{new_core, setting};
 use crate::trouble::Trouble;
-use crate::watch::{self, Watch};
+use crate::watch::{self, Counted, Watch};
 use crate::words;
-use pp_bench_traces::{Kind, Trace};
+use pp_bench_traces::{FRAMES, Kind, Trace};
 use pp_core::{Accepted, Came, Core, Event, Move, Reply};
 use pp_report::journal_text;
-use pp_settings::Settings;
 use std::alloc::{AllocError, Global};
 use std::io::{Read, Write};
 
@@ -38,15 +38,8 @@ pub fn audit(rt: &HostRuntime, words: &[String]) -> Result<(), Trouble> {
     let audited = pp_report::audit(rt.alloc(), &settings, plans, text.as_slice());
     let nanos = watch.nanos(rt);
     let audited = audited.map_err(Trouble::Failed)?;
-    println!(rt; "{}", audited.lines)?;
-    watch::tell(rt, nanos, audited.lines, "a line")
-}
-
-/// The settings of one worker, and its plan of so many operations.
-fn setting(alloc: Global, ops: u64) -> Result<(Settings, Accepted), Trouble> {
-    let settings = pp_bench_traces::settings(alloc, 1)?;
-    let accepted = pp_bench_traces::accepted(alloc, &settings, ops)?;
-    Ok((settings, accepted))
+    let lines = audited.lines;
+    watch::tell(rt, Counted::One(lines), nanos, lines, "a line")
 }
 
 /// A core, and the journal of what was done with it.
@@ -59,22 +52,35 @@ struct Recording {
 /// The journal of a worker that does so many operations on the pages of a skewed trace.
 fn played(alloc: Global, ops: u64) -> Result<Vec<Event>, Trouble> {
     let (settings, accepted) = setting(alloc, ops)?;
-    let core = Core::new(alloc, &settings).map_err(|_| Trouble::Memory)?;
+    let core = new_core(alloc, &settings)?;
     let mut recording = Recording {
         core,
         events: Vec::new(alloc),
     };
-    recording.submit(accepted)?;
-    recording.step(Move::Take { worker: 0 })?;
-    let mut trace = Trace::new(Kind::Skew, settings.frames());
-    for _ in 0..ops {
-        recording.operation(trace.next_page())?;
+    let done = recording.play(accepted, ops);
+    let Recording {
+        core: _core,
+        events,
+    } = recording;
+    match done {
+        Ok(()) => Ok(events),
+        Err(trouble) => Err(trouble),
     }
-    recording.step(Move::Finish { worker: 0 })?;
-    Ok(recording.events)
 }
 
 impl Recording {
+    /// A worker takes the plan, does so many operations on the pages of a skewed trace, and ends it.
+    fn play(&mut self, accepted: Accepted, ops: u64) -> Result<(), Trouble> {
+        self.submit(accepted)?;
+        self.step(Move::Take { worker: 0 })?;
+        let mut trace = Trace::new(Kind::Skew, FRAMES);
+        for _ in 0..ops {
+            self.operation(trace.next_page())?;
+        }
+        self.step(Move::Finish { worker: 0 })?;
+        Ok(())
+    }
+
     /// Takes the plan in.
     fn submit(&mut self, accepted: Accepted) -> Result<(), Trouble> {
         match self.core.submit(accepted) {

@@ -3,34 +3,59 @@
 ghost use Rattle.std.specs.Prelude.{◌≤◌};
 
 use crate::trouble::Trouble;
-use crate::watch::{self, Watch};
+use crate::watch::{self, Counted, Watch};
 use crate::words;
-use pp_bench_traces::Trace;
-use pp_core::{Came, Core, Move, Reply};
+use pp_bench_traces::{Kind, Trace};
+use pp_core::{Accepted, Came, Core, Move, Reply};
+use pp_settings::Settings;
 use std::alloc::Global;
 
 /// Plays the trace of the kind that the first word names, as many operations long as the second says, to a core of
 /// 4,096 frames. Prints how many pages had to be read, and on standard error how many nanoseconds an operation took.
 pub fn play(rt: &HostRuntime, words: &[String]) -> Result<(), Trouble> {
     let (kind, ops) = words::kind_and_ops(words)?;
-    let mut core = running(rt.alloc(), ops)?;
-    let watch = Watch::start(rt);
-    let misses = misses(&mut core, Trace::new(kind, 4096), ops).ok_or(Trouble::Refused)?;
-    let nanos = watch.nanos(rt);
-    println!(rt; "{misses}")?;
-    watch::tell(rt, nanos, ops, "an operation")
+    let (settings, accepted) = setting(rt.alloc(), ops)?;
+    let mut core = new_core(rt.alloc(), &settings)?;
+    play_to(rt, &mut core, accepted, kind, ops)
 }
 
-/// A core whose worker has taken a plan of so many operations.
-fn running(alloc: Global, ops: u64) -> Result<Core, Trouble> {
+/// The settings of one worker, and its plan of so many operations.
+pub fn setting(alloc: Global, ops: u64) -> Result<(Settings, Accepted), Trouble> {
     let settings = pp_bench_traces::settings(alloc, 1)?;
     let accepted = pp_bench_traces::accepted(alloc, &settings, ops)?;
-    let mut core = Core::new(alloc, &settings).map_err(|_| Trouble::Memory)?;
+    Ok((settings, accepted))
+}
+
+/// A core that has done nothing yet.
+pub fn new_core(alloc: Global, settings: &Settings) -> Result<Core, Trouble> {
+    match Core::new(alloc, settings) {
+        Ok(core) => Ok(core),
+        Err(_) => Err(Trouble::Memory),
+    }
+}
+
+/// Plays the trace to a new core, whose worker takes this plan.
+fn play_to(
+    rt: &HostRuntime,
+    core: &mut Core,
+    accepted: Accepted,
+    kind: Kind,
+    ops: u64,
+) -> Result<(), Trouble> {
+    begin(core, accepted)?;
+    let watch = Watch::start(rt);
+    let misses = misses(core, Trace::new(kind, 4096), ops).ok_or(Trouble::Refused)?;
+    let nanos = watch.nanos(rt);
+    watch::tell(rt, Counted::One(misses), nanos, ops, "an operation")
+}
+
+/// The worker takes the plan.
+fn begin(core: &mut Core, accepted: Accepted) -> Result<(), Trouble> {
     if core.submit(accepted).is_err() {
         return Err(Trouble::Refused);
     }
     match core.step(&Move::Take { worker: 0 }) {
-        Reply::Taken { .. } => Ok(core),
+        Reply::Taken { .. } => Ok(()),
         _ => Err(Trouble::Refused),
     }
 }

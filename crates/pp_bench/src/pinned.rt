@@ -4,7 +4,7 @@ ghost use Rattle.std.specs.Prelude.{◌≡◌, ◌≤◌, ◌<◌, nat_lt};
 ghost use Rattle.pp_arc.specs.Search.{KnowsBusy};
 
 use crate::trouble::Trouble;
-use crate::watch::{self, Watch};
+use crate::watch::{self, Counted, Watch};
 use pp_arc::{Answer, Busy, Directory, Search};
 use pp_bench_traces::PAGES;
 
@@ -46,10 +46,10 @@ fn play_held(rt: &HostRuntime, ops: u64, held: u32) -> Result<(), Trouble> {
     let mut search = Search::new(rt.alloc(), PAGES)?;
     let _ = misses(&mut directory, &mut search, held, 0, u64::from(held));
     let watch = Watch::start(rt);
-    let misses = misses(&mut directory, &mut search, held, FIRST, ops);
+    let missed = misses(&mut directory, &mut search, held, FIRST, ops);
     let nanos = watch.nanos(rt);
-    println!(rt; "{held} {misses}")?;
-    watch::tell(rt, nanos, ops, "a request")
+    let counted = Counted::Two(u64::from(held), missed);
+    watch::tell(rt, counted, nanos, ops, "a request")
 }
 
 /// How many requests for pages from the first one on miss, one page after another and round at the last one.

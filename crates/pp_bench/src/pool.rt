@@ -1,17 +1,18 @@
 //! Plays a trace to a vault over pages in memory, on one thread: each operation fixes a page, latches it S, looks at
 //! eight bytes of it, unlatches it and unfixes it. Or it plays the trace in two lives of one vault.
 
-ghost use Rattle.std.specs.Prelude.{◌≡◌, true};
-ghost use Rattle.pp_vault.specs.Stages.{is_idle_hand};
+ghost use Rattle.std.specs.Prelude.{◌≡◌, true, IfOk};
+ghost use Rattle.pp_vault.specs.Stages.{is_idle_hand, AllIdle};
 
 use crate::trouble::Trouble;
-use crate::watch::{self, Watch};
+use crate::watch::{self, Counted, Watch};
 use crate::words;
 use pp_bench_traces::{Kind, PAGES, Trace};
 use pp_device::{Device, SoloDevice, image};
+use pp_settings::Settings;
 use pp_vault::{
-    Accepted, Answered, Chair, Errand, Fixed, Guard, Hand, Hands, PinGuard, Session, Stage,
-    Stopped, Vault,
+    Accepted, Answered, Chair, Errand, Fixed, Guard, Hand, Hands, PinGuard, ReadGuard, Session,
+    Stage, Stopped, Vault,
 };
 use std::alloc::Global;
 
@@ -33,8 +34,7 @@ struct Pool {
 pub fn play(rt: &HostRuntime, words: &[String]) -> Result<(), Trouble> {
     let (kind, ops) = words::kind_and_ops(words)?;
     let (misses, nanos) = run(rt, kind, ops)?;
-    println!(rt; "{misses}")?;
-    watch::tell(rt, nanos, ops, "an operation")
+    watch::tell(rt, Counted::One(misses), nanos, ops, "an operation")
 }
 
 /// Plays the trace in one life, and then again in the next. Prints how many pages had to be read in each, and on standard
@@ -42,8 +42,7 @@ pub fn play(rt: &HostRuntime, words: &[String]) -> Result<(), Trouble> {
 pub fn play_lives(rt: &HostRuntime, words: &[String]) -> Result<(), Trouble> {
     let (kind, ops) = words::kind_and_ops(words)?;
     let Lives { cold, warm, nanos } = run_lives(rt, kind, ops)?;
-    println!(rt; "{cold} {warm}")?;
-    watch::tell(rt, nanos, 1, "the renewal")
+    watch::tell(rt, Counted::Two(cold, warm), nanos, 1, "the renewal")
 }
 
 /// Two lives of a vault: how many pages each of them read, and how many nanoseconds the renewal between them took.
@@ -59,11 +58,7 @@ fn run(rt: &HostRuntime, kind: Kind, ops: u64) -> Result<(u64, Option<u128>), Tr
     let alloc = rt.alloc();
     let settings = pp_bench_traces::settings(alloc, 1)?;
     let accepted = pp_bench_traces::accepted(alloc, &settings, ops)?;
-    let device = numbered(alloc)?;
-    let Ok((vault, mut hands)) = Vault::new(alloc, &settings) else {
-        return Err(Trouble::Memory);
-    };
-    let mut pool = Pool { vault, device };
+    let (mut pool, mut hands) = pool_of(alloc, &settings)?;
     let watch = Watch::start(rt);
     let played = match hands.part(0) {
         Some(hand) => pool.play(chair_of(hand), accepted, Trace::new(kind, 4096), ops),
@@ -80,16 +75,23 @@ fn run_lives(rt: &HostRuntime, kind: Kind, ops: u64) -> Result<Lives, Trouble> {
     let settings = pp_bench_traces::settings(alloc, 1)?;
     let first = pp_bench_traces::accepted(alloc, &settings, ops)?;
     let second = pp_bench_traces::accepted(alloc, &settings, ops)?;
-    let device = numbered(alloc)?;
-    let Ok((vault, mut hands)) = Vault::new(alloc, &settings) else {
-        return Err(Trouble::Memory);
-    };
-    let mut pool = Pool { vault, device };
+    let (mut pool, mut hands) = pool_of(alloc, &settings)?;
     let played = match hands.part(0) {
         Some(hand) => pool.play_twice(rt, chair_of(hand), (first, second), kind, ops),
         None => Err(Stopped::with_nothing()),
     };
     pool.end(hands, played)
+}
+
+/// A pool of these settings over a device of all pages, and its hands.
+fn pool_of(alloc: Global, settings: &Settings) -> Result<(Pool, Hands), Trouble>
+    ensures { IfOk result (λ made. AllIdle settings.now.workers made.1.workers) }
+{
+    let device = numbered(alloc)?;
+    match Vault::new(alloc, settings) {
+        Ok((vault, hands)) => Ok((Pool { vault, device }, hands)),
+        Err(_) => Err(Trouble::Memory),
+    }
 }
 
 /// The chair of an idle worker's hand.
@@ -245,23 +247,51 @@ impl Pool {
 
     /// Latches the page, looks at it, unlatches it and unfixes it.
     fn use_page(&mut self, session: Session, guard: PinGuard) -> Result<Session, Stopped> {
-        let (session, guard, _done) = match self.vault.latch_shared(session, guard) {
-            Ok(latched) => latched,
-            Err((session, guard, _refusal)) => {
-                return Err(Stopped::holding(Stage::In(session), Guard::Pin(guard)));
-            }
-        };
-        let number = u64::from(guard.page());
-        let body = self.vault.see(&guard);
-        if !body.is_some_and(|body| is_at_front(body, number)) {
+        let (session, guard) = self.latch(session, guard)?;
+        if !self.is_numbered(&guard) {
             return Err(Stopped::holding(Stage::In(session), Guard::Read(guard)));
         }
-        let (session, guard, _done) = match self.vault.unlatch_shared(session, guard) {
-            Ok(unlatched) => unlatched,
-            Err((session, guard, _refusal)) => {
-                return Err(Stopped::holding(Stage::In(session), Guard::Read(guard)));
-            }
-        };
+        let (session, guard) = self.unlatch(session, guard)?;
+        self.unfix(session, guard)
+    }
+
+    fn latch(
+        &mut self,
+        session: Session,
+        guard: PinGuard,
+    ) -> Result<(Session, ReadGuard), Stopped> {
+        match self.vault.latch_shared(session, guard) {
+            Ok((session, guard, _done)) => Ok((session, guard)),
+            Err((session, guard, _refusal)) => Err(Stopped::holding(
+                Stage::In(session),
+                Guard::Pin(guard),
+            )),
+        }
+    }
+
+    /// Whether the page has its number at the front of its body.
+    fn is_numbered(&self, guard: &ReadGuard) -> bool {
+        match self.vault.see(guard) {
+            Some(body) => is_at_front(body, u64::from(guard.page())),
+            None => false,
+        }
+    }
+
+    fn unlatch(
+        &mut self,
+        session: Session,
+        guard: ReadGuard,
+    ) -> Result<(Session, PinGuard), Stopped> {
+        match self.vault.unlatch_shared(session, guard) {
+            Ok((session, guard, _done)) => Ok((session, guard)),
+            Err((session, guard, _refusal)) => Err(Stopped::holding(
+                Stage::In(session),
+                Guard::Read(guard),
+            )),
+        }
+    }
+
+    fn unfix(&mut self, session: Session, guard: PinGuard) -> Result<Session, Stopped> {
         match self.vault.unfix(session, guard) {
             Ok((session, _done)) => Ok(session),
             Err((session, guard, _refusal)) => Err(Stopped::holding(

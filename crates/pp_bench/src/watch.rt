@@ -1,6 +1,7 @@
-//! How long the operations of a run take, by the clock.
+//! How long the operations of a run take, by the clock, and what is printed of a run.
 
 use crate::trouble::Trouble;
+use std::fmt;
 use std::time::{Clock, Instant};
 
 /// A watch that was started before the first operation, once all was set up.
@@ -27,8 +28,31 @@ impl Watch {
     }
 }
 
-/// Says on standard error how many of these nanoseconds each one took.
-pub fn tell(rt: &HostRuntime, nanos: Option<u128>, count: u64, one: &str) -> Result<(), Trouble> {
+/// What a run counted.
+#[derive(Clone, Copy)]
+pub enum Counted {
+    One(u64),
+    Two(u64, u64),
+}
+
+impl fmt::Display for Counted {
+    fn fmt<W: fmt::Write>(&self, f: &mut fmt::Formatter<W>) -> fmt::Result {
+        match self {
+            Counted::One(count) => write!(f, "{count}"),
+            Counted::Two(one, other) => write!(f, "{one} {other}"),
+        }
+    }
+}
+
+/// Prints what was counted, and says on standard error how many of these nanoseconds each one took.
+pub fn tell(
+    rt: &HostRuntime,
+    counted: Counted,
+    nanos: Option<u128>,
+    count: u64,
+    one: &str,
+) -> Result<(), Trouble> {
+    println!(rt; "{counted}")?;
     match nanos {
         Some(nanos) => {
             let each = nanos / u128::from(count.max(1));

@@ -4,6 +4,7 @@ ghost use Rattle.std.specs.Prelude.{OnOk};
 ghost use Rattle.pp_callers.specs.Bytes.{KeepsEveryByte};
 
 use crate::vault::{SETTINGS, accepted};
+use pp_cert::Accepted;
 use pp_contents::laws::contents_are_kept;
 use pp_device::SoloDevice;
 use pp_device::laws::solo_devices_are_honest;
@@ -48,20 +49,38 @@ const CUES: [Cue; 25] = [
 /// The byte that is looked at in the end; `None` where none is.
 pub fn byte_read_again(alloc: Global) -> anyhow::Result<Option<u8>> {
     let settings = Settings::from_text(alloc, SETTINGS)?;
+    let plans = three_plans(alloc, &settings)?;
+    let device = SoloDevice::new(alloc, 4, 64)?;
+    let (vault, hands) = Vault::new(alloc, &settings)?;
+    let lines = played(alloc, vault, hands, device, plans)?;
+    Ok(looked_at(&lines))
+}
+
+/// The same plan three times.
+fn three_plans(alloc: Global, settings: &Settings) -> anyhow::Result<Vec<Accepted>> {
     let mut plans = Vec::new(alloc);
     for _ in 0..3 {
-        plans.push(accepted(alloc, &settings)?)?;
+        plans.push(accepted(alloc, settings)?)?;
     }
-    let mut device = SoloDevice::new(alloc, 4, 64)?;
-    let mut lines = Vec::new(alloc);
-    let (mut vault, mut hands) = Vault::new(alloc, &settings)?;
+    Ok(plans)
+}
+
+/// What the cues come to in a vault with these plans, which is given up then.
+fn played(
+    alloc: Global,
+    mut vault: Vault,
+    mut hands: Hands,
+    mut device: SoloDevice,
+    plans: Vec<Accepted>,
+) -> Result<Vec<Line>, PlayError> {
     for plan in plans {
         let _ = vault.submit(plan);
     }
+    let mut lines = Vec::new(alloc);
     let played = play_in_memory(&mut vault, &mut hands, &mut device, &CUES, &mut lines);
     vault.scrap(hands);
     played?;
-    Ok(looked_at(&lines))
+    Ok(lines)
 }
 
 /// The first byte that the lines tell of.

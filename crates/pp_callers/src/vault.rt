@@ -1,6 +1,8 @@
 //! A vault alone: one worker fixes a page, latches it X, and gives everything back; and once more in the vault's next life.
 
+ghost use Rattle.std.specs.Prelude.{◌≡◌, true};
 ghost use Rattle.pp_vault.specs.Headline.{Holds};
+ghost use Rattle.pp_vault.specs.Stages.{is_idle_hand};
 
 use pp_annotate::annotate;
 use pp_cert::{Accepted, check};
@@ -8,7 +10,7 @@ use pp_device::SoloDevice;
 use pp_plan::Plan;
 use pp_settings::Settings;
 use pp_vault::{
-    Answered, BundleGuard, Chair, Errand, Fixed, Guard, PinGuard, Session, Stage, Stopped, Vault,
+    Answered, Chair, Errand, Fixed, Guard, Hand, Hands, PinGuard, Session, Stage, Stopped, Vault,
 };
 use std::alloc::Global;
 
@@ -38,17 +40,8 @@ pub fn changed_pages(alloc: Global) -> anyhow::Result<Option<u32>> {
         vault.scrap(hands);
         return Ok(None);
     };
-    let chair = match hand.chair() {
-        Ok(chair) => chair,
-        Err(_) => unreachable!(),
-    };
-    let stopped = run(&mut vault, &mut device, chair, accepted);
-    let changed = match &stopped.stage {
-        Some(Stage::Idle(_)) => Some(vault.dirty()),
-        _ => None,
-    };
-    vault.scrap_with(hands, stopped);
-    Ok(changed)
+    let stopped = run(&mut vault, &mut device, chair_of(hand), accepted);
+    Ok(changed(vault, hands, stopped))
 }
 
 /// How many pages are newer than the device's after two lives of a vault, in each of which a worker has latched page 2 for
@@ -65,24 +58,43 @@ pub fn changed_pages_in_two_lives(alloc: Global) -> anyhow::Result<Option<u32>> 
         vault.scrap(hands);
         return Ok(None);
     };
-    let chair = match hand.chair() {
+    let stopped = run(&mut vault, &mut device, chair_of(hand), first);
+    let stopped = run_again(&mut vault, &mut nothing, stopped, second);
+    Ok(changed(vault, hands, stopped))
+}
+
+/// The chair of an idle worker's hand.
+fn chair_of(hand: Hand) -> Chair
+    requires { is_idle_hand hand ≡ true }
+{
+    match hand.chair() {
         Ok(chair) => chair,
         Err(_) => unreachable!(),
-    };
-    let Stopped { stage, guard } = run(&mut vault, &mut device, chair, first);
-    let stopped = match stage {
-        Some(Stage::Idle(chair)) => match guard {
-            None => run_in_next_life(&mut vault, &mut nothing, chair, second),
-            Some(guard) => Stopped::holding(Stage::Idle(chair), guard),
-        },
-        stage => Stopped { stage, guard },
-    };
+    }
+}
+
+/// Gives the vault up. Answers how many pages were newer than the device's, where the worker had done its plan.
+fn changed(vault: Vault, hands: Hands, stopped: Stopped) -> Option<u32> {
     let changed = match &stopped.stage {
         Some(Stage::Idle(_)) => Some(vault.dirty()),
         _ => None,
     };
     vault.scrap_with(hands, stopped);
-    Ok(changed)
+    changed
+}
+
+/// A worker that has done its plan does another one in the vault's next life; one that hasn't stays where it is.
+fn run_again(
+    vault: &mut Vault,
+    device: &mut SoloDevice,
+    stopped: Stopped,
+    accepted: Accepted,
+) -> Stopped {
+    let Stopped { stage, guard } = stopped;
+    match (stage, guard) {
+        (Some(Stage::Idle(chair)), None) => run_in_next_life(vault, device, chair, accepted),
+        (stage, guard) => Stopped { stage, guard },
+    }
 }
 
 /// The vault is renewed, and the same worker does the plan in its next life.
@@ -129,8 +141,11 @@ fn run(vault: &mut Vault, device: &mut SoloDevice, chair: Chair, accepted: Accep
     };
     let (session, guard) = match fixed {
         Fixed::Got(session, guard) => (session, guard),
-        // A plan that asks a gather gives what it gathered back at once.
-        Fixed::Opened(session, guard) => return scatter(vault, session, guard),
+        // The plan gathers nothing. Of one that did, this worker would stop with the bundle in its hand.
+        Fixed::Opened(session, guard) => return Stopped::holding(
+            Stage::In(session),
+            Guard::Bundle(guard),
+        ),
         Fixed::Joined(session) => return Stopped::at(Stage::In(session)),
         Fixed::Away(errand) => match load(vault, device, errand) {
             Ok(loaded) => loaded,
@@ -161,24 +176,14 @@ fn load(
     };
     match answered {
         Answered::Got(session, guard) => Ok((session, guard)),
-        Answered::Opened(session, guard) => Err(scatter(vault, session, guard)),
+        Answered::Opened(session, guard) => Err(Stopped::holding(
+            Stage::In(session),
+            Guard::Bundle(guard),
+        )),
         Answered::Joined(session) => Err(Stopped::at(Stage::In(session))),
         Answered::Away(errand) => Err(Stopped::at(Stage::Out(errand))),
         Answered::Lost(leaver) => Err(Stopped::at(Stage::Leaving(leaver))),
         Answered::Flushed(_) => Err(Stopped::with_nothing()),
-    }
-}
-
-/// A bundle is given back, all its pages at once.
-fn scatter(vault: &mut Vault, session: Session, guard: BundleGuard) -> Stopped
-    ensures holds { Holds vault.new }
-{
-    match vault.scatter(session, guard) {
-        Ok((session, _done)) => Stopped::at(Stage::In(session)),
-        Err((session, guard, _refusal)) => Stopped::holding(
-            Stage::In(session),
-            Guard::Bundle(guard),
-        ),
     }
 }
 

@@ -16,6 +16,7 @@ use crate::pool::Pool;
 use crate::setup::{PAGE_BYTES, PAGES};
 use pp_cert::Accepted;
 use pp_device::SoloDevice;
+use pp_model::Event;
 use pp_pool::{BookError, Turned};
 use pp_settings::Settings;
 use std::alloc::{AllocError, Global};
@@ -55,23 +56,47 @@ const QUERIES: [Query; 7] = [
 fn main(rt: HostRuntime) -> anyhow::Result<()> {
     let alloc = rt.alloc();
     let settings = setup::settings(alloc)?;
-    let mut asked = Vec::with_capacity(alloc, QUERIES.len())?;
-    for query in QUERIES {
-        asked.push((query, query.plan(alloc, &settings)?))?;
-    }
-    let mut device = SoloDevice::new(alloc, PAGES, PAGE_BYTES)?;
-    load::write(alloc, &mut device, &load::squares(alloc)?)?;
-    let mut pool = Pool::new(alloc, &settings, device)?;
-    let answers: Result<Vec<Answer>, AllocError> = asked
-        .into_iter()
-        .map(|(query, plan)| query.ask(&mut pool, plan))
-        .collect(alloc);
-    let journal = pool.close(&settings).to_events(alloc)?;
-    for answer in answers? {
+    let asked = planned(alloc, &settings)?;
+    let pool = Pool::new(alloc, &settings, written(alloc)?)?;
+    let (answers, journal) = answered(alloc, &settings, pool, asked)?;
+    for answer in answers {
         println!(rt; "{answer}")?;
     }
     println!(rt; "{}", Figures::of(&journal))?;
     Ok(())
+}
+
+/// The queries, each with its plan.
+fn planned(alloc: Global, settings: &Settings) -> anyhow::Result<Vec<(Query, Accepted)>> {
+    let mut asked = Vec::with_capacity(alloc, QUERIES.len())?;
+    for query in QUERIES {
+        asked.push((query, query.plan(alloc, settings)?))?;
+    }
+    Ok(asked)
+}
+
+/// A device with the index.
+fn written(alloc: Global) -> anyhow::Result<SoloDevice> {
+    let entries = load::squares(alloc)?;
+    let mut device = SoloDevice::new(alloc, PAGES, PAGE_BYTES)?;
+    load::write(alloc, &mut device, &entries)?;
+    Ok(device)
+}
+
+/// What the queries come to, one after another, and all that the pool did, which is given up then.
+fn answered(
+    alloc: Global,
+    settings: &Settings,
+    mut pool: Pool,
+    asked: Vec<(Query, Accepted)>,
+) -> anyhow::Result<(Vec<Answer>, Vec<Event>)> {
+    let answers: Result<Vec<Answer>, AllocError> = asked
+        .into_iter()
+        .map(|(query, plan)| query.ask(&mut pool, plan))
+        .collect(alloc);
+    let journal = pool.close(settings);
+    let events = journal.to_events(alloc)?;
+    Ok((answers?, events))
 }
 
 impl Query {
