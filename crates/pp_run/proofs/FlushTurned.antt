@@ -23,12 +23,13 @@ use Rattle.pp_pool.specs.declared.response.Response.{Response}
 use Rattle.pp_pool.specs.declared.turned.Turned.TheVariants.{Done, Ended}
 use Rattle.pp_pool.specs.declared.flusher.Flusher.{Flusher}
 use Rattle.pp_pool.specs.Performing.{is_no}
-use Rattle.pp_pool.specs.Replies.{Replies, IsMoveOf}
+use Rattle.pp_pool.specs.Replies.{IsMoveOf}
 use Rattle.pp_pool.specs.Flushings.{IsFlush, AsksFlush, ends_in, failures_in, flushing_after, flush_turned_by, flush_turned}
 use Rattle.pp_pool.specs.FlushTurns.{FlushTurns, FlushTurnIs}
 use Rattle.pp_run.specs.Calling.{ended_flushes_of, failed_flushes_of}
 use Rattle.pp_run.specs.Counted.{HoldsNoAnswer}
 use Rattle.pp_run.specs.Ends.{FlushesBy}
+use Rattle.pp_run.specs.Shared.{IsGiven}
 use Rattle.pp_run.proofs.Told.{Tells, told, untold, Ends, answer_ends}
 
 -- ---- how a turn ends
@@ -177,16 +178,17 @@ pub record FlushKept {S D : Type 0} (calls failures : D → ℕ) (old new : Flus
   pub counts : FlushesBy calls failures old.device old.ended old.failed new.device new.ended new.failed
   pub untold : HoldsNoAnswer new.flushing
 
-abbrev Told : {S : Type 0} → S → Request → Response → S → Type 0
-Told s asked response t = Replies asked response
-
-module _ {S D : Type 0} (reads : D → ℕ → List ℕ → DeviceAnswer → List ℕ → D → Type 0)
+-- Where a site gives what a desk gave, whatever the desk.
+module _ {S B D : Type 0} (desk : B → Request → Response → B → Type 0) (reads : D → ℕ → List ℕ → DeviceAnswer → List ℕ → D → Type 0)
     (writes : D → ℕ → List ℕ → DeviceAnswer → D → Type 0) (calls failures : D → ℕ) (old new : Flusher S D) where
-  turns_kept : (t : FlushTurns Told reads writes calls failures old Done new) → IsFlush old.flushing
+  abbrev Given : S → Request → Response → S → Type 0
+  Given s asked response t = IsGiven desk asked response
+
+  turns_kept : (t : FlushTurns Given reads writes calls failures old Done new) → IsFlush old.flushing
       → HoldsNoAnswer old.flushing → FlushKept calls failures old new
   turns_kept t flush unsaid =
       let went = done_is_yes t.response.answer t.turned_is in
-      let tells = told t.asked t.response t.given went in
+      let tells = told t.asked t.response t.given.0 went in
       let c = asked_ends reads writes calls failures old.flushing old.from old.device t.asked new.device t.response.event
       flush unsaid t.asks tells in
       let n : new.ended ≡ old.ended + ends_in (Some tells.e) = t.ended ∙ ap (λ e. old.ended + ends_in e) tells.is_event in
@@ -199,26 +201,26 @@ module _ {S D : Type 0} (reads : D → ℕ → List ℕ → DeviceAnswer → Lis
         untold = subst (λ f. HoldsNoAnswer f) (sym t.flushing) (untold_after t.response.answer went);
       }
 
-  pub done_kept : FlushTurnIs Told reads writes calls failures old Done new → IsFlush old.flushing
+  pub done_kept : FlushTurnIs Given reads writes calls failures old Done new → IsFlush old.flushing
       → HoldsNoAnswer old.flushing → FlushKept calls failures old new
   done_kept (inl t) flush unsaid = turns_kept t flush unsaid
   done_kept (inr full) flush unsaid = let h = full.broken in absurd cc
 
-  turns_ended : (t : FlushTurns Told reads writes calls failures old Ended new) → HoldsNoAnswer old.flushing
+  turns_ended : (t : FlushTurns Given reads writes calls failures old Ended new) → HoldsNoAnswer old.flushing
       → is_some new.flushing ≡ false
       → FlushesBy calls failures old.device old.ended old.failed new.device new.ended new.failed
   turns_ended t unsaid none =
       let back = ended_is_no t.response.answer t.turned_is in
-      let event = untold t.asked t.response t.given back in
+      let event = untold t.asked t.response t.given.0 back in
       let empty = empty_hand new.flushing none in
       let device = none_called reads writes calls failures old.flushing old.from old.device t.asked new.device
-      t.response.answer t.asks unsaid back t.given.tokens (sym t.flushing ∙ empty) in
+      t.response.answer t.asks unsaid back t.given.0.tokens (sym t.flushing ∙ empty) in
       let n : new.ended ≡ old.ended + 0 = t.ended ∙ ap (λ e. old.ended + ends_in e) event in
       let m : new.failed ≡ old.failed + 0 = t.failed ∙ ap (λ e. old.failed + failures_in e) event in
       let a = ap calls device in let b = ap failures device in
       record { called = omega (arith, a, n); failed = omega (arith, b, m) }
 
-  pub ended_counts : FlushTurnIs Told reads writes calls failures old Ended new → HoldsNoAnswer old.flushing
+  pub ended_counts : FlushTurnIs Given reads writes calls failures old Ended new → HoldsNoAnswer old.flushing
       → is_some new.flushing ≡ false
       → FlushesBy calls failures old.device old.ended old.failed new.device new.ended new.failed
   ended_counts (inl t) unsaid none = turns_ended t unsaid none

@@ -23,6 +23,7 @@ use Rattle.pp_run.specs.Ends.{AllSound, AllWorkedFrom, FlushedFrom, IsUnstarted}
 use Rattle.pp_run.specs.Joins.{IsJoinedFrom, IsAnswerFrom}
 use Rattle.pp_run.specs.Runs.{submits, IsRunErrorFrom}
 use Rattle.pp_run.specs.Calling.{begun_flushes_in}
+use Rattle.pp_run.specs.Unrun.{MayStop}
 use Rattle.pp_run.specs.Verdicts.{IsFirstBroken, IsFirstMismatch, IsMiscounted, IsSound, IsUnlike, IsUnsettled, IsVerdict}
 
 -- What the threads gave back, beside a book that began its life in this state with these plans.
@@ -121,3 +122,20 @@ names_thread o plans worked f events left (Mismatch w) taken long h =
     let low = mismatch_within worked events w (IsMiscounted worked f events) (h (λ e. cc)).1 in record { taken = taken; within = omega (arith, low, long) }
 names_thread o plans worked f events left (Broken w) taken long h =
     let low = broken_within worked w (AllSound worked) (IsUnsettled f left (begun_flushes_in events)) (h (λ e. cc)).1 in record { taken = taken; within = omega (arith, low, long) }
+
+-- ---- what a run may stop for
+
+pub stops_unstarted : (threads : ℕ) (error : RunError) → IsUnstarted threads error → MayStop error
+stops_unstarted threads (Refused error) h = absurd h
+stops_unstarted threads OutOfMemory h = tt
+stops_unstarted threads (NoThread w) h = tt
+stops_unstarted threads (Mismatch w) h = absurd h
+stops_unstarted threads (Broken w) h = absurd h
+
+pub stops_judged : {D : Type 0} (worked : List (Worked D)) (f : Flushed D) (events : List Event) (left : Left)
+    (error : RunError) → (error ≢ OutOfMemory → IsVerdict worked f events left error) → MayStop error
+stops_judged worked f events left (Refused error) h = absurd (h (λ e. cc))
+stops_judged worked f events left OutOfMemory h = tt
+stops_judged worked f events left (NoThread w) h = tt
+stops_judged worked f events left (Mismatch w) h = tt
+stops_judged worked f events left (Broken w) h = tt

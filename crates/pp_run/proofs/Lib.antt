@@ -9,6 +9,9 @@ pub mod Ran
 pub mod Sent
 pub mod Desks
 pub mod Taken
+pub mod Submitted
+pub mod Ready
+pub mod GoingOn
 pub mod Begun
 pub mod Judged
 pub mod Tried

@@ -1,5 +1,5 @@
 -- What a run makes of a pool that is kept, and of a new one.
-use Rattle.std.proofs.Common.{◌≡◌, ◌∙◌, ℕ, List, length, sym, ap, subst, inl, inr}
+use Rattle.std.proofs.Common.{◌≡◌, ◌∙◌, ℕ, List, length, sym, ap, subst, inr}
 use Rattle.std.specs.Prelude.{◌⊎◌}
 use Rattle.pp_cert.specs.Accepted.{Acceptance}
 use Rattle.pp_core.specs.Opening.{kept_of}

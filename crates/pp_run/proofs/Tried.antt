@@ -8,16 +8,18 @@ use Rattle.pp_outset.specs.Outsets.{Outset}
 use Rattle.pp_vault.specs.declared.tokens.Session.{Session}
 use Rattle.pp_vault.specs.declared.guards.ReadGuard.{ReadGuard}
 use Rattle.pp_pool.specs.declared.request.Request.{Request}
+use Rattle.pp_pool.specs.declared.request.Request.TheVariants as request
 use Rattle.pp_pool.specs.declared.response.Response.{Response}
 use Rattle.pp_pool.specs.declared.response.BookAnswer.TheVariants.{No}
 use Rattle.pp_vault.specs.declared.refusal.Refusal.{Refusal}
 use Rattle.pp_pool.specs.declared.site.OwnSite.{OwnSite}
 use Rattle.pp_pool.specs.Parts.{Parts, settings_of, plans_of}
 use Rattle.pp_pool.specs.Performs.{Performs}
-use Rattle.pp_pool.specs.Readings.{ReadsBy, EndsReadBy}
+use Rattle.pp_pool.specs.Readings.{ReadsBy, EndsReadBy, hit, latched, unlatched, unfixed}
 use Rattle.pp_pool.specs.Replies.{TokensFit, Replies}
 use Rattle.pp_report.specs.Reports.{is_move}
 use Rattle.pp_run.specs.Runs.{submits}
+use Rattle.pp_run.specs.Shared.{IsGiven}
 use Rattle.pp_run.proofs.Begun.{performs_submits, performs_moves}
 
 -- What holds of a run's book: its settings, its plans, what its life began with, and that its journal begins with the submits of
@@ -58,42 +60,89 @@ ended_kept k plans o old new x g (Ok now) p same h =
     (performs_kept k plans o old.book _ _ p.between.book p.unlatches h)
 ended_kept k plans o old new x g (Err e) p same h = subst (λ (t : OwnSite). IsOfRun k plans o t.book) (sym same) h
 
--- A site that gives what fits gives what another gave.
-pub read_fits : {S T : Type 0} (gives : S → Request → Response → S → Type 0) (old new : S) (a b : T) (x : Session) (page : ℕ)
+-- A desk gives what its site gives, also between the two moves of a reading. One can be made with any site whose book is of the run.
+module _ {T : Type 0} (own : T → OwnSite) (k : Settings) (plans : List Acceptance) (o : Outset)
+    (made : (s : OwnSite) → IsOfRun k plans o s.book → T) (is : (s : OwnSite) (h : IsOfRun k plans o s.book) → own (made s h) ≡ s)
+    (old new : T) (h : IsOfRun k plans o (own old).book) where
+  abbrev gives_own : OwnSite → Request → Response → OwnSite → Type 0
+  gives_own s asked response t = Performs s.book asked response t.book
+
+  abbrev gives_desk : T → Request → Response → T → Type 0
+  gives_desk s asked response t = Performs (own s).book asked response (own t).book
+
+  pub desk_reads : (x : Session) (page : ℕ) (r : Result (Session × ReadGuard × ℕ) Session)
+      → IfOk r (λ now. ReadsBy gives_own (own old) x page (own new) now.0 now.1 now.2)
+      → IfOk r (λ now. ReadsBy gives_desk old x page new now.0 now.1 now.2)
+  desk_reads x page (Ok now) p =
+      let kept = performs_kept k plans o (own old).book _ _ p.between.book p.fixes h in
+      let at = sym (is p.between kept) in
+      record {
+        between = made p.between kept;
+        session = p.session;
+        guard = p.guard;
+        fixes = subst (λ s. gives_own (own old) (request.Fix x page) (hit x page p.session p.guard now.2 (now.1).mark) s) at p.fixes;
+        fix_fits = p.fix_fits;
+        asks = p.asks;
+        latches = subst (λ s. gives_own s (request.LatchShared p.session p.guard) (latched p.session now.0 now.1) (own new)) at p.latches;
+        latch_fits = p.latch_fits;
+      }
+  desk_reads x page (Err e) p = tt
+
+  pub desk_ends : (x : Session) (g : ReadGuard) (r : Result (Session × ℕ) (Session × ReadGuard))
+      → IfOk r (λ now. EndsReadBy gives_own (own old) x g (own new) now.0 now.1)
+      → IfOk r (λ now. EndsReadBy gives_desk old x g new now.0 now.1)
+  desk_ends x g (Ok now) p =
+      let kept = performs_kept k plans o (own old).book _ _ p.between.book p.unlatches h in
+      let at = sym (is p.between kept) in
+      record {
+        between = made p.between kept;
+        session = p.session;
+        guard = p.guard;
+        unlatches = subst (λ s. gives_own (own old) (request.UnlatchShared x g) (unlatched x p.session p.guard now.1) s) at p.unlatches;
+        unlatch_fits = p.unlatch_fits;
+        asks = p.asks;
+        unfixes = subst (λ s. gives_own s (request.Unfix p.session p.guard) (unfixed p.session now.0) (own new)) at p.unfixes;
+        unfix_fits = p.unfix_fits;
+      }
+  desk_ends x g (Err e) p = tt
+
+-- A shared site gives what the desk gave.
+pub read_given : {S T : Type 0} (gives : S → Request → Response → S → Type 0) (old new : S) (a b : T) (x : Session) (page : ℕ)
     (r : Result (Session × ReadGuard × ℕ) Session) → IfOk r (λ now. ReadsBy gives old x page new now.0 now.1 now.2)
-    → IfOk r (λ now. ReadsBy (λ (_ : T) asked response (_ : T). Replies asked response) a x page b now.0 now.1 now.2)
-read_fits gives old new a b x page (Ok now) p = record {
+    → IfOk r (λ now. ReadsBy (λ (_ : T) asked response (_ : T). IsGiven gives asked response) a x page b now.0 now.1 now.2)
+read_given gives old new a b x page (Ok now) p = record {
   between = a;
   session = p.session;
   guard = p.guard;
-  fixes = p.fix_fits;
+  fixes = (p.fix_fits, (old, p.between, p.fixes));
   fix_fits = p.fix_fits;
   asks = p.asks;
-  latches = p.latch_fits;
+  latches = (p.latch_fits, (p.between, new, p.latches));
   latch_fits = p.latch_fits;
 }
-read_fits gives old new a b x page (Err e) p = tt
+read_given gives old new a b x page (Err e) p = tt
 
-pub ended_fits : {S T : Type 0} (gives : S → Request → Response → S → Type 0) (old new : S) (a b : T) (x : Session)
+pub ended_given : {S T : Type 0} (gives : S → Request → Response → S → Type 0) (old new : S) (a b : T) (x : Session)
     (g : ReadGuard) (r : Result (Session × ℕ) (Session × ReadGuard)) → IfOk r (λ now. EndsReadBy gives old x g new now.0 now.1)
-    → IfOk r (λ now. EndsReadBy (λ (_ : T) asked response (_ : T). Replies asked response) a x g b now.0 now.1)
-ended_fits gives old new a b x g (Ok now) p = record {
+    → IfOk r (λ now. EndsReadBy (λ (_ : T) asked response (_ : T). IsGiven gives asked response) a x g b now.0 now.1)
+ended_given gives old new a b x g (Ok now) p = record {
   between = a;
   session = p.session;
   guard = p.guard;
-  unlatches = p.unlatch_fits;
+  unlatches = (p.unlatch_fits, (old, p.between, p.unlatches));
   unlatch_fits = p.unlatch_fits;
   asks = p.asks;
-  unfixes = p.unfix_fits;
+  unfixes = (p.unfix_fits, (p.between, new, p.unfixes));
   unfix_fits = p.unfix_fits;
 }
-ended_fits gives old new a b x g (Err e) p = tt
+ended_given gives old new a b x g (Err e) p = tt
 
--- What is answered to a request that came back is answered to it.
-pub refused_replies : (asked back : Request) (why : Refusal) (first second : Response) → first.answer ≡ No back why
-    → Replies asked first → Replies back second → Replies asked second
-refused_replies asked back why first second is fits later =
-    subst (λ q. Replies q second) (subst (TokensFit asked) is fits.tokens) later
+-- What is given for a request that came back is given for it.
+pub refused_given : {B : Type 0} (gives : B → Request → Response → B → Type 0) (asked back : Request) (why : Refusal)
+    (first second : Response) → first.answer ≡ No back why → Replies asked first → IsGiven gives back second
+    → IsGiven gives asked second
+refused_given gives asked back why first second is fits later =
+    subst (λ q. IsGiven gives q second) (subst (TokensFit asked) is fits.tokens) later
 
 -- What holds on an error of the one holds there of the other.
 pub on_error : {A E : Type 0} {P Q : Type 0} (r : Result A E) → (P → Q) → OnErr r P → OnErr r Q

@@ -6,5 +6,9 @@ pub mod Verdicts
 pub mod Counted
 pub mod Runs
 pub mod Rested
+pub mod Unrun
+pub mod GoingOn
+pub mod Planned
 pub mod RunLives
 pub mod Joins
+pub mod Shared

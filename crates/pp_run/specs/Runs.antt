@@ -50,12 +50,6 @@ IsRun k plans r = IsRunFrom (opening k) plans r
 
 -- ---- no record
 
--- The error is the refusal of the first plan that isn't taken in from this state, or memory ran out.
-abbrev pub IsNotTakenIn : State → List Acceptance → RunError → Type 0
-IsNotTakenIn s plans (Refused error) = after_submits s plans ≡ Err error
-IsNotTakenIn s plans OutOfMemory = ⊤
-IsNotTakenIn s plans _ = ⊥
-
 -- All plans are taken in from this opening state, and the number is that of a worker, or of the flusher.
 pub record IsOfThread (o : State) (plans : List Acceptance) (w : ℕ) : Type 0 where
   pub taken : IsOk (after_submits o plans)

@@ -8,7 +8,6 @@ ghost use Rattle.pp_device.specs.Image.{head_of};
 ghost use Rattle.pp_outset.specs.Coding.{coded_outset};
 ghost use Rattle.pp_vault.specs.Stages.{stage_worker};
 ghost use Rattle.pp_pool.specs.Parts.{settings_of, plans_of};
-ghost use Rattle.pp_pool.specs.Replies.{Replies};
 ghost use Rattle.pp_report.specs.Reports.{is_move};
 ghost use Rattle.pp_run.specs.Runs.{submits, coded_events};
 
@@ -121,11 +120,11 @@ impl<'a, N: Naming> RunDesk<'a, N> {
 }
 
 impl<'a, N: Naming> Site for RunDesk<'a, N> {
-    ghost use Rattle.pp_pool.specs.Replies.{Replies};
+    ghost use Rattle.pp_pool.specs.Performs.{Performs};
     ghost use Rattle.pp_pool.specs.Books.{greatest_cost};
     ghost use Rattle.pp_pool.specs.Fronts.{ShowsPage};
 
-    ghost gives = { λ s request response t. Replies request response };
+    ghost gives = { λ s request response t. Performs s.site.book request response t.site.book };
 
     ghost shows = { λ s guard before shown after. ShowsPage s.site.book guard before shown after };
 

@@ -11,16 +11,19 @@ use pp_device::Device;
 use pp_pool::{Flusher, Turned};
 use std::sync::Wait;
 
-/// Flushes until the run is closing and nothing can be flushed any more.
+/// Flushes until the run is closing and nothing can be flushed any more. The first flush is sought from this page on.
 pub(crate) fn flush_on<'a, B: Desk, D: Device, R: Wait>(
     site: LockedSite<'a, B, R>,
     device: D,
+    from: u32,
 ) -> Flushed<D>
     ensures { FlushedFrom D.calls D.failures device result }
 {
     let rt = site.rt;
     let mut flusher = Flusher::new(site, device);
+    flusher.from = from;
     let stop = turns(rt, &mut flusher);
+    let from = flusher.from;
     let (site, device, flushing, ended, failed) = flusher.end();
     match flushing {
         None => {}
@@ -30,6 +33,7 @@ pub(crate) fn flush_on<'a, B: Desk, D: Device, R: Wait>(
         device,
         ended,
         failed,
+        from,
         stop,
     }
 }

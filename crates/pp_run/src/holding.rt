@@ -1,6 +1,6 @@
 //! The site of a worker's thread, whose requests may come one after another under one hold of the lock.
 
-ghost use Rattle.pp_pool.specs.Replies.{Replies};
+ghost use Rattle.pp_run.specs.Shared.{IsGiven};
 
 use crate::desk::Desk;
 use crate::locked::Locked;
@@ -75,7 +75,7 @@ impl<'a, B: Desk, R: Wait> WorkerSite<'a, B, R> {
     /// Performs a request that was refused, and may have to wait for what it wants.
     #[inline(never)]
     fn perform_later(&mut self, request: Request, locked: MutexGuard<'a, Locked<B>>) -> Response
-        ensures { Replies request result }
+        ensures { IsGiven B.gives request result }
     {
         let (response, locked, owed) = self.site.perform_under(request, locked, self.owed);
         self.owed = owed;
@@ -93,15 +93,15 @@ impl<'a, B: Desk, R: Wait> WorkerSite<'a, B, R> {
 }
 
 impl<'a, B: Desk, R: Wait> Site for WorkerSite<'a, B, R> {
-    ghost use Rattle.pp_pool.specs.Replies.{Replies};
+    ghost use Rattle.pp_run.specs.Shared.{IsGiven};
 
-    ghost gives = { λ s request response t. Replies request response };
+    ghost gives = { λ s request response t. IsGiven B.gives request response };
 
     ghost shows = { λ s guard before shown after. (desk : B) × B.shows desk guard before shown after };
 
     ghost tells = { λ s most. (desk : B) × B.tells desk most };
 
-    #[tactic(auto, using(crate::proofs::Tried::refused_replies))]
+    #[tactic(auto, using(crate::proofs::Tried::refused_given))]
     #[inline(always)]
     fn perform(&mut self, request: Request) -> Response {
         let mut locked = self.hold();

@@ -1,17 +1,21 @@
 //! One life of a pool, on threads.
 
-ghost use Rattle.std.specs.Prelude.{◌≡◌, ◌≢◌, ◌+◌, ◌++◌, ◌<◌, ◌^◌, true, Ok, IfOk, IfErr, IsOk, OnOk, length, is_none, vec_len};
+ghost use Rattle.std.specs.Prelude.{◌≡◌, ◌≢◌, ◌+◌, ◌≤◌, ◌<◌, ◌^◌, true, [], IfOk, IfErr, IsOk, OnOk, length, sum_by, is_none, vec_len};
+ghost use Rattle.pp_model.specs.Budget.{cost_of};
 ghost use Rattle.pp_model.specs.Pool.{dirty_pages};
 ghost use Rattle.pp_model.specs.Submitting.{after_submits};
 ghost use Rattle.pp_model.specs.Turns.{IsUnderWay, next_turn};
 ghost use Rattle.pp_pool.specs.Books.{IsBook};
 ghost use Rattle.pp_pool.specs.Parts.{settings_of, plans_of, state_of};
 ghost use Rattle.pp_pool.specs.Parts as parts;
+ghost use Rattle.pp_pool.specs.Renewals.{HasLifeRoom};
 ghost use Rattle.pp_run.specs.Calling.{begun_flushes_in};
 ghost use Rattle.pp_run.specs.Ends.{GivesBack};
 ghost use Rattle.pp_run.specs.Joins.{IsAnswerFrom};
 ghost use Rattle.pp_run.specs.Rested.{opening_of, IsEnd};
-ghost use Rattle.pp_run.specs.Runs.{AllCalled, IsNotTakenIn, IsRunErrorFrom, submits};
+ghost use Rattle.pp_run.specs.Planned.{HasRoomFor};
+ghost use Rattle.pp_run.specs.Runs.{AllCalled, IsRunErrorFrom};
+ghost use Rattle.pp_run.specs.Unrun.{IsNotBegun, IsStopped, IsUnready, MayStop};
 ghost use Rattle.pp_run.specs.Verdicts.{IsVerdict};
 ghost use Rattle.pp_run.specs.declared.error.RunError.TheVariants as run_errors;
 
@@ -19,8 +23,11 @@ use crate::desk::{Naming, RunDesk};
 use crate::error::RunError;
 use crate::judging::{Left, judge};
 use crate::locked::Locked;
-use crate::rested::{RestedPool, Stalled};
+use crate::planning::{need_of, submit_all};
+use crate::renewing::told;
+use crate::rested::RestedPool;
 use crate::site::LockedSite;
+use crate::stalled::Stalled;
 use crate::stop::{Flushed, Worked};
 use crate::threads::run_all;
 use pp_cert::Accepted;
@@ -38,31 +45,30 @@ use std::thread::Threads;
 ///
 /// The compiler refuses code that lets it fall.
 pub(crate) struct Ended<D> {
-    pub(crate) book: Book,
-    pub(crate) hands: Hands,
-    pub(crate) pages: (Layout, u32),
+    pub(crate) stalled: Stalled,
     pub(crate) plans: u16,
     pub(crate) dirty: u32,
     pub(crate) devices: Vec<D>,
+    // Where the flusher has come.
+    pub(crate) from: u32,
 }
 
 impl<D: Drop> Ended<D> {
     /// Gives the pool up. What the run leaves, and the devices.
     pub(crate) fn closed(self) -> (RunRecord, Vec<D>)
-        ensures events { result.0.events.items ≡ self.book.journal }
+        ensures events { result.0.events.items ≡ self.stalled.book.journal }
         ensures plans { result.0.plans ≡ self.plans }
         ensures dirty { result.0.dirty ≡ self.dirty }
         ensures devices { result.1 ≡ self.devices }
     {
         let Ended {
-            book,
-            hands,
-            pages: _,
+            stalled,
             plans,
             dirty,
             devices,
+            from: _,
         } = self;
-        let events = book.close(hands);
+        let (events, _dirty) = stalled.close();
         let record = RunRecord {
             plans,
             events,
@@ -72,8 +78,110 @@ impl<D: Drop> Ended<D> {
     }
 }
 
-/// Submits the plans and runs them on threads, up to the end of the pool's life. The life is of the settings, the plans and the
-/// outset that `N` names.
+/// A pool that is ready for a life of plans that were looked at: all are taken in, and there is room for them. No plan is
+/// submitted yet.
+///
+/// The compiler refuses code that lets it fall.
+pub(crate) struct Ready {
+    pub(crate) book: Book,
+    pub(crate) hands: Hands,
+    pub(crate) pages: (Layout, u32),
+    pub(crate) from: u32,
+    // The journal of the next life.
+    pub(crate) spare: Journal,
+}
+
+/// Looks at the plans, and gets room for them in the pool's journal and for its next life.
+///
+/// # Errors
+///
+/// Why the run isn't begun, and the pool as it was.
+pub(crate) fn made_ready(
+    alloc: Global,
+    pool: RestedPool,
+    plans: &[Accepted],
+) -> Result<Ready, (RunError, RestedPool)>
+    ensures settings { IfOk result (λ r. settings_of r.book ≡ pool.settings) }
+    ensures outset { IfOk result (λ r. r.book.began ≡ pool.began) }
+    ensures state { IfOk result (λ r. state_of r.book ≡ opening_of pool) }
+    ensures fresh { IfOk result (λ r. (r.book.journal ≡ []) × (plans_of r.book ≡ [])) }
+    ensures layout { IfOk result (λ r. r.pages.0 ≡ pool.settings.layout) }
+    ensures page_bytes { IfOk result (λ r. r.pages.1 ≡ pool.page_bytes) }
+    ensures room { IfOk result (λ r. HasRoomFor r.book (sum_by cost_of plans.now + length plans.now)) }
+    ensures spare { IfOk result (λ r. HasLifeRoom r.book r.spare.capacity) }
+    ensures taken { OnOk result (IsOk (after_submits (opening_of pool) plans.now)) }
+    ensures error { IfErr result (λ e. IsNotBegun (opening_of pool) plans.now e.0) }
+    ensures back { IfErr result (λ e. e.1 ≡ pool) }
+{
+    pool.known();
+    let need = match need_of(&pool.layout, 0, 2 * u64::from(pool.flushes()), plans) {
+        Ok(need) => need,
+        Err(error) => return Err((RunError::Refused(error), pool)),
+    };
+    let room = need as usize + plans.len();
+    let Ok(journal) = Journal::with_capacity(alloc, room) else {
+        return Err((RunError::OutOfMemory, pool));
+    };
+    let RestedPool {
+        mut book,
+        hands,
+        layout,
+        page_bytes,
+        from,
+    } = pool;
+    match with_room(&mut book, journal, room) {
+        Ok(spare) => Ok(Ready {
+            book,
+            hands,
+            pages: (layout, page_bytes),
+            from,
+            spare,
+        }),
+        Err(error) => {
+            let pool = RestedPool {
+                book,
+                hands,
+                layout,
+                page_bytes,
+                from,
+            };
+            Err((error, pool))
+        }
+    }
+}
+
+/// Sees that the journal of a book in whose life nothing was done has room for so many events, and gives the journal of its next
+/// life. The one that is handed over, which has that room, becomes the one or the other: where the book's is too small they change
+/// places, by a renewal, which changes nothing else.
+///
+/// # Errors
+///
+/// [`RunError::Broken`] with the flusher's number where a mark has come to 2^63. The book is as it was.
+fn with_room(book: &mut Book, journal: Journal, room: usize) -> Result<Journal, RunError>
+    requires fresh { (book.old.journal ≡ []) × (plans_of book.old ≡ []) }
+    requires empty { journal.items ≡ [] }
+    requires room { room ≤ journal.capacity }
+    requires life { HasLifeRoom book.old room }
+    ensures settings { settings_of book.new ≡ settings_of book.old }
+    ensures outset { book.new.began ≡ book.old.began }
+    ensures fresh { (book.new.journal ≡ []) × (plans_of book.new ≡ []) }
+    ensures room { OnOk result (room ≤ book.new.capacity) }
+    ensures spare { IfOk result (λ spare. HasLifeRoom book.new spare.capacity) }
+    ensures error { IfErr result (IsUnready book.old) }
+{
+    book.known();
+    if book.journal().capacity() >= room {
+        return Ok(journal);
+    }
+    let flusher = book.workers();
+    match book.renew(journal) {
+        Ok(spare) => Ok(spare),
+        Err((_journal, error)) => Err(told(error, flusher)),
+    }
+}
+
+/// Submits the plans to a pool that is ready for them, and runs them on threads, up to the end of the pool's life. The life is of
+/// the settings, the plans and the outset that `N` names. The journal of the next life comes back beside what the run leaves.
 pub(crate) fn live<
     N: Naming + Send,
     D: Device + Drop + Send,
@@ -82,30 +190,41 @@ pub(crate) fn live<
 >(
     rt: &R,
     alloc: Global,
-    pool: RestedPool,
+    ready: Ready,
     plans: Vec<Accepted>,
     devices: Vec<D>,
     works: Vec<W>,
     finished: &AtomicU64,
-) -> Result<Ended<D>, (RunError, Stalled)>
-    requires settings { N.settings ≡ pool.settings }
+) -> Result<(Ended<D>, Journal), (RunError, Stalled)>
+    requires settings { N.settings ≡ settings_of ready.book }
     requires plans { N.plans ≡ plans.items }
-    requires outset { N.outset ≡ pool.began }
-    requires ends { vec_len devices ≡ pool.settings.workers + 1 }
-    requires works { vec_len works ≡ pool.settings.workers }
-    ensures end { IfOk result (λ ended. IsEnd (opening_of pool) plans.items ended.book ended.dirty) }
-    ensures taken { OnOk result (IsOk (after_submits (opening_of pool) plans.items)) }
-    ensures count { IfOk result (λ ended. ended.plans ≡ vec_len plans) }
-    ensures layout { IfOk result (λ ended. ended.pages.0 ≡ pool.settings.layout) }
-    ensures page_bytes { IfOk result (λ ended. ended.pages.1 ≡ pool.page_bytes) }
-    ensures devices { IfOk result (λ ended. AllCalled D.calls D.failures pool.settings.workers devices.items
-        ended.book.journal ended.devices.items) }
-    ensures error { IfErr result (λ e. IsRunErrorFrom (opening_of pool) plans.items e.0) }
-    ensures verdict { IfErr result (λ e. IsAnswerFrom D.calls D.failures (opening_of pool) plans.items devices.items e.0) }
-    ensures stalled { IfErr result (λ e. parts.opening_of e.1.book ≡ opening_of pool) }
+    requires outset { N.outset ≡ ready.book.began }
+    requires layout { ready.pages.0 ≡ (settings_of ready.book).layout }
+    requires fresh { (ready.book.journal ≡ []) × (plans_of ready.book ≡ []) }
+    requires room { HasRoomFor ready.book (sum_by cost_of plans.items + length plans.items) }
+    requires taken { IsOk (after_submits (state_of ready.book) plans.items) }
+    requires ends { vec_len devices ≡ (settings_of ready.book).workers + 1 }
+    requires works { vec_len works ≡ (settings_of ready.book).workers }
+    ensures end { IfOk result (λ r. IsEnd (parts.opening_of ready.book) plans.items r.0.stalled.book r.0.dirty) }
+    ensures count { IfOk result (λ r. r.0.plans ≡ vec_len plans) }
+    ensures page_bytes { IfOk result (λ r. r.0.stalled.page_bytes ≡ ready.pages.1) }
+    ensures devices { IfOk result (λ r. AllCalled D.calls D.failures (settings_of ready.book).workers devices.items
+        r.0.stalled.book.journal r.0.devices.items) }
+    ensures spare { IfOk result (λ r. r.1 ≡ ready.spare) }
+    ensures error { IfErr result (λ e. IsRunErrorFrom (parts.opening_of ready.book) plans.items e.0) }
+    ensures verdict { IfErr result (λ e. IsAnswerFrom D.calls D.failures (parts.opening_of ready.book) plans.items
+        devices.items e.0) }
+    ensures stopped { IfErr result (λ e. IsStopped (parts.opening_of ready.book) plans.items e.1.book) }
+    ensures may_stop { IfErr result (λ e. MayStop e.0) }
 {
-    pool.known();
-    let (book, hands, pages, plans) = begun(pool, plans)?;
+    let Ready {
+        mut book,
+        hands,
+        pages,
+        from,
+        spare,
+    } = ready;
+    let count = submit_all(&mut book, plans);
     let mut devices = devices;
     let Some(last) = devices.pop() else {
         unreachable!();
@@ -119,74 +238,34 @@ pub(crate) fn live<
         moved: &moved,
         changed: &changed,
     };
-    let joined = run_all(site, alloc, devices, last, works);
+    let joined = run_all(site, alloc, devices, last, from, works);
     let (book, hands) = lock.into_inner().into_desk().into_parts();
+    let stalled = Stalled {
+        book,
+        hands,
+        layout: pages.0,
+        page_bytes: pages.1,
+    };
     let (worked, flushed) = match joined {
         Ok(ends) => ends,
-        Err(error) => return Err((error, Stalled { book, hands })),
+        Err(error) => return Err((error, stalled)),
     };
-    let left = left_of(&book);
-    let back = give_back(alloc, worked, flushed, book.journal(), left);
+    let left = left_of(&stalled.book);
+    let from = flushed.from;
+    let back = give_back(alloc, worked, flushed, stalled.book.journal(), left);
     match back {
-        Ok(devices) => Ok(Ended {
-            book,
-            hands,
-            pages,
-            plans,
-            dirty: left.dirty,
-            devices,
-        }),
-        Err(error) => Err((error, Stalled { book, hands })),
-    }
-}
-
-/// The book of a pool with all plans submitted, its tokens, what workers want of the settings, and how many plans there are.
-fn begun(
-    pool: RestedPool,
-    plans: Vec<Accepted>,
-) -> Result<(Book, Hands, (Layout, u32), u16), (RunError, Stalled)>
-    ensures settings { IfOk result (λ made. settings_of made.0 ≡ pool.settings) }
-    ensures plans { IfOk result (λ made. plans_of made.0 ≡ plans.items) }
-    ensures outset { IfOk result (λ made. made.0.began ≡ pool.began) }
-    ensures layout { IfOk result (λ made. made.2.0 ≡ pool.settings.layout) }
-    ensures page_bytes { IfOk result (λ made. made.2.1 ≡ pool.page_bytes) }
-    ensures count { IfOk result (λ made. made.3 ≡ vec_len plans) }
-    ensures journal { IfOk result (λ made. made.0.journal ≡ submits 0 (length plans.items)) }
-    ensures taken { IfOk result (λ made. after_submits (opening_of pool) plans.items ≡ Ok (state_of made.0)) }
-    ensures error { IfErr result (λ e. IsNotTakenIn (opening_of pool) plans.items e.0) }
-    ensures stalled { IfErr result (λ e. parts.opening_of e.1.book ≡ opening_of pool) }
-{
-    let RestedPool {
-        mut book,
-        hands,
-        layout,
-        page_bytes,
-    } = pool;
-    match submit_all(&mut book, plans) {
-        Ok(count) => Ok((book, hands, (layout, page_bytes), count)),
-        Err(error) => Err((error, Stalled { book, hands })),
-    }
-}
-
-/// Submits the plans in their order, up to the first that isn't taken in, and answers how many there are.
-fn submit_all(book: &mut Book, plans: Vec<Accepted>) -> Result<u16, RunError>
-    ensures plans { OnOk result (plans_of book.new ≡ plans_of book.old ++ plans.items) }
-    ensures count { IfOk result (λ count. count ≡ vec_len plans) }
-    ensures journal { OnOk result (book.new.journal ≡ book.old.journal
-        ++ submits (length (plans_of book.old)) (length plans.items)) }
-    ensures taken { OnOk result (after_submits (state_of book.old) plans.items ≡ Ok (state_of book.new)) }
-    ensures error { IfErr result (IsNotTakenIn (state_of book.old) plans.items) }
-    ensures settings { settings_of book.new ≡ settings_of book.old }
-    ensures outset { book.new.began ≡ book.old.began }
-{
-    let mut count = 0u16;
-    for plan in plans {
-        if let Err((_plan, error)) = book.submit(plan) {
-            return Err(RunError::from(error));
+        Ok(devices) => {
+            let ended = Ended {
+                stalled,
+                plans: count,
+                dirty: left.dirty,
+                devices,
+                from,
+            };
+            Ok((ended, spare))
         }
-        count += 1;
+        Err(error) => Err((error, stalled)),
     }
-    Ok(count)
 }
 
 /// What is left of a book whose threads are joined.

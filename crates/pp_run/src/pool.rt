@@ -4,20 +4,21 @@ ghost use Rattle.std.specs.Prelude.{◌≡◌, ◌⊎◌, ◌+◌, Ok, IfOk, IfE
 ghost use Rattle.pp_core.specs.Opening.{kept_of};
 ghost use Rattle.pp_model.specs.Journals.{replay};
 ghost use Rattle.pp_model.specs.Lives.{IsLife};
-ghost use Rattle.pp_pool.specs.Parts as parts;
 ghost use Rattle.pp_report.specs.Auditing.{auditing};
 ghost use Rattle.pp_report.specs.Audits.{IsOver};
 ghost use Rattle.pp_report.specs.Lines.{journal_words};
 ghost use Rattle.pp_run.specs.Joins.{IsAnswer, IsAnswerFrom};
-ghost use Rattle.pp_run.specs.Rested.{opening_of, ComesBack, IsNotRenewed};
+ghost use Rattle.pp_run.specs.Rested.{opening_of, ComesBack};
 ghost use Rattle.pp_run.specs.Runs.{AllCalled, IsRun, IsRunFrom, IsRunError, IsRunErrorFrom};
+ghost use Rattle.pp_run.specs.Unrun.{IsLeftOf, IsUnrenewedIn};
 
 use crate::error::RunError;
-use crate::life::live;
-use crate::rested::{RestedPool, Stalled};
+use crate::life::{live, made_ready};
+use crate::rested::RestedPool;
+use crate::unrun::{Unbegun, Unrun};
 use pp_cert::Accepted;
 use pp_device::Device;
-use pp_pool::{Journal, Work};
+use pp_pool::Work;
 use pp_report::RunRecord;
 use pp_report::laws::whole_journals_are_audited;
 use pp_settings::Settings;
@@ -96,9 +97,18 @@ impl Pool {
         ensures verdict { IfErr result (IsAnswer D.calls D.failures (kept_of settings.now) plans.items devices.items) }
     {
         let pool = RestedPool::open(alloc, settings)?;
-        match live::<Brand, D, W, R>(rt, alloc, pool, plans, devices, works, finished) {
-            Ok(ended) => {
-                ended.book.known();
+        let looked = made_ready(alloc, pool, plans.as_slice());
+        let ready = match looked {
+            Ok(ready) => ready,
+            Err((error, pool)) => {
+                pool.close();
+                return Err(error);
+            }
+        };
+        let ran = live::<Brand, D, W, R>(rt, alloc, ready, plans, devices, works, finished);
+        match ran {
+            Ok((ended, _spare)) => {
+                ended.stalled.book.known();
                 let (record, devices) = ended.closed();
                 whole_journals_are_audited(&record.events);
                 Ok((record, devices))
@@ -124,10 +134,14 @@ impl Pool {
     ///
     /// # Errors
     ///
-    /// [`RunError::OutOfMemory`] before anything is done, where there is none for the next life's journal. Then those of
-    /// [`Pool::run`], in its order. Where a run came to its end, [`RunError::Broken`] with the flusher's number where a mark has
-    /// come to 2^63 or a token isn't back in its place, so that the pool isn't renewed. What is left of the pool comes with the
-    /// error: its dirty pages are nowhere else.
+    /// Those of [`Pool::run`], in its order, and with each what is left: a pool's dirty pages are nowhere else.
+    ///
+    /// Before anything is done, the refusal of the first plan that isn't taken in; [`RunError::OutOfMemory`] where there is none
+    /// for the journals; and [`RunError::Broken`] with the flusher's number where a mark has come to 2^63. Then all that was handed
+    /// over comes back as it was ([`Unrun::Unbegun`]). Behind that the run was begun, and is left as it stopped
+    /// ([`Unrun::Stalled`]): its plans are submitted, and what is left of it can be done by one thread. Where a run came to its
+    /// end, [`RunError::Broken`] with the flusher's number where a mark has come to 2^63 or a token isn't back in its place, so
+    /// that the pool isn't renewed.
     pub fn run_on<D: Device + Drop + Send, W: Work + Drop + Send, R: Threads + Wait + Sync>(
         rt: &R,
         alloc: Global,
@@ -135,7 +149,7 @@ impl Pool {
         plans: Vec<Accepted>,
         devices: Vec<D>,
         works: Vec<W>,
-    ) -> Result<(RunRecord, RestedPool, Vec<D>), (RunError, Stalled)>
+    ) -> Result<(RunRecord, RestedPool, Vec<D>), (RunError, Unrun<D, W>)>
         requires ends { vec_len devices ≡ pool.settings.workers + 1 }
         requires works { vec_len works ≡ pool.settings.workers }
         ensures journal { IfOk result (λ r. IsRunFrom (opening_of pool) plans.items r.0) }
@@ -148,8 +162,8 @@ impl Pool {
         ensures error { IfErr result (λ e. IsRunErrorFrom (opening_of pool) plans.items e.0) }
         ensures verdict { IfErr result (λ e.
             IsAnswerFrom D.calls D.failures (opening_of pool) plans.items devices.items e.0
-            ⊎ IsNotRenewed (opening_of pool) plans.items e.1.book e.1.hands e.0) }
-        ensures stalled { IfErr result (λ e. parts.opening_of e.1.book ≡ opening_of pool) }
+            ⊎ IsUnrenewedIn (opening_of pool) plans.items e.0 e.1) }
+        ensures left { IfErr result (λ e. IsLeftOf pool plans.items devices.items works.items e.0 e.1) }
     {
         let finished = AtomicU64::new(0);
         Pool::run_on_watched(rt, alloc, pool, plans, devices, works, &finished)
@@ -168,7 +182,7 @@ impl Pool {
         devices: Vec<D>,
         works: Vec<W>,
         finished: &AtomicU64,
-    ) -> Result<(RunRecord, RestedPool, Vec<D>), (RunError, Stalled)>
+    ) -> Result<(RunRecord, RestedPool, Vec<D>), (RunError, Unrun<D, W>)>
         requires ends { vec_len devices ≡ pool.settings.workers + 1 }
         requires works { vec_len works ≡ pool.settings.workers }
         ensures journal { IfOk result (λ r. IsRunFrom (opening_of pool) plans.items r.0) }
@@ -181,15 +195,33 @@ impl Pool {
         ensures error { IfErr result (λ e. IsRunErrorFrom (opening_of pool) plans.items e.0) }
         ensures verdict { IfErr result (λ e.
             IsAnswerFrom D.calls D.failures (opening_of pool) plans.items devices.items e.0
-            ⊎ IsNotRenewed (opening_of pool) plans.items e.1.book e.1.hands e.0) }
-        ensures stalled { IfErr result (λ e. parts.opening_of e.1.book ≡ opening_of pool) }
+            ⊎ IsUnrenewedIn (opening_of pool) plans.items e.0 e.1) }
+        ensures left { IfErr result (λ e. IsLeftOf pool plans.items devices.items works.items e.0 e.1) }
     {
-        let Ok(empty) = Journal::with_capacity(alloc, 2 * pool.flushes() as usize) else {
-            return Err((RunError::OutOfMemory, pool.stalled()));
+        let looked = made_ready(alloc, pool, plans.as_slice());
+        let ready = match looked {
+            Ok(ready) => ready,
+            Err((error, pool)) => {
+                let unbegun = Unbegun {
+                    pool,
+                    plans,
+                    devices,
+                    works,
+                };
+                return Err((error, Unrun::Unbegun(unbegun)));
+            }
         };
-        let ended = live::<Brand, D, W, R>(rt, alloc, pool, plans, devices, works, finished)?;
-        ended.book.known();
-        let (record, pool, devices) = ended.renewed(empty)?;
-        Ok((record, pool, devices))
+        let ran = live::<Brand, D, W, R>(rt, alloc, ready, plans, devices, works, finished);
+        match ran {
+            Ok((ended, spare)) => {
+                ended.stalled.book.known();
+                let renewed = ended.renewed(spare);
+                match renewed {
+                    Ok(kept) => Ok(kept),
+                    Err((error, stalled)) => Err((error, Unrun::Stalled(stalled))),
+                }
+            }
+            Err((error, stalled)) => Err((error, Unrun::Stalled(stalled))),
+        }
     }
 }

@@ -14,7 +14,8 @@ ghost use Rattle.pp_run.specs.Rested.{opening_of, AreIdle, KeptFor};
 
 use crate::error::RunError;
 use crate::life::Ended;
-use crate::rested::{RestedPool, Stalled};
+use crate::rested::RestedPool;
+use crate::stalled::Stalled;
 use pp_pool::{BookRenewError, Journal};
 use pp_report::RunRecord;
 use pp_vault::{Hand, Hands};
@@ -30,43 +31,28 @@ impl<D: Drop> Ended<D> {
         self,
         empty: Journal,
     ) -> Result<(RunRecord, RestedPool, Vec<D>), (RunError, Stalled)>
-        requires layout { self.pages.0 ≡ (settings_of self.book).layout }
-        requires room { HasLifeRoom self.book empty.capacity }
-        ensures events { IfOk result (λ r. r.0.events.items ≡ self.book.journal) }
+        requires room { HasLifeRoom self.stalled.book empty.capacity }
+        ensures events { IfOk result (λ r. r.0.events.items ≡ self.stalled.book.journal) }
         ensures plans { IfOk result (λ r. r.0.plans ≡ self.plans) }
         ensures dirty { IfOk result (λ r. r.0.dirty ≡ self.dirty) }
         ensures devices { IfOk result (λ r. r.2 ≡ self.devices) }
-        ensures settings { IfOk result (λ r. r.1.settings ≡ settings_of self.book) }
-        ensures page_bytes { IfOk result (λ r. r.1.page_bytes ≡ self.pages.1) }
-        ensures outset { IfOk result (λ r. r.1.began ≡ outset_of (state_of self.book)) }
-        ensures next { IfOk result (λ r. opening_of r.1 ≡ renewed (state_of self.book)) }
-        ensures life { IfOk result (λ r. IsLife (parts.opening_of self.book)
-            (record { plans = plans_of self.book; journal = self.book.journal })) }
-        ensures error { IfErr result (λ e. KeptFor self.book e.1.hands e.0) }
-        ensures stalled { IfErr result (λ e. e.1.book ≡ self.book) }
+        ensures settings { IfOk result (λ r. r.1.settings ≡ settings_of self.stalled.book) }
+        ensures page_bytes { IfOk result (λ r. r.1.page_bytes ≡ self.stalled.page_bytes) }
+        ensures outset { IfOk result (λ r. r.1.began ≡ outset_of (state_of self.stalled.book)) }
+        ensures next { IfOk result (λ r. opening_of r.1 ≡ renewed (state_of self.stalled.book)) }
+        ensures life { IfOk result (λ r. IsLife (parts.opening_of self.stalled.book)
+            (record { plans = plans_of self.stalled.book; journal = self.stalled.book.journal })) }
+        ensures error { IfErr result (λ e. KeptFor self.stalled.book e.1.hands e.0) }
+        ensures stalled { IfErr result (λ e. e.1.book ≡ self.stalled.book) }
     {
         let Ended {
-            mut book,
-            mut hands,
-            pages,
+            stalled,
             plans,
             dirty,
             devices,
+            from,
         } = self;
-        let flusher = book.workers();
-        if !are_idle(&mut hands, flusher) {
-            return Err((RunError::Broken(flusher), Stalled { book, hands }));
-        }
-        let events = match book.renew(empty) {
-            Ok(events) => events,
-            Err((_empty, error)) => return Err((told(error, flusher), Stalled { book, hands })),
-        };
-        let pool = RestedPool {
-            book,
-            hands,
-            layout: pages.0,
-            page_bytes: pages.1,
-        };
+        let (events, pool) = stalled.renewed(empty, from)?;
         let record = RunRecord {
             plans,
             events,
@@ -77,7 +63,7 @@ impl<D: Drop> Ended<D> {
 }
 
 /// What a book that isn't renewed comes to, where the flusher has this number.
-fn told(error: BookRenewError, flusher: u32) -> RunError
+pub(crate) fn told(error: BookRenewError, flusher: u32) -> RunError
     ensures { result ≡ unrenewed_by flusher error }
 {
     match error {
@@ -87,7 +73,7 @@ fn told(error: BookRenewError, flusher: u32) -> RunError
 }
 
 /// Whether each worker's hand is in its place and idle, and no flush is in hand.
-fn are_idle(hands: &mut Hands, workers: u32) -> bool
+pub(crate) fn are_idle(hands: &mut Hands, workers: u32) -> bool
     ensures idle { (result ≡ true) ↔ AreIdle workers hands.new }
     ensures same { hands.new.workers ≡ hands.old.workers }
     ensures flushing { hands.new.flushing ≡ hands.old.flushing }
@@ -122,7 +108,7 @@ fn is_idle(hands: &mut Hands, worker: u32) -> bool
 }
 
 /// Puts a hand into its worker's place, which is empty.
-fn put_back(hands: &mut Hands, hand: Hand)
+pub(crate) fn put_back(hands: &mut Hands, hand: Hand)
     requires { is_free_for hands.old.workers (stage_worker hand.stage) ≡ true }
     ensures places { hands.new.workers ≡ put_for hands.old.workers hand (stage_worker hand.stage) }
     ensures flushing { hands.new.flushing ≡ hands.old.flushing }

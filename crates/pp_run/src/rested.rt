@@ -5,13 +5,12 @@ ghost use Rattle.pp_core.specs.Opening.{kept_of};
 ghost use Rattle.pp_model.specs.Pool.{dirty_pages};
 ghost use Rattle.pp_model.specs.Reached.{IsReached};
 ghost use Rattle.pp_outset.specs.Outsets.{new_outset};
-ghost use Rattle.pp_pool.specs.Parts.{state_of};
-ghost use Rattle.pp_pool.specs.Parts as parts;
 ghost use Rattle.pp_run.specs.Rested.{opening_of};
 ghost use Rattle.pp_run.specs.declared.error.RunError.TheVariants as run_errors;
 
 use crate::error::RunError;
-use pp_pool::{Book, Journal};
+use pp_outset::Outset;
+use pp_pool::Book;
 use pp_settings::{Layout, Settings};
 use pp_vault::Hands;
 use std::alloc::Global;
@@ -28,6 +27,8 @@ pub struct RestedPool {
     pub(crate) hands: Hands,
     pub(crate) layout: Layout,
     pub(crate) page_bytes: u32,
+    // The page number from which the next run's first flush is sought: where the flusher of the run before has come.
+    pub(crate) from: u32,
 }
 
 impl Model for RestedPool {
@@ -59,6 +60,7 @@ impl RestedPool {
             hands,
             layout: settings.layout(),
             page_bytes: settings.page_bytes(),
+            from: 0,
         };
         Ok(pool)
     }
@@ -91,17 +93,11 @@ impl RestedPool {
         self.book.dirty()
     }
 
-    /// The pool as what is left of one whose run gave no record.
-    pub(crate) fn stalled(self) -> Stalled
-        ensures { parts.opening_of result.book ≡ opening_of self }
+    /// What its next life begins with besides its settings.
+    pub fn began(&self) -> &Outset
+        ensures { result.now ≡ self.now.began }
     {
-        let RestedPool {
-            book,
-            hands,
-            layout: _,
-            page_bytes: _,
-        } = self;
-        Stalled { book, hands }
+        self.book.began()
     }
 
     /// Gives the pool up, and answers how many pages were newer than the device's: what was changed in them is lost.
@@ -113,28 +109,10 @@ impl RestedPool {
             hands,
             layout: _,
             page_bytes: _,
+            from: _,
         } = self;
         let dirty = book.dirty();
         book.close(hands);
         dirty
-    }
-}
-
-/// A pool whose run gave no record, as its threads left it: its book, and the tokens that are back in their places. Its dirty
-/// pages are nowhere else, so the compiler refuses code that lets it fall; [`Stalled::close`] gives it up.
-pub struct Stalled {
-    pub book: Book,
-    pub hands: Hands,
-}
-
-impl Stalled {
-    /// Gives the pool up: the journal of the life that wasn't ended, and how many pages were newer than the device's.
-    pub fn close(self) -> (Journal, u32)
-        ensures journal { result.0.items ≡ self.book.journal }
-        ensures dirty { result.1 ≡ dirty_pages (state_of self.book) }
-    {
-        let Stalled { book, hands } = self;
-        let dirty = book.dirty();
-        (book.close(hands), dirty)
     }
 }

@@ -3,7 +3,7 @@
 ghost use Rattle.std.specs.Prelude.{◌≡◌, ◌≤◌, true, false, Some, IfSome, length};
 ghost use Rattle.pp_device.specs.Image.{head_of};
 ghost use Rattle.pp_vault.specs.Stages.{stage_worker};
-ghost use Rattle.pp_pool.specs.Replies.{Replies};
+ghost use Rattle.pp_run.specs.Shared.{IsGiven};
 
 use crate::desk::Desk;
 use crate::locked::{Locked, WaitsFor};
@@ -27,9 +27,8 @@ const PAUSES: u32 = 20;
 /// A site that threads share: a book under a lock, with what they wait on.
 ///
 /// Each call takes the lock, and gives it back before it returns. A request that isn't possible yet waits, for which it
-/// lets the lock go, and is tried again when something was done; nobody is woken where nobody waits. What the site gives
-/// is known by the request alone: others move between two calls. What it shows and tells is what the desk did, as it was
-/// while the lock was held.
+/// lets the lock go, and is tried again when something was done; nobody is woken where nobody waits. What the site gives, shows
+/// and tells is what the desk did, as it was while the lock was held: others move between two calls.
 #[derive(Drop)]
 pub struct LockedSite<'a, B: Desk, R: Wait> {
     pub rt: &'a R,
@@ -42,9 +41,9 @@ pub struct LockedSite<'a, B: Desk, R: Wait> {
 }
 
 impl<'a, B: Desk, R: Wait> Site for LockedSite<'a, B, R> {
-    ghost use Rattle.pp_pool.specs.Replies.{Replies};
+    ghost use Rattle.pp_run.specs.Shared.{IsGiven};
 
-    ghost gives = { λ s request response t. Replies request response };
+    ghost gives = { λ s request response t. IsGiven B.gives request response };
 
     ghost shows = { λ s guard before shown after. (desk : B) × B.shows desk guard before shown after };
 
@@ -67,7 +66,7 @@ impl<'a, B: Desk, R: Wait> LockedSite<'a, B, R> {
     /// Performs the request, when it is possible. It waits where the move isn't possible now, unless no plan is left; and
     /// where nothing can be flushed, until the run is closing.
     fn perform_when_possible(&self, request: Request) -> Response
-        ensures { Replies request result }
+        ensures { IsGiven B.gives request result }
     {
         let (response, locked, owed) = self.perform_under(request, self.hold(), Owed::nothing());
         self.give_back(locked, owed);
@@ -82,7 +81,7 @@ impl<'a, B: Desk, R: Wait> LockedSite<'a, B, R> {
         locked: MutexGuard<'a, Locked<B>>,
         owed: Owed,
     ) -> (Response, MutexGuard<'a, Locked<B>>, Owed)
-        ensures { Replies request result.0 }
+        ensures { IsGiven B.gives request result.0 }
     {
         let mut request = request;
         let mut locked = locked;

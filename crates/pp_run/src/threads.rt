@@ -120,7 +120,8 @@ fn first_unstarted<D: Drop>(worked: Result<Vec<Worked<D>>, RunError>, flusher: u
 }
 
 /// Starts a thread for each worker and one for the flusher, all over this site, joins the workers, closes the book, and joins
-/// the flusher. There is a device and a work for each worker; the flusher's device comes last.
+/// the flusher. There is a device and a work for each worker; the flusher's device comes last. Its first flush is sought from this
+/// page on.
 ///
 /// # Errors
 ///
@@ -137,6 +138,7 @@ pub fn run_all<
     alloc: Global,
     devices: Vec<D>,
     last: D,
+    from: u32,
     works: Vec<W>,
 ) -> Result<(Vec<Worked<D>>, Flushed<D>), RunError>
     requires few { vec_len devices < 2 ^ 32 }
@@ -165,7 +167,7 @@ pub fn run_all<
                     moved,
                     changed,
                 };
-                flush_on(site, last)
+                flush_on(site, last, from)
             };
             let started = scope.spawn_with(promise, job);
             let site = LockedSite {

@@ -4,7 +4,7 @@ ghost use Rattle.std.specs.Prelude.{◌≡◌, ◌+◌, vec_len};
 
 use pp_cert::Accepted;
 use pp_report::RunRecord;
-use pp_run::{Pool, RestedPool, RunError};
+use pp_run::{Pool, RestedPool, RunError, Stalled, Unbegun, Unrun};
 use pp_run_command::Rounds;
 use pp_settings::Settings;
 use pp_shared::SharedDevice;
@@ -40,6 +40,9 @@ struct Lot<R: Wait> {
     plans: Vec<Accepted>,
     ends: Vec<SharedDevice<R>>,
     works: Vec<Rounds>,
+    /// An end, and a work, that no run gets.
+    spare: SharedDevice<R>,
+    other: Rounds,
 }
 
 fn lot_of<R: Files<File = File> + AllocGlobal + Wait + Copy + Drop>(
@@ -47,9 +50,18 @@ fn lot_of<R: Files<File = File> + AllocGlobal + Wait + Copy + Drop>(
     settings: &Settings,
 ) -> anyhow::Result<Lot<R>> {
     let plans = all_accepted(rt.alloc(), settings, &[TOUCH, WRITE, TOUCH])?;
-    let ends = SharedDevice::over_memory(*rt, rt.alloc(), 24, 64, settings.workers() as usize + 1)?;
-    let works = works_of(rt.alloc(), settings.workers())?;
-    Ok(Lot { plans, ends, works })
+    let workers = settings.workers();
+    let mut ends = SharedDevice::over_memory(*rt, rt.alloc(), 24, 64, workers as usize + 2)?;
+    let Some(spare) = ends.pop() else {
+        anyhow::bail!("there are no ends");
+    };
+    Ok(Lot {
+        plans,
+        ends,
+        works: works_of(rt.alloc(), workers)?,
+        spare,
+        other: Rounds::new(0, workers),
+    })
 }
 
 /// The works of so many workers.
@@ -68,13 +80,19 @@ fn ran<R: Files<File = File> + AllocGlobal + Threads + Wait + Sync + Copy + Send
     settings: &Settings,
     lot: Lot<R>,
 ) -> Answer {
-    let Lot { plans, ends, works } = lot;
+    let Lot {
+        plans,
+        ends,
+        works,
+        spare,
+        other,
+    } = lot;
     let workers = settings.workers() as usize;
     if ends.len() != workers + 1 || works.len() != workers {
         return Answer::Nothing;
     }
     let ran = if is_kept {
-        life(rt, settings, plans, ends, works)
+        life(rt, settings, plans, ends, works, spare, other)
     } else {
         match Pool::run(rt, rt.alloc(), settings, plans, ends, works) {
             Ok((done, _ends)) => Ok((done, 0)),
@@ -95,22 +113,77 @@ fn ran<R: Files<File = File> + AllocGlobal + Threads + Wait + Sync + Copy + Send
 }
 
 /// Opens a pool, runs the plans over it, and gives it up. What the run left, and how many pages the pool had changed.
+///
+/// Where it gives no record, what is left has to go on: a run that wasn't begun is made again, with all that came back; one that
+/// stopped is done to its end by the spare end and the other work, and its pool is renewed.
 fn life<R: Files<File = File> + AllocGlobal + Threads + Wait + Sync + Copy + Send + Drop>(
     rt: &R,
     settings: &Settings,
     plans: Vec<Accepted>,
     ends: Vec<SharedDevice<R>>,
     works: Vec<Rounds>,
+    spare: SharedDevice<R>,
+    other: Rounds,
 ) -> Result<(RunRecord, u32), RunError>
     requires ends { vec_len ends ≡ settings.now.workers + 1 }
     requires works { vec_len works ≡ settings.now.workers }
 {
     let pool = RestedPool::open(rt.alloc(), settings)?;
-    match Pool::run_on(rt, rt.alloc(), pool, plans, ends, works) {
-        Ok((done, pool, _ends)) => Ok((done, pool.close())),
-        Err((error, stalled)) => {
-            let (_journal, _dirty) = stalled.close();
-            Err(error)
+    let (error, goes_on) = match Pool::run_on(rt, rt.alloc(), pool, plans, ends, works) {
+        Ok((done, pool, _ends)) => return Ok((done, pool.close())),
+        Err((error, Unrun::Unbegun(unbegun))) => (error, runs_again(rt, unbegun)),
+        Err((error, Unrun::Stalled(stalled))) => (error, is_ended(rt, stalled, spare, other)),
+    };
+    // (an answer that no refused allocation may have)
+    if goes_on {
+        Err(error)
+    } else {
+        Err(RunError::Mismatch(0))
+    }
+}
+
+/// Whether a run that wasn't begun is made where nothing is refused, and leaves two pages changed at most.
+fn runs_again<R: Files<File = File> + AllocGlobal + Threads + Wait + Sync + Copy + Send + Drop>(
+    rt: &R,
+    unbegun: Unbegun<SharedDevice<R>, Rounds>,
+) -> bool {
+    let Unbegun {
+        pool,
+        plans,
+        devices,
+        works,
+    } = unbegun;
+    let workers = pool.workers() as usize;
+    if devices.len() != workers + 1 || works.len() != workers {
+        pool.close();
+        return false;
+    }
+    match Pool::run_on(rt, rt.alloc(), pool, plans, devices, works) {
+        Ok((done, pool, _ends)) => pool.close() == done.dirty && done.plans == 3,
+        Err((_error, left)) => {
+            left.close();
+            false
+        }
+    }
+}
+
+/// Whether one thread does what is left of a run that stopped, so that the pool can be renewed.
+fn is_ended<R: AllocGlobal + Wait + Drop>(
+    rt: &R,
+    stalled: Stalled,
+    spare: SharedDevice<R>,
+    other: Rounds,
+) -> bool {
+    let mut other = other;
+    let (stalled, spare) = stalled.flush(spare);
+    let (stalled, spare) = stalled.drain(rt.alloc(), spare, &mut other);
+    let (stalled, _spare) = stalled.flush(spare);
+    let plans = stalled.book.next_possible().is_none();
+    match stalled.renew(rt.alloc()) {
+        Ok((_journal, pool)) => pool.close() == 0 && plans,
+        Err((_error, stalled)) => {
+            stalled.close();
+            false
         }
     }
 }

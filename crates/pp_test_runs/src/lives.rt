@@ -3,18 +3,20 @@
 ghost use Rattle.std.specs.Prelude.{◌≡◌, ◌+◌, vec_len};
 
 use crate::board::Board;
-use crate::case::{Area, Case, Picks, SAMPLE, Thing};
-use crate::running::{add_plans, ends_of, plans_of, players, same, settings_of, stamps};
+use crate::case::{Area, Case, Part, Picks, SAMPLE, Step, Thing, Until};
+use crate::player::Player;
+use crate::running::{add_plans, ends_of, plans_of, players, same, settings_of, stamp, stamps};
 use crate::stress::{DESCENT, KEEPING};
 use pp_cert::Accepted;
 use pp_device::Device;
-use pp_model::{Event, Move, Reply};
+use pp_model::{Event, Move, Reply, SubmitError};
 use pp_pool::Work;
 use pp_report::{Journal, RENEWAL_LINE, audit_lives, packed_journal_text};
-use pp_run::{Pool, RestedPool, RunRecord};
+use pp_run::{Pool, RestedPool, RunError, RunRecord, Unbegun, Unrun};
 use pp_settings::Settings;
 use pp_shared::SharedDevice;
-use pp_test_plain::samples::{GAPS, WRITE};
+use pp_test_plain::accepted;
+use pp_test_plain::samples::{GAPS, NOTHING, WRITE};
 use std::alloc::Global;
 use std::process::Abort;
 use std::sync::Wait;
@@ -36,7 +38,7 @@ fn pool_run<D: Device + Drop + Send, W: Work + Drop + Send, R: Abort + Threads +
 {
     match Pool::run_on(rt, alloc, pool, plans, devices, works) {
         Ok(ran) => ran,
-        Err((error, _stalled)) => panic!(rt; "no run: {error}"),
+        Err((error, _left)) => panic!(rt; "no run: {error}"),
     }
 }
 
@@ -221,4 +223,202 @@ fn a_hundred_lives_are_one_history(rt: HostRuntime) {
     if board.number(Thing::Seen) == 0 {
         panic!(rt; "no image was seen");
     }
+}
+
+/// One worker, one flush in each life, and two leaves: the first is changed again once it is being flushed.
+static SCARCE: Case = Case {
+    name: "the_flusher_goes_on_in_the_next_run",
+    workers: 1,
+    flushes: 1,
+    plans: &[WRITE, WRITE, WRITE],
+    parts: &[Part {
+        region: 1,
+        steps: &[
+            Step {
+                behind: 0,
+                until: Until::Nothing,
+            },
+            Step {
+                behind: 1,
+                until: Until::Come(Thing::Flushed, 1),
+            },
+        ],
+    }],
+    ..SAMPLE
+};
+
+/// The flusher goes on where it was in the run before. With one flush in each of two runs, of which both change the first leaf, each
+/// of two leaves is written back once.
+#[test]
+fn the_flusher_goes_on_in_the_next_run(rt: HostRuntime) {
+    let board = Board::new(&SCARCE);
+    let (_journals, mut end, dirty) = live_on(&rt, &board, 2);
+    let mut bytes = [0u8; 64];
+    for page in [16, 17] {
+        let there = stamp(&rt, &mut end, page, bytes.as_mut_slice());
+        same(&rt, SCARCE.name, "the stamp on the device", there, 1);
+    }
+    same(&rt, SCARCE.name, "dirty", u64::from(dirty), 1);
+    same(&rt, SCARCE.name, "amiss", board.number(Thing::Amiss), 0);
+}
+
+/// A run that isn't begun: what comes back of what was handed over. The test fails where it is another error, or was begun.
+fn comes_back<D: Device + Drop + Send, W: Work + Drop + Send, R: Abort + Threads + Wait + Sync>(
+    rt: &R,
+    alloc: Global,
+    lot: Unbegun<D, W>,
+    want: RunError,
+) -> Unbegun<D, W> {
+    let Unbegun {
+        pool,
+        plans,
+        devices,
+        works,
+    } = lot;
+    let workers = pool.workers() as usize;
+    assert!(rt; workers < 64);
+    assert!(rt; devices.len() == workers + 1);
+    assert!(rt; works.len() == workers);
+    match not_run(rt, alloc, pool, plans, devices, works) {
+        (error, Unrun::Unbegun(back)) => {
+            assert!(rt; error == want, "{error}");
+            back
+        }
+        (error, Unrun::Stalled(_stalled)) => panic!(rt; "begun: {error}"),
+    }
+}
+
+/// A run over the pool that has to be refused.
+fn not_run<D: Device + Drop + Send, W: Work + Drop + Send, R: Abort + Threads + Wait + Sync>(
+    rt: &R,
+    alloc: Global,
+    pool: RestedPool,
+    plans: Vec<Accepted>,
+    devices: Vec<D>,
+    works: Vec<W>,
+) -> (RunError, Unrun<D, W>)
+    requires ends { vec_len devices ≡ pool.settings.workers + 1 }
+    requires works { vec_len works ≡ pool.settings.workers }
+{
+    match Pool::run_on(rt, alloc, pool, plans, devices, works) {
+        Ok(_ran) => panic!(rt; "run"),
+        Err(not) => not,
+    }
+}
+
+/// One worker writes a leaf, and nothing flushes it.
+static KEPT: Case = Case {
+    name: "a_run_that_is_not_begun_leaves_the_pool",
+    workers: 1,
+    flushes: 0,
+    plans: &[WRITE],
+    ..SAMPLE
+};
+
+/// Settings with a frame more.
+static OTHERS: Case = Case {
+    name: "other settings",
+    frames: 4,
+    workers: 1,
+    flushes: 0,
+    ..SAMPLE
+};
+
+/// So many plans that do nothing, and behind them one that is accepted for these settings.
+fn plans_before(
+    rt: &impl Abort,
+    alloc: Global,
+    own: &Settings,
+    count: u32,
+    last: &Settings,
+) -> Vec<Accepted> {
+    let mut plans = Vec::new(alloc);
+    for place in 0..count.saturating_add(1) {
+        let settings = if place == count { last } else { own };
+        match accepted(alloc, settings, NOTHING) {
+            Ok(plan) => plans.push(plan).expect(rt, "memory"),
+            Err(_) => panic!(rt; "no memory, or not accepted"),
+        }
+    }
+    plans
+}
+
+/// The plans are refused with this error, and all that was handed over comes back as it was.
+fn refused_with<'a, R: AllocGlobal + Abort + Threads + Wait + Clock + Copy + Drop + Sync + Send>(
+    rt: &R,
+    lot: Unbegun<SharedDevice<R>, Player<'a, R>>,
+    plans: Vec<Accepted>,
+    want: RunError,
+) -> Unbegun<SharedDevice<R>, Player<'a, R>> {
+    let count = plans.len() as u64;
+    let Unbegun {
+        pool,
+        plans: _,
+        devices,
+        works,
+    } = lot;
+    let dirty = pool.dirty();
+    let frame = pool.began().frame_of(16);
+    let lot = Unbegun {
+        pool,
+        plans,
+        devices,
+        works,
+    };
+    let back = comes_back(rt, rt.alloc(), lot, want);
+    same(rt, KEPT.name, "plans", back.plans.len() as u64, count);
+    same(rt, KEPT.name, "ends", back.devices.len() as u64, 2);
+    same(rt, KEPT.name, "works", back.works.len() as u64, 1);
+    same(
+        rt,
+        KEPT.name,
+        "dirty",
+        u64::from(back.pool.dirty()),
+        u64::from(dirty),
+    );
+    assert!(rt; back.pool.began().frame_of(16) == frame, "another frame");
+    back
+}
+
+/// Whatever plan of a run is refused, the first or a later one, nothing was done: the pool comes back as it was, with the plans, the
+/// devices and the works. The next run finds the page that the run before wrote, and the journals of both are audited together.
+#[test]
+fn a_run_that_is_not_begun_leaves_the_pool(rt: HostRuntime) {
+    let alloc = rt.alloc();
+    let board = Board::new(&KEPT);
+    let (own, other) = (
+        settings_of(&rt, alloc, &KEPT),
+        settings_of(&rt, alloc, &OTHERS),
+    );
+    let (plans, works) = (plans_of(&rt, alloc, &own, &KEPT), players(&rt, &board, 0));
+    let pool = opened(&rt, alloc, &own);
+    let (cold, pool, devices) = run_well(&rt, alloc, pool, plans, ends_of(&rt, &KEPT), works);
+    let mut lot = Unbegun {
+        pool,
+        plans: Vec::new(alloc),
+        devices,
+        works: players(&rt, &board, 1),
+    };
+    for (count, last, want) in [
+        (0, &other, SubmitError::OtherSettings),
+        (3, &other, SubmitError::OtherSettings),
+        (256, &own, SubmitError::TooManyPlans),
+    ] {
+        let plans = plans_before(&rt, alloc, &own, count, last);
+        lot = refused_with(&rt, lot, plans, RunError::Refused(want));
+    }
+    let Unbegun {
+        pool,
+        plans: _,
+        devices,
+        works,
+    } = lot;
+    let plans = plans_of(&rt, alloc, &own, &KEPT);
+    let (warm, pool, _devices) = run_well(&rt, alloc, pool, plans, devices, works);
+    assert!(rt; is_hit(&warm.events, 1), "the page isn't there");
+    let mut journals = Vec::new(alloc);
+    journals.push(cold.events).expect(&rt, "memory");
+    journals.push(warm.events).expect(&rt, "memory");
+    are_audited(&rt, alloc, &KEPT, &journals, 2);
+    same(&rt, KEPT.name, "dirty", u64::from(pool.close()), 1);
 }

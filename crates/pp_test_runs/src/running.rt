@@ -288,7 +288,7 @@ fn has_counts(rt: &impl Abort, board: &Board, record: &RunRecord) {
 }
 
 /// Reads the page into the slice, and gives its stamp, which the bytes at both ends of its body tell too.
-fn stamp<R: Abort + Wait>(
+pub fn stamp<R: Abort + Wait>(
     rt: &R,
     device: &mut SharedDevice<R>,
     page: u32,

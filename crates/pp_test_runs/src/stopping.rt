@@ -73,7 +73,7 @@ fn threads_over<
                 moved: &moved,
                 changed: &changed,
             };
-            let ran = run_all(site, alloc, devices, last, works);
+            let ran = run_all(site, alloc, devices, last, 0, works);
             over.store(true, Ordering::SeqCst);
             ran
         },

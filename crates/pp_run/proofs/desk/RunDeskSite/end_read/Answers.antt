@@ -1,6 +1,7 @@
-use Rattle.std.proofs.Common.{ap}
+use Rattle.std.proofs.Common.{ap, refl}
+use Rattle.pp_run.specs.declared.desk.RunDesk.{RunDesk}
 use Rattle.pp_run.proofs.Desks.{same_desk}
-use Rattle.pp_run.proofs.Tried.{IsOfRun, ended_kept, ended_fits, on_error}
+use Rattle.pp_run.proofs.Tried.{IsOfRun, ended_kept, desk_ends, on_error}
 use Rattle.pp_run.proofs.desk.RunDeskSite.end_read.Goals as goal
 
 pub invariant_of-self : goal.invariant_of-self
@@ -14,7 +15,12 @@ invariant_of-self g c =
 
 pub returns-clause-given : goal.returns-clause-given
 returns-clause-given g c =
-    ended_fits _ c.args.self.now.site c.end_read.new.self _ _ c.args.session c.args.guard c.end_read.result c.end_read.ensures.given
+    let d = c.args.self.now in
+    desk_ends (λ (t : RunDesk g.row.N.Denot g.N.Naming). t.site) g.N.Naming.settings g.N.Naming.plans g.N.Naming.outset
+    (λ s h. record d { site = s; settings = h.settings; plans = h.taken; outset = h.outset; begun = h.begun; moving = h.moving })
+    (λ s h. refl) d _
+    (record { settings = d.settings; taken = d.plans; outset = d.outset; begun = d.begun; moving = d.moving })
+    c.args.session c.args.guard c.end_read.result c.end_read.ensures.given
 
 pub returns-clause-same : goal.returns-clause-same
 returns-clause-same g c =

@@ -1,6 +1,7 @@
-use Rattle.std.proofs.Common.{ap}
+use Rattle.std.proofs.Common.{ap, refl}
+use Rattle.pp_run.specs.declared.desk.RunDesk.{RunDesk}
 use Rattle.pp_run.proofs.Desks.{same_desk}
-use Rattle.pp_run.proofs.Tried.{IsOfRun, read_kept, read_fits, on_error}
+use Rattle.pp_run.proofs.Tried.{IsOfRun, read_kept, desk_reads, on_error}
 use Rattle.pp_run.proofs.desk.RunDeskSite.read.Goals as goal
 
 pub invariant_of-self : goal.invariant_of-self
@@ -14,7 +15,12 @@ invariant_of-self g c =
 
 pub returns-clause-given : goal.returns-clause-given
 returns-clause-given g c =
-    read_fits _ c.args.self.now.site c.read.new.self _ _ c.args.session c.args.page c.read.result c.read.ensures.given
+    let d = c.args.self.now in
+    desk_reads (λ (t : RunDesk g.row.N.Denot g.N.Naming). t.site) g.N.Naming.settings g.N.Naming.plans g.N.Naming.outset
+    (λ s h. record d { site = s; settings = h.settings; plans = h.taken; outset = h.outset; begun = h.begun; moving = h.moving })
+    (λ s h. refl) d _
+    (record { settings = d.settings; taken = d.plans; outset = d.outset; begun = d.begun; moving = d.moving })
+    c.args.session c.args.page c.read.result c.read.ensures.given
 
 pub returns-clause-same : goal.returns-clause-same
 returns-clause-same g c =

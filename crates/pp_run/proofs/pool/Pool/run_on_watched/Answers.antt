@@ -1,55 +1,30 @@
-use Rattle.std.proofs.Common.{rules}
-use Rattle.std.specs.Prelude.{◌⊎◌}
-use Rattle.pp_run.specs.Joins.{IsAnswerFrom}
-use Rattle.pp_run.specs.Rested.{opening_of, IsEnd, IsNotRenewed}
-use Rattle.pp_run.proofs.Ran.{ran}
-use Rattle.pp_run.proofs.RunsOn.{life_of, over_of, comes_back, called_on, kept_verdict}
+use Rattle.std.proofs.Common.{subst}
+use Rattle.pp_run.specs.Rested.{opening_of, IsEnd}
+use Rattle.pp_run.proofs.Ran.{opened_as}
+use Rattle.pp_run.proofs.RunsOn.{over_of, kept_verdict}
 use Rattle.pp_run.proofs.pool.Pool.run_on_watched.Goals as goal
 
-pub returns-clause-journal : goal.returns-clause-journal
-returns-clause-journal g c =
-    let b = c.in_ok-ended.ended.book in
-    let end : IsEnd (opening_of c.args.pool) c.args.plans.items b c.in_ok-ended.ended.dirty = search rules in
-    ran (opening_of c.args.pool) c.args.plans.items b c.in_ok-ended.ended.dirty c.in_ok-record.record end c.known.ensures.kept
-    (search rules) (search rules) (search rules)
-
-pub returns-clause-life : goal.returns-clause-life
-returns-clause-life g c =
-    let b = c.in_ok-ended.ended.book in
-    let end : IsEnd (opening_of c.args.pool) c.args.plans.items b c.in_ok-ended.ended.dirty = search rules in
-    life_of (opening_of c.args.pool) c.args.plans.items b c.in_ok-record.record.events.items end.opened end.planned
-    (search rules) (search rules)
-
-pub returns-clause-over : goal.returns-clause-over
-returns-clause-over g c =
-    let b = c.in_ok-ended.ended.book in
-    let end : IsEnd (opening_of c.args.pool) c.args.plans.items b c.in_ok-ended.ended.dirty = search rules in
-    over_of (opening_of c.args.pool) c.args.plans.items b c.in_ok-ended.ended.dirty c.in_ok-record.record.events.items end
-    c.known.ensures.kept (search rules)
-
-pub returns-clause-pool : goal.returns-clause-pool
-returns-clause-pool g c =
-    let b = c.in_ok-ended.ended.book in
-    let end : IsEnd (opening_of c.args.pool) c.args.plans.items b c.in_ok-ended.ended.dirty = search rules in
-    comes_back c.args.pool c.in_ok-record.pool c.args.plans.items b c.in_ok-ended.ended.dirty c.in_ok-ended.ended.pages.1
-    c.in_ok-record.record.events.items end (search rules) (search rules) (search rules) (search rules) (search rules)
-    (search rules)
-
-pub returns-clause-devices : goal.returns-clause-devices
-returns-clause-devices g c =
-    called_on g.D.Device.calls g.D.Device.failures c.args.pool.settings.workers c.args.devices.items
-    c.in_ok-ended.ended.book.journal c.in_ok-record.record.events.items c.in_ok-ended.ended.devices.items
-    c.in_ok-record.devices.items (search rules) (search rules) (search rules)
-
-pub returns-in_err-record-clause-verdict : goal.returns-in_err-record-clause-verdict
-returns-in_err-record-clause-verdict g c =
-    let o = opening_of c.args.pool in
+pub returns-in-Ok-renewed-clause-over : goal.returns-in-Ok-renewed-clause-over
+returns-in-Ok-renewed-clause-over g c =
+    let p = c.args.pool in
     let plans = c.args.plans.items in
-    let b = c.in_ok-ended.ended.book in
-    let e = c.in_err-record.field-0.0 in
-    let end : IsEnd o plans b c.in_ok-ended.ended.dirty = search rules in
-    let said : IsAnswerFrom g.D.Device.calls g.D.Device.failures o plans c.args.devices.items e.0
-    ⊎ IsNotRenewed o plans e.1.book e.1.hands e.0
-    = kept_verdict g.D.Device.calls g.D.Device.failures o plans c.args.devices.items b e.1.book c.in_ok-ended.ended.dirty
-    e.1.hands e.0 end c.in_err-record.ensures.stalled c.in_err-record.ensures.error in
-    search rules
+    let b = c.in-Ok-ran.ended.stalled.book in
+    let dirty = c.in-Ok-ran.ended.dirty in
+    let end : IsEnd (opening_of p) plans b dirty
+    = subst (λ o. IsEnd o plans b dirty)
+    (opened_as p.settings p.began c.in-Ok.ready.book c.in-Ok.ensures.settings c.in-Ok.ensures.outset) c.in-Ok-ran.ensures.end in
+    over_of (opening_of p) plans b dirty c.in-Ok-renewed.kept.0.events.items end c.known.ensures.kept
+    c.in-Ok-renewed.ensures.events
+
+pub returns-in-Err-renewed-clause-verdict : goal.returns-in-Err-renewed-clause-verdict
+returns-in-Err-renewed-clause-verdict g c =
+    let p = c.args.pool in
+    let plans = c.args.plans.items in
+    let b = c.in-Ok-ran.ended.stalled.book in
+    let dirty = c.in-Ok-ran.ended.dirty in
+    let end : IsEnd (opening_of p) plans b dirty
+    = subst (λ o. IsEnd o plans b dirty)
+    (opened_as p.settings p.began c.in-Ok.ready.book c.in-Ok.ensures.settings c.in-Ok.ensures.outset) c.in-Ok-ran.ensures.end in
+    kept_verdict g.D.Device.calls g.D.Device.failures (opening_of p) plans c.args.devices.items b
+    c.in-Err-renewed.stalled.book dirty c.in-Err-renewed.stalled.hands c.in-Err-renewed.error end
+    c.in-Err-renewed.ensures.stalled c.in-Err-renewed.ensures.error

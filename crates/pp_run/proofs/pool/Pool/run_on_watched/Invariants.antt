@@ -1,4 +1,6 @@
+use Rattle.pp_pool.specs.Parts.{settings_of}
 use Rattle.pp_run.proofs.pool.Pool.run_on_watched.Given as goal
 
 abbrev pub ghosts-live : goal.ghosts-live
-ghosts-live g a = record { settings = a.pool.settings; plans = a.plans.items; outset = a.pool.began }
+ghosts-live g a =
+    record { settings = settings_of a.ready.book; plans = a.plans.items; outset = a.ready.book.began }

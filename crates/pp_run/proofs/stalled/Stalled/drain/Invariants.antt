@@ -1,0 +1,5 @@
+use Rattle.pp_run.specs.GoingOn.{GoesOn}
+use Rattle.pp_run.proofs.stalled.Stalled.drain.Given as goal
+
+abbrev pub invariant-loop : goal.invariant-loop
+invariant-loop g l = GoesOn l.fn.self.book l.stalled.book
