@@ -1,6 +1,7 @@
 //! Refusals of a certificate's text.
 
 use crate::names::{region_names, slot_names};
+use crate::plan_text::stranger;
 use pp_cert::{CertError, MOST_BOUND, MOST_ENTRIES, MOST_NOTES};
 use pp_locate::{
     Said, Step, hint, listed, no_text, quoted, said_at, shown_at, steps_text, text_of, value_of,
@@ -11,7 +12,7 @@ use serde_json::Value;
 use std::alloc::{AllocError, Global};
 
 /// The keys of a certificate.
-const TOP_KEYS: [&str; 3] = ["notes", "peak", "steps"];
+const TOP_KEYS: &[&str] = &["notes", "peak", "steps"];
 
 /// The form of a certificate.
 const FORM: &str = "a certificate is {\"notes\":[..],\"peak\":N,\"steps\":N}";
@@ -82,34 +83,50 @@ fn said_of_form(
 
 /// What is said of a text that isn't an object with the keys and values of a certificate.
 fn top_said(alloc: Global, text: &str, value: &Value) -> Result<Option<Said>, AllocError> {
-    let Some(members) = value.as_object() else {
+    if !value.is_object() {
         return said_of_form(alloc, text, &[], "the text is no object");
-    };
-    for key in members.keys() {
-        if !TOP_KEYS.iter().any(|other| key.as_str() == *other) {
-            let hint = hint(alloc, key.as_str(), &TOP_KEYS)?;
-            let shown = quoted(alloc, key.as_str())?;
-            let what = format!(in alloc; "the key {shown} isn't known: {FORM}{hint}")?;
-            return Ok(Some(said_at(alloc, text, &[Step::Name(key.as_str())], what)?));
-        }
     }
-    for key in &TOP_KEYS {
-        let Some(found) = value.get(*key) else {
-            let what = format!(in alloc; "the key {key} is missing")?;
-            return said_of_form(alloc, text, &[], &what);
-        };
-        let is_right = if *key == "notes" {
-            found.is_array()
-        } else {
-            found.as_u64().is_some()
-        };
-        if !is_right {
-            let found = shown_at(alloc, text, &[Step::Key(key)])?;
-            let what = format!(in alloc; "{key} is {found}")?;
-            return said_of_form(alloc, text, &[Step::Key(key)], &what);
+    if let Some(key) = stranger(value, TOP_KEYS) {
+        let what = stranger_text(alloc, key)?;
+        return Ok(Some(said_at(alloc, text, &[Step::Name(key)], what)?));
+    }
+    for key in TOP_KEYS {
+        if let Some(said) = member_said(alloc, text, value, key)? {
+            return Ok(Some(said));
         }
     }
     Ok(None)
+}
+
+/// A key that a certificate may not have.
+fn stranger_text(alloc: Global, key: &str) -> Result<String, AllocError> {
+    let hint = hint(alloc, key, TOP_KEYS)?;
+    let shown = quoted(alloc, key)?;
+    format!(in alloc; "the key {shown} isn't known: {FORM}{hint}")
+}
+
+/// What is said of the key where it is missing, or its value is of another kind.
+fn member_said(
+    alloc: Global,
+    text: &str,
+    value: &Value,
+    key: &str,
+) -> Result<Option<Said>, AllocError> {
+    let Some(found) = value.get(key) else {
+        let what = format!(in alloc; "the key {key} is missing")?;
+        return said_of_form(alloc, text, &[], &what);
+    };
+    let is_right = if key == "notes" {
+        found.is_array()
+    } else {
+        found.as_u64().is_some()
+    };
+    if is_right {
+        return Ok(None);
+    }
+    let found = shown_at(alloc, text, &[Step::Key(key)])?;
+    let what = format!(in alloc; "{key} is {found}")?;
+    said_of_form(alloc, text, &[Step::Key(key)], &what)
 }
 
 /// A certificate's text, with what it is for.
@@ -192,18 +209,15 @@ fn said_of_note(
 
 /// The way to the part of the entry with this key in the note at the place.
 fn way_to(alloc: Global, place: usize, key: &str, part: Part) -> Result<Vec<Step<'_>>, AllocError> {
-    let mut way = Vec::new(alloc);
-    way.push(Step::Key("notes"))?;
-    way.push(Step::Item(place))?;
+    let member = match part {
+        Part::Name => Step::Name(key),
+        Part::Value | Part::Region => Step::Key(key),
+    };
+    let way = [Step::Key("notes"), Step::Item(place), member, Step::Item(0)];
     match part {
-        Part::Name => way.push(Step::Name(key))?,
-        Part::Value => way.push(Step::Key(key))?,
-        Part::Region => {
-            way.push(Step::Key(key))?;
-            way.push(Step::Item(0))?;
-        }
+        Part::Name | Part::Value => Vec::from_slice(alloc, &way[..3]),
+        Part::Region => Vec::from_slice(alloc, &way),
     }
-    Ok(way)
 }
 
 /// The fault of an entry: its form first, then the slot's name, then the region's, then that the slot is of another kind.

@@ -3,7 +3,6 @@
 #![tactic(auto)]
 
 mod certificate_text;
-mod first_use;
 mod names;
 mod plan_text;
 mod script_text;

@@ -10,9 +10,8 @@ use std::alloc::{AllocError, Global};
 /// The names of the regions, by number.
 pub fn region_names(alloc: Global, settings: &Settings) -> Result<Vec<&str>, AllocError> {
     let mut names = Vec::new(alloc);
-    let count = settings.layout().extents().len();
-    for region in 0..count {
-        names.push(settings.name(region as u8))?;
+    for region in 0..settings.layout().extents().len() {
+        names.push(region_name(settings, region as u8))?;
     }
     Ok(names)
 }
@@ -21,7 +20,7 @@ pub fn region_names(alloc: Global, settings: &Settings) -> Result<Vec<&str>, All
 pub fn slot_names(alloc: Global, plan: &Plan) -> Result<Vec<&str>, AllocError> {
     let mut names = Vec::new(alloc);
     for slot in 0..plan.slots() {
-        names.push(plan.slot_name(slot))?;
+        names.push(slot_name(plan, slot))?;
     }
     Ok(names)
 }

@@ -1,10 +1,9 @@
 //! Refusals of a plan's text.
 
-use crate::first_use::first_use;
 use crate::names::region_names;
 use pp_locate::{
-    Said, Statement, Step, hint, listed, no_text, quoted, said_at, shown_at, slot_in, slot_key,
-    steps_to, text_of, value_of,
+    Said, Statement, Step, first_use, hint, listed, no_text, quoted, said_at, shown_at, slot_in,
+    slot_key, steps_to, text_of, value_of,
 };
 use pp_plan::PlanError;
 use pp_settings::Settings;
@@ -57,7 +56,8 @@ fn top_said(alloc: Global, text: &str, value: &Value) -> Result<Option<Said>, Al
         return top_said_of(alloc, text, &[], "the text is no object");
     }
     if let Some(key) = stranger(value, &TOP_KEYS) {
-        return stranger_said(alloc, text, key);
+        let what = stranger_text(alloc, key)?;
+        return Ok(Some(said_at(alloc, text, &[Step::Name(key)], what)?));
     }
     body_said(alloc, text, value)
 }
@@ -78,14 +78,13 @@ fn top_said_of(
     Ok(Some(said_at(alloc, text, steps, what)?))
 }
 
-/// What is said of a key that a plan's text may not have.
-fn stranger_said(alloc: Global, text: &str, key: &str) -> Result<Option<Said>, AllocError> {
+/// A key that a plan's text may not have.
+fn stranger_text(alloc: Global, key: &str) -> Result<String, AllocError> {
     let hint = hint(alloc, key, &TOP_KEYS)?;
     let shown = quoted(alloc, key)?;
-    let what = format!(in alloc;
+    format!(in alloc;
         "the key {shown} isn't known: a plan is {{\"body\":[..],\"version\":1 or 2}}{hint}"
-    )?;
-    Ok(Some(said_at(alloc, text, &[Step::Name(key)], what)?))
+    )
 }
 
 /// The same of the body and the version.
@@ -230,30 +229,48 @@ fn is_of_bundle(value: &Value) -> bool {
 fn no_such_text(alloc: Global, plan: &Value, value: &Value) -> Result<String, AllocError> {
     let known = kinds_of(plan);
     let kinds = listed(alloc, known)?;
-    let Some(members) = value.as_object() else {
+    if !value.is_object() {
         return format!(in alloc;
             "it is no object: a statement has exactly one of the keys {kinds}"
         );
-    };
+    }
     let found = found_kinds(alloc, known, value)?;
-    if !found.is_empty() {
-        let found = listed(alloc, &found)?;
-        return format!(in alloc; "it has the keys {found}: a statement has exactly one of {kinds}");
+    if found.is_empty() {
+        return no_kind_text(alloc, known, value, &kinds);
     }
-    let mut hints = String::new(alloc);
-    for key in members.keys() {
-        if hints.is_empty() {
-            hints = hint(alloc, key.as_str(), known)?;
-        }
-    }
+    let found = listed(alloc, &found)?;
+    format!(in alloc; "it has the keys {found}: a statement has exactly one of {kinds}")
+}
+
+/// An object that has none of the first keys of the known kinds, which are listed so.
+fn no_kind_text(
+    alloc: Global,
+    known: &[&str],
+    value: &Value,
+    kinds: &str,
+) -> Result<String, AllocError> {
+    let hint = kind_hint(alloc, known, value)?;
     let later = if is_of_bundle(value) {
         "; gather and scatter are statements of version 2, and version is 1"
     } else {
         ""
     };
     format!(in alloc;
-        "it has none of the keys {kinds}, and a statement has exactly one{later}{hints}"
+        "it has none of the keys {kinds}, and a statement has exactly one{later}{hint}"
     )
+}
+
+/// A question for the known kind that is nearest to a key of the value, the first key that is near to one; or nothing.
+fn kind_hint(alloc: Global, known: &[&str], value: &Value) -> Result<String, AllocError> {
+    if let Some(members) = value.as_object() {
+        for key in members.keys() {
+            let hint = hint(alloc, key.as_str(), known)?;
+            if !hint.is_empty() {
+                return Ok(hint);
+            }
+        }
+    }
+    Ok(String::new(alloc))
 }
 
 /// The known kinds whose first keys the value has.
@@ -279,8 +296,8 @@ struct Form {
     keys: &'static [&'static str],
 }
 
-/// The kinds of statements.
-const FORMS: [Form; 8] = [
+/// The kinds of statements, but for a scatter.
+const FORMS: &[Form] = &[
     Form {
         what: "a fix",
         spelled: "{\"fix\":SLOT,\"region\":REGION}",
@@ -316,43 +333,52 @@ const FORMS: [Form; 8] = [
         spelled: "{\"gather\":SLOT,\"region\":REGION}",
         keys: &["gather", "region"],
     },
-    Form {
-        what: "a scatter",
-        spelled: "{\"scatter\":SLOT}",
-        keys: &["scatter"],
-    },
 ];
+
+/// A scatter.
+const SCATTER: Form = Form {
+    what: "a scatter",
+    spelled: "{\"scatter\":SLOT}",
+    keys: &["scatter"],
+};
 
 /// The form of the statement that the value is meant to be.
 fn form_of(value: &Value) -> Form {
     for form in FORMS {
         if let Some(key) = form.keys.first() {
             if value.get(*key).is_some() {
-                return form;
+                return *form;
             }
         }
     }
-    FORMS[7]
+    SCATTER
 }
 
 /// Other keys than the kind wants, or other kinds of values.
 fn wrong_field_text(alloc: Global, statement: Statement<'_>) -> Result<String, AllocError> {
+    let form = form_of(statement.value);
+    if let Some(key) = stranger(statement.value, form.keys) {
+        return strange_field_text(alloc, form, key);
+    }
+    let Form { what, spelled, .. } = form;
+    let fault = field_fault(alloc, statement, form.keys)?;
+    format!(in alloc; "{fault}: {what} is {spelled}")
+}
+
+/// A key that a statement of this form may not have.
+fn strange_field_text(alloc: Global, form: Form, key: &str) -> Result<String, AllocError> {
     let Form {
         what,
         spelled,
         keys,
-    } = form_of(statement.value);
-    if let Some(key) = stranger(statement.value, keys) {
-        let hint = hint(alloc, key, keys)?;
-        let key = quoted(alloc, key)?;
-        return format!(in alloc; "the key {key} doesn't belong here: {what} is {spelled}{hint}");
-    }
-    let fault = field_fault(alloc, statement, keys)?;
-    format!(in alloc; "{fault}: {what} is {spelled}")
+    } = form;
+    let hint = hint(alloc, key, keys)?;
+    let key = quoted(alloc, key)?;
+    format!(in alloc; "the key {key} doesn't belong here: {what} is {spelled}{hint}")
 }
 
 /// The first key of the value that isn't one of these, in the order of bytes.
-fn stranger<'v>(value: &'v Value, known: &[&str]) -> Option<&'v str> {
+pub(crate) fn stranger<'v>(value: &'v Value, known: &[&str]) -> Option<&'v str> {
     for key in value.as_object()?.keys() {
         if !known.iter().any(|other| key.as_str() == *other) {
             return Some(key.as_str());
@@ -459,11 +485,9 @@ fn mixed_text(alloc: Global, plan: &Value, statement: Statement<'_>) -> Result<S
 
 /// The first statement that uses the slot.
 fn first_text(alloc: Global, text: &str, plan: &Value, slot: &str) -> Result<String, AllocError> {
-    if let Some(number) = first_use(plan, slot) {
-        if let Some(steps) = steps_to(alloc, plan, number)? {
-            if let Some(first) = Statement::at(text, plan, number, &steps) {
-                return first.named(alloc);
-            }
+    if let Some((number, steps)) = first_use(alloc, plan, slot)? {
+        if let Some(first) = Statement::at(text, plan, number, &steps) {
+            return first.named(alloc);
         }
     }
     String::from_str(alloc, "an earlier statement")

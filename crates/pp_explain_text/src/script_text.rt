@@ -25,6 +25,25 @@ const WORDS: [&str; 15] = [
     "lie",
 ];
 
+/// How the lines are spelled that begin with them.
+const FORMS: [&str; 15] = [
+    "take W",
+    "fix W PAGE",
+    "device W",
+    "unfix W",
+    "latch W",
+    "unlatch W",
+    "choose W I",
+    "unwind W SLOT",
+    "finish W",
+    "flush PAGE",
+    "flushdevice",
+    "write W SLOT BYTE",
+    "look W SLOT",
+    "fail N",
+    "lie N PAGE STAMP",
+];
+
 /// What is said of the bytes of a script that is refused so.
 pub fn script_said(alloc: Global, bytes: &[u8], error: ScriptError) -> Result<Said, AllocError> {
     if let Err(spot) = text_of(bytes) {
@@ -57,21 +76,8 @@ fn rule_of(alloc: Global, line: &[u8]) -> Result<String, AllocError> {
             ": a carriage return stands at its end, and a line ends with a line feed alone",
         );
     }
-    let word = match text.split_once(" ") {
-        Some((word, _)) => word,
-        None => text,
-    };
-    match nearest(alloc, word, &WORDS)? {
-        Some(known) => {
-            let form = form_of(known);
-            let count = match known {
-                "fail" | "lie" => "; N counts from 1",
-                _ => "",
-            };
-            format!(in alloc;
-                ": nearest is `{form}`, with one space between words and none at the ends{count}"
-            )
-        }
+    match nearest(alloc, first_word(text), &WORDS)? {
+        Some(known) => nearest_text(alloc, known),
         None => String::from_str(
             alloc,
             ": it begins with none of the words of a cue or a trouble",
@@ -79,23 +85,32 @@ fn rule_of(alloc: Global, line: &[u8]) -> Result<String, AllocError> {
     }
 }
 
+/// What stands before the first space.
+fn first_word(text: &str) -> &str {
+    match text.split_once(" ") {
+        Some((word, _)) => word,
+        None => text,
+    }
+}
+
+/// The form of the lines that begin with this word.
+fn nearest_text(alloc: Global, known: &str) -> Result<String, AllocError> {
+    let form = form_of(known);
+    let count = match known {
+        "fail" | "lie" => "; N counts from 1",
+        _ => "",
+    };
+    format!(in alloc;
+        ": nearest is `{form}`, with one space between words and none at the ends{count}"
+    )
+}
+
 /// How a line that begins with the word is spelled.
 fn form_of(word: &str) -> &'static str {
-    match word {
-        "take" => "take W",
-        "fix" => "fix W PAGE",
-        "device" => "device W",
-        "unfix" => "unfix W",
-        "latch" => "latch W",
-        "unlatch" => "unlatch W",
-        "choose" => "choose W I",
-        "unwind" => "unwind W SLOT",
-        "finish" => "finish W",
-        "flush" => "flush PAGE",
-        "flushdevice" => "flushdevice",
-        "write" => "write W SLOT BYTE",
-        "look" => "look W SLOT",
-        "fail" => "fail N",
-        _ => "lie N PAGE STAMP",
+    for (known, form) in WORDS.iter().zip(FORMS.iter()) {
+        if *known == word {
+            return form;
+        }
     }
+    ""
 }

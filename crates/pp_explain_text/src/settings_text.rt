@@ -27,12 +27,22 @@ pub fn settings_said(
         Err(spot) => return no_text(alloc, spot, "TOML"),
     };
     match toml::table_from_str(alloc, text) {
-        Ok(table) => Ok(Said {
-            spot: offset_of(text, &table, error).map(|offset| spot_at(text.as_bytes(), offset)),
-            text: table_text(alloc, &table, error)?,
-        }),
+        Ok(table) => table_said(alloc, text, &table, error),
         Err(refused) => no_toml(alloc, text, &refused),
     }
+}
+
+/// What is said of the document of this text.
+fn table_said(
+    alloc: Global,
+    text: &str,
+    table: &Table,
+    error: SettingsError,
+) -> Result<Said, AllocError> {
+    Ok(Said {
+        spot: offset_of(text, table, error).map(|offset| spot_at(text.as_bytes(), offset)),
+        text: table_text(alloc, table, error)?,
+    })
 }
 
 /// How many bytes of the text stand before what is at fault: a key, or the head of a region. A key of the document that is
@@ -177,21 +187,28 @@ fn missing_text(alloc: Global, table: &Table, spot: Spot) -> Result<String, Allo
 /// A value is of another kind, or out of its limits.
 fn range_text(alloc: Global, table: &Table, spot: Spot) -> Result<String, AllocError> {
     let prefix = prefix_of(alloc, table, spot)?;
+    let found = found_text(alloc, table, spot)?;
     let rule = rule_of(alloc, table, spot)?;
     let key = spot.key();
-    let value = match spot {
-        Spot::Top(_) => table.get(key),
-        Spot::InRegion(region, _) => match region_at(table, usize::from(region)) {
-            Some(found) => found.get(key),
-            None => None,
-        },
-    };
-    match value {
+    format!(in alloc; "{prefix}{key}{found} is to be {rule}")
+}
+
+/// What the value at the key is, as in ` is 5: it`; nothing where there is none.
+fn found_text(alloc: Global, table: &Table, spot: Spot) -> Result<String, AllocError> {
+    match found_at(table, spot) {
         Some(value) => {
             let value = value_text(alloc, value)?;
-            format!(in alloc; "{prefix}{key} is {value}: it is to be {rule}")
+            format!(in alloc; " is {value}: it")
         }
-        None => format!(in alloc; "{prefix}{key} is to be {rule}"),
+        None => Ok(String::new(alloc)),
+    }
+}
+
+/// The value at the key, if there is one.
+fn found_at(table: &Table, spot: Spot) -> Option<&Value> {
+    match spot {
+        Spot::Top(_) => table.get(spot.key()),
+        Spot::InRegion(region, _) => region_at(table, usize::from(region))?.get(spot.key()),
     }
 }
 
@@ -260,20 +277,28 @@ fn pages_in(table: &Table, region: u8) -> Option<(i64, i64)> {
     Some((first, first.saturating_add(count).saturating_sub(1)))
 }
 
+/// The first of so many regions that has one of the pages from the first to the last; and its own first and last.
+fn overlapped(table: &Table, regions: u8, first: i64, last: i64) -> Option<(u8, i64, i64)> {
+    for other in 0..regions {
+        if let Some((start, end)) = pages_in(table, other) {
+            if start <= last && first <= end {
+                return Some((other, start, end));
+            }
+        }
+    }
+    None
+}
+
 /// A region has a page of an earlier one.
 fn overlap_text(alloc: Global, table: &Table, region: u8) -> Result<String, AllocError> {
     let own = region_text(alloc, table, region)?;
     if let Some((first, last)) = pages_in(table, region) {
-        for other in 0..region {
-            if let Some((start, end)) = pages_in(table, other) {
-                if start <= last && first <= end {
-                    let other = region_text(alloc, table, other)?;
-                    return format!(in alloc;
-                        "{own}, has the pages {first} to {last}, and {other}, has {start} to {end}: \
-                        no two regions share a page"
-                    );
-                }
-            }
+        if let Some((other, start, end)) = overlapped(table, region, first, last) {
+            let other = region_text(alloc, table, other)?;
+            return format!(in alloc;
+                "{own}, has the pages {first} to {last}, and {other}, has {start} to {end}: \
+                no two regions share a page"
+            );
         }
     }
     format!(in alloc; "{own}, has a page of an earlier region: no two regions share a page")

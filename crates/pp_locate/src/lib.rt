@@ -20,7 +20,7 @@ pub use place::{Spot, spot_at};
 pub use repeats::{Repeat, repeat_in};
 pub use said::{Said, no_text, said_at, shown_at, value_of};
 pub use statement::{Statement, slot_in, slot_key};
-pub use statements::steps_to;
+pub use statements::{first_use, steps_to};
 pub use steps::{Step, offset_of, steps_text, value_at};
 pub use text::text_of;
 pub use values::{front, quoted, shown};

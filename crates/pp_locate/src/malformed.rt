@@ -20,6 +20,9 @@ const NO_WORD: &str =
 const NO_NUMBER: &str =
     "the number isn't spelled as in JSON: no plus, no zero in front, digits around a point";
 
+/// What ends a word: white space, a bracket, a comma, a colon, a quote or a comment.
+const WORD_ENDS: &[u8] = b" \t\n\r{}[],:\"/#";
+
 /// In how many lists and objects a value may stand.
 const DEEPEST: usize = 127;
 
@@ -358,32 +361,11 @@ impl Walk<'_> {
     }
 }
 
-/// What stands from here on up to white space, a bracket, a comma, a colon, a quote or a comment.
+/// What stands from here on up to one of the bytes that end a word.
 fn word_from(text: &str, at: usize) -> &str {
-    let Some(rest) = text.get(at..) else {
-        return "";
-    };
-    for (count, byte) in rest.bytes().enumerate() {
-        if matches!(
-            byte,
-            b' ' | b'\t'
-                | b'\n'
-                | b'\r'
-                | b'{'
-                | b'}'
-                | b'['
-                | b']'
-                | b','
-                | b':'
-                | b'"'
-                | b'/'
-                | b'#'
-        ) {
-            return match rest.get(..count) {
-                Some(word) => word,
-                None => "",
-            };
-        }
+    let rest = text.get(at..).unwrap_or("");
+    match rest.bytes().position(|byte| WORD_ENDS.contains(&byte)) {
+        Some(end) => rest.get(..end).unwrap_or(""),
+        None => rest,
     }
-    rest
 }

@@ -45,10 +45,7 @@ impl<'a> Statement<'a> {
 
     /// The way to what this step leads to in it, or to itself.
     fn way<'s>(&self, alloc: Global, field: Option<Step<'s>>) -> Result<Vec<Step<'s>>, AllocError> {
-        let mut way = Vec::new(alloc);
-        for step in self.steps {
-            way.push(*step)?;
-        }
+        let mut way = Vec::from_slice(alloc, self.steps)?;
         if let Some(field) = field {
             way.push(field)?;
         }
