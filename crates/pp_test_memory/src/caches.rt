@@ -1,7 +1,9 @@
 //! The calls of a page cache that has no page yet.
 
+use crate::answer::Answer;
+use crate::printing::twice;
+use crate::tried::Tried;
 use pp_cache::{Cache, Create, Fetched};
-use pp_test_rounds::{Answer, Tried, twice};
 use std::alloc::{AllocError, Global};
 
 /// A key that an empty cache has no room for.
@@ -15,7 +17,11 @@ pub fn case<R: AllocGlobal + Print>(rt: &R, call: &str) -> anyhow::Result<()> {
         call,
         cache,
     };
-    twice(rt, &mut caching)?;
+    tries(rt, &mut caching)
+}
+
+fn tries<R: AllocGlobal + Print>(rt: &R, caching: &mut Caching) -> anyhow::Result<()> {
+    twice(rt, caching)?;
     println!(rt;
         "{:?}",
         caching.cache.fetch(rt.alloc(), KEY, Create::Always)

@@ -1,6 +1,9 @@
 //! The calls that write journals and reports, and audit journals.
 
+use crate::answer::Answer;
+use crate::printing::twice;
 use crate::samples::{LIVES, events, record};
+use crate::tried::Tried;
 use pp_cert::Accepted;
 use pp_model::Event;
 use pp_report::{
@@ -10,7 +13,6 @@ use pp_report::{
 use pp_settings::Settings;
 use pp_test_plain::all_accepted;
 use pp_test_plain::samples::{SETTINGS, TOUCH, TOUCHED};
-use pp_test_rounds::{Answer, Tried, twice};
 use std::alloc::Global;
 
 /// Does the case of this call.

@@ -1,12 +1,14 @@
 //! The calls that judge the bytes of files.
 
+use crate::answer::Answer;
+use crate::printing::twice;
 use crate::samples::{LIVES, PIN, PIN_NOTES, SCRIPT};
+use crate::tried::{Told, Tried};
 use pp_judge::{
     AnnotateFiles, AuditFiles, CheckFiles, Contents, DrawFiles, Exit, JudgeError, SimulateFiles,
     Workload, device_size, exit_of,
 };
 use pp_test_plain::samples::{SETTINGS, TOUCH, TOUCHED, WRITE};
-use pp_test_rounds::{Answer, Told, Tried, twice};
 use std::alloc::Global;
 use std::fmt;
 
@@ -31,7 +33,7 @@ fn texts_of(call: &str, row: &str) -> &'static [&'static str] {
 }
 
 /// The bytes of these texts.
-fn bytes_of(alloc: Global, texts: &[&str]) -> anyhow::Result<Vec<Vec<u8>>> {
+pub fn bytes_of(alloc: Global, texts: &[&str]) -> anyhow::Result<Vec<Vec<u8>>> {
     let mut all = Vec::new(alloc);
     for text in texts {
         let mut bytes = Vec::new(alloc);

@@ -1,10 +1,12 @@
 //! The calls of names that are to be more, and of a page cache of keys that lie far apart, which has no page yet.
 
+use crate::answer::Answer;
 use crate::caches::fetched;
+use crate::printing::twice;
+use crate::tried::Tried;
 use pp_cache::Create;
 use pp_keyed::KeyedCache;
 use pp_names::Names;
-use pp_test_rounds::{Answer, Tried, twice};
 use std::alloc::Global;
 
 /// The greatest key of all.
@@ -12,8 +14,8 @@ const KEY: u32 = 4_294_967_291;
 
 /// Does the case of this call. Then the page of the key is fetched once more, and the name of the key is looked up.
 pub fn case<R: AllocGlobal + Print>(rt: &R, call: &str) -> anyhow::Result<()> {
-    let cache = KeyedCache::new(rt.alloc(), 2)?;
     let mut names = Names::new(rt.alloc(), 1)?;
+    let cache = KeyedCache::new(rt.alloc(), 2)?;
     let name = names.give(KEY);
     let mut naming = Naming {
         alloc: rt.alloc(),
@@ -21,7 +23,11 @@ pub fn case<R: AllocGlobal + Print>(rt: &R, call: &str) -> anyhow::Result<()> {
         cache,
         names,
     };
-    twice(rt, &mut naming)?;
+    tries(rt, &mut naming, name)
+}
+
+fn tries<R: AllocGlobal + Print>(rt: &R, naming: &mut Naming, name: u32) -> anyhow::Result<()> {
+    twice(rt, naming)?;
     println!(rt;
         "{:?}, name {name} is {:?}",
         naming.cache.fetch(rt.alloc(), KEY, Create::Always),

@@ -1,24 +1,33 @@
-//! Makes each call below books and runs that takes memory on a row of its own, and again where memory was refused to it.
+//! Makes each call that takes memory on a row of its own, and again where memory was refused to it.
 //!
 //! Each argument is a case: a call, and behind a slash its row, where there are several. What is printed around the call
-//! pp_test_rounds says.
+//! `printing` says.
 #![tactic(auto)]
 
+mod answer;
+mod books;
 mod caches;
+mod commands;
 mod journals;
 mod judging;
 mod keyed;
 mod making;
 mod playing;
+mod printing;
+mod runs;
 mod samples;
 mod shared;
 mod texts;
+mod tried;
+mod turns;
 mod words;
 
 use std::env;
 use std::fs::File;
 use std::rt::Files;
 use std::sync::Wait;
+use std::thread::Threads;
+use std::time::Clock;
 
 /// Does the cases of the command line, in their order.
 fn main(rt: HostRuntime) -> anyhow::Result<()> {
@@ -30,10 +39,18 @@ fn main(rt: HostRuntime) -> anyhow::Result<()> {
 }
 
 /// Does a case.
-fn case<R: Files<File = File> + AllocGlobal + Print + Wait + Copy + Drop>(
-    rt: &R,
-    word: &str,
-) -> anyhow::Result<()> {
+fn case<
+    R: Files<File = File>
+        + AllocGlobal
+        + Print
+        + Threads
+        + Wait
+        + Clock
+        + Sync
+        + Copy
+        + Send
+        + Drop,
+>(rt: &R, word: &str) -> anyhow::Result<()> {
     let (call, row) = word.split_once("/").unwrap_or((word, ""));
     let (library, call) = call.split_once("::").unwrap_or(("", call));
     match library {
@@ -58,6 +75,9 @@ fn case<R: Files<File = File> + AllocGlobal + Print + Wait + Copy + Drop>(
         "pp_journal" | "pp_report" => journals::case(rt, call),
         "pp_judge" => judging::case(rt, call, row),
         "pp_words" => words::case(rt, row),
+        "pp_pool" => books::case(rt, call),
+        "pp_run" => runs::case(rt, call),
+        "pp_run_command" => commands::case(rt, call),
         _ => anyhow::bail!("there is no such library"),
     }
 }

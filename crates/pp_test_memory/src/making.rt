@@ -1,11 +1,14 @@
 //! The calls that make a directory, a search, marks, stacks of pages, names, two caches, a core, an outset, a device and a vault, and
 //! a run of a core.
 
+use crate::answer::Answer;
+use crate::printing::twice;
 use crate::samples::MOVES;
+use crate::tried::Tried;
 use pp_arc::{Directory, List, Search};
 use pp_bundles::Bundles;
 use pp_cache::Cache;
-use pp_core::Core;
+use pp_core::{Accepted, Core};
 use pp_device::{Device, SoloDevice};
 use pp_frames::Marks;
 use pp_keyed::KeyedCache;
@@ -15,7 +18,6 @@ use pp_outset::Outset;
 use pp_settings::Settings;
 use pp_test_plain::accepted;
 use pp_test_plain::samples::{SETTINGS, TOUCH};
-use pp_test_rounds::{Answer, Tried, twice};
 use pp_vault::Vault;
 use std::alloc::Global;
 
@@ -179,7 +181,13 @@ impl Tried for Set<'_> {
 
 fn core_of(alloc: Global, settings: &Settings) -> Answer {
     match Core::new(alloc, settings) {
-        Ok(made) => Answer::One("budget", made.budget()),
+        Ok(core) => {
+            let made = Moving {
+                core,
+                replies: Vec::new(alloc),
+            };
+            Answer::One("budget", made.core.budget())
+        }
         Err(error) => Answer::Refused(error.refusal()),
     }
 }
@@ -210,10 +218,18 @@ fn vault(alloc: Global, settings: &Settings) -> Answer {
 }
 
 /// A core that is to do some moves, and the replies that it adds to.
-#[derive(Drop)]
 struct Moving {
     core: Core,
     replies: Vec<Reply>,
+}
+
+impl Drop for Moving {
+    fn drop(self) {
+        let Moving {
+            core: _,
+            replies: _,
+        } = self;
+    }
 }
 
 impl Tried for Moving {
@@ -245,12 +261,20 @@ impl Moving {
 /// A core does the moves of a plan.
 fn runs<R: AllocGlobal + Print>(rt: &R, settings: &Settings) -> anyhow::Result<()> {
     let plan = accepted(rt.alloc(), settings, TOUCH)?;
-    let mut core = Core::new(rt.alloc(), settings)?;
-    let queued = core.submit(plan).is_ok();
-    let mut replies = Vec::new(rt.alloc());
-    replies.push(Reply::Did)?;
+    let replies = [Reply::Did].to_vec(rt.alloc())?;
+    let core = Core::new(rt.alloc(), settings)?;
     let mut moving = Moving { core, replies };
-    twice(rt, &mut moving)?;
+    moves(rt, &mut moving, plan)
+}
+
+/// It does them, and its replies are printed.
+fn moves<R: AllocGlobal + Print>(
+    rt: &R,
+    moving: &mut Moving,
+    plan: Accepted,
+) -> anyhow::Result<()> {
+    let queued = moving.core.submit(plan).is_ok();
+    twice(rt, moving)?;
     println!(rt; "queued {queued}, replies {:?}", moving.replies)?;
     Ok(())
 }

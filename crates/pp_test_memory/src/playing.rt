@@ -1,6 +1,9 @@
 //! The calls that play a script.
 
+use crate::answer::Answer;
+use crate::printing::twice;
 use crate::samples::SCRIPT;
+use crate::tried::Tried;
 use pp_device::SoloDevice;
 use pp_play::{Line, play};
 use pp_script::{Cue, Script};
@@ -8,7 +11,6 @@ use pp_settings::Settings;
 use pp_simulate::simulate;
 use pp_test_plain::samples::{SETTINGS, WRITE};
 use pp_test_plain::{accepted, all_accepted};
-use pp_test_rounds::{Answer, Tried, twice};
 use pp_vault::{Accepted, Hands, Vault};
 use std::alloc::Global;
 

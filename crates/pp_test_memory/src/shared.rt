@@ -1,8 +1,10 @@
 //! The calls that make the ends of a device.
 
+use crate::answer::Answer;
+use crate::printing::twice;
+use crate::tried::Tried;
 use pp_device::Device;
 use pp_shared::SharedDevice;
-use pp_test_rounds::{Answer, Tried, twice};
 use std::fs;
 use std::fs::File;
 use std::rt::Files;

@@ -3,17 +3,19 @@
 ghost use Rattle.std.specs.Prelude.{◌≡◌};
 ghost use Rattle.pp_settings.specs.Settings.{geometry_of};
 
+use crate::answer::Answer;
+use crate::printing::{begin, end, twice};
 use crate::samples::{
     BRANCHES, BUNDLE, BUNDLE_NOTES, CUT_OFF, EVERY, MIXED, NO_CUE, NO_FRAMES, OTHER_NOTES,
     PAGE_NOTES, PIN, PIN_NOTES, SCRIPT,
 };
+use crate::tried::Tried;
 use pp_annotate::{AnnotateError, annotate};
 use pp_cert::{CertError, Certificate};
 use pp_plan::{Plan, PlanError};
 use pp_script::Script;
 use pp_settings::Settings;
 use pp_test_plain::samples::{NOTHING, SETTINGS};
-use pp_test_rounds::{Answer, Tried, begin, end, twice};
 use std::alloc::Global;
 
 /// Does the case of this call and this row.

@@ -1,6 +1,7 @@
 //! The call that reads the program's words.
 
-use pp_test_rounds::{Told, Tried, twice};
+use crate::printing::twice;
+use crate::tried::{Told, Tried};
 use pp_words::{Job, JobError, job};
 use std::alloc::Global;
 use std::fmt;

@@ -41,11 +41,20 @@ fn eight_pages(alloc: Global, flushes: u32) -> anyhow::Result<Settings> {
 }
 
 /// A core and the plain pool, and how many plans this life has.
-#[derive(Drop)]
 struct Pools {
     core: Core,
     plain: Plain<'static>,
     plans: u32,
+}
+
+impl Drop for Pools {
+    fn drop(self) {
+        let Pools {
+            core: _,
+            plain: _,
+            plans: _,
+        } = self;
+    }
 }
 
 /// How many plans the next life has: a few, or as many as a life takes.
@@ -153,8 +162,8 @@ fn count_way(tally: &mut Tally, way: usize) {
 impl Pools {
     /// New pools.
     fn new(alloc: Global, settings: &Settings, chance: &mut Chance) -> anyhow::Result<Pools> {
-        let core = Core::new(alloc, settings)?;
         let plain = Plain::new(alloc, settings)?;
+        let core = Core::new(alloc, settings)?;
         let plans = plans_of_a_life(chance);
         Ok(Pools { core, plain, plans })
     }
@@ -222,6 +231,26 @@ impl Pools {
         Ok(1)
     }
 
+    /// Makes moves in life after life.
+    fn walk(
+        &mut self,
+        alloc: Global,
+        settings: &Settings,
+        chance: &mut Chance,
+        tally: &mut Tally,
+        made: &mut u32,
+    ) -> anyhow::Result<()> {
+        for _ in 0..4 * MOVES {
+            if *made >= MOVES || self.live(chance, tally)? {
+                break;
+            }
+            self.fill(alloc, settings, chance)?;
+            *made = made.saturating_add(self.step(chance, tally)?);
+            self.see_slots()?;
+        }
+        Ok(())
+    }
+
     /// Sees that each slot has what it has plainly, also where there is no such worker or slot.
     fn see_slots(&self) -> anyhow::Result<()> {
         for worker in 0..4 {
@@ -244,21 +273,26 @@ impl Pools {
 /// Makes all moves, in life after life, on one pool after another, and tells how many they are.
 fn walk(alloc: Global, settings: &Settings, tally: &mut Tally) -> anyhow::Result<u32> {
     let mut chance = Chance::new();
-    let mut pools = Pools::new(alloc, settings, &mut chance)?;
     let mut made: u32 = 0;
-    for _ in 0..4 * MOVES {
+    for _ in 0..MOVES {
         if made >= MOVES {
             break;
         }
-        if pools.live(&mut chance, tally)? {
-            pools = Pools::new(alloc, settings, &mut chance)?;
-        } else {
-            pools.fill(alloc, settings, &mut chance)?;
-            made = made.saturating_add(pools.step(&mut chance, tally)?);
-            pools.see_slots()?;
-        }
+        walk_on_new(alloc, settings, &mut chance, tally, &mut made)?;
     }
     Ok(made)
+}
+
+/// Makes moves on new pools, until others are to be made in their place, or all moves are made.
+fn walk_on_new(
+    alloc: Global,
+    settings: &Settings,
+    chance: &mut Chance,
+    tally: &mut Tally,
+    made: &mut u32,
+) -> anyhow::Result<()> {
+    let mut pools = Pools::new(alloc, settings, chance)?;
+    pools.walk(alloc, settings, chance, tally, made)
 }
 
 /// Drives the cores to their end.

@@ -23,9 +23,24 @@ const EITHER: &str =
 {\"unfix\":\"a\"},{\"choice\":[[],[{\"fix\":\"b\",\"region\":\"leaf\"},{\"fix\":\"c\",\"region\":\"leaf\"},\
 {\"unfix\":\"b\"},{\"unfix\":\"c\"}]]}],\"version\":1}";
 
-/// A new core in which plans wait.
-fn filled(alloc: Global, settings: &Settings, chance: &mut Chance) -> anyhow::Result<Core> {
-    let mut core = Core::new(alloc, settings)?;
+/// A core that falls by a call.
+struct Owned {
+    core: Core,
+}
+
+impl Drop for Owned {
+    fn drop(self) {
+        let Owned { core: _ } = self;
+    }
+}
+
+/// Plans wait in the core from now on.
+fn fill(
+    alloc: Global,
+    settings: &Settings,
+    core: &mut Core,
+    chance: &mut Chance,
+) -> anyhow::Result<()> {
     for _ in 0..PLANS {
         let text = match chance.below(4) {
             0 => DESCENT,
@@ -37,21 +52,35 @@ fn filled(alloc: Global, settings: &Settings, chance: &mut Chance) -> anyhow::Re
             anyhow::bail!("a plan isn't taken in");
         }
     }
-    Ok(core)
+    Ok(())
 }
 
-/// Drives a core to its end, by `drain` or by a move of each turn, and says whether it ends as it should.
+/// Drives a new core to its end, by `drain` or by a move of each turn, and says whether it ends as it should.
 pub fn drive(
     alloc: Global,
     settings: &Settings,
     chance: &mut Chance,
     by_drain: bool,
 ) -> anyhow::Result<bool> {
-    let mut core = filled(alloc, settings, chance)?;
+    let mut owned = Owned {
+        core: Core::new(alloc, settings)?,
+    };
+    drive_filled(alloc, settings, &mut owned.core, chance, by_drain)
+}
+
+/// The same of this core, which has done nothing yet.
+fn drive_filled(
+    alloc: Global,
+    settings: &Settings,
+    core: &mut Core,
+    chance: &mut Chance,
+    by_drain: bool,
+) -> anyhow::Result<bool> {
+    fill(alloc, settings, core, chance)?;
     Ok(if by_drain {
-        drain_to_the_end(&mut core, chance)
+        drain_to_the_end(core, chance)
     } else {
-        step_to_the_end(&mut core, chance) == Some(PLANS)
+        step_to_the_end(core, chance) == Some(PLANS)
     })
 }
 

@@ -45,7 +45,6 @@ pub struct Holding {
 }
 
 /// The pool.
-#[derive(Drop)]
 pub struct Plain<'a> {
     pub frames: u32,
     /// How many workers and how many pages there are.
@@ -64,6 +63,26 @@ pub struct Plain<'a> {
     /// How many flushes a life begins at most, and how many of them are left.
     pub flushes: u32,
     pub flushes_left: u32,
+}
+
+impl Drop for Plain<'_> {
+    fn drop(self) {
+        let Plain {
+            frames: _,
+            crew: _,
+            size: _,
+            regions: _,
+            pages: _,
+            workers: _,
+            holdings: _,
+            plans: _,
+            taken: _,
+            lists: _,
+            flush: _,
+            flushes: _,
+            flushes_left: _,
+        } = self;
+    }
 }
 
 /// The pages of each region.

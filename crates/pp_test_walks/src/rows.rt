@@ -40,11 +40,20 @@ const FILES: [&str; 7] = [
 ];
 
 /// A core, the settings under which plans are accepted, and the plan that came back last.
-#[derive(Drop)]
 struct Pool {
     settings: Settings,
     core: Core,
     back: Option<Accepted>,
+}
+
+impl Drop for Pool {
+    fn drop(self) {
+        let Pool {
+            settings: _,
+            core: _,
+            back: _,
+        } = self;
+    }
 }
 
 impl Pool {
@@ -97,8 +106,14 @@ impl Pool {
         file: &str,
         row: &str,
     ) -> anyhow::Result<String> {
-        self.settings = settings_in(rt, file)?;
-        self.core = Core::new(rt.alloc(), &self.settings)?;
+        let settings = settings_in(rt, file)?;
+        let core = Core::new(rt.alloc(), &settings)?;
+        let back = self.back.take();
+        *self = Pool {
+            settings,
+            core,
+            back,
+        };
         kept(rt.alloc(), row)
     }
 
@@ -267,8 +282,12 @@ fn print_file<R: Files + Print + AllocGlobal>(
 /// Does the rows in their order, and prints each.
 pub fn print_all<R: Files + Print + AllocGlobal>(rt: &R) -> anyhow::Result<()> {
     let mut pool = Pool::new(rt.alloc())?;
+    print_files(rt, &mut pool)
+}
+
+fn print_files<R: Files + Print + AllocGlobal>(rt: &R, pool: &mut Pool) -> anyhow::Result<()> {
     for file in FILES {
-        print_file(rt, &mut pool, file)?;
+        print_file(rt, pool, file)?;
     }
     Ok(())
 }

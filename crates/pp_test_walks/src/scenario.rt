@@ -11,7 +11,6 @@ use std::alloc::{AllocError, Global};
 use std::rt::Files;
 
 /// A script, its settings, its plans, and behind these a plan for each region that reads one page.
-#[derive(Drop)]
 pub struct Scenario {
     pub settings: Settings,
     pub cues: Vec<Cue>,
@@ -20,6 +19,19 @@ pub struct Scenario {
     pub plans: usize,
     texts: Vec<String>,
     pub shapes: Vec<Shape>,
+}
+
+impl Drop for Scenario {
+    fn drop(self) {
+        let Scenario {
+            settings: _,
+            cues: _,
+            troubles: _,
+            plans: _,
+            texts: _,
+            shapes: _,
+        } = self;
+    }
 }
 
 /// The settings of the file.

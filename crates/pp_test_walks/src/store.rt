@@ -45,7 +45,6 @@ pub struct Call {
 }
 
 /// The pool, the bytes of each page, and the device's troubles and calls.
-#[derive(Drop)]
 pub struct Store<'a> {
     pub plain: Plain<'a>,
     pub bytes: Vec<Bytes>,
@@ -53,6 +52,18 @@ pub struct Store<'a> {
     flushed: u8,
     pub troubles: Vec<(u32, Trouble)>,
     pub calls: Vec<Call>,
+}
+
+impl Drop for Store<'_> {
+    fn drop(self) {
+        let Store {
+            plain: _,
+            bytes: _,
+            flushed: _,
+            troubles: _,
+            calls: _,
+        } = self;
+    }
 }
 
 impl<'a> Store<'a> {

@@ -26,10 +26,6 @@ impl<'a> AnnotatePaths<'a> {
         ensures { IfOk result (λ command. ((out-Command command).has_globals ≡ false)
             × (app_of command ≡ annotate_command)) }
     {
-        let output = output(
-            alloc,
-            "Writes the certificate to this file, and only where the plan isn't refused",
-        );
         let command = Command::new(alloc, "annotate")
             .after_help(
                 "Example: pinpool annotate -o pin.cert.json examples/set1.toml examples/pin.json\n\
@@ -44,7 +40,10 @@ impl<'a> AnnotatePaths<'a> {
             )
             .arg(settings(alloc))?
             .arg(plan(alloc))?
-            .arg(output)?;
+            .arg(output(
+                alloc,
+                "Writes the certificate to this file, and only where the plan isn't refused",
+            ))?;
         Ok(command)
     }
 

@@ -28,11 +28,6 @@ impl<'a> AuditPaths<'a> {
         ensures { IfOk result (λ command. ((out-Command command).has_globals ≡ false)
             × (app_of command ≡ audit_command)) }
     {
-        let lives = flag(
-            alloc,
-            "lives",
-            "The journal is those of several lives, with the line `renew = renewed` between two",
-        );
         let command = Command::new(alloc, "audit")
             .after_help(
                 "Example: pinpool audit examples/set1.toml set1.journal examples/pin.json\n\
@@ -48,7 +43,11 @@ impl<'a> AuditPaths<'a> {
             .arg(settings(alloc))?
             .arg(journal(alloc))?
             .arg(plans_of_journal(alloc))?
-            .arg(lives)?;
+            .arg(flag(
+                alloc,
+                "lives",
+                "The journal is those of several lives, with the line `renew = renewed` between two",
+            ))?;
         Ok(command)
     }
 

@@ -26,12 +26,6 @@ impl<'a> CheckPaths<'a> {
         ensures { IfOk result (λ command. ((out-Command command).has_globals ≡ false)
             × (app_of command ≡ check_command)) }
     {
-        let certificate = path(
-            alloc,
-            "certificate",
-            "CERT",
-            "The certificate of the plan, what is held at each of its places: a JSON text",
-        );
         Command::new(alloc, "check")
             .after_help(
                 "Example: pinpool check examples/set1.toml examples/pin.json examples/pin.cert.json\n\
@@ -44,7 +38,12 @@ impl<'a> CheckPaths<'a> {
             .about("Checks the certificate of a plan under the settings of a pool.")
             .arg(settings(alloc))?
             .arg(plan(alloc))?
-            .arg(certificate)
+            .arg(path(
+                alloc,
+                "certificate",
+                "CERT",
+                "The certificate of the plan, what is held at each of its places: a JSON text",
+            ))
     }
 
     /// The paths among the matches of the command.

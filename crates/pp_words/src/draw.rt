@@ -28,10 +28,6 @@ impl<'a> DrawPaths<'a> {
         ensures { IfOk result (λ command. ((out-Command command).has_globals ≡ false)
             × (app_of command ≡ draw_command)) }
     {
-        let output = output(
-            alloc,
-            "Writes the picture to this file, and only where the journal isn't refused",
-        );
         let command = Command::new(alloc, "draw")
             .after_help(
                 "Example: pinpool draw -o touch.svg examples/set1.toml examples/touch.journal examples/touch.json\n\
@@ -45,7 +41,10 @@ impl<'a> DrawPaths<'a> {
             .arg(settings(alloc))?
             .arg(journal(alloc))?
             .arg(plans_of_journal(alloc))?
-            .arg(output)?;
+            .arg(output(
+                alloc,
+                "Writes the picture to this file, and only where the journal isn't refused",
+            ))?;
         Ok(command)
     }
 

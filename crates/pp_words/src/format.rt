@@ -24,12 +24,6 @@ impl<'a> FormatPaths<'a> {
         ensures { IfOk result (λ command. ((out-Command command).has_globals ≡ false)
             × (app_of command ≡ format_command)) }
     {
-        let device = path(
-            alloc,
-            "device",
-            "DEVICE",
-            "The device, a file of page images: what stands in it is lost",
-        );
         Command::new(alloc, "format")
             .after_help(
                 "Example: pinpool format examples/set1.toml set1.device\n\
@@ -41,7 +35,12 @@ impl<'a> FormatPaths<'a> {
             )
             .about("Writes a device anew, with every page of the settings blank.")
             .arg(settings(alloc))?
-            .arg(device)
+            .arg(path(
+                alloc,
+                "device",
+                "DEVICE",
+                "The device, a file of page images: what stands in it is lost",
+            ))
     }
 
     /// The paths among the matches of the command.

@@ -34,30 +34,6 @@ impl<'a> RunPaths<'a> {
         ensures { IfOk result (λ command. ((out-Command command).has_globals ≡ false)
             × (app_of command ≡ run_command)) }
     {
-        let journal = option(
-            alloc,
-            "journal",
-            "FILE",
-            "Writes the journal, all that was done, to this file",
-        );
-        let trace = option(
-            alloc,
-            "trace",
-            "FILE",
-            "The pages and branches that workers choose, a line `WORKER NUMBER` for each: a text",
-        );
-        let device = path(
-            alloc,
-            "device",
-            "DEVICE",
-            "The device, a file of page images, as `pinpool format` writes one",
-        );
-        let seed = number(
-            alloc,
-            "seed",
-            "SEED",
-            "Where the choices begin that plans leave open: 0 to 4294967295",
-        );
         let command = Command::new(alloc, "run")
             .after_help(
                 "Example: pinpool run --journal set1.journal examples/set1.toml set1.device 0 examples/pin.json\n\
@@ -69,12 +45,32 @@ impl<'a> RunPaths<'a> {
                 Read on: docs/formats.md, Runs and Reports.",
             )
             .about("Runs plans on threads over a device, and prints a report.")
-            .arg(journal)?
+            .arg(option(
+                alloc,
+                "journal",
+                "FILE",
+                "Writes the journal, all that was done, to this file",
+            ))?
             .arg(settings(alloc))?
-            .arg(device)?
-            .arg(seed)?
+            .arg(path(
+                alloc,
+                "device",
+                "DEVICE",
+                "The device, a file of page images, as `pinpool format` writes one",
+            ))?
+            .arg(number(
+                alloc,
+                "seed",
+                "SEED",
+                "Where the choices begin that plans leave open: 0 to 4294967295",
+            ))?
             .arg(plans_to_run(alloc))?
-            .arg(trace)?;
+            .arg(option(
+                alloc,
+                "trace",
+                "FILE",
+                "The pages and branches that workers choose, a line `WORKER NUMBER` for each: a text",
+            ))?;
         Ok(command)
     }
 

@@ -26,12 +26,6 @@ impl<'a> SimulatePaths<'a> {
         ensures { IfOk result (λ command. ((out-Command command).has_globals ≡ false)
             × (app_of command ≡ simulate_command)) }
     {
-        let script = path(
-            alloc,
-            "script",
-            "SCRIPT",
-            "The script, a cue on each line: a text",
-        );
         Command::new(alloc, "simulate")
             .after_help(
                 "Example: pinpool simulate examples/set1.toml examples/no-room.script examples/two.json examples/two.json\n\
@@ -45,7 +39,12 @@ impl<'a> SimulatePaths<'a> {
                 "Plays a script over a pool with these plans, and prints what each cue comes to.",
             )
             .arg(settings(alloc))?
-            .arg(script)?
+            .arg(path(
+                alloc,
+                "script",
+                "SCRIPT",
+                "The script, a cue on each line: a text",
+            ))?
             .arg(plans_to_run(alloc))
     }
 

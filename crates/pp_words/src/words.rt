@@ -55,22 +55,15 @@ pub fn job<'a, S: AsStr>(alloc: Global, words: &'a [S]) -> Result<Job<'a>, JobEr
 fn command<'a>(alloc: Global) -> Result<Command<'a>, AllocError>
     ensures { IfOk result (λ command. app_of command ≡ program) }
 {
-    let check = CheckPaths::command(alloc)?;
-    let annotate = AnnotatePaths::command(alloc)?;
-    let simulate = SimulatePaths::command(alloc)?;
-    let format = FormatPaths::command(alloc)?;
-    let run = RunPaths::command(alloc)?;
-    let audit = AuditPaths::command(alloc)?;
-    let draw = DrawPaths::command(alloc)?;
-    let command = top(alloc)?
-        .subcommand(check)?
-        .subcommand(annotate)?
-        .subcommand(simulate)?
-        .subcommand(format)?
-        .subcommand(run)?
-        .subcommand(audit)?
-        .subcommand(draw)?;
-    Ok(command)
+    let whole = top(alloc)?
+        .subcommand(CheckPaths::command(alloc)?)?
+        .subcommand(AnnotatePaths::command(alloc)?)?
+        .subcommand(SimulatePaths::command(alloc)?)?
+        .subcommand(FormatPaths::command(alloc)?)?
+        .subcommand(RunPaths::command(alloc)?)?
+        .subcommand(AuditPaths::command(alloc)?)?
+        .subcommand(DrawPaths::command(alloc)?)?;
+    Ok(whole)
 }
 
 /// The program's command line without its commands.

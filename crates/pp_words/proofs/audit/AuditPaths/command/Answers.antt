@@ -1,13 +1,15 @@
-use Rattle.std.proofs.Common.{codes, rules}
+use Rattle.std.proofs.Common.{codes}
 use Rattle.clap.specs.Simple.{new_app}
 use Rattle.pp_words.specs.CommandLine.{flag_rule, path_rule, paths_rule}
-use Rattle.pp_words.proofs.Commands.{IsApp, given}
+use Rattle.pp_words.proofs.Commands.{IsApp, given, with_about, with_after_help}
 use Rattle.pp_words.proofs.audit.AuditPaths.command.Goals as goal
 
 pub returns : goal.returns
 returns c =
-    let begun : IsApp c.about.result (new_app (codes "audit")) = (search rules, search rules) in
-    given _ _ _ (flag_rule (codes "lives")) _ c.in_ok-command.ensures c.flag-lives.ensures.rule c.flag-lives.ensures.local
+    let begun : IsApp c.about.result (new_app (codes "audit")) =
+    with_about _ _ _ _ c.about.ensures
+    (with_after_help _ _ _ _ c.after_help.ensures (c.new.ensures.local, c.new.ensures.app)) in
+    given _ _ _ (flag_rule (codes "lives")) _ c.in_ok-command.ensures c.flag.ensures.rule c.flag.ensures.local
     (given _ _ _ (paths_rule (codes "plans")) _ c.in_ok-arg-3.ensures c.plans_of_journal.ensures.rule
     c.plans_of_journal.ensures.local
     (given _ _ _ (path_rule (codes "journal")) _ c.in_ok-arg-2.ensures c.journal.ensures.rule c.journal.ensures.local

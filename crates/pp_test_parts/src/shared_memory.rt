@@ -1,6 +1,7 @@
 //! Ends onto one memory.
 
-use crate::common::{BLANK, BYTES, CHANGED, ends_of_memory, reads, refuses, same, writes};
+use crate::common::same;
+use crate::shared::{BLANK, BYTES, CHANGED, ends_of_memory, reads, refuses, writes};
 use pp_shared::SharedDevice;
 use std::test::*;
 

@@ -3,13 +3,14 @@
 ghost use Rattle.std.specs.Prelude.{◌≡◌, true, None, Some};
 ghost use Rattle.pp_vault.specs.Stages.{stage_worker, is_free_for};
 
+use crate::answer::Answer;
+use crate::tried::{Told, Tried};
 use pp_device::SoloDevice;
 use pp_pool::{Book, Flusher, OwnSite, Turned, Worker};
 use pp_run_command::Rounds;
 use pp_settings::Settings;
 use pp_test_plain::accepted;
 use pp_test_plain::samples::WRITE;
-use pp_test_rounds::{Answer, Told, Tried};
 use pp_vault::{Flushing, Hand, Hands};
 use std::alloc::Global;
 use std::fmt;

@@ -1,4 +1,10 @@
 //! The rounds of a call, and what is printed around each.
+//!
+//! What a round prints begins with a line `call` and goes on with a line `answer`, between which nothing takes memory but
+//! the call; then comes what was answered. A line above `call` says how the values stand that the call is lent. Where the
+//! call was refused, it is made again, on the same values if they came back.
+//!
+//! `.ci/memory` runs the program, and refuses each allocation between `call` and `answer` in turn.
 
 use crate::tried::{Told, Tried};
 use std::io;

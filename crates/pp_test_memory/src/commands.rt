@@ -1,12 +1,15 @@
 //! The calls of the command that runs plans, and what it tells of a run.
 
+use crate::answer::Answer;
+use crate::judging::bytes_of;
+use crate::printing::{begin, end, twice};
+use crate::tried::Tried;
 use pp_judge::{RunReport, Workload};
 use pp_model::{Came, Ending, Event, Move, Reply};
 use pp_report::{Journal, RunRecord};
 use pp_run::RunError;
 use pp_run_command::{Choices, progress_line, run, stopped_line, told};
 use pp_test_plain::samples::{SETTINGS, TOUCH, WRITE};
-use pp_test_rounds::{Answer, Tried, begin, end, twice};
 use std::alloc::{AllocError, Global};
 use std::fs::File;
 use std::rt::Files;
@@ -159,15 +162,4 @@ fn runs<
         }
     }
     Ok(())
-}
-
-/// The bytes of these texts.
-fn bytes_of(alloc: Global, texts: &[&str]) -> anyhow::Result<Vec<Vec<u8>>> {
-    let mut all = Vec::new(alloc);
-    for text in texts {
-        let mut bytes = Vec::new(alloc);
-        bytes.extend_from_slice(text.as_bytes())?;
-        all.push(bytes)?;
-    }
-    Ok(all)
 }

@@ -1,13 +1,13 @@
 //! Ends onto one file.
 
-use crate::common::{
-    BLANK, BYTES, CHANGED, ends_of_file, ends_with, fails, holds, path_of, reads, refuses, same,
+use crate::common::{is_printed, same};
+use crate::shared::{
+    BLANK, BYTES, CHANGED, ends_of_file, ends_with, fails, holds, path_of, reads, refuses,
     write_file, writes,
 };
 use pp_device::Fault;
 use pp_format::{Nobody, format_onto};
 use pp_shared::{OpenError, SharedDevice};
-use std::alloc::AllocError;
 use std::fs;
 use std::fs::File;
 use std::io::{BufWriter, Write};
@@ -124,13 +124,12 @@ fn what_is_no_file_is_not_opened(rt: HostRuntime) {
 }
 
 #[test]
-fn errors_are_told_to_people(rt: HostRuntime) -> Result<(), AllocError> {
+fn errors_are_told_to_people(rt: HostRuntime) -> Result<(), Fail> {
     for (error, want) in [
         (OpenError::Fault(Fault::Read), "the page was not read"),
         (OpenError::OutOfMemory, "out of memory"),
     ] {
-        let got = format!(in rt.alloc(); "{error}")?;
-        same(&rt, got.as_str(), want);
+        is_printed(&rt, rt.alloc(), error, want)?;
     }
     Ok(())
 }

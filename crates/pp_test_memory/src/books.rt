@@ -1,12 +1,14 @@
 //! The calls of a book, and the turns of a worker and of the flusher.
 
+use crate::answer::Answer;
+use crate::printing::{rounds, silently, twice};
+use crate::tried::Tried;
 use crate::turns::{Working, Writing};
 use pp_cert::Accepted;
 use pp_pool::{Book, Flusher, Journal, OwnSite};
 use pp_settings::Settings;
 use pp_test_plain::accepted;
 use pp_test_plain::samples::{SETTINGS, WRITE};
-use pp_test_rounds::{Answer, Tried, rounds, silently, twice};
 use std::alloc::Global;
 
 /// More turns than any of the cases has.

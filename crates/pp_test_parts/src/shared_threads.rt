@@ -1,6 +1,6 @@
 //! Ends on threads of their own.
 
-use crate::common::{path_of, two_of, watch, write_file};
+use crate::shared::{path_of, two_of, watch, write_file};
 use pp_device::{Device, image};
 use pp_shared::SharedDevice;
 use std::alloc::{AllocError, Global};

@@ -1,9 +1,10 @@
-//! What the tests share: images, how answers are compared, and files of a test's own.
+//! What the tests of shared devices have in common: images, calls as one makes them who knows a device by its trait, and files of a
+//! test's own.
 
+use crate::common::same;
 use pp_device::{Device, Fault};
 use pp_shared::SharedDevice;
 use std::env::Env;
-use std::fmt::Debug;
 use std::fs::File;
 use std::process::{Abort, Process};
 use std::rt::Files;
@@ -21,14 +22,7 @@ pub const CHANGED: [u8; BYTES] = [0, 0, 0, 1, 0, 0, 0, 0, 0, 0, 0, 6, 21, 22, 23
 /// Page 1 as nothing was written to it.
 pub const BLANK: [u8; BYTES] = [0, 0, 0, 1, 0, 0, 0, 0, 0, 0, 0, 0, 0, 0, 0, 0];
 
-// ---- answers compared
-
-/// Compares two answers. Where they differ, the test fails and tells both.
-pub fn same<T: Copy + PartialEq + Debug>(rt: &impl Abort, got: T, want: T) {
-    assert!(rt; got == want, "got {got:?}, wanted {want:?}");
-}
-
-// ---- each call, as one who knows a device by its trait makes it
+// ---- each call
 
 /// The page is read, and has this image.
 pub fn reads(rt: &impl Abort, device: &mut impl Device, page: u32, want: &[u8]) {

@@ -2,6 +2,8 @@
 
 ghost use Rattle.std.specs.Prelude.{◌≡◌, ◌+◌, vec_len};
 
+use crate::answer::Answer;
+use crate::printing::{begin, end};
 use pp_cert::Accepted;
 use pp_report::RunRecord;
 use pp_run::{Pool, RestedPool, RunError, Stalled, Unbegun, Unrun};
@@ -10,7 +12,6 @@ use pp_settings::Settings;
 use pp_shared::SharedDevice;
 use pp_test_plain::all_accepted;
 use pp_test_plain::samples::{SETTINGS, TOUCH, WRITE};
-use pp_test_rounds::{Answer, begin, end};
 use std::alloc::{AllocError, Global};
 use std::fs::File;
 use std::rt::Files;
