@@ -84,17 +84,6 @@ pub(crate) fn check_said(
     Ok(Said::of(format!(in alloc; "{error}")?))
 }
 
-/// What is said of a place.
-#[derive(Drop)]
-struct Lies {
-    /// What is held there.
-    held: String,
-    /// Where it lies.
-    lies: String,
-    /// That this is so in the last turn, where it stands in a loop in which a bundle grows.
-    turn: &'static str,
-}
-
 impl Matter<'_> {
     /// What is said of the certificate.
     fn said(&self, alloc: Global, error: CheckError) -> Result<Said, AllocError> {
@@ -111,20 +100,27 @@ impl Matter<'_> {
         }
     }
 
-    /// What is held at the place, and where the place lies.
-    fn place(&self, alloc: Global, place: u32) -> Result<Lies, AllocError> {
+    /// What is held at the place.
+    fn held(&self, alloc: Global, place: u32) -> Result<String, AllocError> {
         match place_of(alloc, self.plan, place)? {
-            Some(found) => {
-                let held = held_text(alloc, self.settings, self.plan, &found)?;
-                let lies = place_text(alloc, self.bytes, &found)?;
-                let turn = turn_text(found.grows);
-                Ok(Lies { held, lies, turn })
-            }
-            None => Ok(Lies {
-                held: String::new(alloc),
-                lies: String::new(alloc),
-                turn: "",
-            }),
+            Some(found) => held_text(alloc, self.settings, self.plan, &found),
+            None => Ok(String::new(alloc)),
+        }
+    }
+
+    /// Where the place lies.
+    fn lies(&self, alloc: Global, place: u32) -> Result<String, AllocError> {
+        match place_of(alloc, self.plan, place)? {
+            Some(found) => place_text(alloc, self.bytes, &found),
+            None => Ok(String::new(alloc)),
+        }
+    }
+
+    /// Whether the place stands in a loop in which a bundle grows.
+    fn grows(&self, alloc: Global, place: u32) -> Result<bool, AllocError> {
+        match place_of(alloc, self.plan, place)? {
+            Some(found) => Ok(found.grows),
+            None => Ok(false),
         }
     }
 
@@ -144,14 +140,20 @@ impl Matter<'_> {
 
     /// A note is missing.
     fn short(&self, alloc: Global, place: u32) -> Result<Said, AllocError> {
-        let Lies { held, lies, .. } = self.place(alloc, place)?;
+        let lies = self.lies(alloc, place)?;
+        let rest = self.short_of(alloc, place)?;
+        let what = format!(in alloc; "note {place} is missing, {lies}: {rest}")?;
+        said_at(alloc, self.text, &[Step::Key("notes")], what)
+    }
+
+    /// How many notes there are of how many, and what is held at the place without one.
+    fn short_of(&self, alloc: Global, place: u32) -> Result<String, AllocError> {
+        let held = self.held(alloc, place)?;
         let places = places_of(alloc, self.plan)?;
         let notes = self.certificate.notes.len();
-        let what = format!(in alloc;
-            "note {place} is missing, {lies}: the certificate has notes for {notes} of the plan's {places} places; \
-            {held}"
-        )?;
-        said_at(alloc, self.text, &[Step::Key("notes")], what)
+        format!(in alloc;
+            "the certificate has notes for {notes} of the plan's {places} places; {held}"
+        )
     }
 
     /// A note is left over.
@@ -170,10 +172,17 @@ impl Matter<'_> {
             let why = "which doesn't follow from the notes before it";
             return self.differs_behind(alloc, place, why, other);
         }
-        let Lies { held, lies, .. } = self.place(alloc, place)?;
-        let note = self.note(alloc, place)?;
-        let what = format!(in alloc; "note {place}, {lies}: it is {note}, and {held}")?;
+        let noted = self.noted(alloc, place)?;
+        let held = self.held(alloc, place)?;
+        let what = format!(in alloc; "{noted}, and {held}")?;
         self.said_of_note(alloc, place, what)
+    }
+
+    /// Where the place lies, and the note there.
+    fn noted(&self, alloc: Global, place: u32) -> Result<String, AllocError> {
+        let lies = self.lies(alloc, place)?;
+        let note = self.note(alloc, place)?;
+        format!(in alloc; "note {place}, {lies}: it is {note}")
     }
 
     /// The bounds of bundles at the end of a loop's body aren't those that its turns come to.
@@ -196,30 +205,41 @@ impl Matter<'_> {
         why: &str,
         other: u32,
     ) -> Result<Said, AllocError> {
-        let lies = self.place(alloc, place)?.lies;
-        let held = self.place(alloc, other)?.held;
-        let note = self.note(alloc, place)?;
-        let first = self.note(alloc, other)?;
+        let noted = self.noted(alloc, place)?;
+        let first = self.first_wrong(alloc, other)?;
         let what = format!(in alloc;
-            "note {place}, {lies}: it is {note}, {why}; of these note {other} is {first}, and {held}: a loop's body has the \
-            notes of its last turn"
+            "{noted}, {why}; of these {first}: a loop's body has the notes of its last turn"
         )?;
         self.said_of_note(alloc, place, what)
     }
 
+    /// The note at the place, and what is held there.
+    fn first_wrong(&self, alloc: Global, place: u32) -> Result<String, AllocError> {
+        let note = self.note(alloc, place)?;
+        let held = self.held(alloc, place)?;
+        format!(in alloc; "note {place} is {note}, and {held}")
+    }
+
     /// A note holds more pages than the peak.
     fn over_peak(&self, alloc: Global, place: u32) -> Result<Said, AllocError> {
-        let Lies { lies, turn, .. } = self.place(alloc, place)?;
+        let lies = self.lies(alloc, place)?;
+        let pins = self.pins_text(alloc, place)?;
+        let peak = self.certificate.peak;
+        let what = format!(in alloc;
+            "note {place}, {lies}: {pins}, and the peak is {peak}: no note holds more pages than the peak"
+        )?;
+        self.said_of_note(alloc, place, what)
+    }
+
+    /// How many pages the note at the place holds.
+    fn pins_text(&self, alloc: Global, place: u32) -> Result<String, AllocError> {
+        let turn = turn_text(self.grows(alloc, place)?);
         let note = self.note(alloc, place)?;
         let pins = match self.certificate.notes.get(place as usize) {
             Some(note) => note.pins(),
             None => 0,
         };
-        let peak = self.certificate.peak;
-        let what = format!(in alloc;
-            "note {place}, {lies}: {note} holds {pins} at once{turn}, and the peak is {peak}: no note holds more pages than the peak"
-        )?;
-        self.said_of_note(alloc, place, what)
+        format!(in alloc; "{note} holds {pins} at once{turn}")
     }
 
     /// The longest trace has more actions than the steps.

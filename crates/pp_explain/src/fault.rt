@@ -118,25 +118,35 @@ impl Matter<'_> {
         let rule = format!(in alloc;
             "the longest trace of the plan has {longest} actions, and a plan has at most {MOST_STEPS}"
         )?;
-        if let Some(
-            Multiplied {
-                number,
-                turns,
-                each,
-                all,
-            },
-        ) = found
-        {
-            if let Some(steps) = steps_to(alloc, self.value, number)? {
-                if let Some(found) = Statement::at(self.text, self.value, number, &steps) {
-                    let what = format!(in alloc;
-                        "its {turns} turns of {each} are {all} actions; {rule}"
-                    )?;
-                    return found.said(alloc, None, &what);
-                }
+        if let Some(found) = found {
+            if let Some(said) = self.multiplied(alloc, found, &rule)? {
+                return Ok(said);
             }
         }
         Ok(Said::of(rule))
+    }
+
+    /// The loop that makes the longest trace too long, and the rule.
+    fn multiplied(
+        &self,
+        alloc: Global,
+        found: Multiplied,
+        rule: &str,
+    ) -> Result<Option<Said>, AllocError> {
+        let Multiplied {
+            number,
+            turns,
+            each,
+            all,
+        } = found;
+        let Some(steps) = steps_to(alloc, self.value, number)? else {
+            return Ok(None);
+        };
+        let Some(statement) = Statement::at(self.text, self.value, number, &steps) else {
+            return Ok(None);
+        };
+        let what = format!(in alloc; "its {turns} turns of {each} are {all} actions; {rule}")?;
+        Ok(Some(statement.said(alloc, None, &what)?))
     }
 
     /// More pages are held at once than there are frames.
@@ -146,27 +156,23 @@ impl Matter<'_> {
             "and frames is {frames}: a plan holds at most the frames of the settings"
         )?;
         match excess_of(alloc, self.plan, frames)? {
-            Some(
-                Excess {
-                    pins,
-                    behind,
-                    place,
-                },
-            ) => {
-                let held = self.note(alloc, &place.held)?;
-                let least = if is_counted_out(&place.held) {
-                    "at least "
-                } else {
-                    ""
-                };
-                let turn = turn_text(place.grows);
-                let what = format!(in alloc;
-                    "with it {least}{pins} pages are held{turn}, {held}, {rule}"
-                )?;
-                self.said_there(alloc, behind, &place, &what)
-            }
+            Some(excess) => self.excess(alloc, &excess, &rule),
             None => Ok(Said::of(format!(in alloc; "more pages are held at once, {rule}")?)),
         }
+    }
+
+    /// What is said of the statement with which too many pages are held, and the rule.
+    fn excess(&self, alloc: Global, excess: &Excess, rule: &str) -> Result<Said, AllocError> {
+        let (pins, place) = (excess.pins, &excess.place);
+        let held = self.note(alloc, &place.held)?;
+        let least = if is_counted_out(&place.held) {
+            "at least "
+        } else {
+            ""
+        };
+        let turn = turn_text(place.grows);
+        let what = format!(in alloc; "with it {least}{pins} pages are held{turn}, {held}, {rule}")?;
+        self.said_there(alloc, excess.behind, place, &what)
     }
 
     /// What is said of the place that the error names.

@@ -99,10 +99,20 @@ impl Played<'_> {
         asked: Asked,
         turn: Option<Turn>,
     ) -> Result<String, AllocError> {
-        let Some(auditor) = self.auditor(alloc)? else {
-            return Ok(String::new(alloc));
-        };
-        let core = auditor.core();
+        match self.auditor(alloc)? {
+            Some(auditor) => self.why_there(alloc, auditor.core(), asked, turn),
+            None => Ok(String::new(alloc)),
+        }
+    }
+
+    /// The same, in the pool that the journal comes to.
+    fn why_there(
+        &self,
+        alloc: Global,
+        core: &Core,
+        asked: Asked,
+        turn: Option<Turn>,
+    ) -> Result<String, AllocError> {
         let why = match asked {
             Asked::Submit { plan } => self.submit_text(alloc, plan)?,
             Asked::Do(did) => self.move_text(alloc, core, did)?,

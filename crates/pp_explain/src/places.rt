@@ -47,13 +47,7 @@ pub(crate) fn place_of(
     plan: &Plan,
     number: u32,
 ) -> Result<Option<Place>, AllocError> {
-    let mut walk = Walk::to(alloc, plan, &[], number);
-    let held = walk.statements(alloc, DEEPEST, Step::Key("body"), &[], plan.body())?;
-    if let Some(held) = held {
-        let number = walk.number;
-        walk.arrive(alloc, Role::End, number, &held, &[])?;
-    }
-    Ok(walk.found)
+    Ok(walked(alloc, plan, &[], number, u32::MAX)?.found)
 }
 
 /// The first place before the one of this number whose note isn't what is held there, if there is one.
@@ -63,16 +57,12 @@ pub(crate) fn other_note(
     notes: &[Note],
     number: u32,
 ) -> Result<Option<u32>, AllocError> {
-    let mut walk = Walk::to(alloc, plan, notes, number);
-    walk.statements(alloc, DEEPEST, Step::Key("body"), &[], plan.body())?;
-    Ok(walk.other)
+    Ok(walked(alloc, plan, notes, number, u32::MAX)?.other)
 }
 
 /// How many places the plan has.
 pub(crate) fn places_of(alloc: Global, plan: &Plan) -> Result<u32, AllocError> {
-    let mut walk = Walk::to(alloc, plan, &[], u32::MAX);
-    walk.statements(alloc, DEEPEST, Step::Key("body"), &[], plan.body())?;
-    Ok(walk.place.saturating_add(1))
+    Ok(walked(alloc, plan, &[], u32::MAX, u32::MAX)?.place)
 }
 
 /// A fix or a gather with which more pages are held than there may be.
@@ -92,10 +82,7 @@ pub(crate) fn excess_of(
     plan: &Plan,
     most: u32,
 ) -> Result<Option<Excess>, AllocError> {
-    let mut walk = Walk::to(alloc, plan, &[], u32::MAX);
-    walk.most = most;
-    walk.statements(alloc, DEEPEST, Step::Key("body"), &[], plan.body())?;
-    Ok(walk.excess)
+    Ok(walked(alloc, plan, &[], u32::MAX, most)?.excess)
 }
 
 /// A walk over a plan that looks for a place.
@@ -121,22 +108,41 @@ struct Walk<'n> {
     found: Option<Place>,
 }
 
-impl<'n> Walk<'n> {
-    /// A walk over the plan, beside these notes, to the place of this number, at its beginning.
-    fn to(alloc: Global, plan: &'n Plan, notes: &'n [Note], wanted: u32) -> Walk<'n> {
-        Walk {
-            plan,
-            wanted,
-            notes,
-            other: None,
-            place: 0,
-            number: 0,
-            steps: Vec::new(alloc),
-            grows: false,
-            most: u32::MAX,
-            excess: None,
-            found: None,
+/// A walk over the plan, beside these notes, that has come to the place of this number, or to the plan's end. So many pages
+/// may be held.
+fn walked<'n>(
+    alloc: Global,
+    plan: &'n Plan,
+    notes: &'n [Note],
+    wanted: u32,
+    most: u32,
+) -> Result<Walk<'n>, AllocError> {
+    let mut walk = Walk {
+        plan,
+        wanted,
+        notes,
+        other: None,
+        place: 0,
+        number: 0,
+        steps: Vec::new(alloc),
+        grows: false,
+        most,
+        excess: None,
+        found: None,
+    };
+    walk.go(alloc)?;
+    Ok(walk)
+}
+
+impl Walk<'_> {
+    /// Walks over the whole plan, up to the place that is wanted.
+    fn go(&mut self, alloc: Global) -> Result<(), AllocError> {
+        let plan = self.plan;
+        let held = self.statements(alloc, DEEPEST, Step::Key("body"), &[], plan.body())?;
+        if let Some(held) = held {
+            self.arrive(alloc, Role::End, self.number, &held, &[])?;
         }
+        Ok(())
     }
 
     /// Whether this is noted at the place where the walk stands. Where no note is left, none differs.

@@ -93,6 +93,21 @@ fn accepted_in(
 impl<'a> Played<'a> {
     /// An audit that has passed the lines before the one that it is played to, where all plans are accepted.
     pub(crate) fn auditor(&self, alloc: Global) -> Result<Option<Auditor>, AllocError> {
+        let Some(plans) = self.accepted(alloc)? else {
+            return Ok(None);
+        };
+        let Ok(mut auditor) = Auditor::new(alloc, self.settings, plans) else {
+            return Err(AllocError);
+        };
+        if self.pass_lines(&mut auditor) {
+            Ok(Some(auditor))
+        } else {
+            Ok(None)
+        }
+    }
+
+    /// The plans with their least certificates, where all have one.
+    fn accepted(&self, alloc: Global) -> Result<Option<Vec<Accepted>>, AllocError> {
         let mut accepted = Vec::new(alloc);
         for plan in self.plans {
             match accepted_in(alloc, self.settings, plan.bytes)? {
@@ -100,20 +115,22 @@ impl<'a> Played<'a> {
                 None => return Ok(None),
             }
         }
-        let Ok(mut auditor) = Auditor::new(alloc, self.settings, accepted) else {
-            return Err(AllocError);
-        };
+        Ok(Some(accepted))
+    }
+
+    /// Has the audit pass the lines before the one that is played to. Whether it passes all of them.
+    fn pass_lines(&self, auditor: &mut Auditor) -> bool {
         let mut number = 0u64;
         for line in self.journal.split(|byte| *byte == b'\n') {
             number = number.saturating_add(1);
             if number >= self.number {
-                return Ok(Some(auditor));
+                return true;
             }
             if !line.is_empty() && auditor.pass_in_lives(number, line).is_err() {
-                return Ok(None);
+                return false;
             }
         }
-        Ok(Some(auditor))
+        true
     }
 
     /// What the lines before that one tell of plans, and of the worker's.

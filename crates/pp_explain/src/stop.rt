@@ -22,30 +22,27 @@ pub(crate) fn stop_said(
     settings: &Settings,
     stop: Stop,
 ) -> Result<Said, AllocError> {
-    let count = settings.workers();
-    Ok(Said::of(match stop {
-        Stop::Mismatch(worker) => {
-            let who = named(alloc, worker, count)?;
-            format!(in alloc;
-                "no file is at fault: what {who} did isn't its part of the journal, so there is no report; \
-                pages of the device may have changed"
-            )?
-        }
-        Stop::Broken(worker) => {
-            let who = named(alloc, worker, count)?;
-            format!(in alloc;
-                "no file is at fault: {who} was broken off or left something undone, so there is no report; \
-                pages of the device may have changed"
-            )?
-        }
-        Stop::NoThread(worker) => {
-            let who = named(alloc, worker, count)?;
-            format!(in alloc;
-                "the system started no thread for {who}, and workers is {count}: a run takes a thread for each worker, and \
-                one for the flusher; with fewer workers it takes fewer"
-            )?
-        }
-    }))
+    Ok(Said::of(stop_text(alloc, settings.workers(), stop)?))
+}
+
+/// The same, of a run with so many workers.
+fn stop_text(alloc: Global, count: u32, stop: Stop) -> Result<String, AllocError> {
+    let (Stop::Mismatch(worker) | Stop::Broken(worker) | Stop::NoThread(worker)) = stop;
+    let who = named(alloc, worker, count)?;
+    match stop {
+        Stop::Mismatch(_) => format!(in alloc;
+            "no file is at fault: what {who} did isn't its part of the journal, so there is no report; \
+            pages of the device may have changed"
+        ),
+        Stop::Broken(_) => format!(in alloc;
+            "no file is at fault: {who} was broken off or left something undone, so there is no report; \
+            pages of the device may have changed"
+        ),
+        Stop::NoThread(_) => format!(in alloc;
+            "the system started no thread for {who}, and workers is {count}: a run takes a thread for each worker, and \
+            one for the flusher; with fewer workers it takes fewer"
+        ),
+    }
 }
 
 /// The worker with this number among so many, or the flusher.

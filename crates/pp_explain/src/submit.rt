@@ -47,10 +47,9 @@ fn too_long(
     let flushes = u64::from(settings.flushes()) * 2;
     let mut before = 0u64;
     for (number, plan) in plans.iter().enumerate() {
-        let Some(certificate) = certificate_of(alloc, settings, plan.bytes)? else {
+        let Some(cost) = cost_in(alloc, settings, plan.bytes)? else {
             return Ok(None);
         };
-        let cost = cost_of(certificate.steps);
         if before.saturating_add(cost).saturating_add(flushes) > MOST_EVENTS {
             let text = format!(in alloc;
                 "plan {number}, counted from 0, costs {cost}, those before it {before}, and the flushes {flushes}: \
@@ -61,6 +60,14 @@ fn too_long(
         before = before.saturating_add(cost);
     }
     Ok(None)
+}
+
+/// The cost of the plan that the bytes spell, if it has a certificate.
+fn cost_in(alloc: Global, settings: &Settings, bytes: &[u8]) -> Result<Option<u64>, AllocError> {
+    match certificate_of(alloc, settings, bytes)? {
+        Some(certificate) => Ok(Some(cost_of(certificate.steps))),
+        None => Ok(None),
+    }
 }
 
 /// The cost of a plan of so many steps.

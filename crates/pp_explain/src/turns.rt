@@ -6,6 +6,7 @@ use pp_explain_text::{region_name, slot_name};
 use pp_locate::front;
 use pp_model::{Cause, Delay, Turn};
 use pp_plan::{Ask, Mode, Plan};
+use pp_settings::Settings;
 use std::alloc::{AllocError, Global};
 
 /// How many slots a plan has at most.
@@ -48,29 +49,7 @@ impl Played<'_> {
         let (Some(ask), Some(plan)) = (core.ask(worker), self.plan_of(alloc, worker)?) else {
             return format!(in alloc; "a move of worker {worker}");
         };
-        match ask {
-            Ask::Fix { slot, region } => {
-                let region = region_name(self.settings, region);
-                let slot = slot_name(&plan, slot);
-                format!(in alloc; "`fix {worker} PAGE`, a page of region {region} into slot {slot}")
-            }
-            Ask::Gather { slot, region } => {
-                let region = region_name(self.settings, region);
-                let slot = slot_name(&plan, slot);
-                format!(in alloc;
-                    "`fix {worker} PAGE`, a page of region {region} into bundle {slot}"
-                )
-            }
-            Ask::Choose { branches } => {
-                format!(in alloc; "`choose {worker} BRANCH`, a branch below {branches}")
-            }
-            Ask::End => format!(in alloc; "`finish {worker}`"),
-            ask => {
-                let (word, slot, how) = move_of(ask);
-                let slot = slot_name(&plan, slot);
-                format!(in alloc; "`{word} {worker}` of {slot}{how}")
-            }
-        }
+        ask_text(alloc, self.settings, &plan, worker, ask)
     }
 
     /// What the worker holds, as in `held are a (page 3), b (page 16, latched X)`.
@@ -92,6 +71,37 @@ impl Played<'_> {
         }
         let text = front(alloc, text.as_str())?;
         format!(in alloc; "it holds{text}")
+    }
+}
+
+/// What the plan asks of the worker.
+fn ask_text(
+    alloc: Global,
+    settings: &Settings,
+    plan: &Plan,
+    worker: u32,
+    ask: Ask,
+) -> Result<String, AllocError> {
+    match ask {
+        Ask::Fix { slot, region } => {
+            let region = region_name(settings, region);
+            let slot = slot_name(plan, slot);
+            format!(in alloc; "`fix {worker} PAGE`, a page of region {region} into slot {slot}")
+        }
+        Ask::Gather { slot, region } => {
+            let region = region_name(settings, region);
+            let slot = slot_name(plan, slot);
+            format!(in alloc; "`fix {worker} PAGE`, a page of region {region} into bundle {slot}")
+        }
+        Ask::Choose { branches } => {
+            format!(in alloc; "`choose {worker} BRANCH`, a branch below {branches}")
+        }
+        Ask::End => format!(in alloc; "`finish {worker}`"),
+        ask => {
+            let (word, slot, how) = move_of(ask);
+            let slot = slot_name(plan, slot);
+            format!(in alloc; "`{word} {worker}` of {slot}{how}")
+        }
     }
 }
 
