@@ -72,9 +72,15 @@ impl PlanId {
 ///
 /// Workers, plans, slots, pages and frames are numbered from 0; slots by their names in byte order. All its memory is
 /// got by [`Core::new`]; no other call takes any for the core. There are no locks in it.
-#[derive(Drop)]
 pub struct Core {
     pub(crate) table: Table,
+}
+
+// By hand, so that code that lets one go calls this, and doesn't let each field go anew.
+impl Drop for Core {
+    fn drop(self) {
+        let Core { table: _ } = self;
+    }
 }
 
 impl Model for Core {

@@ -13,6 +13,7 @@ pub mod Flushing
 pub mod Moves
 pub mod Submitting
 pub mod SubmitErrors
+pub mod RenewErrors
 pub mod Renewing
 pub mod Refusals
 pub mod Runs

@@ -194,3 +194,34 @@ pub enum RenewError {
     #[error("the mark of page {page} is 2^63 or more")]
     MarkTooHigh { page: u32 },
 }
+
+impl RenewError {
+    ghost use Rattle.pp_text.specs.Views.{row_of_refusal};
+    ghost use Rattle.pp_model.specs.RenewErrors.{renew_error_row};
+
+    /// What a program prints: the number and the name, as in `54 NotAtRest`.
+    pub fn refusal(self) -> Refusal
+        ensures { row_of_refusal result ≡ renew_error_row self }
+    {
+        match self {
+            RenewError::NotAtRest => Refusal::new(54, "NotAtRest", About::Nothing),
+            RenewError::MarkTooHigh { page: _ } => {
+                Refusal::new(55, "MarkTooHigh", About::Nothing)
+            }
+        }
+    }
+
+    /// The number of the refusal: 54 or 55.
+    pub fn number(self) -> u8
+        ensures { result ≡ (renew_error_row self).number }
+    {
+        self.refusal().number
+    }
+
+    /// The name of the refusal, as it is printed.
+    pub fn name(self) -> &'static str
+        ensures { result.now ≡ (renew_error_row self).name }
+    {
+        self.refusal().name
+    }
+}

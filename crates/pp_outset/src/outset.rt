@@ -23,7 +23,6 @@ use std::marker::Model;
 /// Contracts see it as the record `Outset` of two fields, `lists` and `notes`.
 ///
 /// All its memory is got by [`Outset::new`]: 32 bytes for each page number, and 20 for each frame. No other call takes any.
-#[derive(Drop)]
 pub struct Outset {
     frames: u32,
     pages: u32,
@@ -33,6 +32,22 @@ pub struct Outset {
     b1: Vec<u32>,
     b2: Vec<u32>,
     notes: Vec<Note>,
+}
+
+// By hand, so that code that lets one go calls this, and doesn't let each field go anew.
+impl Drop for Outset {
+    fn drop(self) {
+        let Outset {
+            frames: _,
+            pages: _,
+            target: _,
+            t1: _,
+            t2: _,
+            b1: _,
+            b2: _,
+            notes: _,
+        } = self;
+    }
 }
 
 impl Model for Outset {

@@ -39,7 +39,7 @@ use std::marker::Model;
 ///
 /// A plan has at most 4,096 statements, at most 16 inside each other, and at most 32 slots. Bundles count among the
 /// slots, and no slot is a bundle and a plain one.
-#[derive(Debug, Drop)]
+#[derive(Debug)]
 pub struct Plan {
     pub(crate) version: u8,
     pub(crate) layout: Layout,
@@ -49,6 +49,20 @@ pub struct Plan {
     bundles: [bool; MOST_SLOTS],
     /// The body as one list.
     steps: Vec<FlatStep>,
+}
+
+// By hand, so that code that lets one go calls this, and doesn't let each field go anew.
+impl Drop for Plan {
+    fn drop(self) {
+        let Plan {
+            version: _,
+            layout: _,
+            slots: _,
+            body: _,
+            bundles: _,
+            steps: _,
+        } = self;
+    }
 }
 
 impl Model for Plan {

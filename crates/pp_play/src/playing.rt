@@ -24,6 +24,7 @@ use crate::refusing::told;
 use crate::{bytes, devices, guards, workers};
 use pp_contents::laws;
 use pp_script::Cue;
+use pp_text::{About, Refusal};
 use pp_vault::{Cause, Device, Hand, Hands, Vault};
 use std::alloc::AllocError;
 
@@ -33,6 +34,34 @@ pub enum PlayError {
     /// Memory ran out before the first cue.
     #[error("out of memory")]
     OutOfMemory,
+}
+
+impl PlayError {
+    ghost use Rattle.pp_text.specs.Refusals.{out_of_memory};
+    ghost use Rattle.pp_text.specs.Views.{row_of_refusal};
+
+    /// What a program prints: `19 OutOfMemory`.
+    pub fn refusal(self) -> Refusal
+        ensures { row_of_refusal result ≡ out_of_memory }
+    {
+        match self {
+            PlayError::OutOfMemory => Refusal::new(19, "OutOfMemory", About::Nothing),
+        }
+    }
+
+    /// The number of the refusal: 19.
+    pub fn number(self) -> u8
+        ensures { result ≡ out_of_memory.number }
+    {
+        self.refusal().number
+    }
+
+    /// The name of the refusal, as it is printed.
+    pub fn name(self) -> &'static str
+        ensures { result.now ≡ out_of_memory.name }
+    {
+        self.refusal().name
+    }
 }
 
 impl From<AllocError> for PlayError {

@@ -45,7 +45,6 @@ use std::marker::Model;
 ///
 /// A new book's life begins in the opening state of the settings. [`Book::renew`] begins the next one, which opens with what
 /// the life before left ([`Book::began`]).
-#[derive(Drop)]
 pub struct Book {
     pub(crate) vault: Vault,
     workers: u32,
@@ -53,6 +52,20 @@ pub struct Book {
     pub(crate) most: u64,
     pub(crate) flushes: u32,
     pub(crate) began: Outset,
+}
+
+// By hand, so that code that lets one go calls this, and doesn't let each field go anew.
+impl Drop for Book {
+    fn drop(self) {
+        let Book {
+            vault: _,
+            workers: _,
+            journal: _,
+            most: _,
+            flushes: _,
+            began: _,
+        } = self;
+    }
 }
 
 impl Model for Book {

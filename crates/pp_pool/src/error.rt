@@ -27,6 +27,35 @@ pub enum BookRenewError {
     OutOfMemory,
 }
 
+impl BookRenewError {
+    ghost use Rattle.pp_text.specs.Views.{row_of_refusal};
+    ghost use Rattle.pp_pool.specs.BookErrors.{book_renew_error_row};
+
+    /// What a program prints: the number and the name, as in `54 NotAtRest`.
+    pub fn refusal(self) -> Refusal
+        ensures { row_of_refusal result ≡ book_renew_error_row self }
+    {
+        match self {
+            BookRenewError::Refused(error) => error.refusal(),
+            BookRenewError::OutOfMemory => Refusal::new(19, "OutOfMemory", About::Nothing),
+        }
+    }
+
+    /// The number of the refusal: 54 or 55, and 19 for want of memory.
+    pub fn number(self) -> u8
+        ensures { result ≡ (book_renew_error_row self).number }
+    {
+        self.refusal().number
+    }
+
+    /// The name of the refusal, as it is printed.
+    pub fn name(self) -> &'static str
+        ensures { result.now ≡ (book_renew_error_row self).name }
+    {
+        self.refusal().name
+    }
+}
+
 impl BookError {
     ghost use Rattle.pp_text.specs.Views.{row_of_refusal};
     ghost use Rattle.pp_pool.specs.BookErrors.{book_error_row};

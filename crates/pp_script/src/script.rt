@@ -18,10 +18,20 @@ use std::alloc::Global;
 use std::marker::Model;
 
 /// A script: its cues, and the troubles of the device, each in the order of its lines.
-#[derive(Debug, Drop)]
+#[derive(Debug)]
 pub struct Script {
     cues: Vec<Cue>,
     troubles: Vec<(u32, Trouble)>,
+}
+
+// By hand, so that code that lets one go calls this, and doesn't let each field go anew.
+impl Drop for Script {
+    fn drop(self) {
+        let Script {
+            cues: _,
+            troubles: _,
+        } = self;
+    }
 }
 
 impl Model for Script {

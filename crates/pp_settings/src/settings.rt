@@ -25,13 +25,26 @@ use std::marker::Model;
 /// A pool has 1 to 4,096 frames and 1 to 32 workers. A page has 64 to 65,536 bytes. One run begins at most 100,000
 /// flushes. There are 1 to 64 regions. No two have the same name, and no two share a page. A region's number is its
 /// place in the text, from 0.
-#[derive(Debug, Drop)]
+#[derive(Debug)]
 pub struct Settings {
     page_bytes: u32,
     workers: u32,
     flushes: u32,
     layout: Layout,
     names: Vec<String>,
+}
+
+// By hand, so that code that lets one go calls this, and doesn't let each field go anew.
+impl Drop for Settings {
+    fn drop(self) {
+        let Settings {
+            page_bytes: _,
+            workers: _,
+            flushes: _,
+            layout: _,
+            names: _,
+        } = self;
+    }
 }
 
 impl Model for Settings {

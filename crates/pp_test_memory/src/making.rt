@@ -218,18 +218,10 @@ fn vault(alloc: Global, settings: &Settings) -> Answer {
 }
 
 /// A core that is to do some moves, and the replies that it adds to.
+#[derive(Drop)]
 struct Moving {
     core: Core,
     replies: Vec<Reply>,
-}
-
-impl Drop for Moving {
-    fn drop(self) {
-        let Moving {
-            core: _,
-            replies: _,
-        } = self;
-    }
 }
 
 impl Tried for Moving {

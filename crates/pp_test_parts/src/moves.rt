@@ -1,7 +1,7 @@
 //! A run of moves of the core, and its journal.
 
 use crate::common::same;
-use pp_core::{Accepted, Core};
+use pp_core::Core;
 use pp_model::Came::Image;
 use pp_model::Move::{Finish, Fix, ReadDone, Take, Unfix};
 use pp_model::{Event, Move, Reply};
@@ -25,34 +25,11 @@ static MOVES: [Move; 5] = [
     Finish { worker: 0 },
 ];
 
-/// A core that falls by a call.
-struct Owned {
-    core: Core,
-}
-
-impl Drop for Owned {
-    fn drop(self) {
-        let Owned { core: _ } = self;
-    }
-}
-
 /// The number that the core gives the plan, and its replies to the moves.
 fn run(rt: &impl Abort, alloc: Global) -> Result<(u32, Vec<Reply>), Fail> {
     let settings = Settings::from_text(alloc, SETTINGS)?;
     let plan = accepted(alloc, &settings, TOUCH)?;
-    let mut owned = Owned {
-        core: Core::new(alloc, &settings)?,
-    };
-    run_on(rt, alloc, &mut owned.core, plan)
-}
-
-/// The same of this core and this plan.
-fn run_on(
-    rt: &impl Abort,
-    alloc: Global,
-    core: &mut Core,
-    plan: Accepted,
-) -> Result<(u32, Vec<Reply>), Fail> {
+    let mut core = Core::new(alloc, &settings)?;
     let Ok(id) = core.submit(plan) else {
         panic!(rt; "not taken in")
     };

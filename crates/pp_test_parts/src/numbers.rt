@@ -2,7 +2,7 @@
 
 use crate::common::same;
 use pp_device::Fault;
-use pp_model::{Cause, Delay, Failure};
+use pp_model::{Cause, Delay, Failure, RenewError};
 use pp_shared::OpenError;
 use pp_vault::Refusal;
 use pp_words::JobError;
@@ -63,6 +63,14 @@ fn faults_and_failures_have_their_numbers(rt: HostRuntime) {
         let error = OpenError::Fault(fault);
         same(&rt, (error.number(), error.name()), (number, name));
     }
+}
+
+#[test]
+fn each_refused_renewal_has_its_number(rt: HostRuntime) {
+    let error = RenewError::NotAtRest;
+    same(&rt, (error.number(), error.name()), (54, "NotAtRest"));
+    let error = RenewError::MarkTooHigh { page: 7 };
+    same(&rt, (error.number(), error.name()), (55, "MarkTooHigh"));
 }
 
 #[test]

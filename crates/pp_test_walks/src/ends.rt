@@ -23,17 +23,6 @@ const EITHER: &str =
 {\"unfix\":\"a\"},{\"choice\":[[],[{\"fix\":\"b\",\"region\":\"leaf\"},{\"fix\":\"c\",\"region\":\"leaf\"},\
 {\"unfix\":\"b\"},{\"unfix\":\"c\"}]]}],\"version\":1}";
 
-/// A core that falls by a call.
-struct Owned {
-    core: Core,
-}
-
-impl Drop for Owned {
-    fn drop(self) {
-        let Owned { core: _ } = self;
-    }
-}
-
 /// Plans wait in the core from now on.
 fn fill(
     alloc: Global,
@@ -62,25 +51,12 @@ pub fn drive(
     chance: &mut Chance,
     by_drain: bool,
 ) -> anyhow::Result<bool> {
-    let mut owned = Owned {
-        core: Core::new(alloc, settings)?,
-    };
-    drive_filled(alloc, settings, &mut owned.core, chance, by_drain)
-}
-
-/// The same of this core, which has done nothing yet.
-fn drive_filled(
-    alloc: Global,
-    settings: &Settings,
-    core: &mut Core,
-    chance: &mut Chance,
-    by_drain: bool,
-) -> anyhow::Result<bool> {
-    fill(alloc, settings, core, chance)?;
+    let mut core = Core::new(alloc, settings)?;
+    fill(alloc, settings, &mut core, chance)?;
     Ok(if by_drain {
-        drain_to_the_end(core, chance)
+        drain_to_the_end(&mut core, chance)
     } else {
-        step_to_the_end(core, chance) == Some(PLANS)
+        step_to_the_end(&mut core, chance) == Some(PLANS)
     })
 }
 
