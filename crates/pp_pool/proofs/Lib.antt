@@ -8,6 +8,11 @@ pub mod Sending
 pub mod Replying
 pub mod Looking
 pub mod Placing
+pub mod WayOut
+pub mod Bodies
+pub mod TakenOut
+pub mod Lookups
+pub mod Lent
 pub mod Turning
 pub mod Keeping
 pub mod Flushed

@@ -1,23 +1,23 @@
 -- Turns that were made one behind another are turns of the worker.
-use Rattle.std.proofs.Common.{◌≡◌, ◌∙◌, ◌<◌, ◌≤◌, ◌+◌, ◌++◌, ℕ, Bool, true, false, Some, List, [], ◌∷◌, length, refl, sym, ap, subst, arith}
-use Rattle.std.specs.Prelude.{map, max, if◌then◌else◌, ◌==◌}
+use Rattle.std.proofs.Common.{◌≡◌, ◌∙◌, ℕ, true, List, [], ◌∷◌, length, refl, sym, ap, subst, arith}
+use Rattle.std.specs.Prelude.{map, if◌then◌else◌, ◌==◌}
 use Rattle.std.proofs.lemmas.Bool.{false≢true}
 use Rattle.pp_settings.specs.Layout.{Geometry}
 use Rattle.pp_journal.specs.Events.{Events}
 use Rattle.pp_device.specs.declared.device.Device as Device
 use Rattle.pp_vault.specs.declared.tokens.Session.{Session}
-use Rattle.pp_vault.specs.declared.stage.Stage.{Stage}
 use Rattle.pp_vault.specs.declared.stage.Stage.TheVariants as stage
 use Rattle.pp_vault.specs.declared.stage.Hand.{Hand}
 use Rattle.pp_vault.specs.Stages.{is_chair, stage_worker}
 use Rattle.pp_pool.specs.declared.turned.Turned.{Turned}
-use Rattle.pp_pool.specs.declared.turned.Turned.TheVariants.{Done, NoMemory}
+use Rattle.pp_pool.specs.declared.turned.Turned.TheVariants.{Done}
 use Rattle.pp_pool.specs.declared.worker.Worker.{Worker}
 use Rattle.pp_pool.specs.declared.site.Site as Site
 use Rattle.pp_pool.specs.declared.work.Work as Work
-use Rattle.pp_pool.specs.Turns.{TurnIs, TurnsOver, TurnsBehind, KeepsRest, MakesOne, MakesRoom, has_errand, KeepsPlace, room_of}
+use Rattle.pp_pool.specs.Turns.{TurnIs, TurnsOver, TurnsBehind, KeepsRest, MakesRoom, has_errand, KeepsPlace, room_of}
+use Rattle.pp_pool.specs.Turns.{end_of}
 use Rattle.pp_pool.specs.ShortTurns.{Scene, TurnsAtOnce}
-use Rattle.pp_pool.proofs.Turning.{turn_from, errand_made}
+use Rattle.pp_pool.proofs.Turning.{turn_from}
 use Rattle.pp_pool.proofs.ShortTurns.{acts_in, in_scene, turns_in, workers_in, places_in}
 
 -- The scene in which a worker stands with its work.
@@ -42,11 +42,12 @@ module _ {S D W : Type 0} (s : Site.Ghosts S) (d : Device.Ghosts D) (k : Work.Gh
   from at long = in_scene s d k layout room new at long (scene_of old before)
 
   module _ (at : new.layout ≡ layout) (long : room_of new ≡ room) (device : new.device ≡ old.device)
-      (same : new.layout ≡ old.layout) (bytes : new.page_bytes ≡ old.page_bytes) (page : room_of new ≡ room_of old) where
+      (same : new.layout ≡ old.layout) (bytes : new.page_bytes ≡ old.page_bytes) (page : room_of new ≡ room_of old)
+      (end : end_of new ≡ end_of old) where
     turn_behind : (next : Worker S D) (ends : Turned) (work : W) → TurnIs s d k (from at long) before ends next work
         → TurnIs s d k old before ends next work
     turn_behind next ends work t =
-        turn_from s d k old (from at long) next before work ends refl device refl refl same refl (omega arith) t
+        turn_from s d k old (from at long) next before work ends refl device refl refl same end refl (omega arith) t
 
     rest_behind : (next : Worker S D) → KeepsRest (from at long) next → KeepsRest old next
     rest_behind next h = record {
@@ -96,7 +97,8 @@ module _ {S D W : Type 0} (s : Site.Ghosts S) (d : Device.Ghosts D) (k : Work.Gh
 
 module _ {S D W : Type 0} (s : Site.Ghosts S) (d : Device.Ghosts D) (k : Work.Ghosts W) (old mid new : Worker S D)
     (before between left : W) (turned : Turned) (same : scene_of mid between ≡ scene_of old before)
-    (device : mid.device ≡ old.device) (layout : mid.layout ≡ old.layout) where
+    (device : mid.device ≡ old.device) (layout : mid.layout ≡ old.layout)
+    (end : end_of mid ≡ end_of old) where
   pub hand_same : mid.hand ≡ old.hand
   hand_same = ap (λ (x : Scene S W). hand_of x) same
 
@@ -107,7 +109,8 @@ module _ {S D W : Type 0} (s : Site.Ghosts S) (d : Device.Ghosts D) (k : Work.Gh
   turn_still t =
       let capacity : mid.log.capacity ≡ old.log.capacity = ap (λ (e : Events). e.capacity) log_same in
       turn_from s d k old mid new before left turned (ap (λ (x : Scene S W). x.site) same) device hand_same
-      (ap (λ (e : Events). e.items) log_same) layout (ap (λ (e : Events). length e.items) log_same) (omega (arith, capacity))
+      (ap (λ (e : Events). e.items) log_same) layout end (ap (λ (e : Events). length e.items) log_same)
+      (omega (arith, capacity))
       (subst (λ w. TurnIs s d k mid w turned new left) (ap (λ (x : Scene S W). x.work) same) t)
 
   pub room_still : mid.page_bytes ≡ old.page_bytes → room_of mid ≡ room_of old → MakesRoom s mid turned new

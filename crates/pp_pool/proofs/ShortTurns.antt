@@ -8,7 +8,10 @@ use Rattle.pp_settings.specs.Layout.{Geometry}
 use Rattle.pp_plan.specs.declared.action.Ask.TheVariants as ask
 use Rattle.pp_model.specs.declared.moves.Move.TheVariants as move
 use Rattle.pp_model.specs.declared.reply.Reply.TheVariants as reply
-use Rattle.pp_model.specs.declared.event.Event.TheVariants.{Step}
+use Rattle.pp_model.specs.declared.event.Event.{Event}
+use Rattle.pp_model.specs.declared.event.Event.TheVariants.{Submit, Step}
+use Rattle.pp_model.specs.declared.moves.Move.{Move}
+use Rattle.pp_model.specs.declared.reply.Reply.{Reply}
 use Rattle.pp_journal.specs.Events.{Events}
 use Rattle.pp_device.specs.declared.device.Device as Device
 use Rattle.pp_vault.specs.declared.tokens.Session.{Session}
@@ -30,13 +33,15 @@ use Rattle.pp_pool.specs.declared.worker.Worker.{Worker}
 use Rattle.pp_pool.specs.declared.site.Site as Site
 use Rattle.pp_pool.specs.declared.work.Work as Work
 use Rattle.pp_pool.specs.Requests.{events_in}
-use Rattle.pp_pool.specs.Replies.{Replies, slot_for}
+use Rattle.pp_pool.specs.Replies.{Replies, slot_for, IsMoveOf, IsEventOf}
 use Rattle.pp_pool.specs.Readings.{hit, latched, unlatched, unfixed, read_events, end_events, ReadsBy, EndsReadBy}
 use Rattle.pp_pool.specs.Turns.{Asks, IsStep, IsWorkers, Consults, Prepares, Makes, TurnIs, TurnsOver, worker_with, room_of, keeps_place}
+use Rattle.pp_pool.specs.Turns.{Tells, TellsStep, page_called, end_of}
+use Rattle.pp_pool.specs.declared.work.End.{End}
 use Rattle.pp_pool.specs.Turns.{logged_events, LooksAt, Uses, stage_in, guard_in, guard_asked, places_with}
-use Rattle.pp_pool.specs.ShortTurns.{Comes, Scene, TurnAtOnce, TurnsAtOnceOver, TurnsAtOnce, TurnsIfAny}
+use Rattle.pp_pool.specs.ShortTurns.{is_quiet, Comes, ComesTold, Scene, TurnAtOnce, TurnsAtOnceOver, TurnsAtOnce, TurnsIfAny}
 use Rattle.pp_pool.proofs.Placing.{prepared, taken_free, put_back}
-use Rattle.pp_pool.proofs.Turning.{turns}
+use Rattle.pp_pool.proofs.Turning.{turns, reworks_still}
 use Rattle.pp_pool.proofs.Keeping.{keeps_worker, keeps_after}
 
 -- ---- what comes of a request
@@ -68,6 +73,53 @@ module _ {S W : Type 0} (s : Site.Ghosts S) (k : Work.Ghosts W) (room : ℕ) (as
         ended = ended;
       }
 
+  -- The same where the work is told of its plan then.
+  pub comes_told : (was now : Option End) (told : W) (response : Response) (after : BookAnswer) (is_logged : Bool) (ends : Turned)
+      → s.gives site asked response mid → Replies asked response → site' ≡ mid
+      → log'.items ≡ log.items ++ logged_events is_logged response.event
+      → (is_logged ≡ false → log.capacity ≤ length log.items)
+      → Uses s k mid room between response.answer ends after left → stage_in after ≡ Some new
+      → places' ≡ places_with rest (guard_in after) → turned ≡ (if is_logged then ends else Broken)
+      → Tells k (page_called asked) left was response.event told now
+      → ComesTold s k room asked rest site log was between turned new places' site' log' now told
+  unfolding comes_of
+  comes_told was now told response after is_logged ends given fits same grows full uses stages guards ended tells =
+      record {
+        used = left;
+        comes = comes_of response after is_logged ends given fits same grows full uses stages guards ended;
+        tells = tells;
+      }
+
+-- ---- the work is told nothing
+
+-- By the event of a request that is quiet.
+module _ {W : Type 0} (k : Work.Ghosts W) (called : Option ℕ) (work : W) (was : Option End) where
+  quiet_step : (asked : Request) (did : Move) (out : Reply) → is_quiet asked ≡ true → IsMoveOf asked did
+      → Tells k called work was (Some (Step did out)) work was
+  quiet_step (request.Take chair) did out q of = absurd (false≢true q)
+  quiet_step (request.Finish x) did out q of = absurd (false≢true q)
+  quiet_step (request.End x) did out q of = absurd (false≢true q)
+  quiet_step (request.Answer returned) did out q of = absurd (false≢true q)
+  quiet_step (request.AnswerJoin returned) did out q of = absurd (false≢true q)
+  quiet_step (request.Fix x page) did out q of = subst (λ m. TellsStep k called work was m out work was) (sym of) (refl, refl)
+  quiet_step (request.Join x page) did out q of = subst (λ m. TellsStep k called work was m out work was) (sym of) (refl, refl)
+  quiet_step (request.Unfix x g) did out q of = subst (λ m. TellsStep k called work was m out work was) (sym of) (refl, refl)
+  quiet_step (request.Scatter x g) did out q of = subst (λ m. TellsStep k called work was m out work was) (sym of) (refl, refl)
+  quiet_step (request.LatchShared x g) did out q of = subst (λ m. TellsStep k called work was m out work was) (sym of) (refl, refl)
+  quiet_step (request.LatchExclusive x g) did out q of = subst (λ m. TellsStep k called work was m out work was) (sym of) (refl, refl)
+  quiet_step (request.UnlatchShared x g) did out q of = subst (λ m. TellsStep k called work was m out work was) (sym of) (refl, refl)
+  quiet_step (request.UnlatchExclusive x g) did out q of = subst (λ m. TellsStep k called work was m out work was) (sym of) (refl, refl)
+  quiet_step (request.Choose x branch) did out q of = subst (λ m. TellsStep k called work was m out work was) (sym of) (refl, refl)
+  quiet_step (request.GiveBack x g) did out q of = subst (λ m. TellsStep k called work was m out work was) (sym of) (refl, refl)
+  quiet_step (request.Flush page) did out q of = subst (λ m. TellsStep k called work was m out work was) (sym of) (refl, refl)
+  quiet_step (request.FlushNext number) did out q of = subst (λ m. TellsStep k called work was m out work was) (sym of.1) (refl, refl)
+
+  quiet_event : (asked : Request) (event : Option Event) → is_quiet asked ≡ true → IfSome event (IsEventOf asked)
+      → Tells k called work was event work was
+  quiet_event asked None q of = (refl, refl)
+  quiet_event asked (Some (Submit plan)) q of = absurd of
+  quiet_event asked (Some (Step did out)) q of = quiet_step asked did out q of
+
 -- ---- it is a turn of the worker
 
 -- A turn that wants no device is one of a worker in its plan.
@@ -81,7 +133,7 @@ module _ {S D W : Type 0} (s : Site.Ghosts S) (d : Device.Ghosts D) (k : Work.Gh
     (w : Worker S D) (at : w.layout ≡ layout) (long : room_of w ≡ room) where
   -- The worker in such a scene.
   abbrev pub in_scene : Scene S W → Worker S D
-  in_scene x = worker_with w x.stage x.places x.site w.device x.log
+  in_scene x = worker_with w x.stage x.places x.site w.device x.log (end_of w)
 
   module _ (old : Scene S W) (turned : Turned) (new : Scene S W) (t : TurnAtOnce s k layout room old turned new) where
     asks_in : Asks d.read_gives d.write_leaves d.calls d.failures layout old.stage w.device t.asked w.device
@@ -91,12 +143,14 @@ module _ {S D W : Type 0} (s : Site.Ghosts S) (d : Device.Ghosts D) (k : Work.Gh
 
     turn_in : TurnIs s d k (in_scene old) old.work turned (in_scene new) new.work
     turn_in =
-        turns s d k (in_scene old) (in_scene new) old.work t.between new.work t.asked t.comes.response t.comes.after t.rest
-        new.site room t.comes.is_logged t.comes.ends turned
+        turns s d k (in_scene old) (in_scene new) old.work old.work t.between new.work new.work old.places t.asked
+        t.comes.response t.comes.after t.rest new.site room t.comes.is_logged t.comes.ends turned
+        (reworks_still k old.stage old.work old.places)
         (subst (λ l. Asks d.read_gives d.write_leaves d.calls d.failures l old.stage w.device t.asked w.device) (sym at) asks_in)
         (subst (λ l. Consults k l old.work t.asked t.between) (sym at) t.consults)
-        t.prepares t.comes.given t.comes.fits refl t.comes.grows long t.comes.uses t.comes.stage t.comes.guards
-        (λ _. t.has_room) t.comes.full t.comes.ended
+        t.prepares t.comes.given t.comes.fits refl t.comes.grows long t.comes.uses
+        (quiet_event k (page_called t.asked) new.work (end_of w) t.asked t.comes.response.event t.quiet t.comes.fits.event)
+        t.comes.stage t.comes.guards (λ _. t.has_room) t.comes.full t.comes.ended
 
     -- Its tokens stay the worker's, and an errand that comes into hand keeps its place.
     worker_in : stage_worker new.stage ≡ stage_worker old.stage
@@ -154,28 +208,37 @@ turn_let_go s d k old new before left turned site same t =
 -- After a turn the worker may forget how far the work reaches.
 forgets : {S D W : Type 0} (s : Site.Ghosts S) (d : Device.Ghosts D) (k : Work.Ghosts W) (old new : Worker S D)
     (before left : W) (is_logged : Bool) (ends : Turned) (reach : Option ℕ) → Makes s d k is_logged old before ends new left
-    → Makes s d k is_logged old before ends (record new { reach = reach }) left
-forgets s d k old new before left is_logged ends reach t = record {
-  asked = t.asked;
-  response = t.response;
-  after = t.after;
-  between = t.between;
-  asks = t.asks;
-  consults = t.consults;
-  own = t.own;
-  finds = t.finds;
-  none = t.none;
-  given = t.given;
-  fits = t.fits;
-  log = t.log;
-  uses = t.uses;
-  stage = t.stage;
-  guards = t.guards;
-}
+    → Makes s d k is_logged old before ends (record new { kept = record new.kept { reach = reach } }) left
+forgets s d k old new before left is_logged ends reach m =
+    let t = m.makes in
+    record {
+      lent = m.lent;
+      reworked = m.reworked;
+      reworks = m.reworks;
+      makes = record {
+        asked = t.asked;
+        response = t.response;
+        after = t.after;
+        between = t.between;
+        used = t.used;
+        asks = t.asks;
+        consults = t.consults;
+        own = t.own;
+        finds = t.finds;
+        none = t.none;
+        given = t.given;
+        fits = t.fits;
+        log = t.log;
+        uses = t.uses;
+        tells = t.tells;
+        stage = t.stage;
+        guards = t.guards;
+      };
+    }
 
 pub turn_forgets : {S D W : Type 0} (s : Site.Ghosts S) (d : Device.Ghosts D) (k : Work.Ghosts W) (old new : Worker S D)
     (before left : W) (turned : Turned) (reach : Option ℕ) → TurnIs s d k old before turned new left
-    → TurnIs s d k old before turned (record new { reach = reach }) left
+    → TurnIs s d k old before turned (record new { kept = record new.kept { reach = reach } }) left
 turn_forgets s d k old new before left turned reach (inl (inl t)) =
     inl (inl (forgets s d k old new before left true turned reach t))
 turn_forgets s d k old new before left turned reach (inl (inr t)) = inl (inr (record {
@@ -191,6 +254,7 @@ turn_forgets s d k old new before left turned reach (inr w) = inr (record {
   device = w.device;
   hand = w.hand;
   log = w.log;
+  end = w.end;
   work = w.work;
 })
 
@@ -234,7 +298,8 @@ module _ {S W : Type 0} (s : Site.Ghosts S) (k : Work.Ghosts W) (layout : Geomet
   module _ (x : Session) (asked : Request) (response : Response) (g : Guard) (places new_places : List (Option Guard))
       (new : Stage) (site site' : S) (log log' : Events) (work left : W) (ends : Turned) where
     guard_turn : placed places (slot_by g) ≡ Some g → guard_asked asked ≡ Some g → slot_for asked ≡ Some (slot_by g)
-        → IsWorkers asked → IsStep layout x asked → Consults k layout work asked work
+        → IsWorkers asked → is_quiet asked ≡ true → IsStep layout x asked
+        → Consults k layout work asked work
         → length log.items < log.capacity → log'.capacity ≡ log.capacity → s.gives site asked response site'
         → Replies asked response
         → log'.items ≡ log.items ++ events_in response.event
@@ -243,7 +308,7 @@ module _ {S W : Type 0} (s : Site.Ghosts S) (k : Work.Ghosts W) (layout : Geomet
         → TurnAtOnce s k layout room
         (record { stage = stage.In x; places = places; site = site; log = log; work = work }) ends
         (record { stage = new; places = new_places; site = site'; log = log'; work = left })
-    guard_turn there guard slot workers step consults has_room memory given fits grows uses stages guards = record {
+    guard_turn there guard slot workers quiet step consults has_room memory given fits grows uses stages guards = record {
       asked = asked;
       rest = slice_set places (slot_by g) None;
       between = work;
@@ -254,6 +319,7 @@ module _ {S W : Type 0} (s : Site.Ghosts S) (k : Work.Ghosts W) (layout : Geomet
       step = step;
       consults = consults;
       prepares = prepared places (slice_set places (slot_by g) None) (slot_by g) g asked there refl refl guard slot workers;
+      quiet = quiet;
       comes = record {
         response = response;
         after = response.answer;
@@ -291,6 +357,7 @@ module _ {S W : Type 0} (s : Site.Ghosts S) (k : Work.Ghosts W) (layout : Geomet
         step = step;
         consults = consults;
         prepares = prepares;
+        quiet = refl;
         comes = comes;
       }
 
@@ -363,7 +430,7 @@ module _ {S W : Type 0} (s : Site.Ghosts S) (k : Work.Ghosts W) (layout : Geomet
         guard_turn y (request.UnlatchShared y h) (unlatched y e.session e.guard mark) read
         (slice_set places h.slot (Some read)) (slice_set places e.guard.slot (Some pin_left)) (stage.In e.session) site e.between
         log log_unlatched work work Done
-        (first_there places read pin_left e.unlatch_fits.tokens.1 within_read) refl refl tt (refl, asks) refl
+        (first_there places read pin_left e.unlatch_fits.tokens.1 within_read) refl refl tt refl (refl, asks) refl
         (omega (arith, has_room)) refl e.unlatches e.unlatch_fits refl (refl, refl, refl) refl
         (sym (changed_place places read pin_left e.unlatch_fits.tokens.1 within_read))
 
@@ -378,7 +445,7 @@ module _ {S W : Type 0} (s : Site.Ghosts S) (k : Work.Ghosts W) (layout : Geomet
     unfix_turn =
         guard_turn e.session (request.Unfix e.session e.guard) (unfixed e.session z) pin_left
         (slice_set places e.guard.slot (Some pin_left)) places (stage.In z) e.between site' log_unlatched log' work work Done
-        (first_there places pin_left pin_left refl within_left) refl refl tt (refl, e.asks) refl
+        (first_there places pin_left pin_left refl within_left) refl refl tt refl (refl, e.asks) refl
         (omega (arith, has_room, length-append log.items (Step (move.Unlatch y.worker) (reply.Unlatched mark) ∷ []))) memory
         e.unfixes e.unfix_fits log_unfixed (refl, refl, refl) refl
         (sym (set-set places e.guard.slot (Some pin_left) None ∙ emptied places e.guard.slot free_left))
@@ -464,7 +531,7 @@ module _ {S W : Type 0} (s : Site.Ghosts S) (k : Work.Ghosts W) (layout : Geomet
         guard_turn r.session (request.LatchShared r.session r.guard) (latched r.session y h) pin
         (slice_set places r.guard.slot (Some pin)) (slice_set places h.slot (Some (guard.Read h))) (stage.In y) r.between site'
         log_fixed log' work left turned
-        (first_there places pin (guard.Read h) r.latch_fits.tokens.1 within_pin) refl refl tt (refl, r.asks) refl
+        (first_there places pin (guard.Read h) r.latch_fits.tokens.1 within_pin) refl refl tt refl (refl, r.asks) refl
         (omega (arith, has_room, length-append log.items (Step (move.Fix x.worker page) (reply.Hit frame h.mark) ∷ []))) memory
         (subst (s.gives r.between (request.LatchShared r.session r.guard) (latched r.session y h)) (sym same) r.latches)
         r.latch_fits log_latched
@@ -516,15 +583,15 @@ module _ {S W : Type 0} (s : Site.Ghosts S) (k : Work.Ghosts W) (layout : Geomet
   -- A guard is taken out of the hand, and the request is made with it that the plan asks.
   pub held_request : (x : Session) (asked : Request) (g : Guard) (places mid new_places : List (Option Guard)) (n : ℕ)
       → placed places n ≡ Some g → slot_by g ≡ n → mid ≡ slice_set places n None → guard_asked asked ≡ Some g
-      → slot_for asked ≡ Some (slot_by g) → IsWorkers asked → IsStep layout x asked
+      → slot_for asked ≡ Some (slot_by g) → IsWorkers asked → is_quiet asked ≡ true → IsStep layout x asked
       → (site site' : S) (log log' : Events) (work left : W) → Consults k layout work asked work
       → length log.items < log.capacity → log'.capacity ≡ log.capacity → (turned : Turned) (new : Stage)
       → Comes s k room asked mid site log work turned new new_places site' log' left
       → TurnsAtOnce s k layout room
       (record { stage = stage.In x; places = places; site = site; log = log; work = work }) turned
       (record { stage = new; places = new_places; site = site'; log = log'; work = left })
-  held_request x asked g places mid new_places n there slot taken guard by workers step site site' log log' work left consults
-      has_room memory turned new comes = (
+  held_request x asked g places mid new_places n there slot taken guard by workers quiet step site site' log log' work left
+      consults has_room memory turned new comes = (
         [],
         record {
           asked = asked;
@@ -537,6 +604,7 @@ module _ {S W : Type 0} (s : Site.Ghosts S) (k : Work.Ghosts W) (layout : Geomet
           step = step;
           consults = consults;
           prepares = prepared places mid n g asked there slot taken guard by workers;
+          quiet = quiet;
           comes = comes;
         },
       )

@@ -1,6 +1,6 @@
 -- What a worker has in hand after an answer that fits its request.
 use Rattle.std.proofs.Common.{◌≡◌, ◌∙◌, ◌++◌, ◌<◌, ◌≤◌, length, ℕ, Bool, true, false, inl, inr, arith, Option, Some, None, List, refl, sym, ap, subst}
-use Rattle.std.specs.Prelude.{IfSome, IsSome, IfOk, Result, Ok, Err, slice_get, if◌then◌else◌}
+use Rattle.std.specs.Prelude.{MatchOption, ◌⊎◌, IfSome, IsSome, IfOk, Result, Ok, Err, slice_get, if◌then◌else◌}
 use Rattle.std.proofs.lemmas.Bool.{false≢true, true_from_ne_false}
 use Rattle.pp_vault.specs.declared.tokens.Session.{Session}
 use Rattle.pp_vault.specs.declared.guards.PinGuard.{PinGuard}
@@ -38,7 +38,11 @@ use Rattle.pp_plan.specs.declared.action.Ask.TheVariants as ask
 use Rattle.pp_core.specs.Fixing.{wanted}
 use Rattle.pp_pool.specs.Turns.{guard_asked, guard_in, stage_asked, stage_in, FindsPlace, LeavesNone, IsOwn, IsWorkers, IsLong}
 use Rattle.pp_pool.specs.Turns.{Asks, Consults, Prepares, places_without, places_with, Uses, MayWait, TurnIs, can_ask, can_ask_at}
-use Rattle.pp_pool.specs.Turns.{Makes, MakesOne, logged_events, has_errand, keeps_place, KeepsPlace}
+use Rattle.pp_pool.specs.Turns.{Makes, MakesRequest, MakesOne, logged_events, has_errand, keeps_place, KeepsPlace}
+use Rattle.pp_pool.specs.Turns.{ReworksIf, Reworks, Tells, page_called, end_of, with_guards, kind_of}
+use Rattle.pp_pool.specs.Lent.{off_next}
+use Rattle.pp_pool.specs.declared.work.Kind.{Kind}
+use Rattle.pp_pool.specs.declared.work.Kind.TheVariants as kind
 use Rattle.pp_pool.specs.Turns.{room_of, IsStep, IsWayOut, AsksSlot}
 
 -- ---- the stage
@@ -327,23 +331,36 @@ pub placed_after : {S W : Type 0} (s : Site.Ghosts S) (k : Work.Ghosts W) (site 
 placed_after s k site room old turned new rest asked out after finds fit uses =
     used_placed s k site room old turned new rest out after uses (guard_placed rest asked out finds fit)
 
+-- A work that isn't lent the pages leaves all as it was.
+still_by : {W : Type 0} (k : Work.Ghosts W) (work : W) (places : List (Option Guard)) (o : Option ℕ)
+    → MatchOption o ((work ≡ work) × (places ≡ places))
+    (λ off. Reworks k off work places places work ⊎ ((work ≡ work) × (places ≡ places)))
+still_by k work places None = (refl, refl)
+still_by k work places (Some off) = inr (refl, refl)
+
+pub reworks_still : {W : Type 0} (k : Work.Ghosts W) (at : Stage) (work : W) (places : List (Option Guard))
+    → ReworksIf k at work places places work
+reworks_still k at work places = still_by k work places (off_next at places)
+
 module _ {S D W : Type 0} (s : Site.Ghosts S) (d : Device.Ghosts D) (k : Work.Ghosts W) (old new : Worker S D)
-    (before between left : W) (asked : Request) (response : Response) (after : BookAnswer) (rest : List (Option Guard)) (site : S)
-    (room : ℕ) where
+    (before between used left : W) (asked : Request) (response : Response) (after : BookAnswer) (rest : List (Option Guard))
+    (site : S) (room : ℕ) where
   makes : (is_logged : Bool) (ends : Turned)
       → Asks d.read_gives d.write_leaves d.calls d.failures old.layout old.hand.stage old.device asked new.device
       → Consults k old.layout before asked between → Prepares old.hand.guards asked rest
       → s.gives old.site asked response site → Replies asked response → new.site ≡ site
       → new.log.items ≡ old.log.items ++ logged_events is_logged response.event → room_of new ≡ room
-      → Uses s k site room between response.answer ends after left
+      → Uses s k site room between response.answer ends after used
+      → Tells k (page_called asked) used (end_of old) response.event left (end_of new)
       → stage_in after ≡ Some new.hand.stage → new.hand.guards ≡ places_with rest (guard_in after)
-      → Makes s d k is_logged old before ends new left
-  makes is_logged ends asks consults prepares given fits same log long uses stage guards =
+      → MakesRequest s d k is_logged old before ends new left
+  makes is_logged ends asks consults prepares given fits same log long uses tells stage guards =
       record {
         asked = asked;
         response = response;
         after = after;
         between = between;
+        used = used;
         asks = asks;
         consults = consults;
         own = prepares.own;
@@ -353,12 +370,15 @@ module _ {S D W : Type 0} (s : Site.Ghosts S) (d : Device.Ghosts D) (k : Work.Gh
         fits = fits;
         log = log;
         uses =
-            subst (λ n. Uses s k new.site n between response.answer ends after left) (sym long)
-            (subst (λ t. Uses s k t room between response.answer ends after left) (sym same) uses);
+            subst (λ n. Uses s k new.site n between response.answer ends after used) (sym long)
+            (subst (λ t. Uses s k t room between response.answer ends after used) (sym same) uses);
+        tells = tells;
         stage = stage;
         guards = guards ∙ ap (λ ps. places_with ps (guard_in after)) prepares.keeps;
       }
 
+module _ {S D W : Type 0} (s : Site.Ghosts S) (d : Device.Ghosts D) (k : Work.Ghosts W) (old new : Worker S D)
+    (before left : W) where
   -- The event is logged, or there was an errand in hand, since any other turn had room.
   makes_one : (is_logged : Bool) (ends : Turned) → Makes s d k is_logged old before ends new left
       → (has_errand old.hand.stage ≡ false → length old.log.items < old.log.capacity)
@@ -373,35 +393,55 @@ module _ {S D W : Type 0} (s : Site.Ghosts S) (d : Device.Ghosts D) (k : Work.Gh
           true_from_ne_false (has_errand old.hand.stage)
           (λ no. let lt = has_room no in let le = full refl in omega (arith, lt, le))
 
+module _ {S D W : Type 0} (s : Site.Ghosts S) (d : Device.Ghosts D) (k : Work.Ghosts W) (old new : Worker S D)
+    (before reworked between used left : W) (lent : List (Option Guard)) (asked : Request) (response : Response)
+    (after : BookAnswer) (rest : List (Option Guard)) (site : S) (room : ℕ) where
   pub turns : (is_logged : Bool) (ends turned : Turned)
+      → ReworksIf k old.hand.stage before old.hand.guards lent reworked
       → Asks d.read_gives d.write_leaves d.calls d.failures old.layout old.hand.stage old.device asked new.device
-      → Consults k old.layout before asked between → Prepares old.hand.guards asked rest
+      → Consults k old.layout reworked asked between → Prepares lent asked rest
       → s.gives old.site asked response site → Replies asked response → new.site ≡ site
       → new.log.items ≡ old.log.items ++ logged_events is_logged response.event → room_of new ≡ room
-      → Uses s k site room between response.answer ends after left
+      → Uses s k site room between response.answer ends after used
+      → Tells k (page_called asked) used (end_of old) response.event left (end_of new)
       → stage_in after ≡ Some new.hand.stage → new.hand.guards ≡ places_with rest (guard_in after)
       → (has_errand old.hand.stage ≡ false → length old.log.items < old.log.capacity)
       → (is_logged ≡ false → old.log.capacity ≤ length old.log.items)
       → turned ≡ (if is_logged then ends else Broken) → TurnIs s d k old before turned new left
-  turns is_logged ends turned asks consults prepares given fits same log long uses stage guards has_room full ended =
+  turns is_logged ends turned reworks asks consults prepares given fits same log long uses tells stage guards has_room full
+      ended =
       inl (subst (λ t. MakesOne s d k old before t new left) (sym ended)
-      (makes_one is_logged ends
-      (makes is_logged ends asks consults prepares given fits same log long uses stage guards) has_room full))
+      (makes_one s d k old new before left is_logged ends
+      (record {
+        lent = lent;
+        reworked = reworked;
+        reworks = reworks;
+        makes =
+            makes s d k (with_guards old lent) new reworked between used left asked response after rest site room is_logged
+            ends asks consults prepares given fits same log long uses tells stage guards;
+      }) has_room full))
 
 -- ---- where the work is asked for a page
 
 module _ {W : Type 0} (k : Work.Ghosts W) (layout : Geometry) (old new : W) (x : Session) (slot region page : ℕ) (e : Extent)
-    (there : slice_get layout.extents region ≡ Some e) (given : k.page_gives old region e.first e.count page new) where
+    (there : slice_get layout.extents region ≡ Some e) where
+  -- What the work can answer, by how the plan wants the page.
+  abbrev Answers : Kind → Type 0
+  Answers by = k.page_into_gives old slot by region e.first e.count page new ⊎ k.page_gives old region e.first e.count page new
+
   -- For a fix.
-  pub fix_consults : x.ask ≡ ask.Fix slot region → Consults k layout old (request.Fix x page) new
-  fix_consults asks = (slot, region, e, ap wanted asks, there, given)
+  pub fix_consults : x.ask ≡ ask.Fix slot region → Answers kind.Fix → Consults k layout old (request.Fix x page) new
+  fix_consults asks given =
+      (slot, region, e, ap wanted asks, there, subst Answers (sym (ap kind_of asks)) given)
 
   -- For a gather that opens a bundle, and for one that joins one.
-  pub gather_consults : x.ask ≡ ask.Gather slot region → Consults k layout old (request.Fix x page) new
-  gather_consults asks = (slot, region, e, ap wanted asks, there, given)
+  pub gather_consults : x.ask ≡ ask.Gather slot region → Answers kind.Gather → Consults k layout old (request.Fix x page) new
+  gather_consults asks given =
+      (slot, region, e, ap wanted asks, there, subst Answers (sym (ap kind_of asks)) given)
 
-  pub join_consults : x.ask ≡ ask.Gather slot region → Consults k layout old (request.Join x page) new
-  join_consults asks = (slot, region, e, ap wanted asks, there, given)
+  pub join_consults : x.ask ≡ ask.Gather slot region → Answers kind.Gather → Consults k layout old (request.Join x page) new
+  join_consults asks given =
+      (slot, region, e, ap wanted asks, there, subst Answers (sym (ap kind_of asks)) given)
 
 -- ---- where the work is asked nothing
 
@@ -477,21 +517,17 @@ consults_at k layout old new (Err e) h = tt
 
 -- It changes nothing that a turn speaks of, but the room for a page, and how much the log has room for.
 module _ {S D W : Type 0} (s : Site.Ghosts S) (d : Device.Ghosts D) (k : Work.Ghosts W) (old mid new : Worker S D)
-    (before left : W) (turned : Turned) (site : mid.site ≡ old.site)
-    (device : mid.device ≡ old.device) (hand : mid.hand ≡ old.hand) (log : mid.log.items ≡ old.log.items)
-    (layout : mid.layout ≡ old.layout) (len : length mid.log.items ≡ length old.log.items)
-    (grown : old.log.capacity ≤ mid.log.capacity) where
-  full_from : mid.log.capacity ≤ length mid.log.items → old.log.capacity ≤ length old.log.items
-  full_from full = omega (arith, len, grown, full)
-
-  makes_from : (is_logged : Bool) (ends : Turned) → Makes s d k is_logged mid before ends new left
-      → Makes s d k is_logged old before ends new left
-  makes_from is_logged ends t =
+    (before left : W) (site : mid.site ≡ old.site) (device : mid.device ≡ old.device) (hand : mid.hand ≡ old.hand)
+    (log : mid.log.items ≡ old.log.items) (layout : mid.layout ≡ old.layout) (end : end_of mid ≡ end_of old) where
+  request_from : (is_logged : Bool) (ends : Turned) → MakesRequest s d k is_logged mid before ends new left
+      → MakesRequest s d k is_logged old before ends new left
+  request_from is_logged ends t =
       record {
         asked = t.asked;
         response = t.response;
         after = t.after;
         between = t.between;
+        used = t.used;
         asks =
             subst (λ l. Asks d.read_gives d.write_leaves d.calls d.failures l old.hand.stage old.device t.asked new.device) layout
             (subst (λ h. Asks d.read_gives d.write_leaves d.calls d.failures mid.layout h.stage old.device t.asked new.device) hand
@@ -506,10 +542,33 @@ module _ {S D W : Type 0} (s : Site.Ghosts S) (d : Device.Ghosts D) (k : Work.Gh
         fits = t.fits;
         log = t.log ∙ ap (λ es. es ++ logged_events is_logged t.response.event) log;
         uses = t.uses;
+        tells =
+            subst (λ e. Tells k (page_called t.asked) t.used e t.response.event left (end_of new)) end t.tells;
         stage = t.stage;
         guards =
             t.guards
             ∙ ap (λ (h : Hand). places_with (places_without h.guards (guard_asked t.asked)) (guard_in t.after)) hand;
+      }
+
+module _ {S D W : Type 0} (s : Site.Ghosts S) (d : Device.Ghosts D) (k : Work.Ghosts W) (old mid new : Worker S D)
+    (before left : W) (turned : Turned) (site : mid.site ≡ old.site)
+    (device : mid.device ≡ old.device) (hand : mid.hand ≡ old.hand) (log : mid.log.items ≡ old.log.items)
+    (layout : mid.layout ≡ old.layout) (end : end_of mid ≡ end_of old)
+    (len : length mid.log.items ≡ length old.log.items) (grown : old.log.capacity ≤ mid.log.capacity) where
+  full_from : mid.log.capacity ≤ length mid.log.items → old.log.capacity ≤ length old.log.items
+  full_from full = omega (arith, len, grown, full)
+
+  makes_from : (is_logged : Bool) (ends : Turned) → Makes s d k is_logged mid before ends new left
+      → Makes s d k is_logged old before ends new left
+  makes_from is_logged ends t =
+      record {
+        lent = t.lent;
+        reworked = t.reworked;
+        reworks =
+            subst (λ (h : Hand). ReworksIf k h.stage before h.guards t.lent t.reworked) hand t.reworks;
+        makes =
+            request_from s d k (with_guards old t.lent) (with_guards mid t.lent) new t.reworked left site device
+            (ap (λ (h : Hand). record h { guards = t.lent }) hand) log layout end is_logged ends t.makes;
       }
 
   one_from : MakesOne s d k mid before turned new left → MakesOne s d k old before turned new left
@@ -546,6 +605,7 @@ module _ {S D W : Type 0} (s : Site.Ghosts S) (d : Device.Ghosts D) (k : Work.Gh
           device = w.device ∙ device;
           hand = w.hand ∙ hand;
           log = w.log ∙ log;
+          end = w.end ∙ end;
           work = w.work;
         })
       ]

@@ -12,5 +12,8 @@ pub mod Readings
 pub mod Fronts
 pub mod Flushings
 pub mod FlushTurns
+pub mod Lent
+pub mod Lending
+pub mod Together
 pub mod Turns
 pub mod ShortTurns

@@ -2,7 +2,8 @@
 use Rattle.std.specs.Prelude.{◌≡◌, ◌≢◌, ◌⊎◌, ◌==◌, if◌then◌else◌, ℕ, ◌+◌, ◌-◌, ◌^◌, ◌<◌, ◌≤◌, nat_lt, min, max, Bool, true, false, ◌&&◌, ◌||◌}
 use Rattle.std.specs.Prelude.{List, [], ◌∷◌, length, ◌++◌, slice_get, slice_set}
 use Rattle.std.specs.Prelude.{Option, None, Some, IfSome, IsSome}
-use Rattle.std.specs.Option.{is_some}
+use Rattle.std.specs.Prelude.{MatchOption}
+use Rattle.std.specs.Option.{is_some, option_map}
 use Rattle.pp_settings.specs.Layout.{Geometry, HasPage}
 use Rattle.pp_settings.specs.declared.extent.Extent.{Extent}
 use Rattle.pp_plan.specs.declared.mode.Mode.TheVariants as mode
@@ -10,6 +11,12 @@ use Rattle.pp_plan.specs.declared.action.Ask.{Ask}
 use Rattle.pp_plan.specs.declared.action.Ask.TheVariants as ask
 use Rattle.pp_core.specs.Fixing.{wanted}
 use Rattle.pp_model.specs.declared.event.Event.{Event}
+use Rattle.pp_model.specs.declared.event.Event.TheVariants.{Submit, Step}
+use Rattle.pp_model.specs.declared.moves.Move.{Move}
+use Rattle.pp_model.specs.declared.moves.Move.TheVariants as move
+use Rattle.pp_model.specs.declared.reply.Reply.{Reply}
+use Rattle.pp_model.specs.declared.reply.Reply.TheVariants as reply
+use Rattle.pp_model.specs.declared.reply.Ending.TheVariants as ending
 use Rattle.pp_journal.specs.Events.{Events}
 use Rattle.pp_model.specs.declared.refusals.Delay.TheVariants.{NothingWaiting}
 use Rattle.pp_device.specs.declared.device.Device as Device
@@ -28,7 +35,7 @@ use Rattle.pp_vault.specs.declared.stage.Stage.{Stage}
 use Rattle.pp_vault.specs.declared.stage.Stage.TheVariants as stage
 use Rattle.pp_vault.specs.declared.stage.Hand.{Hand}
 use Rattle.pp_vault.specs.Stages.{is_chair}
-use Rattle.pp_vault.specs.Duties.{duty_slot}
+use Rattle.pp_vault.specs.Duties.{duty_slot, duty_page}
 use Rattle.pp_vault.specs.Fits.{fix_slot}
 use Rattle.pp_vault.specs.Holding.{slot_by, placed, is_free, all_free, has_bundle}
 use Rattle.pp_vault.specs.Lending.{with_body}
@@ -41,10 +48,15 @@ use Rattle.pp_pool.specs.declared.turned.Turned.{Turned}
 use Rattle.pp_pool.specs.declared.turned.Turned.TheVariants.{Done, NotNow, Ended, NoMemory, Broken}
 use Rattle.pp_pool.specs.declared.site.Site as Site
 use Rattle.pp_pool.specs.declared.work.Work as Work
+use Rattle.pp_pool.specs.declared.work.Kind.{Kind}
+use Rattle.pp_pool.specs.declared.work.Kind.TheVariants as kind
+use Rattle.pp_pool.specs.declared.work.End.{End}
+use Rattle.pp_pool.specs.declared.work.End.TheVariants as end
 use Rattle.pp_pool.specs.declared.worker.Worker.{Worker}
 use Rattle.pp_pool.specs.Requests.{events_in}
 use Rattle.pp_pool.specs.Replies.{slot_for, Replies}
 use Rattle.pp_pool.specs.Flushings.{Sends, IsAnswer}
+use Rattle.pp_pool.specs.Lent.{lent_in, off_next, AreReworked}
 
 -- As many bytes as can be counted: a work that wants all of a page reaches for them.
 abbrev pub all_bytes : ℕ
@@ -89,12 +101,18 @@ Asks reads writes calls failures layout (stage.Out errand) old asked new =
 Asks reads writes calls failures layout (stage.Back returned) old asked new = IsTold returned asked × (new ≡ old)
 Asks reads writes calls failures layout (stage.Leaving leaver) old asked new = IsWayOut leaver asked × (new ≡ old)
 
--- The work is asked for a page: of the region that the plan's fix or gather names, from the region's first page on, of as many
--- as the region has.
+-- How the plan wants its next page, where it wants one: by a fix or by a gather.
+abbrev pub kind_of : Ask → Kind
+kind_of (ask.Gather slot region) = kind.Gather
+kind_of _ = kind.Fix
+
+-- The work is asked for a page: for the slot that the plan's fix or gather names, of the region that it names, from the region's
+-- first page on, of as many as the region has. It answers what it can for that slot, or what it can for any.
 abbrev pub ConsultsPage : {W : Type 0} → Work.Ghosts W → Geometry → (old : W) → Session → (page : ℕ) → (new : W) → Type 0
 ConsultsPage k layout old x page new =
     (slot : ℕ) × (region : ℕ) × (e : Extent) × (wanted x.ask ≡ Some (slot, region)) × (slice_get layout.extents region ≡ Some e)
-    × k.page_gives old region e.first e.count page new
+    × (k.page_into_gives old slot (kind_of x.ask) region e.first e.count page new
+    ⊎ k.page_gives old region e.first e.count page new)
 
 -- What the work is asked for the request: for a fix or a gather a page; for a choice a branch, of as many as the choice has.
 -- For any other request it is asked nothing, and is as it was.
@@ -104,6 +122,61 @@ Consults k layout old (request.Join x page) new = ConsultsPage k layout old x pa
 Consults k layout old (request.Choose x branch) new =
     (count : ℕ) × (x.ask ≡ ask.Choose count) × k.branch_gives old count branch new
 Consults k layout old _ new = new ≡ old
+
+-- ---- pages that the work is lent
+
+-- The work was lent exactly the pages that are latched X, before the latch of this slot comes off. What it left in their bodies is
+-- what stands in them now; nothing else has changed of the guards.
+pub record Reworks {W : Type 0} (k : Work.Ghosts W) (off : ℕ) (old : W) (places places' : List (Option Guard)) (new : W)
+    : Type 0 where
+  pub bodies : AreReworked places places'
+  pub left : k.rework_leaves old off (lent_in places) (lent_in places') new
+
+-- It is lent them before a latch X comes off, and at no other time. A work that does nothing with them leaves all as it was.
+abbrev pub ReworksIf : {W : Type 0} → Work.Ghosts W → Stage → (old : W) → (places places' : List (Option Guard)) → (new : W)
+    → Type 0
+ReworksIf k stage old places places' new =
+    MatchOption (off_next stage places) ((new ≡ old) × (places' ≡ places))
+    (λ off. Reworks k off old places places' new ⊎ ((new ≡ old) × (places' ≡ places)))
+
+-- ---- what the work is told of its plan
+
+-- The page with which a device was called, where the request tells what came of that.
+abbrev pub page_called : Request → Option ℕ
+page_called (request.Answer returned) = Some (duty_page returned.duty)
+page_called (request.AnswerJoin returned) = Some (duty_page returned.duty)
+page_called _ = None
+
+-- The work is told that its plan has ended so.
+abbrev pub IsToldEnd : {W : Type 0} → Work.Ghosts W → (old : W) → End → (new : W) → Type 0
+IsToldEnd k old e new = k.ended_leaves old e new ⊎ (new ≡ old)
+
+-- The work is told nothing, and no more is known of how its plan will end.
+abbrev pub TellsNothing : {W : Type 0} → (old : W) → (was : Option End) → (new : W) → (now : Option End) → Type 0
+TellsNothing old was new now = (new ≡ old) × (now ≡ was)
+
+-- What the work is told by the move and the reply of an event. A plan that was taken begins. One that was finished has ended: it is
+-- done, or gone as it was known to be. Where a call of the device came to a failure, it is known that the plan will end so, with the
+-- page of that call. By any other event the work is told nothing.
+abbrev pub TellsStep : {W : Type 0} → Work.Ghosts W → (called : Option ℕ) → (old : W) → (was : Option End) → Move → Reply
+    → (new : W) → (now : Option End) → Type 0
+TellsStep k called old was (move.Take w) (reply.Taken plan) new now =
+    (k.begins_leaves old plan new ⊎ (new ≡ old)) × (now ≡ was)
+TellsStep k called old was (move.ReadDone w came) (reply.Failed why) new now =
+    (new ≡ old) × (now ≡ option_map (λ page. end.Gone page why) called)
+TellsStep k called old was (move.WriteDone w ok) (reply.Failed why) new now =
+    (new ≡ old) × (now ≡ option_map (λ page. end.Gone page why) called)
+TellsStep k called old was (move.Finish w) (reply.Finished ending.Done) new now = IsToldEnd k old end.Done new × (now ≡ was)
+TellsStep k called old was (move.Finish w) (reply.Finished ending.Gone) new now =
+    MatchOption was (new ≡ old) (λ e. IsToldEnd k old e new) × (now ≡ None)
+TellsStep k called old was did out new now = TellsNothing old was new now
+
+-- What it is told by the event of a request, if there is one.
+abbrev pub Tells : {W : Type 0} → Work.Ghosts W → (called : Option ℕ) → (old : W) → (was : Option End) → Option Event
+    → (new : W) → (now : Option End) → Type 0
+Tells k called old was None new now = TellsNothing old was new now
+Tells k called old was (Some (Submit plan)) new now = TellsNothing old was new now
+Tells k called old was (Some (Step did out)) new now = TellsStep k called old was did out new now
 
 -- ---- the guards in hand
 
@@ -346,9 +419,13 @@ Uses s k site room old out turned after new = (turned ≡ Done) × (after ≡ ou
 abbrev pub room_of : {S D : Type 0} → Worker S D → ℕ
 room_of w = length w.seen.items
 
+-- How the plan that the worker leaves will end, where that is known.
+abbrev pub end_of : {S D : Type 0} → Worker S D → Option End
+end_of w = w.kept.end
+
 -- How far the worker knows its work to reach, if it does.
 abbrev pub reach_of : {S D : Type 0} → Worker S D → Option ℕ
-reach_of w = w.reach
+reach_of w = w.kept.reach
 
 -- What is added to a log: the event, unless the log had no room for it.
 abbrev pub logged_events : (is_logged : Bool) → Option Event → List Event
@@ -356,13 +433,15 @@ logged_events true event = events_in event
 logged_events false event = []
 
 -- One request is made of the site, and what comes of it is in hand. The work is asked for what the request wants, and does
--- what the answer lets it do; by that the turn would end so. The log grows by the event, if that is logged.
-pub record Makes {S D W : Type 0} (s : Site.Ghosts S) (d : Device.Ghosts D) (k : Work.Ghosts W) (is_logged : Bool)
+-- what the answer lets it do; by that the turn would end so. Then it is told of its plan. The log grows by the event, if that is
+-- logged.
+pub record MakesRequest {S D W : Type 0} (s : Site.Ghosts S) (d : Device.Ghosts D) (k : Work.Ghosts W) (is_logged : Bool)
     (old : Worker S D) (before : W) (ends : Turned) (new : Worker S D) (left : W) : Type 0 where
   pub asked : Request
   pub response : Response
   pub after : BookAnswer
   pub between : W
+  pub used : W
   pub asks : Asks d.read_gives d.write_leaves d.calls d.failures old.layout old.hand.stage old.device asked new.device
   pub consults : Consults k old.layout before asked between
   pub own : IsOwn old.hand.guards asked
@@ -371,9 +450,23 @@ pub record Makes {S D W : Type 0} (s : Site.Ghosts S) (d : Device.Ghosts D) (k :
   pub given : s.gives old.site asked response new.site
   pub fits : Replies asked response
   pub log : new.log.items ≡ old.log.items ++ logged_events is_logged response.event
-  pub uses : Uses s k new.site (room_of new) between response.answer ends after left
+  pub uses : Uses s k new.site (room_of new) between response.answer ends after used
+  pub tells : Tells k (page_called asked) used (end_of old) response.event left (end_of new)
   pub stage : stage_in after ≡ Some new.hand.stage
   pub guards : new.hand.guards ≡ places_with (places_without old.hand.guards (guard_asked asked)) (guard_in after)
+
+-- The worker with these guards in its hand.
+abbrev pub with_guards : {S D : Type 0} → Worker S D → List (Option Guard) → Worker S D
+with_guards w guards = record w { hand = record w.hand { guards = guards } }
+
+-- One request is made. Where it takes a latch X off, the work is lent the pages before, and what it left in them is in hand as the
+-- request is made.
+pub record Makes {S D W : Type 0} (s : Site.Ghosts S) (d : Device.Ghosts D) (k : Work.Ghosts W) (is_logged : Bool)
+    (old : Worker S D) (before : W) (ends : Turned) (new : Worker S D) (left : W) : Type 0 where
+  pub lent : List (Option Guard)
+  pub reworked : W
+  pub reworks : ReworksIf k old.hand.stage before old.hand.guards lent reworked
+  pub makes : MakesRequest s d k is_logged (with_guards old lent) reworked ends new left
 
 -- One request is made, and its event is logged.
 abbrev pub Turns : {S D W : Type 0} → Site.Ghosts S → Device.Ghosts D → Work.Ghosts W → (old : Worker S D) → (before : W)
@@ -412,6 +505,7 @@ pub record Waits {S D W : Type 0} (old : Worker S D) (before : W) (turned : Turn
   pub device : new.device ≡ old.device
   pub hand : new.hand ≡ old.hand
   pub log : new.log.items ≡ old.log.items
+  pub end : end_of new ≡ end_of old
   pub work : left ≡ before
 
 -- A turn makes one request, or waits.
@@ -458,10 +552,16 @@ pub record MakesRoom {S D : Type 0} (s : Site.Ghosts S) (old : Worker S D) (turn
 
 -- ---- a turn by what it changes
 
--- The worker with these tokens, this site and device, and this log.
-abbrev pub worker_with : {S D : Type 0} → Worker S D → Stage → List (Option Guard) → S → D → Events → Worker S D
-worker_with w stage guards site device log =
-    record w { site = site; device = device; hand = record { stage = stage; guards = guards }; log = log }
+-- The worker with these tokens, this site and device, this log, and this end of a plan that it leaves.
+abbrev pub worker_with : {S D : Type 0} → Worker S D → Stage → List (Option Guard) → S → D → Events → Option End → Worker S D
+worker_with w stage guards site device log e =
+    record w {
+      site = site;
+      device = device;
+      hand = record { stage = stage; guards = guards };
+      log = log;
+      kept = record w.kept { end = e };
+    }
 
 -- A turn makes of the one worker the other, whatever a worker of this layout, with so much room for a page, has besides.
 abbrev pub TurnOf : {S D W : Type 0} → Site.Ghosts S → Device.Ghosts D → Work.Ghosts W → Geometry → (room : ℕ)

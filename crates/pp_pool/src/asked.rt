@@ -14,7 +14,7 @@ ghost use Rattle.pp_pool.specs.Turns.{guard_asked, places_without, suits, is_sui
 ghost use Rattle.pp_pool.specs.Turns.{has_place as page_may_come};
 
 use crate::request::Request;
-use crate::work::Work;
+use crate::work::{Kind, Work};
 use pp_device::Device;
 use pp_plan::{Ask, Mode};
 use pp_settings::Layout;
@@ -155,7 +155,7 @@ pub(crate) fn page_for<W: Work>(
     let _extents = layout.extents();
     match layout.extent(region) {
         Some(extent) if guards.is_free(u32::from(slot)) => {
-            let page = work.page(region, extent.first, extent.count);
+            let page = work.page_into(slot, Kind::Fix, region, extent.first, extent.count);
             Some(page)
         }
         _ => None,
@@ -182,14 +182,14 @@ fn gather<W: Work>(
     ensures work { OnErr result (work.new ≡ work.old) }
 {
     let _extents = layout.extents();
-    let slot = u32::from(slot);
+    let place = u32::from(slot);
     match layout.extent(region) {
-        Some(extent) if guards.is_free(slot) => {
-            let first = work.page(region, extent.first, extent.count);
+        Some(extent) if guards.is_free(place) => {
+            let first = work.page_into(slot, Kind::Gather, region, extent.first, extent.count);
             Ok(Request::Fix(session, first))
         }
-        Some(extent) if guards.has_bundle(slot) => {
-            let further = work.page(region, extent.first, extent.count);
+        Some(extent) if guards.has_bundle(place) => {
+            let further = work.page_into(slot, Kind::Gather, region, extent.first, extent.count);
             Ok(Request::Join(session, further))
         }
         _ => Err(session),

@@ -4,6 +4,7 @@
 pub use book::Book;
 pub use error::{BookError, BookRenewError};
 pub use flusher::Flusher;
+pub use held::{Held, Loan, Slots};
 pub use pp_journal::Journal;
 pub use pp_model::Event;
 pub use pp_outset::Outset;
@@ -11,14 +12,17 @@ pub use request::Request;
 pub use response::{BookAnswer, Response};
 pub use site::{OwnSite, Site};
 pub use turned::Turned;
-pub use work::Work;
+pub use work::{End, Kind, Work};
 pub use worker::Worker;
 
 mod asked;
 mod asking;
 mod book;
+mod both;
 mod error;
 mod flusher;
+mod held;
+mod lending;
 mod reading;
 mod renewing;
 mod request;

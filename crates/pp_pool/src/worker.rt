@@ -5,27 +5,42 @@ ghost use Rattle.pp_vault.specs.Stages.{is_chair, stage_worker};
 ghost use Rattle.pp_settings.specs.Settings.{geometry_of};
 ghost use Rattle.pp_pool.specs.declared.turned.Turned.TheVariants.{Broken};
 ghost use Rattle.pp_pool.specs.Turns.{TurnIs, TurnOf, TurnsBehind, MakesOne, MakesRoom, room_of, reach_of, worker_with, Uses, LooksAt};
-ghost use Rattle.pp_pool.specs.Turns.{IsLong, IsReach, all_bytes};
+ghost use Rattle.pp_pool.specs.Turns.{IsLong, IsReach, all_bytes, end_of, ReworksIf, Tells};
+ghost use Rattle.pp_pool.specs.Turns.{page_called as called_page};
+ghost use Rattle.pp_pool.specs.Lent.{off_next};
 ghost use Rattle.pp_pool.specs.Turns.{KeepsPlace, keeps_place, logged_events, IsWorkers, FindsPlace};
-ghost use Rattle.pp_pool.specs.ShortTurns.{Comes};
+ghost use Rattle.pp_pool.specs.ShortTurns.{Comes, ComesTold};
 ghost use Rattle.pp_pool.specs.Turns.{has_errand as errand_is_there, turned_by as turned_then};
 
 use crate::asked::next;
+use crate::held::{Room, first_exclusive, is_exclusive};
+use crate::lending::lend;
 use crate::reading::read_on;
 use crate::request::Request;
 use crate::response::{BookAnswer, Response};
 use crate::site::{SHORTEST, Site};
 use crate::taken::stage_after;
 use crate::turned::Turned;
-use crate::work::Work;
+use crate::work::{End, Work};
 use core::mem;
 use pp_device::{Device, image};
 use pp_journal::Journal;
-use pp_model::Event;
+use pp_model::{Ending, Event, Move, Reply};
 use pp_plan::Ask;
 use pp_settings::{Layout, Settings};
 use pp_vault::{Delay, Guards, Hand, ReadGuard, Refusal, Session, Stage};
 use std::alloc::{AllocError, Global};
+
+/// What a worker keeps beside its tokens, from one turn to the next.
+struct Kept {
+    // How far the work reaches, where it was asked that before the hold of the lock in which it is shown the page.
+    reach: Option<usize>,
+    // Room for the pages that are latched X, where the work is lent them. There is none before a plan is taken.
+    room: Room,
+    // How the plan that is being left ends, since a call of the device failed in it. None in a plan, and where the tokens were
+    // those of a plan that was being left already.
+    end: Option<End>,
+}
 
 /// A worker with its tokens, the site where it asks, the device that it calls, and a log of what it did.
 pub struct Worker<S, D> {
@@ -43,8 +58,7 @@ pub struct Worker<S, D> {
     pub page_bytes: u32,
     // Room for one page; the front of it has what was shown last. Empty before a plan is taken.
     seen: Vec<u8>,
-    // How far the work reaches, where it was asked that before the hold of the lock in which it is shown the page.
-    reach: Option<usize>,
+    kept: Kept,
     alloc: Global,
 }
 
@@ -59,6 +73,7 @@ impl<S: Site, D: Device> Worker<S, D> {
         ensures page_bytes { result.page_bytes ≡ settings.now.page_bytes }
         ensures room { room_of result ≡ 0 }
         ensures reach { reach_of result ≡ None }
+        ensures end { end_of result ≡ None }
     {
         Worker::over(
             alloc,
@@ -91,6 +106,7 @@ impl<S: Site, D: Device> Worker<S, D> {
         ensures page_bytes { result.page_bytes ≡ page_bytes }
         ensures room { room_of result ≡ 0 }
         ensures reach { reach_of result ≡ None }
+        ensures end { end_of result ≡ None }
     {
         Worker {
             site,
@@ -100,7 +116,11 @@ impl<S: Site, D: Device> Worker<S, D> {
             layout,
             page_bytes,
             seen: Vec::new(alloc),
-            reach: None,
+            kept: Kept {
+                reach: None,
+                room: Room::closed(alloc),
+                end: None,
+            },
             alloc,
         }
     }
@@ -109,8 +129,8 @@ impl<S: Site, D: Device> Worker<S, D> {
     /// is idle, a plan. With an errand in hand it calls the device once before; else it makes no call of the device.
     ///
     /// The event of the request, if it is done, comes into the log. Before it takes a plan the worker gets room for one
-    /// image, and in its log for as many events as the dearest of all plans can make; where that can't be had, the
-    /// answer is [`Turned::NoMemory`] and nothing was done. A log that is full all the same, as it was taken out or replaced
+    /// image, in its log for as many events as the dearest of all plans can make, and for the pages that the work is lent, if it
+    /// wants them ([`Work::rework`]); where that can't be had, the answer is [`Turned::NoMemory`] and nothing was done. A log that is full all the same, as it was taken out or replaced
     /// meanwhile, gets room for one event, if there is memory.
     ///
     /// An errand in hand never waits. Its call is made, and what came back is sent, also where the log gets no room; then the
@@ -138,9 +158,9 @@ impl<S: Site, D: Device> Worker<S, D> {
         ensures page_bytes { self.new.page_bytes ≡ self.old.page_bytes }
         ensures reach { reach_of self.new ≡ None }
     {
-        self.reach = None;
+        self.kept.reach = None;
         let turned = self.turn_on(work);
-        self.reach = None;
+        self.kept.reach = None;
         self.site.let_go();
         turned
     }
@@ -176,7 +196,7 @@ impl<S: Site, D: Device> Worker<S, D> {
             &mut self.site,
             &mut self.log,
             &mut self.seen,
-            &mut self.reach,
+            &mut self.kept.reach,
             work,
         );
         match read {
@@ -199,7 +219,7 @@ impl<S: Site, D: Device> Worker<S, D> {
         ensures page_bytes { self.new.page_bytes ≡ self.old.page_bytes }
         ensures reach { IsReach W.Work (reach_of self.new) work.new }
     {
-        if self.make_room().is_err() {
+        if self.make_room(W::wants_rework()).is_err() {
             return Turned::NoMemory;
         }
         if !has_room(&mut self.log) && !has_errand(&self.hand.stage) {
@@ -213,7 +233,7 @@ impl<S: Site, D: Device> Worker<S, D> {
             &mut self.device,
             &mut self.log,
             &mut self.seen,
-            &mut self.reach,
+            &mut self.kept,
             work,
         )
     }
@@ -230,15 +250,21 @@ impl<S: Site, D: Device> Worker<S, D> {
             layout: _,
             page_bytes: _,
             seen: _seen,
-            reach: _,
+            kept,
             alloc: _,
         } = self;
+        let Kept {
+            reach: _,
+            room,
+            end: _,
+        } = kept;
+        room.end();
         (site, device, hand, log)
     }
 
-    /// Gets the room that a plan wants, where the worker is idle: for one image, and in the log for the dearest of all
-    /// submitted plans.
-    fn make_room(&mut self) -> Result<(), AllocError>
+    /// Gets the room that a plan wants, where the worker is idle: for one image, in the log for the dearest of all submitted plans,
+    /// and for the pages that are latched X, if the work is lent them.
+    fn make_room(&mut self, is_lent: bool) -> Result<(), AllocError>
         ensures site { self.new.site ≡ self.old.site }
         ensures device { self.new.device ≡ self.old.device }
         ensures hand { self.new.hand ≡ self.old.hand }
@@ -248,6 +274,7 @@ impl<S: Site, D: Device> Worker<S, D> {
         ensures layout { self.new.layout ≡ self.old.layout }
         ensures page_bytes { self.new.page_bytes ≡ self.old.page_bytes }
         ensures reach { reach_of self.new ≡ reach_of self.old }
+        ensures end { end_of self.new ≡ end_of self.old }
         ensures busy { is_chair self.old.hand.stage ≡ false → self.new ≡ self.old }
         ensures err { OnErr result (is_chair self.old.hand.stage ≡ true) }
         ensures room { OnOk result (is_chair self.old.hand.stage ≡ true
@@ -261,6 +288,9 @@ impl<S: Site, D: Device> Worker<S, D> {
         }
         if self.seen.is_empty() {
             self.seen = vec![in self.alloc; 0; self.page_bytes as usize]?;
+        }
+        if is_lent {
+            self.kept.room.open()?;
         }
         let most = self.site.most().max(1);
         self.site.let_go();
@@ -300,36 +330,36 @@ fn ask<S: Site, D: Device, W: Work>(
     device: &mut D,
     log: &mut Journal,
     seen: &mut Vec<u8>,
-    reach: &mut Option<usize>,
+    kept: &mut Kept,
     work: &mut W,
 ) -> Turned
     requires room { errand_is_there stage.old ≡ false → length log.old.items < log.old.capacity }
-    requires reach { IsReach W.Work reach.old work.old }
+    requires reach { IsReach W.Work kept.old.reach work.old }
     ensures turn { TurnOf S.Site D.Device W.Work layout.now (length seen.old.items)
-        (λ w. worker_with w stage.old guards.old site.old device.old log.old) work.old result
-        (λ w. worker_with w stage.new guards.new site.new device.new log.new) work.new }
+        (λ w. worker_with w stage.old guards.old site.old device.old log.old kept.old.end) work.old result
+        (λ w. worker_with w stage.new guards.new site.new device.new log.new kept.new.end) work.new }
     ensures keeps { keeps_place guards.old stage.old ≡ true → keeps_place guards.new stage.new ≡ true }
     ensures memory { log.new.capacity ≡ log.old.capacity }
     ensures seen { length seen.new.items ≡ length seen.old.items }
     ensures worker { stage_worker stage.new ≡ stage_worker stage.old }
-    ensures reach { IsReach W.Work reach.new work.new }
+    ensures reach { IsReach W.Work kept.new.reach work.new }
 {
-    let around = (guards, site, device, log, seen, reach, work);
+    let around = (guards, site, device, log, seen, kept, work);
     let (turned, around) = mem::replace_with(stage, around, |stage, around| {
-        let (guards, site, device, log, seen, reach, work) = around;
-        let (stage, turned) = asked(stage, guards, layout, site, device, log, seen, reach, work);
+        let (guards, site, device, log, seen, kept, work) = around;
+        let (stage, turned) = asked(stage, guards, layout, site, device, log, seen, kept, work);
         (
             stage,
-            (turned, (guards, site, device, log, seen, reach, work)),
+            (turned, (guards, site, device, log, seen, kept, work)),
         )
     });
-    let (guards, site, device, log, seen, reach, work) = around;
+    let (guards, site, device, log, seen, kept, work) = around;
     taken_back(guards);
     taken_back(site);
     taken_back(device);
     taken_back(log);
     taken_back(seen);
-    taken_back(reach);
+    taken_back(kept);
     taken_back(work);
     turned
 }
@@ -349,28 +379,79 @@ fn asked<S: Site, D: Device, W: Work>(
     device: &mut D,
     log: &mut Journal,
     seen: &mut Vec<u8>,
-    reach: &mut Option<usize>,
+    kept: &mut Kept,
     work: &mut W,
 ) -> (Stage, Turned)
     requires room { errand_is_there stage ≡ false → length log.old.items < log.old.capacity }
-    requires reach { IsReach W.Work reach.old work.old }
+    requires reach { IsReach W.Work kept.old.reach work.old }
     ensures turn { TurnOf S.Site D.Device W.Work layout.now (length seen.old.items)
-        (λ w. worker_with w stage guards.old site.old device.old log.old) work.old result.1
-        (λ w. worker_with w result.0 guards.new site.new device.new log.new) work.new }
+        (λ w. worker_with w stage guards.old site.old device.old log.old kept.old.end) work.old result.1
+        (λ w. worker_with w result.0 guards.new site.new device.new log.new kept.new.end) work.new }
     ensures keeps { keeps_place guards.old stage ≡ true → keeps_place guards.new result.0 ≡ true }
     ensures memory { log.new.capacity ≡ log.old.capacity }
     ensures seen { length seen.new.items ≡ length seen.old.items }
     ensures worker { stage_worker result.0 ≡ stage_worker stage }
-    ensures reach { IsReach W.Work reach.new work.new }
+    ensures reach { IsReach W.Work kept.new.reach work.new }
 {
     let_go_unless_at_once(&stage, site);
-    *reach = None;
+    kept.reach = None;
+    rework(&stage, guards, site, &mut kept.room, work);
     match next(stage, guards, layout, device, work) {
         Ok(request) => {
-            ask_reach(&request, reach, work);
-            made_any(request, guards, site, log, seen, reach, work)
+            ask_reach(&request, &mut kept.reach, work);
+            made_any(
+                request,
+                guards,
+                site,
+                log,
+                seen,
+                &mut kept.reach,
+                &mut kept.end,
+                work,
+            )
         }
         Err(stage) => (stage, Turned::Broken),
+    }
+}
+
+/// Has the work change the pages that are latched X, where the stage's next request takes a latch X off. A worker that was made with
+/// the tokens of a plan under way has no room for that before its next plan.
+fn rework<S: Site, W: Work>(
+    stage: &Stage,
+    guards: &mut Guards,
+    site: &mut S,
+    room: &mut Room,
+    work: &mut W,
+)
+    ensures reworks { ReworksIf W.Work stage.now work.old guards.old guards.new work.new }
+    ensures site { site.new ≡ site.old }
+{
+    if !W::wants_rework() || !room.is_open() {
+        return;
+    }
+    let Some(off) = slot_off(stage, guards) else {
+        return;
+    };
+    site.let_go();
+    let (guards, work) = mem::replace_with(room, (guards, work), |room, (guards, work)| {
+        let room = lend(guards, room, off, work);
+        (room, (guards, work))
+    });
+    taken_back(guards);
+    taken_back(work);
+}
+
+/// The slot whose latch X the stage's next request takes off, if it does.
+fn slot_off(stage: &Stage, guards: &Guards) -> Option<u8>
+    ensures { result ≡ off_next stage.now guards.now }
+{
+    match stage {
+        Stage::In(session) => match session.ask() {
+            Ask::Unlatch { slot } if is_exclusive(guards, u32::from(slot)) => Some(slot),
+            _ => None,
+        },
+        Stage::Leaving(_) => first_exclusive(guards),
+        _ => None,
     }
 }
 
@@ -404,7 +485,7 @@ pub(crate) fn made<S: Site, W: Work>(
     (stage, ended(is_logged, turned))
 }
 
-/// The same, where the kind of the request isn't known.
+/// The same, where the kind of the request isn't known. The work is told if its plan begins or has ended by it.
 #[inline(never)]
 fn made_any<S: Site, W: Work>(
     request: Request,
@@ -413,18 +494,80 @@ fn made_any<S: Site, W: Work>(
     log: &mut Journal,
     seen: &mut Vec<u8>,
     reach: &mut Option<usize>,
+    end: &mut Option<End>,
     work: &mut W,
 ) -> (Stage, Turned)
     requires workers { IsWorkers request }
     requires finds { FindsPlace guards.old request }
     requires reach { IsReach W.Work reach.old work.old }
-    ensures comes { Comes S.Site W.Work (length seen.old.items) request guards.old site.old log.old work.old result.1 result.0
-        guards.new site.new log.new work.new }
+    ensures comes { ComesTold S.Site W.Work (length seen.old.items) request guards.old site.old log.old end.old work.old result.1
+        result.0 guards.new site.new log.new end.new work.new }
     ensures memory { log.new.capacity ≡ log.old.capacity }
     ensures seen { length seen.new.items ≡ length seen.old.items }
     ensures reach { IsReach W.Work reach.new work.new }
 {
-    made(request, guards, site, log, seen, reach, work)
+    let called = page_called(&request);
+    let Response { event, answer } = site.perform(request);
+    let is_logged = add(log, event);
+    let (answer, turned) = used(answer, site, seen, reach, work);
+    let stage = stage_after(guards, answer);
+    let_go_unless_at_once(&stage, site);
+    tell(event, called, site, reach, end, work);
+    (stage, ended(is_logged, turned))
+}
+
+/// The page of the device's call, where the request tells what came of one.
+fn page_called(request: &Request) -> Option<u32>
+    ensures { result ≡ called_page request.now }
+{
+    match request {
+        Request::Answer(returned) => Some(returned.page()),
+        Request::AnswerJoin(returned) => Some(returned.page()),
+        _ => None,
+    }
+}
+
+/// Tells the work that its plan begins or has ended, where the event is of that. Where a call of the device with this page failed, so
+/// that the plan is left, it is kept as that plan's end. How far a work reaches that was told isn't known any more.
+fn tell<S: Site, W: Work>(
+    event: Option<Event>,
+    called: Option<u32>,
+    site: &mut S,
+    reach: &mut Option<usize>,
+    end: &mut Option<End>,
+    work: &mut W,
+)
+    requires { IsReach W.Work reach.old work.old }
+    ensures tells { Tells W.Work called work.old end.old event work.new end.new }
+    ensures site { site.new ≡ site.old }
+    ensures reach { IsReach W.Work reach.new work.new }
+{
+    let Some(Event::Step { did, reply }) = event else {
+        return;
+    };
+    match (did, reply) {
+        (Move::Take { worker: _ }, Reply::Taken { plan }) => {
+            site.let_go();
+            *reach = None;
+            work.begins(plan);
+        }
+        (Move::ReadDone { .. } | Move::WriteDone { .. }, Reply::Failed(why)) => {
+            *end = called.map(|page| End::Gone { page, why });
+        }
+        (Move::Finish { worker: _ }, Reply::Finished(Ending::Done)) => {
+            site.let_go();
+            *reach = None;
+            work.ended(End::Done);
+        }
+        (Move::Finish { worker: _ }, Reply::Finished(Ending::Gone)) => {
+            site.let_go();
+            *reach = None;
+            if let Some(gone) = end.take() {
+                work.ended(gone);
+            }
+        }
+        _ => {}
+    }
 }
 
 /// Lets the site go, unless the stage's next request wants neither the work nor the device.

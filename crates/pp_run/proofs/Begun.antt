@@ -73,6 +73,12 @@ adds_a_move : (o : Option (Move × Reply)) → list_all is_move (events_in (opti
 adds_a_move None = refl
 adds_a_move (Some t) = refl
 
+pub performs_adds : (old : Parts) (asked : Request) (response : Response) (new : Parts) → Performs old asked response new
+    → list_all is_move (events_in response.event) ≡ true
+performs_adds old asked response new p =
+    ap (λ e. list_all is_move (events_in e)) p.event
+    ∙ adds_a_move (told (state_of old) (call_of old.vault asked (state_of old)))
+
 pub performs_submits : (n : ℕ) (old : Parts) (asked : Request) (response : Response) (new : Parts)
     → Performs old asked response new → take n old.journal ≡ submits 0 n → take n new.journal ≡ submits 0 n
 performs_submits n old asked response new p begins =
@@ -83,9 +89,7 @@ pub performs_moves : (n : ℕ) (old : Parts) (asked : Request) (response : Respo
     → Performs old asked response new → take n old.journal ≡ submits 0 n
     → list_all is_move (drop n old.journal) ≡ true → list_all is_move (drop n new.journal) ≡ true
 performs_moves n old asked response new p begins moves =
-    let added : list_all is_move (events_in response.event) ≡ true
-    = ap (λ e. list_all is_move (events_in e)) p.event
-    ∙ adds_a_move (told (state_of old) (call_of old.vault asked (state_of old))) in
+    let added : list_all is_move (events_in response.event) ≡ true = performs_adds old asked response new p in
     ap (λ es. list_all is_move (drop n es)) p.journal
     ∙ (ap (list_all is_move) (drop-append-le n old.journal (events_in response.event) (reaches n old.journal begins))
     ∙ (list_all-append is_move (drop n old.journal) (events_in response.event)

@@ -1,5 +1,7 @@
 -- A life that goes on by the turns of one thread.
-use Rattle.std.proofs.Common.{◌≡◌, ◌∙◌, ℕ, List, [], ◌++◌, append_assoc, append-nil, refl, sym, ap, inl, inr}
+use Rattle.std.proofs.Common.{◌≡◌, ◌∙◌, ℕ, ◌&&◌, List, [], ◌++◌, append_assoc, append-nil, refl, sym, ap, inl, inr}
+use Rattle.std.specs.List.{list_all}
+use Rattle.std.proofs.lemmas.List.Folds.{list_all-append}
 use Rattle.pp_device.specs.Answers.{Answer as DeviceAnswer}
 use Rattle.pp_device.specs.declared.device.Device as Device
 use Rattle.pp_pool.specs.declared.flusher.Flusher.{Flusher}
@@ -15,18 +17,31 @@ use Rattle.pp_pool.specs.Parts.{Parts, settings_of, plans_of}
 use Rattle.pp_pool.specs.Performs.{Performs}
 use Rattle.pp_pool.specs.Requests.{events_in}
 use Rattle.pp_pool.specs.Turns.{TurnIs}
+use Rattle.pp_report.specs.Reports.{is_move}
 use Rattle.pp_run.specs.GoingOn.{GoesOn}
+use Rattle.pp_run.proofs.Begun.{performs_adds}
+use Rattle.pp_run.proofs.Paged.{performs_pages}
 
 pub stays : (b : Parts) → GoesOn b b
-stays b = record { settings = refl; plans = refl; outset = refl; more = []; journal = sym (append-nil b.journal) }
+stays b = record {
+  settings = refl;
+  plans = refl;
+  outset = refl;
+  page_bytes = refl;
+  more = [];
+  journal = sym (append-nil b.journal);
+  moves = refl;
+}
 
 pub same_goes : (b c : Parts) → c ≡ b → GoesOn b c
 same_goes b c same = record {
   settings = ap settings_of same;
   plans = ap plans_of same;
   outset = ap (λ (p : Parts). p.began) same;
+  page_bytes = ap (λ (p : Parts). p.vault.page_bytes) same;
   more = [];
   journal = ap (λ (p : Parts). p.journal) same ∙ sym (append-nil b.journal);
+  moves = refl;
 }
 
 pub then_goes : (a b c : Parts) → GoesOn a b → GoesOn b c → GoesOn a c
@@ -34,10 +49,14 @@ then_goes a b c first second = record {
   settings = second.settings ∙ first.settings;
   plans = second.plans ∙ first.plans;
   outset = second.outset ∙ first.outset;
+  page_bytes = second.page_bytes ∙ first.page_bytes;
   more = first.more ++ second.more;
   journal =
       second.journal
       ∙ (ap (λ es. es ++ second.more) first.journal ∙ append_assoc a.journal first.more second.more);
+  moves =
+      list_all-append is_move first.more second.more
+      ∙ (ap (λ x. x && list_all is_move second.more) first.moves ∙ second.moves);
 }
 
 pub performed : (a b : Parts) (asked : Request) (response : Response) → Performs a asked response b → GoesOn a b
@@ -45,8 +64,10 @@ performed a b asked response p = record {
   settings = p.settings;
   plans = p.plans;
   outset = p.outset;
+  page_bytes = performs_pages a asked response b p;
   more = events_in response.event;
   journal = p.journal;
+  moves = performs_adds a asked response b p;
 }
 
 -- ---- turns
@@ -60,10 +81,11 @@ IsOwn gives =
 pub turned : {D W : Type 0} (s : Site.Ghosts OwnSite) (d : Device.Ghosts D) (k : Work.Ghosts W) (old : Worker OwnSite D)
     (before : W) (t : Turned) (new : Worker OwnSite D) (left : W) → TurnIs s d k old before t new left → IsOwn s.gives
     → GoesOn old.site.book new.site.book
-turned s d k old before t new left (inl (inl m)) own =
+turned s d k old before t new left (inl (inl made)) own =
+    let m = made.makes in
     performed old.site.book new.site.book m.asked m.response (own old.site m.asked m.response new.site m.given)
 turned s d k old before t new left (inl (inr u)) own =
-    let m = u.makes in
+    let m = u.makes.makes in
     performed old.site.book new.site.book m.asked m.response (own old.site m.asked m.response new.site m.given)
 turned s d k old before t new left (inr w) own =
     same_goes old.site.book new.site.book (ap (λ (x : OwnSite). x.book) w.site)

@@ -13,6 +13,7 @@ pub mod Submitted
 pub mod Ready
 pub mod GoingOn
 pub mod Begun
+pub mod Paged
 pub mod Judged
 pub mod Tried
 pub mod Places

@@ -97,3 +97,10 @@ ended o plans b left opened planned first moves over is under dirty flushes flus
 -- The opening state of a book's life, by its settings and its outset.
 pub opened_as : (k : Settings) (o : Outset) (b : Parts) → settings_of b ≡ k → b.began ≡ o → opening_of b ≡ opens_with k o
 opened_as k o b of_settings began = ap (λ x. opens_with x b.began) of_settings ∙ ap (opens_with k) began
+
+-- The end of a life that a pool began whose settings and outset its book had, of plans that are named otherwise.
+pub ends_from : (p : Rested) (plans given : List Acceptance) (first b : Parts) (dirty : ℕ) → settings_of first ≡ p.settings
+    → first.began ≡ p.began → given ≡ plans → IsEnd (opening_of first) given b dirty → IsEnd (rested.opening_of p) plans b dirty
+ends_from p plans given first b dirty of_settings began named end =
+    subst (λ ps. IsEnd (rested.opening_of p) ps b dirty) named
+    (subst (λ o. IsEnd o given b dirty) (opened_as p.settings p.began first of_settings began) end)

@@ -20,13 +20,14 @@ use Rattle.pp_pool.specs.Renewals.{IsRenewCause, HasLifeRoom}
 use Rattle.pp_pool.specs.declared.error.BookRenewError.{BookRenewError}
 use Rattle.pp_pool.specs.declared.error.BookRenewError.TheVariants.{OutOfMemory, Refused}
 use Rattle.pp_run.specs.declared.error.RunError.{RunError}
+use Rattle.pp_run.specs.declared.stalled.Stalled.{Stalled}
 use Rattle.pp_run.specs.declared.error.RunError.TheVariants as run_errors
 use Rattle.pp_report.specs.Reports.{is_move}
 use Rattle.pp_run.specs.Planned.{HasPlanned, HasRoomFor}
 use Rattle.pp_run.specs.Joins.{IsAnswer}
 use Rattle.pp_run.specs.Runs.{submits, IsRunError, IsRunErrorFrom}
 use Rattle.pp_run.specs.RunErrors.{unrenewed_by}
-use Rattle.pp_run.specs.Unrun.{IsNotBegun, IsStopped, IsUnready}
+use Rattle.pp_run.specs.Unrun.{IsNotBegun, IsStopped, IsUnready, MayNotBegin}
 use Rattle.pp_run.proofs.Ran.{opened_as}
 use Rattle.pp_run.proofs.Rests.{at_begin}
 
@@ -64,15 +65,23 @@ unready b capacity flusher (Refused error) is cause has = (is, λ none. (let h =
 pub none_planned : (k : Settings) (o : Outset) → HasPlanned k.layout 0 (2 * k.flushes) (opens_with k o)
 none_planned k o = record { layout = refl; plans = refl; events = omega arith }
 
--- An error of a book that isn't ready is one for which no run is begun.
-pub not_begun : (o : State) (b : Parts) (plans : List Acceptance) (error : RunError) → state_of b ≡ o
-    → b.workers ≡ o.settings.workers → IsOk (after_submits o plans) → IsUnready b error → IsNotBegun o plans error
-not_begun o b plans (run_errors.Broken w) same workers taken h =
-    (h.0 ∙ workers, subst (λ s. renew_error s ≢ None) same h.1, taken)
-not_begun o b plans (run_errors.Refused error) same workers taken h = absurd h
-not_begun o b plans run_errors.OutOfMemory same workers taken h = absurd h
-not_begun o b plans (run_errors.Mismatch w) same workers taken h = absurd h
-not_begun o b plans (run_errors.NoThread w) same workers taken h = absurd h
+-- An error of a book that isn't ready is one for which no life begins.
+pub may_not_begin : (o : State) (b : Parts) (error : RunError) → state_of b ≡ o → b.workers ≡ o.settings.workers
+    → IsUnready b error → MayNotBegin o error
+may_not_begin o b (run_errors.Broken w) same workers h = (h.0 ∙ workers, subst (λ s. renew_error s ≢ None) same h.1)
+may_not_begin o b (run_errors.Refused error) same workers h = absurd h
+may_not_begin o b run_errors.OutOfMemory same workers h = absurd h
+may_not_begin o b (run_errors.Mismatch w) same workers h = absurd h
+may_not_begin o b (run_errors.NoThread w) same workers h = absurd h
+
+-- Where all plans are taken in, no run of them is begun then.
+pub not_begun : (o : State) (plans : List Acceptance) (error : RunError) → IsOk (after_submits o plans) → MayNotBegin o error
+    → IsNotBegun o plans error
+not_begun o plans (run_errors.Broken w) taken h = (h.0, h.1, taken)
+not_begun o plans (run_errors.Refused error) taken h = absurd h
+not_begun o plans run_errors.OutOfMemory taken h = taken
+not_begun o plans (run_errors.Mismatch w) taken h = absurd h
+not_begun o plans (run_errors.NoThread w) taken h = absurd h
 
 -- ---- a run that stopped
 
@@ -81,14 +90,18 @@ pub taken_at_begin : (b : Parts) (plans : List Acceptance) → b.journal ≡ [] 
     → IsOk (after_submits (opening_of b) plans)
 taken_at_begin b plans none taken = subst (λ s. IsOk (after_submits s plans)) (at_begin b none) taken
 
-pub stopped : (b new : Parts) (plans : List Acceptance) → settings_of new ≡ settings_of b → new.began ≡ b.began
-    → plans_of new ≡ plans → take (length plans) new.journal ≡ submits 0 (length plans)
-    → list_all is_move (drop (length plans) new.journal) ≡ true → IsStopped (opening_of b) plans new
-stopped b new plans settings began planned first moves = record {
-  opened = opened_as (settings_of b) b.began new settings began;
+pub stopped : (b : Parts) (bytes from : ℕ) (s : Stalled) (plans : List Acceptance) → settings_of s.book ≡ settings_of b
+    → s.book.began ≡ b.began → plans_of s.book ≡ plans → take (length plans) s.book.journal ≡ submits 0 (length plans)
+    → list_all is_move (drop (length plans) s.book.journal) ≡ true → s.layout ≡ (settings_of b).layout → s.page_bytes ≡ bytes
+    → s.from ≡ from → IsStopped (opening_of b) bytes from plans s
+stopped b bytes from s plans settings began planned first moves layout page_bytes sought = record {
+  opened = opened_as (settings_of b) b.began s.book settings began;
   planned = planned;
   submits_first = first;
   then_moves = moves;
+  layout = layout;
+  page_bytes = page_bytes;
+  from = sought;
 }
 
 -- ---- a new pool

@@ -1,6 +1,7 @@
 -- What a run makes of a pool that is kept, and of a new one.
-use Rattle.std.proofs.Common.{◌≡◌, ◌∙◌, ℕ, List, length, sym, ap, subst, inr}
-use Rattle.std.specs.Prelude.{◌⊎◌}
+use Rattle.std.proofs.Common.{◌≡◌, ◌∙◌, ℕ, List, length, take, drop, sym, ap, subst, inr, arith}
+use Rattle.std.specs.Prelude.{◌⊎◌, IsOk}
+use Rattle.std.specs.List.{list_all}
 use Rattle.pp_cert.specs.Accepted.{Acceptance}
 use Rattle.pp_core.specs.Opening.{kept_of}
 use Rattle.pp_model.specs.declared.event.Event.{Event}
@@ -8,19 +9,24 @@ use Rattle.pp_model.specs.Pool.{State, Settings, opening}
 use Rattle.pp_model.specs.Journals.{replay}
 use Rattle.pp_model.specs.Lives.{IsLife}
 use Rattle.pp_model.specs.Renewing.{renewed}
+use Rattle.pp_model.specs.Submitting.{after_submits}
 use Rattle.pp_outset.specs.Outsets.{new_outset, outset_of}
 use Rattle.pp_pool.specs.Books.{IsBook}
 use Rattle.pp_pool.specs.Parts.{Parts, settings_of, plans_of, opening_of, state_of}
 use Rattle.pp_report.specs.declared.record.RunRecord.{RunRecord}
 use Rattle.pp_report.specs.Audits.{IsOver, IsWhole}
+use Rattle.pp_report.specs.Reports.{is_move}
 use Rattle.pp_settings.specs.Settings.{Configuration}
 use Rattle.pp_vault.specs.declared.hands.Hands.{Hands}
 use Rattle.pp_run.specs.declared.error.RunError.{RunError}
 use Rattle.pp_run.specs.declared.error.RunError.TheVariants.{Refused, OutOfMemory, Mismatch, Broken, NoThread}
+use Rattle.pp_run.specs.declared.stalled.Stalled.{Stalled}
+use Rattle.pp_run.specs.Calling.{sought_behind}
 use Rattle.pp_run.specs.Joins.{IsAnswer, IsAnswerFrom}
 use Rattle.pp_run.specs.Rested.{Rested, ComesBack, IsEnd, IsNotRenewed, KeptFor}
 use Rattle.pp_run.specs.Rested as rested
 use Rattle.pp_run.specs.Runs.{AllCalled, IsRun, IsRunFrom, IsRunError, IsRunErrorFrom}
+use Rattle.pp_run.specs.Unrun.{IsStopped, MayStop}
 use Rattle.pp_run.proofs.Ran.{opened_new, ran, ran_over, ran_whole, same_end}
 
 -- ---- the next life
@@ -38,11 +44,11 @@ pub over_of : (o : State) (plans : List Acceptance) (b : Parts) (dirty : ℕ) (e
 over_of o plans b dirty events end book journal =
     subst (λ es. IsOver plans (replay plans o es)) (sym journal) (ran_over o plans b dirty end book)
 
-pub comes_back : (p q : Rested) (plans : List Acceptance) (b : Parts) (dirty bytes : ℕ) (events : List Event)
+pub comes_back : (p q : Rested) (plans : List Acceptance) (b : Parts) (dirty bytes from : ℕ) (events : List Event)
     → IsEnd (rested.opening_of p) plans b dirty → events ≡ b.journal → q.settings ≡ settings_of b → q.page_bytes ≡ bytes
     → bytes ≡ p.page_bytes → q.began ≡ outset_of (state_of b) → rested.opening_of q ≡ renewed (state_of b)
-    → ComesBack p plans events q
-comes_back p q plans b dirty bytes events end journal settings page_bytes same began opens =
+    → q.from ≡ sought_behind from b.journal → from ≡ p.from → ComesBack p plans events q
+comes_back p q plans b dirty bytes from events end journal settings page_bytes same began opens sought at =
     let o = rested.opening_of p in
     let there : state_of b ≡ replay plans o events
     = same_end o plans b end.opened end.planned ∙ ap (replay plans o) (sym journal) in
@@ -51,6 +57,7 @@ comes_back p q plans b dirty bytes events end journal settings page_bytes same b
       page_bytes = page_bytes ∙ same;
       began = began ∙ ap outset_of there;
       opens = opens ∙ ap renewed there;
+      from = sought ∙ (ap (λ n. sought_behind n b.journal) at ∙ ap (sought_behind p.from) (sym journal));
     }
 
 pub called_on : {D : Type 0} (calls failures : D → ℕ) (workers : ℕ) (devices : List D) (old events : List Event)
@@ -74,6 +81,39 @@ kept_verdict calls failures o plans devices b c dirty hands (Broken w) end same 
       record { end = subst (λ n. IsEnd o plans b n) end.newer end; cause = kept.1 },
     ))
 kept_verdict calls failures o plans devices b c dirty hands (NoThread w) end same kept = absurd kept
+
+pub kept_error : (o : State) (plans : List Acceptance) (b : Parts) (dirty : ℕ) (hands : Hands) (error : RunError)
+    → IsOk (after_submits o plans) → IsEnd o plans b dirty → KeptFor b hands error → IsRunErrorFrom o plans error
+kept_error o plans b dirty hands (Refused error) taken end kept = absurd kept
+kept_error o plans b dirty hands OutOfMemory taken end kept = absurd kept
+kept_error o plans b dirty hands (Mismatch w) taken end kept = absurd kept
+kept_error o plans b dirty hands (Broken w) taken end kept =
+    let is : w ≡ o.settings.workers = kept.0 ∙ ap (λ (s : State). s.settings.workers) end.opened in
+    record { taken = taken; within = omega (arith, is) }
+kept_error o plans b dirty hands (NoThread w) taken end kept = absurd kept
+
+-- So a run is left that came to its end.
+pub kept_stopped : (p : Rested) (plans : List Acceptance) (b : Parts) (dirty : ℕ) (s : Stalled)
+    → IsEnd (rested.opening_of p) plans b dirty → s.book ≡ b → s.layout ≡ (settings_of s.book).layout
+    → s.page_bytes ≡ p.page_bytes → s.from ≡ p.from → IsStopped (rested.opening_of p) p.page_bytes p.from plans s
+kept_stopped p plans b dirty s end same laid page_bytes from =
+    let opened : opening_of s.book ≡ rested.opening_of p = ap opening_of same ∙ end.opened in
+    record {
+      opened = opened;
+      planned = ap plans_of same ∙ end.planned;
+      submits_first = ap (λ (c : Parts). take (length plans) c.journal) same ∙ end.submits_first;
+      then_moves = ap (λ (c : Parts). list_all is_move (drop (length plans) c.journal)) same ∙ end.then_moves;
+      layout = laid ∙ ap (λ (o : State). o.settings.layout) opened;
+      page_bytes = page_bytes;
+      from = from;
+    }
+
+pub kept_may_stop : (b : Parts) (hands : Hands) (error : RunError) → KeptFor b hands error → MayStop error
+kept_may_stop b hands (Refused error) kept = absurd kept
+kept_may_stop b hands OutOfMemory kept = tt
+kept_may_stop b hands (Mismatch w) kept = tt
+kept_may_stop b hands (Broken w) kept = tt
+kept_may_stop b hands (NoThread w) kept = tt
 
 -- ---- a new pool
 

@@ -21,49 +21,52 @@ use Rattle.pp_report.specs.Reports.{is_move}
 use Rattle.pp_run.specs.Runs.{submits}
 use Rattle.pp_run.specs.Shared.{IsGiven}
 use Rattle.pp_run.proofs.Begun.{performs_submits, performs_moves}
+use Rattle.pp_run.proofs.Paged.{performs_pages}
 
--- What holds of a run's book: its settings, its plans, what its life began with, and that its journal begins with the submits of
--- these plans and goes on with moves.
-pub record IsOfRun (k : Settings) (plans : List Acceptance) (o : Outset) (b : Parts) : Type 0 where
+-- What holds of a run's book: its settings, its plans, what its life began with, how many bytes a page has, and that its journal
+-- begins with the submits of these plans and goes on with moves.
+pub record IsOfRun (k : Settings) (plans : List Acceptance) (o : Outset) (n : ℕ) (b : Parts) : Type 0 where
   pub settings : settings_of b ≡ k
   pub taken : plans_of b ≡ plans
   pub outset : b.began ≡ o
+  pub page_bytes : b.vault.page_bytes ≡ n
   pub begun : take (length plans) b.journal ≡ submits 0 (length plans)
   pub moving : list_all is_move (drop (length plans) b.journal) ≡ true
 
-performs_kept : (k : Settings) (plans : List Acceptance) (o : Outset) (old : Parts) (asked : Request) (response : Response)
-    (new : Parts) → Performs old asked response new → IsOfRun k plans o old → IsOfRun k plans o new
-performs_kept k plans o old asked response new p h =
+performs_kept : (k : Settings) (plans : List Acceptance) (o : Outset) (n : ℕ) (old : Parts) (asked : Request) (response : Response)
+    (new : Parts) → Performs old asked response new → IsOfRun k plans o n old → IsOfRun k plans o n new
+performs_kept k plans o n old asked response new p h =
     record {
       settings = p.settings ∙ h.settings;
       taken = p.plans ∙ h.taken;
       outset = p.outset ∙ h.outset;
+      page_bytes = performs_pages old asked response new p ∙ h.page_bytes;
       begun = performs_submits (length plans) old asked response new p h.begun;
       moving = performs_moves (length plans) old asked response new p h.begun h.moving;
     }
 
 -- So it is after a reading that began, and after one that ended.
-pub read_kept : (k : Settings) (plans : List Acceptance) (o : Outset) (old new : OwnSite) (x : Session) (page : ℕ)
+pub read_kept : (k : Settings) (plans : List Acceptance) (o : Outset) (n : ℕ) (old new : OwnSite) (x : Session) (page : ℕ)
     (r : Result (Session × ReadGuard × ℕ) Session)
     → IfOk r (λ now. ReadsBy (λ s asked response t. Performs s.book asked response t.book) old x page new now.0 now.1 now.2)
-    → OnErr r (new ≡ old) → IsOfRun k plans o old.book → IsOfRun k plans o new.book
-read_kept k plans o old new x page (Ok now) p same h =
-    performs_kept k plans o p.between.book _ _ new.book p.latches (performs_kept k plans o old.book _ _ p.between.book p.fixes h)
-read_kept k plans o old new x page (Err e) p same h = subst (λ (t : OwnSite). IsOfRun k plans o t.book) (sym same) h
+    → OnErr r (new ≡ old) → IsOfRun k plans o n old.book → IsOfRun k plans o n new.book
+read_kept k plans o n old new x page (Ok now) p same h =
+    performs_kept k plans o n p.between.book _ _ new.book p.latches (performs_kept k plans o n old.book _ _ p.between.book p.fixes h)
+read_kept k plans o n old new x page (Err e) p same h = subst (λ (t : OwnSite). IsOfRun k plans o n t.book) (sym same) h
 
-pub ended_kept : (k : Settings) (plans : List Acceptance) (o : Outset) (old new : OwnSite) (x : Session) (g : ReadGuard)
+pub ended_kept : (k : Settings) (plans : List Acceptance) (o : Outset) (n : ℕ) (old new : OwnSite) (x : Session) (g : ReadGuard)
     (r : Result (Session × ℕ) (Session × ReadGuard))
     → IfOk r (λ now. EndsReadBy (λ s asked response t. Performs s.book asked response t.book) old x g new now.0 now.1)
-    → OnErr r (new ≡ old) → IsOfRun k plans o old.book → IsOfRun k plans o new.book
-ended_kept k plans o old new x g (Ok now) p same h =
-    performs_kept k plans o p.between.book _ _ new.book p.unfixes
-    (performs_kept k plans o old.book _ _ p.between.book p.unlatches h)
-ended_kept k plans o old new x g (Err e) p same h = subst (λ (t : OwnSite). IsOfRun k plans o t.book) (sym same) h
+    → OnErr r (new ≡ old) → IsOfRun k plans o n old.book → IsOfRun k plans o n new.book
+ended_kept k plans o n old new x g (Ok now) p same h =
+    performs_kept k plans o n p.between.book _ _ new.book p.unfixes
+    (performs_kept k plans o n old.book _ _ p.between.book p.unlatches h)
+ended_kept k plans o n old new x g (Err e) p same h = subst (λ (t : OwnSite). IsOfRun k plans o n t.book) (sym same) h
 
 -- A desk gives what its site gives, also between the two moves of a reading. One can be made with any site whose book is of the run.
-module _ {T : Type 0} (own : T → OwnSite) (k : Settings) (plans : List Acceptance) (o : Outset)
-    (made : (s : OwnSite) → IsOfRun k plans o s.book → T) (is : (s : OwnSite) (h : IsOfRun k plans o s.book) → own (made s h) ≡ s)
-    (old new : T) (h : IsOfRun k plans o (own old).book) where
+module _ {T : Type 0} (own : T → OwnSite) (k : Settings) (plans : List Acceptance) (o : Outset) (n : ℕ)
+    (made : (s : OwnSite) → IsOfRun k plans o n s.book → T) (is : (s : OwnSite) (h : IsOfRun k plans o n s.book) → own (made s h) ≡ s)
+    (old new : T) (h : IsOfRun k plans o n (own old).book) where
   abbrev gives_own : OwnSite → Request → Response → OwnSite → Type 0
   gives_own s asked response t = Performs s.book asked response t.book
 
@@ -74,7 +77,7 @@ module _ {T : Type 0} (own : T → OwnSite) (k : Settings) (plans : List Accepta
       → IfOk r (λ now. ReadsBy gives_own (own old) x page (own new) now.0 now.1 now.2)
       → IfOk r (λ now. ReadsBy gives_desk old x page new now.0 now.1 now.2)
   desk_reads x page (Ok now) p =
-      let kept = performs_kept k plans o (own old).book _ _ p.between.book p.fixes h in
+      let kept = performs_kept k plans o n (own old).book _ _ p.between.book p.fixes h in
       let at = sym (is p.between kept) in
       record {
         between = made p.between kept;
@@ -92,7 +95,7 @@ module _ {T : Type 0} (own : T → OwnSite) (k : Settings) (plans : List Accepta
       → IfOk r (λ now. EndsReadBy gives_own (own old) x g (own new) now.0 now.1)
       → IfOk r (λ now. EndsReadBy gives_desk old x g new now.0 now.1)
   desk_ends x g (Ok now) p =
-      let kept = performs_kept k plans o (own old).book _ _ p.between.book p.unlatches h in
+      let kept = performs_kept k plans o n (own old).book _ _ p.between.book p.unlatches h in
       let at = sym (is p.between kept) in
       record {
         between = made p.between kept;

@@ -290,10 +290,11 @@ pub record Kept {S D : Type 0} (calls failures : D → ℕ) (old new : Worker S 
 
 module _ {S D W : Type 0} (s : Site.Ghosts S) (d : Device.Ghosts D) (k : Work.Ghosts W) (old new : Worker S D)
     (before left : W) where
-  turns_kept : (t : Turns s d k old before Done new left) → IsAtWork old.hand.stage
+  turns_kept : (made : Turns s d k old before Done new left) → IsAtWork old.hand.stage
       → Kept d.calls d.failures old new
-  turns_kept t work =
-      let went = done_is_yes s k new.site _ t.between left t.response.answer t.after t.uses in
+  turns_kept made work =
+      let t = made.makes in
+      let went = done_is_yes s k new.site _ t.between t.used t.response.answer t.after t.uses in
       let tells = told t.asked t.response t.fits went in
       let c = asked_calls d.read_gives d.write_leaves d.calls d.failures old.layout old.hand.stage old.device t.asked new.device
       t.response.event work t.asks tells in
@@ -305,7 +306,7 @@ module _ {S D W : Type 0} (s : Site.Ghosts S) (d : Device.Ghosts D) (k : Work.Gh
       let a = c.called in let b = c.failed in let p = tells.step calls_of in let q = tells.step failed_calls_of in
       record {
         counts = record { called = omega (arith, n, a, p); failed = omega (arith, m, b, q) };
-        work = still_at_work s k new.site _ t.between left Done t.asked t.response.answer t.after new.hand.stage
+        work = still_at_work s k new.site _ t.between t.used Done t.asked t.response.answer t.after new.hand.stage
             (asked_of_worker d.read_gives d.write_leaves d.calls d.failures old.layout old.hand.stage old.device t.asked new.device work t.asks)
             t.fits.tokens went t.uses t.stage;
       }
@@ -326,31 +327,33 @@ module _ {S D W : Type 0} (s : Site.Ghosts S) (d : Device.Ghosts D) (k : Work.Gh
   pub no_memory_counts : TurnIs s d k old before NoMemory new left
       → CountsBy d.calls d.failures old.device old.log.items new.device new.log.items
   no_memory_counts (inl (inr t)) = let broken = t.broken in absurd cc
-  no_memory_counts (inl (inl t)) = absurd (never_no_memory s k new.site _ t.between left t.response.answer t.after t.uses)
+  no_memory_counts (inl (inl made)) =
+      let t = made.makes in absurd (never_no_memory s k new.site _ t.between t.used t.response.answer t.after t.uses)
   no_memory_counts (inr w) = same_counts w.device w.log
 
-  back_stage : (site : S) (room : ℕ) (work : W) (turned : Turned) (asked : Request) (out after : BookAnswer) (t : Stage)
-      → is_no out ≡ true → TokensFit asked out → Uses s k site room work out turned after left
+  back_stage : (site : S) (room : ℕ) (work used : W) (turned : Turned) (asked : Request) (out after : BookAnswer) (t : Stage)
+      → is_no out ≡ true → TokensFit asked out → Uses s k site room work out turned after used
       → stage_in after ≡ Some t → stage_asked asked ≡ Some t
-  back_stage site room work turned asked (answer.No r why) after t is_back fit uses is =
+  back_stage site room work used turned asked (answer.No r why) after t is_back fit uses is =
       sym (ap stage_asked fit) ∙ (sym (ap stage_in uses.1) ∙ is)
-  back_stage site room work turned asked (answer.Acts x) after t is_back fit uses is = absurd (false≢true is_back)
-  back_stage site room work turned asked (answer.Idle x) after t is_back fit uses is = absurd (false≢true is_back)
-  back_stage site room work turned asked (answer.Leaves x) after t is_back fit uses is = absurd (false≢true is_back)
-  back_stage site room work turned asked (answer.Pinned x g) after t is_back fit uses is = absurd (false≢true is_back)
-  back_stage site room work turned asked (answer.Opened x g) after t is_back fit uses is = absurd (false≢true is_back)
-  back_stage site room work turned asked (answer.Joined x) after t is_back fit uses is = absurd (false≢true is_back)
-  back_stage site room work turned asked (answer.Shared x g) after t is_back fit uses is = absurd (false≢true is_back)
-  back_stage site room work turned asked (answer.Exclusive x g) after t is_back fit uses is = absurd (false≢true is_back)
-  back_stage site room work turned asked (answer.Away errand) after t is_back fit uses is = absurd (false≢true is_back)
-  back_stage site room work turned asked (answer.Flushed clean) after t is_back fit uses is = absurd (false≢true is_back)
+  back_stage site room work used turned asked (answer.Acts x) after t is_back fit uses is = absurd (false≢true is_back)
+  back_stage site room work used turned asked (answer.Idle x) after t is_back fit uses is = absurd (false≢true is_back)
+  back_stage site room work used turned asked (answer.Leaves x) after t is_back fit uses is = absurd (false≢true is_back)
+  back_stage site room work used turned asked (answer.Pinned x g) after t is_back fit uses is = absurd (false≢true is_back)
+  back_stage site room work used turned asked (answer.Opened x g) after t is_back fit uses is = absurd (false≢true is_back)
+  back_stage site room work used turned asked (answer.Joined x) after t is_back fit uses is = absurd (false≢true is_back)
+  back_stage site room work used turned asked (answer.Shared x g) after t is_back fit uses is = absurd (false≢true is_back)
+  back_stage site room work used turned asked (answer.Exclusive x g) after t is_back fit uses is = absurd (false≢true is_back)
+  back_stage site room work used turned asked (answer.Away errand) after t is_back fit uses is = absurd (false≢true is_back)
+  back_stage site room work used turned asked (answer.Flushed clean) after t is_back fit uses is = absurd (false≢true is_back)
 
-  turns_ended : (t : Turns s d k old before Ended new left) → is_chair new.hand.stage ≡ true
+  turns_ended : (made : Turns s d k old before Ended new left) → is_chair new.hand.stage ≡ true
       → CountsBy d.calls d.failures old.device old.log.items new.device new.log.items
-  turns_ended t chair =
-      let is_back = ended_is_no s k new.site _ t.between left t.response.answer t.after t.uses in
+  turns_ended made chair =
+      let t = made.makes in
+      let is_back = ended_is_no s k new.site _ t.between t.used t.response.answer t.after t.uses in
       let none = untold t.asked t.response t.fits is_back in
-      let back = back_stage new.site _ t.between Ended t.asked t.response.answer t.after new.hand.stage is_back t.fits.tokens t.uses t.stage in
+      let back = back_stage new.site _ t.between t.used Ended t.asked t.response.answer t.after new.hand.stage is_back t.fits.tokens t.uses t.stage in
       let device = chair_calls_none d.read_gives d.write_leaves d.calls d.failures old.layout old.hand.stage old.device t.asked new.device
       new.hand.stage chair back t.asks in
       let log : new.log.items ≡ old.log.items ++ [] = t.log ∙ ap (λ e. old.log.items ++ events_in e) none in

@@ -1,11 +1,12 @@
 -- The calls of devices that events tell of.
-use Rattle.std.specs.Prelude.{ℕ, ◌+◌, if◌then◌else◌, List, [], ◌∷◌}
+use Rattle.std.specs.Prelude.{ℕ, ◌+◌, if◌then◌else◌, Some, List, [], ◌∷◌}
 use Rattle.pp_model.specs.declared.moves.Came.{Came}
 use Rattle.pp_model.specs.declared.moves.Came.TheVariants.{Fault, Image}
 use Rattle.pp_model.specs.declared.moves.Move.{Move}
 use Rattle.pp_model.specs.declared.moves.Move.TheVariants.{WriteDone, ReadDone, FlushBegin, FlushDone}
 use Rattle.pp_model.specs.declared.event.Event.{Event}
 use Rattle.pp_model.specs.declared.event.Event.TheVariants.{Submit, Step}
+use Rattle.pp_pool.specs.Flushings.{from_after}
 
 -- ---- calls for a worker
 
@@ -64,3 +65,9 @@ failed_flushes_in es = total failed_flushes_of es
 
 abbrev pub begun_flushes_in : List Event → ℕ
 begun_flushes_in es = total begun_flushes_of es
+
+-- The page number from which the next flush is sought behind these events, where it was sought from this one before them: behind
+-- the page whose flush was begun last.
+abbrev pub sought_behind : (from : ℕ) → List Event → ℕ
+sought_behind from [] = from
+sought_behind from (e ∷ es) = sought_behind (from_after from (Some e)) es

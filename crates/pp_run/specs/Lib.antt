@@ -7,6 +7,7 @@ pub mod Counted
 pub mod Runs
 pub mod Rested
 pub mod Unrun
+pub mod Queries
 pub mod GoingOn
 pub mod Planned
 pub mod RunLives

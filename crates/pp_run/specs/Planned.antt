@@ -1,5 +1,5 @@
 -- Plans that are looked at before they are submitted.
-use Rattle.std.specs.Prelude.{◌≡◌, ◌≤◌, ◌+◌, ℕ, Err, IsOk, List, length, sum_by}
+use Rattle.std.specs.Prelude.{◌≡◌, ◌≤◌, ◌+◌, ℕ, Err, IsOk, List, length, map, sum_by}
 use Rattle.pp_settings.specs.Layout.{Geometry}
 use Rattle.pp_cert.specs.Accepted.{Acceptance}
 use Rattle.pp_model.specs.declared.refusals.SubmitError.{SubmitError}
@@ -7,6 +7,10 @@ use Rattle.pp_model.specs.Pool.{State}
 use Rattle.pp_model.specs.Budget.{bound, cost_of, journal_need}
 use Rattle.pp_model.specs.Submitting.{after_submits}
 use Rattle.pp_pool.specs.Parts.{Parts, state_of}
+
+-- The plans that are handed over with works.
+abbrev pub plans_in : {W : Type 0} → List (Acceptance × W) → List Acceptance
+plans_in asked = map (λ q. q.0) asked
 
 -- A state of a pool with this layout, to which so many plans were submitted, for which its journal needs so many events besides the
 -- submits.

@@ -18,7 +18,7 @@ use Rattle.pp_pool.specs.Parts as parts
 use Rattle.pp_report.specs.Reports.{is_move}
 use Rattle.pp_run.specs.declared.error.RunError.{RunError}
 use Rattle.pp_run.specs.declared.error.RunError.TheVariants.{Broken}
-use Rattle.pp_run.specs.Calling.{begun_flushes_in}
+use Rattle.pp_run.specs.Calling.{begun_flushes_in, sought_behind}
 use Rattle.pp_run.specs.Runs.{submits}
 
 -- What clauses see of a pool between two runs.
@@ -29,17 +29,20 @@ pub record Rested : Type 0 where
   pub page_bytes : ℕ
   -- what its next life begins with
   pub began : Outset
+  -- the page number from which its next run's first flush is sought
+  pub from : ℕ
 
 -- The state in which its next life begins.
 abbrev pub opening_of : Rested → State
 opening_of p = opens_with p.settings p.began
 
 -- The pool that a run gives back: of the same settings, and its next life begins with what the run's life left. That is the
--- state of a pool which is renewed at the run's end.
+-- state of a pool which is renewed at the run's end. Its flushes go on behind the page whose flush the run began last.
 pub record ComesBack (p : Rested) (plans : List Acceptance) (events : List Event) (q : Rested) : Type 0 where
   pub settings : q.settings ≡ p.settings
   pub page_bytes : q.page_bytes ≡ p.page_bytes
   pub began : q.began ≡ outset_of (replay plans (opening_of p) events)
+  pub from : q.from ≡ sought_behind p.from events
   pub opens : opening_of q ≡ renewed (replay plans (opening_of p) events)
 
 -- ---- tokens
@@ -55,15 +58,18 @@ pub record AreIdle (workers : ℕ) (hands : Hands) : Type 0 where
 
 -- ---- how it is kept
 
-abbrev pub rested_in : Parts → (page_bytes : ℕ) → Rested
-rested_in b page_bytes = record { settings = settings_of b; page_bytes = page_bytes; began = b.began }
+abbrev pub rested_in : Parts → (page_bytes from : ℕ) → Rested
+rested_in b page_bytes from =
+    record { settings = settings_of b; page_bytes = page_bytes; began = b.began; from = from }
 
--- Nothing was done in the book's life yet: no plan was submitted, and no token is in use. The layout is the book's.
-pub record IsRested (b : Parts) (hands : Hands) (geometry : Geometry) : Type 0 where
+-- Nothing was done in the book's life yet: no plan was submitted, and no token is in use. The layout is the book's, and a page has
+-- as many bytes as in its vault.
+pub record IsRested (b : Parts) (hands : Hands) (geometry : Geometry) (bytes : ℕ) : Type 0 where
   pub journal : b.journal ≡ []
   pub plans : plans_of b ≡ []
   pub idle : AreIdle b.workers hands
   pub layout : geometry ≡ b.vault.core.layout
+  pub page_bytes : bytes ≡ b.vault.page_bytes
 
 -- ---- the end of a run
 

@@ -1,7 +1,8 @@
 //! What a journal tells of flushes.
 
-ghost use Rattle.std.specs.Prelude.{◌≡◌, ◌+◌, ◌^◌, ◌<◌, ◌≤◌};
-ghost use Rattle.pp_run.specs.Calling.{ended_flushes_in, failed_flushes_in, begun_flushes_in};
+ghost use Rattle.std.specs.Prelude.{◌≡◌, ◌+◌, ◌^◌, ◌<◌, ◌≤◌, Some};
+ghost use Rattle.pp_pool.specs.Flushings.{from_after as from_then};
+ghost use Rattle.pp_run.specs.Calling.{ended_flushes_in, failed_flushes_in, begun_flushes_in, sought_behind};
 ghost use Rattle.pp_run.specs.Calling.{at_event, ended_flushes_of, failed_flushes_of, begun_flushes_of};
 
 use pp_model::{Event, Move};
@@ -62,4 +63,29 @@ fn counted(counts: FlushCounts, event: Event) -> FlushCounts
         _ => {}
     }
     counts
+}
+
+/// The page number from which the next flush is sought behind these events, where it was sought from this one before them.
+pub(crate) fn sought_from(events: &Journal, from: u32) -> u32
+    ensures { result ≡ sought_behind from events.now.items }
+{
+    let mut sought = from;
+    for place in 0..events.len() {
+        let event = events.event(place);
+        sought = from_after(sought, event);
+    }
+    sought
+}
+
+/// Where the next flush is sought behind this event.
+fn from_after(from: u32, event: Event) -> u32
+    ensures { result ≡ from_then from (Some event) }
+{
+    match event {
+        Event::Step {
+            did: Move::FlushBegin { page },
+            ..
+        } => page.saturating_add(1),
+        _ => from,
+    }
 }

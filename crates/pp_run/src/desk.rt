@@ -47,9 +47,9 @@ pub trait Desk: Site {
 }
 
 /// Whose journal a run's book has: of these settings, of these plans, which were all submitted, and of a life that began with
-/// this outset. Each run picks it.
+/// this outset; and how many bytes its pages have. Each run picks it.
 pub(crate) trait Naming {
-    ghost use Rattle.std.specs.Prelude.{List};
+    ghost use Rattle.std.specs.Prelude.{ℕ, List};
     ghost use Rattle.pp_cert.specs.Accepted.{Acceptance};
     ghost use Rattle.pp_model.specs.Pool.{Settings};
     ghost use Rattle.pp_outset.specs.Outsets.{Outset};
@@ -59,9 +59,11 @@ pub(crate) trait Naming {
     ghost plans: { List Acceptance };
 
     ghost outset: { Outset };
+
+    ghost page_bytes: { ℕ };
 }
 
-/// The book of a run, of these settings, plans and outset, with its tokens. It counts the plans that end. Its journal begins with
+/// The book of a run, of these settings, plans, outset and bytes of a page, with its tokens. It counts the plans that end. Its journal begins with
 /// the submits of all plans, and each event behind these is a move.
 ///
 /// The compiler refuses code that lets it fall.
@@ -74,6 +76,7 @@ pub(crate) struct RunDesk<'a, N: Naming> {
     ghost settings: { settings_of site.book ≡ N.settings },
     ghost plans: { plans_of site.book ≡ N.plans } by { Coded-set (coded_list coded_acceptance) (plans_of site.book) N.plans },
     ghost outset: { site.book.began ≡ N.outset } by { Coded-set coded_outset site.book.began N.outset },
+    ghost page_bytes: { site.book.vault.page_bytes ≡ N.page_bytes },
     ghost begun: { take (length N.plans) site.book.journal ≡ submits 0 (length N.plans) } by { Coded-set coded_events (take (length N.plans) site.book.journal) (submits 0 (length N.plans)) },
     ghost moving: { list_all is_move (drop (length N.plans) site.book.journal) ≡ true },
 }
@@ -89,6 +92,7 @@ impl<'a, N: Naming> RunDesk<'a, N> {
         requires settings { settings_of book ≡ N.settings }
         requires plans { plans_of book ≡ N.plans }
         requires outset { book.began ≡ N.outset }
+        requires page_bytes { book.vault.page_bytes ≡ N.page_bytes }
         requires journal { book.journal ≡ submits 0 (length N.plans) }
     {
         RunDesk {
@@ -105,6 +109,7 @@ impl<'a, N: Naming> RunDesk<'a, N> {
         ensures settings { settings_of result.0 ≡ N.settings }
         ensures plans { plans_of result.0 ≡ N.plans }
         ensures outset { result.0.began ≡ N.outset }
+        ensures page_bytes { result.0.vault.page_bytes ≡ N.page_bytes }
         ensures submits { take (length N.plans) result.0.journal ≡ submits 0 (length N.plans) }
         ensures moves { list_all is_move (drop (length N.plans) result.0.journal) ≡ true }
     {
@@ -208,4 +213,6 @@ impl Naming for Brand {
     ghost plans = { [] };
 
     ghost outset = { new_outset no_settings };
+
+    ghost page_bytes = { 0 };
 }

@@ -23,7 +23,6 @@ pub(crate) fn flush_on<'a, B: Desk, D: Device, R: Wait>(
     let mut flusher = Flusher::new(site, device);
     flusher.from = from;
     let stop = turns(rt, &mut flusher);
-    let from = flusher.from;
     let (site, device, flushing, ended, failed) = flusher.end();
     match flushing {
         None => {}
@@ -33,7 +32,6 @@ pub(crate) fn flush_on<'a, B: Desk, D: Device, R: Wait>(
         device,
         ended,
         failed,
-        from,
         stop,
     }
 }

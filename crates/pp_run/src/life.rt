@@ -1,6 +1,6 @@
 //! One life of a pool, on threads.
 
-ghost use Rattle.std.specs.Prelude.{◌≡◌, ◌≢◌, ◌+◌, ◌≤◌, ◌<◌, ◌^◌, true, [], IfOk, IfErr, IsOk, OnOk, length, sum_by, is_none, vec_len};
+ghost use Rattle.std.specs.Prelude.{◌≡◌, ◌≢◌, ◌+◌, ◌-◌, ◌*◌, ◌≤◌, ◌<◌, ◌^◌, true, [], IfOk, IfErr, IsOk, OnOk, length, sum_by, is_none, vec_len};
 ghost use Rattle.pp_model.specs.Budget.{cost_of};
 ghost use Rattle.pp_model.specs.Pool.{dirty_pages};
 ghost use Rattle.pp_model.specs.Submitting.{after_submits};
@@ -15,7 +15,7 @@ ghost use Rattle.pp_run.specs.Joins.{IsAnswerFrom};
 ghost use Rattle.pp_run.specs.Rested.{opening_of, IsEnd};
 ghost use Rattle.pp_run.specs.Planned.{HasRoomFor};
 ghost use Rattle.pp_run.specs.Runs.{AllCalled, IsRunErrorFrom};
-ghost use Rattle.pp_run.specs.Unrun.{IsNotBegun, IsStopped, IsUnready, MayStop};
+ghost use Rattle.pp_run.specs.Unrun.{IsNotBegun, IsStopped, IsUnready, MayNotBegin, MayStop};
 ghost use Rattle.pp_run.specs.Verdicts.{IsVerdict};
 ghost use Rattle.pp_run.specs.declared.error.RunError.TheVariants as run_errors;
 
@@ -49,8 +49,6 @@ pub(crate) struct Ended<D> {
     pub(crate) plans: u16,
     pub(crate) dirty: u32,
     pub(crate) devices: Vec<D>,
-    // Where the flusher has come.
-    pub(crate) from: u32,
 }
 
 impl<D: Drop> Ended<D> {
@@ -66,7 +64,6 @@ impl<D: Drop> Ended<D> {
             plans,
             dirty,
             devices,
-            from: _,
         } = self;
         let (events, _dirty) = stalled.close();
         let record = RunRecord {
@@ -107,18 +104,46 @@ pub(crate) fn made_ready(
     ensures fresh { IfOk result (λ r. (r.book.journal ≡ []) × (plans_of r.book ≡ [])) }
     ensures layout { IfOk result (λ r. r.pages.0 ≡ pool.settings.layout) }
     ensures page_bytes { IfOk result (λ r. r.pages.1 ≡ pool.page_bytes) }
+    ensures vault_bytes { IfOk result (λ r. r.pages.1 ≡ r.book.vault.page_bytes) }
+    ensures from { IfOk result (λ r. r.from ≡ pool.from) }
     ensures room { IfOk result (λ r. HasRoomFor r.book (sum_by cost_of plans.now + length plans.now)) }
     ensures spare { IfOk result (λ r. HasLifeRoom r.book r.spare.capacity) }
     ensures taken { OnOk result (IsOk (after_submits (opening_of pool) plans.now)) }
     ensures error { IfErr result (λ e. IsNotBegun (opening_of pool) plans.now e.0) }
     ensures back { IfErr result (λ e. e.1 ≡ pool) }
 {
-    pool.known();
     let need = match need_of(&pool.layout, 0, 2 * u64::from(pool.flushes()), plans) {
         Ok(need) => need,
         Err(error) => return Err((RunError::Refused(error), pool)),
     };
-    let room = need as usize + plans.len();
+    ready_with(alloc, pool, need as usize + plans.len())
+}
+
+/// Gets room for so many events in the pool's journal, the flushes and all that its plans need, and for its next life.
+///
+/// # Errors
+///
+/// [`RunError::OutOfMemory`], or [`RunError::Broken`] with the flusher's number where a mark has come to 2^63; and the pool as it was.
+pub(crate) fn ready_with(
+    alloc: Global,
+    pool: RestedPool,
+    room: usize,
+) -> Result<Ready, (RunError, RestedPool)>
+    requires room { 2 * pool.settings.flushes ≤ room }
+    ensures settings { IfOk result (λ r. settings_of r.book ≡ pool.settings) }
+    ensures outset { IfOk result (λ r. r.book.began ≡ pool.began) }
+    ensures state { IfOk result (λ r. state_of r.book ≡ opening_of pool) }
+    ensures fresh { IfOk result (λ r. (r.book.journal ≡ []) × (plans_of r.book ≡ [])) }
+    ensures layout { IfOk result (λ r. r.pages.0 ≡ pool.settings.layout) }
+    ensures page_bytes { IfOk result (λ r. r.pages.1 ≡ pool.page_bytes) }
+    ensures vault_bytes { IfOk result (λ r. r.pages.1 ≡ r.book.vault.page_bytes) }
+    ensures from { IfOk result (λ r. r.from ≡ pool.from) }
+    ensures room { IfOk result (λ r. HasRoomFor r.book (room - 2 * pool.settings.flushes)) }
+    ensures spare { IfOk result (λ r. HasLifeRoom r.book r.spare.capacity) }
+    ensures error { IfErr result (λ e. MayNotBegin (opening_of pool) e.0) }
+    ensures back { IfErr result (λ e. e.1 ≡ pool) }
+{
+    pool.known();
     let Ok(journal) = Journal::with_capacity(alloc, room) else {
         return Err((RunError::OutOfMemory, pool));
     };
@@ -164,6 +189,7 @@ fn with_room(book: &mut Book, journal: Journal, room: usize) -> Result<Journal, 
     requires life { HasLifeRoom book.old room }
     ensures settings { settings_of book.new ≡ settings_of book.old }
     ensures outset { book.new.began ≡ book.old.began }
+    ensures page_bytes { book.new.vault.page_bytes ≡ book.old.vault.page_bytes }
     ensures fresh { (book.new.journal ≡ []) × (plans_of book.new ≡ []) }
     ensures room { OnOk result (room ≤ book.new.capacity) }
     ensures spare { IfOk result (λ spare. HasLifeRoom book.new spare.capacity) }
@@ -181,7 +207,7 @@ fn with_room(book: &mut Book, journal: Journal, room: usize) -> Result<Journal, 
 }
 
 /// Submits the plans to a pool that is ready for them, and runs them on threads, up to the end of the pool's life. The life is of
-/// the settings, the plans and the outset that `N` names. The journal of the next life comes back beside what the run leaves.
+/// the settings, the plans, the outset and the bytes of a page that `N` names. The journal of the next life comes back beside what the run leaves.
 pub(crate) fn live<
     N: Naming + Send,
     D: Device + Drop + Send,
@@ -199,7 +225,9 @@ pub(crate) fn live<
     requires settings { N.settings ≡ settings_of ready.book }
     requires plans { N.plans ≡ plans.items }
     requires outset { N.outset ≡ ready.book.began }
+    requires page_bytes { N.page_bytes ≡ ready.book.vault.page_bytes }
     requires layout { ready.pages.0 ≡ (settings_of ready.book).layout }
+    requires vault_bytes { ready.pages.1 ≡ ready.book.vault.page_bytes }
     requires fresh { (ready.book.journal ≡ []) × (plans_of ready.book ≡ []) }
     requires room { HasRoomFor ready.book (sum_by cost_of plans.items + length plans.items) }
     requires taken { IsOk (after_submits (state_of ready.book) plans.items) }
@@ -208,13 +236,14 @@ pub(crate) fn live<
     ensures end { IfOk result (λ r. IsEnd (parts.opening_of ready.book) plans.items r.0.stalled.book r.0.dirty) }
     ensures count { IfOk result (λ r. r.0.plans ≡ vec_len plans) }
     ensures page_bytes { IfOk result (λ r. r.0.stalled.page_bytes ≡ ready.pages.1) }
+    ensures from { IfOk result (λ r. r.0.stalled.from ≡ ready.from) }
     ensures devices { IfOk result (λ r. AllCalled D.calls D.failures (settings_of ready.book).workers devices.items
         r.0.stalled.book.journal r.0.devices.items) }
     ensures spare { IfOk result (λ r. r.1 ≡ ready.spare) }
     ensures error { IfErr result (λ e. IsRunErrorFrom (parts.opening_of ready.book) plans.items e.0) }
     ensures verdict { IfErr result (λ e. IsAnswerFrom D.calls D.failures (parts.opening_of ready.book) plans.items
         devices.items e.0) }
-    ensures stopped { IfErr result (λ e. IsStopped (parts.opening_of ready.book) plans.items e.1.book) }
+    ensures stopped { IfErr result (λ e. IsStopped (parts.opening_of ready.book) ready.pages.1 ready.from plans.items e.1) }
     ensures may_stop { IfErr result (λ e. MayStop e.0) }
 {
     let Ready {
@@ -245,13 +274,13 @@ pub(crate) fn live<
         hands,
         layout: pages.0,
         page_bytes: pages.1,
+        from,
     };
     let (worked, flushed) = match joined {
         Ok(ends) => ends,
         Err(error) => return Err((error, stalled)),
     };
     let left = left_of(&stalled.book);
-    let from = flushed.from;
     let back = give_back(alloc, worked, flushed, stalled.book.journal(), left);
     match back {
         Ok(devices) => {
@@ -260,7 +289,6 @@ pub(crate) fn live<
                 plans: count,
                 dirty: left.dirty,
                 devices,
-                from,
             };
             Ok((ended, spare))
         }

@@ -5,7 +5,7 @@ ghost use Rattle.pp_cert.specs.Walk.{same_layout};
 ghost use Rattle.pp_model.specs.Budget.{cost_of};
 ghost use Rattle.pp_model.specs.Submitting.{after_submits, error_where};
 ghost use Rattle.pp_pool.specs.Parts.{settings_of, plans_of, state_of};
-ghost use Rattle.pp_run.specs.Planned.{AreRefused, AreTakenIn, HasRoomFor};
+ghost use Rattle.pp_run.specs.Planned.{AreRefused, AreTakenIn, HasRoomFor, plans_in};
 ghost use Rattle.pp_run.specs.Runs.{submits};
 
 use pp_cert::Accepted;
@@ -47,6 +47,29 @@ pub(crate) fn need_of(
     }
 }
 
+/// As [`need_of`], of plans that each come with a work.
+pub(crate) fn need_of_queries<W>(
+    layout: &Layout,
+    count: usize,
+    need: u64,
+    plans: &[(Accepted, W)],
+) -> Result<u64, SubmitError>
+    requires few { count ≤ 256 }
+    requires low { need ≤ 2 ^ 33 }
+    ensures taken { IfOk result (AreTakenIn layout.now count need (plans_in plans.now)) }
+    ensures low { IfOk result (λ all. all ≤ 2 ^ 33) }
+    ensures few { OnOk result (count + length plans.now ≤ 256) }
+    ensures refused { IfErr result (AreRefused layout.now count need (plans_in plans.now)) }
+{
+    match plans.split_first() {
+        None => Ok(need),
+        Some(((plan, _), rest)) => match fault(layout, count, need, plan) {
+            Some(error) => Err(error),
+            None => need_of_queries(layout, count + 1, need + plan.cost(), rest),
+        },
+    }
+}
+
 /// Why this plan isn't taken in behind `count` others that need so many events; None where it is.
 fn fault(layout: &Layout, count: usize, need: u64, plan: &Accepted) -> Option<SubmitError>
     requires { need ≤ 2 ^ 33 }
@@ -84,6 +107,7 @@ pub(crate) fn submit_all(book: &mut Book, plans: Vec<Accepted>) -> u16
     ensures journal { book.new.journal ≡ submits 0 (length plans.items) }
     ensures settings { settings_of book.new ≡ settings_of book.old }
     ensures outset { book.new.began ≡ book.old.began }
+    ensures page_bytes { book.new.vault.page_bytes ≡ book.old.vault.page_bytes }
 {
     book.known();
     let mut count = 0u16;

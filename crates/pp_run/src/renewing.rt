@@ -9,6 +9,7 @@ ghost use Rattle.pp_pool.specs.Parts as parts;
 ghost use Rattle.pp_pool.specs.Renewals.{HasLifeRoom};
 ghost use Rattle.pp_vault.specs.Holding.{placed};
 ghost use Rattle.pp_vault.specs.Stages.{idle_hand, is_free_for, put_for, stage_worker};
+ghost use Rattle.pp_run.specs.Calling.{sought_behind};
 ghost use Rattle.pp_run.specs.RunErrors.{unrenewed_by};
 ghost use Rattle.pp_run.specs.Rested.{opening_of, AreIdle, KeptFor};
 
@@ -39,20 +40,22 @@ impl<D: Drop> Ended<D> {
         ensures settings { IfOk result (λ r. r.1.settings ≡ settings_of self.stalled.book) }
         ensures page_bytes { IfOk result (λ r. r.1.page_bytes ≡ self.stalled.page_bytes) }
         ensures outset { IfOk result (λ r. r.1.began ≡ outset_of (state_of self.stalled.book)) }
+        ensures from { IfOk result (λ r. r.1.from ≡ sought_behind self.stalled.from self.stalled.book.journal) }
         ensures next { IfOk result (λ r. opening_of r.1 ≡ renewed (state_of self.stalled.book)) }
         ensures life { IfOk result (λ r. IsLife (parts.opening_of self.stalled.book)
             (record { plans = plans_of self.stalled.book; journal = self.stalled.book.journal })) }
         ensures error { IfErr result (λ e. KeptFor self.stalled.book e.1.hands e.0) }
         ensures stalled { IfErr result (λ e. e.1.book ≡ self.stalled.book) }
+        ensures pages { IfErr result (λ e. (e.1.layout ≡ self.stalled.layout)
+            × (e.1.page_bytes ≡ self.stalled.page_bytes) × (e.1.from ≡ self.stalled.from)) }
     {
         let Ended {
             stalled,
             plans,
             dirty,
             devices,
-            from,
         } = self;
-        let (events, pool) = stalled.renewed(empty, from)?;
+        let (events, pool) = stalled.renewed(empty)?;
         let record = RunRecord {
             plans,
             events,

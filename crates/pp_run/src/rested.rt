@@ -19,7 +19,8 @@ use std::marker::Model;
 /// A pool between two runs: no plan waits or runs, and no flush is in flight. What it has cached, ARC's lists and target, which
 /// pages are dirty, and every known mark are there for the next run ([`Pool::run_on`](crate::Pool::run_on)).
 ///
-/// Contracts see it as the record `Rested`: its settings, the bytes of a page, and what its next life begins with.
+/// Contracts see it as the record `Rested`: its settings, the bytes of a page, what its next life begins with, and the
+/// page number from which the next run's first flush is sought.
 ///
 /// The compiler refuses code that lets it fall: its dirty pages are nowhere else. [`RestedPool::close`] gives it up.
 pub struct RestedPool {
@@ -36,9 +37,9 @@ impl Model for RestedPool {
 
     ghost Value = { Rested };
 
-    ghost view = { λ p. rested_in p.book p.page_bytes };
+    ghost view = { λ p. rested_in p.book p.page_bytes p.from };
 
-    ghost invariant = { λ p. IsRested p.book p.hands p.layout };
+    ghost invariant = { λ p. IsRested p.book p.hands p.layout p.page_bytes };
 }
 
 impl RestedPool {
@@ -52,6 +53,7 @@ impl RestedPool {
         ensures settings { IfOk result (λ pool. pool.settings ≡ kept_of settings.now) }
         ensures page_bytes { IfOk result (λ pool. pool.page_bytes ≡ settings.now.page_bytes) }
         ensures outset { IfOk result (λ pool. pool.began ≡ new_outset (kept_of settings.now)) }
+        ensures from { IfOk result (λ pool. pool.from ≡ 0) }
         ensures error { IfErr result (λ e. e ≡ run_errors.OutOfMemory) }
     {
         let (book, hands) = Book::new(alloc, settings)?;

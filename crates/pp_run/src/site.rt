@@ -27,8 +27,8 @@ const PAUSES: u32 = 20;
 /// A site that threads share: a book under a lock, with what they wait on.
 ///
 /// Each call takes the lock, and gives it back before it returns. A request that isn't possible yet waits, for which it
-/// lets the lock go, and is tried again when something was done; nobody is woken where nobody waits. What the site gives, shows
-/// and tells is what the desk did, as it was while the lock was held: others move between two calls.
+/// lets the lock go, and is tried again when something was done; nobody is woken where nobody waits. Contracts see of what the site
+/// gives, shows and tells that a desk of this type can do so, not that it is the one under the lock.
 #[derive(Drop)]
 pub struct LockedSite<'a, B: Desk, R: Wait> {
     pub rt: &'a R,

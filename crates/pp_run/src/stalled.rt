@@ -1,19 +1,21 @@
 //! A pool whose run stopped. One thread can do what is left, and renew it.
 
-ghost use Rattle.std.specs.Prelude.{◌≡◌, ◌⊎◌, true, None, IfOk, IfErr};
+ghost use Rattle.std.specs.Prelude.{◌≡◌, ◌⊎◌, ◌↔◌, true, None, IfOk, IfErr};
 ghost use Rattle.pp_model.specs.Lives.{IsLife};
 ghost use Rattle.pp_model.specs.Pool.{dirty_pages};
 ghost use Rattle.pp_model.specs.Renewing.{renewed};
 ghost use Rattle.pp_outset.specs.Outsets.{outset_of};
-ghost use Rattle.pp_pool.specs.Flushings.{flushing_worker};
+ghost use Rattle.pp_pool.specs.Flushings.{IsFlush};
 ghost use Rattle.pp_pool.specs.Parts.{settings_of, plans_of, state_of};
 ghost use Rattle.pp_pool.specs.Parts as parts;
 ghost use Rattle.pp_pool.specs.Renewals.{HasLifeRoom};
 ghost use Rattle.pp_vault.specs.Stages.{stage_worker};
 ghost use Rattle.pp_run.specs.declared.error.RunError.TheVariants as run_errors;
+ghost use Rattle.pp_run.specs.Calling.{sought_behind};
 ghost use Rattle.pp_run.specs.GoingOn.{GoesOn};
 ghost use Rattle.pp_run.specs.Rested.{opening_of, KeptFor};
 
+use crate::counting::sought_from;
 use crate::error::RunError;
 use crate::renewing::{are_idle, put_back, told};
 use crate::rested::RestedPool;
@@ -33,7 +35,10 @@ pub struct Stalled {
     pub hands: Hands,
     pub(crate) layout: Layout,
     pub(crate) page_bytes: u32,
+    /// The page number from which the first flush of this life was sought.
+    pub from: u32,
     ghost laid: { layout ≡ (settings_of book).layout },
+    ghost sized: { page_bytes ≡ book.vault.page_bytes },
 }
 
 impl Stalled {
@@ -47,6 +52,7 @@ impl Stalled {
             hands,
             layout: _,
             page_bytes: _,
+            from: _,
         } = self;
         let dirty = book.dirty();
         (book.close(hands), dirty)
@@ -55,30 +61,34 @@ impl Stalled {
     /// Ends the flush that is in flight, if there is one, and writes changed pages back until none is left that may be written,
     /// or no flush. The device is one over what the run left.
     pub fn flush<D: Device>(self, device: D) -> (Stalled, D)
-        ensures { GoesOn self.book result.0.book }
+        ensures goes_on { GoesOn self.book result.0.book }
+        ensures from { result.0.from ≡ self.from }
     {
         let Stalled {
             book,
             mut hands,
             layout,
             page_bytes,
+            from,
         } = self;
-        if !has_flush(&hands) {
+        if !is_of_flusher(&hands) {
             let stalled = Stalled {
                 book,
                 hands,
                 layout,
                 page_bytes,
+                from,
             };
             return (stalled, device);
         }
+        let sought = sought_from(book.journal(), from);
         let mut flusher = Flusher {
             site: OwnSite { book },
             device,
             flushing: hands.flushing.take(),
             ended: 0,
             failed: 0,
-            from: 0,
+            from: sought,
         };
         flush_on(&mut flusher);
         let (OwnSite { book }, device, flushing, _ended, _failed) = flusher.end();
@@ -88,6 +98,7 @@ impl Stalled {
             hands,
             layout,
             page_bytes,
+            from,
         };
         (stalled, device)
     }
@@ -96,7 +107,8 @@ impl Stalled {
     /// move: each goes on for as long as it can, and then the next one. The work and the device are those of all of them. Where
     /// memory runs out, or a flush in flight holds a page that is wanted, plans may be left ([`Book::next_possible`]).
     pub fn drain<D: Device, W: Work>(self, alloc: Global, device: D, work: &mut W) -> (Stalled, D)
-        ensures { GoesOn self.book result.0.book }
+        ensures goes_on { GoesOn self.book result.0.book }
+        ensures from { result.0.from ≡ self.from }
     {
         let mut stalled = self;
         let mut device = device;
@@ -113,7 +125,8 @@ impl Stalled {
 
     /// Each worker goes on for as long as it can. Tells whether one has made a move.
     fn round<D: Device, W: Work>(self, alloc: Global, device: D, work: &mut W) -> (Stalled, D, bool)
-        ensures { GoesOn self.book result.0.book }
+        ensures goes_on { GoesOn self.book result.0.book }
+        ensures from { result.0.from ≡ self.from }
     {
         let workers = self.book.workers();
         let mut stalled = self;
@@ -136,13 +149,15 @@ impl Stalled {
         device: D,
         work: &mut W,
     ) -> (Stalled, D, bool)
-        ensures { GoesOn self.book result.0.book }
+        ensures goes_on { GoesOn self.book result.0.book }
+        ensures from { result.0.from ≡ self.from }
     {
         let Stalled {
             book,
             mut hands,
             layout,
             page_bytes,
+            from,
         } = self;
         let Some(hand) = hands.part(worker) else {
             let stalled = Stalled {
@@ -150,6 +165,7 @@ impl Stalled {
                 hands,
                 layout,
                 page_bytes,
+                from,
             };
             return (stalled, device, false);
         };
@@ -162,6 +178,7 @@ impl Stalled {
             hands,
             layout,
             page_bytes,
+            from,
         };
         (stalled, device, is_moved)
     }
@@ -176,42 +193,48 @@ impl Stalled {
     pub fn renew(self, alloc: Global) -> Result<(Journal, RestedPool), (RunError, Stalled)>
         ensures journal { IfOk result (λ r. r.0.items ≡ self.book.journal) }
         ensures settings { IfOk result (λ r. r.1.settings ≡ settings_of self.book) }
+        ensures page_bytes { IfOk result (λ r. r.1.page_bytes ≡ self.book.vault.page_bytes) }
         ensures outset { IfOk result (λ r. r.1.began ≡ outset_of (state_of self.book)) }
+        ensures from { IfOk result (λ r. r.1.from ≡ sought_behind self.from self.book.journal) }
         ensures next { IfOk result (λ r. opening_of r.1 ≡ renewed (state_of self.book)) }
         ensures life { IfOk result (λ r. IsLife (parts.opening_of self.book)
             (record { plans = plans_of self.book; journal = self.book.journal })) }
         ensures error { IfErr result (λ e. (e.0 ≡ run_errors.OutOfMemory) ⊎ KeptFor self.book e.1.hands e.0) }
-        ensures back { IfErr result (λ e. e.1.book ≡ self.book) }
+        ensures back { IfErr result (λ e. (e.1.book ≡ self.book) × (e.1.from ≡ self.from)) }
     {
         let Ok(empty) = Journal::with_capacity(alloc, 2 * self.book.flushes() as usize) else {
             return Err((RunError::OutOfMemory, self));
         };
-        self.renewed(empty, 0)
+        self.renewed(empty)
     }
 
-    /// Renews the pool. The empty journal becomes that of the next life, whose flusher begins at this page.
+    /// Renews the pool. The empty journal becomes that of the next life, whose flusher begins where this one's has come.
     pub(crate) fn renewed(
         self,
         empty: Journal,
-        from: u32,
     ) -> Result<(Journal, RestedPool), (RunError, Stalled)>
         requires room { HasLifeRoom self.book empty.capacity }
         ensures journal { IfOk result (λ r. r.0.items ≡ self.book.journal) }
         ensures settings { IfOk result (λ r. r.1.settings ≡ settings_of self.book) }
         ensures page_bytes { IfOk result (λ r. r.1.page_bytes ≡ self.page_bytes) }
         ensures outset { IfOk result (λ r. r.1.began ≡ outset_of (state_of self.book)) }
+        ensures from { IfOk result (λ r. r.1.from ≡ sought_behind self.from self.book.journal) }
         ensures next { IfOk result (λ r. opening_of r.1 ≡ renewed (state_of self.book)) }
         ensures life { IfOk result (λ r. IsLife (parts.opening_of self.book)
             (record { plans = plans_of self.book; journal = self.book.journal })) }
         ensures error { IfErr result (λ e. KeptFor self.book e.1.hands e.0) }
         ensures back { IfErr result (λ e. e.1.book ≡ self.book) }
+        ensures pages { IfErr result (λ e. (e.1.layout ≡ self.layout) × (e.1.page_bytes ≡ self.page_bytes)
+            × (e.1.from ≡ self.from)) }
     {
         let Stalled {
             mut book,
             mut hands,
             layout,
             page_bytes,
+            from,
         } = self;
+        let sought = sought_from(book.journal(), from);
         let flusher = book.workers();
         if !are_idle(&mut hands, flusher) {
             let stalled = Stalled {
@@ -219,6 +242,7 @@ impl Stalled {
                 hands,
                 layout,
                 page_bytes,
+                from,
             };
             return Err((RunError::Broken(flusher), stalled));
         }
@@ -229,7 +253,7 @@ impl Stalled {
                     hands,
                     layout,
                     page_bytes,
-                    from,
+                    from: sought,
                 };
                 Ok((events, pool))
             }
@@ -239,6 +263,7 @@ impl Stalled {
                     hands,
                     layout,
                     page_bytes,
+                    from,
                 };
                 Err((told(error, flusher), stalled))
             }
@@ -274,8 +299,8 @@ fn flush_on<D: Device>(flusher: &mut Flusher<OwnSite, D>)
 }
 
 /// Whether the flush in hand, if there is one, is no worker's errand.
-fn has_flush(hands: &Hands) -> bool
-    ensures { result ≡ true → flushing_worker hands.now.flushing ≡ None }
+fn is_of_flusher(hands: &Hands) -> bool
+    ensures { (result ≡ true) ↔ IsFlush hands.now.flushing }
 {
     match &hands.flushing {
         Some(Flushing::Out(errand)) => errand.worker().is_none(),

@@ -49,7 +49,5 @@ pub struct Flushed<D> {
     pub ended: u64,
     /// How many of these had failed at the device.
     pub failed: u64,
-    /// The page number from which the next flush is sought.
-    pub from: u32,
     pub stop: Stop,
 }

@@ -9,6 +9,8 @@ mod bundling;
 #[cfg(test)]
 mod fixing;
 #[cfg(test)]
+mod lending;
+#[cfg(test)]
 mod lives;
 #[cfg(test)]
 mod noting;

@@ -111,6 +111,7 @@ impl Board {
             Until::Nothing => return,
             Until::Come(thing, number) => (thing, number),
             Until::PlanMore => (Thing::Finished, one_more(&self.waited)),
+            Until::PlanMoreBeside => (Thing::Finished, one_more(&self.waited).wrapping_add(1)),
             Until::CallMore => (Thing::Waited, one_more(&self.plans)),
         };
         if !comes_to(rt, self.count(thing), number) {
@@ -135,7 +136,7 @@ impl Board {
             return false;
         }
         match cue.until {
-            Until::PlanMore => is_first(self.cues.get(place)),
+            Until::PlanMore | Until::PlanMoreBeside => is_first(self.cues.get(place)),
             _ => true,
         }
     }

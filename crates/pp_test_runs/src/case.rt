@@ -54,8 +54,10 @@ pub enum Until {
     Nothing,
     /// For so many of a thing.
     Come(Thing, u64),
-    /// For one plan more to end than calls have waited for before. A cue that says so is met once.
+    /// For one plan more to end than calls have waited for before. A cue that says this, or the next one, is met once.
     PlanMore,
+    /// The same beside a plan that has ended already, and so was counted.
+    PlanMoreBeside,
     /// For one call more to wait for a plan than have been waited for so before.
     CallMore,
 }
@@ -77,10 +79,16 @@ pub struct Part {
 /// A call of a work or of a device.
 #[derive(Clone, Copy, PartialEq, Eq)]
 pub enum Call {
+    /// A work is told of a plan; its number stands for the page.
+    Begin,
     Branch,
     Reach,
     Change,
     See,
+    /// A work is lent pages; the slot whose latch comes off stands for the page.
+    Rework,
+    /// A work is told of the end of a plan; its number stands for the page.
+    End,
     Read,
     /// A writing of the flusher.
     Flush,

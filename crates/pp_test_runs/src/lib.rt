@@ -17,9 +17,15 @@ mod counting;
 #[cfg(test)]
 mod desk;
 #[cfg(test)]
+mod lent;
+#[cfg(test)]
+mod lent_rows;
+#[cfg(test)]
 mod lives;
 #[cfg(test)]
 mod player;
+#[cfg(test)]
+mod queries;
 #[cfg(test)]
 mod rows;
 #[cfg(test)]

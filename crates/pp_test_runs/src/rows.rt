@@ -205,6 +205,18 @@ const GATHER: &str =
     "{\"body\":[{\"gather\":\"g\",\"region\":\"leaf\"},{\"gather\":\"g\",\"region\":\"leaf\"},\
 {\"scatter\":\"g\"}],\"version\":2}";
 
+/// Writes a leaf, and reads two.
+const WRITE_AND_READ: &str =
+    "{\"body\":[{\"fix\":\"a\",\"region\":\"leaf\"},{\"latch\":\"a\",\"mode\":\"X\"},\
+{\"unlatch\":\"a\"},{\"unfix\":\"a\"},{\"body\":[{\"fix\":\"a\",\"region\":\"leaf\"},\
+{\"latch\":\"a\",\"mode\":\"S\"},{\"unlatch\":\"a\"},{\"unfix\":\"a\"}],\"loop\":2}],\"version\":1}";
+
+/// The first page is told at once.
+pub const AT_ONCE: Step = Step {
+    behind: 0,
+    until: Until::Nothing,
+};
+
 /// A page is told once one plan more has ended.
 const PLAN_MORE: Step = Step {
     behind: 0,
@@ -212,7 +224,7 @@ const PLAN_MORE: Step = Step {
 };
 
 /// A plan that ends waits before for a call that waits for that.
-const IN_TURN: Step = Step {
+pub const IN_TURN: Step = Step {
     behind: 0,
     until: Until::CallMore,
 };
@@ -309,6 +321,33 @@ static ROWS: &[Case] = &[
             },
         ],
         counts: &[(Thing::Waited, 5), (Thing::Done, 6)],
+        ..SAMPLE
+    },
+    // The same where the page is cached: as it is named behind another move, as it is seen, and as the next one is named.
+    Case {
+        name: "no_work_is_called_under_the_lock_at_a_hit",
+        plans: &[WRITE_AND_READ, TOUCH, TOUCH, TOUCH],
+        parts: &[
+            Part {
+                region: 1,
+                steps: &[AT_ONCE, PLAN_MORE, PLAN_MORE],
+            },
+            Part {
+                region: 0,
+                steps: &[IN_TURN, IN_TURN, IN_TURN],
+            },
+        ],
+        cues: &[Cue {
+            at: Call::See,
+            page: 16,
+            until: Until::PlanMore,
+        }],
+        counts: &[
+            (Thing::Waited, 3),
+            (Thing::Changed, 1),
+            (Thing::Seen, 2),
+            (Thing::Done, 4),
+        ],
         ..SAMPLE
     },
     // The same where a page to gather is told, the first of a bundle and a further one.

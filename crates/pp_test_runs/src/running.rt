@@ -5,6 +5,7 @@ ghost use Rattle.std.specs.Prelude.{◌≡◌, ◌+◌, vec_len};
 use crate::board::Board;
 use crate::case::{Case, Faults, Thing};
 use crate::counting::number_of;
+use crate::lent::Lent;
 use crate::player::{Player, tells};
 use crate::told::Told;
 use pp_cert::Accepted;
@@ -229,19 +230,52 @@ fn last_end<'a, R: Abort + Wait + Drop>(rt: &R, devices: Vec<Told<'a, R>>) -> Sh
     }
 }
 
-/// Runs the plans of a case over these ends, and gives the last of them back.
+/// What the works of a run know of.
+#[derive(Clone, Copy)]
+enum Know {
+    /// Of pages alone.
+    Pages,
+    /// Of their plans too, and they are lent pages.
+    Plans,
+}
+
+/// A work for each worker, that is told of its plans and is lent pages.
+fn lent<'a, R: AllocGlobal + Abort + Clock + Copy + Drop>(
+    rt: &R,
+    board: &'a Board,
+) -> Vec<Lent<'a, R>> {
+    let mut works = Vec::new(rt.alloc());
+    for player in players(rt, board, 0) {
+        works
+            .push(Lent::new(*rt, board, player))
+            .expect(rt, "memory");
+    }
+    works
+}
+
+/// Runs the plans of a case over these ends with works that know of so much, and gives the last end back.
 fn run_case<R: AllocGlobal + Abort + Threads + Wait + Clock + Copy + Drop + Sync + Send>(
     rt: &R,
     board: &Board,
     ends: Vec<SharedDevice<R>>,
+    know: Know,
 ) -> (RunRecord, SharedDevice<R>) {
     let alloc = rt.alloc();
     let settings = settings_of(rt, alloc, board.case);
     let plans = plans_of(rt, alloc, &settings, board.case);
     let devices = told(rt, board, ends);
-    let works = players(rt, board, 0);
     let (name, finished) = (board.case.name, board.counter());
-    match run_over(rt, name, &settings, plans, devices, works, finished) {
+    let ran = match know {
+        Know::Pages => {
+            let works = players(rt, board, 0);
+            run_over(rt, name, &settings, plans, devices, works, finished)
+        }
+        Know::Plans => {
+            let works = lent(rt, board);
+            run_over(rt, name, &settings, plans, devices, works, finished)
+        }
+    };
+    match ran {
         Ok((record, devices)) => (record, last_end(rt, devices)),
         Err(error) => refused(rt, name, error),
     }
@@ -321,15 +355,16 @@ pub fn stamps<R: AllocGlobal + Abort + Wait>(
     sum
 }
 
-/// Runs the case over these ends. The record is as the case says, its journal is true, and the device has all changes, but for
-/// those of pages that are newer.
-pub fn ends_well<R: AllocGlobal + Abort + Threads + Wait + Clock + Copy + Drop + Sync + Send>(
+/// Runs the case over these ends with works that know of so much. The record is as the case says, its journal is true, and the device
+/// has all changes, but for those of pages that are newer.
+fn ends_well_with<R: AllocGlobal + Abort + Threads + Wait + Clock + Copy + Drop + Sync + Send>(
     rt: &R,
     board: &Board,
     ends: Vec<SharedDevice<R>>,
+    know: Know,
 ) -> RunRecord {
     let case = board.case;
-    let (record, mut end) = run_case(rt, board, ends);
+    let (record, mut end) = run_case(rt, board, ends, know);
     has_counts(rt, board, &record);
     is_audited(rt, rt.alloc(), case, &record.events);
     let (there, changed) = (stamps(rt, case, &mut end), board.number(Thing::Changed));
@@ -341,7 +376,24 @@ pub fn ends_well<R: AllocGlobal + Abort + Threads + Wait + Clock + Copy + Drop +
     record
 }
 
-/// The same over memory.
+/// The same with works that know of pages alone.
+pub fn ends_well<R: AllocGlobal + Abort + Threads + Wait + Clock + Copy + Drop + Sync + Send>(
+    rt: &R,
+    board: &Board,
+    ends: Vec<SharedDevice<R>>,
+) -> RunRecord {
+    ends_well_with(rt, board, ends, Know::Pages)
+}
+
+/// The same over memory, with works that are told of their plans and are lent pages.
+pub fn passes_lent<R: AllocGlobal + Abort + Threads + Wait + Clock + Copy + Drop + Sync + Send>(
+    rt: &R,
+    case: &'static Case,
+) {
+    ends_well_with(rt, &Board::new(case), ends_of(rt, case), Know::Plans);
+}
+
+/// The same over memory, with works that know of pages alone.
 pub fn passes<R: AllocGlobal + Abort + Threads + Wait + Clock + Copy + Drop + Sync + Send>(
     rt: &R,
     case: &'static Case,

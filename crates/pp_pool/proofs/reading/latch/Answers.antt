@@ -17,6 +17,7 @@ returns-in-Some-Pin-clause-turns g c layout =
     (request.LatchShared c.args.session h) c.in-Some-Pin.field-0 c.args.guards.now c.take.new.self c.made-stage.new.guards
     c.from.result (sym c.in-Some-Pin.ensures.guard) c.in-Some-Pin.ensures.slot c.in-Some-Pin.ensures.taken
     (ap (λ (o : Guard). Some o) (sym is)) (ap (λ (o : Guard). Some (slot_by o)) (sym is)) tt
+    refl
     (refl, c.requires.asks ∙ ap (λ n. ask.Latch n mode.S) (sym slot))
     c.args.site.now c.made-stage.new.site c.args.log.now c.made-stage.new.log c.args.work.now c.made-stage.new.work refl
     c.requires.room c.made-stage.ensures.memory c.made-stage.result.1 c.made-stage.result.0 c.made-stage.ensures.comes

@@ -1,4 +1,4 @@
-use Rattle.std.proofs.Common.{◌≡◌, ◌≢◌, ◌∙◌, ◌++◌, true, [], ◌∷◌, length, take, drop, sym, ap, subst, arith, rules}
+use Rattle.std.proofs.Common.{◌≡◌, ◌≢◌, ◌∙◌, ◌++◌, true, [], ◌∷◌, length, take, drop, refl, sym, ap, subst, arith, rules}
 use Rattle.std.specs.List.{list_all}
 use Rattle.std.specs.Prelude.{vec_len}
 use denote.Exit.{no}
@@ -64,10 +64,10 @@ returns-in-Err-clause-verdict g c =
 pub returns-in-Err-clause-stopped : goal.returns-in-Err-clause-stopped
 returns-in-Err-clause-stopped g c =
     let b = c.into_parts-book.result.0 in
-    stopped c.args.ready.book b c.args.plans.items (c.into_parts-book.ensures.settings ∙ c.requires.settings)
+    stopped c.args.ready.book _ _ _ c.args.plans.items (c.into_parts-book.ensures.settings ∙ c.requires.settings)
     (c.into_parts-book.ensures.outset ∙ c.requires.outset) (c.into_parts-book.ensures.plans ∙ c.requires.plans)
     (subst (λ ps. take (length ps) b.journal ≡ submits 0 (length ps)) c.requires.plans c.into_parts-book.ensures.submits)
-    (subst (λ ps. list_all is_move (drop (length ps) b.journal) ≡ true) c.requires.plans c.into_parts-book.ensures.moves)
+    (subst (λ ps. list_all is_move (drop (length ps) b.journal) ≡ true) c.requires.plans c.into_parts-book.ensures.moves) c.requires.layout refl refl
 
 pub returns-in-Err-clause-may_stop : goal.returns-in-Err-clause-may_stop
 returns-in-Err-clause-may_stop g c = stops_unstarted _ c.in-Err.error c.in-Err.ensures.error
@@ -106,10 +106,10 @@ returns-in-Err-back-clause-verdict g c =
 pub returns-in-Err-back-clause-stopped : goal.returns-in-Err-back-clause-stopped
 returns-in-Err-back-clause-stopped g c =
     let b = c.into_parts-book.result.0 in
-    stopped c.args.ready.book b c.args.plans.items (c.into_parts-book.ensures.settings ∙ c.requires.settings)
+    stopped c.args.ready.book _ _ _ c.args.plans.items (c.into_parts-book.ensures.settings ∙ c.requires.settings)
     (c.into_parts-book.ensures.outset ∙ c.requires.outset) (c.into_parts-book.ensures.plans ∙ c.requires.plans)
     (subst (λ ps. take (length ps) b.journal ≡ submits 0 (length ps)) c.requires.plans c.into_parts-book.ensures.submits)
-    (subst (λ ps. list_all is_move (drop (length ps) b.journal) ≡ true) c.requires.plans c.into_parts-book.ensures.moves)
+    (subst (λ ps. list_all is_move (drop (length ps) b.journal) ≡ true) c.requires.plans c.into_parts-book.ensures.moves) c.requires.layout refl refl
 
 pub returns-in-Err-back-clause-may_stop : goal.returns-in-Err-back-clause-may_stop
 returns-in-Err-back-clause-may_stop g c =

@@ -3,6 +3,7 @@ use Rattle.std.specs.Prelude.{IsOk, sum_by}
 use Rattle.std.specs.Vec.Iter.{into_iter_items}
 use Rattle.pp_model.specs.Budget.{cost_of}
 use Rattle.pp_model.specs.Submitting.{after_submits}
+use Rattle.pp_vault.specs.Parts as vault
 use Rattle.pp_pool.specs.Parts.{plans_of, state_of}
 use Rattle.pp_run.specs.Planned.{HasRoomFor}
 use Rattle.pp_run.proofs.Begun.{submit_next}
@@ -46,4 +47,5 @@ loop-plan-preserved c =
       subst IsOk (ap (after_submits (state_of book)) step ∙ next) was.8,
       room_left book _ c.in-Some.plan rest _ was.7 taken c.submit.ensures.grown
           (subst (λ ps. HasRoomFor book (sum_by cost_of ps + length ps)) step was.9),
+      ap (λ (v : vault.Parts). v.page_bytes) taken.vault.rest ∙ was.10,
     )

@@ -24,3 +24,4 @@ invariant-loop-plan l =
     × IsBook l.book
     × IsOk (after_submits (state_of l.book) rest)
     × HasRoomFor l.book (sum_by cost_of rest + length rest)
+    × (l.book.vault.page_bytes ≡ l.fn.book.vault.page_bytes)

@@ -17,10 +17,10 @@ returns-in-Some-clause-turns g c =
       layout = c.args.self.now.layout;
       page_bytes = c.args.self.now.page_bytes;
       seen = c.read_on-read.new.seen;
-      reach = c.read_on-read.new.reach;
+      kept = record c.args.self.now.kept { reach = c.read_on-read.new.reach };
       alloc = c.args.self.now.alloc;
     } c.args.work.now c.read_on-read.new.work c.in-Some.turned c.in-Some.ensures.turns
-    refl c.in-Some.ensures.seen refl refl refl c.in-Some.ensures.seen
+    refl c.in-Some.ensures.seen refl refl refl c.in-Some.ensures.seen refl
 
 pub returns-in-Some-clause-errand : goal.returns-in-Some-clause-errand
 returns-in-Some-clause-errand g c has keeps =
@@ -33,7 +33,7 @@ returns-in-Some-clause-errand g c has keeps =
       layout = c.args.self.now.layout;
       page_bytes = c.args.self.now.page_bytes;
       seen = c.read_on-read.new.seen;
-      reach = c.read_on-read.new.reach;
+      kept = record c.args.self.now.kept { reach = c.read_on-read.new.reach };
       alloc = c.args.self.now.alloc;
     } c.args.work.now c.read_on-read.new.work c.in-Some.turned c.in-Some.ensures.turns has)
 
@@ -48,7 +48,7 @@ returns-in-Some-clause-keeps g c keeps =
       layout = c.args.self.now.layout;
       page_bytes = c.args.self.now.page_bytes;
       seen = c.read_on-read.new.seen;
-      reach = c.read_on-read.new.reach;
+      kept = record c.args.self.now.kept { reach = c.read_on-read.new.reach };
       alloc = c.args.self.now.alloc;
     } c.args.work.now c.read_on-read.new.work c.in-Some.turned c.in-Some.ensures.turns
     refl c.in-Some.ensures.seen
@@ -64,7 +64,7 @@ returns-in-Some-clause-room g c =
       layout = c.args.self.now.layout;
       page_bytes = c.args.self.now.page_bytes;
       seen = c.read_on-read.new.seen;
-      reach = c.read_on-read.new.reach;
+      kept = record c.args.self.now.kept { reach = c.read_on-read.new.reach };
       alloc = c.args.self.now.alloc;
     } c.args.work.now c.read_on-read.new.work c.in-Some.turned c.in-Some.ensures.turns
     c.in-Some.ensures.memory c.in-Some.ensures.seen
@@ -80,7 +80,7 @@ returns-in-Some-clause-worker g c =
       layout = c.args.self.now.layout;
       page_bytes = c.args.self.now.page_bytes;
       seen = c.read_on-read.new.seen;
-      reach = c.read_on-read.new.reach;
+      kept = record c.args.self.now.kept { reach = c.read_on-read.new.reach };
       alloc = c.args.self.now.alloc;
     } c.args.work.now c.read_on-read.new.work c.in-Some.turned c.in-Some.ensures.turns
     refl c.in-Some.ensures.seen
@@ -97,10 +97,10 @@ returns-in-None-clause-turns g c = (
         layout = c.args.self.now.layout;
         page_bytes = c.args.self.now.page_bytes;
         seen = c.read_on-read.new.seen;
-        reach = c.read_on-read.new.reach;
+        kept = record c.args.self.now.kept { reach = c.read_on-read.new.reach };
         alloc = c.args.self.now.alloc;
       } c.turn_on.new.self c.args.work.now c.read_on-read.new.work c.turn_on.new.work c.turn_on.result c.in-None.ensures.turns
-      refl refl c.turn_on.ensures.turn,
+      refl refl refl c.turn_on.ensures.turn,
 )
 
 pub returns-in-None-clause-errand : goal.returns-in-None-clause-errand
@@ -116,10 +116,10 @@ returns-in-None-clause-errand g c has keeps =
       layout = c.args.self.now.layout;
       page_bytes = c.args.self.now.page_bytes;
       seen = c.read_on-read.new.seen;
-      reach = c.read_on-read.new.reach;
+      kept = record c.args.self.now.kept { reach = c.read_on-read.new.reach };
       alloc = c.args.self.now.alloc;
     } c.turn_on.new.self c.args.work.now c.read_on-read.new.work c.turn_on.new.work c.turn_on.result c.in-None.ensures.turns
-    refl refl c.turn_on.ensures.turn)
+    refl refl refl c.turn_on.ensures.turn)
     has keeps
 
 pub returns-in-None-clause-keeps : goal.returns-in-None-clause-keeps
@@ -134,10 +134,10 @@ returns-in-None-clause-keeps g c keeps =
       layout = c.args.self.now.layout;
       page_bytes = c.args.self.now.page_bytes;
       seen = c.read_on-read.new.seen;
-      reach = c.read_on-read.new.reach;
+      kept = record c.args.self.now.kept { reach = c.read_on-read.new.reach };
       alloc = c.args.self.now.alloc;
     } c.turn_on.new.self c.args.work.now c.read_on-read.new.work c.turn_on.new.work c.turn_on.result c.in-None.ensures.turns
-    refl refl)) keeps)
+    refl refl refl)) keeps)
 
 pub returns-in-None-clause-room : goal.returns-in-None-clause-room
 returns-in-None-clause-room g c =
@@ -150,10 +150,10 @@ returns-in-None-clause-room g c =
       layout = c.args.self.now.layout;
       page_bytes = c.args.self.now.page_bytes;
       seen = c.read_on-read.new.seen;
-      reach = c.read_on-read.new.reach;
+      kept = record c.args.self.now.kept { reach = c.read_on-read.new.reach };
       alloc = c.args.self.now.alloc;
     } c.turn_on.new.self c.args.work.now c.read_on-read.new.work c.turn_on.new.work c.turn_on.result c.in-None.ensures.turns
-    refl refl refl c.in-None.ensures.seen c.turn_on.ensures.room
+    refl refl refl refl c.in-None.ensures.seen c.turn_on.ensures.room
 
 pub returns-in-None-clause-worker : goal.returns-in-None-clause-worker
 returns-in-None-clause-worker g c =
@@ -167,7 +167,7 @@ returns-in-None-clause-worker g c =
       layout = c.args.self.now.layout;
       page_bytes = c.args.self.now.page_bytes;
       seen = c.read_on-read.new.seen;
-      reach = c.read_on-read.new.reach;
+      kept = record c.args.self.now.kept { reach = c.read_on-read.new.reach };
       alloc = c.args.self.now.alloc;
     } c.turn_on.new.self c.args.work.now c.read_on-read.new.work c.turn_on.new.work c.turn_on.result c.in-None.ensures.turns
-    refl refl)
+    refl refl refl)

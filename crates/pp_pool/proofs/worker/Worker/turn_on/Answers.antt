@@ -11,6 +11,7 @@ returns-clause-turn g c =
     turn_from g.S.Site g.D.Device g.W.Work _ _ _ _ _ _
     c.make_room.ensures.site c.make_room.ensures.device c.make_room.ensures.hand
     (c.has_room.ensures.items ∙ c.make_room.ensures.log) c.make_room.ensures.layout
+    c.make_room.ensures.end
     (c.has_room.ensures.len ∙ c.make_room.ensures.len) grown
     (c.ask.ensures.turn
     record {
@@ -21,7 +22,7 @@ returns-clause-turn g c =
       layout = made.layout;
       page_bytes = made.page_bytes;
       seen = c.ask.new.seen;
-      reach = c.ask.new.reach;
+      kept = c.ask.new.kept;
       alloc = made.alloc;
     } refl c.ask.ensures.seen)
 

@@ -9,6 +9,7 @@ invariant_of-result g c =
       settings = c.requires.settings;
       plans = c.requires.plans;
       outset = c.requires.outset;
+      page_bytes = c.requires.page_bytes;
       begun = begins_with_submits n c.args.book.journal c.requires.journal;
       moving = ends_with_submits n c.args.book.journal c.requires.journal;
     }

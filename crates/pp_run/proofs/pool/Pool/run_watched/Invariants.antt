@@ -3,4 +3,9 @@ use Rattle.pp_run.proofs.pool.Pool.run_watched.Given as goal
 
 abbrev pub ghosts-live : goal.ghosts-live
 ghosts-live g a =
-    record { settings = settings_of a.ready.book; plans = a.plans.items; outset = a.ready.book.began }
+    record {
+      settings = settings_of a.ready.book;
+      plans = a.plans.items;
+      outset = a.ready.book.began;
+      page_bytes = a.ready.book.vault.page_bytes;
+    }

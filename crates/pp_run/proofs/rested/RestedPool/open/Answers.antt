@@ -15,4 +15,5 @@ invariant_of-pool c =
       plans = search rules;
       idle = record { each = λ w low. idle.idle w (omega (arith, low, workers)); no_flush = search rules };
       layout = search rules;
+      page_bytes = search rules;
     }

@@ -1,5 +1,6 @@
+use Rattle.std.proofs.Common.{◌≡◌}
 use Rattle.pp_run.specs.GoingOn.{GoesOn}
 use Rattle.pp_run.proofs.stalled.Stalled.drain.Given as goal
 
 abbrev pub invariant-loop : goal.invariant-loop
-invariant-loop g l = GoesOn l.fn.self.book l.stalled.book
+invariant-loop g l = GoesOn l.fn.self.book l.stalled.book × (l.stalled.from ≡ l.fn.self.from)
