@@ -14,6 +14,7 @@ mod keyed;
 mod making;
 mod playing;
 mod printing;
+mod queries;
 mod runs;
 mod samples;
 mod shared;
@@ -76,6 +77,7 @@ fn case<
         "pp_judge" => judging::case(rt, call, row),
         "pp_words" => words::case(rt, row),
         "pp_pool" => books::case(rt, call),
+        "pp_run" if call == "Pool::run_queries" => queries::case(rt),
         "pp_run" => runs::case(rt, call),
         "pp_run_command" => commands::case(rt, call),
         _ => anyhow::bail!("there is no such library"),

@@ -37,16 +37,17 @@ pub fn case<
 
 /// What a run takes, for each round its own.
 #[derive(Drop)]
-struct Lot<R: Wait> {
-    plans: Vec<Accepted>,
-    ends: Vec<SharedDevice<R>>,
-    works: Vec<Rounds>,
+pub struct Lot<R: Wait> {
+    pub plans: Vec<Accepted>,
+    pub ends: Vec<SharedDevice<R>>,
+    pub works: Vec<Rounds>,
     /// An end, and a work, that no run gets.
-    spare: SharedDevice<R>,
-    other: Rounds,
+    pub spare: SharedDevice<R>,
+    pub other: Rounds,
 }
 
-fn lot_of<R: Files<File = File> + AllocGlobal + Wait + Copy + Drop>(
+/// What three plans take.
+pub fn lot_of<R: Files<File = File> + AllocGlobal + Wait + Copy + Drop>(
     rt: &R,
     settings: &Settings,
 ) -> anyhow::Result<Lot<R>> {
@@ -100,6 +101,11 @@ fn ran<R: Files<File = File> + AllocGlobal + Threads + Wait + Sync + Copy + Send
             Err(error) => Err(error),
         }
     };
+    answer_of(ran)
+}
+
+/// What is told of a run: its plans, and how many pages it and then the pool had changed.
+pub fn answer_of(ran: Result<(RunRecord, u32), RunError>) -> Answer {
     match ran {
         Ok((done, dirty)) => Answer::Three(
             "plans",
@@ -169,7 +175,7 @@ fn runs_again<R: Files<File = File> + AllocGlobal + Threads + Wait + Sync + Copy
 }
 
 /// Whether one thread does what is left of a run that stopped, so that the pool can be renewed.
-fn is_ended<R: AllocGlobal + Wait + Drop>(
+pub fn is_ended<R: AllocGlobal + Wait + Drop>(
     rt: &R,
     stalled: Stalled,
     spare: SharedDevice<R>,
