@@ -16,7 +16,7 @@ use Rattle.pp_vault.specs.Holding.{slot_by, placed, is_free, all_free, has_bundl
 use Rattle.pp_pool.specs.declared.request.Request.{Request}
 use Rattle.pp_pool.specs.declared.request.Request.TheVariants as request
 use Rattle.pp_pool.specs.Replies.{slot_for}
-use Rattle.pp_pool.specs.Turns.{guard_asked, places_without, IsStep, IsWorkers, FindsPlace, HasBundle, LeavesNone, Prepares}
+use Rattle.pp_pool.specs.Turns.{guard_asked, places_without, IsStep, IsWorkers, FindsPlace, HasBundle, LeavesInOrder, Prepares}
 use Rattle.pp_pool.specs.Turns.{has_place}
 
 none_is_some : (g : Guard) → ◌≡◌ {A = Option Guard} None (Some g) → ⊥
@@ -54,26 +54,26 @@ pub not_free : (places : List (Option Guard)) → all_free places ≡ false → 
 not_free places some long h =
     false≢true (sym some ∙ all_free_from places (λ k lt. h k (omega (arith, lt, long))))
 
--- A request with a guard in it is not the end.
-leaves_none : (places : List (Option Guard)) (g : Guard) (asked : Request) → guard_asked asked ≡ Some g
-    → LeavesNone places asked
-leaves_none places g (request.End x) e = absurd (none_is_some g e)
-leaves_none places g (request.Take chair) e = tt
-leaves_none places g (request.Fix x page) e = tt
-leaves_none places g (request.Join x page) e = tt
-leaves_none places g (request.Unfix x h) e = tt
-leaves_none places g (request.Scatter x h) e = tt
-leaves_none places g (request.LatchShared x h) e = tt
-leaves_none places g (request.LatchExclusive x h) e = tt
-leaves_none places g (request.UnlatchShared x h) e = tt
-leaves_none places g (request.UnlatchExclusive x h) e = tt
-leaves_none places g (request.Choose x branch) e = tt
-leaves_none places g (request.Finish x) e = tt
-leaves_none places g (request.GiveBack x h) e = tt
-leaves_none places g (request.Answer returned) e = tt
-leaves_none places g (request.AnswerJoin returned) e = tt
-leaves_none places g (request.Flush page) e = tt
-leaves_none places g (request.FlushNext number) e = tt
+-- What the plan asks is no step of the way out.
+leaves_none : (places : List (Option Guard)) (layout : Geometry) (x : Session) (asked : Request) → IsStep layout x asked
+    → LeavesInOrder places asked
+leaves_none places layout x (request.GiveBack y h) step = absurd step
+leaves_none places layout x (request.End y) step = absurd step
+leaves_none places layout x (request.Take chair) step = tt
+leaves_none places layout x (request.Fix y page) step = tt
+leaves_none places layout x (request.Join y page) step = tt
+leaves_none places layout x (request.Unfix y h) step = tt
+leaves_none places layout x (request.Scatter y h) step = tt
+leaves_none places layout x (request.LatchShared y h) step = tt
+leaves_none places layout x (request.LatchExclusive y h) step = tt
+leaves_none places layout x (request.UnlatchShared y h) step = tt
+leaves_none places layout x (request.UnlatchExclusive y h) step = tt
+leaves_none places layout x (request.Choose y branch) step = tt
+leaves_none places layout x (request.Finish y) step = tt
+leaves_none places layout x (request.Answer returned) step = tt
+leaves_none places layout x (request.AnswerJoin returned) step = tt
+leaves_none places layout x (request.Flush page) step = tt
+leaves_none places layout x (request.FlushNext number) step = tt
 
 -- ---- a page that is asked for
 
@@ -93,7 +93,7 @@ join_step layout x slot region page asks has = (refl, slot, region, asks, has)
 module _ (places : List (Option Guard)) (x : Session) (slot region page : ℕ) where
   fixes_at : fix_slot x.ask ≡ slot → is_free places slot ≡ true → Prepares places (request.Fix x page) places
   fixes_at of free =
-      record { keeps = refl; own = tt; finds = ap (is_free places) of ∙ free; none = tt; workers = tt }
+      record { keeps = refl; own = tt; finds = ap (is_free places) of ∙ free; leaves = tt; workers = tt }
 
   -- A fix is asked where the place of its slot is free.
   pub fix_prepared : x.ask ≡ ask.Fix slot region → is_free places slot ≡ true
@@ -113,7 +113,7 @@ module _ (places : List (Option Guard)) (x : Session) (slot region page : ℕ) w
         keeps = refl;
         own = tt;
         finds = ap (λ a. has_bundle (placed places (fix_slot a))) asks ∙ there;
-        none = tt;
+        leaves = tt;
         workers = tt;
       }
 
@@ -145,7 +145,7 @@ answer_prepared places returned slot is may none =
       keeps = refl;
       own = tt;
       finds = free_there places (duty_slot returned.duty) slot is may none;
-      none = tt;
+      leaves = tt;
       workers = ap is_some is;
     }
 
@@ -157,7 +157,7 @@ join_prepared places returned slot is there =
       keeps = refl;
       own = tt;
       finds = bundle_there places (duty_slot returned.duty) slot is there;
-      none = tt;
+      leaves = tt;
       workers = ap is_some is;
     }
 
@@ -192,8 +192,8 @@ finds_free places g (request.FlushNext number) e free = free
 -- A worker whose slot has this guard makes the request with it.
 pub prepared : (places rest : List (Option Guard)) (n : ℕ) (g : Guard) (asked : Request) → placed places n ≡ Some g
     → slot_by g ≡ n → rest ≡ slice_set places n None → guard_asked asked ≡ Some g → slot_for asked ≡ Some (slot_by g)
-    → IsWorkers asked → Prepares places asked rest
-prepared places rest n g asked there slot keeps guard by workers =
+    → IsWorkers asked → (layout : Geometry) (x : Session) → IsStep layout x asked → Prepares places asked rest
+prepared places rest n g asked there slot keeps guard by workers layout x step =
     record {
       keeps =
           keeps ∙ ap (λ k. slice_set places k None) (sym slot) ∙ ap (places_without places) (sym guard);
@@ -204,9 +204,17 @@ prepared places rest n g asked there slot keeps guard by workers =
           finds_free rest g asked guard
           (subst (λ (o : Option ℕ). IfSome o (λ k. is_free rest k ≡ true)) (sym by)
           (ap (is_free rest) slot ∙ ap (λ (ps : List (Option Guard)). is_free ps n) keeps ∙ taken_free places n g there));
-      none = leaves_none places g asked guard;
+      leaves = leaves_none places layout x asked step;
       workers = workers;
     }
+
+-- The same where the plan asks it in every layout.
+pub prepared_so : (places rest : List (Option Guard)) (n : ℕ) (g : Guard) (asked : Request) (x : Session)
+    → placed places n ≡ Some g → slot_by g ≡ n → rest ≡ slice_set places n None → guard_asked asked ≡ Some g
+    → slot_for asked ≡ Some (slot_by g) → IsWorkers asked → ((l : Geometry) → IsStep l x asked) → Prepares places asked rest
+prepared_so places rest n g asked x there slot keeps guard by workers step =
+    let layout : Geometry = record { frames = 0; extents = [] } in
+    prepared places rest n g asked there slot keeps guard by workers layout x (step layout)
 
 -- A guard that no request takes goes back to its place.
 pub back_same : (places mid rest : List (Option Guard)) (n : ℕ) (g : Guard) → placed places n ≡ Some g

@@ -225,7 +225,7 @@ forgets s d k old new before left is_logged ends reach m =
         consults = t.consults;
         own = t.own;
         finds = t.finds;
-        none = t.none;
+        leaves = t.leaves;
         given = t.given;
         fits = t.fits;
         log = t.log;
@@ -318,7 +318,7 @@ module _ {S W : Type 0} (s : Site.Ghosts S) (k : Work.Ghosts W) (layout : Geomet
       memory = memory;
       step = step;
       consults = consults;
-      prepares = prepared places (slice_set places (slot_by g) None) (slot_by g) g asked there refl refl guard slot workers;
+      prepares = prepared places (slice_set places (slot_by g) None) (slot_by g) g asked there refl refl guard slot workers layout x step;
       quiet = quiet;
       comes = record {
         response = response;
@@ -603,7 +603,7 @@ module _ {S W : Type 0} (s : Site.Ghosts S) (k : Work.Ghosts W) (layout : Geomet
           memory = memory;
           step = step;
           consults = consults;
-          prepares = prepared places mid n g asked there slot taken guard by workers;
+          prepares = prepared places mid n g asked there slot taken guard by workers layout x step;
           quiet = quiet;
           comes = comes;
         },

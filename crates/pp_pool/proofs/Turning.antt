@@ -36,7 +36,7 @@ use Rattle.pp_settings.specs.declared.extent.Extent.{Extent}
 use Rattle.pp_plan.specs.declared.action.Ask.{Ask}
 use Rattle.pp_plan.specs.declared.action.Ask.TheVariants as ask
 use Rattle.pp_core.specs.Fixing.{wanted}
-use Rattle.pp_pool.specs.Turns.{guard_asked, guard_in, stage_asked, stage_in, FindsPlace, LeavesNone, IsOwn, IsWorkers, IsLong}
+use Rattle.pp_pool.specs.Turns.{guard_asked, guard_in, stage_asked, stage_in, FindsPlace, LeavesInOrder, IsOwn, IsWorkers, IsLong}
 use Rattle.pp_pool.specs.Turns.{Asks, Consults, Prepares, places_without, places_with, Uses, MayWait, TurnIs, can_ask, can_ask_at}
 use Rattle.pp_pool.specs.Turns.{Makes, MakesRequest, MakesOne, logged_events, has_errand, keeps_place, KeepsPlace}
 use Rattle.pp_pool.specs.Turns.{ReworksIf, Reworks, Tells, page_called, end_of, with_guards, kind_of}
@@ -365,7 +365,7 @@ module _ {S D W : Type 0} (s : Site.Ghosts S) (d : Device.Ghosts D) (k : Work.Gh
         consults = consults;
         own = prepares.own;
         finds = subst (λ ps. FindsPlace ps asked) prepares.keeps prepares.finds;
-        none = prepares.none;
+        leaves = prepares.leaves;
         given = subst (s.gives old.site asked response) (sym same) given;
         fits = fits;
         log = log;
@@ -537,7 +537,7 @@ module _ {S D W : Type 0} (s : Site.Ghosts S) (d : Device.Ghosts D) (k : Work.Gh
         own = subst (λ (h : Hand). IsOwn h.guards t.asked) hand t.own;
         finds =
             subst (λ (h : Hand). FindsPlace (places_without h.guards (guard_asked t.asked)) t.asked) hand t.finds;
-        none = subst (λ (h : Hand). LeavesNone h.guards t.asked) hand t.none;
+        leaves = subst (λ (h : Hand). LeavesInOrder h.guards t.asked) hand t.leaves;
         given = subst (λ x. s.gives x t.asked t.response new.site) site t.given;
         fits = t.fits;
         log = t.log ∙ ap (λ es. es ++ logged_events is_logged t.response.event) log;

@@ -161,12 +161,12 @@ TellsNothing old was new now = (new ≡ old) × (now ≡ was)
 abbrev pub TellsStep : {W : Type 0} → Work.Ghosts W → (called : Option ℕ) → (old : W) → (was : Option End) → Move → Reply
     → (new : W) → (now : Option End) → Type 0
 TellsStep k called old was (move.Take w) (reply.Taken plan) new now =
-    (k.begins_leaves old plan new ⊎ (new ≡ old)) × (now ≡ was)
+    (k.begins_leaves old plan new ⊎ (new ≡ old)) × (now ≡ None)
 TellsStep k called old was (move.ReadDone w came) (reply.Failed why) new now =
     (new ≡ old) × (now ≡ option_map (λ page. end.Gone page why) called)
 TellsStep k called old was (move.WriteDone w ok) (reply.Failed why) new now =
     (new ≡ old) × (now ≡ option_map (λ page. end.Gone page why) called)
-TellsStep k called old was (move.Finish w) (reply.Finished ending.Done) new now = IsToldEnd k old end.Done new × (now ≡ was)
+TellsStep k called old was (move.Finish w) (reply.Finished ending.Done) new now = IsToldEnd k old end.Done new × (now ≡ None)
 TellsStep k called old was (move.Finish w) (reply.Finished ending.Gone) new now =
     MatchOption was (new ≡ old) (λ e. IsToldEnd k old e new) × (now ≡ None)
 TellsStep k called old was did out new now = TellsNothing old was new now
@@ -220,10 +220,12 @@ FindsPlace places (request.Join x page) = HasBundle places (fix_slot x.ask)
 FindsPlace places (request.AnswerJoin returned) = IfSome (duty_slot returned.duty) (HasBundle places)
 FindsPlace places asked = IfSome (slot_for asked) (λ slot. is_free places slot ≡ true)
 
--- A worker that leaves its plan is idle again only where no slot has a guard any more.
-abbrev pub LeavesNone : List (Option Guard) → Request → Type 0
-LeavesNone places (request.End x) = all_free places ≡ true
-LeavesNone places _ = Unit {0}
+-- A worker that leaves its plan gives back the least slot first of those that have a guard, and is idle again only where none has
+-- one any more.
+abbrev pub LeavesInOrder : List (Option Guard) → Request → Type 0
+LeavesInOrder places (request.GiveBack x g) = (slot : ℕ) → slot < slot_by g → placed places slot ≡ None
+LeavesInOrder places (request.End x) = all_free places ≡ true
+LeavesInOrder places _ = Unit {0}
 
 -- The request is one of a worker.
 abbrev pub IsWorkers : Request → Type 0
@@ -242,7 +244,7 @@ pub record Prepares (places : List (Option Guard)) (asked : Request) (rest : Lis
   pub keeps : rest ≡ places_without places (guard_asked asked)
   pub own : IsOwn places asked
   pub finds : FindsPlace rest asked
-  pub none : LeavesNone places asked
+  pub leaves : LeavesInOrder places asked
   pub workers : IsWorkers asked
 
 -- ---- whether a request can be made
@@ -446,7 +448,7 @@ pub record MakesRequest {S D W : Type 0} (s : Site.Ghosts S) (d : Device.Ghosts 
   pub consults : Consults k old.layout before asked between
   pub own : IsOwn old.hand.guards asked
   pub finds : FindsPlace (places_without old.hand.guards (guard_asked asked)) asked
-  pub none : LeavesNone old.hand.guards asked
+  pub leaves : LeavesInOrder old.hand.guards asked
   pub given : s.gives old.site asked response new.site
   pub fits : Replies asked response
   pub log : new.log.items ≡ old.log.items ++ logged_events is_logged response.event

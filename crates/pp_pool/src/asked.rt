@@ -215,7 +215,7 @@ fn choose<W: Work>(session: Session, branches: u16, work: &mut W) -> Result<Requ
 
 /// What the plan asks of this slot, where it has a guard.
 // Inlined, since else the guard goes through memory at each of its calls: a tenth of the instructions of a hit.
-#[tactic(auto, using(crate::proofs::Placing::prepared, crate::proofs::Placing::back_same))]
+#[tactic(auto, using(crate::proofs::Placing::back_same))]
 #[inline(always)]
 fn with_slot(session: Session, guards: &mut Guards, slot: u8) -> Result<Request, Session>
     requires { AsksSlot slot session.ask }
@@ -305,6 +305,7 @@ fn take_first(guards: &mut Guards) -> Option<Guard>
     ensures taken { guards.new ≡ places_without guards.old result }
     ensures own { IfSome result (λ guard. placed guards.old (slot_by guard) ≡ Some guard) }
     ensures free { IfSome result (λ guard. is_free guards.new (slot_by guard) ≡ true) }
+    ensures least { IfSome result (λ guard. (slot : ℕ) → slot < slot_by guard → placed guards.old slot ≡ None) }
     ensures none { IfNone result ((slot : ℕ) → slot < 32 → placed guards.old slot ≡ None) }
 {
     for slot in 0..32 {

@@ -549,6 +549,7 @@ fn tell<S: Site, W: Work>(
         (Move::Take { worker: _ }, Reply::Taken { plan }) => {
             site.let_go();
             *reach = None;
+            *end = None;
             work.begins(plan);
         }
         (Move::ReadDone { .. } | Move::WriteDone { .. }, Reply::Failed(why)) => {
@@ -557,6 +558,7 @@ fn tell<S: Site, W: Work>(
         (Move::Finish { worker: _ }, Reply::Finished(Ending::Done)) => {
             site.let_go();
             *reach = None;
+            *end = None;
             work.ended(End::Done);
         }
         (Move::Finish { worker: _ }, Reply::Finished(Ending::Gone)) => {
