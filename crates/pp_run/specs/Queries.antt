@@ -19,7 +19,7 @@ pub record AreAsBefore {D W : Type 0} (p : Rested) (asked : List (Acceptance × 
   pub devices_back : u.devices.items ≡ devices
 
 -- What is left of a run of these plans with these works over this pool, with these devices, that gives this error. Where it was
--- begun, each plan's work is there.
+-- begun, there are as many works as plans.
 abbrev pub IsLeftOfQueries : {D W : Type 0} → Rested → List (Acceptance × W) → List D → RunError → UnrunQueries D W → Type 0
 IsLeftOfQueries p asked devices error (unrun_queries.Unbegun u) =
     AreAsBefore p asked devices u × IsNotBegun (opening_of p) (plans_in asked) error

@@ -37,7 +37,7 @@ abbrev pub opening_of : Rested → State
 opening_of p = opens_with p.settings p.began
 
 -- The pool that a run gives back: of the same settings, and its next life begins with what the run's life left. That is the
--- state of a pool which is renewed at the run's end. Its flushes go on behind the page whose flush the run began last.
+-- state of a pool which is renewed at the run's end. It keeps the number behind the page whose flush the run began last.
 pub record ComesBack (p : Rested) (plans : List Acceptance) (events : List Event) (q : Rested) : Type 0 where
   pub settings : q.settings ≡ p.settings
   pub page_bytes : q.page_bytes ≡ p.page_bytes

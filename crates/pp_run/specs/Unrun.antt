@@ -36,8 +36,8 @@ IsNotBegun o plans (Broken w) =
     (w ≡ o.settings.workers) × (renew_error o ≢ None) × IsOk (after_submits o plans)
 IsNotBegun o plans _ = ⊥
 
--- Why no life begins from this opening state, whatever its plans: memory ran out, or a mark is too high, which is told by the
--- flusher's number.
+-- Why no life begins from this opening state, where its plans are taken in: memory ran out, or a mark is too high, which is told by
+-- the flusher's number.
 abbrev pub MayNotBegin : State → RunError → Type 0
 MayNotBegin o OutOfMemory = ⊤
 MayNotBegin o (Broken w) = (w ≡ o.settings.workers) × (renew_error o ≢ None)
@@ -51,8 +51,8 @@ IsUnready b _ = ⊥
 -- ---- a run that stopped
 
 -- What is left has the book of a life that began in this state. All these plans were submitted in their order, before anything
--- else, and each event behind that is a move. Regions lie where they lay, a page has as many
--- bytes, and the first flush of the life was sought from where the pool had it.
+-- else, and each event behind that is a move. Regions lie where they lay, a page has as many bytes, and the number that is kept for
+-- its first flush is the pool's.
 pub record IsStopped (o : State) (bytes sought : ℕ) (plans : List Acceptance) (s : Stalled) : Type 0 where
   pub opened : parts.opening_of s.book ≡ o
   pub planned : plans_of s.book ≡ plans

@@ -12,7 +12,7 @@ pub use rested::RestedPool;
 pub use site::LockedSite;
 pub use stalled::Stalled;
 pub use stop::{Flushed, Stop, Worked};
-pub use threads::run_all;
+pub use threads::{ThreadRoom, run_all};
 pub use unrun::{Unbegun, Unrun};
 
 mod comparing;

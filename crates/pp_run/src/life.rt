@@ -1,6 +1,6 @@
 //! One life of a pool, on threads.
 
-ghost use Rattle.std.specs.Prelude.{◌≡◌, ◌≢◌, ◌+◌, ◌-◌, ◌*◌, ◌≤◌, ◌<◌, ◌^◌, true, [], IfOk, IfErr, IsOk, OnOk, length, sum_by, is_none, vec_len};
+ghost use Rattle.std.specs.Prelude.{◌≡◌, ◌≢◌, ◌+◌, ◌-◌, ◌*◌, ◌≤◌, ◌<◌, ◌^◌, true, [], IfOk, IfErr, IsOk, OnErr, OnOk, length, sum_by, is_none, vec_len};
 ghost use Rattle.pp_model.specs.Budget.{cost_of};
 ghost use Rattle.pp_model.specs.Pool.{dirty_pages};
 ghost use Rattle.pp_model.specs.Submitting.{after_submits};
@@ -29,7 +29,7 @@ use crate::rested::RestedPool;
 use crate::site::LockedSite;
 use crate::stalled::Stalled;
 use crate::stop::{Flushed, Worked};
-use crate::threads::run_all;
+use crate::threads::{ThreadRoom, run_all};
 use pp_cert::Accepted;
 use pp_device::Device;
 use pp_pool::{Book, Journal, Work};
@@ -79,25 +79,27 @@ impl<D: Drop> Ended<D> {
 /// submitted yet.
 ///
 /// The compiler refuses code that lets it fall.
-pub(crate) struct Ready {
+pub(crate) struct Ready<D: Device + Drop> {
     pub(crate) book: Book,
     pub(crate) hands: Hands,
     pub(crate) pages: (Layout, u32),
     pub(crate) from: u32,
     // The journal of the next life.
     pub(crate) spare: Journal,
+    // Room for the handles of this life's threads.
+    pub(crate) threads: ThreadRoom<D>,
 }
 
-/// Looks at the plans, and gets room for them in the pool's journal and for its next life.
+/// Looks at the plans, and gets room for them in the pool's journal, for its next life, and for the threads of this one.
 ///
 /// # Errors
 ///
 /// Why the run isn't begun, and the pool as it was.
-pub(crate) fn made_ready(
+pub(crate) fn made_ready<D: Device + Drop>(
     alloc: Global,
     pool: RestedPool,
     plans: &[Accepted],
-) -> Result<Ready, (RunError, RestedPool)>
+) -> Result<Ready<D>, (RunError, RestedPool)>
     ensures settings { IfOk result (λ r. settings_of r.book ≡ pool.settings) }
     ensures outset { IfOk result (λ r. r.book.began ≡ pool.began) }
     ensures state { IfOk result (λ r. state_of r.book ≡ opening_of pool) }
@@ -108,6 +110,7 @@ pub(crate) fn made_ready(
     ensures from { IfOk result (λ r. r.from ≡ pool.from) }
     ensures room { IfOk result (λ r. HasRoomFor r.book (sum_by cost_of plans.now + length plans.now)) }
     ensures spare { IfOk result (λ r. HasLifeRoom r.book r.spare.capacity) }
+    ensures threads { IfOk result (λ r. pool.settings.workers ≤ r.threads) }
     ensures taken { OnOk result (IsOk (after_submits (opening_of pool) plans.now)) }
     ensures error { IfErr result (λ e. IsNotBegun (opening_of pool) plans.now e.0) }
     ensures back { IfErr result (λ e. e.1 ≡ pool) }
@@ -119,16 +122,17 @@ pub(crate) fn made_ready(
     ready_with(alloc, pool, need as usize + plans.len())
 }
 
-/// Gets room for so many events in the pool's journal, the flushes and all that its plans need, and for its next life.
+/// Gets room for so many events in the pool's journal, the flushes and all that its plans need, for its next life, and for the
+/// threads of this one.
 ///
 /// # Errors
 ///
 /// [`RunError::OutOfMemory`], or [`RunError::Broken`] with the flusher's number where a mark has come to 2^63; and the pool as it was.
-pub(crate) fn ready_with(
+pub(crate) fn ready_with<D: Device + Drop>(
     alloc: Global,
     pool: RestedPool,
     room: usize,
-) -> Result<Ready, (RunError, RestedPool)>
+) -> Result<Ready<D>, (RunError, RestedPool)>
     requires room { 2 * pool.settings.flushes ≤ room }
     ensures settings { IfOk result (λ r. settings_of r.book ≡ pool.settings) }
     ensures outset { IfOk result (λ r. r.book.began ≡ pool.began) }
@@ -140,11 +144,15 @@ pub(crate) fn ready_with(
     ensures from { IfOk result (λ r. r.from ≡ pool.from) }
     ensures room { IfOk result (λ r. HasRoomFor r.book (room - 2 * pool.settings.flushes)) }
     ensures spare { IfOk result (λ r. HasLifeRoom r.book r.spare.capacity) }
+    ensures threads { IfOk result (λ r. pool.settings.workers ≤ r.threads) }
     ensures error { IfErr result (λ e. MayNotBegin (opening_of pool) e.0) }
     ensures back { IfErr result (λ e. e.1 ≡ pool) }
 {
     pool.known();
     let Ok(journal) = Journal::with_capacity(alloc, room) else {
+        return Err((RunError::OutOfMemory, pool));
+    };
+    let Ok(threads) = ThreadRoom::new(alloc, pool.workers() as usize) else {
         return Err((RunError::OutOfMemory, pool));
     };
     let RestedPool {
@@ -161,6 +169,7 @@ pub(crate) fn ready_with(
             pages: (layout, page_bytes),
             from,
             spare,
+            threads,
         }),
         Err(error) => {
             let pool = RestedPool {
@@ -194,6 +203,7 @@ fn with_room(book: &mut Book, journal: Journal, room: usize) -> Result<Journal, 
     ensures room { OnOk result (room ≤ book.new.capacity) }
     ensures spare { IfOk result (λ spare. HasLifeRoom book.new spare.capacity) }
     ensures error { IfErr result (IsUnready book.old) }
+    ensures unchanged { OnErr result (book.new ≡ book.old) }
 {
     book.known();
     if book.journal().capacity() >= room {
@@ -207,7 +217,8 @@ fn with_room(book: &mut Book, journal: Journal, room: usize) -> Result<Journal, 
 }
 
 /// Submits the plans to a pool that is ready for them, and runs them on threads, up to the end of the pool's life. The life is of
-/// the settings, the plans, the outset and the bytes of a page that `N` names. The journal of the next life comes back beside what the run leaves.
+/// the settings, the plans, the outset and the bytes of a page that `N` names. The journal of the next life comes back beside what
+/// the run leaves.
 pub(crate) fn live<
     N: Naming + Send,
     D: Device + Drop + Send,
@@ -216,7 +227,7 @@ pub(crate) fn live<
 >(
     rt: &R,
     alloc: Global,
-    ready: Ready,
+    ready: Ready<D>,
     plans: Vec<Accepted>,
     devices: Vec<D>,
     works: Vec<W>,
@@ -233,6 +244,7 @@ pub(crate) fn live<
     requires taken { IsOk (after_submits (state_of ready.book) plans.items) }
     requires ends { vec_len devices ≡ (settings_of ready.book).workers + 1 }
     requires works { vec_len works ≡ (settings_of ready.book).workers }
+    requires threads { (settings_of ready.book).workers ≤ ready.threads }
     ensures end { IfOk result (λ r. IsEnd (parts.opening_of ready.book) plans.items r.0.stalled.book r.0.dirty) }
     ensures count { IfOk result (λ r. r.0.plans ≡ vec_len plans) }
     ensures page_bytes { IfOk result (λ r. r.0.stalled.page_bytes ≡ ready.pages.1) }
@@ -252,6 +264,7 @@ pub(crate) fn live<
         pages,
         from,
         spare,
+        threads,
     } = ready;
     let count = submit_all(&mut book, plans);
     let mut devices = devices;
@@ -267,7 +280,7 @@ pub(crate) fn live<
         moved: &moved,
         changed: &changed,
     };
-    let joined = run_all(site, alloc, devices, last, from, works);
+    let joined = run_all(site, alloc, threads, devices, last, from, works);
     let (book, hands) = lock.into_inner().into_desk().into_parts();
     let stalled = Stalled {
         book,

@@ -137,10 +137,10 @@ impl Pool {
     /// Those of [`Pool::run`], in its order, and with each what is left: a pool's dirty pages are nowhere else.
     ///
     /// Before anything is done, the refusal of the first plan that isn't taken in; [`RunError::OutOfMemory`] where there is none
-    /// for the journals; and [`RunError::Broken`] with the flusher's number where a mark has come to 2^63. Then all that was handed
-    /// over comes back as it was ([`Unrun::Unbegun`]). Behind that the run was begun, and is left as it stopped
-    /// ([`Unrun::Stalled`]): its plans are submitted, and what is left of it can be done by one thread. Where a run came to its
-    /// end, [`RunError::Broken`] with the flusher's number where a mark has come to 2^63 or a token isn't back in its place, so
+    /// for the journals or the threads' handles; and [`RunError::Broken`] with the flusher's number where a mark has come to 2^63.
+    /// Then all that was handed over comes back as it was ([`Unrun::Unbegun`]). Behind that the run was begun, and is left as it
+    /// stopped ([`Unrun::Stalled`]): its plans are submitted, and what is left of it can be done by one thread. Where a run came to
+    /// its end, [`RunError::Broken`] with the flusher's number where a mark has come to 2^63 or a token isn't back in its place, so
     /// that the pool isn't renewed.
     pub fn run_on<D: Device + Drop + Send, W: Work + Drop + Send, R: Threads + Wait + Sync>(
         rt: &R,

@@ -60,7 +60,8 @@ pub struct StalledQueries<W> {
 }
 
 impl<D: Drop, W: Drop> UnrunQueries<D, W> {
-    /// Gives the pool up, and answers how many pages were newer than the device's: what was changed in them is lost.
+    /// Gives the pool up, with the plans, the devices and the works, and answers how many pages were newer than the device's: what was
+    /// changed in them is lost.
     pub fn close(self) -> u32
         ensures { result ≡ dirty_left_of_queries self }
     {
@@ -235,7 +236,7 @@ impl Pool {
     ///
     /// # Errors
     ///
-    /// Those of [`Pool::run_on`]. Memory that this call wants itself is got once the plans are looked at, and before anything is done.
+    /// Those of [`Pool::run_on`]. Memory that this call wants besides is got once the plans are looked at, and before anything is done.
     /// Where nothing was done, all that was handed over comes back as it was ([`UnrunQueries::Unbegun`]). Behind that the works come
     /// back beside the pool, as they are ([`UnrunQueries::Stalled`]); one whose plan hasn't ended has no end.
     pub fn run_queries<D: Device + Drop + Send, W: Work + Drop + Send, R: Threads + Wait + Sync>(

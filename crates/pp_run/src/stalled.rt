@@ -200,7 +200,7 @@ impl Stalled {
         ensures life { IfOk result (λ r. IsLife (parts.opening_of self.book)
             (record { plans = plans_of self.book; journal = self.book.journal })) }
         ensures error { IfErr result (λ e. (e.0 ≡ run_errors.OutOfMemory) ⊎ KeptFor self.book e.1.hands e.0) }
-        ensures back { IfErr result (λ e. (e.1.book ≡ self.book) × (e.1.from ≡ self.from)) }
+        ensures back { IfErr result (λ e. (e.1.book ≡ self.book) × (e.1.hands ≡ self.hands) × (e.1.from ≡ self.from)) }
     {
         let Ok(empty) = Journal::with_capacity(alloc, 2 * self.book.flushes() as usize) else {
             return Err((RunError::OutOfMemory, self));
@@ -223,7 +223,7 @@ impl Stalled {
         ensures life { IfOk result (λ r. IsLife (parts.opening_of self.book)
             (record { plans = plans_of self.book; journal = self.book.journal })) }
         ensures error { IfErr result (λ e. KeptFor self.book e.1.hands e.0) }
-        ensures back { IfErr result (λ e. e.1.book ≡ self.book) }
+        ensures back { IfErr result (λ e. (e.1.book ≡ self.book) × (e.1.hands ≡ self.hands)) }
         ensures pages { IfErr result (λ e. (e.1.layout ≡ self.layout) × (e.1.page_bytes ≡ self.page_bytes)
             × (e.1.from ≡ self.from)) }
     {

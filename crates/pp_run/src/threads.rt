@@ -1,6 +1,6 @@
 //! The threads of a run.
 
-ghost use Rattle.std.specs.Prelude.{◌≡◌, ◌+◌, ◌^◌, ◌<◌, IfOk, IfErr, vec_len};
+ghost use Rattle.std.specs.Prelude.{◌≡◌, ◌+◌, ◌^◌, ◌<◌, ◌≤◌, IfOk, IfErr, vec_len};
 ghost use Rattle.pp_run.specs.Ends.{AllWorkedFrom, FlushedFrom, IsUnstarted};
 
 use crate::desk::Desk;
@@ -11,7 +11,8 @@ use crate::stop::{Flushed, Worked};
 use crate::working::work_on;
 use pp_device::Device;
 use pp_pool::Work;
-use std::alloc::Global;
+use std::alloc::{AllocError, Global};
+use std::marker::Model;
 use std::snapshot::Snapshot;
 use std::sync::Wait;
 use std::thread;
@@ -37,6 +38,34 @@ impl<D: Device + Drop> Promise<Flushed<D>> for FlushPromise<D> {
     ghost kept_by = { λ p r. FlushedFrom D.calls D.failures p.0.value r };
 }
 
+/// Room for the handles of the workers' threads. It is got before a run begins, so that no run stops for want of it.
+///
+/// Contracts see for how many workers there is room.
+#[derive(Drop)]
+pub struct ThreadRoom<D: Device + Drop> {
+    handles: Vec<PromisedHandle<Worked<D>, WorkPromise<D>>>,
+}
+
+impl<D: Device + Drop> Model for ThreadRoom<D> {
+    ghost use Rattle.std.specs.Prelude.{◌≡◌, ℕ, [], vec_capacity};
+
+    ghost Value = { ℕ };
+
+    ghost view = { λ r. vec_capacity r.handles };
+
+    ghost invariant = { λ r. r.handles.items ≡ [] };
+}
+
+impl<D: Device + Drop> ThreadRoom<D> {
+    /// Room for so many workers.
+    pub fn new(alloc: Global, workers: usize) -> Result<ThreadRoom<D>, AllocError>
+        ensures { IfOk result (λ room. workers ≤ room) }
+    {
+        let handles = Vec::with_capacity(alloc, workers)?;
+        Ok(ThreadRoom { handles })
+    }
+}
+
 /// Waits until these threads have ended, and lets go what they give back.
 fn join_all<T: Drop, P: Promise<T>, R: Threads>(rt: &R, handles: Vec<PromisedHandle<T, P>>) {
     for handle in handles {
@@ -49,8 +78,7 @@ fn join_all<T: Drop, P: Promise<T>, R: Threads>(rt: &R, handles: Vec<PromisedHan
 /// # Errors
 ///
 /// [`RunError::NoThread`] with the first worker whose thread couldn't be started; the threads of the workers before it
-/// are joined first. [`RunError::OutOfMemory`] where there is none for the handles, and no thread is started then, or
-/// for what the joined threads gave back.
+/// are joined first. [`RunError::OutOfMemory`] where there is none for what the joined threads gave back.
 fn run_workers<
     's,
     E,
@@ -62,17 +90,18 @@ fn run_workers<
     scope: &Scope<'s, E>,
     site: &LockedSite<'s, B, R>,
     alloc: Global,
+    room: ThreadRoom<D>,
     devices: Vec<D>,
     works: Vec<W>,
 ) -> Result<Vec<Worked<D>>, RunError>
     requires few { vec_len devices < 2 ^ 32 }
+    requires room { vec_len devices ≤ room }
     requires works { vec_len works ≡ vec_len devices }
     ensures workers { IfOk result (λ v. AllWorkedFrom D.calls D.failures devices.items v.items) }
     ensures error { IfErr result (IsUnstarted (vec_len devices)) }
 {
     let (rt, lock, moved, changed) = (site.rt, site.lock, site.moved, site.changed);
-    let mut handles = Vec::new(alloc);
-    handles.reserve(devices.len())?;
+    let ThreadRoom { mut handles } = room;
     let mut works = works.into_iter();
     let mut worker = 0u32;
     for device in devices {
@@ -126,8 +155,7 @@ fn first_unstarted<D: Drop>(worked: Result<Vec<Worked<D>>, RunError>, flusher: u
 /// # Errors
 ///
 /// [`RunError::NoThread`] with the first worker whose thread couldn't be started, or with the number of the workers where
-/// that was the flusher's. [`RunError::OutOfMemory`] where memory runs out for the handles or for what the threads give
-/// back. The workers whose threads were started do the plans, and the book is closed only when all of them have ended.
+/// that was the flusher's. [`RunError::OutOfMemory`] where memory runs out for what the threads give back. The workers whose threads were started do the plans, and the book is closed only when all of them have ended.
 pub fn run_all<
     B: Desk + Send,
     D: Device + Drop + Send,
@@ -136,12 +164,14 @@ pub fn run_all<
 >(
     site: LockedSite<'_, B, R>,
     alloc: Global,
+    room: ThreadRoom<D>,
     devices: Vec<D>,
     last: D,
     from: u32,
     works: Vec<W>,
 ) -> Result<(Vec<Worked<D>>, Flushed<D>), RunError>
     requires few { vec_len devices < 2 ^ 32 }
+    requires room { vec_len devices ≤ room }
     requires works { vec_len works ≡ vec_len devices }
     ensures workers { IfOk result (λ v. AllWorkedFrom D.calls D.failures devices.items v.0.items) }
     ensures flusher { IfOk result (λ v. FlushedFrom D.calls D.failures last v.1) }
@@ -153,6 +183,7 @@ pub fn run_all<
         rt,
         move |scope| -> Result<(Vec<Worked<D>>, Flushed<D>), RunError>
             requires few { vec_len devices < 2 ^ 32 }
+            requires room { vec_len devices ≤ room }
             requires works { vec_len works ≡ vec_len devices }
             ensures workers { IfOk result (λ v. AllWorkedFrom D.calls D.failures devices.items v.0.items) }
             ensures flusher { IfOk result (λ v. FlushedFrom D.calls D.failures last v.1) }
@@ -176,7 +207,7 @@ pub fn run_all<
                 moved,
                 changed,
             };
-            let worked = run_workers(scope, &site, alloc, devices, works);
+            let worked = run_workers(scope, &site, alloc, room, devices, works);
             site.close();
             match started {
                 Ok(handle) => {

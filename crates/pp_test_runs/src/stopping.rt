@@ -10,7 +10,9 @@ use crate::running::{ends_of, plans_of, players, refused, same, settings_of, tol
 use pp_cert::Accepted;
 use pp_device::Device;
 use pp_pool::{Book, Work};
-use pp_run::{Desk, Flushed, Locked, LockedSite, RunError, Stop, Worked, judge, run_all};
+use pp_run::{
+    Desk, Flushed, Locked, LockedSite, RunError, Stop, ThreadRoom, Worked, judge, run_all,
+};
 use pp_settings::Settings;
 use pp_test_plain::samples::{READ, WRITE};
 use std::alloc::Global;
@@ -73,7 +75,8 @@ fn threads_over<
                 moved: &moved,
                 changed: &changed,
             };
-            let ran = run_all(site, alloc, devices, last, 0, works);
+            let room = ThreadRoom::new(alloc, devices.len())?;
+            let ran = run_all(site, alloc, room, devices, last, 0, works);
             over.store(true, Ordering::SeqCst);
             ran
         },
