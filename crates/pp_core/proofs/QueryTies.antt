@@ -24,7 +24,6 @@ use Rattle.pp_model.specs.Outcome.{Outcome, off_plan}
 use Rattle.pp_model.specs.Moves.{asked_by, act_by, act_in, seat_of}
 use Rattle.pp_model.specs.Marks.{marks_at, marks}
 use Rattle.pp_model.proofs.MarkParts.{marks_is}
-use Rattle.pp_model.proofs.BoundSteps as numbers
 use Rattle.pp_core.specs.declared.seat.Phase.{Phase}
 use Rattle.pp_core.specs.declared.seat.Phase.TheVariants.{Acting, Writing, Reading, Leaving}
 use Rattle.pp_core.specs.declared.seat.Seat.{Seat}
@@ -372,6 +371,3 @@ module _ (f : Parts) (s : State) (st : StandsFor f s) where
 
   pub plans_told : length f.plans ≡ plan_count s
   plans_told = ap length st.plans
-
-pub plans_few : (f : Parts) → IsKept f → length f.plans ≤ 256
-plans_few f k = omega (arith, ap length k.stands.plans, numbers.plans_are_few k.state k.stands.reached)

@@ -19,7 +19,7 @@ pub record CanBegin (f : Parts) (w : ℕ) : Type 0 where
   pub accepted : Acceptance
   pub plan : slice_get f.plans f.taken ≡ Some accepted
   pub idle : slice_get f.seats w ≡ Some None
-  pub taken : f.taken + 1 < 2 ^ 32
+  pub taken : f.taken + 1 < 2 ^ 64
   pub running : f.running + accepted.peak < 2 ^ 64
   pub budget : 0 < f.budget
 

@@ -33,7 +33,7 @@ use std::marker::Model;
 
 /// A plan's number: how many plans were submitted before it.
 #[derive(Clone, Copy, Debug, PartialEq, Eq)]
-pub struct PlanId(u32);
+pub struct PlanId(u64);
 
 impl Model for PlanId {
     ghost use Rattle.std.specs.Prelude.{ℕ};
@@ -47,7 +47,7 @@ impl Model for PlanId {
 
 impl PlanId {
     /// The number, from 0.
-    pub fn number(self) -> u32
+    pub fn number(self) -> u64
         ensures { result ≡ self }
     {
         self.0
@@ -285,7 +285,7 @@ impl Core {
     }
 
     /// How many plans were submitted, those that were ended among them.
-    pub fn plans(&self) -> u32
+    pub fn plans(&self) -> u64
         ensures { (s : State) → StandsFor self.now s → result ≡ plan_count s }
     {
         self.table.plan_count()

@@ -10,11 +10,10 @@ use pp_plan::Ask;
 
 impl Table {
     /// How many plans were submitted.
-    pub(crate) fn plan_count(&self) -> u32
-        requires { length self.now.plans.items ≤ 256 }
+    pub(crate) fn plan_count(&self) -> u64
         ensures { result ≡ length self.now.plans.items }
     {
-        self.plans.len() as u32
+        self.plans.len() as u64
     }
 
     /// Whether the worker is idle.

@@ -41,7 +41,7 @@ pub enum Phase {
 #[derive(Debug, Drop)]
 pub struct Seat {
     /// The plan's number.
-    pub(crate) plan: u32,
+    pub(crate) plan: u64,
     /// Where the worker is in the plan, as long as it follows it.
     pub(crate) cursor: Cursor,
     /// What the plan asks there.
@@ -58,7 +58,7 @@ pub struct Seat {
 
 impl Seat {
     /// A worker before the first action of the plan of this number.
-    pub(crate) fn new(number: u32, plan: &Plan) -> Seat
+    pub(crate) fn new(number: u64, plan: &Plan) -> Seat
         ensures { IsBegun plan.now number result }
     {
         let cursor = Cursor::new(plan);

@@ -52,7 +52,7 @@ impl Table {
     }
 
     /// Takes the plan in, and answers its number; or gives it back.
-    pub(crate) fn submit(&mut self, accepted: Accepted) -> Result<u32, (Accepted, SubmitError)>
+    pub(crate) fn submit(&mut self, accepted: Accepted) -> Result<u64, (Accepted, SubmitError)>
         requires { IsKept (parts_of self.old) }
         ensures ok { IfOk result (λ number. TakesIn (parts_of self.old) accepted number (parts_of self.new)) }
         ensures error { IfErr result (λ e. (s : State) → StandsFor (parts_of self.old) s
@@ -63,7 +63,7 @@ impl Table {
         if let Some(error) = self.submit_fault(&accepted) {
             return Err((accepted, error));
         }
-        let number = self.plans.len() as u32;
+        let number = self.plans.len() as u64;
         self.add(accepted);
         Ok(number)
     }

@@ -43,7 +43,7 @@ pub struct Table {
     pub(crate) flushes_left: u32,
     /// All plans that were submitted, in order, and how many of them were taken.
     pub(crate) plans: Vec<Accepted>,
-    pub(crate) taken: u32,
+    pub(crate) taken: u64,
     /// At place w worker w: in its plan, or idle.
     pub(crate) seats: Vec<Option<Seat>>,
     /// ARC's lists.

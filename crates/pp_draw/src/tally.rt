@@ -15,7 +15,7 @@ use std::alloc::{AllocError, Global};
 /// A worker's turn at a plan.
 #[derive(Clone, Copy)]
 pub struct Turn {
-    pub plan: u32,
+    pub plan: u64,
     pub worker: u32,
     /// The line of its take.
     pub from: u64,
@@ -113,7 +113,7 @@ fn event_of(line: Line) -> Option<Event>
 }
 
 /// The plan that is taken, and the worker that takes it.
-fn taken_in(event: Event) -> Option<(u32, u32)>
+fn taken_in(event: Event) -> Option<(u64, u32)>
     ensures { result ≡ taken_in event }
 {
     match event {

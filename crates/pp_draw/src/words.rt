@@ -53,7 +53,7 @@ const NAME: usize = 40;
 #[derive(Clone, Copy)]
 pub(crate) struct PlanName<'a> {
     pub names: &'a [&'a str],
-    pub plan: u32,
+    pub plan: u64,
 }
 
 impl PlanName<'_> {

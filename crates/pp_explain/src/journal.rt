@@ -122,7 +122,7 @@ impl Played<'_> {
     }
 
     /// Why the plan isn't submitted there.
-    fn submit_text(&self, alloc: Global, plan: u32) -> Result<String, AllocError> {
+    fn submit_text(&self, alloc: Global, plan: u64) -> Result<String, AllocError> {
         let named = self.plans.len();
         let submits = self.submits();
         let before = self.counted(None);

@@ -22,12 +22,12 @@ const FRAMES: u32 = 65_536;
 pub(crate) enum Entry {
     /// A plan was submitted.
     Submit {
-        plan: u32,
+        plan: u64,
     },
     /// A worker took a plan.
     Take {
         worker: u32,
-        plan: u32,
+        plan: u64,
     },
     /// A worker fixed a page that was cached.
     Hit {

@@ -7,7 +7,7 @@ use crate::reply::Reply;
 #[derive(Clone, Copy, Debug, PartialEq, Eq)]
 pub enum Event {
     /// The plan of this number was submitted, and waits.
-    Submit { plan: u32 },
+    Submit { plan: u64 },
     /// This move was done, and was answered so.
     Step { did: Move, reply: Reply },
 }

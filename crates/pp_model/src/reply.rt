@@ -88,7 +88,7 @@ impl fmt::Display for Ending {
 #[derive(Clone, Copy, Debug, PartialEq, Eq)]
 pub enum Reply {
     /// The worker runs the plan of this number from now on.
-    Taken { plan: u32 },
+    Taken { plan: u64 },
     /// The page was cached already, in this frame, and has this mark.
     Hit { frame: u32, mark: u64 },
     /// The device has to read the page into this frame.

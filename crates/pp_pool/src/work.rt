@@ -103,7 +103,7 @@ pub trait Work {
     ghost rework_leaves: { Self → (off : ℕ) → (before after : List LentPage) → Self → Type 0 } = { λ work off before left after. ⊥ };
 
     /// The worker has taken this plan: its number is that of its [`PlanId`](pp_vault::PlanId), which the journal has too.
-    fn begins(&mut self, _plan: u32)
+    fn begins(&mut self, _plan: u64)
         ensures begun { begins_leaves self.old _plan self.new ⊎ (self.new ≡ self.old) }
     {}
 

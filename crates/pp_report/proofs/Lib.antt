@@ -10,6 +10,7 @@ pub mod Verdicts
 pub mod LivesLines
 pub mod LivesPassed
 pub mod LivesAudited
+pub mod Few
 pub mod Whole
 pub mod LivesWhole
 pub mod Readback

@@ -1,5 +1,5 @@
 -- Whole lives are audited, and one life is audited as ever.
-use Rattle.std.proofs.Common.{◌≡◌, ◌≢◌, ◌∙◌, ℕ, ◌+◌, Bool, true, false, List, [], ◌∷◌, length, map, inl, refl, sym, ap, subst}
+use Rattle.std.proofs.Common.{◌≡◌, ◌≢◌, ◌∙◌, ℕ, ◌+◌, Bool, true, false, List, [], ◌∷◌, length, map, inl, refl, sym, ap, subst, arith}
 use Rattle.std.proofs.Common.{Result, Ok, Err, if◌then◌else◌}
 use Rattle.std.specs.List.{AllByRecursion}
 use Rattle.std.specs.Str.{bytes_eq}
@@ -10,7 +10,7 @@ use Rattle.pp_cert.specs.Accepted.{Acceptance}
 use Rattle.pp_model.specs.declared.event.Event.{Event}
 use Rattle.pp_model.specs.Pool.{State, opening}
 use Rattle.pp_model.specs.Renewing.{renewed}
-use Rattle.pp_model.specs.Lives.{Life, life_end, AreLives}
+use Rattle.pp_model.specs.Lives.{Life, life_end, AreLives, after_lives}
 use Rattle.pp_core.specs.Opening.{kept_of}
 use Rattle.pp_report.specs.declared.error.AuditError.{AuditError}
 use Rattle.pp_report.specs.Lines.{HasNumbers, FitsEvent}
@@ -22,6 +22,7 @@ use Rattle.pp_report.specs.Lives.{journals_of, lives_words, lives_lines, FitLive
 use Rattle.pp_report.specs.Lives.{AreWholeJournals, IsAuditedLives, HasNoRenewal}
 use Rattle.pp_report.proofs.Splitting.{words_of, spelled_lines}
 use Rattle.pp_report.proofs.Verdicts as verdicts
+use Rattle.pp_report.proofs.Few.{Few}
 use Rattle.pp_report.proofs.Whole.{all_fit}
 use Rattle.pp_report.proofs.LivesLines.{event_apart}
 use Rattle.pp_report.proofs.LivesAudited as lives
@@ -29,10 +30,15 @@ use Rattle.pp_report.proofs.LivesAudited as lives
 -- ---- whole lives
 
 lives_fit : (o : State) (ls : List Life) → AllByRecursion (AllByRecursion HasNumbers) (journals_of ls) → AreLives o ls
-    → AllByRecursion (AllByRecursion FitsEvent) (journals_of ls)
-lives_fit o [] h are = tt
-lives_fit o (l ∷ ls) h are =
-    (all_fit l.plans o l.journal h.0 are.0.is_true, lives_fit (renewed (life_end o l)) ls h.1 are.1)
+    → Few o → AllByRecursion (AllByRecursion FitsEvent) (journals_of ls)
+lives_fit o [] h are few = tt
+lives_fit o (l ∷ ls) h are few =
+    (all_fit l.plans o l.journal h.0 are.0.is_true few, lives_fit (renewed (life_end o l)) ls h.1 are.1 (omega arith))
+
+-- So few are submitted where a life begins.
+few_after_lives : (o : State) (ls : List Life) → Few o → Few (after_lives o ls)
+few_after_lives o [] few = few
+few_after_lives o (l ∷ ls) few = few_after_lives (renewed (life_end o l)) ls (omega arith)
 
 pub whole_spelled : (c : Configuration) (plans : List Acceptance) (journals : List (List Event)) (last : List Event)
     → AllByRecursion (AllByRecursion HasNumbers) journals → AllByRecursion HasNumbers last
@@ -42,8 +48,9 @@ whole_spelled c plans journals last h k are =
     let is = are.whole.are_true in
     let fits : FitLives (journals_of are.lives) last = record {
       each = lives_fit (opening (kept_of c)) are.lives (subst (AllByRecursion (AllByRecursion HasNumbers)) are.journals_are h)
-          is.over;
-      latest = all_fit are.rest (next_opening c are.lives) last k is.is_true;
+          is.over (omega arith);
+      latest = all_fit are.rest (next_opening c are.lives) last k is.is_true
+          (few_after_lives (opening (kept_of c)) are.lives (omega arith));
     } in
     record {
       lives = are.lives;

@@ -1,5 +1,6 @@
 -- The text of a whole journal is audited.
-use Rattle.std.proofs.Common.{◌≡◌, ◌∙◌, ◌<◌, ◌+◌, ℕ, true, List, [], ◌∷◌, length, drop, get_or, inl, refl, sym, ap, subst, add-one}
+use Rattle.std.proofs.Common.{◌≡◌, ◌∙◌, ◌≤◌, ◌<◌, ◌+◌, ◌^◌, ℕ, true, List, [], ◌∷◌, length, drop, get_or, inl, refl, sym, ap, subst}
+use Rattle.std.proofs.Common.{arith, add-one}
 use Rattle.std.specs.Prelude.{not, Ok}
 use Rattle.std.specs.List.{AllByRecursion}
 use Rattle.std.proofs.Math.Seq.{drop-cons}
@@ -17,40 +18,46 @@ use Rattle.pp_model.specs.Journals.{after_event, IsTrueAt, IsTrueFrom}
 use Rattle.pp_report.specs.Auditing.{auditing}
 use Rattle.pp_report.specs.Audits.{IsWhole, IsAudited}
 use Rattle.pp_report.specs.Lines.{HasNumbersOf, HasNumbers, FitsReply, FitsEvent, journal_words}
+use Rattle.pp_report.proofs.Few.{Few, few_after, taken_submitted}
 use Rattle.pp_report.proofs.Verdicts.{audited_again}
 
--- A reply that is no refusal may be told in a line.
-told_fits : (r : Reply) → HasNumbersOf r → not (is_refusal r) ≡ true → FitsReply r
-told_fits (Taken plan) h told = h
-told_fits (Hit frame mark) h told = h
-told_fits (MustRead frame) h told = h
-told_fits (MustWrite frame victim) h told = h
-told_fits (Failed failure) h told = h
-told_fits (Loaded mark) h told = h
-told_fits Did h told = h
-told_fits (Latched mark) h told = h
-told_fits (Unlatched mark) h told = h
-told_fits (Finished ending) h told = h
-told_fits (Flushing mark) h told = h
-told_fits (Flushed clean) h told = h
-told_fits (NotNow delay) h told = absurd cc
-told_fits (OffPlan cause) h told = absurd cc
+-- A reply that is no refusal may be told in a line, where the plan that it tells as taken was submitted.
+told_fits : (n : ℕ) (r : Reply) → n ≤ 256 → HasNumbersOf r → not (is_refusal r) ≡ true
+    → ((k : ℕ) → Taken k ≡ r → k < n) → FitsReply r
+told_fits n (Taken plan) few h told taken = omega (arith, few, taken plan refl)
+told_fits n (Hit frame mark) few h told taken = h
+told_fits n (MustRead frame) few h told taken = h
+told_fits n (MustWrite frame victim) few h told taken = h
+told_fits n (Failed failure) few h told taken = h
+told_fits n (Loaded mark) few h told taken = h
+told_fits n Did few h told taken = h
+told_fits n (Latched mark) few h told taken = h
+told_fits n (Unlatched mark) few h told taken = h
+told_fits n (Finished ending) few h told taken = h
+told_fits n (Flushing mark) few h told taken = h
+told_fits n (Flushed clean) few h told taken = h
+told_fits n (NotNow delay) few h told taken = absurd cc
+told_fits n (OffPlan cause) few h told taken = absurd cc
 
-true_fits : (plans : List Acceptance) (s : State) (e : Event) → HasNumbers e → IsTrueAt plans s e → FitsEvent e
-true_fits plans s (Submit plan) h t = (h, tt)
-true_fits plans s (Step did reply) h t =
-    (h.0, told_fits reply h.1 (subst (λ r. not (is_refusal r) ≡ true) (sym t.1) t.0))
+true_fits : (plans : List Acceptance) (s : State) (e : Event) → HasNumbers e → IsTrueAt plans s e → Few s → FitsEvent e
+true_fits plans s (Submit plan) h t few = (omega (arith, t.next, few), tt)
+true_fits plans s (Step did reply) h t few = (
+  h.0,
+  told_fits (length s.plans) reply few h.1 (subst (λ r. not (is_refusal r) ≡ true) (sym t.1) t.0)
+  (λ k e. taken_submitted s did k (e ∙ t.1)),
+)
 
 pub all_fit : (plans : List Acceptance) (s : State) (es : List Event) → AllByRecursion HasNumbers es → IsTrueFrom plans s es
-    → AllByRecursion FitsEvent es
-all_fit plans s [] h t = tt
-all_fit plans s (e ∷ es) h t = (true_fits plans s e h.0 t.0, all_fit plans (after_event plans s e) es h.1 t.1)
+    → Few s → AllByRecursion FitsEvent es
+all_fit plans s [] h t few = tt
+all_fit plans s (e ∷ es) h t few =
+    (true_fits plans s e h.0 t.0 few, all_fit plans (after_event plans s e) es h.1 t.1 (few_after plans s e t.0 few))
 
 pub whole_spelled : (c : Configuration) (plans : List Acceptance) (es : List Event) → AllByRecursion HasNumbers es
     → IsWhole c plans es → IsAudited c plans (journal_words es) (length es)
 whole_spelled c plans es h whole = record {
   events = es;
-  spelled = record { fits = all_fit plans _ es h whole.is_true; text_is = inl refl };
+  spelled = record { fits = all_fit plans _ es h whole.is_true (omega arith); text_is = inl refl };
   is_true = whole.is_true;
   over = whole.over;
   number = refl;

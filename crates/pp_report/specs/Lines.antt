@@ -51,7 +51,7 @@ journal_words (e ∷ es) = event_words e ++ journal_words es
 
 -- ---- which numbers and words a line may have
 
--- Workers, pages, branches, slots, plans and frames have 32 bits; stamps and marks have 64.
+-- Workers, pages, branches, slots, plans and frames have 32 bits in a line; stamps and marks have 64.
 abbrev pub FitsCame : Came → Type 0
 FitsCame came.Fault = Unit {0}
 FitsCame (came.Image page stamp) = (page < 2 ^ 32) × (stamp < 2 ^ 64)
@@ -91,9 +91,9 @@ FitsReply (reply.Flushed clean) = Unit {0}
 FitsReply (reply.NotNow delay) = ⊥
 FitsReply (reply.OffPlan cause) = ⊥
 
--- The numbers of a reply have as many bits, whether or not it is a refusal, which has none.
+-- The numbers of a reply have as many bits, but a plan's, which has 64, whether or not it is a refusal, which has none.
 abbrev pub HasNumbersOf : Reply → Type 0
-HasNumbersOf (reply.Taken plan) = plan < 2 ^ 32
+HasNumbersOf (reply.Taken plan) = plan < 2 ^ 64
 HasNumbersOf (reply.Hit frame mark) = (frame < 2 ^ 32) × (mark < 2 ^ 64)
 HasNumbersOf (reply.MustRead frame) = frame < 2 ^ 32
 HasNumbersOf (reply.MustWrite frame victim) = (frame < 2 ^ 32) × (victim < 2 ^ 32)
@@ -110,7 +110,7 @@ HasNumbersOf (reply.OffPlan cause) = Unit {0}
 
 -- So have those of an event.
 abbrev pub HasNumbers : Event → Type 0
-HasNumbers (event.Submit plan) = plan < 2 ^ 32
+HasNumbers (event.Submit plan) = plan < 2 ^ 64
 HasNumbers (event.Step m r) = FitsMove m × HasNumbersOf r
 
 abbrev pub FitsTold : Told → Type 0

@@ -52,7 +52,7 @@ impl Auditor {
     }
 
     /// Submits the next plan, if it has this number. One that is refused waits on.
-    fn submit(&mut self, number: u32) -> Option<Told>
+    fn submit(&mut self, number: u64) -> Option<Told>
         ensures { Asks self.old self.new (asked.Submit number) result }
     {
         if number != self.core.plans() {

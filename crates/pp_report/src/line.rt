@@ -10,7 +10,7 @@ use std::fmt;
 #[derive(Clone, Copy, Debug, PartialEq, Eq)]
 pub enum Asked {
     /// That the plan of this number is taken in. Plans are numbered from 0, in the order in which they are submitted.
-    Submit { plan: u32 },
+    Submit { plan: u64 },
     /// A move.
     Do(Move),
 }

@@ -97,7 +97,7 @@ fn asked_after(word: &str, text: &str) -> Option<Asked>
 {
     let did = match word {
         "submit" => return Some(Asked::Submit {
-            plan: small_number(text)?,
+            plan: u64::from(small_number(text)?),
         }),
         "take" => Move::Take {
             worker: small_number(text)?,
@@ -178,7 +178,7 @@ fn told_after(word: &str, text: &str) -> Option<Told>
 {
     let reply = match word {
         "taken" => Reply::Taken {
-            plan: small_number(text)?,
+            plan: u64::from(small_number(text)?),
         },
         "mustread" => Reply::MustRead {
             frame: small_number(text)?,

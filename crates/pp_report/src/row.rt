@@ -9,7 +9,7 @@ use std::fmt;
 #[derive(Clone, Copy)]
 pub(crate) struct Row {
     /// The plan's number.
-    pub plan: u32,
+    pub plan: u64,
     /// The worker that took it.
     pub worker: u32,
     /// How many actions it did.

@@ -57,7 +57,7 @@ fn ending_in(event: Event) -> Option<Ending>
 }
 
 /// The row of the plan that the worker takes before the events from this place on, if its turn ends.
-fn row_after(plan: u32, worker: u32, events: &Journal, from: usize) -> Option<Row>
+fn row_after(plan: u64, worker: u32, events: &Journal, from: usize) -> Option<Row>
     ensures { result ≡ row_after plan worker (drop from events.now.items) }
 {
     let (mut steps, mut hits, mut loads) = (0, 0, 0);

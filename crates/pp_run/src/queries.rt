@@ -131,7 +131,7 @@ impl<'a, W: Work + Drop, R: Wait> Work for Taking<'a, W, R> {
 
     ghost rework_leaves = { λ work off before left after. Unit {0} };
 
-    fn begins(&mut self, plan: u32) {
+    fn begins(&mut self, plan: u64) {
         self.now = self.works.places.get(plan as usize);
         if let Some(place) = self.now {
             place.lock(self.rt).work.begins(plan);

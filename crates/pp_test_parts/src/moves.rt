@@ -26,7 +26,7 @@ static MOVES: [Move; 5] = [
 ];
 
 /// The number that the core gives the plan, and its replies to the moves.
-fn run(rt: &impl Abort, alloc: Global) -> Result<(u32, Vec<Reply>), Fail> {
+fn run(rt: &impl Abort, alloc: Global) -> Result<(u64, Vec<Reply>), Fail> {
     let settings = Settings::from_text(alloc, SETTINGS)?;
     let plan = accepted(alloc, &settings, TOUCH)?;
     let mut core = Core::new(alloc, &settings)?;
@@ -39,7 +39,7 @@ fn run(rt: &impl Abort, alloc: Global) -> Result<(u32, Vec<Reply>), Fail> {
 }
 
 /// The submit of the plan, and each move with its reply.
-fn events_of(alloc: Global, plan: u32, replies: &[Reply]) -> Result<Vec<Event>, AllocError> {
+fn events_of(alloc: Global, plan: u64, replies: &[Reply]) -> Result<Vec<Event>, AllocError> {
     let mut events = Vec::new(alloc);
     events.push(Event::Submit { plan })?;
     for (did, reply) in MOVES.iter().zip(replies.iter()) {

@@ -141,8 +141,8 @@ impl<const LENT: bool> Work for Telling<LENT> {
 
     ghost wants_rework_gives = { λ wanted. Unit {0} };
 
-    fn begins(&mut self, plan: u32) {
-        note(&mut self.calls, "begins", &[u64::from(plan)]);
+    fn begins(&mut self, plan: u64) {
+        note(&mut self.calls, "begins", &[plan]);
         self.asked = [0; 4];
     }
 
@@ -244,7 +244,7 @@ fn works<const LENT: bool>(
     let settings = settings_of(rt, alloc, settings);
     let device: Disk = disk_of(rt, alloc, 49, 64, fails);
     let mut stand = stand_of(rt, alloc, &settings, device);
-    let mut number = 0u32;
+    let mut number = 0u64;
     for text in plans {
         let plan = plan_of(rt, alloc, &settings, text);
         submits(rt, &mut stand.book, plan, number);

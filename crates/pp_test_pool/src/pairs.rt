@@ -172,7 +172,7 @@ fn two_workers_do_twenty_plans(rt: HostRuntime) {
     for number in 0..PLANS {
         let text = if number % 2 == 0 { DOWN } else { SCAN };
         let plan = plan_of(&rt, alloc, &settings, text);
-        submits(&rt, &mut stand.book, plan, number);
+        submits(&rt, &mut stand.book, plan, u64::from(number));
     }
     let unused = stand_of(&rt, alloc, &settings, disk_of(&rt, alloc, 24, 64, 0));
     let notes = both_work(&rt, alloc, &settings, stand, unused);

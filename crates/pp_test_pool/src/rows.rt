@@ -360,7 +360,7 @@ fn filled(
     let device = disk_of(rt, alloc, 49, row.page_bytes, fails);
     let mut stand = stand_of(rt, alloc, settings, device);
     let mut submitted = String::new(alloc);
-    let mut number = 0u32;
+    let mut number = 0u64;
     for text in row.plans {
         let plan = plan_of(rt, alloc, settings, text);
         submits(rt, &mut stand.book, plan, number);

@@ -70,7 +70,7 @@ pub fn stand_of(rt: &impl Abort, alloc: Global, settings: &Settings, device: Dis
 }
 
 /// Submits the plan, which is taken in under this number.
-pub fn submits(rt: &impl Abort, book: &mut Book, plan: Accepted, number: u32) {
+pub fn submits(rt: &impl Abort, book: &mut Book, plan: Accepted, number: u64) {
     let is_it = match book.submit(plan) {
         Ok(id) => id.number() == number,
         Err(_) => false,

@@ -15,7 +15,7 @@ pub struct Lent<'a, R> {
     board: &'a Board,
     player: Player<'a, R>,
     /// The plan that it was told of last.
-    plan: u32,
+    plan: u64,
 }
 
 impl<'a, R: Clock> Lent<'a, R> {
@@ -41,7 +41,7 @@ impl<'a, R: Clock> Work for Lent<'a, R> {
 
     ghost wants_rework_gives = { λ wanted. Unit {0} };
 
-    fn begins(&mut self, plan: u32) {
+    fn begins(&mut self, plan: u64) {
         self.plan = plan;
         self.board.meet(&self.rt, Call::Begin, plan);
     }

@@ -36,7 +36,7 @@ const PLANS: u32 = 8;
 #[derive(Drop)]
 struct Own {
     number: u32,
-    plan: Option<u32>,
+    plan: Option<u64>,
     page: Option<u32>,
     begun: u32,
     changes: u32,
@@ -48,7 +48,7 @@ impl Work for Own {
 
     ghost ended_leaves = { λ work end after. Unit {0} };
 
-    fn begins(&mut self, plan: u32) {
+    fn begins(&mut self, plan: u64) {
         self.plan = Some(plan);
         self.begun = self.begun.saturating_add(1);
     }
@@ -135,7 +135,10 @@ fn each_plan_has_its_own_work(rt: HostRuntime) {
         let work = query.work;
         assert!(rt; query.end == Some(End::Done), "{place} hasn't ended");
         assert!(rt; work.number == place, "{place} is another work");
-        assert!(rt; work.plan == Some(place), "{place} had another plan");
+        assert!(rt;
+            work.plan == Some(u64::from(place)),
+            "{place} had another plan"
+        );
         assert!(rt;
             work.page == Some(16u32.saturating_add(place)),
             "{place} had another page"

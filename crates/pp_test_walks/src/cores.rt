@@ -44,7 +44,7 @@ fn eight_pages(alloc: Global, flushes: u32) -> anyhow::Result<Settings> {
 struct Pools {
     core: Core,
     plain: Plain<'static>,
-    plans: u32,
+    plans: u64,
 }
 
 impl Drop for Pools {
@@ -58,11 +58,11 @@ impl Drop for Pools {
 }
 
 /// How many plans the next life has: a few, or as many as a life takes.
-fn plans_of_a_life(chance: &mut Chance) -> u32 {
+fn plans_of_a_life(chance: &mut Chance) -> u64 {
     if chance.below(48) == 0 {
         256
     } else {
-        chance.below(6)
+        u64::from(chance.below(6))
     }
 }
 
@@ -79,7 +79,7 @@ fn submit(
     settings: &Settings,
     core: &mut Core,
     text: &str,
-) -> anyhow::Result<Option<u32>> {
+) -> anyhow::Result<Option<u64>> {
     let accepted = accepted(alloc, settings, text)?;
     match core.submit(accepted) {
         Ok(id) => Ok(Some(id.number())),

@@ -75,7 +75,7 @@ fn walk<'a>(
     chance: &mut Chance,
     counts: &mut Counts,
 ) -> anyhow::Result<()> {
-    let plans = chance.below(7);
+    let plans = u64::from(chance.below(7));
     for _ in 0..CUES {
         let is_submitted = stand.store.plain.submitted() >= plans;
         if !is_submitted && chance.below(3) == 0 {

@@ -56,7 +56,7 @@ pub struct Plain<'a> {
     pub holdings: Vec<Holding>,
     /// The plans of this life, and how many of them were taken.
     pub plans: Vec<Plan<'a>>,
-    pub taken: u32,
+    pub taken: u64,
     pub lists: Lists,
     /// The page that is being flushed, and its mark as that began.
     pub flush: Option<(u32, u64)>,
@@ -140,22 +140,22 @@ impl<'a> Plain<'a> {
     // ---- submits and lives
 
     /// The plan's number; or none, where 256 were submitted.
-    pub fn submit(&mut self, plan: Plan<'a>) -> Result<Option<u32>, AllocError> {
+    pub fn submit(&mut self, plan: Plan<'a>) -> Result<Option<u64>, AllocError> {
         let number = self.plans.len();
         if number >= 256 {
             return Ok(None);
         }
         self.plans.push(plan)?;
-        Ok(Some(number as u32))
+        Ok(Some(number as u64))
     }
 
     /// How many plans were submitted in this life.
-    pub fn submitted(&self) -> u32 {
-        self.plans.len().min(256) as u32
+    pub fn submitted(&self) -> u64 {
+        self.plans.len() as u64
     }
 
     /// How many plans wait.
-    pub fn waiting(&self) -> u32 {
+    pub fn waiting(&self) -> u64 {
         self.submitted().saturating_sub(self.taken)
     }
 

@@ -54,7 +54,7 @@ fn see_device(
 }
 
 /// Submits the plan to the vault, and tells its number.
-fn submit(vault: &mut Vault, plan: Accepted) -> anyhow::Result<Option<u32>> {
+fn submit(vault: &mut Vault, plan: Accepted) -> anyhow::Result<Option<u64>> {
     match vault.submit(plan) {
         Ok(id) => Ok(Some(id.number())),
         Err((_plan, error)) => Err(anyhow::Error::from(error)),

@@ -171,7 +171,7 @@ impl Work for Client {
 
     ghost wants_rework_gives = { λ wanted. Unit {0} };
 
-    fn begins(&mut self, _plan: u32) {
+    fn begins(&mut self, _plan: u64) {
         self.found = None;
         self.job_then = self.job;
         self.is_reworked = false;

@@ -137,7 +137,7 @@ impl Work for HashJoin {
 
     ghost page_into_gives = { λ work slot kind region first count page after. Unit {0} };
 
-    fn begins(&mut self, _plan: u32) {
+    fn begins(&mut self, _plan: u64) {
         self.gathered = 0;
         self.passed = 0;
         self.bucket = 0;
