@@ -40,6 +40,7 @@ use Rattle.pp_model.proofs.MarkSteps as marked
 use Rattle.pp_model.proofs.MarkChanges.{notes_stay, count_told, pins_told, frame_told, latches_told}
 use Rattle.pp_model.proofs.MarkParts.{marks_is}
 use Rattle.pp_model.proofs.MarkBounds.{need_is_small, bound_within}
+use Rattle.pp_model.proofs.Spans.{events_small}
 use Rattle.pp_model.proofs.Framed.{notes_length}
 use Rattle.pp_core.specs.declared.answering.Write.{Write}
 use Rattle.pp_core.specs.declared.answering.Read.{Read}
@@ -248,7 +249,8 @@ can_lose f s w g spare st x small left =
       short = seat.accepted.limit;
       holds = omega (arith, x.fits.holds, few_held most_slots (holdings r));
       budget = omega (arith, x.fits.actions, st.budget, left, sum_by-term left_to s.seats w (Some r) x.at.seat);
-      small = omega (arith, st.budget, bound_within s st.reached, need_is_small s st.reached);
+      small =
+          omega (arith, st.budget, bound_within s st.reached, need_is_small s st.reached, events_small s.settings.span);
       spare_is_small = small;
     }
 

@@ -17,6 +17,7 @@ use Rattle.pp_model.proofs.Accounts.{plans_are_accounted}
 use Rattle.pp_model.proofs.Reaching.{holds}
 use Rattle.pp_model.proofs.BoundLaws.{Taken, taken_kept}
 use Rattle.pp_model.proofs.MarkBounds.{need_is_small, bound_within}
+use Rattle.pp_model.proofs.Spans.{events_small}
 use Rattle.pp_core.specs.Parts.{Parts}
 use Rattle.pp_core.specs.StandsFor.{StandsFor, IsKept, Moves}
 use Rattle.pp_core.specs.Draining.{Host, IsNextMove, GoesByTurns, Drains, Rests, CanBeMade, DecidesIn}
@@ -79,7 +80,7 @@ pub budget_small : (f : Parts) → IsKept f → f.budget < 2 ^ 62
 budget_small f kept =
     let s = kept.state in
     let st = kept.stands in
-    omega (arith, st.budget, bound_within s st.reached, need_is_small s st.reached)
+    omega (arith, st.budget, bound_within s st.reached, need_is_small s st.reached, events_small s.settings.span)
 
 -- ---- the end
 

@@ -57,6 +57,7 @@ flush_stands f s t m flush left b st reached same marked_so flushed so_many boun
   reached = reached;
   layout = st.layout ∙ sym (ap (λ k. k.layout) same.settings);
   flushes = st.flushes ∙ sym (ap (λ k. k.flushes) same.settings);
+  span = ap (λ k. k.span) same.settings ∙ st.span;
   flushes_left = so_many;
   plans = st.plans ∙ sym same.plans;
   taken = st.taken ∙ sym same.taken;

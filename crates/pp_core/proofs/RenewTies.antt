@@ -76,6 +76,7 @@ renewed_stands f s st e = record {
   reached = renewed_reached s st.reached e;
   layout = st.layout;
   flushes = st.flushes;
+  span = st.span;
   flushes_left = st.flushes;
   plans = refl;
   taken = refl;

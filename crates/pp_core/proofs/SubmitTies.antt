@@ -5,13 +5,14 @@ use Rattle.std.proofs.Common.{length, refl, sym, ap, subst, arith}
 use Rattle.std.specs.Prelude.{slice_get, nat_le, nat_lt}
 use Rattle.std.proofs.lemmas.Bool.Decides.{nat_tests}
 use Rattle.pp_settings.specs.Layout.{Geometry}
+use Rattle.pp_settings.specs.declared.span.Span.{Span}
 use Rattle.pp_cert.specs.Accepted.{Acceptance, IsAccepted}
 use Rattle.pp_cert.specs.Walk.{same_layout}
 use Rattle.pp_model.specs.declared.refusals.SubmitError.{SubmitError}
 use Rattle.pp_model.specs.Pool.{Running, State}
 use Rattle.pp_model.specs.Budget.{cost_of, journal_need}
 use Rattle.pp_model.specs.Reached.{IsReached}
-use Rattle.pp_model.specs.Submitting.{error_where, submit_error, submitted, submitted_unless, after_submit}
+use Rattle.pp_model.specs.Submitting.{counted_plans, most_counted, most_events, error_where, submit_error, submitted, submitted_unless, after_submit}
 use Rattle.pp_model.proofs.Journeys.{plan_reached}
 use Rattle.pp_model.proofs.BoundSteps as numbers
 use Rattle.pp_core.specs.declared.seat.Seat.{Seat}
@@ -24,7 +25,10 @@ use Rattle.pp_core.proofs.Gathered.{bundles_kept}
 
 pub fault_is : (f : Parts) (s : State) (a : Acceptance) → StandsFor f s → submit_error s a ≡ submit_fault f a
 fault_is f s a st =
-    ap (λ (g : Geometry). error_where (same_layout g a.plan.layout) (nat_le 256 (length s.plans))
+    ap (λ (k : Span). error_where (same_layout s.settings.layout a.plan.layout)
+    (nat_le (most_counted k) (counted_plans k (length s.plans) s.taken))
+    (nat_lt (most_events k) (journal_need s.settings s.plans + cost_of a))) st.span
+    ∙ ap (λ (g : Geometry). error_where (same_layout g a.plan.layout) (nat_le 256 (length s.plans))
     (nat_lt 4000000 (journal_need s.settings s.plans + cost_of a))) (sym st.layout)
     ∙ ap (λ (ps : List Acceptance). error_where (same_layout f.layout a.plan.layout) (nat_le 256 (length ps))
     (nat_lt 4000000 (journal_need s.settings s.plans + cost_of a))) (sym st.plans)
@@ -32,7 +36,9 @@ fault_is f s a st =
     (nat_lt 4000000 (n + cost_of a))) (sym st.need)
 
 pub needs_less : (f : Parts) → IsKept f → f.need ≤ 4000000
-needs_less f k = omega (arith, k.stands.need, numbers.need_fits k.state k.stands.reached)
+needs_less f k =
+    let most : most_events k.state.settings.span ≡ 4000000 = ap most_events k.stands.span in
+    omega (arith, k.stands.need, numbers.need_fits k.state k.stands.reached, most)
 
 -- Where there is none, there is room.
 abbrev HasRoom : (many long : Bool) → Type 0
@@ -93,6 +99,7 @@ submitted_stands f s a st e ok = record {
   reached = subst (λ (o : Option SubmitError). IsReached (submitted_unless o s a)) e (plan_reached s a ok st.reached);
   layout = st.layout;
   flushes = st.flushes;
+  span = st.span;
   flushes_left = st.flushes_left;
   plans = ap (λ (ps : List Acceptance). ps ++ a ∷ []) st.plans;
   taken = st.taken;

@@ -146,7 +146,7 @@ module _ (f : Parts) (w : ℕ) where
             accepted = next.0;
             plan = next.1;
             idle = idle_at idle;
-            taken = omega (arith, st.taken, numbers.taken_are_few s st.reached, numbers.plans_are_few s st.reached);
+            taken = omega (arith, st.taken, numbers.taken_are_few s st.reached, numbers.plans_small s st.reached);
             running = omega (arith, st.running, fits, st.reached.settings.layout.frames.1);
             budget = omega (arith, st.budget, numbers.take_bound s w next.0 (idle_there idle s st) (next_there s st));
           }
@@ -178,6 +178,7 @@ module _ (f : Parts) (w : ℕ) where
                   reached = reached;
                   layout = st.layout;
                   flushes = st.flushes;
+                  span = st.span;
                   flushes_left = st.flushes_left;
                   plans = st.plans;
                   taken = ap (λ (n : ℕ). n + 1) st.taken;

@@ -89,6 +89,7 @@ stands_on f s t xs m stacks running b st reached same crew marked gathered runs 
   reached = reached;
   layout = st.layout ∙ sym (ap (λ k. k.layout) same.settings);
   flushes = st.flushes ∙ sym (ap (λ k. k.flushes) same.settings);
+  span = ap (λ k. k.span) same.settings ∙ st.span;
   flushes_left = st.flushes_left ∙ sym same.flushes_left;
   plans = st.plans ∙ sym same.plans;
   taken = st.taken ∙ sym same.taken;
@@ -125,6 +126,7 @@ stands_with f s t xs l m stacks fl b st reached same crew listed marked gathered
   reached = reached;
   layout = st.layout ∙ sym (ap (λ k. k.layout) same.settings);
   flushes = st.flushes ∙ sym (ap (λ k. k.flushes) same.settings);
+  span = ap (λ k. k.span) same.settings ∙ st.span;
   flushes_left = st.flushes_left ∙ sym same.flushes_left;
   plans = st.plans ∙ sym same.plans;
   taken = st.taken ∙ sym same.taken;

@@ -35,6 +35,7 @@ use Rattle.pp_model.proofs.Framed.{notes_length}
 use Rattle.pp_model.proofs.MarkChanges.{latches_told}
 use Rattle.pp_model.proofs.MarkParts.{marks_is}
 use Rattle.pp_model.proofs.MarkBounds.{marks_are_small}
+use Rattle.pp_model.proofs.Spans.{events_small}
 use Rattle.pp_model.proofs.MarkSteps.{latch_mode_of}
 use Rattle.pp_model.proofs.Changes.{IsAsked}
 use Rattle.pp_model.proofs.MarkSteps as marked
@@ -325,7 +326,7 @@ mark_told s q low = ap (λ (x : PageMarks). unwrap_or x.stamp 0) (marks_is s q l
 
 room_of : (s : State) → IsReached s → (q : ℕ) (o : Option ℕ) → known_mark s q ≡ o → unwrap_or o 0 + 1 < 2 ^ 64
 room_of s h q None e = omega arith
-room_of s h q (Some m) e = omega (arith, marks_are_small s h q m e)
+room_of s h q (Some m) e = omega (arith, marks_are_small s h q m e, events_small s.settings.span)
 
 -- A mark can be raised.
 pub mark_room : (s : State) → IsReached s → (q : ℕ) → mark_at s q + 1 < 2 ^ 64

@@ -1,6 +1,7 @@
 -- What a core stands for: how what it keeps hangs together with a state of the model. The core keeps cursors, counters
 -- and one map of marks; the state has lists of actions done.
 use Rattle.std.specs.Prelude.{◌≡◌, ℕ, Bool, Option, None, Some, option_map, List, length, slice_get}
+use Rattle.pp_settings.specs.declared.span.Span.TheVariants.{Bounded}
 use Rattle.pp_plan.specs.Limits.{most_slots}
 use Rattle.pp_cursor.specs.Cursor as cursor
 use Rattle.pp_cert.specs.Held.{holding_at}
@@ -71,6 +72,8 @@ pub record StandsFor (f : Parts) (s : State) : Type 0 where
   pub reached : IsReached s
   pub layout : f.layout ≡ s.settings.layout
   pub flushes : f.flushes ≡ s.settings.flushes
+  -- its life is bounded
+  pub span : s.settings.span ≡ Bounded
   pub flushes_left : f.flushes_left ≡ s.flushes_left
   pub plans : f.plans ≡ s.plans
   pub taken : f.taken ≡ s.taken

@@ -1,5 +1,6 @@
 -- What submitting a plan does to what a core keeps.
 use Rattle.std.specs.Prelude.{◌≡◌, ℕ, ◌+◌, ◌≤◌, ◌<◌, nat_le, nat_lt, Option, None, [], ◌∷◌, ◌++◌, length}
+use Rattle.pp_settings.specs.declared.span.Span.TheVariants.{Bounded}
 use Rattle.pp_cert.specs.Accepted.{Acceptance}
 use Rattle.pp_cert.specs.Walk.{same_layout}
 use Rattle.pp_model.specs.declared.refusals.SubmitError.{SubmitError}
@@ -13,7 +14,7 @@ use Rattle.pp_core.specs.StandsFor.{StandsFor}
 abbrev pub submit_fault : Parts → Acceptance → Option SubmitError
 submit_fault f a =
     error_where (same_layout f.layout a.plan.layout) (nat_le most_plans (length f.plans))
-    (nat_lt most_events (f.need + cost_of a))
+    (nat_lt (most_events Bounded) (f.need + cost_of a))
 
 -- There is room for the plan among those that are kept, and in the journal.
 pub record CanAdd (f : Parts) (a : Acceptance) : Type 0 where

@@ -1,5 +1,5 @@
 -- What each way in which a move is done does to the bound on the moves left and to the running peaks, as equations.
-use Rattle.std.proofs.Common.{◌≡◌, ℕ, suc, ◌+◌, ◌-◌, ◌*◌, ◌≤◌, ◌<◌, true, false, Option, Some, None}
+use Rattle.std.proofs.Common.{◌≡◌, ℕ, suc, ◌+◌, ◌-◌, ◌*◌, ◌^◌, ◌≤◌, ◌<◌, true, false, Option, Some, None}
 use Rattle.std.proofs.Common.{List, [], ◌∷◌, length, refl, sym, ap, arith}
 use Rattle.std.specs.Prelude.{slice_get, slice_set, sum_by, drop}
 use Rattle.std.proofs.lemmas.Bool.Decides.{nat_tests}
@@ -26,7 +26,7 @@ use Rattle.pp_model.specs.Using.{unlatched}
 use Rattle.pp_model.specs.Leaving.{ended}
 use Rattle.pp_model.specs.Flushing.{flush_begun, flush_over}
 use Rattle.pp_model.specs.Moves.{seat_of, asked_by}
-use Rattle.pp_model.specs.Submitting.{submitted}
+use Rattle.pp_model.specs.Submitting.{submitted, counted_plans, most_counted, most_events}
 use Rattle.pp_model.specs.Reached.{IsReached}
 use Rattle.pp_model.proofs.Sums.{sum_by-slice_set}
 use Rattle.pp_model.proofs.Changes.{IsAt, IsAsked, CanFlush}
@@ -35,6 +35,7 @@ use Rattle.pp_model.proofs.HeldSlots.{none_held}
 use Rattle.pp_model.proofs.Falls.{left_at, step_left}
 use Rattle.pp_model.proofs.BoundLaws.{next_cost, released_bound}
 use Rattle.pp_model.proofs.Room.{room}
+use Rattle.pp_model.proofs.Spans.{events_small, costs_count}
 use Rattle.pp_model.proofs.Counts.{IsNumbered, counted, bounded, submit_raises, need_more}
 use Rattle.pp_model.proofs.HoldingSteps.{seat_is, asks_it, writing_asks, reading_asks, stage_holds}
 use Rattle.pp_model.proofs.HoldingSteps.{unwind_slots}
@@ -396,12 +397,19 @@ module _ (s : State) (h : IsReached s) where
   pub bound_fits : bound s ≤ journal_need s.settings s.plans
   bound_fits = bounded s h
 
-  pub need_fits : journal_need s.settings s.plans ≤ 4000000
+  pub need_fits : journal_need s.settings s.plans ≤ most_events s.settings.span
   need_fits = (counted s h).need
 
-  -- At most 256 plans were submitted, and no more were taken.
-  pub plans_are_few : length s.plans ≤ 256
+  pub need_small : journal_need s.settings s.plans ≤ 2 ^ 61
+  need_small = omega (arith, need_fits, events_small s.settings.span)
+
+  -- No more plans count than may.
+  pub plans_are_few : counted_plans s.settings.span (length s.plans) s.taken ≤ most_counted s.settings.span
   plans_are_few = (counted s h).few
+
+  -- Their number is below 2^64 by far, and no more were taken.
+  pub plans_small : length s.plans ≤ 2 ^ 61
+  plans_small = omega (arith, need_small, costs_count s.plans)
 
   pub taken_are_few : s.taken ≤ length s.plans
   taken_are_few = (counted s h).taken

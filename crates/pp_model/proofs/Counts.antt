@@ -18,7 +18,7 @@ use Rattle.pp_model.specs.Budget.{cost_of, left_to, bound, journal_need}
 use Rattle.pp_model.specs.Outcome.{with_seat, at_stage, having_done, released}
 use Rattle.pp_model.specs.Taking.{beginning}
 use Rattle.pp_model.specs.Moves.{seat_of, asked_by}
-use Rattle.pp_model.specs.Submitting.{most_plans, most_events, error_where, submitted}
+use Rattle.pp_model.specs.Submitting.{counted_plans, most_counted, most_events, error_where, submitted}
 use Rattle.pp_model.specs.Reached.{IsReached}
 use Rattle.pp_model.specs.Fixing.{fixes}
 use Rattle.pp_model.proofs.Changes as change
@@ -28,6 +28,7 @@ use Rattle.pp_model.proofs.Reaching.{IsKept, IsKeptUnder, both, holds}
 use Rattle.pp_model.proofs.Seats.{GoodSeats, good_kept}
 use Rattle.pp_model.proofs.BoundLaws.{falls, drop_more}
 use Rattle.pp_model.proofs.Rest.{can_renew, idle_left, bound_renews}
+use Rattle.pp_model.proofs.Spans.{flushes_fit, fewer_count, one_more, none_count}
 
 -- ---- how the seats go on
 
@@ -148,8 +149,8 @@ AreNumbered plans taken seats =
 
 pub record IsCounted (s : State) : Type 0 where
   pub taken : s.taken ≤ length s.plans
-  pub few : length s.plans ≤ most_plans
-  pub need : journal_need s.settings s.plans ≤ most_events
+  pub few : counted_plans s.settings.span (length s.plans) s.taken ≤ most_counted s.settings.span
+  pub need : journal_need s.settings s.plans ≤ most_events s.settings.span
   pub workers : length s.seats ≡ s.settings.workers
   pub flushes : s.flushes_left ≤ s.settings.flushes
   pub numbers : AreNumbered s.plans s.taken s.seats
@@ -192,11 +193,20 @@ same_need : (s t : State) → t.settings ≡ s.settings → t.plans ≡ s.plans
     → journal_need t.settings t.plans ≡ journal_need s.settings s.plans
 same_need s t k p = ap (journal_need t.settings) p ∙ ap (λ x. journal_need x s.plans) k
 
+-- No more plans count.
+same_few : (s t : State) → t.settings ≡ s.settings → t.plans ≡ s.plans → s.taken ≤ t.taken
+    → counted_plans s.settings.span (length s.plans) s.taken ≤ most_counted s.settings.span
+    → counted_plans t.settings.span (length t.plans) t.taken ≤ most_counted t.settings.span
+same_few s t k p le h =
+    subst (λ (j : Settings). counted_plans j.span (length t.plans) t.taken ≤ most_counted j.span) (sym k)
+    (subst (λ (ps : List Acceptance). counted_plans s.settings.span (length ps) t.taken ≤ most_counted s.settings.span)
+    (sym p) (omega (arith, fewer_count s.settings.span (length s.plans) s.taken t.taken le, h)))
+
 counted_on : (s t : State) → Advance s t → IsCounted s → IsCounted t
 counted_on s t (rests k p n f e) h = record {
   taken = omega (arith, n, ap length p, h.taken);
-  few = omega (arith, ap length p, h.few);
-  need = omega (arith, same_need s t k p, h.need);
+  few = same_few s t k p (omega (arith, n)) h.few;
+  need = omega (arith, same_need s t k p, h.need, ap (λ (x : Settings). most_events x.span) k);
   workers = ap length e ∙ h.workers ∙ sym (ap (λ x. x.workers) k);
   flushes = omega (arith, f, h.flushes, ap (λ x. x.flushes) k);
   numbers = same_numbered s t t.seats p (omega (arith, n)) (subst (AreNumbered s.plans s.taken) (sym e) h.numbers);
@@ -206,8 +216,8 @@ counted_on s t (goes w r y has on same e) h =
     let all = set_numbered s.plans s.taken s.seats w y h.numbers next in
     record {
       taken = omega (arith, same.2, ap length same.1, h.taken);
-      few = omega (arith, ap length same.1, h.few);
-      need = omega (arith, same_need s t same.0 same.1, h.need);
+      few = same_few s t same.0 same.1 (omega (arith, same.2)) h.few;
+      need = omega (arith, same_need s t same.0 same.1, h.need, ap (λ (x : Settings). most_events x.span) same.0);
       workers = ap length e ∙ length-set s.seats w y ∙ h.workers ∙ sym (ap (λ x. x.workers) same.0);
       flushes = omega (arith, same.3, h.flushes, ap (λ x. x.flushes) same.0);
       numbers = same_numbered s t t.seats same.1 (omega (arith, same.2))
@@ -224,8 +234,8 @@ counted_on s t (begins w a idle next k p n f e) h =
     (omega (arith, n)) (all v x (ap (λ z. slice_get z v) (sym e) ∙ has)) in
     record {
       taken = omega (arith, n, ap length p, slice_get_within s.plans s.taken a next);
-      few = omega (arith, ap length p, h.few);
-      need = omega (arith, same_need s t k p, h.need);
+      few = same_few s t k p (omega (arith, n)) h.few;
+      need = omega (arith, same_need s t k p, h.need, ap (λ (x : Settings). most_events x.span) k);
       workers = ap length e ∙ length-set s.seats w y ∙ h.workers ∙ sym (ap (λ x. x.workers) k);
       flushes = omega (arith, f, h.flushes, ap (λ x. x.flushes) k);
       numbers = now;
@@ -238,15 +248,15 @@ idle_numbered zero w x e = cc
 idle_numbered (suc n) zero x e = let idle : None ≡ x = cc in subst (OkNumber [] 0) idle tt
 idle_numbered (suc n) (suc w) x e = idle_numbered n w x e
 
--- What a plan that is taken in passed: fewer plans were submitted than the pool keeps, and the journal is short enough.
-not_many : (same : Bool) (n m : ℕ)
-    → ◌≡◌ {A = Option SubmitError} (error_where same (nat_le most_plans n) (nat_lt most_events m)) None
-    → (n < most_plans) × (m ≤ most_events)
-not_many false n m e = cc
-not_many true n m e = go (nat_le most_plans n) (nat_lt most_events m) refl refl e
+-- What a plan that is taken in passed: fewer plans count than may, and the journal is short enough.
+not_many : (same : Bool) (c n b m : ℕ)
+    → ◌≡◌ {A = Option SubmitError} (error_where same (nat_le c n) (nat_lt b m)) None
+    → (n < c) × (m ≤ b)
+not_many false c n b m e = cc
+not_many true c n b m e = go (nat_le c n) (nat_lt b m) refl refl e
   where
-    go : (many long : Bool) → nat_le most_plans n ≡ many → nat_lt most_events m ≡ long
-        → ◌≡◌ {A = Option SubmitError} (error_where true many long) None → (n < most_plans) × (m ≤ most_events)
+    go : (many long : Bool) → nat_le c n ≡ many → nat_lt b m ≡ long
+        → ◌≡◌ {A = Option SubmitError} (error_where true many long) None → (n < c) × (m ≤ b)
     go true long f g e = cc
     go false true f g e = cc
     go false false f g e = (grind (arith, nat_tests), grind (arith, nat_tests))
@@ -266,18 +276,22 @@ counted_kept : IsKept IsCounted
 counted_kept = record {
   opens = λ k ok. record {
     taken = omega arith;
-    few = omega arith;
-    need = omega (arith, ok.flushes);
+    few = none_count k.span;
+    need = omega (arith, flushes_fit k.span k.flushes ok.flushes);
     workers = length-replicate k.workers None;
     flushes = omega arith;
     numbers = idle_numbered k.workers;
   };
   moves = λ s t c h. counted_on s t (advance s t c) h;
   submits = λ s a ok e h.
-      let passed = not_many _ (length s.plans) (journal_need s.settings s.plans + cost_of a) e in
+      let span = s.settings.span in
+      let passed = not_many _ (most_counted span) (counted_plans span (length s.plans) s.taken) (most_events span)
+      (journal_need s.settings s.plans + cost_of a) e in
+      let one : length s.plans + 1 ≡ length (s.plans ++ a ∷ []) = omega (arith, length-append s.plans (a ∷ [])) in
       record {
         taken = omega (arith, length-append s.plans (a ∷ []), h.taken);
-        few = omega (arith, length-append s.plans (a ∷ []), passed.0);
+        few = subst (λ n. counted_plans span n s.taken ≤ most_counted span) one
+            (one_more span (length s.plans) s.taken passed.0);
         need = omega (arith, need_more s.settings s.plans a, passed.1);
         workers = h.workers;
         flushes = h.flushes;
@@ -286,8 +300,8 @@ counted_kept = record {
       };
   renews = λ s ok e h. record {
     taken = omega arith;
-    few = omega arith;
-    need = omega (arith, ok.flushes);
+    few = none_count s.settings.span;
+    need = omega (arith, flushes_fit s.settings.span s.settings.flushes ok.flushes);
     workers = h.workers;
     flushes = omega arith;
     numbers = subst (AreNumbered [] 0) (sym (can_renew s e).rests.seats) (idle_numbered (length s.seats));

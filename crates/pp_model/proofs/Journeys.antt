@@ -27,7 +27,7 @@ pub replay_more : (plans : List Acceptance) (s : State) (es fs : List Event)
 replay_more plans s [] fs = refl
 replay_more plans s (e ∷ es) fs = replay_more plans (after_event plans s e) es fs
 
-true_more : (plans : List Acceptance) (s : State) (es fs : List Event) → IsTrueFrom plans s es
+pub true_more : (plans : List Acceptance) (s : State) (es fs : List Event) → IsTrueFrom plans s es
     → IsTrueFrom plans (replay plans s es) fs → IsTrueFrom plans s (es ++ fs)
 true_more plans s [] fs h k = k
 true_more plans s (e ∷ es) fs h k = (h.0, true_more plans (after_event plans s e) es fs h.1 k)
@@ -70,7 +70,7 @@ get_more [] qs k a e = cc
 get_more (p ∷ ps) qs zero a e = e
 get_more (p ∷ ps) qs (suc k) a e = get_more ps qs k a e
 
-true_longer : (plans more : List Acceptance) (s : State) (es : List Event) → IsTrueFrom plans s es
+pub true_longer : (plans more : List Acceptance) (s : State) (es : List Event) → IsTrueFrom plans s es
     → IsTrueFrom (plans ++ more) s es × (replay (plans ++ more) s es ≡ replay plans s es)
 true_longer plans more s [] h = (tt, refl)
 true_longer plans more s (Step m reply ∷ es) h =

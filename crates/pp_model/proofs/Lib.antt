@@ -4,6 +4,7 @@ pub mod Sums
 pub mod Changes
 pub mod Reaching
 pub mod Rest
+pub mod Spans
 pub mod Crews
 pub mod Room
 pub mod Layouts
@@ -20,6 +21,7 @@ pub mod Soundness
 pub mod Stuck
 pub mod LatchLaws
 pub mod Journeys
+pub mod Segments
 pub mod Inside
 pub mod HeldSlots
 pub mod Falls

@@ -30,6 +30,7 @@ use Rattle.pp_model.proofs.MarkChanges.{note_here, note_there}
 use Rattle.pp_model.proofs.Framed.{fresh_note}
 use Rattle.pp_model.proofs.Crews.{crew_of, turn, turn_plans}
 use Rattle.pp_model.proofs.Rest.{can_renew, idle_left, bound_renews}
+use Rattle.pp_model.proofs.Spans.{flushes_fit}
 
 -- ---- the need of the journal
 
@@ -52,22 +53,27 @@ not_less : (most n : ℕ) → nat_lt most n ≡ false → n ≤ most
 not_less most n e = grind (arith, nat_tests)
 
 abbrev Fits : State → Type 0
-Fits s = journal_need s.settings s.plans ≤ most_events
+Fits s = journal_need s.settings s.plans ≤ most_events s.settings.span
+
+same_span : (s t : State) → Change s t → most_events t.settings.span ≡ most_events s.settings.span
+same_span s t c =
+    let d = turn_plans (crew_of s) (crew_of t) (turn s t c) in
+    λ i. most_events ((d.1 i).span)
 
 fits_kept : IsKept Fits
 fits_kept = record {
-  opens = λ k ok. omega (arith, ok.flushes);
-  moves = λ s t c h. omega (arith, h, same_need s t c);
+  opens = λ k ok. omega (arith, flushes_fit k.span k.flushes ok.flushes);
+  moves = λ s t c h. omega (arith, h, same_need s t c, same_span s t c);
   submits = λ s a ok e h.
       omega (
         arith,
         more_need s.settings s.plans a,
-        not_less most_events (journal_need s.settings s.plans + cost_of a) (not_long _ _ _ e),
+        not_less (most_events s.settings.span) (journal_need s.settings s.plans + cost_of a) (not_long _ _ _ e),
       );
-  renews = λ s ok e h. omega (arith, ok.flushes);
+  renews = λ s ok e h. omega (arith, flushes_fit s.settings.span s.settings.flushes ok.flushes);
 }
 
-pub need_is_small : (s : State) → IsReached s → journal_need s.settings s.plans ≤ 4000000
+pub need_is_small : (s : State) → IsReached s → journal_need s.settings s.plans ≤ most_events s.settings.span
 need_is_small s h = holds Fits s fits_kept h
 
 -- ---- what becomes of a mark
@@ -283,6 +289,6 @@ within : (top m now need most : ℕ) → m + now ≤ top + need → need ≤ mos
 within top m now need most a b = omega arith
 
 pub marks_are_small : (s : State) → IsReached s → (q m : ℕ) → known_mark s q ≡ Some m
-    → m + bound s ≤ 2 ^ 63 + 4000000
+    → m + bound s ≤ 2 ^ 63 + most_events s.settings.span
 marks_are_small s h q m e =
-    within (2 ^ 63) m (bound s) (journal_need s.settings s.plans) 4000000 (small_marks s h q m e) (need_is_small s h)
+    within (2 ^ 63) m (bound s) (journal_need s.settings s.plans) (most_events s.settings.span) (small_marks s h q m e) (need_is_small s h)

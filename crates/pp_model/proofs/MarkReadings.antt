@@ -10,6 +10,7 @@ use Rattle.pp_plan.specs.declared.mode.Mode.{Mode}
 use Rattle.pp_plan.specs.declared.mode.Mode.TheVariants as mode
 use Rattle.pp_frames.specs.Marks as map
 use Rattle.pp_frames.specs.Marks.{PageMarks}
+use Rattle.pp_model.specs.Submitting.{most_events}
 use Rattle.pp_model.specs.Pool.{Note, State, untouched, note_of, frame_of, is_dirty, known_mark, mark_at}
 use Rattle.pp_model.specs.Holders.{latches_of, is_taken}
 use Rattle.pp_model.specs.Budget.{bound}
@@ -83,7 +84,7 @@ small_at : (top most now : ℕ) (o : Option ℕ) → ((m : ℕ) → o ≡ Some m
 small_at top most now None all fits = omega arith
 small_at top most now (Some m) all fits = all m refl
 
-pub mark_at_is_small : (s : State) → IsReached s → (q : ℕ) → mark_at s q + bound s ≤ 2 ^ 63 + 4000000
+pub mark_at_is_small : (s : State) → IsReached s → (q : ℕ) → mark_at s q + bound s ≤ 2 ^ 63 + most_events s.settings.span
 mark_at_is_small s h q =
-    small_at (2 ^ 63) 4000000 (bound s) (known_mark s q) (λ m e. marks_are_small s h q m e)
+    small_at (2 ^ 63) (most_events s.settings.span) (bound s) (known_mark s q) (λ m e. marks_are_small s h q m e)
     (omega (arith, bound_within s h, need_is_small s h))

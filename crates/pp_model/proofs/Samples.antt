@@ -3,6 +3,7 @@
 use Rattle.std.specs.Prelude.{ℕ, List, [], ◌∷◌, codes}
 use Rattle.pp_settings.specs.declared.extent.Extent.{Extent}
 use Rattle.pp_settings.specs.Layout.{Geometry}
+use Rattle.pp_settings.specs.declared.span.Span.TheVariants.{Bounded}
 use Rattle.pp_plan.specs.declared.mode.Mode.TheVariants as mode
 use Rattle.pp_plan.specs.Tree.{Step, fix, unfix, latch, unlatch, step, Sequence, skip, andthen}
 use Rattle.pp_cert.specs.Accepted.{Acceptance}
@@ -19,7 +20,7 @@ abbrev pub layout_of : (frames : ℕ) → Geometry
 layout_of frames = record { frames = frames; extents = root ∷ leaf ∷ [] }
 
 abbrev pub settings_of : (frames : ℕ) → Settings
-settings_of frames = record { layout = layout_of frames; workers = 2; flushes = 4 }
+settings_of frames = record { layout = layout_of frames; workers = 2; flushes = 4; span = Bounded }
 
 -- A body of steps alone.
 abbrev straight : List Step → Sequence

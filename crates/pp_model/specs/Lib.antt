@@ -18,6 +18,7 @@ pub mod Renewing
 pub mod Refusals
 pub mod Runs
 pub mod Journals
+pub mod Segments
 pub mod Lives
 pub mod JournalMarks
 pub mod WorkerParts

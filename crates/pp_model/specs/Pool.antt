@@ -4,6 +4,7 @@
 use Rattle.std.specs.Prelude.{ℕ, Bool, false, Option, None, unwrap_or, List, [], drop, replicate, count_by}
 use Rattle.std.specs.Prelude.{slice_index_or}
 use Rattle.pp_settings.specs.Layout.{Geometry, page_count}
+use Rattle.pp_settings.specs.declared.span.Span.{Span}
 use Rattle.pp_plan.specs.declared.action.Action.{Action}
 use Rattle.pp_cert.specs.Accepted.{Acceptance}
 use Rattle.pp_arc.specs.FourLists.{FourLists, empty_lists}
@@ -54,11 +55,13 @@ pub record Flush : Type 0 where
 
 -- ---- the pool
 
--- What a pool keeps of its settings: the layout, how many workers there are, and how many flushes may begin in one life.
+-- What a pool keeps of its settings: the layout, how many workers there are, how many flushes may begin in one life, and how
+-- long a life may last.
 pub record Settings : Type 0 where
   pub layout : Geometry
   pub workers : ℕ
   pub flushes : ℕ
+  pub span : Span
 
 pub record State : Type 0 where
   pub settings : Settings

@@ -1,18 +1,31 @@
 -- The states that a pool can be in.
-use Rattle.std.specs.Prelude.{◌≤◌, List, All}
+use Rattle.std.specs.Prelude.{ℕ, ◌^◌, ◌≤◌, List, All}
 use Rattle.pp_settings.specs.Limits.{most_workers, most_flushes}
 use Rattle.pp_settings.specs.Layout.{IsLayout}
+use Rattle.pp_settings.specs.declared.span.Span.{Span}
+use Rattle.pp_settings.specs.declared.span.Span.TheVariants.{Bounded, Endless}
 use Rattle.pp_cert.specs.Accepted.{IsAccepted}
 use Rattle.pp_model.specs.declared.event.Event.{Event}
 use Rattle.pp_model.specs.Pool.{State, Settings, opening}
 use Rattle.pp_model.specs.Journals.{IsJournalFrom}
 use Rattle.pp_model.specs.Lives.{Life, AreLives, after_lives}
 
+-- The most flushes of one life.
+abbrev pub flush_limit : Span → ℕ
+flush_limit Bounded = most_flushes
+flush_limit (Endless waiting) = 2 ^ 59
+
+-- Where a life is endless, 1 to 1,048,576 plans may wait at a time.
+abbrev pub IsSpan : Span → Type 0
+IsSpan Bounded = Unit {0}
+IsSpan (Endless waiting) = (1 ≤ waiting) × (waiting ≤ 2 ^ 20)
+
 -- The settings are within their limits.
 pub record IsSettings (k : Settings) : Type 0 where
   pub layout : IsLayout k.layout
   pub workers : (1 ≤ k.workers) × (k.workers ≤ most_workers)
-  pub flushes : k.flushes ≤ most_flushes
+  pub flushes : k.flushes ≤ flush_limit k.span
+  pub span : IsSpan k.span
 
 -- A state that a true journal leads to, under settings within their limits, where every submitted plan was accepted by
 -- the checker. The journal is that of the pool's present life. This life began where the pool was last renewed, or, if it

@@ -1,6 +1,8 @@
 -- Submitting plans: each waits behind the others, or is refused.
-use Rattle.std.specs.Prelude.{ℕ, ◌+◌, Bool, true, false, nat_le, nat_lt, Option, None, Some, Result, Ok, Err}
+use Rattle.std.specs.Prelude.{ℕ, ◌+◌, ◌-◌, ◌^◌, Bool, true, false, nat_le, nat_lt, Option, None, Some, Result, Ok, Err}
 use Rattle.std.specs.Prelude.{List, [], ◌∷◌, ◌++◌, length}
+use Rattle.pp_settings.specs.declared.span.Span.{Span}
+use Rattle.pp_settings.specs.declared.span.Span.TheVariants.{Bounded, Endless}
 use Rattle.pp_cert.specs.Accepted.{Acceptance}
 use Rattle.pp_cert.specs.Walk.{same_layout}
 use Rattle.pp_model.specs.declared.refusals.SubmitError.{SubmitError}
@@ -9,15 +11,27 @@ use Rattle.pp_model.specs.Pool.{State}
 use Rattle.pp_model.specs.Budget.{cost_of, journal_need}
 use Rattle.pp_text.specs.Steps.{◌>>=◌}
 
--- The most plans that a pool keeps, and the most events besides submits that its journal may have to hold.
+-- The most plans that a bounded life takes in.
 abbrev pub most_plans : ℕ
 most_plans = 256
 
-abbrev pub most_events : ℕ
-most_events = 4000000
+-- How many plans count: all that were submitted in a bounded life, and those that wait in an endless one.
+abbrev pub counted_plans : Span → (submitted taken : ℕ) → ℕ
+counted_plans Bounded submitted taken = submitted
+counted_plans (Endless waiting) submitted taken = submitted - taken
 
--- Whether the plan is one of this layout, whether as many plans were submitted as the pool keeps, and whether the
--- journal would be too long.
+-- The most plans that may count.
+abbrev pub most_counted : Span → ℕ
+most_counted Bounded = most_plans
+most_counted (Endless waiting) = waiting
+
+-- The most events besides submits that a life may have. An endless one would have 2^61 after 73 years, with a thousand million
+-- a second.
+abbrev pub most_events : Span → ℕ
+most_events Bounded = 4000000
+most_events (Endless waiting) = 2 ^ 61
+
+-- Whether the plan is one of this layout, whether as many plans count as may, and whether the journal would be too long.
 abbrev pub error_where : (same many long : Bool) → Option SubmitError
 error_where false many long = Some OtherSettings
 error_where true true long = Some TooManyPlans
@@ -27,8 +41,9 @@ error_where true false false = None
 -- Why a plan isn't taken in; None where it is.
 abbrev pub submit_error : State → Acceptance → Option SubmitError
 submit_error s a =
-    error_where (same_layout s.settings.layout a.plan.layout) (nat_le most_plans (length s.plans))
-    (nat_lt most_events (journal_need s.settings s.plans + cost_of a))
+    error_where (same_layout s.settings.layout a.plan.layout)
+    (nat_le (most_counted s.settings.span) (counted_plans s.settings.span (length s.plans) s.taken))
+    (nat_lt (most_events s.settings.span) (journal_need s.settings s.plans + cost_of a))
 
 -- The plan waits behind the others.
 abbrev pub submitted : State → Acceptance → State

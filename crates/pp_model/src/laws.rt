@@ -12,6 +12,7 @@ ghost use Rattle.pp_model.specs.Laws.{WithinPeaks, NoneStuck, FlushHoldsAlone, I
 ghost use Rattle.pp_model.specs.Laws.{BoundFalls, RefusedLeaves, BoundRises, DoneWithinBound, StaysReached};
 ghost use Rattle.pp_model.specs.Laws.{JournalGrows, JournalTakesIn, MarksTell, OnePageChanges, CachedAreFramed};
 ghost use Rattle.pp_model.specs.Laws.{FrameIsLeft, PinIsLeft, SlotsAreOfAKind, DirtyAreKept, HeldAreKnown, LoadedAreKnown};
+ghost use Rattle.pp_model.specs.Segments.{SegmentsAreAJournal};
 ghost use Rattle.pp_model.specs.Laws.{MarksAreTheJournals, MarksFollow, MarksAreSmall, PlansAreAccounted};
 ghost use Rattle.pp_model.specs.Laws.{RenewalSetsBound, RenewalStaysReached, LivesAreReached, RenewalLeaves, RenewalAnswers, RenewalOpens};
 ghost use Rattle.pp_model.specs.Laws.{RestHasNoTurn, RestHoldsNothing, RestKeepsDirty};
@@ -235,4 +236,9 @@ pub fn rest_is_quiet()
 pub fn renewals_go_by_rest()
     ensures answers { (s : State) → RenewalAnswers s }
     ensures opens { (s : State) → IsReached s → RenewalOpens s }
+{}
+
+/// Journals of which each begins in the state to which the one before it leads are, one behind the other, a true journal.
+pub fn segments_are_a_journal()
+    ensures joined { (o : State) → SegmentsAreAJournal o }
 {}

@@ -4,6 +4,8 @@ use Rattle.std.proofs.Common.{length, refl, sym, ap, subst, arith, append-nil, l
 use Rattle.std.proofs.lemmas.Bool.{false≢true}
 use Rattle.std.specs.Prelude.{max, slice_get, option_map, IsSome, if◌then◌else◌}
 use Rattle.pp_settings.specs.Layout.{Geometry}
+use Rattle.pp_settings.specs.declared.span.Span.{Span}
+use Rattle.pp_settings.specs.declared.span.Span.TheVariants.{Bounded}
 use Rattle.pp_cert.specs.Accepted.{Acceptance}
 use Rattle.pp_model.specs.declared.moves.Move.{Move}
 use Rattle.pp_model.specs.declared.reply.Reply.{Reply}
@@ -12,7 +14,7 @@ use Rattle.pp_model.specs.declared.event.Event.TheVariants.{Submit, Step}
 use Rattle.pp_model.specs.Pool.{State, Settings}
 use Rattle.pp_model.specs.Budget.{cost_of, bound}
 use Rattle.pp_model.specs.Moves.{reply_of, next_of, is_possible, IsPossible}
-use Rattle.pp_model.specs.Submitting.{submit_error, submitted_unless, after_submit}
+use Rattle.pp_model.specs.Submitting.{counted_plans, most_counted, submit_error, submitted_unless, after_submit}
 use Rattle.pp_model.specs.Journals.{after_plan, replay, IsTrueFrom, IsJournalFrom}
 use Rattle.pp_model.specs.Reached.{IsReached}
 use Rattle.pp_model.proofs.Alone.{settings_stay, submit_leaves}
@@ -65,15 +67,16 @@ book_told b k =
 book_opened : (b : Parts) → IsBook b → IsReached (opens_with (state_of b).settings b.began)
 book_opened b k = subst (λ j. IsReached (opens_with j b.began)) (sym (state_settings b)) k.opened
 
-abbrev settings_by : Geometry → (workers flushes : ℕ) → Settings
-settings_by layout workers flushes = record { layout = layout; workers = workers; flushes = flushes }
+abbrev settings_by : Geometry → (workers flushes : ℕ) → Span → Settings
+settings_by layout workers flushes span = record { layout = layout; workers = workers; flushes = flushes; span = span }
 
 -- The settings that a vault's core and a book keep.
 kept_settings : (v : vault.Parts) (w f : ℕ) (s : State) → StandsFor v s → w ≡ s.settings.workers → f ≡ s.settings.flushes
-    → settings_by v.core.layout w f ≡ s.settings
+    → settings_by v.core.layout w f Bounded ≡ s.settings
 kept_settings v w f s st e g =
-    ap (λ l. settings_by l w f) st.core.layout ∙ ap (λ n. settings_by s.settings.layout n f) e
-    ∙ ap (λ n. settings_by s.settings.layout s.settings.workers n) g
+    ap (λ l. settings_by l w f Bounded) st.core.layout ∙ ap (λ n. settings_by s.settings.layout n f Bounded) e
+    ∙ ap (λ n. settings_by s.settings.layout s.settings.workers n Bounded) g
+    ∙ ap (λ k. settings_by s.settings.layout s.settings.workers s.settings.flushes k) (sym st.core.span)
 
 -- What is told of a state to which a book's journal leads makes it a book.
 pub record Leads (b : Parts) (s : State) : Type 0 where
@@ -235,6 +238,12 @@ module _ (b : Parts) (k : IsBook b) (asked : Request) (v : vault.Parts)
 
 -- ---- a plan
 
+-- As many plans count as were submitted where the life is bounded.
+few_in : (k : Span) (submitted taken : ℕ) → k ≡ Bounded → counted_plans k submitted taken ≤ most_counted k
+    → submitted ≤ 256
+few_in k submitted taken bounded h =
+    subst (λ (j : Span). counted_plans j submitted taken ≤ most_counted j) bounded h
+
 greatest_more : (n : ℕ) (plans : List Acceptance) (a : Acceptance)
     → greatest_from n (plans ++ a ∷ []) ≡ max (greatest_from n plans) (cost_of a)
 greatest_more n [] a = refl
@@ -307,10 +316,11 @@ module _ (b : Parts) (k : IsBook b) (a : Acceptance) (number : ℕ) (v : vault.P
         outset = refl;
         state = state_is book_with (after_submit s a) leads_with ∙ ap (λ o. submitted_unless o s a) allowed;
         few =
-            let counts = counted (after_submit s a) leads_with.stands.core.reached in
+            let t = after_submit s a in
+            let st = leads_with.stands.core in
             omega (
               arith,
-              counts.few,
+              few_in t.settings.span (length t.plans) t.taken st.span (counted t st.reached).few,
               ap length plans_after,
               length-append s.plans (a ∷ []),
               numbered,

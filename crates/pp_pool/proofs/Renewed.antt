@@ -1,6 +1,7 @@
 -- A book after a renewal.
 use Rattle.std.proofs.Common.{◌≡◌, ◌∙◌, ◌≤◌, ◌*◌, ℕ, List, [], refl, sym, ap, subst, arith}
 use Rattle.pp_settings.specs.Layout.{Geometry}
+use Rattle.pp_settings.specs.declared.span.Span.TheVariants.{Bounded}
 use Rattle.pp_model.specs.declared.event.Event.{Event}
 use Rattle.pp_model.specs.Pool.{State, Settings}
 use Rattle.std.specs.Prelude.{All}
@@ -38,7 +39,7 @@ module _ (b : Parts) (k : IsBook b) (v : vault.Parts) (r : vault_renewals.Renews
   plans_gone = ap (λ (x : vault.Parts). x.core.plans) r.parts
 
   abbrev settings_by : Geometry → Settings
-  settings_by layout = record { layout = layout; workers = b.workers; flushes = b.flushes }
+  settings_by layout = record { layout = layout; workers = b.workers; flushes = b.flushes; span = Bounded }
 
   pub settings_kept : settings_by v.core.layout ≡ settings_of b
   settings_kept = ap (λ (x : vault.Parts). settings_by x.core.layout) r.parts

@@ -1,5 +1,6 @@
 -- What clauses see of a book: what it keeps.
 use Rattle.std.specs.Prelude.{ℕ, List}
+use Rattle.pp_settings.specs.declared.span.Span.TheVariants.{Bounded}
 use Rattle.pp_cert.specs.Accepted.{Acceptance}
 use Rattle.pp_model.specs.declared.event.Event.{Event}
 use Rattle.pp_journal.specs.Events.{Events}
@@ -24,10 +25,10 @@ pub record Parts : Type 0 where
   -- what its life began with besides the settings
   pub began : Outset
 
--- What the pool keeps of its settings.
+-- What the pool keeps of its settings. Its lives are bounded.
 abbrev pub settings_of : Parts → Settings
 settings_of b =
-    record { layout = b.vault.core.layout; workers = b.workers; flushes = b.flushes }
+    record { layout = b.vault.core.layout; workers = b.workers; flushes = b.flushes; span = Bounded }
 
 -- All plans that were submitted in its life, in order.
 abbrev pub plans_of : Parts → List Acceptance

@@ -1,9 +1,11 @@
 -- In the true journal of a life no plan has a number past the most plans that a life takes in.
 use Rattle.std.proofs.Common.{◌≡◌, ◌∙◌, ◌+◌, ◌≤◌, ◌<◌, ◌^◌, ℕ, Bool, true, false, Option, Some, None, List, [], ◌∷◌, length}
-use Rattle.std.proofs.Common.{length-append, refl, sym, subst, arith}
+use Rattle.std.proofs.Common.{length-append, refl, sym, ap, subst, arith}
 use Rattle.std.specs.Prelude.{slice_get, nat_le, nat_lt, IsTrue}
 use Rattle.std.proofs.lemmas.Bool.{leb-false}
 use Rattle.std.proofs.lemmas.Option.{slice_get_within}
+use Rattle.pp_settings.specs.declared.span.Span.{Span}
+use Rattle.pp_settings.specs.declared.span.Span.TheVariants.{Bounded}
 use Rattle.pp_cert.specs.Accepted.{Acceptance}
 use Rattle.pp_cert.specs.Walk.{same_layout}
 use Rattle.pp_model.specs.declared.event.Event.{Event}
@@ -12,19 +14,20 @@ use Rattle.pp_model.specs.declared.moves.Came.TheVariants.{Fault, Image}
 use Rattle.pp_model.specs.declared.moves.Move.{Move}
 use Rattle.pp_model.specs.declared.moves.Move.TheVariants as move
 use Rattle.pp_model.specs.declared.reply.Reply.TheVariants.{Taken}
-use Rattle.pp_model.specs.Pool.{Running, State}
+use Rattle.pp_model.specs.Pool.{Running, Settings, State}
 use Rattle.pp_model.specs.Budget.{cost_of, journal_need}
 use Rattle.pp_model.specs.Moves.{seat_of, reply_of}
 use Rattle.pp_model.specs.Shapes.{fits_reply}
-use Rattle.pp_model.specs.Submitting.{error_where, submit_error, submitted_unless, after_submit}
+use Rattle.pp_model.specs.Submitting.{counted_plans, most_counted, most_events, error_where, submit_error, submitted_unless, after_submit}
 use Rattle.pp_model.specs.Taking.{has_room, take_where, take_by}
-use Rattle.pp_model.specs.Journals.{after_plan, after_event, IsTrueAt}
-use Rattle.pp_model.proofs.Journeys.{same_plans}
+use Rattle.pp_model.specs.Journals.{after_plan, after_event, replay, IsTrueAt, IsTrueFrom}
+use Rattle.pp_model.proofs.Journeys.{same_plans, same_settings}
 use Rattle.pp_model.proofs.Shapes.{reply_fits}
 
--- No more plans were submitted than a life takes in.
-abbrev pub Few : State → Type 0
-Few s = length s.plans ≤ 256
+-- The life is bounded, and no more plans were submitted than it takes in.
+pub record Few (s : State) : Type 0 where
+  pub span : s.settings.span ≡ Bounded
+  pub plans : length s.plans ≤ 256
 
 -- A plan that is taken in comes behind fewer.
 not_many : (same many long : Bool) → error_where same many long ≡ None → many ≡ false
@@ -33,19 +36,31 @@ not_many true true long e = cc
 not_many true false true e = cc
 not_many true false false e = refl
 
-few_submitted : (s : State) (a : Acceptance) → submit_error s a ≡ None → Few (after_submit s a)
-few_submitted s a e =
-    let many = nat_le 256 (length s.plans) in
-    let long = nat_lt 4000000 (journal_need s.settings s.plans + cost_of a) in
+few_submitted : (s : State) (a : Acceptance) → Few s → submit_error s a ≡ None → Few (after_submit s a)
+few_submitted s a few e =
+    let same = same_layout s.settings.layout a.plan.layout in
+    let need = journal_need s.settings s.plans + cost_of a in
+    let bounded : error_where same (nat_le 256 (length s.plans)) (nat_lt 4000000 need) ≡ None
+    = subst (λ (k : Span). error_where same (nat_le (most_counted k) (counted_plans k (length s.plans) s.taken))
+    (nat_lt (most_events k) need) ≡ None) few.span e in
     let fewer : length s.plans < 256
-    = leb-false 256 (length s.plans) (not_many (same_layout s.settings.layout a.plan.layout) many long e) in
-    subst (λ o. Few (submitted_unless o s a)) (sym e) (omega (arith, fewer, length-append s.plans (a ∷ [])))
+    = leb-false 256 (length s.plans) (not_many same (nat_le 256 (length s.plans)) (nat_lt 4000000 need) bounded) in
+    subst (λ o. Few (submitted_unless o s a)) (sym e)
+    (record { span = few.span; plans = omega (arith, fewer, length-append s.plans (a ∷ [])) })
 
 pub few_after : (plans : List Acceptance) (s : State) (e : Event) → IsTrueAt plans s e → Few s
     → Few (after_event plans s e)
 few_after plans s (Submit k) t few =
-    subst (λ o. Few (after_plan s o)) (sym t.named) (few_submitted s t.plan t.taken_in)
-few_after plans s (Step did reply) t few = subst (λ ps. length ps ≤ 256) (sym (same_plans s did)) few
+    subst (λ o. Few (after_plan s o)) (sym t.named) (few_submitted s t.plan few t.taken_in)
+few_after plans s (Step did reply) t few = record {
+  span = ap (λ (k : Settings). k.span) (same_settings s did) ∙ few.span;
+  plans = subst (λ ps. length ps ≤ 256) (sym (same_plans s did)) few.plans;
+}
+
+pub few_from : (plans : List Acceptance) (s : State) (es : List Event) → IsTrueFrom plans s es → Few s
+    → Few (replay plans s es)
+few_from plans s [] t few = few
+few_from plans s (e ∷ es) t few = few_from plans (after_event plans s e) es t.1 (few_after plans s e t.0 few)
 
 -- ---- the plan that is taken
 

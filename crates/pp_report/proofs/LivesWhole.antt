@@ -11,6 +11,7 @@ use Rattle.pp_model.specs.declared.event.Event.{Event}
 use Rattle.pp_model.specs.Pool.{State, opening}
 use Rattle.pp_model.specs.Renewing.{renewed}
 use Rattle.pp_model.specs.Lives.{Life, life_end, AreLives, after_lives}
+use Rattle.pp_model.specs.Journals.{IsTrueFrom}
 use Rattle.pp_core.specs.Opening.{kept_of}
 use Rattle.pp_report.specs.declared.error.AuditError.{AuditError}
 use Rattle.pp_report.specs.Lines.{HasNumbers, FitsEvent}
@@ -22,23 +23,30 @@ use Rattle.pp_report.specs.Lives.{journals_of, lives_words, lives_lines, FitLive
 use Rattle.pp_report.specs.Lives.{AreWholeJournals, IsAuditedLives, HasNoRenewal}
 use Rattle.pp_report.proofs.Splitting.{words_of, spelled_lines}
 use Rattle.pp_report.proofs.Verdicts as verdicts
-use Rattle.pp_report.proofs.Few.{Few}
-use Rattle.pp_report.proofs.Whole.{all_fit}
+use Rattle.pp_report.proofs.Few.{Few, few_from}
+use Rattle.pp_report.proofs.Whole.{all_fit, few_at_first}
 use Rattle.pp_report.proofs.LivesLines.{event_apart}
 use Rattle.pp_report.proofs.LivesAudited as lives
 
 -- ---- whole lives
 
+-- None is submitted where the next life begins.
+few_next : (o : State) (l : Life) → Few o → IsTrueFrom l.plans o l.journal → Few (renewed (life_end o l))
+few_next o l few t = record { span = (few_from l.plans o l.journal t few).span; plans = omega arith }
+
 lives_fit : (o : State) (ls : List Life) → AllByRecursion (AllByRecursion HasNumbers) (journals_of ls) → AreLives o ls
     → Few o → AllByRecursion (AllByRecursion FitsEvent) (journals_of ls)
 lives_fit o [] h are few = tt
-lives_fit o (l ∷ ls) h are few =
-    (all_fit l.plans o l.journal h.0 are.0.is_true few, lives_fit (renewed (life_end o l)) ls h.1 are.1 (omega arith))
+lives_fit o (l ∷ ls) h are few = (
+  all_fit l.plans o l.journal h.0 are.0.is_true few,
+  lives_fit (renewed (life_end o l)) ls h.1 are.1 (few_next o l few are.0.is_true),
+)
 
 -- So few are submitted where a life begins.
-few_after_lives : (o : State) (ls : List Life) → Few o → Few (after_lives o ls)
-few_after_lives o [] few = few
-few_after_lives o (l ∷ ls) few = few_after_lives (renewed (life_end o l)) ls (omega arith)
+few_after_lives : (o : State) (ls : List Life) → AreLives o ls → Few o → Few (after_lives o ls)
+few_after_lives o [] are few = few
+few_after_lives o (l ∷ ls) are few =
+    few_after_lives (renewed (life_end o l)) ls are.1 (few_next o l few are.0.is_true)
 
 pub whole_spelled : (c : Configuration) (plans : List Acceptance) (journals : List (List Event)) (last : List Event)
     → AllByRecursion (AllByRecursion HasNumbers) journals → AllByRecursion HasNumbers last
@@ -48,9 +56,9 @@ whole_spelled c plans journals last h k are =
     let is = are.whole.are_true in
     let fits : FitLives (journals_of are.lives) last = record {
       each = lives_fit (opening (kept_of c)) are.lives (subst (AllByRecursion (AllByRecursion HasNumbers)) are.journals_are h)
-          is.over (omega arith);
+          is.over (few_at_first (kept_of c) refl);
       latest = all_fit are.rest (next_opening c are.lives) last k is.is_true
-          (few_after_lives (opening (kept_of c)) are.lives (omega arith));
+          (few_after_lives (opening (kept_of c)) are.lives is.over (few_at_first (kept_of c) refl));
     } in
     record {
       lives = are.lives;

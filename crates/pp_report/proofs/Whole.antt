@@ -5,6 +5,7 @@ use Rattle.std.specs.Prelude.{not, Ok}
 use Rattle.std.specs.List.{AllByRecursion}
 use Rattle.std.proofs.Math.Seq.{drop-cons}
 use Rattle.pp_settings.specs.Settings.{Configuration}
+use Rattle.pp_settings.specs.declared.span.Span.TheVariants.{Bounded}
 use Rattle.pp_cert.specs.Accepted.{Acceptance}
 use Rattle.pp_model.specs.declared.event.Event.{Event}
 use Rattle.pp_model.specs.declared.event.Event.TheVariants.{Submit, Step}
@@ -12,9 +13,10 @@ use Rattle.pp_model.specs.declared.reply.Reply.{Reply}
 use Rattle.pp_model.specs.declared.reply.Reply.TheVariants.{Taken, Hit, MustRead, MustWrite, Failed, Loaded, Did}
 use Rattle.pp_model.specs.declared.reply.Reply.TheVariants.{Latched, Unlatched, Finished, Flushing, Flushed}
 use Rattle.pp_model.specs.declared.reply.Reply.TheVariants.{NotNow, OffPlan}
-use Rattle.pp_model.specs.Pool.{State}
+use Rattle.pp_model.specs.Pool.{Settings, State, opening}
 use Rattle.pp_model.specs.Moves.{is_refusal}
 use Rattle.pp_model.specs.Journals.{after_event, IsTrueAt, IsTrueFrom}
+use Rattle.pp_core.specs.Opening.{kept_of}
 use Rattle.pp_report.specs.Auditing.{auditing}
 use Rattle.pp_report.specs.Audits.{IsWhole, IsAudited}
 use Rattle.pp_report.specs.Lines.{HasNumbersOf, HasNumbers, FitsReply, FitsEvent, journal_words}
@@ -40,11 +42,11 @@ told_fits n (NotNow delay) few h told taken = absurd cc
 told_fits n (OffPlan cause) few h told taken = absurd cc
 
 true_fits : (plans : List Acceptance) (s : State) (e : Event) → HasNumbers e → IsTrueAt plans s e → Few s → FitsEvent e
-true_fits plans s (Submit plan) h t few = (omega (arith, t.next, few), tt)
+true_fits plans s (Submit plan) h t few = (omega (arith, t.next, few.plans), tt)
 true_fits plans s (Step did reply) h t few = (
   h.0,
-  told_fits (length s.plans) reply few h.1 (subst (λ r. not (is_refusal r) ≡ true) (sym t.1) t.0)
-  (λ k e. taken_submitted s did k (e ∙ t.1)),
+  told_fits (length s.plans) reply few.plans h.1 (subst (λ r. not (is_refusal r) ≡ true) (sym t.1) t.0)
+      (λ k e. taken_submitted s did k (e ∙ t.1)),
 )
 
 pub all_fit : (plans : List Acceptance) (s : State) (es : List Event) → AllByRecursion HasNumbers es → IsTrueFrom plans s es
@@ -53,11 +55,15 @@ all_fit plans s [] h t few = tt
 all_fit plans s (e ∷ es) h t few =
     (true_fits plans s e h.0 t.0 few, all_fit plans (after_event plans s e) es h.1 t.1 (few_after plans s e t.0 few))
 
+-- Where the first life begins no plan was submitted.
+pub few_at_first : (k : Settings) → k.span ≡ Bounded → Few (opening k)
+few_at_first k bounded = record { span = bounded; plans = omega arith }
+
 pub whole_spelled : (c : Configuration) (plans : List Acceptance) (es : List Event) → AllByRecursion HasNumbers es
     → IsWhole c plans es → IsAudited c plans (journal_words es) (length es)
 whole_spelled c plans es h whole = record {
   events = es;
-  spelled = record { fits = all_fit plans _ es h whole.is_true (omega arith); text_is = inl refl };
+  spelled = record { fits = all_fit plans _ es h whole.is_true (few_at_first (kept_of c) refl); text_is = inl refl };
   is_true = whole.is_true;
   over = whole.over;
   number = refl;

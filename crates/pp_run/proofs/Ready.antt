@@ -5,6 +5,7 @@ use Rattle.std.specs.List.{list_all}
 use Rattle.std.proofs.lemmas.List.{get_or-replicate, length-replicate}
 use Rattle.std.proofs.lemmas.List.Sums.{sum_by-cons}
 use Rattle.pp_settings.specs.Layout.{page_count}
+use Rattle.pp_settings.specs.declared.span.Span.TheVariants.{Bounded}
 use Rattle.pp_cert.specs.Accepted.{Acceptance}
 use Rattle.pp_frames.specs.Least.{least_below, or_next}
 use Rattle.pp_frames.specs.Marks.{has_reached}
@@ -62,8 +63,9 @@ unready b capacity flusher (Refused error) is cause has = (is, λ none. (let h =
 -- ---- what is looked at
 
 -- To an opening state no plan was submitted, and its journal needs room for the flushes.
-pub none_planned : (k : Settings) (o : Outset) → HasPlanned k.layout 0 (2 * k.flushes) (opens_with k o)
-none_planned k o = record { layout = refl; plans = refl; events = omega arith }
+pub none_planned : (k : Settings) (o : Outset) → k.span ≡ Bounded
+    → HasPlanned k.layout 0 (2 * k.flushes) (opens_with k o)
+none_planned k o bounded = record { layout = refl; span = bounded; plans = refl; events = omega arith }
 
 -- An error of a book that isn't ready is one for which no life begins.
 pub may_not_begin : (o : State) (b : Parts) (error : RunError) → state_of b ≡ o → b.workers ≡ o.settings.workers

@@ -4,12 +4,13 @@ use Rattle.std.specs.Prelude.{Option, None, Some, IsOk, nat_le, nat_lt, sum_by}
 use Rattle.std.proofs.lemmas.Bool.{leb-false, ltb-false}
 use Rattle.std.proofs.lemmas.List.Sums.{sum_by-cons}
 use Rattle.pp_settings.specs.Layout.{Geometry}
+use Rattle.pp_settings.specs.declared.span.Span.{Span}
 use Rattle.pp_cert.specs.Accepted.{Acceptance}
 use Rattle.pp_cert.specs.Walk.{same_layout}
 use Rattle.pp_model.specs.declared.refusals.SubmitError.{SubmitError}
 use Rattle.pp_model.specs.Pool.{State}
-use Rattle.pp_model.specs.Budget.{bound, cost_of}
-use Rattle.pp_model.specs.Submitting.{error_where, submit_error, submitted, unless_refused, after_submits}
+use Rattle.pp_model.specs.Budget.{bound, cost_of, journal_need}
+use Rattle.pp_model.specs.Submitting.{counted_plans, most_counted, most_events, error_where, submit_error, submitted, unless_refused, after_submits}
 use Rattle.pp_model.proofs.BoundSteps.{submit_bound, submit_need}
 use Rattle.pp_text.specs.Steps.{◌>>=◌}
 use Rattle.pp_model.specs.declared.event.Event.TheVariants.{Submit}
@@ -31,7 +32,10 @@ fault_is g count need s a h =
     ∙ (ap (λ n. error_where (same_layout s.settings.layout a.plan.layout) (nat_le 256 n) (nat_lt 4000000 (need + cost_of a)))
     (sym h.plans)
     ∙ ap (λ n. error_where (same_layout s.settings.layout a.plan.layout) (nat_le 256 (length s.plans)) (nat_lt 4000000 (n + cost_of a)))
-    (sym h.events))
+    (sym h.events)
+    ∙ ap (λ (k : Span). error_where (same_layout s.settings.layout a.plan.layout)
+    (nat_le (most_counted k) (counted_plans k (length s.plans) s.taken))
+    (nat_lt (most_events k) (journal_need s.settings s.plans + cost_of a))) (sym h.span))
 
 -- After it there is one plan more, and the need is greater by its cost.
 pub next_planned : (g : Geometry) (count need : ℕ) (s : State) (a : Acceptance) → HasPlanned g count need s
@@ -41,6 +45,7 @@ next_planned g count need s a h =
     let was = h.plans in
     record {
       layout = h.layout;
+      span = h.span;
       plans = omega (arith, longer, was);
       events = submit_need s a ∙ ap (λ n. n + cost_of a) h.events;
     }

@@ -1,6 +1,7 @@
 -- Plans that are looked at before they are submitted.
 use Rattle.std.specs.Prelude.{◌≡◌, ◌≤◌, ◌+◌, ℕ, Err, IsOk, List, length, map, sum_by}
 use Rattle.pp_settings.specs.Layout.{Geometry}
+use Rattle.pp_settings.specs.declared.span.Span.TheVariants.{Bounded}
 use Rattle.pp_cert.specs.Accepted.{Acceptance}
 use Rattle.pp_model.specs.declared.refusals.SubmitError.{SubmitError}
 use Rattle.pp_model.specs.Pool.{State}
@@ -12,10 +13,11 @@ use Rattle.pp_pool.specs.Parts.{Parts, state_of}
 abbrev pub plans_in : {W : Type 0} → List (Acceptance × W) → List Acceptance
 plans_in asked = map (λ q. q.0) asked
 
--- A state of a pool with this layout, to which so many plans were submitted, for which its journal needs so many events besides the
--- submits.
+-- A state of a pool with this layout, whose life is bounded, to which so many plans were submitted, for which its journal needs so
+-- many events besides the submits.
 pub record HasPlanned (geometry : Geometry) (count need : ℕ) (s : State) : Type 0 where
   pub layout : s.settings.layout ≡ geometry
+  pub span : s.settings.span ≡ Bounded
   pub plans : length s.plans ≡ count
   pub events : journal_need s.settings s.plans ≡ need
 

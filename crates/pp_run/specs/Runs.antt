@@ -2,6 +2,7 @@
 use Rattle.std.specs.Prelude.{◌≡◌, ℕ, ◌+◌, ◌<◌, ◌≤◌, ⊤, true, List, [], length, map, take, drop, slice_index_or, Err, IsOk}
 use Rattle.std.specs.Coded.{Coded, coded_list}
 use Rattle.std.specs.List.{list_all, range_with_len}
+use Rattle.pp_settings.specs.declared.span.Span.TheVariants.{Bounded}
 use Rattle.pp_cert.specs.Accepted.{Acceptance}
 use Rattle.pp_model.specs.declared.event.Event.{Event}
 use Rattle.pp_model.specs.declared.event.Event.TheVariants.{Submit}
@@ -88,4 +89,4 @@ pub record AllCalled {D : Type 0} (calls failures : D → ℕ) (workers : ℕ) (
 
 -- Settings of no pool, which stand where no run has picked its own.
 abbrev pub no_settings : Settings
-no_settings = record { layout = record { frames = 0; extents = [] }; workers = 0; flushes = 0 }
+no_settings = record { layout = record { frames = 0; extents = [] }; workers = 0; flushes = 0; span = Bounded }

@@ -3,6 +3,7 @@
 ghost use Rattle.std.specs.Prelude.{◌≡◌, IfOk, IfErr};
 ghost use Rattle.pp_core.specs.Opening.{kept_of};
 ghost use Rattle.pp_model.specs.Pool.{dirty_pages};
+ghost use Rattle.pp_settings.specs.declared.span.Span.TheVariants.{Bounded};
 ghost use Rattle.pp_model.specs.Reached.{IsReached};
 ghost use Rattle.pp_outset.specs.Outsets.{new_outset};
 ghost use Rattle.pp_run.specs.Rested.{opening_of};
@@ -67,9 +68,10 @@ impl RestedPool {
         Ok(pool)
     }
 
-    /// Does nothing. It tells that the opening state of the pool's next life can be reached.
+    /// Does nothing. It tells that the opening state of the pool's next life can be reached, and that its lives are bounded.
     pub fn known(&self)
-        ensures { IsReached (opening_of self.now) }
+        ensures opens { IsReached (opening_of self.now) }
+        ensures bounded { self.now.settings.span ≡ Bounded }
     {
         self.book.known();
     }

@@ -11,9 +11,11 @@ mod names;
 mod reading;
 mod regions;
 mod settings;
+mod span;
 
 pub use error::SettingsError;
 pub use extent::Extent;
 pub use key::{RegionKey, Spot, TopKey};
 pub use layout::Layout;
 pub use settings::Settings;
+pub use span::Span;

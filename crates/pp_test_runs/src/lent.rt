@@ -43,11 +43,11 @@ impl<'a, R: Clock> Work for Lent<'a, R> {
 
     fn begins(&mut self, plan: u64) {
         self.plan = plan;
-        self.board.meet(&self.rt, Call::Begin, plan);
+        self.board.meet(&self.rt, Call::Begin, plan as u32);
     }
 
     fn ended(&mut self, _end: End) {
-        self.board.meet(&self.rt, Call::End, self.plan);
+        self.board.meet(&self.rt, Call::End, self.plan as u32);
     }
 
     fn page(&mut self, region: u8, first: u32, count: u32) -> u32 {

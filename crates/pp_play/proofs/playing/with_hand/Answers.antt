@@ -245,3 +245,9 @@ returns-in-Look-clause-does g c fits none =
     c.args.device.now c.look.result.1 old c.look.result.0 c.args.device.now)
     (sym c.in-Look.is)
     (refl, byte_moves old old c.args.hand c.look.result.0 asked c.look.result.1 s s refl (c.look.ensures.tells asked refl s))
+
+pub returns-in-Device-clause-comes : goal.returns-in-Device-clause-comes
+returns-in-Device-clause-comes g c =
+    let of = same _ _ (sym (ap cue_worker c.in-Device.is) ∙ c.requires.cue) in
+    subst (λ q. ComesTo c.args.vault.now q c.work.result.1 c.work.new.vault)
+    (ap (λ w. cue.Device w) (sym of) ∙ sym c.in-Device.is) c.work.ensures.comes
