@@ -1,8 +1,10 @@
 -- The events that the entries of a journal stand for.
-use Rattle.std.specs.Prelude.{◌≡◌, ℕ, ◌<◌, true, false, List, length, slice_index_or}
+use Rattle.std.specs.Prelude.{◌≡◌, ℕ, ◌<◌, ◌&&◌, nat_eq, nat_lt, Bool, true, false, List, length, slice_index_or}
 use Rattle.pp_model.specs.declared.moves.Came.TheVariants.{Fault, Image}
+use Rattle.pp_model.specs.declared.moves.Move.{Move}
 use Rattle.pp_model.specs.declared.moves.Move.TheVariants as move
 use Rattle.pp_model.specs.declared.reply.Failure.TheVariants.{WriteFault, ReadFault, Misread}
+use Rattle.pp_model.specs.declared.reply.Reply.{Reply}
 use Rattle.pp_model.specs.declared.reply.Reply.TheVariants as reply
 use Rattle.pp_model.specs.declared.event.Event.{Event}
 use Rattle.pp_model.specs.declared.event.Event.TheVariants.{Submit, Step}
@@ -41,3 +43,36 @@ IsInside others _ = Unit {0}
 -- The entry is the event, whatever stands beside it.
 abbrev pub StandsAlone : Event → Entry → Type 0
 StandsAlone event e = (others : List Event) → IsInside (length others) e × (event_of others e ≡ event)
+
+-- ---- which events stand in entries
+
+-- Whether an entry has room for the worker, whose number gets one byte, and for the frame, whose number gets two.
+abbrev pub has_place : (worker frame : ℕ) → Bool
+has_place worker frame = nat_lt worker 256 && nat_lt frame 65536
+
+-- Whether a move with its reply stands in an entry: each that a pool makes, as long as the entry has room for its worker and its frame.
+abbrev pub is_packed : Move → Reply → Bool
+is_packed (move.Take w) (reply.Taken plan) = true
+is_packed (move.Fix w page) (reply.Hit frame mark) = has_place w frame
+is_packed (move.Fix w page) (reply.MustRead frame) = true
+is_packed (move.Fix w page) (reply.MustWrite frame victim) = has_place w frame
+is_packed (move.WriteDone w true) (reply.MustRead frame) = true
+is_packed (move.WriteDone w false) (reply.Failed WriteFault) = true
+is_packed (move.ReadDone w Fault) (reply.Failed ReadFault) = true
+is_packed (move.ReadDone w (Image page stamp)) (reply.Loaded mark) = nat_lt w 256 && nat_eq mark stamp
+is_packed (move.ReadDone w (Image page stamp)) (reply.Failed Misread) = nat_lt w 256
+is_packed (move.Unfix w) reply.Did = true
+is_packed (move.Latch w) (reply.Latched mark) = true
+is_packed (move.Unlatch w) (reply.Unlatched mark) = true
+is_packed (move.Choose w branch) reply.Did = true
+is_packed (move.Unwind w slot) reply.Did = true
+is_packed (move.Unwind w slot) (reply.Unlatched mark) = nat_lt w 256
+is_packed (move.Finish w) (reply.Finished ending) = true
+is_packed (move.FlushBegin page) (reply.Flushing mark) = true
+is_packed (move.FlushDone ok) (reply.Flushed clean) = true
+is_packed did out = false
+
+-- The same of an event.
+abbrev pub is_packed_event : Event → Bool
+is_packed_event (Submit plan) = true
+is_packed_event (Step did out) = is_packed did out

@@ -6,7 +6,8 @@ ghost use Rattle.pp_model.specs.declared.moves.Came.TheVariants.{Image};
 ghost use Rattle.pp_model.specs.declared.moves.Move.TheVariants as moves;
 ghost use Rattle.pp_model.specs.declared.event.Event.TheVariants.{Submit, Step};
 ghost use Rattle.pp_model.specs.WorkerParts.{names_worker};
-ghost use Rattle.pp_journal.specs.Entries.{event_of, StandsAlone};
+ghost use Rattle.std.specs.Option.{is_some};
+ghost use Rattle.pp_journal.specs.Entries.{event_of, is_packed, is_packed_event, StandsAlone};
 
 use core::mem::size_of;
 use pp_model::{Came, Ending, Event, Failure, Move, Reply};
@@ -314,7 +315,8 @@ fn other(others: &[Event], place: u64) -> Event
 /// The entry that is the event, where one is.
 #[inline(always)]
 pub(crate) fn entry_of(event: Event) -> Option<Entry>
-    ensures { IfSome result (StandsAlone event) }
+    ensures entry { IfSome result (StandsAlone event) }
+    ensures packs { is_some result ≡ is_packed_event event }
 {
     match event {
         Event::Submit { plan } => Some(Entry::Submit { plan }),
@@ -325,7 +327,8 @@ pub(crate) fn entry_of(event: Event) -> Option<Entry>
 /// The entry of a move with its reply, where there is one.
 #[inline(always)]
 fn step_entry(did: Move, reply: Reply) -> Option<Entry>
-    ensures { IfSome result (StandsAlone (Step did reply)) }
+    ensures entry { IfSome result (StandsAlone (Step did reply)) }
+    ensures packs { is_some result ≡ is_packed did reply }
 {
     match did {
         Move::Take { worker } => match reply {
@@ -370,7 +373,8 @@ fn step_entry(did: Move, reply: Reply) -> Option<Entry>
 /// The entry of a fix.
 #[inline(always)]
 fn fix_entry(worker: u32, page: u32, reply: Reply) -> Option<Entry>
-    ensures { IfSome result (StandsAlone (Step (moves.Fix worker page) reply)) }
+    ensures entry { IfSome result (StandsAlone (Step (moves.Fix worker page) reply)) }
+    ensures packs { is_some result ≡ is_packed (moves.Fix worker page) reply }
 {
     match reply {
         Reply::Hit { frame, mark } => {
@@ -409,7 +413,8 @@ fn fix_entry(worker: u32, page: u32, reply: Reply) -> Option<Entry>
 /// The entry of a device's answer to a writing.
 #[inline(always)]
 fn write_entry(worker: u32, ok: bool, reply: Reply) -> Option<Entry>
-    ensures { IfSome result (StandsAlone (Step (moves.WriteDone worker ok) reply)) }
+    ensures entry { IfSome result (StandsAlone (Step (moves.WriteDone worker ok) reply)) }
+    ensures packs { is_some result ≡ is_packed (moves.WriteDone worker ok) reply }
 {
     match reply {
         Reply::MustRead { frame } => {
@@ -431,7 +436,8 @@ fn write_entry(worker: u32, ok: bool, reply: Reply) -> Option<Entry>
 /// The entry of a device's answer to a reading.
 #[inline(always)]
 fn read_entry(worker: u32, came: Came, reply: Reply) -> Option<Entry>
-    ensures { IfSome result (StandsAlone (Step (moves.ReadDone worker came) reply)) }
+    ensures entry { IfSome result (StandsAlone (Step (moves.ReadDone worker came) reply)) }
+    ensures packs { is_some result ≡ is_packed (moves.ReadDone worker came) reply }
 {
     match came {
         Came::Fault => match reply {
@@ -445,7 +451,8 @@ fn read_entry(worker: u32, came: Came, reply: Reply) -> Option<Entry>
 /// The entry of an image that was read.
 #[inline(always)]
 fn image_entry(worker: u32, page: u32, stamp: u64, reply: Reply) -> Option<Entry>
-    ensures { IfSome result (StandsAlone (Step (moves.ReadDone worker (Image page stamp)) reply)) }
+    ensures entry { IfSome result (StandsAlone (Step (moves.ReadDone worker (Image page stamp)) reply)) }
+    ensures packs { is_some result ≡ is_packed (moves.ReadDone worker (Image page stamp)) reply }
 {
     if worker >= WORKERS {
         return None;
@@ -474,7 +481,8 @@ fn image_entry(worker: u32, page: u32, stamp: u64, reply: Reply) -> Option<Entry
 /// The entry of an unwinding.
 #[inline(always)]
 fn unwind_entry(worker: u32, slot: u32, reply: Reply) -> Option<Entry>
-    ensures { IfSome result (StandsAlone (Step (moves.Unwind worker slot) reply)) }
+    ensures entry { IfSome result (StandsAlone (Step (moves.Unwind worker slot) reply)) }
+    ensures packs { is_some result ≡ is_packed (moves.Unwind worker slot) reply }
 {
     match reply {
         Reply::Did => Some(Entry::Unwind { worker, slot }),

@@ -6,7 +6,7 @@ ghost use Rattle.std.specs.Prelude.{None, Some, IfOk, OnOk, OnErr};
 ghost use Rattle.std.specs.Prelude.{length, map, slice_get, slice_index_or, vec_capacity};
 ghost use Rattle.pp_model.specs.declared.event.Event.{Event};
 ghost use Rattle.pp_model.specs.WorkerParts.{names_worker};
-ghost use Rattle.pp_journal.specs.Entries.{event_of, IsInside};
+ghost use Rattle.pp_journal.specs.Entries.{event_of, is_packed_event, IsInside};
 ghost use Rattle.pp_journal.specs.Packing.{IsMore};
 
 use crate::entry::{Entry, entry_of, event_of, is_one_event, is_same_event, worker_of};
@@ -311,6 +311,7 @@ fn entry_for(others: &mut Vec<Event>, event: Event) -> Entry
     ensures inside { IsInside (length others.new.items) result }
     ensures others { IsMore others.old.items others.new.items }
     ensures memory { vec_capacity others.new ≡ vec_capacity others.old }
+    ensures packs { is_packed_event event ≡ true → others.new ≡ others.old }
 {
     match entry_of(event) {
         Some(entry) => entry,
