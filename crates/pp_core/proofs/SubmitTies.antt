@@ -12,7 +12,7 @@ use Rattle.pp_model.specs.declared.refusals.SubmitError.{SubmitError}
 use Rattle.pp_model.specs.Pool.{Running, State}
 use Rattle.pp_model.specs.Budget.{cost_of, journal_need}
 use Rattle.pp_model.specs.Reached.{IsReached}
-use Rattle.pp_model.specs.Submitting.{counted_plans, most_counted, most_events, error_where, submit_error, submitted, submitted_unless, after_submit}
+use Rattle.pp_model.specs.Submitting.{counted_plans, plan_limit, most_events, error_where, submit_error, submitted, submitted_unless, after_submit}
 use Rattle.pp_model.proofs.Journeys.{plan_reached}
 use Rattle.pp_model.proofs.BoundSteps as numbers
 use Rattle.pp_core.specs.declared.seat.Seat.{Seat}
@@ -26,7 +26,7 @@ use Rattle.pp_core.proofs.Gathered.{bundles_kept}
 pub fault_is : (f : Parts) (s : State) (a : Acceptance) → StandsFor f s → submit_error s a ≡ submit_fault f a
 fault_is f s a st =
     ap (λ (k : Span). error_where (same_layout s.settings.layout a.plan.layout)
-    (nat_le (most_counted k) (counted_plans k (length s.plans) s.taken))
+    (nat_le (plan_limit k) (counted_plans k (length s.plans) s.taken))
     (nat_lt (most_events k) (journal_need s.settings s.plans + cost_of a))) st.span
     ∙ ap (λ (g : Geometry). error_where (same_layout g a.plan.layout) (nat_le 256 (length s.plans))
     (nat_lt 4000000 (journal_need s.settings s.plans + cost_of a))) (sym st.layout)

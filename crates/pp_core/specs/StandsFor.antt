@@ -72,7 +72,7 @@ pub record StandsFor (f : Parts) (s : State) : Type 0 where
   pub reached : IsReached s
   pub layout : f.layout ≡ s.settings.layout
   pub flushes : f.flushes ≡ s.settings.flushes
-  -- its life is bounded
+  -- its life is bounded, as that of every core is so far
   pub span : s.settings.span ≡ Bounded
   pub flushes_left : f.flushes_left ≡ s.flushes_left
   pub plans : f.plans ≡ s.plans

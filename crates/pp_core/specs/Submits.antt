@@ -6,14 +6,14 @@ use Rattle.pp_cert.specs.Walk.{same_layout}
 use Rattle.pp_model.specs.declared.refusals.SubmitError.{SubmitError}
 use Rattle.pp_model.specs.Pool.{State}
 use Rattle.pp_model.specs.Budget.{cost_of}
-use Rattle.pp_model.specs.Submitting.{error_where, submit_error, after_submit, most_plans, most_events}
+use Rattle.pp_model.specs.Submitting.{error_where, submit_error, after_submit, plan_limit, most_events}
 use Rattle.pp_core.specs.Parts.{Parts}
 use Rattle.pp_core.specs.StandsFor.{StandsFor}
 
 -- Why the plan isn't taken in, by what is kept; None where it is.
 abbrev pub submit_fault : Parts → Acceptance → Option SubmitError
 submit_fault f a =
-    error_where (same_layout f.layout a.plan.layout) (nat_le most_plans (length f.plans))
+    error_where (same_layout f.layout a.plan.layout) (nat_le (plan_limit Bounded) (length f.plans))
     (nat_lt (most_events Bounded) (f.need + cost_of a))
 
 -- There is room for the plan among those that are kept, and in the journal.

@@ -46,16 +46,17 @@ StandsAlone event e = (others : List Event) → IsInside (length others) e × (e
 
 -- ---- which events stand in entries
 
--- Whether an entry has room for the worker, whose number gets one byte, and for the frame, whose number gets two.
-abbrev pub has_place : (worker frame : ℕ) → Bool
-has_place worker frame = nat_lt worker 256 && nat_lt frame 65536
+-- Whether the worker's number fits one byte, and the frame's two.
+abbrev pub fits_bytes : (worker frame : ℕ) → Bool
+fits_bytes worker frame = nat_lt worker 256 && nat_lt frame 65536
 
--- Whether a move with its reply stands in an entry: each that a pool makes, as long as the entry has room for its worker and its frame.
+-- Whether a move with its reply stands in an entry: each answer of a move that is done, as long as its worker is below 256 and its
+-- frame below 65,536, and some where these are greater.
 abbrev pub is_packed : Move → Reply → Bool
 is_packed (move.Take w) (reply.Taken plan) = true
-is_packed (move.Fix w page) (reply.Hit frame mark) = has_place w frame
+is_packed (move.Fix w page) (reply.Hit frame mark) = fits_bytes w frame
 is_packed (move.Fix w page) (reply.MustRead frame) = true
-is_packed (move.Fix w page) (reply.MustWrite frame victim) = has_place w frame
+is_packed (move.Fix w page) (reply.MustWrite frame victim) = fits_bytes w frame
 is_packed (move.WriteDone w true) (reply.MustRead frame) = true
 is_packed (move.WriteDone w false) (reply.Failed WriteFault) = true
 is_packed (move.ReadDone w Fault) (reply.Failed ReadFault) = true

@@ -26,7 +26,7 @@ use Rattle.pp_model.specs.Using.{unlatched}
 use Rattle.pp_model.specs.Leaving.{ended}
 use Rattle.pp_model.specs.Flushing.{flush_begun, flush_over}
 use Rattle.pp_model.specs.Moves.{seat_of, asked_by}
-use Rattle.pp_model.specs.Submitting.{submitted, counted_plans, most_counted, most_events}
+use Rattle.pp_model.specs.Submitting.{submitted, counted_plans, plan_limit, most_events}
 use Rattle.pp_model.specs.Reached.{IsReached}
 use Rattle.pp_model.proofs.Sums.{sum_by-slice_set}
 use Rattle.pp_model.proofs.Changes.{IsAt, IsAsked, CanFlush}
@@ -404,7 +404,7 @@ module _ (s : State) (h : IsReached s) where
   need_small = omega (arith, need_fits, events_small s.settings.span)
 
   -- No more plans count than may.
-  pub plans_are_few : counted_plans s.settings.span (length s.plans) s.taken ≤ most_counted s.settings.span
+  pub plans_are_few : counted_plans s.settings.span (length s.plans) s.taken ≤ plan_limit s.settings.span
   plans_are_few = (counted s h).few
 
   -- Their number is below 2^64 by far, and no more were taken.

@@ -18,7 +18,7 @@ use Rattle.pp_model.specs.Budget.{cost_of, left_to, bound, journal_need}
 use Rattle.pp_model.specs.Outcome.{with_seat, at_stage, having_done, released}
 use Rattle.pp_model.specs.Taking.{beginning}
 use Rattle.pp_model.specs.Moves.{seat_of, asked_by}
-use Rattle.pp_model.specs.Submitting.{counted_plans, most_counted, most_events, error_where, submitted}
+use Rattle.pp_model.specs.Submitting.{counted_plans, plan_limit, most_events, error_where, submitted}
 use Rattle.pp_model.specs.Reached.{IsReached}
 use Rattle.pp_model.specs.Fixing.{fixes}
 use Rattle.pp_model.proofs.Changes as change
@@ -149,7 +149,7 @@ AreNumbered plans taken seats =
 
 pub record IsCounted (s : State) : Type 0 where
   pub taken : s.taken ≤ length s.plans
-  pub few : counted_plans s.settings.span (length s.plans) s.taken ≤ most_counted s.settings.span
+  pub few : counted_plans s.settings.span (length s.plans) s.taken ≤ plan_limit s.settings.span
   pub need : journal_need s.settings s.plans ≤ most_events s.settings.span
   pub workers : length s.seats ≡ s.settings.workers
   pub flushes : s.flushes_left ≤ s.settings.flushes
@@ -195,11 +195,11 @@ same_need s t k p = ap (journal_need t.settings) p ∙ ap (λ x. journal_need x 
 
 -- No more plans count.
 same_few : (s t : State) → t.settings ≡ s.settings → t.plans ≡ s.plans → s.taken ≤ t.taken
-    → counted_plans s.settings.span (length s.plans) s.taken ≤ most_counted s.settings.span
-    → counted_plans t.settings.span (length t.plans) t.taken ≤ most_counted t.settings.span
+    → counted_plans s.settings.span (length s.plans) s.taken ≤ plan_limit s.settings.span
+    → counted_plans t.settings.span (length t.plans) t.taken ≤ plan_limit t.settings.span
 same_few s t k p le h =
-    subst (λ (j : Settings). counted_plans j.span (length t.plans) t.taken ≤ most_counted j.span) (sym k)
-    (subst (λ (ps : List Acceptance). counted_plans s.settings.span (length ps) t.taken ≤ most_counted s.settings.span)
+    subst (λ (j : Settings). counted_plans j.span (length t.plans) t.taken ≤ plan_limit j.span) (sym k)
+    (subst (λ (ps : List Acceptance). counted_plans s.settings.span (length ps) t.taken ≤ plan_limit s.settings.span)
     (sym p) (omega (arith, fewer_count s.settings.span (length s.plans) s.taken t.taken le, h)))
 
 counted_on : (s t : State) → Advance s t → IsCounted s → IsCounted t
@@ -285,12 +285,12 @@ counted_kept = record {
   moves = λ s t c h. counted_on s t (advance s t c) h;
   submits = λ s a ok e h.
       let span = s.settings.span in
-      let passed = not_many _ (most_counted span) (counted_plans span (length s.plans) s.taken) (most_events span)
+      let passed = not_many _ (plan_limit span) (counted_plans span (length s.plans) s.taken) (most_events span)
       (journal_need s.settings s.plans + cost_of a) e in
       let one : length s.plans + 1 ≡ length (s.plans ++ a ∷ []) = omega (arith, length-append s.plans (a ∷ [])) in
       record {
         taken = omega (arith, length-append s.plans (a ∷ []), h.taken);
-        few = subst (λ n. counted_plans span n s.taken ≤ most_counted span) one
+        few = subst (λ n. counted_plans span n s.taken ≤ plan_limit span) one
             (one_more span (length s.plans) s.taken passed.0);
         need = omega (arith, need_more s.settings s.plans a, passed.1);
         workers = h.workers;

@@ -1,6 +1,7 @@
 -- Worked rows: lists of moves, what each is answered, whose turn is next at the end, and the bound there. Each holds by
 -- computing.
 use Rattle.std.specs.Prelude.{◌≡◌, true, false, Some, None, List, [], ◌∷◌, replicate, refl}
+use Rattle.pp_settings.specs.declared.span.Span.TheVariants.{Endless}
 use Rattle.pp_model.specs.declared.moves.Move.{Move}
 use Rattle.pp_model.specs.declared.moves.Move.TheVariants.{Take, Fix, WriteDone, ReadDone, Unfix, Latch, Unlatch}
 use Rattle.pp_model.specs.declared.moves.Move.TheVariants.{Unwind, Finish}
@@ -238,6 +239,16 @@ too_many = refl
 
 not_too_many : submit_error (with_plans (start 3 []) (replicate 255 (nothing 3))) (nothing 3) ≡ None
 not_too_many = refl
+
+-- In an endless life in which one plan may wait, a second is one too many, until the first is taken.
+abbrev endless_start : State
+endless_start = with_plans (opening (record (settings_of 3) { span = Endless 1 })) (nothing 3 ∷ [])
+
+one_waits : submit_error endless_start (nothing 3) ≡ Some TooManyPlans
+one_waits = refl
+
+none_waits : submit_error (state_after endless_start (Take 0 ∷ [])) (nothing 3) ≡ None
+none_waits = refl
 
 too_long : submit_error (start 3 (long 3 1000000 ∷ [])) (long 3 1000000) ≡ Some JournalLimit
 too_long = refl

@@ -6,7 +6,7 @@ use Rattle.pp_settings.specs.declared.span.Span.{Span}
 use Rattle.pp_settings.specs.declared.span.Span.TheVariants.{Bounded, Endless}
 use Rattle.pp_cert.specs.Accepted.{Acceptance}
 use Rattle.pp_model.specs.Budget.{cost_of}
-use Rattle.pp_model.specs.Submitting.{counted_plans, most_counted, most_events}
+use Rattle.pp_model.specs.Submitting.{counted_plans, plan_limit, most_events}
 use Rattle.pp_model.specs.Reached.{flush_limit}
 
 -- The most events of any life.
@@ -25,12 +25,12 @@ fewer_count Bounded n i j le = omega arith
 fewer_count (Endless waiting) n i j le = omega (arith, le)
 
 -- One plan more is within the limit where fewer counted.
-pub one_more : (k : Span) (n i : ℕ) → counted_plans k n i < most_counted k → counted_plans k (n + 1) i ≤ most_counted k
+pub one_more : (k : Span) (n i : ℕ) → counted_plans k n i < plan_limit k → counted_plans k (n + 1) i ≤ plan_limit k
 one_more Bounded n i lt = omega (arith, lt)
 one_more (Endless waiting) n i lt = omega (arith, lt)
 
 -- With no plan none counts.
-pub none_count : (k : Span) → counted_plans k 0 0 ≤ most_counted k
+pub none_count : (k : Span) → counted_plans k 0 0 ≤ plan_limit k
 none_count Bounded = omega arith
 none_count (Endless waiting) = omega arith
 
@@ -45,6 +45,6 @@ waits_count Bounded n m = omega arith
 waits_count (Endless waiting) n m = omega arith
 
 -- Where fewer count than may in a bounded life, there are fewer than 256.
-pub bounded_count : (k : Span) (n i : ℕ) → k ≡ Bounded → counted_plans k n i < most_counted k → n < 256
+pub bounded_count : (k : Span) (n i : ℕ) → k ≡ Bounded → counted_plans k n i < plan_limit k → n < 256
 bounded_count Bounded n i e lt = omega (arith, lt)
 bounded_count (Endless waiting) n i e lt = cc

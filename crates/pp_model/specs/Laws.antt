@@ -280,7 +280,7 @@ MarksFollow s =
     → known_mark s page ≡ mark_after s.plans o es page
 
 -- No mark comes near 2^64: a mark and the bound on the moves that are left come together to at most 2^63 and the most
--- events of a journal.
+-- events besides submits of a life.
 abbrev pub MarksAreSmall : State → Type 0
 MarksAreSmall s = (page mark : ℕ) → known_mark s page ≡ Some mark → mark + bound s ≤ 2 ^ 63 + most_events s.settings.span
 

@@ -10,12 +10,12 @@ use Rattle.pp_model.specs.Pool.{State, Settings, opening}
 use Rattle.pp_model.specs.Journals.{IsJournalFrom}
 use Rattle.pp_model.specs.Lives.{Life, AreLives, after_lives}
 
--- The most flushes of one life.
+-- The most flushes of one life. Each takes two events: in an endless one half of all that it may have.
 abbrev pub flush_limit : Span → ℕ
 flush_limit Bounded = most_flushes
 flush_limit (Endless waiting) = 2 ^ 59
 
--- Where a life is endless, 1 to 1,048,576 plans may wait at a time.
+-- Where a life is endless, 1 to 1,048,576 plans may wait at a time: a host keeps a number for each.
 abbrev pub IsSpan : Span → Type 0
 IsSpan Bounded = Unit {0}
 IsSpan (Endless waiting) = (1 ≤ waiting) × (waiting ≤ 2 ^ 20)

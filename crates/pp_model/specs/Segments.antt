@@ -1,11 +1,13 @@
--- Segments of a journal: what a host takes out of a pool one after the other, each with the state to which it leads.
+-- Segments of the journal of one life, one after the other, each with the state to which it leads.
 use Rattle.std.specs.Prelude.{List, [], ◌∷◌, ◌++◌}
 use Rattle.pp_model.specs.declared.event.Event.{Event}
 use Rattle.pp_model.specs.Pool.{State}
 use Rattle.pp_model.specs.Journals.{IsJournalFrom}
 
 pub record Segment : Type 0 where
+  -- what was done in it
   pub events : List Event
+  -- the state to which that leads
   pub end : State
 
 -- The first begins in this state, and each other one where the one before it ended. Of each the events are a true journal.

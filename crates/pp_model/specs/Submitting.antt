@@ -21,12 +21,12 @@ counted_plans Bounded submitted taken = submitted
 counted_plans (Endless waiting) submitted taken = submitted - taken
 
 -- The most plans that may count.
-abbrev pub most_counted : Span → ℕ
-most_counted Bounded = most_plans
-most_counted (Endless waiting) = waiting
+abbrev pub plan_limit : Span → ℕ
+plan_limit Bounded = most_plans
+plan_limit (Endless waiting) = waiting
 
 -- The most events besides submits that a life may have. An endless one would have 2^61 after 73 years, with a thousand million
--- a second.
+-- a second; by that bound no mark comes near 2^64, and sums of bounds fit 64 bits.
 abbrev pub most_events : Span → ℕ
 most_events Bounded = 4000000
 most_events (Endless waiting) = 2 ^ 61
@@ -42,7 +42,7 @@ error_where true false false = None
 abbrev pub submit_error : State → Acceptance → Option SubmitError
 submit_error s a =
     error_where (same_layout s.settings.layout a.plan.layout)
-    (nat_le (most_counted s.settings.span) (counted_plans s.settings.span (length s.plans) s.taken))
+    (nat_le (plan_limit s.settings.span) (counted_plans s.settings.span (length s.plans) s.taken))
     (nat_lt (most_events s.settings.span) (journal_need s.settings s.plans + cost_of a))
 
 -- The plan waits behind the others.

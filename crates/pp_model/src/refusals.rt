@@ -145,7 +145,7 @@ pub enum SubmitError {
     /// It was accepted under another layout than the pool's.
     #[error("the plan was accepted under other settings")]
     OtherSettings,
-    /// As many plans were submitted in this life as a pool keeps.
+    /// As many plans were submitted in this life as it takes in, or wait as may.
     #[error("as many plans were submitted as a pool keeps")]
     TooManyPlans,
     /// The events of all plans and flushes would not fit a journal.

@@ -14,7 +14,7 @@ use Rattle.pp_model.specs.declared.event.Event.TheVariants.{Submit, Step}
 use Rattle.pp_model.specs.Pool.{State, Settings}
 use Rattle.pp_model.specs.Budget.{cost_of, bound}
 use Rattle.pp_model.specs.Moves.{reply_of, next_of, is_possible, IsPossible}
-use Rattle.pp_model.specs.Submitting.{counted_plans, most_counted, submit_error, submitted_unless, after_submit}
+use Rattle.pp_model.specs.Submitting.{counted_plans, plan_limit, submit_error, submitted_unless, after_submit}
 use Rattle.pp_model.specs.Journals.{after_plan, replay, IsTrueFrom, IsJournalFrom}
 use Rattle.pp_model.specs.Reached.{IsReached}
 use Rattle.pp_model.proofs.Alone.{settings_stay, submit_leaves}
@@ -239,10 +239,10 @@ module _ (b : Parts) (k : IsBook b) (asked : Request) (v : vault.Parts)
 -- ---- a plan
 
 -- As many plans count as were submitted where the life is bounded.
-few_in : (k : Span) (submitted taken : ℕ) → k ≡ Bounded → counted_plans k submitted taken ≤ most_counted k
+few_in : (k : Span) (submitted taken : ℕ) → k ≡ Bounded → counted_plans k submitted taken ≤ plan_limit k
     → submitted ≤ 256
 few_in k submitted taken bounded h =
-    subst (λ (j : Span). counted_plans j submitted taken ≤ most_counted j) bounded h
+    subst (λ (j : Span). counted_plans j submitted taken ≤ plan_limit j) bounded h
 
 greatest_more : (n : ℕ) (plans : List Acceptance) (a : Acceptance)
     → greatest_from n (plans ++ a ∷ []) ≡ max (greatest_from n plans) (cost_of a)

@@ -9,7 +9,7 @@ use Rattle.pp_pool.specs.declared.error.BookError.{BookError}
 use Rattle.pp_pool.specs.declared.error.BookError.TheVariants.{OutOfMemory, Refused}
 use Rattle.pp_pool.specs.Parts.{Parts, settings_of, plans_of, state_of}
 
--- The plan is taken in under the number of plans before it, which is less than the most that a pool keeps. It waits
+-- The plan is taken in under the number of plans before it, which is less than the most that a bounded life takes in. It waits
 -- behind the others, and the journal grows by its number.
 pub record TakesIn (old : Parts) (a : Acceptance) (number : ℕ) (new : Parts) : Type 0 where
   pub allowed : submit_error (state_of old) a ≡ None

@@ -1,4 +1,4 @@
--- In the true journal of a life no plan has a number past the most plans that a life takes in.
+-- In the true journal of a bounded life no plan has a number past the most plans that it takes in.
 use Rattle.std.proofs.Common.{◌≡◌, ◌∙◌, ◌+◌, ◌≤◌, ◌<◌, ◌^◌, ℕ, Bool, true, false, Option, Some, None, List, [], ◌∷◌, length}
 use Rattle.std.proofs.Common.{length-append, refl, sym, ap, subst, arith}
 use Rattle.std.specs.Prelude.{slice_get, nat_le, nat_lt, IsTrue}
@@ -18,7 +18,7 @@ use Rattle.pp_model.specs.Pool.{Running, Settings, State}
 use Rattle.pp_model.specs.Budget.{cost_of, journal_need}
 use Rattle.pp_model.specs.Moves.{seat_of, reply_of}
 use Rattle.pp_model.specs.Shapes.{fits_reply}
-use Rattle.pp_model.specs.Submitting.{counted_plans, most_counted, most_events, error_where, submit_error, submitted_unless, after_submit}
+use Rattle.pp_model.specs.Submitting.{counted_plans, plan_limit, most_events, error_where, submit_error, submitted_unless, after_submit}
 use Rattle.pp_model.specs.Taking.{has_room, take_where, take_by}
 use Rattle.pp_model.specs.Journals.{after_plan, after_event, replay, IsTrueAt, IsTrueFrom}
 use Rattle.pp_model.proofs.Journeys.{same_plans, same_settings}
@@ -41,7 +41,7 @@ few_submitted s a few e =
     let same = same_layout s.settings.layout a.plan.layout in
     let need = journal_need s.settings s.plans + cost_of a in
     let bounded : error_where same (nat_le 256 (length s.plans)) (nat_lt 4000000 need) ≡ None
-    = subst (λ (k : Span). error_where same (nat_le (most_counted k) (counted_plans k (length s.plans) s.taken))
+    = subst (λ (k : Span). error_where same (nat_le (plan_limit k) (counted_plans k (length s.plans) s.taken))
     (nat_lt (most_events k) need) ≡ None) few.span e in
     let fewer : length s.plans < 256
     = leb-false 256 (length s.plans) (not_many same (nat_le 256 (length s.plans)) (nat_lt 4000000 need) bounded) in

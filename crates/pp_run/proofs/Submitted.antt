@@ -10,7 +10,7 @@ use Rattle.pp_cert.specs.Walk.{same_layout}
 use Rattle.pp_model.specs.declared.refusals.SubmitError.{SubmitError}
 use Rattle.pp_model.specs.Pool.{State}
 use Rattle.pp_model.specs.Budget.{bound, cost_of, journal_need}
-use Rattle.pp_model.specs.Submitting.{counted_plans, most_counted, most_events, error_where, submit_error, submitted, unless_refused, after_submits}
+use Rattle.pp_model.specs.Submitting.{counted_plans, plan_limit, most_events, error_where, submit_error, submitted, unless_refused, after_submits}
 use Rattle.pp_model.proofs.BoundSteps.{submit_bound, submit_need}
 use Rattle.pp_text.specs.Steps.{◌>>=◌}
 use Rattle.pp_model.specs.declared.event.Event.TheVariants.{Submit}
@@ -34,7 +34,7 @@ fault_is g count need s a h =
     ∙ ap (λ n. error_where (same_layout s.settings.layout a.plan.layout) (nat_le 256 (length s.plans)) (nat_lt 4000000 (n + cost_of a)))
     (sym h.events)
     ∙ ap (λ (k : Span). error_where (same_layout s.settings.layout a.plan.layout)
-    (nat_le (most_counted k) (counted_plans k (length s.plans) s.taken))
+    (nat_le (plan_limit k) (counted_plans k (length s.plans) s.taken))
     (nat_lt (most_events k) (journal_need s.settings s.plans + cost_of a))) (sym h.span))
 
 -- After it there is one plan more, and the need is greater by its cost.
