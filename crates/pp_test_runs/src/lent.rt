@@ -14,8 +14,8 @@ pub struct Lent<'a, R> {
     rt: R,
     board: &'a Board,
     player: Player<'a, R>,
-    /// The plan that it was told of last.
-    plan: u64,
+    /// The plan that it was told of last. A life takes 256.
+    plan: u32,
 }
 
 impl<'a, R: Clock> Lent<'a, R> {
@@ -42,12 +42,12 @@ impl<'a, R: Clock> Work for Lent<'a, R> {
     ghost wants_rework_gives = { λ wanted. Unit {0} };
 
     fn begins(&mut self, plan: u64) {
-        self.plan = plan;
-        self.board.meet(&self.rt, Call::Begin, plan as u32);
+        self.plan = (plan % 256) as u32;
+        self.board.meet(&self.rt, Call::Begin, self.plan);
     }
 
     fn ended(&mut self, _end: End) {
-        self.board.meet(&self.rt, Call::End, self.plan as u32);
+        self.board.meet(&self.rt, Call::End, self.plan);
     }
 
     fn page(&mut self, region: u8, first: u32, count: u32) -> u32 {
