@@ -53,26 +53,26 @@ use Rattle.pp_core.proofs.Gathered.{asks_low}
 pub record Kept (f : Parts) (s : State) (w : ℕ) (r : Running) : Type 0 where
   pub seat : Seat
   pub is_in : IsIn f w seat
-  pub fits : FitsRunning s.plans seat r
+  pub fits : FitsRunning f.plans seat r
 
 kept_of : (f : Parts) (s : State) (w : ℕ) (r : Running) (x : Option Seat) → slice_get f.seats w ≡ Some x
-    → FitsSeat s.plans x (Some r) → Kept f s w r
+    → FitsSeat f.plans x (Some r) → Kept f s w r
 kept_of f s w r None e h = absurd h
 kept_of f s w r (Some x) e h = record { seat = x; is_in = e; fits = h }
 
 pub kept : (f : Parts) (s : State) (w : ℕ) (r : Running) → StandsFor f s → seat_of s w ≡ Some (Some r) → Kept f s w r
 kept f s w r st e =
-    let there = seat_to s.plans f.seats s.seats w (Some r) st.seats e in
+    let there = seat_to f.plans f.seats s.seats w (Some r) st.seats e in
     kept_of f s w r there.0 there.1 there.2
 
 same_running : (o : Option (Option Running)) (r q : Running) → o ≡ Some (Some r) → o ≡ Some (Some q) → q ≡ r
 same_running o r q e f = cc
 
 pub fits_running : (f : Parts) (s : State) (w : ℕ) (x : Seat) (r : Running) → StandsFor f s → IsIn f w x
-    → seat_of s w ≡ Some (Some r) → FitsRunning s.plans x r
+    → seat_of s w ≡ Some (Some r) → FitsRunning f.plans x r
 fits_running f s w x r st is_in e =
     let two = both f s w x st is_in in
-    subst (FitsRunning s.plans x) (same_running (seat_of s w) r two.running e two.there) two.fits
+    subst (FitsRunning f.plans x) (same_running (seat_of s w) r two.running e two.there) two.fits
 
 pub same_plan : (o : Option Acceptance) (a b : Acceptance) → o ≡ Some a → o ≡ Some b → a ≡ b
 same_plan o a b e f = cc
@@ -146,7 +146,7 @@ pub can_act : (f : Parts) (s : State) (w : ℕ) (r : Running) (a : Action) → S
 can_act f s w r a st e acts due =
     let k = kept f s w r st e in
     let x = k.seat in
-    let may = may_do s.plans x r a k.fits due in
+    let may = may_do f.plans x r a k.fits due in
     record {
       seat = x;
       accepted = r.accepted;
@@ -165,7 +165,7 @@ pub can_act_then : (f : Parts) (s : State) (w : ℕ) (r : Running) (x : Seat) (a
     → seat_of s w ≡ Some (Some r) → IsDue r a → CanAct (at_phase f w x Acting) w a
 can_act_then f s w r x a st is_in e due =
     let fits = fits_running f s w x r st is_in e in
-    let may = may_do s.plans x r a fits due in
+    let may = may_do f.plans x r a fits due in
     record {
       seat = record x { phase = Acting };
       accepted = r.accepted;
@@ -188,10 +188,11 @@ acted_then f g w x a is_in h =
     record {
       seat = x;
       accepted = h.accepted;
-      runs = record { is_in = is_in; plan = ap (λ (y : Seat). slice_get f.plans y.plan) (sym now) ∙ h.runs.plan };
+      runs = record { is_in = is_in; plan = ap (λ (y : Seat). slice_get f.plans y.place) (sym now) ∙ h.runs.plan };
       after = h.after;
       did = record {
         number = did.number;
+        place = did.place;
         cursor = did.cursor;
         ask = did.ask;
         actions = did.actions;
@@ -212,20 +213,20 @@ SlotsFollow r a =
 
 pub acted_crew : (f g : Parts) (s : State) (w : ℕ) (r : Running) (a : Action) → StandsFor f s → Acted f g w a
     → seat_of s w ≡ Some (Some r) → IsOnPlan r.stage → SlotsFollow r a
-    → FitsCrew s.plans g.seats (slice_set s.seats w (Some (having_done r a)))
+    → FitsCrew f.plans g.seats (slice_set s.seats w (Some (having_done r a)))
 acted_crew f g s w r a st acted e on follow =
     let x = acted.seat in
     let fits = fits_running f s w x r st acted.runs.is_in e in
     let plan : acted.accepted ≡ r.accepted =
-    same_plan (slice_get f.plans x.plan) acted.accepted r.accepted acted.runs.plan
+    same_plan (slice_get f.plans x.place) acted.accepted r.accepted acted.runs.plan
     (runs f s w x r st acted.runs.is_in fits).plan in
     let did : Did r.accepted.plan x acted.after a =
     subst (λ (b : Acceptance). Did b.plan x acted.after a) plan acted.did in
     let slots = follow x.slots x.holds fits.width fits.slots fits.holds in
     let more : length r.done + 1 ≡ length (r.done ++ a ∷ []) = omega (arith, length-append r.done (a ∷ [])) in
-    let after = acted_fits s.plans x acted.after r a fits (cursor_of s.plans x r fits on) did slots.0 slots.1 more in
-    subst (λ (xs : List (Option Seat)). FitsCrew s.plans xs (slice_set s.seats w (Some (having_done r a))))
-    (sym acted.seats) (seat_set s.plans f.seats s.seats w (Some acted.after) (Some (having_done r a)) st.seats after)
+    let after = acted_fits f.plans x acted.after r a fits (cursor_of f.plans x r fits on) did slots.0 slots.1 more in
+    subst (λ (xs : List (Option Seat)). FitsCrew f.plans xs (slice_set s.seats w (Some (having_done r a))))
+    (sym acted.seats) (seat_set f.plans f.seats s.seats w (Some acted.after) (Some (having_done r a)) st.seats after)
 
 -- ---- each action
 

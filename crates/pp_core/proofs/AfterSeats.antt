@@ -1,5 +1,5 @@
 -- What is told of a worker, by its seat; and the seats, slots and marks that a move writes.
-use Rattle.std.proofs.Common.{◌≡◌, ◌≢◌, ◌∙◌, ◌<◌, ℕ, zero, suc, ◌+◌, Bool, true, false, eqb, cond, Option, Some, None}
+use Rattle.std.proofs.Common.{◌≡◌, ◌≢◌, ◌∙◌, ◌<◌, ℕ, ◌+◌, Bool, true, false, eqb, cond, Option, Some, None}
 use Rattle.std.proofs.Common.{List, [], ◌∷◌, length, refl, sym, ap, subst, arith}
 use Rattle.std.specs.Prelude.{slice_get, slice_set, option_and_then, unwrap_or, if◌then◌else◌, is_some, IsSome}
 use Rattle.std.proofs.lemmas.Bool.{eqb-true}

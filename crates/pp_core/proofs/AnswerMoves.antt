@@ -1,5 +1,5 @@
 -- What a device answers to a worker's errand: what the core's calls need, and that its parts stand for the next state.
-use Rattle.std.proofs.Common.{◌≡◌, ◌∙◌, ℕ, ◌+◌, ◌-◌, ◌*◌, ◌<◌, ◌≤◌, Bool, true, false, Option, Some, None, [], ◌∷◌}
+use Rattle.std.proofs.Common.{◌≡◌, ◌∙◌, ℕ, ◌+◌, ◌-◌, ◌*◌, ◌<◌, ◌≤◌, Bool, true, false, Option, Some, None, List, [], ◌∷◌}
 use Rattle.std.proofs.Common.{length}
 use Rattle.std.proofs.Common.{refl, sym, ap, subst, arith}
 use Rattle.std.specs.Prelude.{slice_get, slice_set, option_map, option_and_then, unwrap_or, Result, Ok, Err, not, ◌||◌, ◌==◌}
@@ -69,7 +69,7 @@ pub record Errand (f : Parts) (s : State) (w : ℕ) (g : Stage) : Type 0 where
   pub is_in : IsIn f w seat
   pub running : Running
   pub at : IsAt s w running g
-  pub fits : FitsRunning s.plans seat running
+  pub fits : FitsRunning f.plans seat running
 
 fits_writing : (p : Phase) (g : Stage) (slot page v : ℕ) → p ≡ Writing slot page v → FitsStage p g
     → g ≡ writing slot page v
@@ -166,24 +166,24 @@ no_writing s w ok r Leaving (writing t x u) cause h e = absurd h
 no_writing s w ok r Leaving (reading t x) cause h e = absurd h
 no_writing s w ok r Leaving (leaving given) cause h e = ap (off_plan s) cc
 
-no_writing_seat : (s : State) (w : ℕ) (ok : Bool) (x : Option Seat) (y : Option Running) (cause : Cause)
-    → FitsSeat s.plans x y
+no_writing_seat : (ps : List Acceptance) (s : State) (w : ℕ) (ok : Bool) (x : Option Seat) (y : Option Running) (cause : Cause)
+    → FitsSeat ps x y
     → ◌≡◌ {A = Result Write Cause} (writing_of (Some (option_map (λ (z : Seat). z.phase) x))) (Err cause)
     → write_by s w ok (Some y) ≡ off_plan s cause
-no_writing_seat s w ok None None cause h e = ap (off_plan s) cc
-no_writing_seat s w ok None (Some r) cause h e = absurd h
-no_writing_seat s w ok (Some x) None cause h e = absurd h
-no_writing_seat s w ok (Some x) (Some r) cause h e = no_writing s w ok r x.phase r.stage cause h.phase e
+no_writing_seat ps s w ok None None cause h e = ap (off_plan s) cc
+no_writing_seat ps s w ok None (Some r) cause h e = absurd h
+no_writing_seat ps s w ok (Some x) None cause h e = absurd h
+no_writing_seat ps s w ok (Some x) (Some r) cause h e = no_writing s w ok r x.phase r.stage cause h.phase e
 
 no_writing_by : (f : Parts) (s : State) (w : ℕ) (ok : Bool) (cause : Cause) (o : Option (Option Seat)) → StandsFor f s
     → slice_get f.seats w ≡ o
     → ◌≡◌ {A = Result Write Cause} (writing_of (option_map (option_map (λ (x : Seat). x.phase)) o)) (Err cause)
     → write_by s w ok (seat_of s w) ≡ off_plan s cause
 no_writing_by f s w ok cause None st e h =
-    ap (write_by s w ok) (seat_none s.plans f.seats s.seats w st.seats e) ∙ ap (off_plan s) cc
+    ap (write_by s w ok) (seat_none f.plans f.seats s.seats w st.seats e) ∙ ap (off_plan s) cc
 no_writing_by f s w ok cause (Some x) st e h =
-    let there = seat_from s.plans f.seats s.seats w x st.seats e in
-    ap (write_by s w ok) there.1 ∙ no_writing_seat s w ok x there.0 cause there.2 h
+    let there = seat_from f.plans f.seats s.seats w x st.seats e in
+    ap (write_by s w ok) there.1 ∙ no_writing_seat f.plans s w ok x there.0 cause there.2 h
 
 pub write_refused : (f : Parts) (w : ℕ) (ok : Bool) (cause : Cause)
     → ◌≡◌ {A = Result Write Cause} (writing_of (phase_of f w)) (Err cause) → Moves f (move.WriteDone w ok)
@@ -208,24 +208,24 @@ no_reading s w came r Leaving (writing t x u) cause h e = absurd h
 no_reading s w came r Leaving (reading t x) cause h e = absurd h
 no_reading s w came r Leaving (leaving given) cause h e = ap (off_plan s) cc
 
-no_reading_seat : (s : State) (w : ℕ) (came : Came) (x : Option Seat) (y : Option Running) (cause : Cause)
-    → FitsSeat s.plans x y
+no_reading_seat : (ps : List Acceptance) (s : State) (w : ℕ) (came : Came) (x : Option Seat) (y : Option Running) (cause : Cause)
+    → FitsSeat ps x y
     → ◌≡◌ {A = Result Read Cause} (reading_of (Some (option_map (λ (z : Seat). z.phase) x))) (Err cause)
     → read_by s w came (Some y) ≡ off_plan s cause
-no_reading_seat s w came None None cause h e = ap (off_plan s) cc
-no_reading_seat s w came None (Some r) cause h e = absurd h
-no_reading_seat s w came (Some x) None cause h e = absurd h
-no_reading_seat s w came (Some x) (Some r) cause h e = no_reading s w came r x.phase r.stage cause h.phase e
+no_reading_seat ps s w came None None cause h e = ap (off_plan s) cc
+no_reading_seat ps s w came None (Some r) cause h e = absurd h
+no_reading_seat ps s w came (Some x) None cause h e = absurd h
+no_reading_seat ps s w came (Some x) (Some r) cause h e = no_reading s w came r x.phase r.stage cause h.phase e
 
 no_reading_by : (f : Parts) (s : State) (w : ℕ) (came : Came) (cause : Cause) (o : Option (Option Seat)) → StandsFor f s
     → slice_get f.seats w ≡ o
     → ◌≡◌ {A = Result Read Cause} (reading_of (option_map (option_map (λ (x : Seat). x.phase)) o)) (Err cause)
     → read_by s w came (seat_of s w) ≡ off_plan s cause
 no_reading_by f s w came cause None st e h =
-    ap (read_by s w came) (seat_none s.plans f.seats s.seats w st.seats e) ∙ ap (off_plan s) cc
+    ap (read_by s w came) (seat_none f.plans f.seats s.seats w st.seats e) ∙ ap (off_plan s) cc
 no_reading_by f s w came cause (Some x) st e h =
-    let there = seat_from s.plans f.seats s.seats w x st.seats e in
-    ap (read_by s w came) there.1 ∙ no_reading_seat s w came x there.0 cause there.2 h
+    let there = seat_from f.plans f.seats s.seats w x st.seats e in
+    ap (read_by s w came) there.1 ∙ no_reading_seat f.plans s w came x there.0 cause there.2 h
 
 pub read_refused : (f : Parts) (w : ℕ) (came : Came) (cause : Cause)
     → ◌≡◌ {A = Result Read Cause} (reading_of (phase_of f w)) (Err cause) → Moves f (move.ReadDone w came)
@@ -338,7 +338,7 @@ module _ (f : Parts) (w : ℕ) (e : Write) (writes : ◌≡◌ {A = Result Write
       → reply ≡ MustRead (frame_in f.marks e.page) → Moves f (move.WriteDone w true) reply g
   written_moves g reply parts tells = moves_by f g (move.WriteDone w true) reply leads
     where
-      leads : (s : State) → StandsFor f s → Leads s (move.WriteDone w true) reply g
+      leads : (s : State) → StandsFor f s → Leads f s (move.WriteDone w true) reply g
       leads s st =
           let x = there s st in
           let r = x.running in
@@ -374,6 +374,7 @@ module _ (f : Parts) (w : ℕ) (e : Write) (writes : ◌≡◌ {A = Result Write
             after = record { reply = MustRead (frame_at s e.page); state = t };
             is = outcome_is s st true;
             replies = tells ∙ ap MustRead (frame_is s st);
+            plans = ap (λ (z : Parts). z.plans) (parts y x.is_in);
             stands = λ reached. subst (λ (z : Parts). StandsFor z t) (sym (parts y x.is_in))
                 (stands_with f s t (slice_set f.seats w (Some (record y { phase = Reading e.slot e.page }))) f.lists
                 (map.with_dirty f.marks v false) f.bundles (slice_set f.in_flight v false) (f.budget - 1) st reached
@@ -419,7 +420,7 @@ module _ (f : Parts) (w : ℕ) (e : Write) (writes : ◌≡◌ {A = Result Write
       → Moves f (move.WriteDone w false) (Failed WriteFault) g
   brought_moves g parts = moves_by f g (move.WriteDone w false) (Failed WriteFault) leads
     where
-      leads : (s : State) → StandsFor f s → Leads s (move.WriteDone w false) (Failed WriteFault) g
+      leads : (s : State) → StandsFor f s → Leads f s (move.WriteDone w false) (Failed WriteFault) g
       leads s st =
           let x = there s st in
           let r = x.running in
@@ -468,6 +469,7 @@ module _ (f : Parts) (w : ℕ) (e : Write) (writes : ◌≡◌ {A = Result Write
             after = record { reply = Failed WriteFault; state = t };
             is = outcome_is s st false;
             replies = refl;
+            plans = ap (λ (z : Parts). z.plans) (parts y r.accepted (runs f s w y r st x.is_in x.fits));
             stands = λ reached. subst (λ (z : Parts). StandsFor z t)
                 (sym (parts y r.accepted (runs f s w y r st x.is_in x.fits)))
                 (stands_with f s t (slice_set f.seats w (Some (record y { phase = Leaving })))
@@ -526,7 +528,7 @@ module _ (f : Parts) (w : ℕ) (e : Read) (reads : ◌≡◌ {A = Result Read Ca
       → Moves f (move.ReadDone w came) (Failed failure) g
   forgotten_moves g came failure fails parts = moves_by f g (move.ReadDone w came) (Failed failure) leads
     where
-      leads : (s : State) → StandsFor f s → Leads s (move.ReadDone w came) (Failed failure) g
+      leads : (s : State) → StandsFor f s → Leads f s (move.ReadDone w came) (Failed failure) g
       leads s st =
           let x = here s st in
           let r = x.running in
@@ -570,6 +572,7 @@ module _ (f : Parts) (w : ℕ) (e : Read) (reads : ◌≡◌ {A = Result Read Ca
             after = record { reply = Failed failure; state = t };
             is = read_outcome s st came ∙ fails s st;
             replies = refl;
+            plans = ap (λ (z : Parts). z.plans) (parts y r.accepted (runs f s w y r st x.is_in x.fits));
             stands = λ reached. subst (λ (z : Parts). StandsFor z t)
                 (sym (parts y r.accepted (runs f s w y r st x.is_in x.fits)))
                 (stands_with f s t (slice_set f.seats w (Some (record y { phase = Leaving }))) (forget f.lists e.page)
@@ -635,7 +638,7 @@ module _ (f : Parts) (w : ℕ) (e : Read) (reads : ◌≡◌ {A = Result Read Ca
       → Loaded f g w e.slot e.page stamp → Moves f (move.ReadDone w (Image named stamp)) (LoadedAs stamp) g
   loaded_moves g named stamp is load = moves_by f g (move.ReadDone w (Image named stamp)) (LoadedAs stamp) leads
     where
-      leads : (s : State) → StandsFor f s → Leads s (move.ReadDone w (Image named stamp)) (LoadedAs stamp) g
+      leads : (s : State) → StandsFor f s → Leads f s (move.ReadDone w (Image named stamp)) (LoadedAs stamp) g
       leads s st =
           let x = here s st in
           let r = x.running in
@@ -673,6 +676,7 @@ module _ (f : Parts) (w : ℕ) (e : Read) (reads : ◌≡◌ {A = Result Read Ca
             after = record { reply = LoadedAs stamp; state = t };
             is = read_outcome s st (Image named stamp) ∙ image_is s st named stamp false is;
             replies = refl;
+            plans = ap (λ (z : Parts). z.plans) load.rest;
             stands = λ reached. subst (λ (z : Parts). StandsFor z t) (sym load.rest)
                 (stands_with f s t g.seats f.lists (map.with_stamp f.marks e.page (Some stamp))
                 (stacks_after w (fixes (ask_in f w) e.slot e.page) f.bundles) (slice_set f.in_flight e.page false)

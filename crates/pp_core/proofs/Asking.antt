@@ -36,16 +36,16 @@ in_phase f w p e = seat_in_phase f w p (slice_get f.seats w) refl (sym e)
 pub record Both (f : Parts) (s : State) (w : ℕ) (x : Seat) : Type 0 where
   pub running : Running
   pub there : seat_of s w ≡ Some (Some running)
-  pub fits : FitsRunning s.plans x running
+  pub fits : FitsRunning f.plans x running
 
 both_of : (f : Parts) (s : State) (w : ℕ) (x : Seat) (y : Option Running) → seat_of s w ≡ Some y
-    → FitsSeat s.plans (Some x) y → Both f s w x
+    → FitsSeat f.plans (Some x) y → Both f s w x
 both_of f s w x None e h = absurd h
 both_of f s w x (Some r) e h = record { running = r; there = e; fits = h }
 
 pub both : (f : Parts) (s : State) (w : ℕ) (x : Seat) → StandsFor f s → IsIn f w x → Both f s w x
 both f s w x st e =
-    let there = seat_from s.plans f.seats s.seats w (Some x) st.seats e in
+    let there = seat_from f.plans f.seats s.seats w (Some x) st.seats e in
     both_of f s w x there.0 there.1 there.2
 
 -- ---- acting
@@ -60,11 +60,10 @@ stage_acts (Reading s p) g e h = cc
 stage_acts Leaving g e h = cc
 
 pub runs : (f : Parts) (s : State) (w : ℕ) (x : Seat) (r : Running) → StandsFor f s → IsIn f w x
-    → FitsRunning s.plans x r → Runs f w x r.accepted
+    → FitsRunning f.plans x r → Runs f w x r.accepted
 runs f s w x r st is_in fits = record {
   is_in = is_in;
-  plan = ap (λ (n : ℕ). slice_get f.plans n) fits.number ∙ ap (λ (ps : List Acceptance). slice_get ps r.number)
-      st.plans ∙ fits.plan;
+  plan = fits.plan;
 }
 
 pub asks_this : (f : Parts) (w : ℕ) (ask : Ask) → Some (Some Acting) ≡ phase_of f w
@@ -97,21 +96,21 @@ act_elsewhere s act r Leaving (writing t x u) cause h e = absurd h
 act_elsewhere s act r Leaving (reading t x) cause h e = absurd h
 act_elsewhere s act r Leaving (leaving given) cause h e = ap (off_plan s) cc
 
-cannot_seat : (s : State) (act : Running → Outcome) (x : Option Seat) (y : Option Running) (cause : Cause)
-    → FitsSeat s.plans x y → acting_fault (Some (option_map (λ (z : Seat). z.phase) x)) ≡ Some cause
+cannot_seat : (ps : List Acceptance) (s : State) (act : Running → Outcome) (x : Option Seat) (y : Option Running) (cause : Cause)
+    → FitsSeat ps x y → acting_fault (Some (option_map (λ (z : Seat). z.phase) x)) ≡ Some cause
     → act_by s act (Some y) ≡ off_plan s cause
-cannot_seat s act None None cause h e = ap (off_plan s) cc
-cannot_seat s act None (Some r) cause h e = absurd h
-cannot_seat s act (Some x) None cause h e = absurd h
-cannot_seat s act (Some x) (Some r) cause h e = act_elsewhere s act r x.phase r.stage cause h.phase e
+cannot_seat ps s act None None cause h e = ap (off_plan s) cc
+cannot_seat ps s act None (Some r) cause h e = absurd h
+cannot_seat ps s act (Some x) None cause h e = absurd h
+cannot_seat ps s act (Some x) (Some r) cause h e = act_elsewhere s act r x.phase r.stage cause h.phase e
 
 cannot_by : (f : Parts) (w : ℕ) (cause : Cause) (o : Option (Option Seat)) → slice_get f.seats w ≡ o
     → acting_fault (option_map (option_map (λ (x : Seat). x.phase)) o) ≡ Some cause → CannotAct f w cause
 cannot_by f w cause None e h = λ s act st.
-    ap (act_by s act) (seat_none s.plans f.seats s.seats w st.seats e) ∙ ap (off_plan s) cc
+    ap (act_by s act) (seat_none f.plans f.seats s.seats w st.seats e) ∙ ap (off_plan s) cc
 cannot_by f w cause (Some x) e h = λ s act st.
-    let there = seat_from s.plans f.seats s.seats w x st.seats e in
-    ap (act_by s act) there.1 ∙ cannot_seat s act x there.0 cause there.2 h
+    let there = seat_from f.plans f.seats s.seats w x st.seats e in
+    ap (act_by s act) there.1 ∙ cannot_seat f.plans s act x there.0 cause there.2 h
 
 pub cannot : (f : Parts) (w : ℕ) (cause : Cause) → acting_fault (phase_of f w) ≡ Some cause → CannotAct f w cause
 cannot f w cause e = cannot_by f w cause (slice_get f.seats w) refl e

@@ -338,7 +338,7 @@ goes f w cause opens cannot = λ s st.
 
 -- Its seat.
 seat_by : (f : Parts) (s : State) (w : ℕ) (x : Option Seat) (r : Running) → slice_get f.seats w ≡ Some x
-    → FitsSeat s.plans x (Some r) → (y : Seat) × IsIn f w y
+    → FitsSeat f.plans x (Some r) → (y : Seat) × IsIn f w y
 seat_by f s w None r e fits = absurd fits
 seat_by f s w (Some x) r e fits = (x, e)
 
@@ -347,7 +347,7 @@ leaver_seat f w kept can =
     let s = kept.state in
     let o = can s kept.stands in
     let r : Running = o.0 in
-    let there = seat_to s.plans f.seats s.seats w (Some r) kept.stands.seats o.1 in
+    let there = seat_to f.plans f.seats s.seats w (Some r) kept.stands.seats o.1 in
     seat_by f s w there.0 r there.1 there.2
 
 -- The least slot that holds a page is one that the worker holds, and where there is none it holds nothing.
@@ -377,12 +377,12 @@ pub unwinds : (f : Parts) (w slot : ℕ) → CanGo f w
 unwinds f w slot can is = λ s st.
     let o = can s st in
     let r : Running = o.0 in
-    let there = seat_to s.plans f.seats s.seats w (Some r) st.seats o.1 in
+    let there = seat_to f.plans f.seats s.seats w (Some r) st.seats o.1 in
     let at = seat_by f s w there.0 r there.1 there.2 in
     let x : Seat = at.0 in
     let two = both f s w x st at.1 in
     let same : two.running ≡ r = (let a = two.there in let b = o.1 in cc) in
-    let fits : FitsRunning s.plans x r = subst (λ (q : Running). FitsRunning s.plans x q) same two.fits in
+    let fits : FitsRunning f.plans x r = subst (λ (q : Running). FitsRunning f.plans x q) same two.fits in
     o.2.each slot (filled_held (hold_at x.slots slot) (holding_at (holdings r) slot) (fits.slots slot)
     (first_at x.slots slot (is x at.1)))
 
@@ -395,12 +395,12 @@ pub finishes : (f : Parts) (w : ℕ) → CanGo f w → ((x : Seat) → IsIn f w 
 finishes f w can is = λ s st.
     let o = can s st in
     let r : Running = o.0 in
-    let there = seat_to s.plans f.seats s.seats w (Some r) st.seats o.1 in
+    let there = seat_to f.plans f.seats s.seats w (Some r) st.seats o.1 in
     let at = seat_by f s w there.0 r there.1 there.2 in
     let x : Seat = at.0 in
     let two = both f s w x st at.1 in
     let same : two.running ≡ r = (let a = two.there in let b = o.1 in cc) in
-    let fits : FitsRunning s.plans x r = subst (λ (q : Running). FitsRunning s.plans x q) same two.fits in
+    let fits : FitsRunning f.plans x r = subst (λ (q : Running). FitsRunning f.plans x q) same two.fits in
     o.2.last (nothing_held (holdings r) (λ k. empty_holds (hold_at x.slots k) (holding_at (holdings r) k) (fits.slots k)
     (none_at x.slots (is x at.1) k)))
 
@@ -428,12 +428,12 @@ pub leaves_slot : (f : Parts) (w slot : ℕ) → CanGo f w
 leaves_slot f w slot can is = λ s st.
     let o = can s st in
     let r : Running = o.0 in
-    let there = seat_to s.plans f.seats s.seats w (Some r) st.seats o.1 in
+    let there = seat_to f.plans f.seats s.seats w (Some r) st.seats o.1 in
     let at = seat_by f s w there.0 r there.1 there.2 in
     let x : Seat = at.0 in
     let two = both f s w x st at.1 in
     let same : two.running ≡ r = (let a = two.there in let b = o.1 in cc) in
-    let fits : FitsRunning s.plans x r = subst (λ (q : Running). FitsRunning s.plans x q) same two.fits in
+    let fits : FitsRunning f.plans x r = subst (λ (q : Running). FitsRunning f.plans x q) same two.fits in
     let first : Some slot ≡ first_filled x.slots = is x at.1 in (
       r,
       o.1,
@@ -455,12 +455,12 @@ pub leaves_last : (f : Parts) (w : ℕ) → CanGo f w → ((x : Seat) → IsIn f
 leaves_last f w can is = λ s st.
     let o = can s st in
     let r : Running = o.0 in
-    let there = seat_to s.plans f.seats s.seats w (Some r) st.seats o.1 in
+    let there = seat_to f.plans f.seats s.seats w (Some r) st.seats o.1 in
     let at = seat_by f s w there.0 r there.1 there.2 in
     let x : Seat = at.0 in
     let two = both f s w x st at.1 in
     let same : two.running ≡ r = (let a = two.there in let b = o.1 in cc) in
-    let fits : FitsRunning s.plans x r = subst (λ (q : Running). FitsRunning s.plans x q) same two.fits in (
+    let fits : FitsRunning f.plans x r = subst (λ (q : Running). FitsRunning f.plans x q) same two.fits in (
       r,
       o.1,
       o.3,

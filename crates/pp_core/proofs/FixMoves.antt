@@ -278,7 +278,7 @@ module _ (f : Parts) (w page slot region : ℕ) (wants : Ask) (into : AsksIn wan
           → reply ≡ Hit (frame_in f.marks page) (mark_in f.marks page) → Moves f (move.Fix w page) reply g
       hit_moves g reply hit spent tells = moves_by f g (move.Fix w page) reply leads
         where
-          leads : (s : State) → StandsFor f s → Leads s (move.Fix w page) reply g
+          leads : (s : State) → StandsFor f s → Leads f s (move.Fix w page) reply g
           leads s st =
               let h = fix_of s st in
               let r = h.running in
@@ -313,6 +313,7 @@ module _ (f : Parts) (w page slot region : ℕ) (wants : Ask) (into : AsksIn wan
                 after = record { reply = Hit (frame_at s page) (mark_at s page); state = t };
                 is = by_answer s st ∙ ap (fix_by s after w r slot page) hit;
                 replies = tells ∙ (λ i. Hit (frame i) (mark i));
+                plans = ap (λ (z : Parts). z.plans) spent.rest;
                 stands = λ reached. subst (λ (z : Parts). StandsFor z t) (sym spent.rest)
                     (stands_with f s t g.seats after (pinned f.marks page)
                     (stacks_after w (fixes wants slot page) f.bundles) f.in_flight (f.budget - 3) st reached same
@@ -352,7 +353,7 @@ module _ (f : Parts) (w page slot region : ℕ) (wants : Ask) (into : AsksIn wan
           → reply ≡ MustRead (free_frame f.marks) → Moves f (move.Fix w page) reply g
       fill_moves g reply free_answer fills tells = moves_by f g (move.Fix w page) reply leads
         where
-          leads : (s : State) → StandsFor f s → Leads s (move.Fix w page) reply g
+          leads : (s : State) → StandsFor f s → Leads f s (move.Fix w page) reply g
           leads s st =
               let h = fix_of s st in
               let r = h.running in
@@ -389,6 +390,7 @@ module _ (f : Parts) (w page slot region : ℕ) (wants : Ask) (into : AsksIn wan
                 after = record { reply = MustRead (free_frame_of s); state = t };
                 is = by_answer s st ∙ ap (fix_by s after w r slot page) free_answer;
                 replies = tells ∙ ap MustRead (free_told s st);
+                plans = ap (λ (z : Parts). z.plans) (fills x.0 x.1);
                 stands = λ reached. subst (λ (z : Parts). StandsFor z t) (sym (fills x.0 x.1))
                     (stands_with f s t (slice_set f.seats w (Some
                     (record x.0 { phase = Reading slot page }))) after m f.bundles (slice_set f.in_flight page true)
@@ -496,7 +498,7 @@ module _ (f : Parts) (w page slot region : ℕ) (wants : Ask) (into : AsksIn wan
             → reply ≡ MustRead (frame_in f.marks v) → Moves f (move.Fix w page) reply g
         evict_moves g reply clean evicts tells = moves_by f g (move.Fix w page) reply leads
           where
-            leads : (s : State) → StandsFor f s → Leads s (move.Fix w page) reply g
+            leads : (s : State) → StandsFor f s → Leads f s (move.Fix w page) reply g
             leads s st =
                 let h = fix_of s st in
                 let r = h.running in
@@ -526,6 +528,7 @@ module _ (f : Parts) (w page slot region : ℕ) (wants : Ask) (into : AsksIn wan
                   is = by_answer s st ∙ ap (fix_by s after w r slot page) evict
                       ∙ ap (evict_where (with_lists s after) w r slot page v) (sym (dirty_told s st) ∙ clean);
                   replies = tells ∙ ap MustRead (frame_of_victim s st);
+                  plans = ap (λ (z : Parts). z.plans) (evicts x.0 x.1);
                   stands = λ reached. subst (λ (z : Parts). StandsFor z t) (sym (evicts x.0 x.1))
                       (stands_with f s t (slice_set f.seats w (Some (record x.0 { phase = Reading slot page }))) after
                       (taken_over f.marks page v) f.bundles (slice_set f.in_flight page true) (f.budget - 2)
@@ -538,7 +541,7 @@ module _ (f : Parts) (w page slot region : ℕ) (wants : Ask) (into : AsksIn wan
             → reply ≡ MustWrite (frame_in f.marks v) v → Moves f (move.Fix w page) reply g
         send_moves g reply changed sends tells = moves_by f g (move.Fix w page) reply leads
           where
-            leads : (s : State) → StandsFor f s → Leads s (move.Fix w page) reply g
+            leads : (s : State) → StandsFor f s → Leads f s (move.Fix w page) reply g
             leads s st =
                 let h = fix_of s st in
                 let r = h.running in
@@ -575,6 +578,7 @@ module _ (f : Parts) (w page slot region : ℕ) (wants : Ask) (into : AsksIn wan
                   is = by_answer s st ∙ ap (fix_by s after w r slot page) evict
                       ∙ ap (evict_where (with_lists s after) w r slot page v) (sym (dirty_told s st) ∙ changed);
                   replies = tells ∙ ap (λ (n : ℕ). MustWrite n v) frame;
+                  plans = ap (λ (z : Parts). z.plans) (sends x.0 x.1);
                   stands = λ reached. subst (λ (z : Parts). StandsFor z t) (sym (sends x.0 x.1))
                       (stands_with f s t (slice_set f.seats w (Some (record x.0 { phase = Writing slot page v }))) after
                       (taken_over f.marks page v) f.bundles (slice_set (slice_set f.in_flight page true) v true)

@@ -33,6 +33,7 @@ use Rattle.pp_core.specs.FlushEffects.{is_changed, flush_begun, is_clean, flush_
 use Rattle.pp_core.specs.Effects.{mark_at as mark_in}
 use Rattle.pp_core.proofs.Gathered.{bundles_kept}
 use Rattle.pp_core.proofs.Crew.{set_length}
+use Rattle.pp_core.proofs.PlanTies.{plans_stay}
 use Rattle.pp_core.proofs.Ties.{Leads, moves_by, refuses}
 use Rattle.pp_core.proofs.UsingMoves.{mark_told}
 
@@ -56,13 +57,12 @@ pub flush_stands : (f : Parts) (s t : State) (m : PageMap) (flush : Option Flush
 flush_stands f s t m flush left b st reached same marked_so flushed so_many bounded = record {
   reached = reached;
   layout = st.layout ∙ sym (ap (λ k. k.layout) same.settings);
+  span = st.span ∙ sym (ap (λ k. k.span) same.settings);
   flushes = st.flushes ∙ sym (ap (λ k. k.flushes) same.settings);
-  span = ap (λ k. k.span) same.settings ∙ st.span;
   flushes_left = so_many;
-  plans = st.plans ∙ sym same.plans;
+  plans = plans_stay f.plans f.waiting s t st.plans same.settings same.plans same.taken;
   taken = st.taken ∙ sym same.taken;
-  seats = subst (λ ps. FitsCrew ps f.seats t.seats) (sym same.plans)
-      (subst (λ (ys : List (Option Running)). FitsCrew s.plans f.seats ys) (sym same.seats) st.seats);
+  seats = subst (λ (ys : List (Option Running)). FitsCrew f.plans f.seats ys) (sym same.seats) st.seats;
   lists = st.lists ∙ sym same.lists;
   marks = marked_so;
   bundles = bundles_kept f.bundles s t st.bundles same.seats same.settings;
@@ -105,7 +105,7 @@ module _ (f : Parts) (x : Flush) (ok : Bool) (here : f.flush ≡ Some x) where
       ap (flushed_by s ok) (flush_is f s x st here) ∙ ap (flushed_where s x.page) (sym (e ∙ same_clean s st))
 
   leads : (s : State) (clean : Bool) → StandsFor f s → clean ≡ is_clean f.marks ok x
-      → Leads s (move.FlushDone ok) (Flushed clean) (flush_ended f x.page clean)
+      → Leads f s (move.FlushDone ok) (Flushed clean) (flush_ended f x.page clean)
   leads s true st e =
       let k = in_flight_as x in
       let t = (flushed_where s x.page true).state in
@@ -114,6 +114,7 @@ module _ (f : Parts) (x : Flush) (ok : Bool) (here : f.flush ≡ Some x) where
         after = flushed_where s x.page true;
         is = ends s true st e;
         replies = refl;
+        plans = refl;
         stands = λ reached. flush_stands f s t (map.with_dirty f.marks x.page false) None f.flushes_left (f.budget - 1)
             st reached
             (record {
@@ -137,6 +138,7 @@ module _ (f : Parts) (x : Flush) (ok : Bool) (here : f.flush ≡ Some x) where
         after = flushed_where s x.page false;
         is = ends s false st e;
         replies = refl;
+        plans = refl;
         stands = λ reached. flush_stands f s t f.marks None f.flushes_left (f.budget - 1) st reached
             (record {
               settings = refl;
@@ -238,7 +240,7 @@ module _ (f : Parts) (page : ℕ) where
       begin_outcome s st = begins s true true false st changed (some_left left) (same_latch s st changed ∙ unlatched)
 
       begin_leads : (s : State) (mark : ℕ) → StandsFor f s → mark ≡ mark_in f.marks page
-          → Leads s (move.FlushBegin page) (Flushing mark) (flush_begun f page mark)
+          → Leads f s (move.FlushBegin page) (Flushing mark) (flush_begun f page mark)
       begin_leads s mark st e =
           let t = flush_begun_in s page in
           let at : mark ≡ mark_at s page =
@@ -247,6 +249,7 @@ module _ (f : Parts) (page : ℕ) where
             after = record { reply = Flushing (mark_at s page); state = t };
             is = begin_outcome s st;
             replies = ap Flushing at;
+            plans = refl;
             stands = λ reached. flush_stands f s t f.marks (Some (record { page = page; began = mark }))
                 (f.flushes_left - 1) (f.budget - 1) st reached
                 (record {

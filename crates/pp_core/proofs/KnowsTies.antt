@@ -1,7 +1,7 @@
 -- What the search for a victim knows, as pins come and go and a flush begins and ends.
-use Rattle.std.proofs.Common.{◌≡◌, ◌≢◌, ℕ, ◌+◌, ◌-◌, ◌<◌, ◌≤◌, Bool, true, false, eqb, List, length, refl, sym, ap, subst, ◌∙◌}
+use Rattle.std.proofs.Common.{◌≡◌, ◌≢◌, ℕ, ◌<◌, ◌≤◌, Bool, true, false, eqb, List, length, refl, sym, ap, subst}
 use Rattle.std.proofs.Common.{inl, inr, arith, get_or, get_or-set_same, get_or-set_other}
-use Rattle.std.specs.Prelude.{Option, Some, None, nat_lt, ◌||◌}
+use Rattle.std.specs.Prelude.{Option, Some, None, nat_lt}
 use Rattle.std.proofs.lemmas.Bool.{cases_Bool, cases_lt, lt-ltb, ltb-true}
 use Rattle.std.proofs.lemmas.Bool.Decides.{eqb_tells}
 use Rattle.std.proofs.lemmas.List.{set_past}
@@ -10,8 +10,7 @@ use Rattle.pp_arc.specs.Search.{SearchMarks, KnowsBusy}
 use Rattle.pp_arc.proofs.VictimLemmas.{or_right}
 use Rattle.pp_arc.proofs.SearchLemmas.{KnowsBusy-more, Keeps}
 use Rattle.pp_frames.specs.Marks.{PageMap, PageMarks, pins_of, marks_of, with_marks, untouched_marks, Latches, with_latches}
-use Rattle.pp_core.specs.declared.table.Flush.{Flush}
-use Rattle.pp_core.specs.Busy.{is_that, is_busy_in, page_of}
+use Rattle.pp_core.specs.Busy.{is_that, is_busy_in}
 
 -- ---- pins
 

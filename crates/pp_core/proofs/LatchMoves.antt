@@ -139,7 +139,7 @@ module _ (f : Parts) (w slot page : ℕ) (asks : Asks f w (ask.Unlatch slot)) (t
       → mark ≡ mark_in g.marks page → Moves f (move.Unlatch w) (Unlatched mark) g
   unlatch_moves g n held mark holds is spent tells = moves_by f g (move.Unlatch w) (Unlatched mark) leads
     where
-      leads : (s : State) → StandsFor f s → Leads s (move.Unlatch w) (Unlatched mark) g
+      leads : (s : State) → StandsFor f s → Leads f s (move.Unlatch w) (Unlatched mark) g
       leads s st =
           let h = unlatch_of s st in
           let r = h.running in
@@ -172,6 +172,7 @@ module _ (f : Parts) (w slot page : ℕ) (asks : Asks f w (ask.Unlatch slot)) (t
                 ∙ ap (unlatch_asked s w r) (asks s st).2;
             replies = ap Unlatched (tells ∙ ap (λ (z : PageMap). mark_in z page) here ∙ ap (mark_in (marks t)) at
                 ∙ mark_told t (page_in r slot) low);
+            plans = ap (λ (z : Parts). z.plans) spent.rest;
             stands = λ reached. spent_stands f g s t w r d n st reached h.asked spent_here
                 (unlatch_follow f s w r st slot h.asked) same
                 (ap (λ ys. slice_set ys w (Some (having_done r d))) (released_seats s (held_in r slot)
@@ -204,7 +205,7 @@ module _ (f : Parts) (w branches i : ℕ) (asks : Asks f w (ask.Choose branches)
   pub choose_moves : (g : Parts) → Spent f g w (action.Choose i) f.marks → Moves f (move.Choose w i) Did g
   choose_moves g spent = moves_by f g (move.Choose w i) Did leads
     where
-      leads : (s : State) → StandsFor f s → Leads s (move.Choose w i) Did g
+      leads : (s : State) → StandsFor f s → Leads f s (move.Choose w i) Did g
       leads s st =
           let h = choose_of s st in
           let r = h.running in
@@ -225,6 +226,7 @@ module _ (f : Parts) (w branches i : ℕ) (asks : Asks f w (ask.Choose branches)
             is = acted_outcome s w r (λ q. choose_asked s w q i (asked_by q)) (asks s st).1
                 ∙ ap (choose_asked s w r i) (asks s st).2 ∙ ap (choose_where s w r i) is_branch;
             replies = refl;
+            plans = ap (λ (z : Parts). z.plans) spent.rest;
             stands = λ reached. spent_stands f g s t w r d f.marks st reached h.asked spent
                 (choose_follow f s w r st i h.asked) same refl
                 (st.marks ∙ sym (marked.choose_marks s st.reached w r 0 i h.asked))

@@ -81,7 +81,7 @@ pub record Leaver (f : Parts) (s : State) (w : ℕ) : Type 0 where
   pub running : Running
   pub given : List ℕ
   pub is_in : IsIn f w seat
-  pub fits : FitsRunning s.plans seat running
+  pub fits : FitsRunning f.plans seat running
   pub at : IsAt s w running (leaving given)
 
 pub leaver : (f : Parts) (s : State) (w : ℕ) → StandsFor f s → is_leaving (phase_of f w) ≡ true → Leaver f s w
@@ -147,7 +147,7 @@ end_stands f g s w r ending left st e none is_ended reached flight marked_so fal
     let budget : f.budget - left ≡ bound t = omega (arith, st.budget, falls) in
     subst (λ (z : Parts). StandsFor z t) (sym (is_ended k.seat r.accepted (runs f s w k.seat r st k.is_in k.fits)))
     (stands_on f s t (slice_set f.seats w None) f.marks f.bundles (f.running - r.accepted.peak) (f.budget - left) st
-    reached (same_rest s w r ending flight) (seat_set s.plans f.seats s.seats w None None st.seats tt)
+    reached (same_rest s w r ending flight) (seat_set f.plans f.seats s.seats w None None st.seats tt)
     (st.marks ∙ sym marked_so)
     (bundles_stay f.bundles s t w (Some r) None st.bundles e refl refl (nothing_held r none)) running budget)
 
@@ -201,7 +201,7 @@ module _ (f : Parts) (w : ℕ) (leaves : is_leaving (phase_of f w) ≡ true) whe
       → Moves f (move.Finish w) (Finished Gone) g
   gone_moves g n tells le is_ended = moves_by f g (move.Finish w) (Finished Gone) leads
     where
-      leads : (s : State) → StandsFor f s → Leads s (move.Finish w) (Finished Gone) g
+      leads : (s : State) → StandsFor f s → Leads f s (move.Finish w) (Finished Gone) g
       leads s st =
           let l = leaver f s w st leaves in
           let r = l.running in
@@ -210,6 +210,7 @@ module _ (f : Parts) (w : ℕ) (leaves : is_leaving (phase_of f w) ≡ true) whe
             after = ended_in s w r Gone;
             is = leaver_outcome s l ∙ ap (finish_holding s w r) none;
             replies = refl;
+            plans = ap (λ (z : Parts). z.plans) (is_ended l.seat r.accepted (runs f s w l.seat r st l.is_in l.fits));
             stands = λ reached. end_stands f g s w r Gone 1 st l.at.seat none is_ended reached
                 (flights.leave_flight s st.reached w r l.given l.at)
                 (marked.leave_marks s st.reached w r l.given l.at none)
@@ -287,7 +288,7 @@ module _ (f : Parts) (w : ℕ) where
         → Moves f (move.Finish w) (Finished Done) g
     done_moves g left tells is_ended = moves_by f g (move.Finish w) (Finished Done) leads
       where
-        leads : (s : State) → StandsFor f s → Leads s (move.Finish w) (Finished Done) g
+        leads : (s : State) → StandsFor f s → Leads f s (move.Finish w) (Finished Done) g
         leads s st =
             let a = asks s st in
             let r = a.0 in
@@ -296,6 +297,7 @@ module _ (f : Parts) (w : ℕ) where
               after = ended_in s w r Done;
               is = ap (finish_by s w) a.1.seat ∙ ap (finish_in s w r) a.1.stage ∙ ap (finish_asked s w r) a.2;
               replies = refl;
+              plans = let k = kept f s w r st a.1.seat in ap (λ (z : Parts). z.plans) (is_ended k.seat r.accepted (runs f s w k.seat r st k.is_in k.fits));
               stands = λ reached. end_stands f g s w r Done left st a.1.seat (steps.ends_empty s st.reached w r at a.2) is_ended reached
                   (flights.end_flight s st.reached w r at)
                   (marked.end_marks s st.reached w r at (steps.ends_empty s st.reached w r at a.2))

@@ -1,4 +1,5 @@
 mod SeatSteps
+pub mod PlanTies
 mod Crew
 mod Asking
 mod SlotTies

@@ -6,7 +6,6 @@ use Rattle.std.specs.List.{range_with_len}
 use Rattle.std.proofs.lemmas.List.{length-replicate}
 use Rattle.std.proofs.lemmas.List.Folds.{sum_by-replicate}
 use Rattle.pp_settings.specs.Layout.{page_count}
-use Rattle.pp_settings.specs.declared.span.Span.TheVariants.{Bounded}
 use Rattle.pp_frames.specs.Marks.{untouched_marks}
 use Rattle.pp_model.specs.Pool.{Running, Settings, opening, untouched, note_of}
 use Rattle.pp_model.specs.Holders.{pins_of, readers_of, writers_of, errands_of, is_in_flight}
@@ -76,14 +75,14 @@ module _ (k : Settings) where
       let none : errands_of (opening k) page ≡ 0 = idle _ k.workers refl in
       ap (nat_lt 0) none
 
-  pub opening_stands : IsSettings k → k.span ≡ Bounded → StandsFor (opening_parts k) (opening k)
-  opening_stands ok bounded = record {
+  pub opening_stands : IsSettings k → StandsFor (opening_parts k) (opening k)
+  opening_stands ok = record {
     reached = opening_reached k ok;
     layout = refl;
+    span = refl;
     flushes = refl;
-    span = bounded;
     flushes_left = refl;
-    plans = refl;
+    plans = record { waits = refl; submitted = refl; all = λ q. refl };
     taken = refl;
     seats = record {
       size =
@@ -112,6 +111,5 @@ module _ (k : Settings) where
   }
 
 -- The same of parts that equal these.
-pub opened_stands : (k : Settings) (f : Parts) → IsSettings k → k.span ≡ Bounded → f ≡ opening_parts k
-    → StandsFor f (opening k)
-opened_stands k f ok bounded e = subst (λ g. StandsFor g (opening k)) (sym e) (opening_stands k ok bounded)
+pub opened_stands : (k : Settings) (f : Parts) → IsSettings k → f ≡ opening_parts k → StandsFor f (opening k)
+opened_stands k f ok e = subst (λ g. StandsFor g (opening k)) (sym e) (opening_stands k ok)

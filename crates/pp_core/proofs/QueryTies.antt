@@ -39,7 +39,7 @@ use Rattle.pp_core.specs.Gathered.{bundle_place, bundle_in}
 use Rattle.pp_core.proofs.SlotKinds.{none_past}
 use Rattle.pp_bundles.specs.Bundles.{pages_at}
 use Rattle.pp_model.proofs.BoundSteps.{seats_are_all}
-use Rattle.pp_core.specs.Queries.{errand_in, errand_by, errand_of, flushed_page, plan_count}
+use Rattle.pp_core.specs.Queries.{errand_in, errand_by, errand_of, flushed_page}
 use Rattle.pp_core.specs.Queries.{idle_seat, leaves_at, leaving_seat, held_seat, errand_at, errand_seat}
 use Rattle.pp_core.specs.LeaveEffects as leave
 use Rattle.pp_core.proofs.Crew.{seat_from, seat_none}
@@ -54,15 +54,15 @@ FitsPlace plans (Some x) None = ⊥
 FitsPlace plans (Some x) (Some y) = FitsSeat plans x y
 
 place_by : (f : Parts) (s : State) (w : ℕ) (o : Option (Option Seat)) → StandsFor f s → slice_get f.seats w ≡ o
-    → FitsPlace s.plans o (seat_of s w)
+    → FitsPlace f.plans o (seat_of s w)
 place_by f s w None st e =
-    subst (λ (y : Option (Option Running)). FitsPlace s.plans None y)
-    (sym (seat_none s.plans f.seats s.seats w st.seats e)) tt
+    subst (λ (y : Option (Option Running)). FitsPlace f.plans None y)
+    (sym (seat_none f.plans f.seats s.seats w st.seats e)) tt
 place_by f s w (Some x) st e =
-    let there = seat_from s.plans f.seats s.seats w x st.seats e in
-    subst (λ (y : Option (Option Running)). FitsPlace s.plans (Some x) y) (sym there.1) there.2
+    let there = seat_from f.plans f.seats s.seats w x st.seats e in
+    subst (λ (y : Option (Option Running)). FitsPlace f.plans (Some x) y) (sym there.1) there.2
 
-place : (f : Parts) (s : State) (w : ℕ) → StandsFor f s → FitsPlace s.plans (slice_get f.seats w) (seat_of s w)
+place : (f : Parts) (s : State) (w : ℕ) → StandsFor f s → FitsPlace f.plans (slice_get f.seats w) (seat_of s w)
 place f s w st = place_by f s w (slice_get f.seats w) st refl
 
 module _ (plans : List Acceptance) where
@@ -223,17 +223,17 @@ place_within n w slot few low there = omega (arith, few, low, there)
 
 module _ (f : Parts) (s : State) (st : StandsFor f s) where
   pub idle_told : (w : ℕ) → idle_seat (slice_get f.seats w) ≡ is_idle s w
-  idle_told w = same_idle s.plans (slice_get f.seats w) (seat_of s w) (place f s w st)
+  idle_told w = same_idle f.plans (slice_get f.seats w) (seat_of s w) (place f s w st)
 
   pub leaving_told : (w : ℕ) → leave.is_leaving (phase_of f w) ≡ is_leaving s w
   leaving_told w =
-      seat_leaves (slice_get f.seats w) ∙ same_leaving s.plans (slice_get f.seats w) (seat_of s w) (place f s w st)
+      seat_leaves (slice_get f.seats w) ∙ same_leaving f.plans (slice_get f.seats w) (seat_of s w) (place f s w st)
 
   pub held_told : (w slot : ℕ) → held_seat (slice_get f.seats w) slot ≡ held_of s w slot
-  held_told w slot = same_held s.plans (slice_get f.seats w) (seat_of s w) slot (place f s w st)
+  held_told w slot = same_held f.plans (slice_get f.seats w) (seat_of s w) slot (place f s w st)
 
   pub asking_told : (w : ℕ) → ask_seat (slice_get f.seats w) ≡ ask_of s w
-  asking_told w = same_asking s.plans (slice_get f.seats w) (seat_of s w) (place f s w st)
+  asking_told w = same_asking f.plans (slice_get f.seats w) (seat_of s w) (place f s w st)
 
   pub holding_told : (w slot page : ℕ) (held : Held)
       → ask_holding_seat (slice_get f.seats w) slot page held ≡ ask_holding s w slot page held
@@ -272,10 +272,10 @@ module _ (f : Parts) (s : State) (st : StandsFor f s) where
       ∙ ap (λ (ps : List ℕ). length ps) (bundle_told w slot)
 
   pub pending_told : (w : ℕ) → pending_seat (slice_get f.seats w) ≡ pending_of s w
-  pending_told w = same_pending s.plans (slice_get f.seats w) (seat_of s w) (place f s w st)
+  pending_told w = same_pending f.plans (slice_get f.seats w) (seat_of s w) (place f s w st)
 
   pub errand_told : (w : ℕ) → errand_seat (slice_get f.seats w) ≡ errand_of s w
-  errand_told w = same_errand s.plans (slice_get f.seats w) (seat_of s w) (place f s w st)
+  errand_told w = same_errand f.plans (slice_get f.seats w) (seat_of s w) (place f s w st)
 
 -- ---- what a plan asks
 
@@ -368,6 +368,3 @@ module _ (f : Parts) (s : State) (st : StandsFor f s) where
 
   pub flush_told : option_map (λ (x : Flush). x.page) f.flush ≡ flushed_page s
   flush_told = page_of f.flush ∙ ap (option_map (λ (x : FlushInFlight). x.page)) st.flush
-
-  pub plans_told : length f.plans ≡ plan_count s
-  plans_told = ap length st.plans

@@ -11,7 +11,7 @@ use Rattle.pp_model.specs.declared.moves.Move.TheVariants as move
 use Rattle.pp_model.specs.declared.refusals.Cause.{Cause}
 use Rattle.pp_model.specs.declared.reply.Reply.{Reply}
 use Rattle.pp_model.specs.declared.reply.Reply.TheVariants as reply
-use Rattle.pp_model.specs.Pool.{Running, State, known_mark, mark_at}
+use Rattle.pp_model.specs.Pool.{Running, State, mark_at}
 use Rattle.pp_model.specs.Holders.{page_in}
 use Rattle.pp_model.specs.Outcome.{Outcome}
 use Rattle.pp_model.specs.Using.{goes_with, latch_where, latch_asked, unlatched, unlatch_asked, unfix_asked}

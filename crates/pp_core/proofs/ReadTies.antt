@@ -1,5 +1,5 @@
 -- Whether a page can be fixed and latched S at once, and unlatched and unfixed at once, as the core's tests tell it.
-use Rattle.std.proofs.Common.{◌≡◌, ◌∙◌, ℕ, ◌+◌, ◌<◌, Bool, true, false, Option, Some, None, List, [], ◌∷◌, ◌++◌, length, refl}
+use Rattle.std.proofs.Common.{◌≡◌, ◌∙◌, ℕ, ◌+◌, ◌<◌, Bool, true, false, Option, Some, None, [], ◌∷◌, ◌++◌, length, refl}
 use Rattle.std.proofs.Common.{sym, ap, subst, arith}
 use Rattle.std.specs.Prelude.{◌&&◌, ◌==◌, not, option_map, unwrap_or, slice_get}
 use Rattle.std.proofs.lemmas.Bool.{false≢true}
@@ -25,14 +25,13 @@ use Rattle.pp_frames.specs.declared.mode.Mode.TheVariants as latch_mode
 use Rattle.pp_model.specs.declared.moves.Move.TheVariants as move
 use Rattle.pp_model.specs.declared.reply.Reply.{Reply}
 use Rattle.pp_model.specs.declared.reply.Reply.TheVariants as reply
-use Rattle.pp_model.specs.Pool.{acting, Running, State, is_dirty, frame_at, mark_at}
+use Rattle.pp_model.specs.Pool.{Running, State, is_dirty, frame_at, mark_at}
 use Rattle.pp_model.specs.Holders.{holdings, page_in, held_in}
 use Rattle.pp_model.specs.Marks.{marks}
-use Rattle.pp_model.specs.Outcome.{Outcome, having_done, did, with_lists, released}
+use Rattle.pp_model.specs.Outcome.{Outcome, having_done, did, with_lists}
 use Rattle.pp_model.specs.Fixing.{evict_where, fix_by, fixes}
 use Rattle.pp_model.specs.Using.{goes_with, latch_where, latch_asked, unlatched, unlatch_asked}
 use Rattle.pp_model.specs.Moves.{asked_by, seat_of, outcome_of, reply_of, next_of, is_refusal, is_possible}
-use Rattle.pp_model.specs.Laws.{IsActing}
 use Rattle.pp_model.proofs.Changes.{IsAsked}
 use Rattle.pp_model.proofs.HoldingSteps as steps
 use Rattle.pp_model.proofs.MarkChanges.{edit_here, count_told}
@@ -52,7 +51,6 @@ use Rattle.pp_core.proofs.AfterSeats.{ask_at, held_at, own_unless, same_page}
 use Rattle.pp_core.proofs.Asking.{runs}
 use Rattle.pp_core.proofs.Crew.{set_at}
 use Rattle.pp_core.proofs.FixMoves as fixing
-use Rattle.pp_core.proofs.HoldingTies.{told_both}
 use Rattle.pp_core.proofs.LatchMoves.{released_seats}
 use Rattle.pp_core.proofs.QueryTies.{ask_told, holding_told}
 use Rattle.pp_core.proofs.ReadAsks.{share_asked}
@@ -134,8 +132,8 @@ asks_behind f w a next h s r st asked_now =
     let x = h.seat in
     let fits = fits_running f s w x r st h.runs.is_in asked_now.at.seat in
     let plan : h.accepted ≡ r.accepted =
-    same_plan (slice_get f.plans x.plan) h.accepted r.accepted h.runs.plan (runs f s w x r st h.runs.is_in fits).plan in
-    let cursor = cursor_of s.plans x r fits (acting_on f s w r st a asked_now) in
+    same_plan (slice_get f.plans x.place) h.accepted r.accepted h.runs.plan (runs f s w x r st h.runs.is_in fits).plan in
+    let cursor = cursor_of f.plans x r fits (acting_on f s w r st a asked_now) in
     h.told r.done (subst (λ (b : Acceptance). CursorStandsFor b.plan x.cursor r.done) (sym plan) cursor)
     ∙ ap (λ (b : Acceptance). asked b.plan (r.done ++ a ∷ [])) plan
 

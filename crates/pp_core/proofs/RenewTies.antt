@@ -1,13 +1,12 @@
 -- Renewing, on the core's side and on the state's.
-use Rattle.std.proofs.Common.{◌≡◌, ◌∙◌, ℕ, suc, ◌+◌, ◌*◌, ◌&&◌, Bool, true, false, Option, Some, None, List, [], ◌∷◌}
+use Rattle.std.proofs.Common.{◌≡◌, ◌∙◌, suc, ◌&&◌, Option, Some, None, List, [], ◌∷◌}
 use Rattle.std.proofs.Common.{length, refl, sym, ap, subst, arith}
-use Rattle.std.specs.Prelude.{slice_get, nat_le, option_map, is_none, replicate}
+use Rattle.std.specs.Prelude.{slice_get, option_map, is_none}
 use Rattle.std.specs.List.{list_all}
 use Rattle.pp_cert.specs.Accepted.{Acceptance}
 use Rattle.pp_frames.specs.Least.{least_below}
 use Rattle.pp_frames.specs.Marks.{page_count, stamp_of, has_reached, first_stamped}
-use Rattle.pp_model.specs.declared.refusals.RenewError.{RenewError}
-use Rattle.pp_model.specs.Pool.{Running, Flush as FlushInFlight, State, known_mark}
+use Rattle.pp_model.specs.Pool.{Running, State}
 use Rattle.pp_model.specs.Turns.{is_idle}
 use Rattle.pp_model.specs.Renewing.{mark_limit, is_at_rest, first_high_page, renew_error_where, renew_error, renewed}
 use Rattle.pp_model.proofs.Journeys.{renewed_reached}
@@ -17,7 +16,8 @@ use Rattle.pp_core.specs.declared.seat.Seat.{Seat}
 use Rattle.pp_core.specs.declared.table.Flush.{Flush}
 use Rattle.pp_core.specs.Parts.{Parts}
 use Rattle.pp_core.specs.StandsFor.{in_flight_as, FitsSeat, FitsCrew, StandsFor}
-use Rattle.pp_core.specs.Renewals.{is_resting, renew_fault, renewed_parts, Renews}
+use Rattle.pp_core.specs.Renewals.{is_resting, renew_fault, kept_plans, renewed_parts, Renews}
+use Rattle.pp_core.proofs.PlanTies.{none_told}
 use Rattle.pp_core.proofs.Gathered.{bundles_kept}
 use Rattle.pp_core.proofs.OpeningTies.{equal_places}
 use Rattle.pp_core.proofs.QueryTies.{mark_told}
@@ -45,7 +45,7 @@ flush_idle (Some x) = refl
 
 rests_alike : (f : Parts) (s : State) → StandsFor f s → is_at_rest s ≡ is_resting f
 rests_alike f s st = λ i.
-    nat_le (length (sym st.plans i)) (sym st.taken i) && sym (seats_idle s.plans f.seats s.seats st.seats) i
+    none_told f s st i && sym (seats_idle f.plans f.seats s.seats st.seats) i
     && (ap is_none (sym st.flush) ∙ flush_idle f.flush) i
 
 high_alike : (f : Parts) (s : State) → StandsFor f s → first_high_page s ≡ first_stamped f.marks mark_limit
@@ -59,28 +59,29 @@ fault_is f s st = λ i. renew_error_where (rests_alike f s st i) (high_alike f s
 
 -- ---- a core that is renewed
 
-empty_seat : (ps : List Acceptance) (x : Option Seat) → FitsSeat ps x None → FitsSeat [] x None
-empty_seat ps None h = tt
-empty_seat ps (Some x) h = absurd h
+empty_seat : (ps qs : List Acceptance) (x : Option Seat) → FitsSeat ps x None → FitsSeat qs x None
+empty_seat ps qs None h = tt
+empty_seat ps qs (Some x) h = absurd h
 
-empty_crew : (s : State) (xs : List (Option Seat)) → Rests s → FitsCrew s.plans xs s.seats → FitsCrew [] xs s.seats
-empty_crew s xs r h = record {
+empty_crew : (ps qs : List Acceptance) (s : State) (xs : List (Option Seat)) → Rests s → FitsCrew ps xs s.seats
+    → FitsCrew qs xs s.seats
+empty_crew ps qs s xs r h = record {
   size = h.size;
   each = λ w x y l e.
       let idle : None ≡ y = equal_places (length s.seats) w None y (sym (ap (λ ys. slice_get ys w) r.seats) ∙ e) in
-      subst (FitsSeat [] x) idle (empty_seat s.plans x (subst (FitsSeat s.plans x) (sym idle) (h.each w x y l e)));
+      subst (FitsSeat qs x) idle (empty_seat ps qs x (subst (FitsSeat ps x) (sym idle) (h.each w x y l e)));
 }
 
 renewed_stands : (f : Parts) (s : State) → StandsFor f s → renew_error s ≡ None → StandsFor (renewed_parts f) (renewed s)
 renewed_stands f s st e = record {
   reached = renewed_reached s st.reached e;
   layout = st.layout;
-  flushes = st.flushes;
   span = st.span;
+  flushes = st.flushes;
   flushes_left = st.flushes;
-  plans = refl;
+  plans = record { waits = refl; submitted = refl; all = λ q. ap (λ k. kept_plans k f.plans) (st.span ∙ q) };
   taken = refl;
-  seats = empty_crew s f.seats (can_renew s e).rests st.seats;
+  seats = empty_crew f.plans (kept_plans f.span f.plans) s f.seats (can_renew s e).rests st.seats;
   lists = st.lists;
   marks = st.marks;
   bundles = bundles_kept f.bundles s (renewed s) st.bundles refl refl;

@@ -18,7 +18,7 @@ abbrev pub Goes : Parts → List Move → List Reply → Parts → List Move →
 Goes old moves before new left now =
     (s : State) → StandsFor old s
     → (mid : State) × StandsFor new mid × (state_after mid left ≡ state_after s moves)
-    × (now ++ replies_to mid left ≡ before ++ replies_to s moves)
+    × (now ++ replies_to mid left ≡ before ++ replies_to s moves) × (new.plans ≡ old.plans)
 
 -- One move more.
 pub goes_on : (old : Parts) (moves : List Move) (before : List Reply) (f g : Parts) (now : List Reply) (reply : Reply)
@@ -37,6 +37,7 @@ goes_on old moves before f g now reply i move d lt is goes step s st =
       append_assoc now (reply ∷ []) (replies_to (next_of mid move) rest)
           ∙ (ap (λ (r : Reply). now ++ (r ∷ replies_to (next_of mid move) rest)) told
           ∙ (ap (λ (ms : List Move). now ++ replies_to mid ms) (sym left) ∙ w.3)),
+      step.plans mid w.1 ∙ w.4,
     )
 
 -- None is left.
@@ -51,5 +52,6 @@ went old moves before new now i le goes =
       replies = λ s st.
           let w = goes s st in
           sym (append-nil now) ∙ (ap (λ (ms : List Move). now ++ replies_to w.0 ms) (sym none) ∙ w.3);
+      plans = λ s st. (goes s st).4;
       within = λ s st. omega (arith, done_within s moves st.reached, st.budget, (stands s st).budget);
     }

@@ -16,6 +16,7 @@ pub did : (plan : Terms) (x y z : Seat) (a : Action)
 did plan x y z a goes asks same acts e =
     subst (λ (v : Seat). Did plan x v a) (sym e) (record {
       number = ap (λ (v : Seat). v.plan) same;
+      place = ap (λ (v : Seat). v.place) same;
       cursor = goes;
       ask = asks;
       actions = ap (λ (v : Seat). v.actions + 1) same;

@@ -38,11 +38,11 @@ staged_fits plans x r p g fits same stage =
 
 pub staged_crew : (f : Parts) (s : State) (w : ℕ) (x : Seat) (r : Running) (p : Phase) (g : Stage) → StandsFor f s
     → IsIn f w x → seat_of s w ≡ Some (Some r) → given_back g ≡ given_back r.stage → FitsStage p g
-    → FitsCrew s.plans (slice_set f.seats w (Some (record x { phase = p }))) (slice_set s.seats w (Some (at_stage r g)))
+    → FitsCrew f.plans (slice_set f.seats w (Some (record x { phase = p }))) (slice_set s.seats w (Some (at_stage r g)))
 staged_crew f s w x r p g st is_in e same stage =
     let fits = fits_running f s w x r st is_in e in
-    seat_set s.plans f.seats s.seats w (Some (record x { phase = p })) (Some (at_stage r g)) st.seats
-    (staged_fits s.plans x r p g fits same stage)
+    seat_set f.plans f.seats s.seats w (Some (record x { phase = p })) (Some (at_stage r g)) st.seats
+    (staged_fits f.plans x r p g fits same stage)
 
 -- What is said of seats and plans stays said where the lists are others.
 pub can_act_listed : (f : Parts) (l : FourLists) (w : ℕ) (a : Action) → CanAct f w a → CanAct

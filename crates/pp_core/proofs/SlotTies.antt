@@ -1,7 +1,7 @@
 -- What a worker's slots hold on the core's side is what its holdings say, after each action.
 use Rattle.std.proofs.Common.{◌≡◌, ◌∙◌, ℕ, ◌+◌, ◌<◌, Bool, true, false, eqb, cond, Option, Some, None, List}
 use Rattle.std.proofs.Common.{[], ◌∷◌, ◌++◌, length, refl, sym, ap, subst, arith}
-use Rattle.std.specs.Prelude.{slice_set, option_map}
+use Rattle.std.specs.Prelude.{slice_get, slice_set, option_map}
 use Rattle.std.proofs.lemmas.Bool.{eqb-true, eqb-false}
 use Rattle.std.proofs.lemmas.List.{get_or-set_same, get_or-set_other}
 use Rattle.pp_plan.specs.declared.action.Action.{Action}
@@ -78,7 +78,7 @@ pub acted_fits : (plans : List Acceptance) (x y : Seat) (r : Running) (a : Actio
     → FitsRunning plans y (having_done r a)
 acted_fits plans x y r a fits cursor did count tell more = record {
   number = did.number ∙ fits.number;
-  plan = fits.plan;
+  plan = ap (slice_get plans) did.place ∙ fits.plan;
   cursor = did.cursor r.done cursor;
   ask = did.ask r.done cursor;
   actions = omega (arith, did.actions, fits.actions, more);

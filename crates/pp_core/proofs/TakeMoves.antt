@@ -1,7 +1,8 @@
 -- Take, where it is done and where not: what the core's calls need, and that its parts stand for the next state.
 use Rattle.std.proofs.Common.{◌≡◌, ◌∙◌, ℕ, zero, suc, ◌+◌, ◌≤◌, true, false, Option, Some, None, List, refl, sym, ap}
 use Rattle.std.proofs.Common.{subst, arith}
-use Rattle.std.specs.Prelude.{slice_get, option_map, length, replicate, is_some, nat_le}
+use Rattle.std.specs.Prelude.{slice_get, option_map, option_and_then, length, replicate, is_some, nat_le}
+use Rattle.std.proofs.lemmas.Option.{slice_get_within}
 use Rattle.pp_plan.specs.Limits.{most_slots}
 use Rattle.pp_cert.specs.Accepted.{Acceptance}
 use Rattle.pp_model.specs.declared.moves.Move.TheVariants as move
@@ -25,8 +26,9 @@ use Rattle.pp_core.specs.Seats.{IsBegun}
 use Rattle.pp_core.specs.Parts.{Parts}
 use Rattle.pp_core.specs.StandsFor.{FitsStage, FitsRunning, FitsSeat, StandsFor, IsKept, Moves}
 use Rattle.pp_core.specs.Effects.{phase_of}
-use Rattle.pp_core.specs.TakeEffects.{waiting_peak, has_room, CanBegin, Began}
+use Rattle.pp_core.specs.TakeEffects.{first_plan, waiting_peak, has_room, CanBegin, Began}
 use Rattle.pp_core.proofs.Crew.{seat_from, seat_set}
+use Rattle.pp_core.proofs.PlanTies.{first_waits, plans_taken}
 use Rattle.pp_core.proofs.Asking.{in_phase, both}
 use Rattle.pp_core.proofs.Ties.{Leads, moves_by, refuses}
 use Rattle.pp_core.proofs.Gathered.{bundles_stay}
@@ -40,11 +42,11 @@ no_hold (suc n) zero = refl
 no_hold (suc n) (suc slot) = no_hold n slot
 
 -- The new seat fits the worker that begins the plan.
-begun_fits : (s : State) (k : ℕ) (x : Seat) (a : Acceptance) → k ≡ s.taken → slice_get s.plans s.taken ≡ Some a
-    → IsBegun a.plan k x → FitsRunning s.plans x (beginning s a)
-begun_fits s k x a number next begun = record {
+begun_fits : (ps : List Acceptance) (s : State) (k place : ℕ) (x : Seat) (a : Acceptance) → k ≡ s.taken
+    → slice_get ps place ≡ Some a → IsBegun a.plan k place x → FitsRunning ps x (beginning s a)
+begun_fits ps s k place x a number there begun = record {
   number = begun.number ∙ number;
-  plan = next;
+  plan = ap (slice_get ps) begun.place ∙ there;
   cursor = begun.cursor;
   ask = begun.ask;
   actions = begun.actions;
@@ -57,10 +59,10 @@ begun_fits s k x a number next begun = record {
 -- ---- idle workers
 
 -- Where the core's seat is idle, so is the state's.
-idle_in : (s : State) (w : ℕ) (y : Option Running) → seat_of s w ≡ Some y → FitsSeat s.plans None y
+idle_in : (ps : List Acceptance) (s : State) (w : ℕ) (y : Option Running) → seat_of s w ≡ Some y → FitsSeat ps None y
     → seat_of s w ≡ Some None
-idle_in s w None e h = e
-idle_in s w (Some r) e h = absurd h
+idle_in ps s w None e h = e
+idle_in ps s w (Some r) e h = absurd h
 
 idle_by : (o : Option (Option Seat)) → option_map (option_map (λ (x : Seat). x.phase)) o ≡ Some None → o ≡ Some None
 idle_by None e = cc
@@ -73,8 +75,8 @@ module _ (f : Parts) (w : ℕ) where
 
   idle_there : phase_of f w ≡ Some None → (s : State) → StandsFor f s → seat_of s w ≡ Some None
   idle_there e s st =
-      let there = seat_from s.plans f.seats s.seats w None st.seats (idle_at e) in
-      idle_in s w there.0 there.1 there.2
+      let there = seat_from f.plans f.seats s.seats w None st.seats (idle_at e) in
+      idle_in f.plans s w there.0 there.1 there.2
 
   -- A worker that has a plan takes none.
   pub not_idle : (p : Option Phase) → phase_of f w ≡ Some p → is_some p ≡ true
@@ -92,13 +94,20 @@ module _ (f : Parts) (w : ℕ) where
 
   module _ (idle : phase_of f w ≡ Some None) where
     -- The outcome for an idle worker, by the first plan that waits.
-    take_outcome : (s : State) (next : Option Acceptance) → StandsFor f s → slice_get f.plans f.taken ≡ next
+    take_outcome : (s : State) (next : Option Acceptance) → StandsFor f s → first_plan f ≡ next
         → outcome_of s (move.Take w) ≡ take_by s w (Some None) next
     take_outcome s next st e =
         ap (λ (o : Option (Option Running)). take_by s w o (slice_get s.plans s.taken)) (idle_there idle s st)
-        ∙ ap (λ (ps : List Acceptance). take_by s w (Some None) (slice_get ps s.taken)) (sym st.plans)
-        ∙ ap (λ (n : ℕ). take_by s w (Some None) (slice_get f.plans n)) (sym st.taken)
-        ∙ ap (take_by s w (Some None)) e
+        ∙ ap (take_by s w (Some None)) (first_waits f s st ∙ e)
+
+    -- A plan and the place at which it stands.
+    abbrev pub Place : List Acceptance → Option ℕ → Acceptance → Type 0
+    Place ps o a = (k : ℕ) × (o ≡ Some k) × (slice_get ps k ≡ Some a)
+
+    pub place_of : (ps : List Acceptance) (o : Option ℕ) (a : Acceptance) → option_and_then (slice_get ps) o ≡ Some a
+        → Place ps o a
+    place_of ps None a e = cc
+    place_of ps (Some k) a e = (k, refl, e)
 
     none_by : (o : Option Acceptance) → option_map (λ (a : Acceptance). a.peak) o ≡ None → o ≡ None
     none_by None e = refl
@@ -107,7 +116,7 @@ module _ (f : Parts) (w : ℕ) where
     pub nothing_waits : waiting_peak f ≡ None → Moves f (move.Take w) (NotNow NothingWaiting) f
     nothing_waits e =
         refuses f (move.Take w) (NotNow NothingWaiting)
-        (λ s st. take_outcome s None st (none_by (slice_get f.plans f.taken) e))
+        (λ s st. take_outcome s None st (none_by (first_plan f) e))
 
     -- The plan that waits, and its peak.
     abbrev pub Next : Option Acceptance → ℕ → Type 0
@@ -118,8 +127,12 @@ module _ (f : Parts) (w : ℕ) where
     next_by (Some a) peak e = (a, refl, cc)
 
     module _ (peak : ℕ) (waits : waiting_peak f ≡ Some peak) where
-      abbrev pub next : Next (slice_get f.plans f.taken) peak
-      next = next_by (slice_get f.plans f.taken) peak waits
+      abbrev pub next : Next (first_plan f) peak
+      next = next_by (first_plan f) peak waits
+
+      -- Its place.
+      abbrev pub place : Place f.plans (slice_get f.waiting 0) next.0
+      place = place_of f.plans (slice_get f.waiting 0) next.0 next.1
 
       same_room : (s : State) → StandsFor f s → has_room_in s next.0 ≡ has_room f peak
       same_room s st =
@@ -133,9 +146,7 @@ module _ (f : Parts) (w : ℕ) where
           (λ s st. take_outcome s (Some next.0) st next.1 ∙ ap (take_where s w next.0) (same_room s st ∙ e))
 
       next_there : (s : State) → StandsFor f s → slice_get s.plans s.taken ≡ Some next.0
-      next_there s st =
-          ap (λ (ps : List Acceptance). slice_get ps s.taken) (sym st.plans)
-          ∙ ap (λ (n : ℕ). slice_get f.plans n) (sym st.taken) ∙ next.1
+      next_there s st = first_waits f s st ∙ next.1
 
       pub can_begin : IsKept f → has_room f peak ≡ true → CanBegin f w
       can_begin k room =
@@ -144,7 +155,9 @@ module _ (f : Parts) (w : ℕ) where
           let fits = numbers.take_room s next.0 (same_room s st ∙ room) in
           record {
             accepted = next.0;
-            plan = next.1;
+            place = place.0;
+            first = place.1;
+            plan = place.2;
             idle = idle_at idle;
             taken = omega (arith, st.taken, numbers.taken_are_few s st.reached, numbers.plans_small s st.reached);
             running = omega (arith, st.running, fits, st.reached.settings.layout.frames.1);
@@ -158,31 +171,33 @@ module _ (f : Parts) (w : ℕ) where
           take_outcome s (Some next.0) st next.1 ∙ ap (take_where s w next.0) (same_room s st ∙ room)
 
       pub take_moves : (g : Parts) → has_room f peak ≡ true
-          → ((a : Acceptance) → slice_get f.plans f.taken ≡ Some a → Began f g w a)
+          → ((k : ℕ) (a : Acceptance) → slice_get f.waiting 0 ≡ Some k → slice_get f.plans k ≡ Some a → Began f g w k a)
           → Moves f (move.Take w) (Taken f.taken) g
       take_moves g room begins = moves_by f g (move.Take w) (Taken f.taken) leads
         where
-          leads : (s : State) → StandsFor f s → Leads s (move.Take w) (Taken f.taken) g
+          leads : (s : State) → StandsFor f s → Leads f s (move.Take w) (Taken f.taken) g
           leads s st =
               let a = next.0 in
               let t = began s w a in
-              let b = begins a next.1 in
+              let b = begins place.0 a place.1 place.2 in
               let at = idle_there idle s st in
               let there = next_there s st in
-              let fits = begun_fits s f.taken b.seat a st.taken there b.begun in
+              let fits = begun_fits f.plans s f.taken place.0 b.seat a st.taken place.2 b.begun in
               record {
                 after = record { reply = Taken s.taken; state = t };
                 is = take_outcome_is room s st;
                 replies = ap Taken st.taken;
+                plans = ap (λ (z : Parts). z.plans) b.rest;
                 stands = λ reached. subst (λ (z : Parts). StandsFor z t) (sym b.rest) (record {
                   reached = reached;
                   layout = st.layout;
-                  flushes = st.flushes;
                   span = st.span;
+                  flushes = st.flushes;
                   flushes_left = st.flushes_left;
-                  plans = st.plans;
+                  plans = plans_taken f.plans f.waiting s t st.plans refl refl refl
+                      (slice_get_within s.plans s.taken a there);
                   taken = ap (λ (n : ℕ). n + 1) st.taken;
-                  seats = seat_set s.plans f.seats s.seats w (Some b.seat) (Some (beginning s a)) st.seats fits;
+                  seats = seat_set f.plans f.seats s.seats w (Some b.seat) (Some (beginning s a)) st.seats fits;
                   lists = st.lists;
                   marks = st.marks ∙ sym (marked.take_marks s st.reached w a at);
                   bundles = bundles_stay f.bundles s t w None (Some (beginning s a)) st.bundles at refl refl

@@ -23,6 +23,7 @@ use Rattle.pp_model.proofs.Journeys.{move_reached}
 use Rattle.pp_bundles.specs.Bundles.{PageStacks}
 use Rattle.pp_core.specs.Gathered.{BundlesFit}
 use Rattle.pp_core.proofs.Crew.{set_here, set_apart}
+use Rattle.pp_core.proofs.PlanTies.{plans_stay}
 use Rattle.pp_core.specs.declared.seat.Seat.{Seat}
 use Rattle.pp_core.specs.Parts.{Parts}
 use Rattle.pp_core.specs.StandsFor.{FitsCrew, StandsFor, Moves, Refuses}
@@ -30,13 +31,14 @@ use Rattle.pp_core.specs.StandsFor.{FitsCrew, StandsFor, Moves, Refuses}
 -- ---- from outcomes to moves
 
 -- From this state the move has this outcome, for which the new parts stand.
-pub record Leads (s : State) (m : Move) (reply : Reply) (g : Parts) : Type 0 where
+pub record Leads (f : Parts) (s : State) (m : Move) (reply : Reply) (g : Parts) : Type 0 where
   pub after : Outcome
   pub is : outcome_of s m ≡ after
   pub replies : reply ≡ after.reply
   pub stands : IsReached after.state → StandsFor g after.state
+  pub plans : g.plans ≡ f.plans
 
-pub moves_by : (f g : Parts) (m : Move) (reply : Reply) → ((s : State) → StandsFor f s → Leads s m reply g)
+pub moves_by : (f g : Parts) (m : Move) (reply : Reply) → ((s : State) → StandsFor f s → Leads f s m reply g)
     → Moves f m reply g
 moves_by f g m reply leads = record {
   stands = λ s st.
@@ -45,6 +47,7 @@ moves_by f g m reply leads = record {
       subst IsReached (ap (λ (o : Outcome). o.state) l.is) (move_reached s m st.reached) in
       subst (StandsFor g) (sym (ap (λ (o : Outcome). o.state) l.is)) (l.stands there);
   replies = λ s st. (leads s st).replies ∙ sym (ap (λ (o : Outcome). o.reply) (leads s st).is);
+  plans = λ s st. (leads s st).plans;
 }
 
 -- A refused move leads nowhere.
@@ -52,6 +55,7 @@ pub refuses : (f : Parts) (m : Move) (reply : Reply) → Refuses f m reply → M
 refuses f m reply refused = record {
   stands = λ s st. subst (StandsFor f) (sym (ap (λ (o : Outcome). o.state) (refused s st))) st;
   replies = λ s st. sym (ap (λ (o : Outcome). o.reply) (refused s st));
+  plans = λ s st. refl;
 }
 
 -- ---- acting workers
@@ -82,18 +86,18 @@ pub record SameRest (s t : State) : Type 0 where
 
 -- The core's parts follow, where seats, marks and the numbers do.
 pub stands_on : (f : Parts) (s t : State) (xs : List (Option Seat)) (m : PageMap) (stacks : PageStacks) (running b : ℕ)
-    → StandsFor f s → IsReached t → SameRest s t → FitsCrew s.plans xs t.seats → m ≡ marks t → BundlesFit stacks t
+    → StandsFor f s → IsReached t → SameRest s t → FitsCrew f.plans xs t.seats → m ≡ marks t → BundlesFit stacks t
     → running ≡ running_peaks t → b ≡ bound t
     → StandsFor (record f { seats = xs; marks = m; bundles = stacks; running = running; budget = b }) t
 stands_on f s t xs m stacks running b st reached same crew marked gathered runs bounded = record {
   reached = reached;
   layout = st.layout ∙ sym (ap (λ k. k.layout) same.settings);
+  span = st.span ∙ sym (ap (λ k. k.span) same.settings);
   flushes = st.flushes ∙ sym (ap (λ k. k.flushes) same.settings);
-  span = ap (λ k. k.span) same.settings ∙ st.span;
   flushes_left = st.flushes_left ∙ sym same.flushes_left;
-  plans = st.plans ∙ sym same.plans;
+  plans = plans_stay f.plans f.waiting s t st.plans same.settings same.plans same.taken;
   taken = st.taken ∙ sym same.taken;
-  seats = subst (λ ps. FitsCrew ps xs t.seats) (sym same.plans) crew;
+  seats = crew;
   lists = st.lists ∙ sym same.lists;
   marks = marked;
   bundles = gathered;
@@ -118,19 +122,19 @@ abbrev pub Flies : List Bool → (ℕ → Bool) → Type 0
 Flies fl is = (q : ℕ) (b : Bool) → slice_get fl q ≡ Some b → b ≡ is q
 
 pub stands_with : (f : Parts) (s t : State) (xs : List (Option Seat)) (l : FourLists) (m : PageMap) (stacks : PageStacks)
-    (fl : List Bool) (b : ℕ) → StandsFor f s → IsReached t → SameFrame s t → FitsCrew s.plans xs t.seats → l ≡ t.lists
+    (fl : List Bool) (b : ℕ) → StandsFor f s → IsReached t → SameFrame s t → FitsCrew f.plans xs t.seats → l ≡ t.lists
     → m ≡ marks t → BundlesFit stacks t
     → length fl ≡ length t.notes → Flies fl (is_in_flight t) → running_peaks t ≡ running_peaks s → b ≡ bound t
     → StandsFor (record f { seats = xs; lists = l; marks = m; bundles = stacks; in_flight = fl; budget = b }) t
 stands_with f s t xs l m stacks fl b st reached same crew listed marked gathered long flies peaks bounded = record {
   reached = reached;
   layout = st.layout ∙ sym (ap (λ k. k.layout) same.settings);
+  span = st.span ∙ sym (ap (λ k. k.span) same.settings);
   flushes = st.flushes ∙ sym (ap (λ k. k.flushes) same.settings);
-  span = ap (λ k. k.span) same.settings ∙ st.span;
   flushes_left = st.flushes_left ∙ sym same.flushes_left;
-  plans = st.plans ∙ sym same.plans;
+  plans = plans_stay f.plans f.waiting s t st.plans same.settings same.plans same.taken;
   taken = st.taken ∙ sym same.taken;
-  seats = subst (λ ps. FitsCrew ps xs t.seats) (sym same.plans) crew;
+  seats = crew;
   lists = listed;
   marks = marked;
   bundles = gathered;

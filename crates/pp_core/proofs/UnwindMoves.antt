@@ -4,6 +4,7 @@ use Rattle.std.proofs.Common.{subst, arith}
 use Rattle.std.specs.Prelude.{slice_get, slice_set, option_map, length, is_none}
 use Rattle.pp_cert.specs.declared.note.Held.{Held}
 use Rattle.pp_cert.specs.declared.note.Held.TheVariants.{Free, S, X}
+use Rattle.pp_cert.specs.Accepted.{Acceptance}
 use Rattle.pp_cert.specs.Held.{Holding, Holdings, holding_slot, holding_at}
 use Rattle.pp_cert.proofs.Slots.{first_of, slot_all, get_first}
 use Rattle.pp_bundles.specs.Bundles.{with_pages}
@@ -64,10 +65,10 @@ unwind_elsewhere s w slot r (writing x page v) on = refl
 unwind_elsewhere s w slot r (reading x page) on = refl
 unwind_elsewhere s w slot r (leaving given) on = absurd on
 
-unwind_idle : (s : State) (w slot : ℕ) (y : Option Running) → FitsSeat s.plans None y
+unwind_idle : (ps : List Acceptance) (s : State) (w slot : ℕ) (y : Option Running) → FitsSeat ps None y
     → unwind_by s w slot (Some y) ≡ record { reply = OffPlan NotLeaving; state = s }
-unwind_idle s w slot None h = refl
-unwind_idle s w slot (Some r) h = absurd h
+unwind_idle ps s w slot None h = refl
+unwind_idle ps s w slot (Some r) h = absurd h
 
 module _ (f : Parts) (w slot : ℕ) where
   stays_by : (o : Option (Option Seat)) → slice_get f.seats w ≡ o → is_none (phase_in o) ≡ false
@@ -75,8 +76,8 @@ module _ (f : Parts) (w slot : ℕ) where
       → outcome_of s (move.Unwind w slot) ≡ record { reply = OffPlan NotLeaving; state = s }
   stays_by None e some stays s st = cc
   stays_by (Some None) e some stays s st =
-      let there = seat_from s.plans f.seats s.seats w None st.seats e in
-      ap (unwind_by s w slot) there.1 ∙ unwind_idle s w slot there.0 there.2
+      let there = seat_from f.plans f.seats s.seats w None st.seats e in
+      ap (unwind_by s w slot) there.1 ∙ unwind_idle f.plans s w slot there.0 there.2
   stays_by (Some (Some x)) e some stays s st =
       let two = both f s w x st e in
       ap (unwind_by s w slot) two.there
@@ -160,10 +161,10 @@ first_free (y ∷ ys) k all found = let same : y ≡ k = cc in ap (λ x. x.held)
 -- ---- the worker without the slot
 
 -- The seat with the slot empty fits the worker that gave the slot back.
-emptied_fits : (s : State) (w slot : ℕ) (x : Seat) (r : Running) (given : List ℕ) (k : Holding) → IsReached s
-    → FitsRunning s.plans x r → x.phase ≡ Leaving → IsAt s w r (leaving given) → holding_at (holdings r) slot ≡ Some k
-    → FitsRunning s.plans (emptied slot x) (at_stage r (leaving (slot ∷ given)))
-emptied_fits s w slot x r given k h fits phase at found =
+emptied_fits : (ps : List Acceptance) (s : State) (w slot : ℕ) (x : Seat) (r : Running) (given : List ℕ) (k : Holding) → IsReached s
+    → FitsRunning ps x r → x.phase ≡ Leaving → IsAt s w r (leaving given) → holding_at (holdings r) slot ≡ Some k
+    → FitsRunning ps (emptied slot x) (at_stage r (leaving (slot ∷ given)))
+emptied_fits ps s w slot x r given k h fits phase at found =
     let y = at_stage r (leaving (slot ∷ given)) in
     let few = (steps.slots_are_within s h w r at.seat slot k found).few in
     record {
@@ -317,7 +318,7 @@ module _ (f : Parts) (w slot : ℕ) (leaves : is_leaving (phase_of f w) ≡ true
           → reply ≡ unwound held.held (mark_at g.marks held.page) → Moves f (move.Unwind w slot) reply g
       unwind_moves g reply gives replied = moves_by f g (move.Unwind w slot) reply leads
         where
-          leads : (s : State) → StandsFor f s → Leads s (move.Unwind w slot) reply g
+          leads : (s : State) → StandsFor f s → Leads f s (move.Unwind w slot) reply g
           leads s st =
               let h = st.reached in
               let l = leaver f s w st leaves in
@@ -340,9 +341,9 @@ module _ (f : Parts) (w slot : ℕ) (leaves : is_leaving (phase_of f w) ≡ true
               ∙ mark_told t page (omega (arith, low, rest.notes)) in
               let xs = slice_set f.seats w (Some (emptied slot l.seat)) in
               let ys : List (Option Running) → List (Option Running) = λ zs. slice_set zs w (Some (at_stage r y)) in
-              let crew : FitsCrew s.plans xs (ys s.seats) =
-              seat_set s.plans f.seats s.seats w (Some (emptied slot l.seat)) (Some (at_stage r y)) st.seats
-              (emptied_fits s w slot l.seat r l.given b.0 h l.fits l.phase l.at b.1) in
+              let crew : FitsCrew f.plans xs (ys s.seats) =
+              seat_set f.plans f.seats s.seats w (Some (emptied slot l.seat)) (Some (at_stage r y)) st.seats
+              (emptied_fits f.plans s w slot l.seat r l.given b.0 h l.fits l.phase l.at b.1) in
               let peaks = subst (λ (x : Hold). running_peaks (after s l x.held x.page) ≡ running_peaks s) b.2
               (numbers.unwind_peaks s h w r slot l.given b.0 l.at) in
               let budget : f.budget - 1 ≡ bound t = omega (arith, st.budget, unwind_falls s h l) in
@@ -354,9 +355,10 @@ module _ (f : Parts) (w slot : ℕ) (leaves : is_leaving (phase_of f w) ≡ true
                 is = unwind_outcome s l ∙ ap (unwind_where s w r slot l.given) b.1
                     ∙ ap (outcome_for s l) b.2;
                 replies = replied ∙ ap (unwound u) mark;
+                plans = ap (λ (z : Parts). z.plans) is_g;
                 stands = λ reached. subst (λ (z : Parts). StandsFor z t) (sym is_g)
                     (stands_on f s t xs (unpinned freed page) f.bundles f.running (f.budget - 1) st reached rest
-                    (subst (λ (zs : List (Option Running)). FitsCrew s.plans xs (ys zs)) (sym (seats_stay s u page)) crew)
+                    (subst (λ (zs : List (Option Running)). FitsCrew f.plans xs (ys zs)) (sym (seats_stay s u page)) crew)
                     marks_are bundles (st.running ∙ sym peaks) budget);
               }
 
@@ -445,7 +447,7 @@ module _ (f : Parts) (w slot : ℕ) (leaves : is_leaving (phase_of f w) ≡ true
           → Moves f (move.Unwind w slot) Did g
       unwind_all_moves g gives = moves_by f g (move.Unwind w slot) Did leads
         where
-          leads : (s : State) → StandsFor f s → Leads s (move.Unwind w slot) Did g
+          leads : (s : State) → StandsFor f s → Leads f s (move.Unwind w slot) Did g
           leads s st =
               let h = st.reached in
               let l = leaver f s w st leaves in
@@ -462,9 +464,9 @@ module _ (f : Parts) (w slot : ℕ) (leaves : is_leaving (phase_of f w) ≡ true
               ap (λ (m : PageMap). unpinned_all (bundle_pages f w slot) m) st.marks
               ∙ ap (λ ps. unpinned_all ps (marks s)) all.pages ∙ all.marks_are in
               let xs = slice_set f.seats w (Some (emptied slot l.seat)) in
-              let crew : FitsCrew s.plans xs t.seats =
-              seat_set s.plans f.seats s.seats w (Some (emptied slot l.seat)) (Some (at_stage r y)) st.seats
-              (emptied_fits s w slot l.seat r l.given b.0 h l.fits l.phase l.at b.1) in
+              let crew : FitsCrew f.plans xs t.seats =
+              seat_set f.plans f.seats s.seats w (Some (emptied slot l.seat)) (Some (at_stage r y)) st.seats
+              (emptied_fits f.plans s w slot l.seat r l.given b.0 h l.fits l.phase l.at b.1) in
               let peaks = subst (λ (u : Held). running_peaks (with_stage (released_state s u b.0.page) w r y)
               ≡ running_peaks s) all.free (numbers.unwind_peaks s h w r slot l.given b.0 l.at) in
               let budget : f.budget - 1 ≡ bound t = omega (arith, st.budget, falls s st l) in
@@ -472,6 +474,7 @@ module _ (f : Parts) (w slot : ℕ) (leaves : is_leaving (phase_of f w) ≡ true
                 after = record { reply = Did; state = t };
                 is = after_bundle s st l;
                 replies = refl;
+                plans = ap (λ (z : Parts). z.plans) is_g;
                 stands = λ reached. subst (λ (z : Parts). StandsFor z t) (sym is_g)
                     (stands_on f s t xs (unpinned_all (bundle_pages f w slot) f.marks)
                     (with_pages f.bundles (bundle_place w slot) []) f.running (f.budget - 1) st reached rest crew

@@ -185,7 +185,7 @@ spent_stands f g s t w r a m st reached asked spent follow same seats marked_so 
     let budget : f.budget - 3 ≡ bound t = omega (arith, st.budget, bounded) in
     subst (λ (z : Parts). StandsFor z t) (sym spent.rest)
     (stands_on f s t g.seats m (stacks_after w a f.bundles) f.running (f.budget - 3) st reached same
-    (subst (λ (ys : List (Option Running)). FitsCrew s.plans g.seats ys) (sym seats) crew) marked_so
+    (subst (λ (ys : List (Option Running)). FitsCrew f.plans g.seats ys) (sym seats) crew) marked_so
     (asked_bundles f.bundles s t st.reached w r a st.bundles asked.at.seat (ap given_back asked.at.stage)
     (steps.asks_it s st.reached w r a asked) seats same.settings) (st.running ∙ sym peaks) budget)
 
@@ -195,7 +195,7 @@ pub unfix_moves : (f g : Parts) (w slot page : ℕ) → Asks f w (ask.Unfix slot
     → Spent f g w (action.Unfix slot) (unpinned f.marks page) → Moves f (move.Unfix w) Did g
 unfix_moves f g w slot page asks told spent = moves_by f g (move.Unfix w) Did leads
   where
-    leads : (s : State) → StandsFor f s → Leads s (move.Unfix w) Did g
+    leads : (s : State) → StandsFor f s → Leads f s (move.Unfix w) Did g
     leads s st =
         let a = asks s st in
         let r = a.0 in
@@ -220,6 +220,7 @@ unfix_moves f g w slot page asks told spent = moves_by f g (move.Unfix w) Did le
           after = record { reply = Did; state = t };
           is = acted_outcome s w r (λ q. unfix_asked s w q (asked_by q)) a.1 ∙ ap (unfix_asked s w r) a.2;
           replies = refl;
+          plans = ap (λ (z : Parts). z.plans) spent.rest;
           stands = λ reached. spent_stands f g s t w r d (unpinned f.marks page) st reached asked spent
               (unfix_follow f s w r st slot asked) same refl m (numbers.unfix_peaks s st.reached w r slot asked)
               (numbers.unfix_bound s st.reached w r slot asked);
@@ -288,7 +289,7 @@ pub scatter_moves : (f g : Parts) (w slot : ℕ) → Asks f w (ask.Scatter slot)
     → Spent f g w (action.Scatter slot) (unpinned_all (bundle_pages f w slot) f.marks) → Moves f (move.Unfix w) Did g
 scatter_moves f g w slot asks spent = moves_by f g (move.Unfix w) Did leads
   where
-    leads : (s : State) → StandsFor f s → Leads s (move.Unfix w) Did g
+    leads : (s : State) → StandsFor f s → Leads f s (move.Unfix w) Did g
     leads s st =
         let a = asks s st in
         let r = a.0 in
@@ -313,6 +314,7 @@ scatter_moves f g w slot asks spent = moves_by f g (move.Unfix w) Did leads
           after = record { reply = Did; state = t };
           is = acted_outcome s w r (λ q. unfix_asked s w q (asked_by q)) a.1 ∙ ap (unfix_asked s w r) a.2;
           replies = refl;
+          plans = ap (λ (z : Parts). z.plans) spent.rest;
           stands = λ reached. spent_stands f g s t w r d (unpinned_all (bundle_pages f w slot) f.marks) st reached asked
               spent (scatter_follow f s w r st slot asked) same refl m
               (numbers.scatter_peaks s st.reached w r slot asked) (numbers.scatter_bound s st.reached w r slot asked);
@@ -445,7 +447,7 @@ module _ (f : Parts) (w slot page : ℕ) (m : Mode) (asks : Asks f w (ask.Latch 
       → Moves f (move.Latch w) (Latched mark) g
   latch_moves g n mark e is spent tells = moves_by f g (move.Latch w) (Latched mark) leads
     where
-      leads : (s : State) → StandsFor f s → Leads s (move.Latch w) (Latched mark) g
+      leads : (s : State) → StandsFor f s → Leads f s (move.Latch w) (Latched mark) g
       leads s st =
           let h = latch_of s st in
           let r = h.running in
@@ -476,6 +478,7 @@ module _ (f : Parts) (w slot page : ℕ) (m : Mode) (asks : Asks f w (ask.Latch 
             is = latch_outcome s st true e;
             replies = ap Latched (tells ∙ ap (λ (z : PageMap). mark_in z page) here ∙ ap (mark_in (marks t)) at
                 ∙ mark_told t (page_in r slot) (latch_low h));
+            plans = ap (λ (z : Parts). z.plans) spent.rest;
             stands = λ reached. spent_stands f g s t w r d n st reached h.asked spent_here
                 (latch_follow f s w r st slot m h.asked) same refl now (numbers.latch_peaks s
                 st.reached w r slot m h.asked)

@@ -15,6 +15,8 @@ use Rattle.pp_cert.specs.declared.note.Held.TheVariants.{Free, S, X}
 use Rattle.pp_cert.specs.Accepted.{Acceptance, coded_acceptance}
 use Rattle.pp_arc.specs.FourLists.{FourLists}
 use Rattle.pp_bundles.specs.Bundles.{PageStacks}
+use Rattle.pp_settings.specs.declared.span.Span.{Span}
+use Rattle.pp_settings.specs.declared.span.Span.TheVariants.{Bounded, Endless}
 use Rattle.pp_frames.specs.Marks.{Latches, Shared, Exclusive, PageMarks, PageMap}
 use Rattle.pp_core.specs.declared.seat.Seat.{Seat}
 use Rattle.pp_core.specs.declared.seat.Hold.{Hold}
@@ -152,12 +154,13 @@ coded_phase =
 
 abbrev coded_seat : Coded Seat
 coded_seat =
-    code_by (ℕ × (Spot × (Ask × (ℕ × (ℕ × (List (Option Hold) × Phase))))))
-    (coded× coded_ℕ (coded× coded_spot (coded× coded_ask (coded× coded_ℕ (coded× coded_ℕ
+    code_by ((ℕ × ℕ) × (Spot × (Ask × (ℕ × (ℕ × (List (Option Hold) × Phase))))))
+    (coded× (coded× coded_ℕ coded_ℕ) (coded× coded_spot (coded× coded_ask (coded× coded_ℕ (coded× coded_ℕ
     (coded× (coded_list (coded_option coded_hold)) coded_phase))))))
-    (λ x. (x.plan, (x.cursor, (x.ask, (x.actions, (x.holds, (x.slots, x.phase)))))))
+    (λ x. ((x.plan, x.place), (x.cursor, (x.ask, (x.actions, (x.holds, (x.slots, x.phase)))))))
     (λ p. record {
-      plan = p.0;
+      plan = p.0.0;
+      place = p.0.1;
       cursor = p.1.0;
       ask = p.1.1.0;
       actions = p.1.1.1.0;
@@ -221,11 +224,26 @@ coded_flush =
     code_by (ℕ × ℕ) (coded× coded_ℕ coded_ℕ) (λ f. (f.page, f.began)) (λ p. record { page = p.0; began = p.1 })
     (λ _. refl)
 
+abbrev span_to : Span → Option ℕ
+span_to Bounded = None
+span_to (Endless waiting) = Some waiting
+
+abbrev span_from : Option ℕ → Span
+span_from None = Bounded
+span_from (Some waiting) = Endless waiting
+
+pub span_back : (k : Span) → span_from (span_to k) ≡ k
+span_back Bounded = refl
+span_back (Endless waiting) = refl
+
+abbrev coded_span : Coded Span
+coded_span = code_by (Option ℕ) (coded_option coded_ℕ) span_to span_from span_back
+
 -- ---- a core
 
 -- The settings, plans and seats; the pages; the numbers.
 abbrev Kept : Type 0
-Kept = Geometry × (ℕ × (ℕ × (List Acceptance × (ℕ × List (Option Seat)))))
+Kept = (Geometry × Span) × (ℕ × (ℕ × ((List Acceptance × List ℕ) × (ℕ × List (Option Seat)))))
 
 abbrev Pages : Type 0
 Pages = FourLists × (PageMap × (PageStacks × (List Bool × Option Flush)))
@@ -235,7 +253,8 @@ Numbers = ℕ × (ℕ × ℕ)
 
 abbrev coded_kept : Coded Kept
 coded_kept =
-    coded× coded_geometry (coded× coded_ℕ (coded× coded_ℕ (coded× (coded_list coded_acceptance) (coded× coded_ℕ
+    coded× (coded× coded_geometry coded_span) (coded× coded_ℕ (coded× coded_ℕ
+    (coded× (coded× (coded_list coded_acceptance) (coded_list coded_ℕ)) (coded× coded_ℕ
     (coded_list (coded_option coded_seat))))))
 
 abbrev coded_pages : Coded Pages
@@ -249,14 +268,16 @@ abbrev pub coded_parts : Coded Parts
 coded_parts =
     code_by (Kept × (Pages × Numbers)) (coded× coded_kept (coded× coded_pages coded_numbers))
     (λ f. (
-      (f.layout, (f.flushes, (f.flushes_left, (f.plans, (f.taken, f.seats))))),
+      ((f.layout, f.span), (f.flushes, (f.flushes_left, ((f.plans, f.waiting), (f.taken, f.seats))))),
       ((f.lists, (f.marks, (f.bundles, (f.in_flight, f.flush)))), (f.running, (f.need, f.budget))),
     ))
     (λ p. record {
-      layout = p.0.0;
+      layout = p.0.0.0;
+      span = p.0.0.1;
       flushes = p.0.1.0;
       flushes_left = p.0.1.1.0;
-      plans = p.0.1.1.1.0;
+      plans = p.0.1.1.1.0.0;
+      waiting = p.0.1.1.1.0.1;
       taken = p.0.1.1.1.1.0;
       seats = p.0.1.1.1.1.1;
       lists = p.1.0.0;

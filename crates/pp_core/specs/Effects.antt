@@ -52,7 +52,7 @@ IsIn f w x = slice_get f.seats w ≡ Some (Some x)
 -- Worker w has this seat, and runs this plan.
 pub record Runs (f : Parts) (w : ℕ) (x : Seat) (a : Acceptance) : Type 0 where
   pub is_in : IsIn f w x
-  pub plan : slice_get f.plans x.plan ≡ Some a
+  pub plan : slice_get f.plans x.place ≡ Some a
 
 -- Worker w can do the action.
 pub record CanAct (f : Parts) (w : ℕ) (a : Action) : Type 0 where

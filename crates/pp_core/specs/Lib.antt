@@ -2,6 +2,7 @@ pub mod Slots
 pub mod CoreErrors
 pub mod Seats
 pub mod Busy
+pub mod Limits
 pub mod Parts
 pub mod Gathered
 pub mod Coding

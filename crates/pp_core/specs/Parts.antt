@@ -5,15 +5,18 @@ use Rattle.pp_cert.specs.Accepted.{Acceptance}
 use Rattle.pp_arc.specs.FourLists.{FourLists}
 use Rattle.pp_frames.specs.Marks.{PageMap}
 use Rattle.pp_bundles.specs.Bundles.{PageStacks}
+use Rattle.pp_settings.specs.declared.span.Span.{Span}
 use Rattle.pp_core.specs.declared.seat.Seat.{Seat}
 use Rattle.pp_core.specs.declared.table.Flush.{Flush}
 use Rattle.pp_core.specs.declared.table.Table.{Table}
 
 pub record Parts : Type 0 where
   pub layout : Geometry
+  pub span : Span
   pub flushes : ℕ
   pub flushes_left : ℕ
   pub plans : List Acceptance
+  pub waiting : List ℕ
   pub taken : ℕ
   pub seats : List (Option Seat)
   pub lists : FourLists
@@ -28,9 +31,11 @@ pub record Parts : Type 0 where
 abbrev pub parts_of : Table → Parts
 parts_of t = record {
   layout = t.layout;
+  span = t.span;
   flushes = t.flushes;
   flushes_left = t.flushes_left;
   plans = t.plans.items;
+  waiting = t.waiting.items;
   taken = t.taken;
   seats = t.seats.items;
   lists = t.directory;

@@ -10,9 +10,10 @@ use Rattle.pp_core.specs.declared.seat.Seat.{Seat}
 use Rattle.pp_core.specs.declared.seat.Phase.TheVariants.{Acting}
 use Rattle.pp_core.specs.Slots.{slots_after, count_after}
 
--- A worker that has done nothing of the plan of this number.
-pub record IsBegun (plan : Terms) (k : ℕ) (x : Seat) : Type 0 where
+-- A worker that has done nothing of the plan of this number, which stands at this place.
+pub record IsBegun (plan : Terms) (k at : ℕ) (x : Seat) : Type 0 where
   pub number : x.plan ≡ k
+  pub place : x.place ≡ at
   pub cursor : StandsFor plan x.cursor []
   pub ask : x.ask ≡ asked plan []
   pub actions : x.actions ≡ 0
@@ -50,6 +51,7 @@ counted a x =
 -- The worker y is x after the action.
 pub record Did (plan : Terms) (x y : Seat) (a : Action) : Type 0 where
   pub number : y.plan ≡ x.plan
+  pub place : y.place ≡ x.place
   pub cursor : (before : List Action) → StandsFor plan x.cursor before → StandsFor plan y.cursor (before ++ a ∷ [])
   pub ask : (before : List Action) → StandsFor plan x.cursor before → y.ask ≡ asked plan (before ++ a ∷ [])
   pub actions : y.actions ≡ x.actions + 1

@@ -1,14 +1,14 @@
 -- What a core stands for: how what it keeps hangs together with a state of the model. The core keeps cursors, counters
 -- and one map of marks; the state has lists of actions done.
-use Rattle.std.specs.Prelude.{◌≡◌, ℕ, Bool, Option, None, Some, option_map, List, length, slice_get}
-use Rattle.pp_settings.specs.declared.span.Span.TheVariants.{Bounded}
+use Rattle.std.specs.Prelude.{◌≡◌, ℕ, ◌+◌, Bool, Option, None, Some, option_map, List, length, map, slice_get}
 use Rattle.pp_plan.specs.Limits.{most_slots}
 use Rattle.pp_cursor.specs.Cursor as cursor
 use Rattle.pp_cert.specs.Held.{holding_at}
 use Rattle.pp_cert.specs.Accepted.{Acceptance}
 use Rattle.pp_model.specs.declared.moves.Move.{Move}
 use Rattle.pp_model.specs.declared.reply.Reply.{Reply}
-use Rattle.pp_model.specs.Pool.{Stage, acting, writing, reading, leaving, Running, Flush as FlushInFlight, State}
+use Rattle.pp_settings.specs.declared.span.Span.TheVariants.{Bounded}
+use Rattle.pp_model.specs.Pool.{Stage, acting, writing, reading, leaving, Running, Flush as FlushInFlight, State, waiting}
 use Rattle.pp_model.specs.Holders.{holdings, held_slots, is_in_flight}
 use Rattle.pp_model.specs.Budget.{running_peaks, journal_need, bound}
 use Rattle.pp_model.specs.Marks.{marks}
@@ -38,7 +38,8 @@ FitsStage _ _ = ⊥
 
 pub record FitsRunning (plans : List Acceptance) (x : Seat) (r : Running) : Type 0 where
   pub number : x.plan ≡ r.number
-  pub plan : slice_get plans r.number ≡ Some r.accepted
+  -- the plan stands at its place among those that are kept
+  pub plan : slice_get plans x.place ≡ Some r.accepted
   -- the cursor stands for the actions that the worker has done, also while it leaves its plan
   pub cursor : cursor.StandsFor r.accepted.plan x.cursor r.done
   -- what the plan asks after them
@@ -63,6 +64,15 @@ pub record FitsCrew (plans : List Acceptance) (xs : List (Option Seat)) (ys : Li
   pub each : (w : ℕ) (x : Option Seat) (y : Option Running) → slice_get xs w ≡ Some x → slice_get ys w ≡ Some y
       → FitsSeat plans x y
 
+-- ---- plans
+
+-- The plans that are kept, and of each plan that waits its place among them.
+pub record PlansFit (plans : List Acceptance) (places : List ℕ) (s : State) : Type 0 where
+  pub waits : map (slice_get plans) places ≡ map Some (waiting s)
+  pub submitted : s.taken + length places ≡ length s.plans
+  -- in a bounded life they are those that were submitted
+  pub all : s.settings.span ≡ Bounded → plans ≡ s.plans
+
 -- ---- the pool
 
 abbrev pub in_flight_as : Flush → FlushInFlight
@@ -71,13 +81,12 @@ in_flight_as f = record { page = f.page; began = f.began }
 pub record StandsFor (f : Parts) (s : State) : Type 0 where
   pub reached : IsReached s
   pub layout : f.layout ≡ s.settings.layout
+  pub span : f.span ≡ s.settings.span
   pub flushes : f.flushes ≡ s.settings.flushes
-  -- its life is bounded, as that of every core is so far
-  pub span : s.settings.span ≡ Bounded
   pub flushes_left : f.flushes_left ≡ s.flushes_left
-  pub plans : f.plans ≡ s.plans
+  pub plans : PlansFit f.plans f.waiting s
   pub taken : f.taken ≡ s.taken
-  pub seats : FitsCrew s.plans f.seats s.seats
+  pub seats : FitsCrew f.plans f.seats s.seats
   pub lists : f.lists ≡ s.lists
   pub marks : f.marks ≡ marks s
   pub bundles : BundlesFit f.bundles s
@@ -95,10 +104,11 @@ pub record IsKept (f : Parts) : Type 0 where
   pub state : State
   pub stands : StandsFor f state
 
--- The move is answered so and leads to these parts, from every state that the old parts stand for.
+-- The move is answered so and leads to these parts, from every state that the old parts stand for. The plans that are kept stay.
 pub record Moves (old : Parts) (move : Move) (reply : Reply) (new : Parts) : Type 0 where
   pub stands : (s : State) → StandsFor old s → StandsFor new (next_of s move)
   pub replies : (s : State) → StandsFor old s → reply ≡ reply_of s move
+  pub plans : (s : State) → StandsFor old s → new.plans ≡ old.plans
 
 -- The move is refused with this reply.
 abbrev pub Refuses : Parts → Move → Reply → Type 0

@@ -112,7 +112,7 @@ impl Table {
     {
         match &mut self.seats[worker as usize] {
             Some(seat) => {
-                let steps = self.plans[seat.plan as usize].steps();
+                let steps = self.plans[seat.place as usize].steps();
                 let left = 3 * (steps - u64::from(seat.actions)) + spare;
                 self.budget = self.budget - left + u64::from(seat.holds) + 1;
                 seat.phase = Phase::Leaving;

@@ -90,7 +90,7 @@ impl Table {
     {
         match self.seats.get(worker as usize) {
             Some(Some(seat)) => {
-                let steps = self.plans[seat.plan as usize].steps();
+                let steps = self.plans[seat.place as usize].steps();
                 3 * (steps - u64::from(seat.actions)) + 33
             }
             _ => unreachable!(),
@@ -103,7 +103,7 @@ impl Table {
         ensures { (x : Seat) (a : Acceptance) → Runs (parts_of self.now) worker x a → result ≡ a.peak }
     {
         match self.seats.get(worker as usize) {
-            Some(Some(seat)) => self.plans[seat.plan as usize].peak(),
+            Some(Some(seat)) => self.plans[seat.place as usize].peak(),
             _ => unreachable!(),
         }
     }

@@ -2,8 +2,8 @@
 #![tactic(auto)]
 
 pub use draining::Decide;
-pub use error::CoreError;
-pub use machine::{Core, PlanId};
+pub use error::{CoreError, PrepareError};
+pub use machine::{Core, PlanId, Prepared};
 pub use pp_cert::{Accepted, Held};
 pub use pp_model::{
     Came, Cause, Delay, Ending, Event, Failure, Move, RenewError, Reply, SubmitError, Turn,

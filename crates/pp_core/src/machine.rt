@@ -6,13 +6,16 @@ ghost use Rattle.pp_frames.specs.Marks.{dirty_from};
 ghost use Rattle.pp_model.specs.Pool.{State, opening, frame_of, known_mark, dirty_pages};
 ghost use Rattle.pp_model.specs.Budget.{bound};
 ghost use Rattle.pp_model.specs.Marks.{marks};
-ghost use Rattle.pp_model.specs.Submitting.{submit_error};
 ghost use Rattle.pp_model.specs.Renewing.{renew_error};
 ghost use Rattle.pp_model.specs.Moves.{is_refusal};
 ghost use Rattle.pp_model.specs.Turns.{IsOpen, next_turn, IsUnderWay};
 ghost use Rattle.pp_core.specs.StandsFor.{StandsFor, IsKept, Moves};
-ghost use Rattle.pp_core.specs.Opening.{kept_of};
-ghost use Rattle.pp_core.specs.Submits.{TakesIn};
+ghost use Rattle.pp_core.specs.Opening.{kept_of, kept_for};
+ghost use Rattle.std.specs.Prelude.{◌≢◌, ◌^◌, true, is_none, [], slice_get};
+ghost use Rattle.pp_model.specs.declared.refusals.SubmitError.TheVariants.{NotPrepared};
+ghost use Rattle.pp_cert.specs.Accepted.{Acceptance};
+ghost use Rattle.pp_settings.specs.declared.span.Span.TheVariants.{Bounded, Endless};
+ghost use Rattle.pp_core.specs.Submits.{TakesIn, SubmitFails, TakesPrepared, PreparedFails, Prepares, PrepareFails};
 ghost use Rattle.pp_core.specs.Renewals.{Renews};
 ghost use Rattle.pp_core.specs.Runs.{MovesAll};
 ghost use Rattle.pp_core.specs.Draining.{host_of, IsOpenIn, CanBeMade, DecidesIn, Drains, Rests};
@@ -20,18 +23,18 @@ ghost use Rattle.pp_core.specs.Queries.{is_idle, is_leaving, ask_of, held_of, as
 ghost use Rattle.pp_core.specs.Headline.{HeadlineHolds};
 
 use crate::draining::Decide;
-use crate::error::CoreError;
+use crate::error::{CoreError, PrepareError};
 use crate::table::Table;
 use pp_arc::Directory;
 use pp_cert::{Accepted, Held};
 use pp_frames::Marks;
 use pp_model::{Move, RenewError, Reply, SubmitError, Turn};
 use pp_plan::Ask;
-use pp_settings::Settings;
+use pp_settings::{Settings, Span};
 use std::alloc::Global;
 use std::marker::Model;
 
-/// A plan's number: how many plans were submitted before it.
+/// A plan's number: how many plans were submitted before it, in this life.
 #[derive(Clone, Copy, Debug, PartialEq, Eq)]
 pub struct PlanId(u64);
 
@@ -54,6 +57,32 @@ impl PlanId {
     }
 }
 
+/// A plan that a core keeps, so that it can be submitted as often as wanted: its place among those that are kept.
+///
+/// It is of the core that gave it. Another core takes it for the plan that it keeps at the same place, if there is one.
+#[derive(Clone, Copy, Debug, PartialEq, Eq)]
+pub struct Prepared(u32);
+
+impl Model for Prepared {
+    ghost use Rattle.std.specs.Prelude.{ℕ};
+
+    ghost Value = { ℕ };
+
+    ghost view = { λ prepared. prepared.0 };
+
+    ghost inverse = { λ n. record { 0 = n } };
+}
+
+impl Prepared {
+    /// The place, from 0: how many plans were prepared before it.
+    pub fn place(self) -> u32
+        ensures { result ≡ self }
+    {
+        let Prepared(place) = self;
+        place
+    }
+}
+
 /// The core of a pool, as a machine over moves: it decides which move is possible, answers it, and keeps what follows.
 /// It has no pages, devices or threads; whoever runs it does what the replies say.
 ///
@@ -71,7 +100,7 @@ impl PlanId {
 /// isn't ended some actor's next move is possible ([`Core::next_possible`] names the actor).
 ///
 /// Workers, plans, slots, pages and frames are numbered from 0; slots by their names in byte order. All its memory is
-/// got by [`Core::new`]; no other call takes any for the core. There are no locks in it.
+/// got by [`Core::new`] or [`Core::endless`]; no other call takes any for the core. There are no locks in it.
 pub struct Core {
     pub(crate) table: Table,
 }
@@ -111,8 +140,42 @@ impl Core {
         ensures kept { IfOk result IsKept }
         ensures headline { IfOk result HeadlineHolds }
     {
-        let table = Table::new(alloc, settings)?;
+        let table = Table::new(alloc, settings, Span::Bounded)?;
         Ok(Core { table })
+    }
+
+    /// A core with these settings whose lives last as long as its host wants. At most `waiting` plans, 1 to 1,048,576, wait
+    /// at a time.
+    ///
+    /// Plans are prepared, at most 4,096 of them, and each is submitted as often as wanted ([`Core::prepare`],
+    /// [`Core::submit_prepared`]). A plan that was ended leaves nothing behind. A life has room for plans whose costs, with
+    /// twice the flushes, are 2^61 at most. The flushes of the settings are those of a whole life, so once they have
+    /// begun none begins until a renewal.
+    ///
+    /// The core gets all memory that it ever needs: that of [`Core::new`], with room for 4,096 prepared plans, and 4 bytes for
+    /// each plan that may wait.
+    ///
+    /// # Errors
+    ///
+    /// Only where that memory can't be had.
+    pub fn endless(alloc: Global, settings: &Settings, waiting: u32) -> Result<Core, CoreError>
+        requires some { 1 ≤ waiting }
+        requires most { waiting ≤ 2 ^ 20 }
+        ensures opens { IfOk result (λ core. StandsFor core (opening (kept_for settings.now (Endless waiting)))) }
+        ensures none_prepared { IfOk result (λ core. core.plans ≡ []) }
+        ensures kept { IfOk result IsKept }
+        ensures headline { IfOk result HeadlineHolds }
+    {
+        let table = Table::new(alloc, settings, Span::Endless { waiting })?;
+        Ok(Core { table })
+    }
+
+    /// How long a life may last.
+    pub fn span(&self) -> Span
+        ensures is { result ≡ self.now.span }
+        ensures of { (s : State) → StandsFor self.now s → result ≡ s.settings.span }
+    {
+        self.table.span
     }
 
     /// Does nothing. It tells that the core stands for a state that can be reached, and that the headline holds of
@@ -124,20 +187,20 @@ impl Core {
         let _ = &self.table;
     }
 
-    /// Takes a plan in, which waits behind the others, and answers its number.
+    /// In a bounded life, takes a plan in, which waits behind the others, and answers its number.
     ///
     /// Plans start in the order of submission: one whose peak doesn't fit yet holds up all behind it. Plans that were
     /// ended still count among the 256, and keep their memory, until the core is renewed ([`Core::renew`]).
     ///
     /// # Errors
     ///
-    /// The first of these that applies: [`SubmitError::OtherSettings`] where the plan was accepted under another layout
-    /// than the pool's, [`SubmitError::TooManyPlans`] where 256 plans were submitted in this life,
-    /// [`SubmitError::JournalLimit`] where the costs of all plans of this life and twice the flushes would be more than
-    /// 4,000,000. Then the plan comes back, and nothing has changed.
+    /// The first of these that applies: [`SubmitError::NotPrepared`] where the life is endless, [`SubmitError::OtherSettings`]
+    /// where the plan was accepted under another layout than the pool's, [`SubmitError::TooManyPlans`] where 256 plans were
+    /// submitted in this life, [`SubmitError::JournalLimit`] where the costs of all plans of this life and twice the flushes
+    /// would be more than 4,000,000. Then the plan comes back, and nothing has changed.
     pub fn submit(&mut self, accepted: Accepted) -> Result<PlanId, (Accepted, SubmitError)>
         ensures ok { IfOk result (λ id. TakesIn self.old accepted id self.new) }
-        ensures error { IfErr result (λ e. (s : State) → StandsFor self.old s → submit_error s accepted ≡ Some e.1) }
+        ensures error { IfErr result (λ e. SubmitFails self.old accepted e.1) }
         ensures back { IfErr result (λ e. e.0 ≡ accepted) }
         ensures unchanged { OnErr result (self.new ≡ self.old) }
         ensures kept { IsKept self.new }
@@ -147,8 +210,55 @@ impl Core {
         Ok(PlanId(number))
     }
 
-    /// Begins the next life of a core at rest: its plans go, so 256 may be submitted again, numbered from 0, and all flushes
-    /// of its settings may begin again. All else stays as it is: what is cached, ARC's lists and target, which pages are newer
+    /// Keeps the plan in an endless life, so that it can be submitted as often as wanted. It stays until the core is dropped.
+    ///
+    /// # Errors
+    ///
+    /// [`PrepareError::OtherSettings`] where the plan was accepted under another layout than the pool's, else
+    /// [`PrepareError::TooManyPrepared`] where 4,096 plans are kept, or the life is bounded. Then the plan comes back, and nothing
+    /// has changed.
+    pub fn prepare(&mut self, accepted: Accepted) -> Result<Prepared, (Accepted, PrepareError)>
+        ensures ok { IfOk result (λ prepared. Prepares self.old accepted prepared self.new) }
+        ensures error { IfErr result (λ e. PrepareFails self.old accepted e.1) }
+        ensures back { IfErr result (λ e. e.0 ≡ accepted) }
+        ensures unchanged { OnErr result (self.new ≡ self.old) }
+        ensures kept { IsKept self.new }
+        ensures headline { HeadlineHolds self.new }
+    {
+        let place = self.table.prepare(accepted)?;
+        Ok(Prepared(place))
+    }
+
+    /// In an endless life, takes a prepared plan in, which waits behind the others, and answers its number. It takes no memory.
+    ///
+    /// # Errors
+    ///
+    /// The first of these that applies: [`SubmitError::NotPrepared`] where the core keeps no such plan, or the life is bounded;
+    /// [`SubmitError::OtherSettings`], which [`Core::prepare`] has told before; [`SubmitError::TooManyPlans`] where as many plans
+    /// wait as may, so that it can be tried again once one was taken; and [`SubmitError::JournalLimit`] where the costs of all
+    /// plans of this life and twice the flushes would be more than 2^61, so that only a renewal helps. Nothing has changed.
+    pub fn submit_prepared(&mut self, prepared: Prepared) -> Result<PlanId, SubmitError>
+        ensures ok { IfOk result (λ id. (a : Acceptance) × TakesPrepared self.old prepared id a self.new) }
+        ensures error { IfErr result (PreparedFails self.old prepared) }
+        ensures unchanged { OnErr result (self.new ≡ self.old) }
+        ensures kept { IsKept self.new }
+        ensures headline { HeadlineHolds self.new }
+    {
+        let number = self.table.submit_prepared(prepared.0)?;
+        Ok(PlanId(number))
+    }
+
+    /// The prepared plan; None where the core keeps none at that place, or the life is bounded.
+    pub fn prepared(&self, prepared: Prepared) -> Option<&Accepted>
+        ensures some { IfSome result (λ accepted. (self.now.span ≢ Bounded)
+            × (slice_get self.now.plans prepared ≡ Some accepted.now)) }
+        ensures none { is_none result ≡ true → PreparedFails self.now prepared NotPrepared }
+    {
+        self.table.prepared(prepared.0)
+    }
+
+    /// Begins the next life of a core at rest. In a bounded life its plans go, so 256 may be submitted again; in an endless one
+    /// the prepared plans stay. Plans are numbered from 0 again, and all flushes of its settings may begin again. All else stays as it is: what is cached, ARC's lists and target, which pages are newer
     /// than the device's, and every known mark.
     ///
     /// It takes no memory, copies nothing, and reads each page's mark one time. The journal of the next life begins in the
@@ -251,6 +361,7 @@ impl Core {
         ensures rest { Rests self.new }
         ensures moved { (s : State) → StandsFor self.old s
             → Drains (host_of D.picks D.chooses D.reads D.writes D.flushes) s decide.old self.new result decide.new }
+        ensures plans { self.new.plans ≡ self.old.plans }
         ensures kept { IsKept self.new }
         ensures headline { HeadlineHolds self.new }
     {
@@ -275,8 +386,8 @@ impl Core {
 
     // ---- what the state has
 
-    /// The bound on the moves that are left: each move that is done lowers it by 1 at least, and [`Core::submit`]
-    /// raises it by the plan's cost. A new core has twice the flushes, and [`Core::renew`] sets it to that again.
+    /// The bound on the moves that are left: each move that is done lowers it by 1 at least, and [`Core::submit`] and
+    /// [`Core::submit_prepared`] raise it by the plan's cost. A new core has twice the flushes, and [`Core::renew`] sets it to that again.
     pub fn budget(&self) -> u64
         ensures bound { (s : State) → StandsFor self.now s → result ≡ bound s }
         ensures value { result ≡ self.now.budget }

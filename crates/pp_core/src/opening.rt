@@ -1,16 +1,18 @@
 //! The table of a new pool.
 
 ghost use Rattle.std.specs.Prelude.{◌≡◌, None, IfOk, replicate};
-ghost use Rattle.pp_model.specs.Reached.{IsSettings};
+ghost use Rattle.pp_model.specs.Reached.{IsSettings, IsSpan};
 ghost use Rattle.pp_core.specs.Parts.{parts_of};
-ghost use Rattle.pp_core.specs.Opening.{kept_of, opening_parts};
+ghost use Rattle.pp_core.specs.Opening.{kept_for, opening_parts};
 
 use crate::seat::Seat;
-use crate::table::{MOST_PLANS, Table};
+use crate::submitting::{most_kept, plan_limit};
+use crate::table::Table;
+use circular_buffer::HeapCircularBuffer;
 use pp_arc::{Directory, Search};
 use pp_bundles::Bundles;
 use pp_frames::Marks;
-use pp_settings::Settings;
+use pp_settings::{Settings, Span};
 use std::alloc::{AllocError, Global};
 
 /// The seats of so many idle workers.
@@ -25,14 +27,16 @@ fn idle_seats(alloc: Global, workers: u32) -> Result<Vec<Option<Seat>>, AllocErr
 }
 
 impl Table {
-    /// The table of a pool with these settings, in which nothing was done yet.
-    pub(crate) fn new(alloc: Global, settings: &Settings) -> Result<Table, AllocError>
-        ensures opens { IfOk result (λ table. parts_of table ≡ opening_parts (kept_of settings.now)) }
-        ensures within { IfOk result (λ _. IsSettings (kept_of settings.now)) }
+    /// The table of a pool with these settings, whose lives may last so long, in which nothing was done yet.
+    pub(crate) fn new(alloc: Global, settings: &Settings, span: Span) -> Result<Table, AllocError>
+        requires { IsSpan span }
+        ensures opens { IfOk result (λ table. parts_of table ≡ opening_parts (kept_for settings.now span)) }
+        ensures within { IfOk result (λ _. IsSettings (kept_for settings.now span)) }
     {
         let layout = settings.layout();
         let pages = layout.pages();
-        let plans = Vec::with_capacity(alloc, MOST_PLANS)?;
+        let plans = Vec::with_capacity(alloc, most_kept(span))?;
+        let waiting = HeapCircularBuffer::with_capacity(alloc, plan_limit(span) as usize)?;
         let seats = idle_seats(alloc, settings.workers())?;
         let directory = Directory::new(alloc, layout.frames(), pages)?;
         let search = Search::new(alloc, pages)?;
@@ -44,7 +48,9 @@ impl Table {
             layout,
             flushes,
             flushes_left: flushes,
+            span,
             plans,
+            waiting,
             taken: 0,
             seats,
             directory,

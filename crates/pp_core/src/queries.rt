@@ -1,6 +1,6 @@
 //! What the table tells.
 
-ghost use Rattle.std.specs.Prelude.{◌≡◌, ◌≤◌, length, slice_get, count_by};
+ghost use Rattle.std.specs.Prelude.{◌≡◌, ◌+◌, ◌^◌, ◌≤◌, length, slice_get, count_by};
 ghost use Rattle.pp_core.specs.Queries.{idle_seat, held_seat, ask_holding_seat, gathered_in, errand_seat};
 
 use crate::seat::Phase;
@@ -11,9 +11,10 @@ use pp_plan::Ask;
 impl Table {
     /// How many plans were submitted.
     pub(crate) fn plan_count(&self) -> u64
-        ensures { result ≡ length self.now.plans.items }
+        requires { self.now.taken ≤ 2 ^ 61 }
+        ensures { result ≡ self.now.taken + length self.now.waiting.items }
     {
-        self.plans.len() as u64
+        self.taken + self.waiting.len() as u64
     }
 
     /// Whether the worker is idle.

@@ -105,7 +105,7 @@ impl Table {
     {
         match self.seats.get(worker as usize) {
             Some(Some(seat)) => {
-                let plan = self.plans[seat.plan as usize].plan();
+                let plan = self.plans[seat.place as usize].plan();
                 seat.ask_after(plan, action)
             }
             _ => unreachable!(),

@@ -6,7 +6,7 @@ ghost use Rattle.pp_model.specs.Pool.{State};
 ghost use Rattle.pp_model.specs.Renewing.{renew_error};
 ghost use Rattle.pp_core.specs.Parts.{parts_of};
 ghost use Rattle.pp_core.specs.StandsFor.{StandsFor, IsKept};
-ghost use Rattle.pp_core.specs.Renewals.{is_resting, renew_fault, renewed_parts, Renews};
+ghost use Rattle.pp_core.specs.Renewals.{is_resting, renew_fault, kept_plans, renewed_parts, Renews};
 
 use crate::seat::Seat;
 use crate::table::Table;
@@ -27,7 +27,7 @@ impl Table {
     fn is_at_rest(&self) -> bool
         ensures { result ≡ is_resting (parts_of self.now) }
     {
-        self.plans.len() <= self.taken as usize && are_idle(&self.seats) && self.flush.is_none()
+        self.waiting.is_empty() && are_idle(&self.seats) && self.flush.is_none()
     }
 
     /// Why the core isn't renewed, if it isn't.
@@ -41,11 +41,21 @@ impl Table {
         Some(RenewError::MarkTooHigh { page })
     }
 
-    /// The plans go, and the flushes come back.
+    /// The plans of a bounded life go.
+    fn forget_plans(&mut self)
+        ensures { parts_of self.new ≡ record (parts_of self.old) { plans = kept_plans self.old.span self.old.plans.items } }
+    {
+        if !self.is_endless() {
+            self.plans.clear();
+        }
+    }
+
+    /// The plans of a bounded life go, none waits, and the flushes come back.
     fn begin_anew(&mut self)
         ensures { parts_of self.new ≡ renewed_parts (parts_of self.old) }
     {
-        self.plans.clear();
+        self.forget_plans();
+        self.waiting.clear();
         self.taken = 0;
         self.flushes_left = self.flushes;
         self.need = 2 * u64::from(self.flushes);

@@ -40,8 +40,9 @@ pub enum Phase {
 /// A worker in its plan.
 #[derive(Debug, Drop)]
 pub struct Seat {
-    /// The plan's number.
+    /// The plan's number, and its place among the plans that are kept.
     pub(crate) plan: u64,
+    pub(crate) place: u32,
     /// Where the worker is in the plan, as long as it follows it.
     pub(crate) cursor: Cursor,
     /// What the plan asks there.
@@ -58,13 +59,14 @@ pub struct Seat {
 
 impl Seat {
     /// A worker before the first action of the plan of this number.
-    pub(crate) fn new(number: u64, plan: &Plan) -> Seat
-        ensures { IsBegun plan.now number result }
+    pub(crate) fn new(number: u64, place: u32, plan: &Plan) -> Seat
+        ensures { IsBegun plan.now number place result }
     {
         let cursor = Cursor::new(plan);
         let ask = cursor.ask(plan);
         Seat {
             plan: number,
+            place,
             cursor,
             ask,
             actions: 0,

@@ -3,28 +3,25 @@
 ghost use Rattle.std.specs.Prelude.{◌≡◌, ◌<◌, ◌≤◌, ◌+◌, ◌-◌, ◌^◌, ℕ, IfOk, IfErr, IfSome, Some, None, List, length};
 ghost use Rattle.std.specs.Prelude.{slice_get, vec_capacity, []};
 ghost use Rattle.pp_arc.specs.Search.{KnowsBusy};
+ghost use Rattle.pp_model.specs.Submitting.{plan_limit};
 ghost use Rattle.pp_frames.specs.Marks.{IsFree, frame_of, pins_of, all_pins, latch_count, latches_of};
 ghost use Rattle.pp_core.specs.declared.seat.Seat.{Seat};
 ghost use Rattle.pp_core.specs.Busy.{is_busy_in, page_of};
 ghost use Rattle.pp_core.specs.Slots.{hold_at};
+ghost use Rattle.pp_core.specs.Limits.{most_kept};
 ghost use Rattle.pp_core.specs.Gathered.{bundle_place};
 
 use crate::busy::BusyPages;
 use crate::seat::{Hold, Phase, Seat};
+use circular_buffer::HeapCircularBuffer;
 use pp_arc::{Answer, Directory, Search};
 use pp_bundles::Bundles;
 use pp_cert::{Accepted, Held};
 use pp_frames::{Marks, Mode};
 use pp_model::{Cause, Delay, Move, Reply};
 use pp_plan::{Action, Ask};
-use pp_settings::{Layout, Settings};
+use pp_settings::{Layout, Settings, Span};
 use std::alloc::{AllocError, Global};
-
-/// The most plans that a pool keeps.
-pub(crate) const MOST_PLANS: usize = 256;
-
-/// The most events besides submits that a pool's journal may have to hold.
-pub(crate) const MOST_EVENTS: u64 = 4_000_000;
 
 /// A flush in flight: its page, and the mark that the page had as it began.
 #[derive(Clone, Copy, Debug, PartialEq, Eq)]
@@ -41,8 +38,12 @@ pub struct Table {
     /// How many flushes a run may begin, and how many of them are left.
     pub(crate) flushes: u32,
     pub(crate) flushes_left: u32,
-    /// All plans that were submitted, in order, and how many of them were taken.
+    /// How long a life may last.
+    pub(crate) span: Span,
+    /// The plans that are kept: all that were submitted, in a bounded life; those that were prepared, in an endless one.
     pub(crate) plans: Vec<Accepted>,
+    /// Of each plan that waits its place among these, and how many plans were taken.
+    pub(crate) waiting: HeapCircularBuffer<u32>,
     pub(crate) taken: u64,
     /// At place w worker w: in its plan, or idle.
     pub(crate) seats: Vec<Option<Seat>>,
@@ -64,10 +65,12 @@ pub struct Table {
     pub(crate) need: u64,
     /// The bound on the moves that are left.
     pub(crate) budget: u64,
-    /// There is room for all plans that a pool keeps.
-    ghost room: { 256 ≤ vec_capacity plans },
+    /// There is room for all plans that may be kept.
+    ghost room: { most_kept span ≤ vec_capacity plans },
     /// The search knows which pages may leave: those that nobody fixed and that aren't being flushed.
     ghost knows: { KnowsBusy directory search (is_busy_in marks (page_of flush)) },
+    /// There is room for all plans that may wait.
+    ghost queue: { plan_limit span ≤ waiting.capacity },
 }
 
 /// Where the stack of the worker's slot is.
@@ -131,7 +134,7 @@ impl Table {
     {
         match &mut self.seats[worker as usize] {
             Some(seat) => {
-                let plan = self.plans[seat.plan as usize].plan();
+                let plan = self.plans[seat.place as usize].plan();
                 seat.act(plan, action);
             }
             None => unreachable!(),

@@ -1,6 +1,6 @@
 //! Take: an idle worker begins the first plan that waits, where its peak fits beside the running peaks.
 
-ghost use Rattle.std.specs.Prelude.{◌≡◌, ◌+◌, ◌≤◌, IsTrue, Some, slice_get};
+ghost use Rattle.std.specs.Prelude.{◌≡◌, ℕ, ◌+◌, ◌≤◌, IsTrue, Some, slice_get};
 ghost use Rattle.pp_cert.specs.Accepted.{Acceptance};
 ghost use Rattle.pp_model.specs.Moves.{is_refusal};
 ghost use Rattle.pp_core.specs.Parts.{parts_of};
@@ -39,10 +39,18 @@ impl Table {
     pub(crate) fn waiting_peak(&self) -> Option<u64>
         ensures { result ≡ waiting_peak (parts_of self.now) }
     {
-        match self.plans.get(self.taken as usize) {
+        let place = self.first_place()?;
+        match self.plans.get(place as usize) {
             None => None,
             Some(accepted) => Some(accepted.peak()),
         }
+    }
+
+    /// The place of the first plan that waits.
+    fn first_place(&self) -> Option<u32>
+        ensures { result ≡ slice_get self.now.waiting.items 0 }
+    {
+        self.waiting.front().copied()
     }
 
     /// Whether a plan of this peak fits beside those that run.
@@ -56,12 +64,17 @@ impl Table {
     /// The worker begins the first plan that waits.
     fn begin_plan(&mut self, worker: u32)
         requires { CanBegin (parts_of self.old) worker }
-        ensures { (a : Acceptance) → slice_get self.old.plans.items self.old.taken ≡ Some a →
-            Began (parts_of self.old) (parts_of self.new) worker a }
+        ensures { (place : ℕ) (a : Acceptance) → slice_get self.old.waiting.items 0 ≡ Some place
+            → slice_get self.old.plans.items place ≡ Some a
+            → Began (parts_of self.old) (parts_of self.new) worker place a }
     {
-        let accepted = &self.plans[self.taken as usize];
+        let place = match self.waiting.pop_front() {
+            Some(place) => place,
+            None => unreachable!(),
+        };
+        let accepted = &self.plans[place as usize];
         let peak = accepted.peak();
-        let seat = Seat::new(self.taken, accepted.plan());
+        let seat = Seat::new(self.taken, place, accepted.plan());
         self.seats[worker as usize] = Some(seat);
         self.taken += 1;
         self.running += peak;

@@ -44,10 +44,11 @@ impl Table {
     }
 
     /// Whether a plan waits.
+    #[tactic(auto, using(crate::proofs::PlanTies::waits_told))]
     fn is_plan_waiting(&self) -> bool
-        ensures { result ≡ nat_lt self.now.taken (length self.now.plans.items) }
+        ensures { (s : State) → StandsFor (parts_of self.now) s → result ≡ nat_lt s.taken (length s.plans) }
     {
-        (self.taken as usize) < self.plans.len()
+        !self.waiting.is_empty()
     }
 
     // ---- the least worker of a kind

@@ -27,7 +27,7 @@ pub(crate) fn submit_said(
     error: SubmitError,
 ) -> Result<Option<(usize, Said)>, AllocError> {
     match error {
-        SubmitError::OtherSettings => Ok(None),
+        SubmitError::OtherSettings | SubmitError::NotPrepared => Ok(None),
         SubmitError::TooManyPlans => {
             let text = format!(in alloc;
                 "it is plan {MOST_PLANS}, counted from 0: a pool takes in at most {MOST_PLANS} plans"

@@ -145,12 +145,16 @@ pub enum SubmitError {
     /// It was accepted under another layout than the pool's.
     #[error("the plan was accepted under other settings")]
     OtherSettings,
-    /// As many plans were submitted in this life as it takes in, or wait as may.
+    /// In a bounded life: 256 plans were submitted in it, and only a renewal helps. In an endless one: as many plans wait as may,
+    /// and it can be tried again once one of them was taken.
     #[error("as many plans were submitted as a pool keeps")]
     TooManyPlans,
     /// The events of all plans and flushes would not fit a journal.
     #[error("the journal of all plans and flushes would be too long")]
     JournalLimit,
+    /// A plan is submitted in an endless life that isn't one of those that the pool keeps, or a prepared plan in a bounded life.
+    #[error("the plan isn't prepared")]
+    NotPrepared,
 }
 
 impl SubmitError {
@@ -165,10 +169,11 @@ impl SubmitError {
             SubmitError::OtherSettings => Refusal::new(53, "OtherSettings", About::Nothing),
             SubmitError::TooManyPlans => Refusal::new(51, "TooManyPlans", About::Nothing),
             SubmitError::JournalLimit => Refusal::new(52, "JournalLimit", About::Nothing),
+            SubmitError::NotPrepared => Refusal::new(56, "NotPrepared", About::Nothing),
         }
     }
 
-    /// The number of the refusal: 51 to 53.
+    /// The number of the refusal: 51 to 53, or 56.
     pub fn number(self) -> u8
         ensures { result ≡ (submit_error_row self).number }
     {

@@ -1,7 +1,6 @@
 -- The cues of a worker that need no page: it takes a plan, goes on with a branch, or is done.
 use Rattle.std.proofs.Common.{◌≡◌, ◌∙◌, ℕ, Option, Some, None, List, refl, sym, ap, subst}
 use Rattle.pp_model.specs.declared.moves.Move.{Move}
-use Rattle.pp_model.specs.declared.refusals.Cause.{Cause}
 use Rattle.pp_model.specs.declared.refusals.Cause.TheVariants.{NotIdle, NotActing}
 use Rattle.pp_model.specs.declared.reply.Reply.{Reply}
 use Rattle.pp_model.specs.Pool.{State}
@@ -28,10 +27,9 @@ use Rattle.pp_contents.specs.HandMoves.{takes, chooses, finishes, ends}
 use Rattle.pp_script.specs.declared.cue.Cue.{Cue}
 use Rattle.pp_script.specs.declared.cue.Cue.TheVariants as cue
 use Rattle.pp_play.specs.declared.line.Line.TheVariants.{Did, Refused}
-use Rattle.pp_play.specs.Doing.{IsDone}
 use Rattle.pp_play.specs.Exact.{refusal_to}
 use Rattle.pp_play.specs.Guarding.{hand_of, PlaysHand}
-use Rattle.pp_play.specs.Moving.{CallsWith, acts_by, ActsWith, RefusesStage}
+use Rattle.pp_play.specs.Moving.{acts_by, ActsWith, RefusesStage}
 use Rattle.pp_play.proofs.Asked.{same, take_done, choose_done, finish_done, end_done}
 use Rattle.pp_play.proofs.Exactly.{did_exact}
 use Rattle.pp_play.proofs.Fitting.{Laws, refused_plays}

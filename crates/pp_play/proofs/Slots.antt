@@ -60,7 +60,7 @@ module _ (v : Parts) (s : State) (w slot : ℕ) (st : StandsFor v s) where
   by_place (Some None) e some = absurd (false≢true some)
   by_place (Some (Some r)) e some =
       let kept = there s.seats v.core.seats w (Some r) (sym st.core.seats.size) e in
-      by_seat s.plans kept.0 r slot (st.core.seats.each w kept.0 (Some r) kept.1 e) some
+      by_seat v.core.plans kept.0 r slot (st.core.seats.each w kept.0 (Some r) kept.1 e) some
 
   -- A slot that holds a page is one of 32.
   pub low : (h : ℕ × Held) → held_of s w slot ≡ Some h → slot < 32

@@ -1,5 +1,5 @@
 -- The cues that use a slot which the plan names: an unfix, a latch and an unlatch.
-use Rattle.std.proofs.Common.{◌≡◌, ◌∙◌, ℕ, true, false, Option, Some, None, List, refl, sym, ap, subst}
+use Rattle.std.proofs.Common.{◌≡◌, ◌∙◌, ℕ, true, Option, Some, None, List, refl, sym, ap, subst}
 use Rattle.std.specs.Prelude.{slice_set, IfSome}
 use Rattle.std.proofs.lemmas.Bool.{false≢true}
 use Rattle.pp_plan.specs.declared.mode.Mode.{Mode}

@@ -34,6 +34,12 @@ use Rattle.pp_pool.specs.declared.request.Request.{Request}
 use Rattle.pp_pool.specs.Requests.{call_of, event_of, event_for, events_in}
 use Rattle.pp_pool.proofs.Noted.{IsNoted}
 use Rattle.pp_pool.specs.Submits.{TakesIn}
+use Rattle.pp_pool.specs.Books.{MarksAreTold}
+use Rattle.pp_vault.specs.Submits.{SubmitFails}
+use Rattle.pp_model.specs.JournalMarks.{mark_after}
+use Rattle.pp_model.specs.declared.refusals.SubmitError.{SubmitError}
+use Rattle.pp_model.specs.declared.refusals.SubmitError.TheVariants.{OtherSettings, TooManyPlans, JournalLimit, NotPrepared}
+use Rattle.pp_model.proofs.ToldMarks.{marks_follow}
 
 -- ---- what a book stands for
 
@@ -50,14 +56,33 @@ replay_settings plans s (Submit k ∷ es) =
 pub state_settings : (b : Parts) → (state_of b).settings ≡ settings_of b
 state_settings b = replay_settings (plans_of b) (opening_of b) b.journal
 
+-- A book's life is bounded, so its core keeps all plans that were submitted.
+pub plans_are : (b : Parts) → IsBook b → plans_of b ≡ (state_of b).plans
+plans_are b k = k.stands.core.plans.all (ap (λ (j : Settings). j.span) (state_settings b))
+
 -- The journal is one of the state, from the opening state of the book's life on.
 told_here : (b : Parts) → IsBook b → IsJournalFrom (opening_of b) (state_of b) b.journal
 told_here b k =
-    let plans : plans_of b ≡ (state_of b).plans = k.stands.core.plans in
+    let plans : plans_of b ≡ (state_of b).plans = plans_are b k in
     record {
       is_true = subst (λ ps. IsTrueFrom ps (opening_of b) b.journal) plans k.is_true;
       leads_here = ap (λ ps. replay ps (opening_of b) b.journal) (sym plans);
     }
+
+-- What the journal tells of each page's mark.
+pub marks_told : (b : Parts) → IsBook b → MarksAreTold b
+marks_told b k page =
+    marks_follow (state_of b) k.stands.core.reached (opening_of b) b.journal page k.opened (told_here b k)
+    ∙ ap (λ ps. mark_after ps (opening_of b) b.journal page) (sym (plans_are b k))
+
+-- Why a plan isn't taken in by a book, whose life is bounded.
+pub refused_so : (b : Parts) (k : IsBook b) (a : Acceptance) (e : SubmitError) → SubmitFails b.vault a e
+    → submit_error (state_of b) a ≡ Some e
+refused_so b k a OtherSettings fails = fails.1 (state_of b) k.stands
+refused_so b k a TooManyPlans fails = fails.1 (state_of b) k.stands
+refused_so b k a JournalLimit fails = fails.1 (state_of b) k.stands
+refused_so b k a NotPrepared fails =
+    absurd (fails (k.stands.core.span ∙ ap (λ (j : Settings). j.span) (state_settings b)))
 
 pub book_told : (b : Parts) → IsBook b
     → IsJournalFrom (opens_with (state_of b).settings b.began) (state_of b) b.journal
@@ -71,16 +96,18 @@ abbrev settings_by : Geometry → (workers flushes : ℕ) → Span → Settings
 settings_by layout workers flushes span = record { layout = layout; workers = workers; flushes = flushes; span = span }
 
 -- The settings that a vault's core and a book keep.
-kept_settings : (v : vault.Parts) (w f : ℕ) (s : State) → StandsFor v s → w ≡ s.settings.workers → f ≡ s.settings.flushes
+kept_settings : (v : vault.Parts) (w f : ℕ) (s : State) → StandsFor v s → s.settings.span ≡ Bounded
+    → w ≡ s.settings.workers → f ≡ s.settings.flushes
     → settings_by v.core.layout w f Bounded ≡ s.settings
-kept_settings v w f s st e g =
+kept_settings v w f s st bounded e g =
     ap (λ l. settings_by l w f Bounded) st.core.layout ∙ ap (λ n. settings_by s.settings.layout n f Bounded) e
     ∙ ap (λ n. settings_by s.settings.layout s.settings.workers n Bounded) g
-    ∙ ap (λ k. settings_by s.settings.layout s.settings.workers s.settings.flushes k) (sym st.core.span)
+    ∙ ap (λ k. settings_by s.settings.layout s.settings.workers s.settings.flushes k) (sym bounded)
 
 -- What is told of a state to which a book's journal leads makes it a book.
 pub record Leads (b : Parts) (s : State) : Type 0 where
   pub stands : StandsFor b.vault s
+  pub bounded : s.settings.span ≡ Bounded
   pub workers : b.workers ≡ s.settings.workers
   pub flushes : b.flushes ≡ s.settings.flushes
   pub opened : IsReached (opens_with s.settings b.began)
@@ -91,13 +118,13 @@ pub record Leads (b : Parts) (s : State) : Type 0 where
 pub state_is : (b : Parts) (s : State) → Leads b s → state_of b ≡ s
 state_is b s h =
     ap (λ j. replay (plans_of b) (opens_with j b.began) b.journal)
-    (kept_settings b.vault b.workers b.flushes s h.stands h.workers h.flushes)
-    ∙ ap (λ ps. replay ps (opens_with s.settings b.began) b.journal) h.stands.core.plans ∙ h.told.leads_here
+    (kept_settings b.vault b.workers b.flushes s h.stands h.bounded h.workers h.flushes)
+    ∙ ap (λ ps. replay ps (opens_with s.settings b.began) b.journal) (h.stands.core.plans.all h.bounded) ∙ h.told.leads_here
 
 pub book_is : (b : Parts) (s : State) → Leads b s → IsBook b
 book_is b s h =
-    let settings = sym (kept_settings b.vault b.workers b.flushes s h.stands h.workers h.flushes) in
-    let plans : s.plans ≡ plans_of b = sym h.stands.core.plans in
+    let settings = sym (kept_settings b.vault b.workers b.flushes s h.stands h.bounded h.workers h.flushes) in
+    let plans : s.plans ≡ plans_of b = sym (h.stands.core.plans.all h.bounded) in
     let here = sym (state_is b s h) in
     record {
       opened = subst (λ j. IsReached (opens_with j b.began)) settings h.opened;
@@ -122,12 +149,13 @@ module _ (b : Parts) (k : IsBook b) (v : vault.Parts) where
       let same = sym (append-nil b.journal) in
       record {
         stands = st;
+        bounded = ap (λ (j : Settings). j.span) (state_settings b);
         workers = sym (ap (λ (j : Settings). j.workers) (state_settings b));
         flushes = sym (ap (λ (j : Settings). j.flushes) (state_settings b));
         opened = book_opened b k;
         told = subst (IsJournalFrom (opens_with (state_of b).settings b.began) (state_of b)) same (book_told b k);
         room = subst (λ (es : List Event). length es + bound (state_of b) ≤ b.capacity) same k.room;
-        most = k.most ∙ ap greatest_cost k.stands.core.plans;
+        most = k.most ∙ ap greatest_cost (plans_are b k);
       }
 
   -- A possible move is the event, and the vault stands for the state after it.
@@ -139,6 +167,7 @@ module _ (b : Parts) (k : IsBook b) (v : vault.Parts) where
       let long : length (b.journal ++ e ∷ []) ≡ length b.journal + 1 = length-append b.journal (e ∷ []) in
       record {
         stands = st;
+        bounded = ap (λ (j : Settings). j.span) (settings_stay s m ∙ state_settings b);
         workers = sym (ap (λ (j : Settings). j.workers) (settings_stay s m ∙ state_settings b));
         flushes = sym (ap (λ (j : Settings). j.flushes) (settings_stay s m ∙ state_settings b));
         opened = subst (λ j. IsReached (opens_with j b.began)) (sym (settings_stay s m)) (book_opened b k);
@@ -146,7 +175,7 @@ module _ (b : Parts) (k : IsBook b) (v : vault.Parts) where
             subst (λ j. IsJournalFrom (opens_with j b.began) (next_of s m) (b.journal ++ e ∷ [])) (sym (settings_stay s m))
             (step_told s (opens_with s.settings b.began) b.journal m (book_told b k) p);
         room = omega (arith, long, bound_falls s k.stands.core.reached m p, k.room);
-        most = k.most ∙ ap greatest_cost (k.stands.core.plans ∙ sym (same_plans s m));
+        most = k.most ∙ ap greatest_cost (plans_are b k ∙ sym (same_plans s m));
       }
 
   leads_by : (m : Move) (p : Bool) → is_possible (state_of b) m ≡ p → StandsFor v (next_of (state_of b) m)
@@ -228,13 +257,13 @@ module _ (b : Parts) (k : IsBook b) (asked : Request) (v : vault.Parts)
 
   pub settings_then : settings_of book_then ≡ settings_of b
   settings_then =
-      kept_settings v b.workers b.flushes state_then leads_then.stands leads_then.workers leads_then.flushes
+      kept_settings v b.workers b.flushes state_then leads_then.stands leads_then.bounded leads_then.workers leads_then.flushes
       ∙ after_settings (state_of b) (call_of b.vault asked (state_of b)) ∙ state_settings b
 
   pub plans_then : v.core.plans ≡ plans_of b
   plans_then =
-      leads_then.stands.core.plans ∙ after_plans (state_of b) (call_of b.vault asked (state_of b))
-      ∙ sym k.stands.core.plans
+      leads_then.stands.core.plans.all leads_then.bounded ∙ after_plans (state_of b) (call_of b.vault asked (state_of b))
+      ∙ sym (plans_are b k)
 
 -- ---- a plan
 
@@ -281,6 +310,7 @@ module _ (b : Parts) (k : IsBook b) (a : Acceptance) (number : ℕ) (v : vault.P
       let s = state_of b in
       record {
         stands = t.stands s k.stands;
+        bounded = ap (λ (j : Settings). j.span) ((submit_leaves s a).1 ∙ state_settings b);
         workers = sym (ap (λ (j : Settings). j.workers) ((submit_leaves s a).1 ∙ state_settings b));
         flushes = sym (ap (λ (j : Settings). j.flushes) ((submit_leaves s a).1 ∙ state_settings b));
         opened = subst (λ j. IsReached (opens_with j b.began)) (sym (submit_leaves s a).1) (book_opened b k);
@@ -295,7 +325,7 @@ module _ (b : Parts) (k : IsBook b) (a : Acceptance) (number : ℕ) (v : vault.P
             );
         most =
             greatest ∙ ap (λ n. max n (cost_of a)) k.most ∙ sym (greatest_more 0 (plans_of b) a)
-            ∙ ap (λ ps. greatest_cost (ps ++ a ∷ [])) k.stands.core.plans ∙ ap greatest_cost (sym plans_after);
+            ∙ ap (λ ps. greatest_cost (ps ++ a ∷ [])) (plans_are b k) ∙ ap greatest_cost (sym plans_after);
       }
 
   pub book_taken : IsBook book_with
@@ -306,12 +336,12 @@ module _ (b : Parts) (k : IsBook b) (a : Acceptance) (number : ℕ) (v : vault.P
       let s = state_of b in
       record {
         allowed = allowed;
-        numbered = numbered ∙ ap length (sym k.stands.core.plans);
+        numbered = numbered ∙ ap length (sym (plans_are b k));
         journal = grows;
         plans =
-            leads_with.stands.core.plans ∙ plans_after ∙ ap (λ ps. ps ++ a ∷ []) (sym k.stands.core.plans);
+            leads_with.stands.core.plans.all leads_with.bounded ∙ plans_after ∙ ap (λ ps. ps ++ a ∷ []) (sym (plans_are b k));
         settings =
-            kept_settings v b.workers b.flushes (after_submit s a) leads_with.stands leads_with.workers leads_with.flushes
+            kept_settings v b.workers b.flushes (after_submit s a) leads_with.stands leads_with.bounded leads_with.workers leads_with.flushes
             ∙ (submit_leaves s a).1 ∙ state_settings b;
         outset = refl;
         state = state_is book_with (after_submit s a) leads_with ∙ ap (λ o. submitted_unless o s a) allowed;
@@ -320,7 +350,7 @@ module _ (b : Parts) (k : IsBook b) (a : Acceptance) (number : ℕ) (v : vault.P
             let st = leads_with.stands.core in
             omega (
               arith,
-              few_in t.settings.span (length t.plans) t.taken st.span (counted t st.reached).few,
+              few_in t.settings.span (length t.plans) t.taken leads_with.bounded (counted t st.reached).few,
               ap length plans_after,
               length-append s.plans (a ∷ []),
               numbered,

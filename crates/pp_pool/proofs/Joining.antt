@@ -50,6 +50,7 @@ module _ (old : Parts) (bundle : Option (ℕ × ℕ)) (call : State → Call) wh
         stands = λ s st.
             subst (λ b. StandsFor new (after_call s (if b then call s else stranger))) (sym is ∙ same s st) (d.stands s st);
         page_bytes = d.page_bytes;
+        plans = d.plans;
       }
 
   tells : (done : Move × Reply) (can : Bool) → CanJoin old bundle can → can ≡ true → Tells old call done

@@ -17,9 +17,11 @@ use Rattle.pp_outset.proofs.Beginning.{next_begins, has_room}
 use Rattle.pp_vault.specs.Parts as vault
 use Rattle.pp_vault.specs.Renewals as vault_renewals
 use Rattle.pp_vault.specs.StandsFor.{StandsFor}
+use Rattle.pp_settings.specs.declared.span.Span.{Span}
+use Rattle.pp_core.specs.Renewals.{kept_plans}
 use Rattle.pp_pool.specs.Parts.{Parts, settings_of, plans_of, opening_of, state_of}
 use Rattle.pp_pool.specs.Books.{IsBook}
-use Rattle.pp_pool.proofs.Growing.{Leads, state_settings, book_is, state_is}
+use Rattle.pp_pool.proofs.Growing.{Leads, plans_are, state_settings, book_is, state_is}
 
 -- The book whose vault is renewed, with an empty journal, and the outset that the vault's core leaves.
 module _ (b : Parts) (k : IsBook b) (v : vault.Parts) (r : vault_renewals.Renews b.vault v) where
@@ -29,14 +31,16 @@ module _ (b : Parts) (k : IsBook b) (v : vault.Parts) (r : vault_renewals.Renews
   -- What is over is a life.
   pub is_life : IsLife (opening_of b) (record { plans = plans_of b; journal = b.journal })
   is_life = record {
-    accepted = subst (All IsAccepted) (sym k.stands.core.plans) k.stands.core.reached.accepted;
+    accepted = subst (All IsAccepted) (sym (plans_are b k)) k.stands.core.reached.accepted;
     is_true = k.is_true;
-    submitted = sym k.stands.core.plans;
+    submitted = sym (plans_are b k);
     renews = r.allowed (state_of b) k.stands;
   }
 
   pub plans_gone : v.core.plans ≡ []
-  plans_gone = ap (λ (x : vault.Parts). x.core.plans) r.parts
+  plans_gone =
+      ap (λ (x : vault.Parts). x.core.plans) r.parts
+      ∙ ap (λ (x : Span). kept_plans x b.vault.core.plans) (k.stands.core.span ∙ ap (λ (j : Settings). j.span) (state_settings b))
 
   abbrev settings_by : Geometry → Settings
   settings_by layout = record { layout = layout; workers = b.workers; flushes = b.flushes; span = Bounded }
@@ -68,6 +72,7 @@ module _ (b : Parts) (k : IsBook b) (v : vault.Parts) (r : vault_renewals.Renews
     leads : Leads first (renewed (state_of b))
     leads = record {
       stands = stands;
+      bounded = ap (λ (j : Settings). j.span) (state_settings b);
       workers = sym (ap (λ (j : Settings). j.workers) (state_settings b));
       flushes = sym (ap (λ (j : Settings). j.flushes) (state_settings b));
       opened = subst IsReached (sym opens) stands.core.reached;

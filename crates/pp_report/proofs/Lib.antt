@@ -17,4 +17,5 @@ pub mod Readback
 pub mod Columns
 pub mod OneMore
 pub mod Complete
+mod Stepped
 mod Submitted

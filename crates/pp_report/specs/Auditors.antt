@@ -1,5 +1,6 @@
 -- What an auditor keeps, and what its steps do.
 use Rattle.std.specs.Prelude.{◌≡◌, ℕ, List, Option, Some, None, Result, Ok, Err, IfErr, reverse}
+use Rattle.pp_settings.specs.declared.span.Span.TheVariants.{Bounded}
 use Rattle.pp_core.specs.StandsFor.{StandsFor}
 use Rattle.pp_report.specs.declared.auditor.Auditor.{Auditor}
 use Rattle.pp_report.specs.declared.error.AuditError.{AuditError}
@@ -10,9 +11,11 @@ use Rattle.pp_report.specs.declared.line.Told.{Told}
 use Rattle.pp_report.specs.Auditing.{Progress, told_to, after_asked}
 use Rattle.pp_report.specs.Reading.{line_in}
 
--- The auditor has come so far: its core stands for the state, and it keeps the plans that wait, the next one last.
+-- The auditor has come so far: its core stands for the state, whose life is bounded, and it keeps the plans that wait, the next
+-- one last.
 pub record IsAt (a : Auditor) (p : Progress) : Type 0 where
   pub stands : StandsFor a.core p.state
+  pub bounded : p.state.settings.span ≡ Bounded
   pub waiting : reverse a.waiting.items ≡ p.waiting
 
 -- Where it was possible it is done, and else nothing is.

@@ -1,5 +1,5 @@
 -- No request changes how many bytes a page has.
-use Rattle.std.proofs.Common.{◌≡◌, ◌∙◌, ℕ, Bool, List, ap}
+use Rattle.std.proofs.Common.{◌≡◌, ℕ, Bool, List, ap}
 use Rattle.std.specs.Prelude.{is_ok}
 use Rattle.pp_vault.specs.declared.answering.Answered.{Answered}
 use Rattle.pp_vault.specs.declared.answering.Answered.TheVariants as answered

@@ -9,6 +9,7 @@ use Rattle.pp_model.specs.Turns.{next_turn, IsUnderWay}
 use Rattle.pp_outset.specs.Outsets.{Outset, new_outset, opens_with}
 use Rattle.pp_pool.specs.Parts.{Parts, settings_of, plans_of, opening_of, state_of}
 use Rattle.pp_pool.specs.Books.{IsBook}
+use Rattle.pp_pool.proofs.Growing.{plans_are}
 use Rattle.pp_settings.specs.Settings.{Configuration}
 use Rattle.pp_core.specs.Opening.{kept_of}
 use Rattle.pp_report.specs.declared.record.RunRecord.{RunRecord}
@@ -39,7 +40,7 @@ true_from o plans b opened planned book =
 pub all_submitted : (o : State) (plans : List Acceptance) (b : Parts) → opening_of b ≡ o → plans_of b ≡ plans → IsBook b
     → (replay plans o b.journal).plans ≡ plans
 all_submitted o plans b opened planned book =
-    ap (λ s. s.plans) (sym (same_end o plans b opened planned)) ∙ (sym book.stands.core.plans ∙ planned)
+    ap (λ s. s.plans) (sym (same_end o plans b opened planned)) ∙ (sym (plans_are b book) ∙ planned)
 
 pub ran : (o : State) (plans : List Acceptance) (b : Parts) (dirty : ℕ) (r : RunRecord) → IsEnd o plans b dirty → IsBook b
     → r.events.items ≡ b.journal → r.plans ≡ length plans → r.dirty ≡ dirty → IsRunFrom o plans r

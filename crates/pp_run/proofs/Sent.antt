@@ -5,6 +5,7 @@ use denote.Param.Send.{IsSend, sendable}
 use denote.Param.SendFields.{declared_send}
 use Rattle.std.proofs.Crossing.{crosses}
 use Rattle.std.proofs.MapsCrossing.{crosses as maps}
+use Rattle.circular_buffer.proofs.heap.HeapCircularBuffer.TheSendSync as ring
 use Rattle.pp_model.specs.contracts.moves.Move.{the_row as move_row}
 use Rattle.pp_model.specs.contracts.reply.Reply.{the_row as reply_row}
 use Rattle.pp_settings.proofs.layout.Layout.TheSendSync as layout
@@ -53,7 +54,7 @@ pub accepted_send : IsSend accepted_row
 accepted_send = search (plan_send, sendable, crosses) depth 24 fits 5000
 
 pub core_inside_send : IsSend core_inside
-core_inside_send = search (marks_send, accepted_send, layout.the_send, directory.the_send, searching.the_send, bundles.the_send, seat.the_send, flush.the_send, sendable, crosses) depth 24 fits 5000
+core_inside_send = search (ring.the_send, marks_send, accepted_send, layout.the_send, directory.the_send, searching.the_send, bundles.the_send, seat.the_send, flush.the_send, sendable, crosses) depth 24 fits 5000
 
 pub core_send : IsSend core_row
 core_send = search (core_inside_send, sendable)

@@ -1,6 +1,7 @@
 //! Playing a script over a new pool.
 
 ghost use Rattle.std.specs.Prelude.{◌≡◌, ◌≤◌, Err, IfOk, IfErr, string_bytes};
+ghost use Rattle.pp_settings.specs.declared.span.Span.TheVariants.{Bounded};
 ghost use Rattle.pp_model.specs.Pool.{State, opening};
 ghost use Rattle.pp_model.specs.Submitting.{after_submits};
 ghost use Rattle.pp_core.specs.Opening.{kept_of};
@@ -72,9 +73,10 @@ fn play_in(
     Ok(transcript(alloc, count, &cues, &lines, vault)?)
 }
 
-/// Submits the plans in their order, up to the first that isn't taken in.
+/// Submits the plans to a vault whose life is bounded, in their order, up to the first that isn't taken in.
 fn submit_all(vault: &mut Vault, plans: Vec<Accepted>) -> Result<(), SubmitError>
-    ensures takes { (s : State) → StandsFor vault.old s → TakesAll (after_submits s plans.items) vault.new result }
+    ensures takes { (s : State) → StandsFor vault.old s → s.settings.span ≡ Bounded
+        → TakesAll (after_submits s plans.items) vault.new result }
     ensures fit { (h : hands.Hands) → HandsFit vault.old h → HandsFit vault.new h }
     ensures length { vault.new.page_bytes ≡ vault.old.page_bytes }
 {

@@ -8,7 +8,7 @@ use crate::tried::Tried;
 use pp_arc::{Directory, List, Search};
 use pp_bundles::Bundles;
 use pp_cache::Cache;
-use pp_core::{Accepted, Core};
+use pp_core::{Accepted, Core, CoreError};
 use pp_device::{Device, SoloDevice};
 use pp_frames::Marks;
 use pp_keyed::KeyedCache;
@@ -18,8 +18,11 @@ use pp_outset::Outset;
 use pp_settings::Settings;
 use pp_test_plain::accepted;
 use pp_test_plain::samples::{SETTINGS, TOUCH};
-use pp_vault::Vault;
+use pp_vault::{Hands, Vault, VaultError};
 use std::alloc::Global;
+
+/// How many plans may wait where lives are endless.
+const WAITING: u32 = 3;
 
 /// Does the case of this call.
 pub fn case<R: AllocGlobal + Print>(rt: &R, call: &str) -> anyhow::Result<()> {
@@ -34,7 +37,7 @@ pub fn case<R: AllocGlobal + Print>(rt: &R, call: &str) -> anyhow::Result<()> {
         | "Names::new"
         | "KeyedCache::new"
         | "Cache::new" => twice(rt, &mut Plain { alloc, call }),
-        "Core::new" | "Outset::new" | "Vault::new" => twice(
+        "Core::new" | "Core::endless" | "Outset::new" | "Vault::new" | "Vault::endless" => twice(
             rt,
             &mut Set {
                 alloc,
@@ -172,15 +175,20 @@ impl Tried for Set<'_> {
 
     fn call(&mut self) -> Answer {
         match self.call {
-            "Core::new" => core_of(self.alloc, &self.settings),
+            "Core::new" => core_of(self.alloc, Core::new(self.alloc, &self.settings)),
+            "Core::endless" => core_of(
+                self.alloc,
+                Core::endless(self.alloc, &self.settings, WAITING),
+            ),
             "Outset::new" => outset(self.alloc, &self.settings),
-            _ => vault(self.alloc, &self.settings),
+            "Vault::new" => vault(Vault::new(self.alloc, &self.settings)),
+            _ => vault(Vault::endless(self.alloc, &self.settings, WAITING)),
         }
     }
 }
 
-fn core_of(alloc: Global, settings: &Settings) -> Answer {
-    match Core::new(alloc, settings) {
+fn core_of(alloc: Global, made: Result<Core, CoreError>) -> Answer {
+    match made {
         Ok(core) => {
             let made = Moving {
                 core,
@@ -206,8 +214,8 @@ fn outset(alloc: Global, settings: &Settings) -> Answer {
     }
 }
 
-fn vault(alloc: Global, settings: &Settings) -> Answer {
-    match Vault::new(alloc, settings) {
+fn vault(made: Result<(Vault, Hands), VaultError>) -> Answer {
+    match made {
         Ok((made, hands)) => {
             let budget = made.budget();
             made.scrap(hands);

@@ -72,4 +72,4 @@ acts_if o some = go (ask_by o) some
 pub acts_in_each : (v : Parts) (s : State) (w : ℕ) → StandsFor v s → IsSome (ask_of s w) → ActsIn v w
 acts_in_each v s w st some t tt =
     acts_if (seat_of t w)
-    (same_crew s.plans t.plans v.core.seats s.seats t.seats w st.core.seats tt.core.seats (seat_of s w) refl some)
+    (same_crew v.core.plans v.core.plans v.core.seats s.seats t.seats w st.core.seats tt.core.seats (seat_of s w) refl some)

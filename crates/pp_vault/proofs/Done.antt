@@ -51,6 +51,7 @@ module _ (old new : Parts) (call : State → Call) (m : Move) (r : Reply)
             subst (StandsFor new) (sym (ap (after_call s) (calls s st)))
             (record { core = moves.stands s st.core; images = fits s st });
         page_bytes = bytes;
+        plans = λ s st. moves.plans s st.core;
       }
 
 -- ---- what is answered

@@ -226,6 +226,7 @@ next_does old new n page found does =
       allowed = λ s st. sym (ap (refusal_of s) (next_is old n page found s st)) ∙ does.allowed s st;
       stands = λ s st. subst (λ c. StandsFor new (after_call s c)) (next_is old n page found s st) (does.stands s st);
       page_bytes = does.page_bytes;
+      plans = does.plans;
     }
 
 next_tells : (v : Parts) (n page : ℕ) (done : Move × Reply)

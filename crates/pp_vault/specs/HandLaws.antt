@@ -15,7 +15,7 @@ use Rattle.pp_vault.specs.StandsFor.{StandsFor, IsKept}
 use Rattle.pp_vault.specs.Calls.{Call, stranger, refused, asks}
 use Rattle.pp_vault.specs.Fits.{is_gathered}
 use Rattle.pp_vault.specs.Events.{Does}
-use Rattle.pp_vault.specs.Submits.{TakesIn}
+use Rattle.pp_vault.specs.Submits.{TakesIn, Prepares}
 use Rattle.pp_vault.specs.Renewals.{Renews}
 use Rattle.pp_vault.specs.Hands.{PlaceFits, HandFits, FlushingFits, HandsFit}
 
@@ -63,6 +63,12 @@ SlotsStillFit =
 abbrev pub SubmitsStillFit : Type 0
 SubmitsStillFit =
     (old new : Parts) (a : Acceptance) (number : ℕ) → IsKept old → TakesIn old a number new → (hands : Hands)
+    → HandsFit old hands → HandsFit new hands
+
+-- And after a plan was prepared.
+abbrev pub PreparesStillFit : Type 0
+PreparesStillFit =
+    (old new : Parts) (a : Acceptance) (place : ℕ) → IsKept old → Prepares old a place new → (hands : Hands)
     → HandsFit old hands → HandsFit new hands
 
 -- And after a renewal.

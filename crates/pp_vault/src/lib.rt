@@ -13,7 +13,7 @@ pub use looking::LookError;
 pub use places::Guards;
 pub use pp_core::{
     Accepted, Ask, Came, Cause, CoreError as VaultError, Delay, Ending, Failure, Held, Move,
-    PlanId, RenewError, Reply, SubmitError, Turn,
+    PlanId, PrepareError, Prepared, RenewError, Reply, SubmitError, Turn,
 };
 pub use pp_device::{Device, Fault};
 pub use refusal::Refusal;

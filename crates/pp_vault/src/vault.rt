@@ -1,16 +1,19 @@
 //! The vault: its core's moves, with the images of the pages.
 
 ghost use Rattle.std.specs.Prelude.{◌≡◌, ◌↔◌, true, Some, None, is_ok, IsSome, IfOk, IfErr, IfSome, OnOk, OnErr, length};
+ghost use Rattle.std.specs.Prelude.{◌≤◌, ◌^◌, []};
+ghost use Rattle.pp_settings.specs.declared.span.Span.TheVariants.{Bounded, Endless};
 ghost use Rattle.std.specs.Option.{is_some};
+ghost use Rattle.pp_cert.specs.Accepted.{Acceptance};
+ghost use Rattle.pp_core.specs.Submits.{PrepareFails, PreparedFails};
 ghost use Rattle.pp_model.specs.Pool.{State, opening, dirty_pages};
 ghost use Rattle.pp_model.specs.Moves.{reply_of};
 ghost use Rattle.pp_model.specs.Budget.{bound};
-ghost use Rattle.pp_model.specs.Submitting.{submit_error};
 ghost use Rattle.pp_model.specs.Renewing.{renew_error};
-ghost use Rattle.pp_vault.specs.Submits.{TakesIn};
+ghost use Rattle.pp_vault.specs.Submits.{TakesIn, TakesPrepared, SubmitFails, Prepares};
 ghost use Rattle.pp_vault.specs.Renewals.{Renews};
 ghost use Rattle.pp_model.specs.Turns.{next_turn, IsOpen, IsUnderWay};
-ghost use Rattle.pp_core.specs.Opening.{kept_of};
+ghost use Rattle.pp_core.specs.Opening.{kept_of, kept_for};
 ghost use Rattle.pp_core.specs.Queries.{is_idle, ask_of, errand_of};
 ghost use Rattle.pp_vault.specs.Stages.{AllIdle};
 ghost use Rattle.pp_vault.specs.Hands.{HandsFit};
@@ -43,10 +46,10 @@ use crate::stopped::Stopped;
 use crate::store::Store;
 use crate::tokens::{Chair, Errand, Leaver, Returned, Session};
 use pp_core::{
-    Accepted, Ask, Core, CoreError as VaultError, Move, PlanId, RenewError, Reply, SubmitError,
-    Turn,
+    Accepted, Ask, Core, CoreError as VaultError, Move, PlanId, PrepareError, Prepared, RenewError,
+    Reply, SubmitError, Turn,
 };
-use pp_settings::Settings;
+use pp_settings::{Settings, Span};
 use std::alloc::Global;
 use std::marker::Model;
 
@@ -97,6 +100,36 @@ impl Vault {
         ensures holds { IfOk result (λ made. Holds made.0) }
     {
         let store = Store::new(alloc, settings)?;
+        let hands = Hands::new(alloc, settings.workers())?;
+        Ok((Vault { store }, hands))
+    }
+
+    /// A vault in which nothing was done yet, whose lives last as long as the host wants, and all hands over it. At most
+    /// `waiting` plans, 1 to 1,048,576, wait at a time.
+    ///
+    /// Plans are prepared, at most 4,096 of them, and each is submitted as often as wanted ([`Vault::prepare`],
+    /// [`Vault::submit_prepared`]); [`Core::prepared`] of [`Vault::core`] lends one. The vault gets all memory that it
+    /// ever needs, that of [`Vault::new`] with the core's for these plans ([`Core::endless`]).
+    ///
+    /// # Errors
+    ///
+    /// Only where that memory can't be had.
+    pub fn endless(
+        alloc: Global,
+        settings: &Settings,
+        waiting: u32,
+    ) -> Result<(Vault, Hands), VaultError>
+        requires some { 1 ≤ waiting }
+        requires most { waiting ≤ 2 ^ 20 }
+        ensures opens { IfOk result (λ made. StandsFor made.0 (opening (kept_for settings.now (Endless waiting)))) }
+        ensures none_prepared { IfOk result (λ made. made.0.core.plans ≡ []) }
+        ensures idle { IfOk result (λ made. AllIdle settings.now.workers made.1.workers) }
+        ensures no_flush { IfOk result (λ made. made.1.flushing ≡ None) }
+        ensures fit { IfOk result (λ made. HandsFit made.0 made.1) }
+        ensures page_bytes { IfOk result (λ made. made.0.page_bytes ≡ settings.now.page_bytes) }
+        ensures holds { IfOk result (λ made. Holds made.0) }
+    {
+        let store = Store::endless(alloc, settings, waiting)?;
         let hands = Hands::new(alloc, settings.workers())?;
         Ok((Vault { store }, hands))
     }
@@ -227,14 +260,15 @@ impl Vault {
         self.store.flush_next(number)
     }
 
-    /// Takes a plan in, which waits behind the others, and answers its number.
+    /// In a bounded life, takes a plan in, which waits behind the others, and answers its number.
     ///
     /// # Errors
     ///
     /// As the core's: the plan comes back, and nothing has changed.
     pub fn submit(&mut self, accepted: Accepted) -> Result<PlanId, (Accepted, SubmitError)>
         ensures ok { IfOk result (λ id. TakesIn self.old accepted id self.new) }
-        ensures error { IfErr result (λ e. (s : State) → StandsFor self.old s → submit_error s accepted ≡ Some e.1) }
+        ensures bounded { IfOk result (λ _. self.old.core.span ≡ Bounded) }
+        ensures error { IfErr result (λ e. SubmitFails self.old accepted e.1) }
         ensures back { IfErr result (λ e. e.0 ≡ accepted) }
         ensures unchanged { OnErr result (self.new ≡ self.old) }
         ensures holds { Holds self.new }
@@ -242,8 +276,45 @@ impl Vault {
         self.store.submit(accepted)
     }
 
-    /// Begins the next life of a vault at rest, as the core does: its plans go, all flushes may begin again, and all else
-    /// stays, each image in its frame. So pages stay cached, dirty and known, and the tokens of the old life, which are chairs,
+    /// Keeps a plan in an endless life, so that it can be submitted as often as wanted.
+    ///
+    /// # Errors
+    ///
+    /// As the core's: the plan comes back, and nothing has changed.
+    pub fn prepare(&mut self, accepted: Accepted) -> Result<Prepared, (Accepted, PrepareError)>
+        ensures ok { IfOk result (λ prepared. Prepares self.old accepted prepared self.new) }
+        ensures error { IfErr result (λ e. PrepareFails self.old.core accepted e.1) }
+        ensures back { IfErr result (λ e. e.0 ≡ accepted) }
+        ensures unchanged { OnErr result (self.new ≡ self.old) }
+        ensures holds { Holds self.new }
+    {
+        self.store.prepare(accepted)
+    }
+
+    /// In an endless life, takes a prepared plan in, which waits behind the others, and answers its number. It takes no memory.
+    ///
+    /// # Errors
+    ///
+    /// As the core's. Nothing has changed.
+    pub fn submit_prepared(&mut self, prepared: Prepared) -> Result<PlanId, SubmitError>
+        ensures ok { IfOk result (λ id. (a : Acceptance) × TakesPrepared self.old prepared id a self.new) }
+        ensures error { IfErr result (PreparedFails self.old.core prepared) }
+        ensures unchanged { OnErr result (self.new ≡ self.old) }
+        ensures holds { Holds self.new }
+    {
+        self.store.submit_prepared(prepared)
+    }
+
+    /// How long a life may last.
+    pub fn span(&self) -> Span
+        ensures is { result ≡ self.now.core.span }
+        ensures of { (s : State) → StandsFor self.now s → result ≡ s.settings.span }
+    {
+        self.store.core.span()
+    }
+
+    /// Begins the next life of a vault at rest, as the core does: the plans of a bounded life go, all flushes may begin again, and
+    /// all else stays, prepared plans and each image in its frame. So pages stay cached, dirty and known, and the tokens of the old life, which are chairs,
     /// are those of the next. The next life's journal begins in the state that the vault stands for now.
     ///
     /// It takes no memory and copies nothing.
@@ -274,8 +345,8 @@ impl Vault {
         self.store.core.next_possible()
     }
 
-    /// The bound on the moves that are left: each call that is done lowers it by 1 at least, and [`Vault::submit`] raises
-    /// it by the plan's cost. [`Vault::renew`] sets it to twice the flushes.
+    /// The bound on the moves that are left: each call that is done lowers it by 1 at least, and [`Vault::submit`] and
+    /// [`Vault::submit_prepared`] raise it by the plan's cost. [`Vault::renew`] sets it to twice the flushes.
     pub fn budget(&self) -> u64
         ensures bound { (s : State) → StandsFor self.now s → result ≡ bound s }
         ensures value { result ≡ self.now.core.budget }

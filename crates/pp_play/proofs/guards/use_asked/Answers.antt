@@ -1,8 +1,7 @@
-use Rattle.std.proofs.Common.{◌≡◌, ◌∙◌, Some, None, refl, sym, ap, subst, rules}
-use Rattle.std.specs.Prelude.{slice_set}
+use Rattle.std.proofs.Common.{◌≡◌, ◌∙◌, Some, refl, sym, ap, subst, rules}
 use Rattle.pp_vault.specs.declared.refusal.Refusal.TheVariants.{Stranger}
 use Rattle.pp_vault.specs.declared.stage.Stage.TheVariants.{In}
-use Rattle.pp_vault.specs.Holding.{slot_by, placed}
+use Rattle.pp_vault.specs.Holding.{placed}
 use Rattle.pp_play.specs.declared.line.Line.TheVariants.{Refused}
 use Rattle.pp_play.specs.Guarding.{hand_of, PlaysHand, uses_slot, slot_asked}
 use Rattle.pp_play.proofs.Done.{done_comes}

@@ -1,5 +1,4 @@
-use Rattle.std.proofs.Common.{◌≡◌, ◌∙◌, Some, None, sym, ap, subst, refl, rules}
-use Rattle.pp_vault.specs.declared.guards.Guard.TheVariants.{Pin}
+use Rattle.std.proofs.Common.{◌∙◌, Some, None, sym, ap, subst, refl, rules}
 use Rattle.pp_vault.specs.declared.refusal.Refusal.TheVariants.{Stranger}
 use Rattle.pp_vault.specs.Holding.{slot_by}
 use Rattle.pp_play.specs.Moving.{UsesGuard, RefusesGuard}

@@ -8,6 +8,10 @@ use Rattle.pp_play.specs.Moving.{PlaysFromAll}
 use Rattle.pp_play.proofs.Overs.{Laws, flush_over}
 use Rattle.pp_play.proofs.playing.by_tokens.Goals as goal
 
+pub returns-in-Flush-clause-comes : goal.returns-in-Flush-clause-comes
+returns-in-Flush-clause-comes g c =
+    subst (λ q. ComesTo c.args.vault.now q c.flush.result c.flush.new.vault) (sym c.in-Flush.is) c.flush.ensures.comes
+
 pub returns-in-Flush-clause-called : goal.returns-in-Flush-clause-called
 returns-in-Flush-clause-called g c fits none =
     quiet g.D.Device.calls c.args.vault.now c.flush.new.vault c.known.ensures.holds.kept (cue.Flush c.in-Flush.page)

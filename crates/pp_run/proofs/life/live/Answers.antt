@@ -3,6 +3,7 @@ use Rattle.std.specs.List.{list_all}
 use Rattle.std.specs.Prelude.{vec_len}
 use denote.Exit.{no}
 use denote.Param.Send.{param_send, arg_send}
+use Rattle.pp_model.specs.Pool.{Settings}
 use Rattle.pp_pool.specs.Parts.{settings_of, opening_of}
 use Rattle.pp_report.specs.Reports.{is_move}
 use Rattle.pp_run.specs.Calling.{begun_flushes_in}
@@ -20,6 +21,18 @@ use Rattle.pp_run.proofs.life.live.Goals as goal
 pub run_all-joined-requires-send-B : goal.run_all-joined-requires-send-B
 run_all-joined-requires-send-B g c κs within =
     param_send 0 _ (arg_send _ no _ (desk_send _ _ g.N.Naming c.type_bounds.send-N))
+
+pub invariant_of-stalled : goal.invariant_of-stalled
+invariant_of-stalled g c = record {
+  laid = c.requires.layout ∙ sym (ap (λ (k : Settings). k.layout) (c.into_parts-book.ensures.settings ∙ c.requires.settings));
+  sized = c.requires.vault_bytes ∙ sym (c.into_parts-book.ensures.page_bytes ∙ c.requires.page_bytes);
+}
+
+pub invariant_of-stalled-2 : goal.invariant_of-stalled-2
+invariant_of-stalled-2 g c = record {
+  laid = c.requires.layout ∙ sym (ap (λ (k : Settings). k.layout) (c.into_parts-book.ensures.settings ∙ c.requires.settings));
+  sized = c.requires.vault_bytes ∙ sym (c.into_parts-book.ensures.page_bytes ∙ c.requires.page_bytes);
+}
 
 pub returns-in-Ok-back-clause-end : goal.returns-in-Ok-back-clause-end
 returns-in-Ok-back-clause-end g c =

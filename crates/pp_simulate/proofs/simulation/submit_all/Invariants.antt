@@ -9,7 +9,7 @@ use Rattle.pp_simulate.proofs.simulation.submit_all.Given as goal
 abbrev pub invariant-loop-plan : goal.invariant-loop-plan
 invariant-loop-plan l = record {
   takes :
-      (s : State) → StandsFor l.fn.vault s → (t : State) × StandsFor l.vault t
+      (s : State) → StandsFor l.fn.vault s → (t : State) × StandsFor l.vault t × (t.settings ≡ s.settings)
       × (after_submits s l.fn.plans.items ≡ after_submits t (reverse l.waiting.items));
   kept : IsKept l.vault;
   fit : (h : Hands) → HandsFit l.fn.vault h → HandsFit l.vault h;

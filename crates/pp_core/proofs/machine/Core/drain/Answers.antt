@@ -24,6 +24,9 @@ loop-turn-preserved g c =
           c.loop-turn.decide c.decided-asked.new.decide c.loop-turn.count c.in-Some.turn asked c.step.result
           c.loop-turn.invariant.leads (λ s st. sym c.in-Some.is ∙ c.next_possible.ensures.turn s st)
           c.decided-asked.ensures.possible c.decided-asked.ensures.decided c.step.ensures.moves;
+      plans =
+          let kept = c.loop-turn.invariant.kept in
+          c.step.ensures.moves.plans kept.state kept.stands ∙ c.loop-turn.invariant.plans;
     }
 
 pub returns-clause-rest : goal.returns-clause-rest

@@ -1,4 +1,4 @@
-use Rattle.std.proofs.Common.{◌≤◌, ◌+◌}
+use Rattle.std.proofs.Common.{◌≡◌, ◌≤◌, ◌+◌}
 use Rattle.pp_core.specs.Draining.{host_of}
 use Rattle.pp_core.specs.StandsFor.{IsKept}
 use Rattle.pp_core.proofs.DrainRuns.{Leads}
@@ -12,6 +12,7 @@ invariant-loop-turn g l =
       spent : l.count + l.self.budget ≤ l.fn.self.budget;
       leads : Leads (host_of d.picks d.chooses d.reads d.writes d.flushes) l.fn.self l.fn.decide l.self l.count
           l.decide;
+      plans : l.self.plans ≡ l.fn.self.plans;
     }
 
 abbrev pub decreases-loop-turn : goal.decreases-loop-turn

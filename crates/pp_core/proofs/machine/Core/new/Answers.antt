@@ -1,4 +1,3 @@
-use Rattle.std.proofs.Common.{refl}
 use Rattle.pp_model.specs.Pool.{opening}
 use Rattle.pp_core.specs.Parts.{parts_of}
 use Rattle.pp_core.specs.Opening.{kept_of}
@@ -11,12 +10,12 @@ invariant_of-result c =
     let k = kept_of c.args.settings.now in
     record {
       state = opening k;
-      stands = opened_stands k (parts_of c.in_ok-table.table) c.in_ok-table.ensures.within refl c.in_ok-table.ensures.opens;
+      stands = opened_stands k (parts_of c.in_ok-table.table) c.in_ok-table.ensures.within c.in_ok-table.ensures.opens;
     }
 
 pub returns-clause-opens : goal.returns-clause-opens
 returns-clause-opens c =
-    opened_stands (kept_of c.args.settings.now) (parts_of c.in_ok-table.table) c.in_ok-table.ensures.within refl
+    opened_stands (kept_of c.args.settings.now) (parts_of c.in_ok-table.table) c.in_ok-table.ensures.within
     c.in_ok-table.ensures.opens
 
 pub returns-clause-kept : goal.returns-clause-kept
@@ -24,7 +23,7 @@ returns-clause-kept c =
     let k = kept_of c.args.settings.now in
     record {
       state = opening k;
-      stands = opened_stands k (parts_of c.in_ok-table.table) c.in_ok-table.ensures.within refl c.in_ok-table.ensures.opens;
+      stands = opened_stands k (parts_of c.in_ok-table.table) c.in_ok-table.ensures.within c.in_ok-table.ensures.opens;
     }
 
 pub returns-clause-headline : goal.returns-clause-headline

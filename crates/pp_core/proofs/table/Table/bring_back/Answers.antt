@@ -1,6 +1,6 @@
 -- What is left to show of Table::bring_back: what a worker that leaves keeps, and what the search knows.
 use Rattle.std.proofs.Common.{◌≡◌, ◌∙◌, ℕ, ◌<◌, Bool, true, List, length, ap, sym, subst, arith}
-use Rattle.std.specs.Prelude.{Option, Some, slice_set, false}
+use Rattle.std.specs.Prelude.{Some, slice_set, false}
 use Rattle.pp_arc.specs.FourLists.{FourLists}
 use Rattle.pp_arc.specs.Figure.{bring_back}
 use Rattle.pp_frames.specs.Marks.{PageMap, marks_of, frame_of, pins_of, with_frame}

@@ -1,10 +1,10 @@
-use Rattle.std.proofs.Common.{◌≡◌, ◌∙◌, false, Some, subst, sym, ap, arith}
+use Rattle.std.proofs.Common.{◌≡◌, ◌∙◌, Some, subst, sym, ap, arith}
 use Rattle.pp_plan.specs.declared.action.Action.TheVariants as action
 use Rattle.pp_plan.specs.declared.action.Ask.TheVariants as ask
 use Rattle.pp_cert.specs.declared.note.Held.TheVariants.{S}
 use Rattle.pp_model.specs.Pool.{State}
 use Rattle.pp_core.specs.Parts.{parts_of}
-use Rattle.pp_core.specs.StandsFor.{StandsFor, Asks}
+use Rattle.pp_core.specs.StandsFor.{StandsFor}
 use Rattle.pp_core.specs.Queries.{ask_holding}
 use Rattle.pp_core.specs.Reading.{asks_unlatch, can_end_read}
 use Rattle.pp_core.proofs.HoldingTies.{asks_so}

@@ -1,4 +1,4 @@
-use Rattle.std.proofs.Common.{◌≡◌, ◌∙◌, ◌<◌, ◌^◌, subst, sym, arith}
+use Rattle.std.proofs.Common.{◌∙◌, subst, sym, arith}
 use Rattle.pp_model.specs.declared.moves.Move.TheVariants as move
 use Rattle.pp_model.specs.declared.reply.Reply.{Reply}
 use Rattle.pp_core.specs.Parts.{parts_of}

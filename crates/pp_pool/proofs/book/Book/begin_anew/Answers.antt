@@ -4,7 +4,8 @@ use Rattle.pp_model.specs.Renewing.{renewed}
 use Rattle.pp_outset.specs.Outsets.{outset_of}
 use Rattle.pp_pool.specs.Parts.{Parts, parts_with, plans_of, opening_of, state_of}
 use Rattle.pp_model.specs.Lives.{IsLife}
-use Rattle.pp_pool.proofs.Renewed.{has_room_for, is_life, is_outset, book_again, state_again}
+use Rattle.pp_pool.specs.Parts.{settings_of}
+use Rattle.pp_pool.proofs.Renewed.{plans_gone, settings_kept, has_room_for, is_life, is_outset, book_again, state_again}
 use Rattle.pp_pool.proofs.book.Book.begin_anew.Goals as goal
 
 pub leave-requires : goal.leave-requires
@@ -46,3 +47,13 @@ returns-in-Ok-clause-life c =
     subst (λ (b : Parts). IsLife (opening_of b) (record { plans = plans_of b; journal = b.journal })) c.self.view_is
     (is_life (parts_with c.self.inside.vault c.self.inside.workers c.self.inside.journal c.self.inside.most c.self.inside.flushes c.self.inside.began)
     c.self.invariant c.renew.new.self c.in-Ok.ensures.ok)
+
+pub returns-in-Ok-clause-fresh : goal.returns-in-Ok-clause-fresh
+returns-in-Ok-clause-fresh c = (
+  ap (λ (j : Events). j.items) c.replace.ensures.after ∙ c.requires.empty,
+  plans_gone (parts_with c.self.inside.vault c.self.inside.workers c.self.inside.journal c.self.inside.most c.self.inside.flushes c.self.inside.began) c.self.invariant c.renew.new.self
+      c.in-Ok.ensures.ok,
+  settings_kept (parts_with c.self.inside.vault c.self.inside.workers c.self.inside.journal c.self.inside.most c.self.inside.flushes c.self.inside.began) c.self.invariant c.renew.new.self
+      c.in-Ok.ensures.ok
+      ∙ ap settings_of c.self.view_is,
+)

@@ -5,7 +5,6 @@ use Rattle.pp_run.specs.Joins.{IsAnswerFrom}
 use Rattle.pp_run.specs.Planned.{plans_in}
 use Rattle.pp_run.specs.Queries.{IsLeftOfQueries, IsUnrenewedQueries}
 use Rattle.pp_run.specs.Rested.{opening_of, IsEnd}
-use Rattle.pp_run.specs.Unrun.{IsNotBegun}
 use Rattle.pp_run.proofs.Ran.{ends_from, ran}
 use Rattle.pp_run.proofs.Ready.{not_begun}
 use Rattle.pp_run.proofs.RunsOn.{over_of, kept_verdict, kept_error, kept_stopped, kept_may_stop}
