@@ -15,6 +15,8 @@ mod devices;
 #[cfg(test)]
 mod directory;
 #[cfg(test)]
+mod endless;
+#[cfg(test)]
 mod lines;
 #[cfg(test)]
 mod marks;

@@ -1,6 +1,6 @@
 //! Moves that look like chance on cores of three frames, three workers and eight pages. Each reply is compared with that of the
 //! plain pool, and then what each slot holds. Both are renewed again and again, after a few plans or all 256 of a life, and now
-//! and then another core is made.
+//! and then another core is made. Cores whose lives don't end are walked elsewhere (`endless`), by the same moves.
 
 use crate::common::{Tally, same};
 use crate::ends::drive;
@@ -13,7 +13,7 @@ use crate::turns::move_of;
 use crate::words::Word;
 use pp_core::{Came, Core, Move, RenewError, Reply, SubmitError};
 use pp_script::Cue;
-use pp_settings::Settings;
+use pp_settings::{Settings, Span};
 use pp_test_plain::samples::GAPS;
 use pp_test_plain::{Chance, accepted};
 use std::alloc::Global;
@@ -26,11 +26,11 @@ const MOVES: u32 = 20_000;
 const CORES: u32 = 200;
 
 /// The kinds of a tally behind those of replies: ways of using a bundle, and then renewals that are refused and that are done.
-const BUNDLES: usize = kinds::KINDS;
+pub const BUNDLES: usize = kinds::KINDS;
 
-const RENEWALS: usize = kinds::KINDS + kinds::WAYS;
+pub const RENEWALS: usize = kinds::KINDS + kinds::WAYS;
 
-const ALL: usize = kinds::KINDS + kinds::WAYS + 2;
+pub const ALL: usize = kinds::KINDS + kinds::WAYS + 2;
 
 /// Three frames, three workers, and eight pages, with so many flushes.
 fn eight_pages(alloc: Global, flushes: u32) -> anyhow::Result<Settings> {
@@ -41,10 +41,10 @@ fn eight_pages(alloc: Global, flushes: u32) -> anyhow::Result<Settings> {
 }
 
 /// A core and the plain pool, and how many plans this life has.
-struct Pools {
-    core: Core,
-    plain: Plain<'static>,
-    plans: u64,
+pub struct Pools {
+    pub core: Core,
+    pub plain: Plain<'static>,
+    pub plans: u64,
 }
 
 impl Drop for Pools {
@@ -162,14 +162,14 @@ fn count_way(tally: &mut Tally, way: usize) {
 impl Pools {
     /// New pools.
     fn new(alloc: Global, settings: &Settings, chance: &mut Chance) -> anyhow::Result<Pools> {
-        let plain = Plain::new(alloc, settings)?;
+        let plain = Plain::new(alloc, settings, Span::Bounded)?;
         let core = Core::new(alloc, settings)?;
         let plans = plans_of_a_life(chance);
         Ok(Pools { core, plain, plans })
     }
 
     /// Whether all plans of this life are over, and so is the flush.
-    fn is_used_up(&self) -> bool {
+    pub fn is_used_up(&self) -> bool {
         self.plain.submitted() >= self.plans && self.plain.is_at_rest()
     }
 
@@ -187,7 +187,8 @@ impl Pools {
         Ok(false)
     }
 
-    fn renew(&mut self, tally: &mut Tally) -> anyhow::Result<()> {
+    /// Renews both, and sees that they answer the same.
+    pub fn renew(&mut self, tally: &mut Tally) -> anyhow::Result<()> {
         let is_done = self.plain.renew();
         let want = if is_done {
             Ok(())
@@ -215,7 +216,7 @@ impl Pools {
     }
 
     /// Makes a move on both, if chance picks one.
-    fn step(&mut self, chance: &mut Chance, tally: &mut Tally) -> anyhow::Result<u32> {
+    pub fn step(&mut self, chance: &mut Chance, tally: &mut Tally) -> anyhow::Result<u32> {
         let cue = pick(chance, &self.plain);
         let Some(asked) = move_for(&self.plain, cue, chance) else {
             return Ok(0);

@@ -3,12 +3,11 @@
 use crate::common::same;
 use crate::plain::Plain;
 use pp_arc::{Directory, List};
-use pp_vault::Vault;
+use pp_core::Core;
 use std::alloc::{AllocError, Global};
 
-/// Sees that the vault keeps what the plain pool keeps, and has as many plans.
-pub fn see_kept(alloc: Global, vault: &Vault, plain: &Plain) -> anyhow::Result<()> {
-    let core = vault.core();
+/// Sees that the core keeps what the plain pool keeps, and has as many plans.
+pub fn see_kept(alloc: Global, core: &Core, plain: &Plain) -> anyhow::Result<()> {
     see_lists(alloc, core.directory(), plain)?;
     for page in 0..plain.size {
         let got = (
@@ -20,7 +19,7 @@ pub fn see_kept(alloc: Global, vault: &Vault, plain: &Plain) -> anyhow::Result<(
         same("what is kept of a page", (page, got), (page, want))?;
     }
     same("how many plans there are", core.plans(), plain.submitted())?;
-    same("how many pages are dirty", vault.dirty(), plain.dirty())
+    same("how many pages are dirty", core.dirty(), plain.dirty())
 }
 
 fn see_lists(alloc: Global, directory: &Directory, plain: &Plain) -> anyhow::Result<()> {

@@ -2,10 +2,14 @@
 
 use crate::common::TOO_GREAT;
 use crate::words::{Plan, Word};
-use pp_core::{Came, Cause, Delay, Ending, Failure, Held, Move, Reply};
-use pp_settings::{Extent, Settings};
+use pp_core::{Came, Cause, Delay, Ending, Failure, Held, Move, Reply, SubmitError};
+use pp_settings::{Extent, Settings, Span};
 use pp_test_plain::{Answer, Lists};
 use std::alloc::{AllocError, Global};
+use std::collections::VecDeque;
+
+/// How many plans a pool keeps at most so that each is submitted as often as wanted.
+pub const MOST_KEPT: usize = 4096;
 
 /// A page: the frame that it is cached in, its mark, where it is known, and whether it is newer than the device's.
 #[derive(Clone, Copy)]
@@ -54,8 +58,11 @@ pub struct Plain<'a> {
     pub pages: Vec<Page>,
     pub workers: Vec<Worker<'a>>,
     pub holdings: Vec<Holding>,
-    /// The plans of this life, and how many of them were taken.
-    pub plans: Vec<Plan<'a>>,
+    /// How long a life may last, and the plans that are kept in one that doesn't end.
+    pub span: Span,
+    pub kept: Vec<Plan<'a>>,
+    /// The plans of this life that wait, the next one first, and how many were taken.
+    pub queue: VecDeque<Plan<'a>>,
     pub taken: u64,
     pub lists: Lists,
     /// The page that is being flushed, and its mark as that began.
@@ -75,7 +82,9 @@ impl Drop for Plain<'_> {
             pages: _,
             workers: _,
             holdings: _,
-            plans: _,
+            span: _,
+            kept: _,
+            queue: _,
             taken: _,
             lists: _,
             flush: _,
@@ -115,8 +124,8 @@ fn workers_of<'a>(alloc: Global, crew: u32) -> Result<Vec<Worker<'a>>, AllocErro
 }
 
 impl<'a> Plain<'a> {
-    /// A new pool.
-    pub fn new(alloc: Global, settings: &Settings) -> Result<Plain<'a>, AllocError> {
+    /// A new pool whose lives may last so long.
+    pub fn new(alloc: Global, settings: &Settings, span: Span) -> Result<Plain<'a>, AllocError> {
         let regions = regions_of(alloc, settings)?;
         let pages = pages_of(alloc, settings.pages())?;
         let workers = workers_of(alloc, settings.workers())?;
@@ -128,7 +137,9 @@ impl<'a> Plain<'a> {
             pages,
             workers,
             holdings: Vec::new(alloc),
-            plans: Vec::new(alloc),
+            span,
+            kept: Vec::new(alloc),
+            queue: VecDeque::new(alloc),
             taken: 0,
             lists: Lists::new(alloc, settings.frames()),
             flush: None,
@@ -139,24 +150,49 @@ impl<'a> Plain<'a> {
 
     // ---- submits and lives
 
-    /// The plan's number; or none, where 256 were submitted.
+    /// Whether no other plan is taken in: 256 were submitted in this life, or in one that doesn't end as many wait as may.
+    fn is_full(&self) -> bool {
+        match self.span {
+            Span::Bounded => self.submitted() >= 256,
+            Span::Endless { waiting } => self.waiting() >= u64::from(waiting),
+        }
+    }
+
+    /// The plan's number; or none, where no other plan is taken in.
     pub fn submit(&mut self, plan: Plan<'a>) -> Result<Option<u64>, AllocError> {
-        let number = self.plans.len();
-        if number >= 256 {
+        if self.is_full() {
             return Ok(None);
         }
-        self.plans.push(plan)?;
-        Ok(Some(number as u64))
+        let number = self.submitted();
+        self.queue.push_back(plan)?;
+        Ok(Some(number))
+    }
+
+    /// Keeps the plan, and says whether it does: not in a life that ends, and not where as many are kept as may.
+    pub fn prepare(&mut self, plan: Plan<'a>) -> Result<bool, AllocError> {
+        if matches!(self.span, Span::Bounded) || self.kept.len() >= MOST_KEPT {
+            return Ok(false);
+        }
+        self.kept.push(plan)?;
+        Ok(true)
+    }
+
+    /// Submits the plan that is kept at this place.
+    pub fn submit_kept(&mut self, place: usize) -> Result<Result<u64, SubmitError>, AllocError> {
+        match self.kept.get(place).copied() {
+            None => Ok(Err(SubmitError::NotPrepared)),
+            Some(plan) => Ok(self.submit(plan)?.ok_or(SubmitError::TooManyPlans)),
+        }
     }
 
     /// How many plans were submitted in this life.
     pub fn submitted(&self) -> u64 {
-        self.plans.len() as u64
+        self.taken.saturating_add(self.waiting())
     }
 
     /// How many plans wait.
     pub fn waiting(&self) -> u64 {
-        self.submitted().saturating_sub(self.taken)
+        self.queue.len() as u64
     }
 
     /// Whether each worker is idle.
@@ -180,7 +216,7 @@ impl<'a> Plain<'a> {
         if !self.is_at_rest() {
             return false;
         }
-        self.plans.clear();
+        self.queue.clear();
         self.taken = 0;
         self.flushes_left = self.flushes;
         true
@@ -508,14 +544,15 @@ impl<'a> Plain<'a> {
             Some(Stage::Idle) => {}
             Some(_) => return Reply::OffPlan(Cause::NotIdle),
         }
-        let number = self.taken;
-        let Some(plan) = self.plans.get(number as usize).copied() else {
+        let Some(plan) = self.queue.front().copied() else {
             return Reply::NotNow(Delay::NothingWaiting);
         };
         if !self.has_room(plan.peak) {
             return Reply::NotNow(Delay::NoRoom);
         }
+        let number = self.taken;
         self.taken = number.saturating_add(1);
+        let _ = self.queue.pop_front();
         self.begin(worker, Stage::Acting, plan);
         Reply::Taken { plan: number }
     }

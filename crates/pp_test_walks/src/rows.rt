@@ -6,9 +6,13 @@
 //! | Row | What is done |
 //! |---|---|
 //! | `core FILE` | a core is made anew with the settings of the file, which is named by its frames, workers and flushes |
+//! | `endless COUNT FILE` | the same, but its lives don't end, and so many plans may wait |
 //! | `settings FILE` | plans are accepted under these settings from here on, and no more under the core's |
 //! | `submit FILE` | the plan is submitted; its number, or the refusal and how many steps the plan has that came back |
 //! | `resubmit` | so is the plan that came back last |
+//! | `prepare FILE` | the plan is prepared; how many were before it, on all cores, or the refusal and the steps of the plan that came back |
+//! | `reprepare` | so is the plan that came back last |
+//! | `again COUNT` | the plan is submitted before which so many were prepared; its number, or the refusal |
 //! | a move, as a journal has it | its reply, and whether `refusal` told otherwise before |
 //! | `run MOVE, MOVE ..` | the moves are done by one call |
 //! | `drain PAGE PAGE` | the core is driven to its end; its device reads the pages below the first number, and writes those below the second |
@@ -19,7 +23,7 @@
 
 use crate::common::text_in;
 use crate::rows_host::Host;
-use pp_core::{Accepted, Core, Move, Reply};
+use pp_core::{Accepted, Core, Move, Prepared, Reply};
 use pp_report::{Asked, Line};
 use pp_settings::Settings;
 use pp_test_plain::accepted;
@@ -29,9 +33,10 @@ use std::fmt::Write;
 use std::rt::Files;
 
 /// The files of rows, in the order in which they are done.
-const FILES: [&str; 7] = [
+const FILES: [&str; 8] = [
     "cells.txt",
     "drains.txt",
+    "endless.txt",
     "lists.txt",
     "lives.txt",
     "submits.txt",
@@ -39,11 +44,13 @@ const FILES: [&str; 7] = [
     "many_plans.txt",
 ];
 
-/// A core, the settings under which plans are accepted, and the plan that came back last.
+/// A core, the settings under which plans are accepted, the plan that came back last, and what the cores named the plans that
+/// were prepared.
 struct Pool {
     settings: Settings,
     core: Core,
     back: Option<Accepted>,
+    kept: Vec<Prepared>,
 }
 
 impl Drop for Pool {
@@ -52,6 +59,7 @@ impl Drop for Pool {
             settings: _,
             core: _,
             back: _,
+            kept: _,
         } = self;
     }
 }
@@ -65,6 +73,7 @@ impl Pool {
             settings,
             core,
             back: None,
+            kept: Vec::new(alloc),
         })
     }
 
@@ -76,8 +85,12 @@ impl Pool {
             "" | "#" => kept(rt.alloc(), row),
             "settings" => self.settle(rt, rest, row),
             "core" => self.open(rt, rest, row),
+            "endless" => self.open_endless(rt, rest, row),
             "submit" => self.submit_file(rt, rest, asked),
             "resubmit" => self.resubmit(rt.alloc(), asked),
+            "prepare" => self.prepare_file(rt, rest, asked),
+            "reprepare" => self.reprepare(rt.alloc(), asked),
+            "again" => self.again(rt.alloc(), rest),
             "renew" => renew(rt.alloc(), &mut self.core),
             "drain" => drain(rt.alloc(), &mut self.core, rest),
             "run" => run(rt.alloc(), &mut self.core, rest),
@@ -106,14 +119,21 @@ impl Pool {
         file: &str,
         row: &str,
     ) -> anyhow::Result<String> {
-        let settings = settings_in(rt, file)?;
-        let core = Core::new(rt.alloc(), &settings)?;
-        let back = self.back.take();
-        *self = Pool {
-            settings,
-            core,
-            back,
-        };
+        self.settings = settings_in(rt, file)?;
+        self.core = Core::new(rt.alloc(), &self.settings)?;
+        kept(rt.alloc(), row)
+    }
+
+    /// The same with a core whose lives don't end.
+    fn open_endless<R: Files + AllocGlobal>(
+        &mut self,
+        rt: &R,
+        rest: &str,
+        row: &str,
+    ) -> anyhow::Result<String> {
+        let (waiting, file) = rest.split_once(" ").unwrap_or((rest, ""));
+        self.settings = settings_in(rt, file)?;
+        self.core = endless(rt.alloc(), &self.settings, waiting.parse()?)?;
         kept(rt.alloc(), row)
     }
 
@@ -149,6 +169,63 @@ impl Pool {
             }
         }
     }
+
+    /// Prepares the plan of the file.
+    fn prepare_file<R: Files + AllocGlobal>(
+        &mut self,
+        rt: &R,
+        file: &str,
+        asked: &str,
+    ) -> anyhow::Result<String> {
+        let text = text_in(rt, "rows", file)?;
+        let plan = accepted(rt.alloc(), &self.settings, text.as_str())?;
+        self.prepare(rt.alloc(), plan, asked)
+    }
+
+    /// Prepares the plan that came back last.
+    fn reprepare(&mut self, alloc: Global, asked: &str) -> anyhow::Result<String> {
+        match self.back.take() {
+            Some(plan) => self.prepare(alloc, plan, asked),
+            None => anyhow::bail!("no plan came back"),
+        }
+    }
+
+    /// Prepares the plan, and says how many were before it; or why it is refused, and how many steps the plan has that came back.
+    fn prepare(&mut self, alloc: Global, plan: Accepted, asked: &str) -> anyhow::Result<String> {
+        match self.core.prepare(plan) {
+            Ok(prepared) => {
+                let number = self.kept.len();
+                self.kept.push(prepared)?;
+                Ok(format!(in alloc; "{asked} = prepared {number}")?)
+            }
+            Err((back, error)) => {
+                let steps = back.steps();
+                self.back = Some(back);
+                let why = error.refusal();
+                Ok(format!(in alloc; "{asked} = refused {why}, steps {steps}")?)
+            }
+        }
+    }
+
+    /// Submits the plan before which so many were prepared, and says its number, or why it is refused.
+    fn again(&mut self, alloc: Global, number: &str) -> anyhow::Result<String> {
+        let place: usize = number.parse()?;
+        let Some(prepared) = self.kept.get(place).copied() else {
+            anyhow::bail!("so many plans weren't prepared: {place}");
+        };
+        match self.core.submit_prepared(prepared) {
+            Ok(id) => Ok(format!(in alloc; "again {place} = {}", id.number())?),
+            Err(error) => Ok(format!(in alloc; "again {place} = refused {}", error.refusal())?),
+        }
+    }
+}
+
+/// A core whose lives don't end, in which so many plans may wait.
+fn endless(alloc: Global, settings: &Settings, waiting: u32) -> anyhow::Result<Core> {
+    if !matches!(waiting, 1..=1_048_576) {
+        anyhow::bail!("so many plans can't wait: {waiting}");
+    }
+    Ok(Core::endless(alloc, settings, waiting)?)
 }
 
 /// The row as it stands.

@@ -10,7 +10,8 @@ use pp_device::image::HEAD;
 use pp_device::{Device, Failing, SoloDevice, Trouble};
 use pp_play::{Line, play};
 use pp_script::Cue;
-use pp_vault::{Accepted, Hands, RenewError, Vault};
+use pp_settings::Span;
+use pp_vault::{Accepted, Hands, Prepared, RenewError, SubmitError, Vault};
 use std::alloc::Global;
 
 /// A vault with its tokens and its device, and the plain ones that are to come to the same.
@@ -20,6 +21,8 @@ pub struct Stand<'a> {
     hands: Hands,
     device: Failing<SoloDevice>,
     pub store: Store<'a>,
+    /// The scenario's plans, where the vault keeps them, each at the place of its number.
+    kept: Vec<Prepared>,
 }
 
 /// Plays the script with one more trouble, then all plans to their ends, and then reads each page. Tells the calls of the
@@ -61,6 +64,31 @@ fn submit(vault: &mut Vault, plan: Accepted) -> anyhow::Result<Option<u64>> {
     }
 }
 
+/// Submits the plan that the vault keeps, and tells its number.
+fn submit_kept(vault: &mut Vault, plan: Prepared) -> Result<u64, SubmitError> {
+    Ok(vault.submit_prepared(plan)?.number())
+}
+
+/// The vault keeps the plan from now on.
+fn prepare(vault: &mut Vault, plan: Accepted) -> anyhow::Result<Prepared> {
+    match vault.prepare(plan) {
+        Ok(prepared) => Ok(prepared),
+        Err((_plan, error)) => Err(anyhow::Error::from(error)),
+    }
+}
+
+/// A device in memory with the scenario's troubles, and one more where one is planted.
+fn device_of(
+    alloc: Global,
+    scenario: &Scenario,
+    planted: Option<(u32, Trouble)>,
+) -> anyhow::Result<Failing<SoloDevice>> {
+    let settings = &scenario.settings;
+    let memory = SoloDevice::new(alloc, settings.pages(), settings.page_bytes() as usize)?;
+    let troubles = scenario.troubles_with(alloc, planted)?;
+    Ok(Failing::new(memory, troubles))
+}
+
 impl<'a> Stand<'a> {
     /// A new vault with the scenario's settings over a device with its troubles, and one more where one is planted.
     pub fn new(
@@ -68,20 +96,63 @@ impl<'a> Stand<'a> {
         scenario: &'a Scenario,
         planted: Option<(u32, Trouble)>,
     ) -> anyhow::Result<Stand<'a>> {
-        let settings = &scenario.settings;
         let troubles = scenario.troubles_with(alloc, planted)?;
-        let store = Store::new(alloc, settings, troubles)?;
-        let troubles = scenario.troubles_with(alloc, planted)?;
-        let memory = SoloDevice::new(alloc, settings.pages(), settings.page_bytes() as usize)?;
-        let device = Failing::new(memory, troubles);
-        let (vault, hands) = Vault::new(alloc, settings)?;
+        let store = Store::new(alloc, &scenario.settings, Span::Bounded, troubles)?;
+        let device = device_of(alloc, scenario, planted)?;
+        let (vault, hands) = Vault::new(alloc, &scenario.settings)?;
         Ok(Stand {
             alloc,
             vault,
             hands,
             device,
             store,
+            kept: Vec::new(alloc),
         })
+    }
+
+    /// The same, where lives don't end, and one plan may wait, or up to four.
+    pub fn endless(
+        alloc: Global,
+        scenario: &'a Scenario,
+        waiting: u32,
+    ) -> anyhow::Result<Stand<'a>> {
+        let waiting = waiting.max(1).min(4);
+        let troubles = scenario.troubles_with(alloc, None)?;
+        let span = Span::Endless { waiting };
+        let store = Store::new(alloc, &scenario.settings, span, troubles)?;
+        let device = device_of(alloc, scenario, None)?;
+        let (vault, hands) = Vault::endless(alloc, &scenario.settings, waiting)?;
+        Ok(Stand {
+            alloc,
+            vault,
+            hands,
+            device,
+            store,
+            kept: Vec::new(alloc),
+        })
+    }
+
+    /// Keeps each of the scenario's plans, where lives don't end.
+    pub fn keep_all(&mut self, scenario: &'a Scenario) -> anyhow::Result<()> {
+        if let Span::Bounded = self.vault.span() {
+            return Ok(());
+        }
+        for number in 0..scenario.shapes.len() {
+            self.keep(scenario, number)?;
+        }
+        Ok(())
+    }
+
+    /// Keeps the plan of this number.
+    fn keep(&mut self, scenario: &'a Scenario, number: usize) -> anyhow::Result<()> {
+        let Some(shape) = scenario.shapes.get(number) else {
+            anyhow::bail!("there is no plan {number}");
+        };
+        let plan = scenario.accepted(self.alloc, number)?;
+        let prepared = prepare(&mut self.vault, plan)?;
+        self.kept.push(prepared)?;
+        let is_kept = self.store.plain.prepare(shape.plan())?;
+        same("whether a plan is kept", true, is_kept)
     }
 
     /// The same over a device that keeps what it has, and has no trouble any more.
@@ -92,6 +163,7 @@ impl<'a> Stand<'a> {
             hands,
             device,
             mut store,
+            kept,
         } = self;
         store.troubles.clear();
         Stand {
@@ -100,6 +172,7 @@ impl<'a> Stand<'a> {
             hands,
             device: Failing::new(device.into_inner(), Vec::new(alloc)),
             store,
+            kept,
         }
     }
 
@@ -111,6 +184,7 @@ impl<'a> Stand<'a> {
             hands,
             device,
             store,
+            kept: _,
         } = self;
         let page_bytes = vault.page_bytes();
         vault.scrap(hands);
@@ -135,6 +209,11 @@ impl<'a> Stand<'a> {
         let Some(shape) = scenario.shapes.get(number) else {
             anyhow::bail!("there is no plan {number}");
         };
+        if let Some(prepared) = self.kept.get(number).copied() {
+            let got = submit_kept(&mut self.vault, prepared);
+            let want = self.store.plain.submit_kept(number)?;
+            return same("a submit of a plan that is kept", got, want);
+        }
         let accepted = scenario.accepted(self.alloc, number)?;
         let got = submit(&mut self.vault, accepted)?;
         let want = self.store.plain.submit(shape.plan())?;
@@ -152,7 +231,9 @@ impl<'a> Stand<'a> {
         };
         same("a renewal", self.vault.renew(), want)?;
         see(self.alloc, &self.vault, &mut self.hands, &self.store)?;
-        see_kept(self.alloc, &self.vault, &self.store.plain)
+        let dirty = self.store.plain.dirty();
+        same("how many pages are dirty", self.vault.dirty(), dirty)?;
+        see_kept(self.alloc, self.vault.core(), &self.store.plain)
     }
 
     /// Plays a cue on both, and sees that they come to the same, and what holds then.

@@ -114,8 +114,8 @@ impl<'a> Plain<'a> {
         let mut budget = u64::from(self.flushes_left)
             .saturating_mul(2)
             .saturating_add(flush);
-        for place in self.taken as usize..self.plans.len() {
-            budget = budget.saturating_add(left(self.plans[place].words, 34));
+        for plan in &self.queue {
+            budget = budget.saturating_add(left(plan.words, 34));
         }
         for number in 0..self.crew {
             budget = budget.saturating_add(self.share(number));
