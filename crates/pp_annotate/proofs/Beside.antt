@@ -1,5 +1,5 @@
 -- A certificate whose tests pass has the pages that are made, whatever bounds it notes inside the loops.
-use Rattle.std.proofs.Common.{◌≡◌, ℕ, ◌+◌, ◌<◌, Bool, true, false, None, List, [], ◌∷◌, ◌++◌, refl, sym, ap}
+use Rattle.std.proofs.Common.{◌≡◌, ℕ, ◌+◌, ◌<◌, ◌≤◌, Bool, true, false, Option, Some, None, List, [], ◌∷◌, ◌++◌, refl, sym, ap}
 use Rattle.std.proofs.Common.{subst, ◌∙◌, arith}
 use Rattle.std.specs.Prelude.{◌&&◌, ◌==◌, not, nat_lt, is_some, option_map, if◌then◌else◌}
 use Rattle.std.proofs.lemmas.Bool.{and_parts, not-true, ltb-true, lt-ltb}
@@ -91,14 +91,14 @@ module _ (kind : ℕ → Bool) where
         | false ↦ λ l. part_fix s r (t + 1) n f.3
       ] refl
 
-  part_step : (told : Bool) (s : Step) (n : Entries) → Forms kind 0 n
-      → plain_part (noted_with told s n) ≡ pages_after s (plain_part n)
-  part_step told (fix s r) n f = part_fix s r 0 n f
-  part_step told (unfix s) n f = part_unfix s n
-  part_step told (latch s m) n f = part_as (held_in m) s n
-  part_step told (unlatch s) n f = part_as Free s n
-  part_step told (gather s r) n f = part_insert s (one_more told (bound_at n s)) (without_bundle s n) ∙ part_without s n
-  part_step told (scatter s) n f = part_without s n
+  part_step : (stop : Option ℕ) (s : Step) (n : Entries) → Forms kind 0 n
+      → plain_part (noted_with stop s n) ≡ pages_after s (plain_part n)
+  part_step stop (fix s r) n f = part_fix s r 0 n f
+  part_step stop (unfix s) n f = part_unfix s n
+  part_step stop (latch s m) n f = part_as (held_in m) s n
+  part_step stop (unlatch s) n f = part_as Free s n
+  part_step stop (gather s r) n f = part_insert s (one_more stop (bound_at n s)) (without_bundle s n) ∙ part_without s n
+  part_step stop (scatter s) n f = part_without s n
 
   -- the first note of a loop's body is in form, and has the pages of the note before the loop
   pub record Begun (before first : Entries) : Type 0 where
@@ -119,7 +119,8 @@ module _ (kind : ℕ → Bool) where
       subst (λ x. ArePlain kind x) (sym pages) (part_plain kind before (forms_plain kind 0 before f)) in
       record { part = pages; forms = rising_forms kind 0 first p.0 (plain_of_part kind first plain) }
 
-  module _ (slots regions : ℕ) (few : (s : ℕ) → kind s ≡ true → s < slots) (g : Geometry) (d : Claims) where
+  module _ (slots regions stop : ℕ) (some : 1 ≤ stop) (few : (s : ℕ) → kind s ≡ true → s < slots) (g : Geometry)
+      (d : Claims) where
     -- What such a certificate notes at a place beside what is made: its note is in form, and has the same pages.
     pub record Pages (theirs mine : Entries) : Type 0 where
       pub forms : Forms kind 0 theirs
@@ -131,7 +132,7 @@ module _ (kind : ℕ → Bool) where
 
     -- a fix that passes its test is noted there too
     step_added : (k : ℕ) (s : Step) (n : Entries) → plain_part (note_at d k) ≡ plain_part n
-        → first_fault g d (step_tests k s) ≡ None → after_step s n ≡ noted_with false s n
+        → first_fault g d (step_tests k s) ≡ None → after_step stop s n ≡ noted_with (Some stop) s n
     step_added k (fix s r) n p h =
         let a = first_passes g d (slot_unused k s) [] h in
         let q = and_parts (not (is_some (noted_at (note_at d k) s))) (bound_at (note_at d k) s == 0) a.0 in
@@ -146,56 +147,56 @@ module _ (kind : ℕ → Bool) where
     -- at the first place of a loop's body
     pub turn_pages : (k turns : ℕ) (b : Sequence) (n : Entries) → Pages (note_at d k) n
         → begins_turns (scatters b) (note_at d k) (note_at d (k + 1)) ≡ true
-        → Pages (note_at d (k + 1)) (first_note kind turns b n)
+        → Pages (note_at d (k + 1)) (first_note stop kind turns b n)
     turn_pages k turns b n a h =
         let start = begun b (note_at d k) (note_at d (k + 1)) h a.forms in
         record {
           forms = start.forms;
-          rises = first_rises kind slots regions few turns b n a.rises;
-          part = start.part ∙ a.part ∙ sym (first_part kind turns b n);
+          rises = first_rises kind slots regions stop some few turns b n a.rises;
+          part = start.part ∙ a.part ∙ sym (first_part stop kind turns b n);
         }
 
     mutual
       pub statement_pages : (k : ℕ) (s : Statement) (n : Entries) → StatementKeeps kind s
-          → IsStatement slots regions s → Pages (note_at d k) n → first_fault g d (statement_tests true k s) ≡ None
-          → Pages (expected_note d (outcome true k s)) (after_statement kind s n)
+          → IsStatement slots regions s → Pages (note_at d k) n → first_fault g d (statement_tests None k s) ≡ None
+          → Pages (expected_note d (outcome None k s)) (after_statement stop kind s n)
       statement_pages k (step s) n keeps is a h =
           let mine : Forms kind 0 n = rises_forms kind slots regions 0 n a.rises in
           record {
-            forms = noted_forms kind true g d k s (note_at d k) keeps refl h a.forms;
-            rises = step_rises kind slots regions few s n keeps is a.rises;
-            part = part_step true s (note_at d k) a.forms
+            forms = noted_forms kind None (λ bound. omega arith) g d k s (note_at d k) keeps refl h a.forms;
+            rises = step_rises kind slots regions stop some few s n keeps is a.rises;
+            part = part_step None s (note_at d k) a.forms
                 ∙ ap (pages_after s) a.part
-                ∙ sym (ap plain_part (step_added k s n a.part h) ∙ part_step false s n mine);
+                ∙ sym (ap plain_part (step_added k s n a.part h) ∙ part_step (Some stop) s n mine);
           }
       statement_pages k (loop turns b) n keeps is a h =
           let end : ℕ = sequence_end (k + 1) b in
           let front : List Test = turn_tests (k + 1) k b in
           let p =
-          both_pass g d (front ++ sequence_tests true (k + 1) b)
+          both_pass g d (front ++ sequence_tests None (k + 1) b)
           (loop_keeps end k b ∷ loop_grows end k (k + 1) turns b ∷ []) h in
-          let q = both_pass g d front (sequence_tests true (k + 1) b) p.0 in
+          let q = both_pass g d front (sequence_tests None (k + 1) b) p.0 in
           let begins = turn_passes g d (k + 1) k b q.0 in
-          sequence_pages (k + 1) b (first_note kind turns b n) keeps.1 is.3 (turn_pages k turns b n a begins.1) q.1
+          sequence_pages (k + 1) b (first_note stop kind turns b n) keeps.1 is.3 (turn_pages k turns b n a begins.1) q.1
       statement_pages k (choice none) n keeps is a h = a
       statement_pages k (choice (either b bs)) n keeps is a h =
           let end : ℕ = sequence_end (k + 1) b in
           let front : List Test = note_tests (k + 1) (same k) in
-          let p = both_pass g d (front ++ sequence_tests true (k + 1) b) (later_tests true k end (end + 1) bs) h in
-          let q = both_pass g d front (sequence_tests true (k + 1) b) p.0 in
+          let p = both_pass g d (front ++ sequence_tests None (k + 1) b) (later_tests None k end (end + 1) bs) h in
+          let q = both_pass g d front (sequence_tests None (k + 1) b) p.0 in
           let note = note_passes g d (k + 1) (same k) q.0 in
           sequence_pages (k + 1) b n keeps.0 is.2.0 (subst (λ x. Pages x n) (sym note.1) a) q.1
 
       pub sequence_pages : (k : ℕ) (b : Sequence) (n : Entries) → IsOfKinds kind b → IsSequence slots regions b
-          → Pages (note_at d k) n → first_fault g d (sequence_tests true k b) ≡ None
-          → Pages (note_at d (sequence_end k b)) (after_sequence kind b n)
+          → Pages (note_at d k) n → first_fault g d (sequence_tests None k b) ≡ None
+          → Pages (note_at d (sequence_end k b)) (after_sequence stop kind b n)
       sequence_pages k skip n keeps is a h = a
       sequence_pages k (andthen s b) n keeps is a h =
           let next : ℕ = statement_end k s in
-          let between : List Test = note_tests next (outcome true k s) in
-          let p = both_pass g d (statement_tests true k s ++ between) (sequence_tests true next b) h in
-          let q = both_pass g d (statement_tests true k s) between p.0 in
-          let note = note_passes g d next (outcome true k s) q.1 in
+          let between : List Test = note_tests next (outcome None k s) in
+          let p = both_pass g d (statement_tests None k s ++ between) (sequence_tests None next b) h in
+          let q = both_pass g d (statement_tests None k s) between p.0 in
+          let note = note_passes g d next (outcome None k s) q.1 in
           let after = statement_pages k s n keeps.0 is.0 a q.0 in
-          sequence_pages next b (after_statement kind s n) keeps.1 is.1
-          (subst (λ x. Pages x (after_statement kind s n)) (sym note.1) after) p.1
+          sequence_pages next b (after_statement stop kind s n) keeps.1 is.1
+          (subst (λ x. Pages x (after_statement stop kind s n)) (sym note.1) after) p.1

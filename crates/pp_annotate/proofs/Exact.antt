@@ -1,6 +1,6 @@
 -- The bounds of bundles as they are where nothing ends the counting. A certificate whose tests pass has them, each loop's and
 -- each choice's from what it notes before it; what is made has them as far as counting goes.
-use Rattle.std.proofs.Common.{◌≡◌, ℕ, zero, suc, ◌+◌, ◌-◌, ◌*◌, ◌<◌, ◌≤◌, min, Bool, true, false, None, List, [], ◌∷◌, ◌++◌}
+use Rattle.std.proofs.Common.{◌≡◌, ℕ, zero, suc, ◌+◌, ◌-◌, ◌*◌, ◌<◌, ◌≤◌, min, Bool, true, false, Some, None, List, [], ◌∷◌, ◌++◌}
 use Rattle.std.proofs.Common.{refl, ap, subst, ◌∙◌, arith}
 use Rattle.std.specs.Prelude.{◌==◌, if◌then◌else◌}
 use Rattle.std.proofs.lemmas.Bool.{eqb-true}
@@ -10,7 +10,6 @@ use Rattle.pp_plan.specs.Tree.{Step, fix, unfix, latch, unlatch, gather, scatter
 use Rattle.pp_plan.specs.Tree.{Sequence, skip, andthen, Alternatives, none, either, step_scatters, statement_scatters}
 use Rattle.pp_plan.specs.Tree.{scatters, branches_scatter}
 use Rattle.pp_cert.specs.declared.note.Held.TheVariants.{Free}
-use Rattle.pp_cert.specs.Limits.{most_counted}
 use Rattle.pp_cert.specs.Held.{held_in}
 use Rattle.pp_cert.specs.Notes.{Entries, bound_at, one_more, noted_with, with_bound, without_bundle}
 use Rattle.pp_cert.specs.Walk.{Claims, note_at, same, expected_note, outcome, loop_keeps, loop_grows, Test}
@@ -110,73 +109,73 @@ module _ (kind : ℕ → Bool) where
 
   -- ---- what is made
 
-  one_counted : (x y : ℕ) → x ≡ min y most_counted → one_more false x ≡ min (y + 1) most_counted
-  one_counted x y h = omega (arith, h)
+  one_counted : (stop x y : ℕ) → x ≡ min y stop → one_more (Some stop) x ≡ min (y + 1) stop
+  one_counted stop x y h = omega (arith, h)
 
-  none_counted : 0 ≡ min 0 most_counted
-  none_counted = omega arith
+  none_counted : (stop : ℕ) → 0 ≡ min 0 stop
+  none_counted stop = omega arith
 
-  step_made : (s : Step) (n : Entries) (t y : ℕ) → bound_at n t ≡ min y most_counted
-      → bound_at (noted_with false s n) t ≡ min (step_to s t y) most_counted
-  step_made (fix s r) n t y e = bound_page s r Free t n ∙ e
-  step_made (unfix s) n t y e = bound_without_page s t n ∙ e
-  step_made (latch s m) n t y e = bound_as (held_in m) s t n ∙ e
-  step_made (unlatch s) n t y e = bound_as Free s t n ∙ e
-  step_made (gather s r) n t y e =
-      let k : ℕ = one_more false (bound_at n s) in
+  step_made : (stop : ℕ) (s : Step) (n : Entries) (t y : ℕ) → bound_at n t ≡ min y stop
+      → bound_at (noted_with (Some stop) s n) t ≡ min (step_to s t y) stop
+  step_made stop (fix s r) n t y e = bound_page s r Free t n ∙ e
+  step_made stop (unfix s) n t y e = bound_without_page s t n ∙ e
+  step_made stop (latch s m) n t y e = bound_as (held_in m) s t n ∙ e
+  step_made stop (unlatch s) n t y e = bound_as Free s t n ∙ e
+  step_made stop (gather s r) n t y e =
+      let k : ℕ = one_more (Some stop) (bound_at n s) in
       elim (s == t) as (λ b. (s == t) ≡ b
-      → bound_at (with_bound s k n) t ≡ min (if b then y + 1 else y) most_counted) [
+      → bound_at (with_bound s k n) t ≡ min (if b then y + 1 else y) stop) [
         | true ↦ λ i.
-            subst (λ x. bound_at n x ≡ min y most_counted → bound_at (with_bound s k n) x ≡ min (y + 1) most_counted)
-            (eqb-true s t i) (λ f. bound_with_here s k n ∙ one_counted (bound_at n s) y f) e
+            subst (λ x. bound_at n x ≡ min y stop → bound_at (with_bound s k n) x ≡ min (y + 1) stop)
+            (eqb-true s t i) (λ f. bound_with_here s k n ∙ one_counted stop (bound_at n s) y f) e
         | false ↦ λ i. bound_with_other s k t n i ∙ e
       ] refl
-  step_made (scatter s) n t y e =
+  step_made stop (scatter s) n t y e =
       elim (s == t) as (λ b. (s == t) ≡ b
-      → bound_at (without_bundle s n) t ≡ min (if b then 0 else y) most_counted) [
+      → bound_at (without_bundle s n) t ≡ min (if b then 0 else y) stop) [
         | true ↦ λ i.
-            subst (λ x. bound_at (without_bundle s n) x ≡ 0) (eqb-true s t i) (bound_without_here s n) ∙ none_counted
+            subst (λ x. bound_at (without_bundle s n) x ≡ 0) (eqb-true s t i) (bound_without_here s n) ∙ none_counted stop
         | false ↦ λ i. bound_without_other s t n i ∙ e
       ] refl
 
-  rise_counted : (x y r : ℕ) → x ≡ min y most_counted → risen x r ≡ min (y + r) most_counted
-  rise_counted x y r h = omega (arith, h)
+  rise_counted : (stop x y r : ℕ) → x ≡ min y stop → risen stop x r ≡ min (y + r) stop
+  rise_counted stop x y r h = omega (arith, h)
 
-  no_rise : (x y r : ℕ) → x ≡ min y most_counted → r ≡ 0 → x ≡ min (y + r) most_counted
-  no_rise x y r h z = omega (arith, h, z)
+  no_rise : (stop x y r : ℕ) → x ≡ min y stop → r ≡ 0 → x ≡ min (y + r) stop
+  no_rise stop x y r h z = omega (arith, h, z)
 
-  module _ (few : (s : ℕ) → kind s ≡ true → s < most_slots) where
+  module _ (stop : ℕ) (few : (s : ℕ) → kind s ≡ true → s < most_slots) where
     pub first_made : (c : ℕ) (b : Sequence) (n : Entries) (t y : ℕ) → IsOfKinds kind b
-        → bound_at n t ≡ min y most_counted
-        → bound_at (first_note kind c b n) t ≡ min (y + rise c b t) most_counted
+        → bound_at n t ≡ min y stop
+        → bound_at (first_note stop kind c b n) t ≡ min (y + rise c b t) stop
     first_made c b n t y is e =
         elim (kind t) as (λ x. kind t ≡ x
-        → bound_at (first_note kind c b n) t ≡ min (y + rise c b t) most_counted) [
-          | true ↦ λ k. first_bundle kind c b n t (few t k) k ∙ rise_counted (bound_at n t) y (rise c b t) e
+        → bound_at (first_note stop kind c b n) t ≡ min (y + rise c b t) stop) [
+          | true ↦ λ k. first_bundle stop kind c b n t (few t k) k ∙ rise_counted stop (bound_at n t) y (rise c b t) e
           | false ↦ λ k.
-              first_plain kind c b n t k ∙ no_rise (bound_at n t) y (rise c b t) e (plain_rise c b t k is)
+              first_plain stop kind c b n t k ∙ no_rise stop (bound_at n t) y (rise c b t) e (plain_rise c b t k is)
         ] refl
 
     mutual
       pub statement_made : (s : Statement) (n : Entries) (t y : ℕ) → StatementKeeps kind s
-          → bound_at n t ≡ min y most_counted
-          → bound_at (after_statement kind s n) t ≡ min (statement_to s t y) most_counted
-      statement_made (step s) n t y is e = step_bound s n t ∙ step_made s n t y e
+          → bound_at n t ≡ min y stop
+          → bound_at (after_statement stop kind s n) t ≡ min (statement_to s t y) stop
+      statement_made (step s) n t y is e = step_bound stop s n t ∙ step_made stop s n t y e
       statement_made (loop c b) n t y is e =
-          sequence_made b (first_note kind c b n) t (y + rise c b t) is.1 (first_made c b n t y is.1 e)
+          sequence_made b (first_note stop kind c b n) t (y + rise c b t) is.1 (first_made c b n t y is.1 e)
       statement_made (choice none) n t y is e = e
       statement_made (choice (either b bs)) n t y is e = sequence_made b n t y is.0 e
 
       pub sequence_made : (b : Sequence) (n : Entries) (t y : ℕ) → IsOfKinds kind b
-          → bound_at n t ≡ min y most_counted
-          → bound_at (after_sequence kind b n) t ≡ min (sequence_to b t y) most_counted
+          → bound_at n t ≡ min y stop
+          → bound_at (after_sequence stop kind b n) t ≡ min (sequence_to b t y) stop
       sequence_made skip n t y is e = e
       sequence_made (andthen s b) n t y is e =
-          sequence_made b (after_statement kind s n) t (statement_to s t y) is.1 (statement_made s n t y is.0 e)
+          sequence_made b (after_statement stop kind s n) t (statement_to s t y) is.1 (statement_made s n t y is.0 e)
 
   -- ---- a certificate whose tests pass
 
-  step_told : (s : Step) (n : Entries) (t : ℕ) → bound_at (noted_with true s n) t ≡ step_to s t (bound_at n t)
+  step_told : (s : Step) (n : Entries) (t : ℕ) → bound_at (noted_with None s n) t ≡ step_to s t (bound_at n t)
   step_told (fix s r) n t = bound_page s r Free t n
   step_told (unfix s) n t = bound_without_page s t n
   step_told (latch s m) n t = bound_as (held_in m) s t n
@@ -212,16 +211,16 @@ module _ (kind : ℕ → Bool) where
   module _ (g : Geometry) (d : Claims) where
     mutual
       pub statement_walked : (k : ℕ) (s : Statement) (t : ℕ) → StatementKeeps kind s
-          → first_fault g d (statement_tests true k s) ≡ None
-          → bound_at (expected_note d (outcome true k s)) t ≡ statement_to s t (bound_at (note_at d k) t)
+          → first_fault g d (statement_tests None k s) ≡ None
+          → bound_at (expected_note d (outcome None k s)) t ≡ statement_to s t (bound_at (note_at d k) t)
       statement_walked k (step s) t is h = step_told s (note_at d k) t
       statement_walked k (loop n b) t is h =
           let end : ℕ = sequence_end (k + 1) b in
           let front : List Test = turn_tests (k + 1) k b in
           let p =
-          both_pass g d (front ++ sequence_tests true (k + 1) b)
+          both_pass g d (front ++ sequence_tests None (k + 1) b)
           (loop_keeps end k b ∷ loop_grows end k (k + 1) n b ∷ []) h in
-          let q = both_pass g d front (sequence_tests true (k + 1) b) p.0 in
+          let q = both_pass g d front (sequence_tests None (k + 1) b) p.0 in
           let begins = turn_passes g d (k + 1) k b q.0 in
           let keeps = first_passes g d (loop_keeps end k b) (loop_grows end k (k + 1) n b ∷ []) p.1 in
           let grows = first_passes g d (loop_grows end k (k + 1) n b) [] keeps.1 in
@@ -236,21 +235,21 @@ module _ (kind : ℕ → Bool) where
       statement_walked k (choice (either b bs)) t is h =
           let end : ℕ = sequence_end (k + 1) b in
           let front : List Test = note_tests (k + 1) (same k) in
-          let p = both_pass g d (front ++ sequence_tests true (k + 1) b) (later_tests true k end (end + 1) bs) h in
-          let q = both_pass g d front (sequence_tests true (k + 1) b) p.0 in
+          let p = both_pass g d (front ++ sequence_tests None (k + 1) b) (later_tests None k end (end + 1) bs) h in
+          let q = both_pass g d front (sequence_tests None (k + 1) b) p.0 in
           let note = note_passes g d (k + 1) (same k) q.0 in
           sequence_walked (k + 1) b t is.0 q.1 ∙ ap (λ n. sequence_to b t (bound_at n t)) note.1
 
       pub sequence_walked : (k : ℕ) (b : Sequence) (t : ℕ) → IsOfKinds kind b
-          → first_fault g d (sequence_tests true k b) ≡ None
+          → first_fault g d (sequence_tests None k b) ≡ None
           → bound_at (note_at d (sequence_end k b)) t ≡ sequence_to b t (bound_at (note_at d k) t)
       sequence_walked k skip t is h = refl
       sequence_walked k (andthen s b) t is h =
           let next : ℕ = statement_end k s in
-          let between : List Test = note_tests next (outcome true k s) in
-          let p = both_pass g d (statement_tests true k s ++ between) (sequence_tests true next b) h in
-          let q = both_pass g d (statement_tests true k s) between p.0 in
-          let note = note_passes g d next (outcome true k s) q.1 in
+          let between : List Test = note_tests next (outcome None k s) in
+          let p = both_pass g d (statement_tests None k s ++ between) (sequence_tests None next b) h in
+          let q = both_pass g d (statement_tests None k s) between p.0 in
+          let note = note_passes g d next (outcome None k s) q.1 in
           sequence_walked next b t is.1 p.1
           ∙ ap (λ y. sequence_to b t y) (ap (λ n. bound_at n t) note.1 ∙ statement_walked k s t is.0 q.0)
 

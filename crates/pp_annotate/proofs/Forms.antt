@@ -1,5 +1,5 @@
 -- Notes whose entries stand by rising slot, none of which pins nothing, and where no bundle has a page of its own.
-use Rattle.std.proofs.Common.{◌≡◌, ℕ, ◌+◌, ◌<◌, ◌≤◌, Bool, true, false, cond, Some, None, [], ◌∷◌, refl, sym, ap, subst}
+use Rattle.std.proofs.Common.{◌≡◌, ℕ, ◌+◌, ◌<◌, ◌≤◌, Bool, true, false, cond, Option, Some, None, [], ◌∷◌, refl, sym, ap, subst}
 use Rattle.std.proofs.Common.{◌∙◌, arith}
 use Rattle.std.specs.Prelude.{◌==◌, ◌&&◌, not, nat_lt, nat_le, is_some, if◌then◌else◌, option_map, unwrap_or}
 use Rattle.std.proofs.lemmas.Bool.{and_parts, not-true, ltb-true, leb-true, lt-ltb, le-leb, eqb-true}
@@ -167,27 +167,24 @@ module _ (kind : ℕ → Bool) where
       forms_insert 0 (Bundle s k) (without_bundle s n) (omega arith) some tt (absent_bundle s 0 n is f)
       (forms_without_bundle 0 s n f)
 
-  some_more : (told : Bool) (bound : ℕ) → 1 ≤ one_more told bound
-  some_more true bound = omega arith
-  some_more false bound = omega arith
-
-  pub noted_forms : (told : Bool) (g : Geometry) (c : Claims) (k : ℕ) (s : Step) (n : Entries) → KeepsKinds kind s
-      → note_at c k ≡ n → first_fault g c (step_tests k s) ≡ None → Forms 0 n → Forms 0 (noted_with told s n)
-  noted_forms told g c k (fix s r) n is e h f =
+  pub noted_forms : (stop : Option ℕ) → ((bound : ℕ) → 1 ≤ one_more stop bound) → (g : Geometry) (c : Claims) (k : ℕ)
+      (s : Step) (n : Entries) → KeepsKinds kind s → note_at c k ≡ n → first_fault g c (step_tests k s) ≡ None → Forms 0 n → Forms 0 (noted_with stop s n)
+  noted_forms stop some g c k (fix s r) n is e h f =
       let p = first_passes g c (slot_unused k s) [] h in
       let q = and_parts (not (is_some (noted_at (note_at c k) s))) (bound_at (note_at c k) s == 0) p.0 in
       let free : is_some (noted_at n s) ≡ false = ap (λ x. is_some (noted_at x s)) (sym e)
       ∙ not-true (is_some (noted_at (note_at c k) s)) q.0 in
       let empty : bound_at n s ≡ 0 = ap (λ x. bound_at x s) (sym e) ∙ eqb-true (bound_at (note_at c k) s) 0 q.1 in
       forms_insert 0 (Slot s r Free) n (omega arith) (omega arith) is (absent_unused s 0 n free empty f) f
-  noted_forms told g c k (unfix s) n is e h f = forms_without_page 0 s n f
-  noted_forms told g c k (latch s m) n is e h f = forms_as 0 (held_in m) s n f
-  noted_forms told g c k (unlatch s) n is e h f = forms_as 0 Free s n f
-  noted_forms told g c k (gather s r) n is e h f =
-      forms_bound s (one_more told (bound_at n s)) n is (some_more told (bound_at n s)) f
-  noted_forms told g c k (scatter s) n is e h f = forms_without_bundle 0 s n f
+  noted_forms stop some g c k (unfix s) n is e h f = forms_without_page 0 s n f
+  noted_forms stop some g c k (latch s m) n is e h f = forms_as 0 (held_in m) s n f
+  noted_forms stop some g c k (unlatch s) n is e h f = forms_as 0 Free s n f
+  noted_forms stop some g c k (gather s r) n is e h f =
+      forms_bound s (one_more stop (bound_at n s)) n is (some (bound_at n s)) f
+  noted_forms stop some g c k (scatter s) n is e h f = forms_without_bundle 0 s n f
 
-  pub step_forms : (g : Geometry) (c : Claims) (k : ℕ) (s : Step) (n : Entries) → KeepsKinds kind s → note_at c k ≡ n
-      → first_fault g c (step_tests k s) ≡ None → Forms 0 n → Forms 0 (after_step s n)
-  step_forms g c k s n is e h f =
-      subst (λ x. Forms 0 x) (sym (step_expected g c k s n e h)) (noted_forms false g c k s n is e h f)
+  pub step_forms : (stop : ℕ) → 1 ≤ stop → (g : Geometry) (c : Claims) (k : ℕ) (s : Step) (n : Entries)
+      → KeepsKinds kind s → note_at c k ≡ n → first_fault g c (step_tests k s) ≡ None → Forms 0 n → Forms 0 (after_step stop s n)
+  step_forms stop some g c k s n is e h f =
+      subst (λ x. Forms 0 x) (sym (step_expected stop g c k s n e h))
+      (noted_forms (Some stop) (λ bound. omega (arith, some)) g c k s n is e h f)

@@ -1,9 +1,8 @@
 -- A body raises the bound of a bundle that it nowhere scatters by its growth, where bounds are counted in full.
-use Rattle.std.proofs.Common.{◌≡◌, ℕ, zero, suc, ◌+◌, ◌-◌, ◌*◌, ◌<◌, ◌≤◌, Bool, true, false, List, [], ◌∷◌, ◌++◌, refl}
+use Rattle.std.proofs.Common.{◌≡◌, ℕ, zero, suc, ◌+◌, ◌-◌, ◌*◌, ◌<◌, ◌≤◌, Bool, true, false, Some, None, List, [], ◌∷◌, ◌++◌, refl}
 use Rattle.std.proofs.Common.{sym, ap, subst, ◌∙◌, arith}
 use Rattle.std.specs.Prelude.{◌||◌, ◌==◌, if◌then◌else◌}
 use Rattle.std.proofs.lemmas.Bool.{eqb-true}
-use Rattle.pp_settings.specs.Limits.{most_frames}
 use Rattle.pp_plan.specs.Limits.{most_slots}
 use Rattle.pp_plan.specs.Tree.{Step, fix, unfix, latch, unlatch, gather, scatter, Statement, step, loop, choice}
 use Rattle.pp_plan.specs.Tree.{Sequence, skip, andthen, Alternatives, none, either, step_scatters, statement_scatters}
@@ -48,17 +47,17 @@ by_slot s t P here other =
     ] refl
 
 -- where one more is counted in full, a step is noted so
-pub noted_in_full : (s : Step) (n : Entries) → ((t : ℕ) → bound_at n t ≤ most_frames)
-    → noted_with true s n ≡ noted_with false s n
-noted_in_full (fix s r) n low = refl
-noted_in_full (unfix s) n low = refl
-noted_in_full (latch s m) n low = refl
-noted_in_full (unlatch s) n low = refl
-noted_in_full (gather s r) n low = ap (λ k. with_bound s k n) (omega (arith, low s))
-noted_in_full (scatter s) n low = refl
+pub noted_in_full : (stop : ℕ) (s : Step) (n : Entries) → ((t : ℕ) → bound_at n t < stop)
+    → noted_with None s n ≡ noted_with (Some stop) s n
+noted_in_full stop (fix s r) n low = refl
+noted_in_full stop (unfix s) n low = refl
+noted_in_full stop (latch s m) n low = refl
+noted_in_full stop (unlatch s) n low = refl
+noted_in_full stop (gather s r) n low = ap (λ k. with_bound s k n) (omega (arith, low s))
+noted_in_full stop (scatter s) n low = refl
 
 pub step_grows : (d : Step) (n : Entries) (t : ℕ) → step_scatters d t ≡ false
-    → bound_at (noted_with true d n) t ≡ bound_at n t + step_growth d t
+    → bound_at (noted_with None d n) t ≡ bound_at n t + step_growth d t
 step_grows (fix s r) n t h = omega (arith, bound_page s r Free t n)
 step_grows (unfix s) n t h = omega (arith, bound_without_page s t n)
 step_grows (latch s m) n t h = omega (arith, bound_as (held_in m) s t n)
@@ -74,8 +73,8 @@ step_grows (scatter s) n t h = omega (arith, bound_without_other s t n h)
 
 -- ---- bounds that are counted in full
 
-in_full : (b r : ℕ) → risen b r ≤ most_frames → risen b r ≡ b + r
-in_full b r h = omega (arith, h)
+in_full : (stop b r : ℕ) → risen stop b r < stop → risen stop b r ≡ b + r
+in_full stop b r h = omega (arith, h)
 
 pub turn_more : (n b g : ℕ) → 1 ≤ n → b + (n - 1) * g + g ≡ b + n * g
 turn_more zero b g h = absurd (omega (arith, h))
@@ -127,35 +126,35 @@ module _ (kind : ℕ → Bool) where
         let q = plain_branches bs t h k.1 in
         (ap (λ x. x || branches_scatter bs t) p.0 ∙ q.0, p.1)
 
-  module _ (few : (s : ℕ) → kind s ≡ true → s < most_slots) where
+  module _ (stop : ℕ) (few : (s : ℕ) → kind s ≡ true → s < most_slots) where
     -- The bound at the first place of a loop's body, where it is counted in full.
     pub first_is : (turns : ℕ) (b : Sequence) (n : Entries) (t : ℕ) → IsOfKinds kind b → scatters b t ≡ false
-        → bound_at (first_note kind turns b n) t ≤ most_frames
-        → bound_at (first_note kind turns b n) t ≡ bound_at n t + (turns - 1) * growth b t
+        → bound_at (first_note stop kind turns b n) t < stop
+        → bound_at (first_note stop kind turns b n) t ≡ bound_at n t + (turns - 1) * growth b t
     first_is turns b n t is still small =
         elim (kind t) as (λ x. kind t ≡ x
-        → bound_at (first_note kind turns b n) t ≡ bound_at n t + (turns - 1) * growth b t) [
+        → bound_at (first_note stop kind turns b n) t ≡ bound_at n t + (turns - 1) * growth b t) [
           | true ↦ λ k.
-              let e = first_bundle kind turns b n t (few t k) k in
+              let e = first_bundle stop kind turns b n t (few t k) k in
               let by : rise turns b t ≡ (turns - 1) * growth b t =
               ap (λ x. if x then 0 else (turns - 1) * growth b t) still in
-              e ∙ in_full (bound_at n t) (rise turns b t) (omega (arith, e, small)) ∙ ap (λ x. bound_at n t + x) by
+              e ∙ in_full stop (bound_at n t) (rise turns b t) (omega (arith, e, small)) ∙ ap (λ x. bound_at n t + x) by
           | false ↦ λ k.
               let none = times_zero (turns - 1) (growth b t) (plain_sequence b t k is).1 in
-              first_plain kind turns b n t k ∙ omega (arith, none)
+              first_plain stop kind turns b n t k ∙ omega (arith, none)
         ] refl
 
     mutual
       statement_grows : (d : Statement) (n : Entries) (t : ℕ) → StatementKeeps kind d → statement_scatters d t ≡ false
-          → note_pins n ≤ most_frames → greatest (statement_notes kind d n) ≤ most_frames
-          → bound_at (after_statement kind d n) t ≡ bound_at n t + statement_growth d t
+          → note_pins n < stop → greatest (statement_notes stop kind d n) < stop
+          → bound_at (after_statement stop kind d n) t ≡ bound_at n t + statement_growth d t
       statement_grows (step d) n t is still small h =
-          step_bound d n t
-          ∙ ap (λ x. bound_at x t) (sym (noted_in_full d n (λ x. omega (arith, bound_pins x n, small))))
+          step_bound stop d n t
+          ∙ ap (λ x. bound_at x t) (sym (noted_in_full stop d n (λ x. omega (arith, bound_pins x n, small))))
           ∙ step_grows d n t still
       statement_grows (loop turns b) n t is still small h =
-          let first : Entries = first_note kind turns b n in
-          let first_small : note_pins first ≤ most_frames = omega (arith, h) in
+          let first : Entries = first_note stop kind turns b n in
+          let first_small : note_pins first < stop = omega (arith, h) in
           let e = first_is turns b n t is.1 still (omega (arith, bound_pins t first, first_small)) in
           sequence_grows b first t is.1 still first_small (omega (arith, h))
           ∙ ap (λ x. x + growth b t) e
@@ -163,16 +162,16 @@ module _ (kind : ℕ → Bool) where
       statement_grows (choice none) n t is still small h = omega arith
       statement_grows (choice (either b bs)) n t is still small h =
           sequence_grows b n t is.0 (or_false (scatters b t) (branches_scatter bs t) still).0 small
-          (omega (arith, greatest_left (n ∷ sequence_notes kind b n) (branches_notes kind bs n), h))
+          (omega (arith, greatest_left (n ∷ sequence_notes stop kind b n) (branches_notes stop kind bs n), h))
 
       pub sequence_grows : (b : Sequence) (n : Entries) (t : ℕ) → IsOfKinds kind b → scatters b t ≡ false
-          → note_pins n ≤ most_frames → greatest (sequence_notes kind b n) ≤ most_frames
-          → bound_at (after_sequence kind b n) t ≡ bound_at n t + growth b t
+          → note_pins n < stop → greatest (sequence_notes stop kind b n) < stop
+          → bound_at (after_sequence stop kind b n) t ≡ bound_at n t + growth b t
       sequence_grows skip n t is still small h = omega arith
       sequence_grows (andthen d b) n t is still small h =
-          let m : Entries = after_statement kind d n in
-          let front : List Entries = statement_notes kind d n in
-          let back : List Entries = m ∷ sequence_notes kind b m in
+          let m : Entries = after_statement stop kind d n in
+          let front : List Entries = statement_notes stop kind d n in
+          let back : List Entries = m ∷ sequence_notes stop kind b m in
           let not = or_false (statement_scatters d t) (scatters b t) still in
           let right = greatest_right front back in
           omega (

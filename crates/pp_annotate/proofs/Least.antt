@@ -1,7 +1,7 @@
 -- Where some certificate of a plan is accepted, the one that is made is accepted, and is the least.
-use Rattle.std.proofs.Common.{◌≡◌, ℕ, zero, suc, ◌+◌, ◌≤◌, min, true, false, Some, None, List, [], ◌∷◌, ◌++◌, length, refl}
+use Rattle.std.proofs.Common.{◌≡◌, ℕ, ◌+◌, ◌≤◌, min, true, Some, None, List, [], ◌∷◌, ◌++◌, refl}
 use Rattle.std.proofs.Common.{sym, ap, subst, ◌∙◌, arith}
-use Rattle.std.specs.Prelude.{slice_get, unwrap_or, if◌then◌else◌}
+use Rattle.std.specs.Prelude.{if◌then◌else◌}
 use Rattle.std.proofs.lemmas.Bool.{leb-true, le-leb}
 use Rattle.pp_settings.specs.Layout.{Geometry}
 use Rattle.pp_plan.specs.Tree.{Step, fix, unfix, latch, unlatch, gather, scatter, Statement, step, loop, choice}
@@ -15,11 +15,11 @@ use Rattle.pp_cert.specs.Walk.{slot_unused, slot_fixed, slot_unlatched, slot_lat
 use Rattle.pp_cert.specs.Walk.{loop_keeps, loop_grows, branch_agrees, holds_nothing, no_more_notes, steps_allowed}
 use Rattle.pp_cert.specs.Walk.{steps_enough, peak_allowed}
 use Rattle.pp_cert.specs.Walk.{Certifies, passes, fault_of, first_fault, note_tests, step_tests, statement_tests}
-use Rattle.pp_cert.specs.Walk.{sequence_tests, later_tests, tests, tests_with, statement_end, sequence_end, most_steps}
+use Rattle.pp_cert.specs.Walk.{sequence_tests, later_tests, tests, statement_end, sequence_end, most_steps}
 use Rattle.pp_cert.specs.Limits.{counted}
 use Rattle.pp_cert.proofs.Passing.{first_passes, all_pass}
 use Rattle.pp_annotate.specs.Made.{made_notes, greatest, made}
-use Rattle.pp_annotate.specs.Annotation.{IsLeast, HasNone}
+use Rattle.pp_annotate.specs.Annotation.{counted_tests, IsLeast, HasNone}
 use Rattle.pp_annotate.proofs.Written.{notes_are}
 use Rattle.pp_annotate.proofs.Told.{within_greatest, made_untold}
 
@@ -46,7 +46,7 @@ step_asks m k (gather s r) = tt
 step_asks m k (scatter s) = (tt, tt)
 
 mutual
-  statement_asks : (m k : ℕ) (s : Statement) → AllAsk m (statement_tests true k s)
+  statement_asks : (m k : ℕ) (s : Statement) → AllAsk m (statement_tests None k s)
   statement_asks m k (step s) = step_asks m k s
   statement_asks m k (loop c b) = (
     tt,
@@ -54,7 +54,7 @@ mutual
       tt,
       (
         tt,
-        ask_both m (sequence_tests true (k + 1) b)
+        ask_both m (sequence_tests None (k + 1) b)
             (loop_keeps (sequence_end (k + 1) b) k b ∷ loop_grows (sequence_end (k + 1) b) k (k + 1) c b ∷ [])
             (sequence_asks m (k + 1) b) (tt, (tt, tt)),
       ),
@@ -68,21 +68,21 @@ mutual
           tt,
           (
             tt,
-            ask_both m (sequence_tests true (k + 1) b) (later_tests true k end (end + 1) bs) (sequence_asks m (k + 1) b)
+            ask_both m (sequence_tests None (k + 1) b) (later_tests None k end (end + 1) bs) (sequence_asks m (k + 1) b)
                 (later_asks m k end (end + 1) bs),
           ),
         ),
       )
 
-  sequence_asks : (m k : ℕ) (b : Sequence) → AllAsk m (sequence_tests true k b)
+  sequence_asks : (m k : ℕ) (b : Sequence) → AllAsk m (sequence_tests None k b)
   sequence_asks m k skip = tt
   sequence_asks m k (andthen s b) =
       let next : ℕ = statement_end k s in
-      ask_both m (statement_tests true k s ++ note_tests next (outcome true k s)) (sequence_tests true next b)
-      (ask_both m (statement_tests true k s) (note_tests next (outcome true k s)) (statement_asks m k s) (tt, (tt, (tt, tt))))
+      ask_both m (statement_tests None k s ++ note_tests next (outcome None k s)) (sequence_tests None next b)
+      (ask_both m (statement_tests None k s) (note_tests next (outcome None k s)) (statement_asks m k s) (tt, (tt, (tt, tt))))
       (sequence_asks m next b)
 
-  later_asks : (m before first k : ℕ) (bs : Alternatives) → AllAsk m (later_tests true before first k bs)
+  later_asks : (m before first k : ℕ) (bs : Alternatives) → AllAsk m (later_tests None before first k bs)
   later_asks m before first k none = tt
   later_asks m before first k (either b bs) =
       let end : ℕ = sequence_end k b in (
@@ -91,7 +91,7 @@ mutual
           tt,
           (
             tt,
-            ask_both m (sequence_tests true k b) (branch_agrees end first ∷ later_tests true before first (end + 1) bs)
+            ask_both m (sequence_tests None k b) (branch_agrees end first ∷ later_tests None before first (end + 1) bs)
                 (sequence_asks m k b) (tt, later_asks m before first (end + 1) bs),
           ),
         ),
@@ -106,7 +106,7 @@ tests_ask m p h = (
       tt,
       (
         tt,
-        ask_both m (sequence_tests true 0 p.body)
+        ask_both m (sequence_tests None 0 p.body)
             (holds_nothing (sequence_end 0 p.body) ∷ no_more_notes (sequence_end 0 p.body + 1) ∷ steps_allowed ∷
             steps_enough (sequence_longest p.body) ∷ peak_allowed ∷ []) (sequence_asks m 0 p.body)
             (tt, (tt, (tt, (h, (tt, tt))))),
@@ -179,6 +179,6 @@ made_least g p plan d h =
 
 -- where it has a fault, no certificate is accepted
 pub none_accepted : (g : Geometry) (p : Terms) → IsPlan p → (fault : CheckError)
-    → first_fault g (made p) (tests_with false p) ≡ Some fault → HasNone g p
+    → first_fault g (made p) (counted_tests p) ≡ Some fault → HasNone g p
 none_accepted g p plan fault e d h =
     absurd (let ok = made_untold g p plan (made_accepted g p d plan h) in cc)

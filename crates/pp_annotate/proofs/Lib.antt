@@ -1,5 +1,6 @@
 pub mod Splices
 pub mod Walk
+pub mod Stops
 pub mod Pins
 pub mod Once
 pub mod Forms

@@ -28,7 +28,7 @@ use Rattle.pp_cert.specs.Walk.{there, as_expected, may_begin, within_peak, slot_
 use Rattle.pp_cert.specs.Walk.{slot_latched, slot_in_order, bundle_gathered, loop_keeps, loop_grows, branch_agrees}
 use Rattle.pp_cert.specs.Walk.{holds_nothing, no_more_notes, steps_allowed, steps_enough, peak_allowed, passes, fault_of}
 use Rattle.pp_cert.specs.Walk.{first_fault, note_tests, turn_tests, step_tests, statement_tests, sequence_tests}
-use Rattle.pp_cert.specs.Walk.{later_tests, tests, tests_with, statement_end, sequence_end}
+use Rattle.pp_cert.specs.Walk.{later_tests, tests, statement_end, sequence_end}
 use Rattle.pp_cert.proofs.Slots.{same_number}
 use Rattle.pp_cert.proofs.Faults.{past_first, in_first}
 use Rattle.pp_cert.proofs.Passing.{first_passes, both_pass, note_passes, turn_passes, note_same, note_itself}
@@ -36,7 +36,7 @@ use Rattle.pp_cert.proofs.SlotKinds.{KeepsKinds, StatementKeeps, IsOfKinds, Bran
 use Rattle.pp_annotate.specs.Growth.{growth, rise, first_note, statement_gathers, sequence_gathers, branches_gather}
 use Rattle.pp_annotate.specs.Made.{after_statement, after_sequence, statement_notes, sequence_notes, branches_notes}
 use Rattle.pp_annotate.specs.Made.{made_notes, made}
-use Rattle.pp_annotate.specs.Annotation.{IsBeforeLimits, first_failed, IsOfPlan, HasOwnBundles, IsWall}
+use Rattle.pp_annotate.specs.Annotation.{counted_tests, IsBeforeLimits, first_failed, IsOfPlan, HasOwnBundles, IsWall}
 use Rattle.pp_annotate.proofs.Alike.{alike}
 use Rattle.pp_annotate.proofs.Forms.{Forms}
 use Rattle.pp_annotate.proofs.Low.{Low}
@@ -55,17 +55,17 @@ use Rattle.pp_annotate.proofs.Beside.{Pages, entries_same, turn_pages, statement
 same_is : (a b : ℕ) → a ≡ b → (a == b) ≡ true
 same_is a b e = grind (arith, nat_tests)
 
-counted_zero : (x y : ℕ) → x ≡ min y most_counted → y ≡ 0 → x ≡ 0
-counted_zero x y e z = omega (arith, e, z)
+counted_zero : (stop x y : ℕ) → x ≡ min y stop → y ≡ 0 → x ≡ 0
+counted_zero stop x y e z = omega (arith, e, z)
 
-zero_counted : (x y : ℕ) → x ≡ min y most_counted → x ≡ 0 → y ≡ 0
-zero_counted x y e z = omega (arith, e, z)
+zero_counted : (stop x y : ℕ) → 1 ≤ stop → x ≡ min y stop → x ≡ 0 → y ≡ 0
+zero_counted stop x y some e z = omega (arith, some, e, z)
 
-some_counted : (x y : ℕ) → x ≡ min y most_counted → nat_lt 0 y ≡ nat_lt 0 x
-some_counted x y e =
+some_counted : (stop x y : ℕ) → 1 ≤ stop → x ≡ min y stop → nat_lt 0 y ≡ nat_lt 0 x
+some_counted stop x y some e =
     elim (nat_lt 0 y) as (λ b. nat_lt 0 y ≡ b → b ≡ nat_lt 0 x) [
-      | true ↦ λ h. sym (lt-ltb 0 x (omega (arith, e, ltb-true 0 y h)))
-      | false ↦ λ h. sym (none_less x (counted_zero x y e (no_less y h)))
+      | true ↦ λ h. sym (lt-ltb 0 x (omega (arith, some, e, ltb-true 0 y h)))
+      | false ↦ λ h. sym (none_less x (counted_zero stop x y e (no_less y h)))
     ] refl
   where
     no_less : (y : ℕ) → nat_lt 0 y ≡ false → y ≡ 0
@@ -74,12 +74,12 @@ some_counted x y e =
     none_less : (x : ℕ) → x ≡ 0 → nat_lt 0 x ≡ false
     none_less x h = ap (λ z. nat_lt 0 z) h
 
-counted_back : (x y u v : ℕ) → x ≡ min u most_counted → y ≡ min v most_counted → u ≤ most_counted → v ≤ most_counted
+counted_back : (stop x y u v : ℕ) → x ≡ min u stop → y ≡ min v stop → u ≤ stop → v ≤ stop
     → x ≡ y → u ≡ v
-counted_back x y u v a b l m e = omega (arith, a, b, l, m, e)
+counted_back stop x y u v a b l m e = omega (arith, a, b, l, m, e)
 
-counted_same : (x y u v : ℕ) → x ≡ min u most_counted → y ≡ min v most_counted → u ≡ v → x ≡ y
-counted_same x y u v a b e = omega (arith, a, b, e)
+counted_same : (stop x y u v : ℕ) → x ≡ min u stop → y ≡ min v stop → u ≡ v → x ≡ y
+counted_same stop x y u v a b e = omega (arith, a, b, e)
 
 moved : (x y g h : ℕ) → x + g ≡ x + h → y + g ≡ y + h
 moved x y g h e = omega (arith, e)
@@ -379,7 +379,8 @@ alike_to kind b o t x y ib io p q h =
       ] refl
     ] refl
 
-module _ (g : Geometry) (d c : Claims) (Few : Type 0) (kind : ℕ → Bool) (slots regions : ℕ)
+module _ (g : Geometry) (d c : Claims) (Few : Type 0) (stop : ℕ) (some : 1 ≤ stop) (kind : ℕ → Bool)
+    (slots regions : ℕ)
     (within : (s : ℕ) → kind s ≡ true → s < slots) (few : (s : ℕ) → kind s ≡ true → s < most_slots)
     (own : (k t : ℕ) → kind t ≡ false → bound_at (note_at d k) t ≡ 0) where
   abbrev Here : ℕ → List Entries → Type 0
@@ -389,13 +390,13 @@ module _ (g : Geometry) (d c : Claims) (Few : Type 0) (kind : ℕ → Bool) (slo
   Both xs us = Same g d c Few xs us
 
   abbrev Alike : (theirs mine : Entries) → Type 0
-  Alike theirs mine = Pages kind slots regions within g d theirs mine
+  Alike theirs mine = Pages kind slots regions stop some within g d theirs mine
 
   -- What is known at a place: `c` notes n there, `d` the same pages, and the bounds of `c` are `y`, as far as it counts.
   record Beside (k : ℕ) (n : Entries) (y : ℕ → ℕ) : Type 0 where
     pub mine : note_at c k ≡ n
     pub pages : Alike (note_at d k) n
-    pub counted : (t : ℕ) → bound_at n t ≡ min (y t) most_counted
+    pub counted : (t : ℕ) → bound_at n t ≡ min (y t) stop
     pub plain : (t : ℕ) → kind t ≡ false → y t ≡ 0
 
   -- the bounds of these bundles are those of `d`
@@ -404,11 +405,11 @@ module _ (g : Geometry) (d c : Claims) (Few : Type 0) (kind : ℕ → Bool) (slo
 
   -- so many pages more are counted too
   abbrev Room : (ℕ → ℕ) → ℕ → Type 0
-  Room y m = Few → (t : ℕ) → y t + m ≤ most_counted
+  Room y m = Few → (t : ℕ) → y t + m ≤ stop
 
   entry_same : (k s : ℕ) (n : Entries) (y : ℕ → ℕ) → Beside k n y → noted_at (note_at d k) s ≡ noted_at (note_at c k) s
   entry_same k s n y a =
-      ap (λ o. option_map entry_held o) (entries_same kind slots regions within g d (note_at d k) n a.pages.part s)
+      ap (λ o. option_map entry_held o) (entries_same kind slots regions stop some within g d (note_at d k) n a.pages.part s)
       ∙ sym (ap (λ x. noted_at x s) a.mine)
 
   formed : (theirs mine : Entries) → Alike theirs mine → Forms kind 0 mine
@@ -421,7 +422,7 @@ module _ (g : Geometry) (d c : Claims) (Few : Type 0) (kind : ℕ → Bool) (slo
   step_same k (fix s r) n y is a exact =
       let noted = entry_same k s n y a in
       let bound : bound_at (note_at d k) s ≡ bound_at (note_at c k) s =
-      own k s is ∙ sym (ap (λ x. bound_at x s) a.mine ∙ counted_zero (bound_at n s) (y s) (a.counted s) (a.plain s is)) in
+      own k s is ∙ sym (ap (λ x. bound_at x s) a.mine ∙ counted_zero stop (bound_at n s) (y s) (a.counted s) (a.plain s is)) in
       same_test g d c Few (slot_unused k s) [] [] (λ i. not (is_some (noted i)) && bound i == 0) (same_none g d c Few)
   step_same k (unfix s) n y is a exact =
       let noted = entry_same k s n y a in
@@ -431,7 +432,7 @@ module _ (g : Geometry) (d c : Claims) (Few : Type 0) (kind : ℕ → Bool) (slo
       let noted = entry_same k s n y a in
       let above : is_above_latched g (note_at d k) s ≡ is_above_latched g (note_at c k) s =
       above_same g (note_at d k) n s a.pages.part
-      (entries_same kind slots regions within g d (note_at d k) n a.pages.part s)
+      (entries_same kind slots regions stop some within g d (note_at d k) n a.pages.part s)
       ∙ sym (ap (λ x. is_above_latched g x s) a.mine) in
       same_test g d c Few (slot_fixed k s) (slot_unlatched k s ∷ slot_in_order k s ∷ [])
       (slot_unlatched k s ∷ slot_in_order k s ∷ []) (ap is_some noted)
@@ -444,36 +445,36 @@ module _ (g : Geometry) (d c : Claims) (Few : Type 0) (kind : ℕ → Bool) (slo
       (same_test g d c Few (slot_latched k s) [] [] (ap is_latched_page noted) (same_none g d c Few))
   step_same k (gather s r) n y is a exact = same_none g d c Few
   step_same k (scatter s) n y is a exact =
-      let some : nat_lt 0 (bound_at (note_at d k) s) ≡ nat_lt 0 (bound_at (note_at c k) s) =
+      let gathered : nat_lt 0 (bound_at (note_at d k) s) ≡ nat_lt 0 (bound_at (note_at c k) s) =
       ap (λ x. nat_lt 0 x) (exact s (same_number s))
-      ∙ some_counted (bound_at n s) (y s) (a.counted s)
+      ∙ some_counted stop (bound_at n s) (y s) some (a.counted s)
       ∙ sym (ap (λ x. nat_lt 0 (bound_at x s)) a.mine) in
-      same_test g d c Few (bundle_gathered k s) [] [] some (same_none g d c Few)
+      same_test g d c Few (bundle_gathered k s) [] [] gathered (same_none g d c Few)
 
   -- ---- the next place
 
   beside_next : (k : ℕ) (s : Statement) (n : Entries) (y : ℕ → ℕ) → StatementKeeps kind s
-      → IsStatement slots regions s → Beside k n y → first_fault g d (statement_tests true k s) ≡ None
-      → note_at d (statement_end k s) ≡ expected_note d (outcome true k s)
-      → note_at c (statement_end k s) ≡ after_statement kind s n
-      → Beside (statement_end k s) (after_statement kind s n) (λ t. statement_to s t (y t))
+      → IsStatement slots regions s → Beside k n y → first_fault g d (statement_tests None k s) ≡ None
+      → note_at d (statement_end k s) ≡ expected_note d (outcome None k s)
+      → note_at c (statement_end k s) ≡ after_statement stop kind s n
+      → Beside (statement_end k s) (after_statement stop kind s n) (λ t. statement_to s t (y t))
   beside_next k s n y keeps is a h their mine =
-      let pages = statement_pages kind slots regions within g d k s n keeps is a.pages h in
+      let pages = statement_pages kind slots regions stop some within g d k s n keeps is a.pages h in
       record {
         mine = mine;
-        pages = subst (λ x. Alike x (after_statement kind s n)) (sym their) pages;
-        counted = λ t. statement_made kind few s n t (y t) keeps (a.counted t);
+        pages = subst (λ x. Alike x (after_statement stop kind s n)) (sym their) pages;
+        counted = λ t. statement_made kind stop few s n t (y t) keeps (a.counted t);
         plain = λ t p. plain_to kind s t (y t) p keeps ∙ a.plain t p;
       }
 
   turn_beside : (k turns : ℕ) (b : Sequence) (n : Entries) (y : ℕ → ℕ) → IsOfKinds kind b → Beside k n y
       → begins_turns (scatters b) (note_at d k) (note_at d (k + 1)) ≡ true
-      → note_at c (k + 1) ≡ first_note kind turns b n
-      → Beside (k + 1) (first_note kind turns b n) (λ t. y t + rise turns b t)
+      → note_at c (k + 1) ≡ first_note stop kind turns b n
+      → Beside (k + 1) (first_note stop kind turns b n) (λ t. y t + rise turns b t)
   turn_beside k turns b n y keeps a h mine = record {
     mine = mine;
-    pages = turn_pages kind slots regions within g d k turns b n a.pages h;
-    counted = λ t. first_made kind few turns b n t (y t) keeps (a.counted t);
+    pages = turn_pages kind slots regions stop some within g d k turns b n a.pages h;
+    counted = λ t. first_made kind stop few turns b n t (y t) keeps (a.counted t);
     plain = λ t p. omega (arith, a.plain t p, plain_rise kind turns b t p keeps);
   }
 
@@ -501,33 +502,33 @@ module _ (g : Geometry) (d c : Claims) (Few : Type 0) (kind : ℕ → Bool) (slo
 
   keeps_same : (k turns : ℕ) (b : Sequence) (n : Entries) (y : ℕ → ℕ) → (1 ≤ turns) → IsOfKinds kind b
       → IsSequence slots regions b → Beside k n y → Exact (scatters b) k y → Room y (turns * sequence_gathers b)
-      → Beside (k + 1) (first_note kind turns b n) (λ t. y t + rise turns b t)
+      → Beside (k + 1) (first_note stop kind turns b n) (λ t. y t + rise turns b t)
       → Exact (scatters b) (k + 1) (λ t. y t + rise turns b t)
-      → Here (k + 1 + 1) (sequence_notes kind b (first_note kind turns b n))
-      → first_fault g d (sequence_tests true (k + 1) b) ≡ None
+      → Here (k + 1 + 1) (sequence_notes stop kind b (first_note stop kind turns b n))
+      → first_fault g d (sequence_tests None (k + 1) b) ≡ None
       → Both (loop_keeps (sequence_end (k + 1) b) k b ∷ loop_grows (sequence_end (k + 1) b) k (k + 1) turns b ∷ [])
       (loop_keeps (sequence_end (k + 1) b) k b ∷ [])
-  keeps_same k turns b n y some keeps is a exact room at here stand q =
+  keeps_same k turns b n y once keeps is a exact room at here stand q =
       let end : ℕ = sequence_end (k + 1) b in
-      let first : Entries = first_note kind turns b n in
-      let last : Entries = after_sequence kind b first in
+      let first : Entries = first_note stop kind turns b n in
+      let last : Entries = after_sequence stop kind b first in
       let y1 : ℕ → ℕ = λ t. y t + rise turns b t in
-      let pages = sequence_pages kind slots regions within g d (k + 1) b first keeps is at.pages q in
-      let mine : note_at c end ≡ last = ends_at c kind (k + 1) b first at.mine stand in
-      let counted : (t : ℕ) → bound_at last t ≡ min (sequence_to b t (y1 t)) most_counted = λ t.
-      sequence_made kind few b first t (y1 t) keeps (at.counted t) in
+      let pages = sequence_pages kind slots regions stop some within g d (k + 1) b first keeps is at.pages q in
+      let mine : note_at c end ≡ last = ends_at c stop kind (k + 1) b first at.mine stand in
+      let counted : (t : ℕ) → bound_at last t ≡ min (sequence_to b t (y1 t)) stop = λ t.
+      sequence_made kind stop few b first t (y1 t) keeps (at.counted t) in
       let theirs : (t : ℕ) → scatters b t ≡ true → bound_at (note_at d end) t ≡ sequence_to b t (y1 t) = λ t e.
       sequence_walked kind g d (k + 1) b t keeps q ∙ ap (λ x. sequence_to b t x) (here t e) in
       let to : passes g d (loop_keeps end k b) ≡ true → passes g c (loop_keeps end k b) ≡ true = λ x.
       (λ i. ends_as_begun (scatters b) (a.mine i) (mine i))
       ∙ ends_same b (note_at d k) (note_at d end) n last a.pages.part pages.part (λ t e w.
-      counted_same (bound_at last t) (bound_at n t) (sequence_to b t (y1 t)) (y t) (counted t) (a.counted t)
+      counted_same stop (bound_at last t) (bound_at n t) (sequence_to b t (y1 t)) (y t) (counted t) (a.counted t)
       (sym (theirs t e) ∙ w ∙ exact t e)) x in
       let back : Few → passes g c (loop_keeps end k b) ≡ true → passes g d (loop_keeps end k b) ≡ true = λ low x.
       ends_same b n last (note_at d k) (note_at d end) (sym a.pages.part) (sym pages.part) (λ t e w.
       theirs t e
-      ∙ counted_back (bound_at last t) (bound_at n t) (sequence_to b t (y1 t)) (y t) (counted t) (a.counted t)
-      (omega (arith, sequence_room kind b t (y1 t) keeps, turn_room kind turns b t (y t) some, room low t))
+      ∙ counted_back stop (bound_at last t) (bound_at n t) (sequence_to b t (y1 t)) (y t) (counted t) (a.counted t)
+      (omega (arith, sequence_room kind b t (y1 t) keeps, turn_room kind turns b t (y t) once, room low t))
       (omega (arith, room low t)) w
       ∙ sym (exact t e))
       ((λ i. ends_as_begun (scatters b) (sym a.mine i) (sym mine i)) ∙ x) in
@@ -538,21 +539,21 @@ module _ (g : Geometry) (d c : Claims) (Few : Type 0) (kind : ℕ → Bool) (slo
 
   -- What is known of the end of a choice's branch.
   record Ended (before k : ℕ) (b : Sequence) (n : Entries) (y : ℕ → ℕ) : Type 0 where
-    pub pages : Alike (note_at d k) (after_sequence kind b n)
-    pub mine : note_at c k ≡ after_sequence kind b n
-    pub counted : (t : ℕ) → bound_at (after_sequence kind b n) t ≡ min (sequence_to b t (y t)) most_counted
+    pub pages : Alike (note_at d k) (after_sequence stop kind b n)
+    pub mine : note_at c k ≡ after_sequence stop kind b n
+    pub counted : (t : ℕ) → bound_at (after_sequence stop kind b n) t ≡ min (sequence_to b t (y t)) stop
     pub theirs : (t : ℕ) → bound_at (note_at d k) t ≡ sequence_to b t (bound_at (note_at d before) t)
     pub exact : Exact (scatters b) before y
-    pub room : Few → (t : ℕ) → sequence_to b t (y t) ≤ most_counted
+    pub room : Few → (t : ℕ) → sequence_to b t (y t) ≤ stop
 
   ended : (before k : ℕ) (b : Sequence) (n : Entries) (y : ℕ → ℕ) → IsOfKinds kind b → IsSequence slots regions b
       → Beside k n y → note_at d k ≡ note_at d before → Exact (scatters b) before y → Room y (sequence_gathers b)
-      → Here (k + 1) (sequence_notes kind b n) → first_fault g d (sequence_tests true k b) ≡ None
+      → Here (k + 1) (sequence_notes stop kind b n) → first_fault g d (sequence_tests None k b) ≡ None
       → Ended before (sequence_end k b) b n y
   ended before k b n y keeps is a e exact room stand q = record {
-    pages = sequence_pages kind slots regions within g d k b n keeps is a.pages q;
-    mine = ends_at c kind k b n a.mine stand;
-    counted = λ t. sequence_made kind few b n t (y t) keeps (a.counted t);
+    pages = sequence_pages kind slots regions stop some within g d k b n keeps is a.pages q;
+    mine = ends_at c stop kind k b n a.mine stand;
+    counted = λ t. sequence_made kind stop few b n t (y t) keeps (a.counted t);
     theirs = λ t.
         sequence_walked kind g d k b t keeps q ∙ ap (λ (x : Entries). sequence_to b t (bound_at x t)) e;
     exact = exact;
@@ -565,10 +566,10 @@ module _ (g : Geometry) (d c : Claims) (Few : Type 0) (kind : ℕ → Bool) (slo
   agrees before first end o b n y io ib v a = λ x.
       let start : ℕ → ℕ = λ t. bound_at (note_at d before) t in
       (λ i. same_note (a.mine i) (v.mine i))
-      ∙ notes_same kind (note_at d end) (note_at d first) (after_sequence kind b n) (after_sequence kind o n)
-      (formed (note_at d end) (after_sequence kind b n) a.pages) (formed (note_at d first) (after_sequence kind o n) v.pages)
+      ∙ notes_same kind (note_at d end) (note_at d first) (after_sequence stop kind b n) (after_sequence stop kind o n)
+      (formed (note_at d end) (after_sequence stop kind b n) a.pages) (formed (note_at d first) (after_sequence stop kind o n) v.pages)
       a.pages.part v.pages.part (λ t w.
-      counted_same (bound_at (after_sequence kind b n) t) (bound_at (after_sequence kind o n) t)
+      counted_same stop (bound_at (after_sequence stop kind b n) t) (bound_at (after_sequence stop kind o n) t)
       (sequence_to b t (y t)) (sequence_to o t (y t)) (a.counted t) (v.counted t)
       (alike_to kind b o t (start t) (y t) ib io (a.exact t) (v.exact t) (sym (a.theirs t) ∙ w ∙ v.theirs t))) x
 
@@ -577,10 +578,10 @@ module _ (g : Geometry) (d c : Claims) (Few : Type 0) (kind : ℕ → Bool) (slo
       → passes g c (branch_agrees end first) ≡ true → passes g d (branch_agrees end first) ≡ true
   agrees_back before first end o b n y io ib v a low = λ x.
       let start : ℕ → ℕ = λ t. bound_at (note_at d before) t in
-      notes_same kind (after_sequence kind b n) (after_sequence kind o n) (note_at d end) (note_at d first) a.pages.forms
+      notes_same kind (after_sequence stop kind b n) (after_sequence stop kind o n) (note_at d end) (note_at d first) a.pages.forms
       v.pages.forms (sym a.pages.part) (sym v.pages.part) (λ t w.
       let same_ends : sequence_to b t (y t) ≡ sequence_to o t (y t) =
-      counted_back (bound_at (after_sequence kind b n) t) (bound_at (after_sequence kind o n) t)
+      counted_back stop (bound_at (after_sequence stop kind b n) t) (bound_at (after_sequence stop kind o n) t)
       (sequence_to b t (y t)) (sequence_to o t (y t)) (a.counted t) (v.counted t) (a.room low t) (v.room low t) w in
       a.theirs t
       ∙ alike_to kind b o t (y t) (start t) ib io (λ e. sym (a.exact t e)) (λ e. sym (v.exact t e)) same_ends
@@ -592,20 +593,20 @@ module _ (g : Geometry) (d c : Claims) (Few : Type 0) (kind : ℕ → Bool) (slo
   mutual
     statement_same : (k : ℕ) (s : Statement) (n : Entries) (y : ℕ → ℕ) → StatementKeeps kind s
         → IsStatement slots regions s → Beside k n y → Exact (λ t. statement_scatters s t) k y
-        → Room y (statement_gathers s) → Here (k + 1) (statement_notes kind s n)
-        → Both (statement_tests true k s) (statement_tests false k s)
+        → Room y (statement_gathers s) → Here (k + 1) (statement_notes stop kind s n)
+        → Both (statement_tests None k s) (statement_tests (Some stop) k s)
     statement_same k (step s) n y keeps is a exact room h = step_same k s n y keeps a exact
     statement_same k (loop turns b) n y keeps is a exact room h =
         let end : ℕ = sequence_end (k + 1) b in
-        let first : Entries = first_note kind turns b n in
+        let first : Entries = first_note stop kind turns b n in
         let front : List Test = turn_tests (k + 1) k b in
         let y1 : ℕ → ℕ = λ t. y t + rise turns b t in
         let mine = is_at c (k + 1) first h.0 in
-        let low_note : Low kind n = λ t j. omega (arith, a.counted t) in
+        let low_note : Low stop kind n = λ t j. omega (arith, a.counted t) in
         let form = formed (note_at d k) n a.pages in
         let start : Both front front =
         same_never g d c Few front front
-        (turn_none g c (k + 1) k b n first a.mine h.0 h.1 (begins kind few turns b n form low_note))
+        (turn_none g c (k + 1) k b n first a.mine h.0 h.1 (begins stop kind few turns b n some form low_note))
         (turn_never g d c Few (k + 1) k b) in
         let at : first_fault g d front ≡ None → Beside (k + 1) first y1 = λ p.
         turn_beside k turns b n y keeps.1 a (turn_passes g d (k + 1) k b p).1 mine in
@@ -613,21 +614,21 @@ module _ (g : Geometry) (d c : Claims) (Few : Type 0) (kind : ℕ → Bool) (slo
         turn_exact k turns b y exact (turn_passes g d (k + 1) k b p).1 in
         let inner_room : Room y1 (sequence_gathers b) = λ low t.
         omega (arith, turn_room kind turns b t (y t) keeps.0, room low t) in
-        let inner : Both (front ++ sequence_tests true (k + 1) b) (front ++ sequence_tests false (k + 1) b) =
-        same_then g d c Few front front (sequence_tests true (k + 1) b) (sequence_tests false (k + 1) b) start
+        let inner : Both (front ++ sequence_tests None (k + 1) b) (front ++ sequence_tests (Some stop) (k + 1) b) =
+        same_then g d c Few front front (sequence_tests None (k + 1) b) (sequence_tests (Some stop) (k + 1) b) start
         (λ p. sequence_same (k + 1) b first y1 keeps.1 is.3 (at p) (here p) inner_room h.2) in
-        same_then g d c Few (front ++ sequence_tests true (k + 1) b) (front ++ sequence_tests false (k + 1) b)
+        same_then g d c Few (front ++ sequence_tests None (k + 1) b) (front ++ sequence_tests (Some stop) (k + 1) b)
         (loop_keeps end k b ∷ loop_grows end k (k + 1) turns b ∷ []) (loop_keeps end k b ∷ []) inner (λ p.
-        let q = both_pass g d front (sequence_tests true (k + 1) b) p in
+        let q = both_pass g d front (sequence_tests None (k + 1) b) p in
         keeps_same k turns b n y keeps.0 keeps.1 is.3 a exact room (at q.0) (here q.0) h.2 q.1)
     statement_same k (choice none) n y keeps is a exact room h = same_none g d c Few
     statement_same k (choice (either b bs)) n y keeps is a exact room h =
         let end : ℕ = sequence_end (k + 1) b in
         let front : List Test = note_tests (k + 1) (same k) in
-        let at : k + 1 + length (n ∷ sequence_notes kind b n) ≡ end + 1 =
-        omega (arith, sequence_places kind (k + 1) b n) in
+        let at : k + 1 + length (n ∷ sequence_notes stop kind b n) ≡ end + 1 =
+        omega (arith, sequence_places stop kind (k + 1) b n) in
         let s =
-        stand_split c.peak c.notes (k + 1) (end + 1) (n ∷ sequence_notes kind b n) (branches_notes kind bs n) at h in
+        stand_split c.peak c.notes (k + 1) (end + 1) (n ∷ sequence_notes stop kind b n) (branches_notes stop kind bs n) at h in
         let start : Both front front =
         same_never g d c Few front front (note_none g c (k + 1) (same k) n s.0.0 s.0.1 a.mine)
         (note_never g d c Few (k + 1) (same k)) in
@@ -641,41 +642,41 @@ module _ (g : Geometry) (d c : Claims) (Few : Type 0) (kind : ℕ → Bool) (slo
         exact t (or_right (scatters b t) (branches_scatter bs t) e) in
         let first_room : Room y (sequence_gathers b) = λ low t. omega (arith, room low t) in
         let later_room : Room y (branches_gather bs) = λ low t. omega (arith, room low t) in
-        let inner : Both (front ++ sequence_tests true (k + 1) b) (front ++ sequence_tests false (k + 1) b) =
-        same_then g d c Few front front (sequence_tests true (k + 1) b) (sequence_tests false (k + 1) b) start
+        let inner : Both (front ++ sequence_tests None (k + 1) b) (front ++ sequence_tests (Some stop) (k + 1) b) =
+        same_then g d c Few front front (sequence_tests None (k + 1) b) (sequence_tests (Some stop) (k + 1) b) start
         (λ p. sequence_same (k + 1) b n y keeps.0 is.2.0 (inside p)
         (λ t e. ap (λ x. bound_at x t) (theirs p) ∙ first_exact t e) first_room s.0.2) in
-        same_then g d c Few (front ++ sequence_tests true (k + 1) b) (front ++ sequence_tests false (k + 1) b)
-        (later_tests true k end (end + 1) bs) (later_tests false k end (end + 1) bs) inner (λ p.
-        let q = both_pass g d front (sequence_tests true (k + 1) b) p in
+        same_then g d c Few (front ++ sequence_tests None (k + 1) b) (front ++ sequence_tests (Some stop) (k + 1) b)
+        (later_tests None k end (end + 1) bs) (later_tests (Some stop) k end (end + 1) bs) inner (λ p.
+        let q = both_pass g d front (sequence_tests None (k + 1) b) p in
         let one = ended k (k + 1) b n y keeps.0 is.2.0 (inside q.0) (theirs q.0) first_exact first_room s.0.2 q.1 in
         later_same k end (end + 1) b bs n y keeps.0 keeps.1 is.2.1 a one later_exact later_room s.1)
 
     sequence_same : (k : ℕ) (b : Sequence) (n : Entries) (y : ℕ → ℕ) → IsOfKinds kind b → IsSequence slots regions b
-        → Beside k n y → Exact (scatters b) k y → Room y (sequence_gathers b) → Here (k + 1) (sequence_notes kind b n)
-        → Both (sequence_tests true k b) (sequence_tests false k b)
+        → Beside k n y → Exact (scatters b) k y → Room y (sequence_gathers b) → Here (k + 1) (sequence_notes stop kind b n)
+        → Both (sequence_tests None k b) (sequence_tests (Some stop) k b)
     sequence_same k skip n y keeps is a exact room h = same_none g d c Few
     sequence_same k (andthen s b) n y keeps is a exact room h =
         let next : ℕ = statement_end k s in
-        let m : Entries = after_statement kind s n in
-        let theirs_between : List Test = note_tests next (outcome true k s) in
-        let between : List Test = note_tests next (outcome false k s) in
+        let m : Entries = after_statement stop kind s n in
+        let theirs_between : List Test = note_tests next (outcome None k s) in
+        let between : List Test = note_tests next (outcome (Some stop) k s) in
         let p =
-        stand_split c.peak c.notes (k + 1) next (statement_notes kind s n) (m ∷ sequence_notes kind b m)
-        (statement_places kind k s n) h in
+        stand_split c.peak c.notes (k + 1) next (statement_notes stop kind s n) (m ∷ sequence_notes stop kind b m)
+        (statement_places stop kind k s n) h in
         let inner =
         statement_same k s n y keeps.0 is.0 a (λ t e. exact t (or_left (statement_scatters s t) (scatters b t) e))
         (λ low t. omega (arith, room low t)) p.0 in
-        let note : first_fault g d (statement_tests true k s) ≡ None → Both theirs_between between = λ q.
+        let note : first_fault g d (statement_tests None k s) ≡ None → Both theirs_between between = λ q.
         same_never g d c Few theirs_between between
-        (note_none g c next (outcome false k s) m p.1.0 p.1.1 (expected_is g c kind few k s n a.mine (inner.0 q) p.0))
-        (note_never g d c Few next (outcome true k s)) in
-        let first : Both (statement_tests true k s ++ theirs_between) (statement_tests false k s ++ between) =
-        same_then g d c Few (statement_tests true k s) (statement_tests false k s) theirs_between between inner note in
-        same_then g d c Few (statement_tests true k s ++ theirs_between) (statement_tests false k s ++ between)
-        (sequence_tests true next b) (sequence_tests false next b) first (λ q.
-        let r = both_pass g d (statement_tests true k s) theirs_between q in
-        let their = (note_passes g d next (outcome true k s) r.1).1 in
+        (note_none g c next (outcome (Some stop) k s) m p.1.0 p.1.1 (expected_is g c stop some kind few k s n a.mine (inner.0 q) p.0))
+        (note_never g d c Few next (outcome None k s)) in
+        let first : Both (statement_tests None k s ++ theirs_between) (statement_tests (Some stop) k s ++ between) =
+        same_then g d c Few (statement_tests None k s) (statement_tests (Some stop) k s) theirs_between between inner note in
+        same_then g d c Few (statement_tests None k s ++ theirs_between) (statement_tests (Some stop) k s ++ between)
+        (sequence_tests None next b) (sequence_tests (Some stop) next b) first (λ q.
+        let r = both_pass g d (statement_tests None k s) theirs_between q in
+        let their = (note_passes g d next (outcome None k s) r.1).1 in
         sequence_same next b m (λ t. statement_to s t (y t)) keeps.1 is.1
         (beside_next k s n y keeps.0 is.0 a r.0 their (is_at c next m p.1.0))
         (λ t e. ap (λ x. bound_at x t) their
@@ -686,15 +687,15 @@ module _ (g : Geometry) (d c : Claims) (Few : Type 0) (kind : ℕ → Bool) (slo
     -- of the second and later branches; `o` is the first one
     later_same : (before first k : ℕ) (o : Sequence) (bs : Alternatives) (n : Entries) (y : ℕ → ℕ) → IsOfKinds kind o
         → BranchesKeep kind bs → AreAlternatives slots regions bs → Beside before n y → Ended before first o n y
-        → Exact (λ t. branches_scatter bs t) before y → Room y (branches_gather bs) → Here k (branches_notes kind bs n)
-        → Both (later_tests true before first k bs) (later_tests false before first k bs)
+        → Exact (λ t. branches_scatter bs t) before y → Room y (branches_gather bs) → Here k (branches_notes stop kind bs n)
+        → Both (later_tests None before first k bs) (later_tests (Some stop) before first k bs)
     later_same before first k o none n y io keeps is a one exact room h = same_none g d c Few
     later_same before first k o (either b bs) n y io keeps is a one exact room h =
         let end : ℕ = sequence_end k b in
         let front : List Test = note_tests k (same before) in
-        let at : k + length (n ∷ sequence_notes kind b n) ≡ end + 1 = omega (arith, sequence_places kind k b n) in
+        let at : k + length (n ∷ sequence_notes stop kind b n) ≡ end + 1 = omega (arith, sequence_places stop kind k b n) in
         let s =
-        stand_split c.peak c.notes k (end + 1) (n ∷ sequence_notes kind b n) (branches_notes kind bs n) at h in
+        stand_split c.peak c.notes k (end + 1) (n ∷ sequence_notes stop kind b n) (branches_notes stop kind bs n) at h in
         let start : Both front front =
         same_never g d c Few front front (note_none g c k (same before) n s.0.0 s.0.1 a.mine)
         (note_never g d c Few k (same before)) in
@@ -708,31 +709,33 @@ module _ (g : Geometry) (d c : Claims) (Few : Type 0) (kind : ℕ → Bool) (slo
         exact t (or_right (scatters b t) (branches_scatter bs t) e) in
         let its_room : Room y (sequence_gathers b) = λ low t. omega (arith, room low t) in
         let later_room : Room y (branches_gather bs) = λ low t. omega (arith, room low t) in
-        let inner : Both (front ++ sequence_tests true k b) (front ++ sequence_tests false k b) =
-        same_then g d c Few front front (sequence_tests true k b) (sequence_tests false k b) start
+        let inner : Both (front ++ sequence_tests None k b) (front ++ sequence_tests (Some stop) k b) =
+        same_then g d c Few front front (sequence_tests None k b) (sequence_tests (Some stop) k b) start
         (λ p. sequence_same k b n y keeps.0 is.0 (inside p)
         (λ t e. ap (λ x. bound_at x t) (theirs p) ∙ its_exact t e) its_room s.0.2) in
-        same_then g d c Few (front ++ sequence_tests true k b) (front ++ sequence_tests false k b)
-        (branch_agrees end first ∷ later_tests true before first (end + 1) bs)
-        (branch_agrees end first ∷ later_tests false before first (end + 1) bs) inner (λ p.
-        let q = both_pass g d front (sequence_tests true k b) p in
+        same_then g d c Few (front ++ sequence_tests None k b) (front ++ sequence_tests (Some stop) k b)
+        (branch_agrees end first ∷ later_tests None before first (end + 1) bs)
+        (branch_agrees end first ∷ later_tests (Some stop) before first (end + 1) bs) inner (λ p.
+        let q = both_pass g d front (sequence_tests None k b) p in
         let its = ended before k b n y keeps.0 is.0 (inside q.0) (theirs q.0) its_exact its_room s.0.2 q.1 in
-        same_cons g d c Few (branch_agrees end first) (later_tests true before first (end + 1) bs)
-        (later_tests false before first (end + 1) bs) (agrees before first end o b n y io keeps.0 one its)
+        same_cons g d c Few (branch_agrees end first) (later_tests None before first (end + 1) bs)
+        (later_tests (Some stop) before first (end + 1) bs) (agrees before first end o b n y io keeps.0 one its)
         (λ low. agrees_back before first end o b n y io keeps.0 one its low)
         (later_same before first (end + 1) o bs n y io keeps.1 is.1 a one later_exact later_room s.1))
 
 -- all tests of a plan
 all_same : (g : Geometry) (p : Terms) → IsPlan p → (d : Claims) → HasOwnBundles p d
-    → Owns g d (made p) (sequence_gathers p.body ≤ most_counted) (tests p) (tests_with false p)
-    × Tracks g d (made p) (sequence_gathers p.body ≤ most_counted) (tests p)
+    → Owns g d (made p) (sequence_gathers p.body ≤ most_counted p.layout) (tests p) (counted_tests p)
+    × Tracks g d (made p) (sequence_gathers p.body ≤ most_counted p.layout) (tests p)
 all_same g p plan d owns =
     let c : Claims = made p in
+    let stop : ℕ = most_counted p.layout in
+    let some : 1 ≤ stop = omega arith in
     let kind : ℕ → Bool = uses_bundle p.body in
     let slots : ℕ = length p.slots in
     let regions : ℕ = length p.layout.extents in
     let parts : IsSequence slots regions p.body = plan.body.parts in
-    let Few : Type 0 = sequence_gathers p.body ≤ most_counted in
+    let Few : Type 0 = sequence_gathers p.body ≤ most_counted p.layout in
     let within : (s : ℕ) → kind s ≡ true → s < slots = λ s k. sequence_few slots regions p.body s parts k in
     let few : (s : ℕ) → kind s ≡ true → s < most_slots = bundles_few p plan in
     let own : (k t : ℕ) → kind t ≡ false → bound_at (note_at d k) t ≡ 0 = λ k t. notes_own kind t d.notes k owns in
@@ -750,52 +753,52 @@ all_same g p plan d owns =
     no_more_notes (k + 1) ∷ steps_allowed ∷ steps_enough (sequence_longest p.body) ∷ peak_allowed ∷ [] in
     let note : first_fault g d front ≡ None → note_at d 0 ≡ [] = λ h.
     (note_passes g d 0 empty (first_passes g d (same_settings p.layout) (note_tests 0 empty) h).1).1 in
-    let pages : first_fault g d front ≡ None → Pages kind slots regions within g d (note_at d 0) [] = λ h.
+    let pages : first_fault g d front ≡ None → Pages kind slots regions stop some within g d (note_at d 0) [] = λ h.
     record {
       forms = subst (λ x. Forms kind 0 x) (sym (note h)) tt;
       rises = omega arith;
       part = ap plain_part (note h);
     } in
-    let beside : first_fault g d front ≡ None → Beside g d c Few kind slots regions within few own 0 [] y = λ h.
+    let beside : first_fault g d front ≡ None → Beside g d c Few stop some kind slots regions within few own 0 [] y = λ h.
     record { mine = refl; pages = pages h; counted = λ t. omega arith; plain = λ t e. refl } in
     let zero_at : first_fault g d front ≡ None → (t : ℕ) → bound_at (note_at d 0) t ≡ 0 = λ h t.
     ap (λ x. bound_at x t) (note h) in
-    let walk : Same g d c Few (front ++ sequence_tests true 0 p.body) (front ++ sequence_tests false 0 p.body) =
-    same_then g d c Few front front (sequence_tests true 0 p.body) (sequence_tests false 0 p.body) settings
-    (λ h. sequence_same g d c Few kind slots regions within few own 0 p.body [] y kinds parts (beside h)
+    let walk : Same g d c Few (front ++ sequence_tests None 0 p.body) (front ++ sequence_tests (Some stop) 0 p.body) =
+    same_then g d c Few front front (sequence_tests None 0 p.body) (sequence_tests (Some stop) 0 p.body) settings
+    (λ h. sequence_same g d c Few stop some kind slots regions within few own 0 p.body [] y kinds parts (beside h)
     (λ t e. zero_at h t) (λ low t. omega (arith, low)) here.2) in
-    let ended : first_fault g d (front ++ sequence_tests true 0 p.body) ≡ None
+    let ended : first_fault g d (front ++ sequence_tests None 0 p.body) ≡ None
     → (passes g d (holds_nothing k) ≡ true → passes g c (holds_nothing k) ≡ true)
     × (passes g c (holds_nothing k) ≡ true → passes g d (holds_nothing k) ≡ true) = λ h.
-    let q = both_pass g d front (sequence_tests true 0 p.body) h in
-    let last : Entries = after_sequence kind p.body [] in
-    let ends = sequence_pages kind slots regions within g d 0 p.body [] kinds parts (pages q.0) q.1 in
-    let mine : note_at c k ≡ last = ends_at c kind 0 p.body [] refl here.2 in
+    let q = both_pass g d front (sequence_tests None 0 p.body) h in
+    let last : Entries = after_sequence stop kind p.body [] in
+    let ends = sequence_pages kind slots regions stop some within g d 0 p.body [] kinds parts (pages q.0) q.1 in
+    let mine : note_at c k ≡ last = ends_at c stop kind 0 p.body [] refl here.2 in
     let theirs : (t : ℕ) → bound_at (note_at d k) t ≡ sequence_to p.body t 0 = λ t.
     sequence_walked kind g d 0 p.body t kinds q.1 ∙ ap (λ x. sequence_to p.body t x) (zero_at q.0 t) in
-    let counted : (t : ℕ) → bound_at last t ≡ min (sequence_to p.body t 0) most_counted = λ t.
-    sequence_made kind few p.body [] t 0 kinds (omega arith) in (
+    let counted : (t : ℕ) → bound_at last t ≡ min (sequence_to p.body t 0) stop = λ t.
+    sequence_made kind stop few p.body [] t 0 kinds (omega arith) in (
       λ x.
           ap (λ n. length n == 0) mine
           ∙ empty_same kind (note_at d k) last (rises_forms kind slots regions 0 last ends.rises) ends.part
-          (λ t z. counted_zero (bound_at last t) (sequence_to p.body t 0) (counted t) (sym (theirs t) ∙ z)) x,
+          (λ t z. counted_zero stop (bound_at last t) (sequence_to p.body t 0) (counted t) (sym (theirs t) ∙ z)) x,
       λ x.
           empty_same kind last (note_at d k) ends.forms (sym ends.part)
-          (λ t z. theirs t ∙ zero_counted (bound_at last t) (sequence_to p.body t 0) (counted t) z)
+          (λ t z. theirs t ∙ zero_counted stop (bound_at last t) (sequence_to p.body t 0) some (counted t) z)
           (ap (λ n. length n == 0) (sym mine) ∙ x),
     ) in
     let never : Never g d c Few finals = last_never g d c Few (k + 1) (sequence_longest p.body) in (
-      owns_then g d c Few (front ++ sequence_tests true 0 p.body) (front ++ sequence_tests false 0 p.body)
+      owns_then g d c Few (front ++ sequence_tests None 0 p.body) (front ++ sequence_tests (Some stop) 0 p.body)
           (holds_nothing k ∷ finals) (holds_nothing k ∷ finals) walk (λ h.
           owns_cons g d c Few (holds_nothing k) finals finals (ended h).0 (λ low. (ended h).1)
           (λ low t x own_. absurd (never.0 t x own_))),
-      tracks_then g d c Few (front ++ sequence_tests true 0 p.body) (holds_nothing k ∷ finals) walk.2 (λ h.
+      tracks_then g d c Few (front ++ sequence_tests None 0 p.body) (holds_nothing k ∷ finals) walk.2 (λ h.
           λ e. (λ own_. (ended h).0 e, never.1)),
     )
 
 pub made_own : (g : Geometry) (p : Terms) → IsPlan p → (d : Claims) (t : Test)
-    → sequence_gathers p.body ≤ most_counted → HasOwnBundles p d → first_failed g d (tests p) ≡ Some t → IsOfPlan t
-    → first_fault g (made p) (tests_with false p) ≡ Some (fault_of t)
+    → sequence_gathers p.body ≤ most_counted p.layout → HasOwnBundles p d → first_failed g d (tests p) ≡ Some t → IsOfPlan t
+    → first_fault g (made p) (counted_tests p) ≡ Some (fault_of t)
 made_own g p plan d t low owns failed of_plan = (all_same g p plan d owns).0 low t failed of_plan
 
 -- ---- the test that is failed is one of the check
@@ -860,63 +863,64 @@ among_steps k (gather s r) = tt
 among_steps k (scatter s) = among_first (bundle_gathered k s) [] [] (λ h. tt) tt
 
 mutual
-  among_statement : (k : ℕ) (s : Statement) → Among (statement_tests false k s) (statement_tests true k s)
-  among_statement k (step s) = among_steps k s
-  among_statement k (loop n b) =
+  among_statement : (stop k : ℕ) (s : Statement) → Among (statement_tests (Some stop) k s) (statement_tests None k s)
+  among_statement stop k (step s) = among_steps k s
+  among_statement stop k (loop n b) =
       let end : ℕ = sequence_end (k + 1) b in
       let front : List Test = turn_tests (k + 1) k b in
-      among_then (front ++ sequence_tests false (k + 1) b) (loop_keeps end k b ∷ []) (front ++ sequence_tests true (k + 1) b)
+      among_then (front ++ sequence_tests (Some stop) (k + 1) b) (loop_keeps end k b ∷ []) (front ++ sequence_tests None (k + 1) b)
       (loop_keeps end k b ∷ loop_grows end k (k + 1) n b ∷ [])
-      (among_then front (sequence_tests false (k + 1) b) front (sequence_tests true (k + 1) b) (among_turns (k + 1) k b front)
-      (among_sequence (k + 1) b))
+      (among_then front (sequence_tests (Some stop) (k + 1) b) front (sequence_tests None (k + 1) b) (among_turns (k + 1) k b front)
+      (among_sequence stop (k + 1) b))
       (among_first (loop_keeps end k b) [] (loop_grows end k (k + 1) n b ∷ []) (λ h. tt) tt)
-  among_statement k (choice none) = tt
-  among_statement k (choice (either b bs)) =
+  among_statement stop k (choice none) = tt
+  among_statement stop k (choice (either b bs)) =
       let end : ℕ = sequence_end (k + 1) b in
       let front : List Test = note_tests (k + 1) (same k) in
-      among_then (front ++ sequence_tests false (k + 1) b) (later_tests false k end (end + 1) bs)
-      (front ++ sequence_tests true (k + 1) b) (later_tests true k end (end + 1) bs)
-      (among_then front (sequence_tests false (k + 1) b) front (sequence_tests true (k + 1) b)
-      (among_notes (k + 1) (same k) front) (among_sequence (k + 1) b))
-      (among_later k end (end + 1) bs)
+      among_then (front ++ sequence_tests (Some stop) (k + 1) b) (later_tests (Some stop) k end (end + 1) bs)
+      (front ++ sequence_tests None (k + 1) b) (later_tests None k end (end + 1) bs)
+      (among_then front (sequence_tests (Some stop) (k + 1) b) front (sequence_tests None (k + 1) b)
+      (among_notes (k + 1) (same k) front) (among_sequence stop (k + 1) b))
+      (among_later stop k end (end + 1) bs)
 
-  among_sequence : (k : ℕ) (b : Sequence) → Among (sequence_tests false k b) (sequence_tests true k b)
-  among_sequence k skip = tt
-  among_sequence k (andthen s b) =
+  among_sequence : (stop k : ℕ) (b : Sequence) → Among (sequence_tests (Some stop) k b) (sequence_tests None k b)
+  among_sequence stop k skip = tt
+  among_sequence stop k (andthen s b) =
       let next : ℕ = statement_end k s in
-      let untold : List Test = note_tests next (outcome false k s) in
-      let told : List Test = note_tests next (outcome true k s) in
-      among_then (statement_tests false k s ++ untold) (sequence_tests false next b) (statement_tests true k s ++ told)
-      (sequence_tests true next b)
-      (among_then (statement_tests false k s) untold (statement_tests true k s) told (among_statement k s)
-      (among_notes next (outcome false k s) told))
-      (among_sequence next b)
+      let untold : List Test = note_tests next (outcome (Some stop) k s) in
+      let told : List Test = note_tests next (outcome None k s) in
+      among_then (statement_tests (Some stop) k s ++ untold) (sequence_tests (Some stop) next b) (statement_tests None k s ++ told)
+      (sequence_tests None next b)
+      (among_then (statement_tests (Some stop) k s) untold (statement_tests None k s) told (among_statement stop k s)
+      (among_notes next (outcome (Some stop) k s) told))
+      (among_sequence stop next b)
 
-  among_later : (before first k : ℕ) (bs : Alternatives)
-      → Among (later_tests false before first k bs) (later_tests true before first k bs)
-  among_later before first k none = tt
-  among_later before first k (either b bs) =
+  among_later : (stop before first k : ℕ) (bs : Alternatives)
+      → Among (later_tests (Some stop) before first k bs) (later_tests None before first k bs)
+  among_later stop before first k none = tt
+  among_later stop before first k (either b bs) =
       let end : ℕ = sequence_end k b in
       let front : List Test = note_tests k (same before) in
-      among_then (front ++ sequence_tests false k b) (branch_agrees end first ∷ later_tests false before first (end + 1) bs)
-      (front ++ sequence_tests true k b) (branch_agrees end first ∷ later_tests true before first (end + 1) bs)
-      (among_then front (sequence_tests false k b) front (sequence_tests true k b) (among_notes k (same before) front)
-      (among_sequence k b))
-      (among_first (branch_agrees end first) (later_tests false before first (end + 1) bs)
-      (later_tests true before first (end + 1) bs) (λ h. tt) (among_later before first (end + 1) bs))
+      among_then (front ++ sequence_tests (Some stop) k b) (branch_agrees end first ∷ later_tests (Some stop) before first (end + 1) bs)
+      (front ++ sequence_tests None k b) (branch_agrees end first ∷ later_tests None before first (end + 1) bs)
+      (among_then front (sequence_tests (Some stop) k b) front (sequence_tests None k b) (among_notes k (same before) front)
+      (among_sequence stop k b))
+      (among_first (branch_agrees end first) (later_tests (Some stop) before first (end + 1) bs)
+      (later_tests None before first (end + 1) bs) (λ h. tt) (among_later stop before first (end + 1) bs))
 
-among_all : (p : Terms) → Among (tests_with false p) (tests p)
+among_all : (p : Terms) → Among (counted_tests p) (tests p)
 among_all p =
+    let stop : ℕ = most_counted p.layout in
     let k : ℕ = sequence_end 0 p.body in
     let front : List Test = same_settings p.layout ∷ note_tests 0 empty in
     let finals : List Test =
     no_more_notes (k + 1) ∷ steps_allowed ∷ steps_enough (sequence_longest p.body) ∷ peak_allowed ∷ [] in
-    among_then (front ++ sequence_tests false 0 p.body) (holds_nothing k ∷ finals) (front ++ sequence_tests true 0 p.body)
+    among_then (front ++ sequence_tests (Some stop) 0 p.body) (holds_nothing k ∷ finals) (front ++ sequence_tests None 0 p.body)
     (holds_nothing k ∷ finals)
-    (among_then front (sequence_tests false 0 p.body) front (sequence_tests true 0 p.body)
+    (among_then front (sequence_tests (Some stop) 0 p.body) front (sequence_tests None 0 p.body)
     (among_first (same_settings p.layout) (note_tests 0 empty) (note_tests 0 empty) (λ h. tt)
     (among_notes 0 empty (note_tests 0 empty)))
-    (among_sequence 0 p.body))
+    (among_sequence stop 0 p.body))
     (among_first (holds_nothing k) finals finals (λ h. tt)
     (λ h. absurd h, (λ h. absurd h, (λ h. absurd h, (λ h. absurd h, tt)))))
 
@@ -942,11 +946,11 @@ failed g c (t ∷ us) xs fault a before =
     ] refl
 
 pub made_wall : (g : Geometry) (p : Terms) → IsPlan p → (fault : CheckError) → IsBeforeLimits fault
-    → first_fault g (made p) (tests_with false p) ≡ Some fault → IsWall g p fault
+    → first_fault g (made p) (counted_tests p) ≡ Some fault → IsWall g p fault
 made_wall g p plan fault before h =
     let c : Claims = made p in
-    let Few : Type 0 = sequence_gathers p.body ≤ most_counted in
-    let f = failed g c (tests_with false p) (tests p) fault (among_all p) before h in
+    let Few : Type 0 = sequence_gathers p.body ≤ most_counted p.layout in
+    let f = failed g c (counted_tests p) (tests p) fault (among_all p) before h in
     record {
       test = f.test;
       fault = f.is;

@@ -4,7 +4,6 @@ use Rattle.std.proofs.Common.{◌∷◌, ◌++◌, length, refl, sym, ap, subst,
 use Rattle.std.specs.Prelude.{nat_le}
 use Rattle.std.proofs.lemmas.Bool.{leb-true, leb-false}
 use Rattle.std.proofs.lemmas.List.{append-nil}
-use Rattle.pp_settings.specs.Limits.{most_frames}
 use Rattle.pp_settings.specs.Layout.{Geometry, IsLayout}
 use Rattle.pp_plan.specs.Limits.{most_slots}
 use Rattle.pp_plan.specs.declared.action.Action.{Action}
@@ -66,8 +65,8 @@ none_waits m f l b e h = let d : l - f ≡ 0 = omega (arith, e, h) in ap (λ x. 
 last_turn : (f d : ℕ) → f + 0 ≡ f + 0 * d
 last_turn f d = omega arith
 
-module _ (g : Geometry) (l : IsLayout g) (c : Claims) (slots : ℕ) (kind : ℕ → Bool)
-    (few : (s : ℕ) → kind s ≡ true → s < most_slots) (low : c.peak ≤ most_frames) where
+module _ (g : Geometry) (l : IsLayout g) (c : Claims) (slots stop : ℕ) (some : 1 ≤ stop)
+    (kind : ℕ → Bool) (few : (s : ℕ) → kind s ≡ true → s < most_slots) (low : c.peak < stop) where
   abbrev Here : ℕ → List Entries → Type 0
   Here k ns = Stand c.peak c.notes k ns
 
@@ -126,8 +125,8 @@ module _ (g : Geometry) (l : IsLayout g) (c : Claims) (slots : ℕ) (kind : ℕ 
     -- after a statement, whose tests pass and those of the note after it
     at_next : (k : ℕ) (s : Statement) (n m : Entries) (u t : List Action) → StatementKeeps kind s → note_at c k ≡ n
         → note_at c (statement_end k s) ≡ m → note_pins (note_at c k) ≤ c.peak
-        → first_fault g c (statement_tests true k s) ≡ None
-        → first_fault g c (note_tests (statement_end k s) (outcome true k s)) ≡ None
+        → first_fault g c (statement_tests None k s) ≡ None
+        → first_fault g c (note_tests (statement_end k s) (outcome None k s)) ≡ None
         → IsStatementTrace g s t → At u n → At (u ++ t) m
     at_next k s n m u t keeps e f small h note d a =
         let start : Fits g kind none_yet (note_at c k) a.0 = subst (λ x. Fits g kind none_yet x a.0) (sym e) a.2 in
@@ -161,7 +160,7 @@ module _ (g : Geometry) (l : IsLayout g) (c : Claims) (slots : ℕ) (kind : ℕ 
 
     -- all turns of a loop but the last one
     turns_go : (k turns : ℕ) (b : Sequence) → IsOfKinds kind b → note_pins (note_at c (k + 1)) ≤ c.peak
-        → first_fault g c (sequence_tests true (k + 1) b) ≡ None
+        → first_fault g c (sequence_tests None (k + 1) b) ≡ None
         → LoopFits turns b (note_at c k) (note_at c (k + 1)) (note_at c (sequence_end (k + 1) b)) → (m : ℕ)
         → (hs : Holdings)
         → Fits g kind (waiting (note_at c (k + 1)) (note_at c (sequence_end (k + 1) b)) m) (note_at c (k + 1)) hs
@@ -198,21 +197,21 @@ module _ (g : Geometry) (l : IsLayout g) (c : Claims) (slots : ℕ) (kind : ℕ 
 
     mutual
       statement_reached : (k : ℕ) (s : Statement) (n : Entries) → StatementKeeps kind s → note_at c k ≡ n
-          → Forms kind 0 n → Here (k + 1) (statement_notes kind s n) → first_fault g c (statement_tests true k s) ≡ None
+          → Forms kind 0 n → Here (k + 1) (statement_notes stop kind s n) → first_fault g c (statement_tests None k s) ≡ None
           → IsStatement slots (length g.extents) s → (u : List Action) → At u n → Onward u (IsStatementTrace g s)
-          → AllReached (statement_notes kind s n)
+          → AllReached (statement_notes stop kind s n)
       statement_reached k (step s) n keeps e f here h is u a on = tt
       statement_reached k (loop zero b) n keeps e f here h is u a on = absurd (omega (arith, is.0))
       statement_reached k (loop (suc m) b) n keeps e f here h is u a on =
           let end : ℕ = sequence_end (k + 1) b in
-          let first : Entries = first_note kind (suc m) b n in
+          let first : Entries = first_note stop kind (suc m) b n in
           let at_first : note_at c (k + 1) ≡ first = is_at c (k + 1) first here.0 in
-          let its_form : Forms kind 0 first = first_forms kind (suc m) b n f in
+          let its_form : Forms kind 0 first = first_forms stop kind (suc m) b n some f in
           let front : List Test = turn_tests (k + 1) k b in
           let p =
-          both_pass g c (front ++ sequence_tests true (k + 1) b)
+          both_pass g c (front ++ sequence_tests None (k + 1) b)
           (loop_keeps end k b ∷ loop_grows end k (k + 1) (suc m) b ∷ []) h in
-          let q = both_pass g c front (sequence_tests true (k + 1) b) p.0 in
+          let q = both_pass g c front (sequence_tests None (k + 1) b) p.0 in
           let begins = turn_passes g c (k + 1) k b q.0 in
           let ends = first_passes g c (loop_keeps end k b) (loop_grows end k (k + 1) (suc m) b ∷ []) p.1 in
           let grows = first_passes g c (loop_grows end k (k + 1) (suc m) b) [] ends.1 in
@@ -241,13 +240,13 @@ module _ (g : Geometry) (l : IsLayout g) (c : Claims) (slots : ℕ) (kind : ℕ 
       statement_reached k (choice (either b bs)) n keeps e f here h is u a on =
           let end : ℕ = sequence_end (k + 1) b in
           let front : List Test = note_tests (k + 1) (same k) in
-          let at : k + 1 + length (n ∷ sequence_notes kind b n) ≡ end + 1 =
-          omega (arith, sequence_places kind (k + 1) b n) in
+          let at : k + 1 + length (n ∷ sequence_notes stop kind b n) ≡ end + 1 =
+          omega (arith, sequence_places stop kind (k + 1) b n) in
           let s =
-          stand_split c.peak c.notes (k + 1) (end + 1) (n ∷ sequence_notes kind b n) (branches_notes kind bs n) at
+          stand_split c.peak c.notes (k + 1) (end + 1) (n ∷ sequence_notes stop kind b n) (branches_notes stop kind bs n) at
           here in
-          let p = both_pass g c (front ++ sequence_tests true (k + 1) b) (later_tests true k end (end + 1) bs) h in
-          let q = both_pass g c front (sequence_tests true (k + 1) b) p.0 in
+          let p = both_pass g c (front ++ sequence_tests None (k + 1) b) (later_tests None k end (end + 1) bs) h in
+          let q = both_pass g c front (sequence_tests None (k + 1) b) p.0 in
           let note = note_passes g c (k + 1) (same k) q.0 in
           let all : (i : ℕ) → Onward (u ++ Choose i ∷ []) (IsBranchTrace g (either b bs) i) = λ i.
           further u (Choose i ∷ []) (IsBranchTrace g (either b bs) i) (IsStatementTrace g (choice (either b bs))) on
@@ -255,30 +254,30 @@ module _ (g : Geometry) (l : IsLayout g) (c : Claims) (slots : ℕ) (kind : ℕ 
           let v : List Action = u ++ Choose zero ∷ [] in
           let chosen = at_choice u n zero a in
           let t = sequence_trace b is.2.0 in
-          reached_both (n ∷ sequence_notes kind b n) (branches_notes kind bs n) (
+          reached_both (n ∷ sequence_notes stop kind b n) (branches_notes stop kind bs n) (
             at_reached v n (IsTrace g b) t.0 f chosen (all zero) t.1,
             sequence_reached (k + 1) b n keeps.0 (note.1 ∙ e) f note.2 s.0.2 q.1 is.2.0 v chosen (all zero),
           )
           (later_reached k end (end + 1) bs n keeps.1 e f s.1 p.1 is.2.1 u a suc (λ i. all (suc i)))
 
       sequence_reached : (k : ℕ) (b : Sequence) (n : Entries) → IsOfKinds kind b → note_at c k ≡ n → Forms kind 0 n
-          → note_pins (note_at c k) ≤ c.peak → Here (k + 1) (sequence_notes kind b n)
-          → first_fault g c (sequence_tests true k b) ≡ None → IsSequence slots (length g.extents) b
-          → (u : List Action) → At u n → Onward u (IsTrace g b) → AllReached (sequence_notes kind b n)
+          → note_pins (note_at c k) ≤ c.peak → Here (k + 1) (sequence_notes stop kind b n)
+          → first_fault g c (sequence_tests None k b) ≡ None → IsSequence slots (length g.extents) b
+          → (u : List Action) → At u n → Onward u (IsTrace g b) → AllReached (sequence_notes stop kind b n)
       sequence_reached k skip n keeps e f small here h is u a on = tt
       sequence_reached k (andthen s b) n keeps e f small here h is u a on =
           let next : ℕ = statement_end k s in
-          let m : Entries = after_statement kind s n in
-          let between : List Test = note_tests next (outcome true k s) in
+          let m : Entries = after_statement stop kind s n in
+          let between : List Test = note_tests next (outcome None k s) in
           let r =
-          stand_split c.peak c.notes (k + 1) next (statement_notes kind s n) (m ∷ sequence_notes kind b m)
-          (statement_places kind k s n) here in
-          let p = both_pass g c (statement_tests true k s ++ between) (sequence_tests true next b) h in
-          let q = both_pass g c (statement_tests true k s) between p.0 in
-          let note = note_passes g c next (outcome true k s) q.1 in
+          stand_split c.peak c.notes (k + 1) next (statement_notes stop kind s n) (m ∷ sequence_notes stop kind b m)
+          (statement_places stop kind k s n) here in
+          let p = both_pass g c (statement_tests None k s ++ between) (sequence_tests None next b) h in
+          let q = both_pass g c (statement_tests None k s) between p.0 in
+          let note = note_passes g c next (outcome None k s) q.1 in
           let at : note_at c next ≡ m = is_at c next m r.1.0 in
           let its_form : Forms kind 0 m =
-          (statement_written g c kind few (inl low) k s n keeps.0 e f (subst (λ x. note_pins x ≤ c.peak) e small)
+          (statement_written g c stop some kind few (inl low) k s n keeps.0 e f (subst (λ x. note_pins x ≤ c.peak) e small)
           q.0).2 in
           let first = statement_trace s is.0 in
           let rest = sequence_trace b is.1 in
@@ -287,7 +286,7 @@ module _ (g : Geometry) (l : IsLayout g) (c : Claims) (slots : ℕ) (kind : ℕ 
           let behind : Onward (u ++ first.0) (IsTrace g b) =
           further u first.0 (IsTrace g b) (IsTrace g (andthen s b)) on (λ t d. (first.0, t, refl, first.1, d)) in
           let there : At (u ++ first.0) m = at_next k s n m u first.0 keeps.0 e at small q.0 q.1 first.1 a in
-          reached_both (statement_notes kind s n) (m ∷ sequence_notes kind b m)
+          reached_both (statement_notes stop kind s n) (m ∷ sequence_notes stop kind b m)
           (statement_reached k s n keeps.0 e f r.0 q.0 is.0 u a inside) (
             at_reached (u ++ first.0) m (IsTrace g b) rest.0 its_form there behind rest.1,
             sequence_reached next b m keeps.1 at its_form note.2 r.1.2 p.1 is.1 (u ++ first.0) there behind,
@@ -295,29 +294,29 @@ module _ (g : Geometry) (l : IsLayout g) (c : Claims) (slots : ℕ) (kind : ℕ 
 
       -- of the second and later branches; their numbers are told by `number`
       later_reached : (before first k : ℕ) (bs : Alternatives) (n : Entries) → BranchesKeep kind bs
-          → note_at c before ≡ n → Forms kind 0 n → Here k (branches_notes kind bs n)
-          → first_fault g c (later_tests true before first k bs) ≡ None → AreAlternatives slots (length g.extents) bs
+          → note_at c before ≡ n → Forms kind 0 n → Here k (branches_notes stop kind bs n)
+          → first_fault g c (later_tests None before first k bs) ≡ None → AreAlternatives slots (length g.extents) bs
           → (u : List Action) → At u n → (number : ℕ → ℕ)
           → ((i : ℕ) → Onward (u ++ Choose (number i) ∷ []) (IsBranchTrace g bs i))
-          → AllReached (branches_notes kind bs n)
+          → AllReached (branches_notes stop kind bs n)
       later_reached before first k none n keeps e f here h is u a number on = tt
       later_reached before first k (either b bs) n keeps e f here h is u a number on =
           let end : ℕ = sequence_end k b in
           let later : ℕ = end + 1 in
           let front : List Test = note_tests k (same before) in
-          let at : k + length (n ∷ sequence_notes kind b n) ≡ later = omega (arith, sequence_places kind k b n) in
+          let at : k + length (n ∷ sequence_notes stop kind b n) ≡ later = omega (arith, sequence_places stop kind k b n) in
           let s =
-          stand_split c.peak c.notes k later (n ∷ sequence_notes kind b n) (branches_notes kind bs n) at here in
+          stand_split c.peak c.notes k later (n ∷ sequence_notes stop kind b n) (branches_notes stop kind bs n) at here in
           let p =
-          both_pass g c (front ++ sequence_tests true k b)
-          (branch_agrees end first ∷ later_tests true before first later bs) h in
-          let q = both_pass g c front (sequence_tests true k b) p.0 in
-          let rest = first_passes g c (branch_agrees end first) (later_tests true before first later bs) p.1 in
+          both_pass g c (front ++ sequence_tests None k b)
+          (branch_agrees end first ∷ later_tests None before first later bs) h in
+          let q = both_pass g c front (sequence_tests None k b) p.0 in
+          let rest = first_passes g c (branch_agrees end first) (later_tests None before first later bs) p.1 in
           let note = note_passes g c k (same before) q.0 in
           let v : List Action = u ++ Choose (number zero) ∷ [] in
           let chosen = at_choice u n (number zero) a in
           let t = sequence_trace b is.0 in
-          reached_both (n ∷ sequence_notes kind b n) (branches_notes kind bs n) (
+          reached_both (n ∷ sequence_notes stop kind b n) (branches_notes stop kind bs n) (
             at_reached v n (IsTrace g b) t.0 f chosen (on zero) t.1,
             sequence_reached k b n keeps.0 (note.1 ∙ e) f note.2 s.0.2 q.1 is.0 v chosen (on zero),
           )
@@ -326,9 +325,9 @@ module _ (g : Geometry) (l : IsLayout g) (c : Claims) (slots : ℕ) (kind : ℕ 
 
     -- the notes of a body, the first one too
     pub body_reached : (k : ℕ) (b : Sequence) (n : Entries) → IsOfKinds kind b → note_at c k ≡ n → Forms kind 0 n
-        → note_pins (note_at c k) ≤ c.peak → Here (k + 1) (sequence_notes kind b n)
-        → first_fault g c (sequence_tests true k b) ≡ None → IsSequence slots (length g.extents) b
-        → (u : List Action) → At u n → Onward u (IsTrace g b) → AllReached (n ∷ sequence_notes kind b n)
+        → note_pins (note_at c k) ≤ c.peak → Here (k + 1) (sequence_notes stop kind b n)
+        → first_fault g c (sequence_tests None k b) ≡ None → IsSequence slots (length g.extents) b
+        → (u : List Action) → At u n → Onward u (IsTrace g b) → AllReached (n ∷ sequence_notes stop kind b n)
     body_reached k b n keeps e f small here h is u a on =
         let t = sequence_trace b is in (
           at_reached u n (IsTrace g b) t.0 f a on t.1,

@@ -11,7 +11,6 @@ use Rattle.pp_cert.specs.Slots.{slot_insert}
 use Rattle.pp_cert.specs.Notes.{Entries, entry_slot, note_pins, bound_at, plain_part}
 use Rattle.pp_cert.specs.Notes.{without_bundle, with_bound}
 use Rattle.pp_cert.proofs.Pages.{bound_with_here, bound_with_other}
-use Rattle.pp_cert.specs.Limits.{most_counted}
 use Rattle.pp_annotate.specs.Growth.{rise, risen, with_rise, risen_below, first_note}
 use Rattle.pp_annotate.proofs.Forms.{Forms, forms_bound}
 use Rattle.pp_annotate.proofs.Pins.{bounded_pins}
@@ -72,17 +71,17 @@ with_rise_part s k n =
 not_same : (k b : ℕ) → (k == b) ≡ false → k ≡ b → ⊥
 not_same k b d e = grind (arith, nat_tests)
 
-pub above_it : (b r : ℕ) → (risen b r == b) ≡ false → 1 ≤ risen b r
-above_it b r d = omega (arith, not_same (risen b r) b d)
+pub above_it : (stop b r : ℕ) → 1 ≤ stop → (risen stop b r == b) ≡ false → 1 ≤ risen stop b r
+above_it stop b r some d = omega (arith, some, not_same (risen stop b r) b d)
 
-with_rise_forms : (kind : ℕ → Bool) (s r : ℕ) (n : Entries) → kind s ≡ true → Forms kind 0 n
-    → Forms kind 0 (with_rise s (risen (bound_at n s) r) n)
-with_rise_forms kind s r n is f =
-    let k : ℕ = risen (bound_at n s) r in
+with_rise_forms : (stop : ℕ) (kind : ℕ → Bool) (s r : ℕ) (n : Entries) → 1 ≤ stop → kind s ≡ true → Forms kind 0 n
+    → Forms kind 0 (with_rise s (risen stop (bound_at n s) r) n)
+with_rise_forms stop kind s r n some is f =
+    let k : ℕ = risen stop (bound_at n s) r in
     elim (k == bound_at n s) as (λ b. (k == bound_at n s) ≡ b
     → Forms kind 0 (if b then n else with_bound s k n)) [
       | true ↦ λ e. f
-      | false ↦ λ e. forms_bound kind s k n is (above_it (bound_at n s) r e) f
+      | false ↦ λ e. forms_bound kind s k n is (above_it stop (bound_at n s) r some e) f
     ] refl
 
 with_rise_pins : (s k : ℕ) (n : Entries) → note_pins (with_rise s k n) + bound_at n s ≤ note_pins n + k
@@ -94,49 +93,49 @@ with_rise_pins s k n =
     ] refl
 
 -- a bound rises no further than counting goes
-risen_low : (b r : ℕ) → risen b r ≤ most_counted
-risen_low b r = omega arith
+risen_low : (stop b r : ℕ) → risen stop b r ≤ stop
+risen_low stop b r = omega arith
 
 -- and so far it doesn't fall
-risen_more : (b r : ℕ) → b ≤ most_counted → b ≤ risen b r
-risen_more b r l = omega (arith, l)
+risen_more : (stop b r : ℕ) → b ≤ stop → b ≤ risen stop b r
+risen_more stop b r l = omega (arith, l)
 
 -- ---- one slot more
 
-pub risen_start : (kind : ℕ → Bool) (turns : ℕ) (b : Sequence) (n : Entries) → risen_below 0 kind turns b n ≡ n
+pub risen_start : (stop : ℕ) (kind : ℕ → Bool) (turns : ℕ) (b : Sequence) (n : Entries) → risen_below stop 0 kind turns b n ≡ n
 unfolding risen_below
-risen_start kind turns b n = refl
+risen_start stop kind turns b n = refl
 
-pub risen_bundle : (m : ℕ) (kind : ℕ → Bool) (turns : ℕ) (b : Sequence) (n : Entries) → kind m ≡ true
-    → risen_below (m + 1) kind turns b n
-    ≡ with_rise m (risen (bound_at (risen_below m kind turns b n) m) (rise turns b m)) (risen_below m kind turns b n)
+pub risen_bundle : (stop m : ℕ) (kind : ℕ → Bool) (turns : ℕ) (b : Sequence) (n : Entries) → kind m ≡ true
+    → risen_below stop (m + 1) kind turns b n
+    ≡ with_rise m (risen stop (bound_at (risen_below stop m kind turns b n) m) (rise turns b m)) (risen_below stop m kind turns b n)
 unfolding risen_below
-risen_bundle m kind turns b n k =
-    rw add-one (ap (λ x. if x then with_rise m (risen (bound_at (risen_below m kind turns b n) m) (rise turns b m))
-    (risen_below m kind turns b n) else risen_below m kind turns b n) k)
+risen_bundle stop m kind turns b n k =
+    rw add-one (ap (λ x. if x then with_rise m (risen stop (bound_at (risen_below stop m kind turns b n) m) (rise turns b m))
+    (risen_below stop m kind turns b n) else risen_below stop m kind turns b n) k)
 
-pub risen_plain : (m : ℕ) (kind : ℕ → Bool) (turns : ℕ) (b : Sequence) (n : Entries) → kind m ≡ false
-    → risen_below (m + 1) kind turns b n ≡ risen_below m kind turns b n
+pub risen_plain : (stop m : ℕ) (kind : ℕ → Bool) (turns : ℕ) (b : Sequence) (n : Entries) → kind m ≡ false
+    → risen_below stop (m + 1) kind turns b n ≡ risen_below stop m kind turns b n
 unfolding risen_below
-risen_plain m kind turns b n k =
-    rw add-one (ap (λ x. if x then with_rise m (risen (bound_at (risen_below m kind turns b n) m) (rise turns b m))
-    (risen_below m kind turns b n) else risen_below m kind turns b n) k)
+risen_plain stop m kind turns b n k =
+    rw add-one (ap (λ x. if x then with_rise m (risen stop (bound_at (risen_below stop m kind turns b n) m) (rise turns b m))
+    (risen_below stop m kind turns b n) else risen_below stop m kind turns b n) k)
 
-pub risen_whole : (kind : ℕ → Bool) (turns : ℕ) (b : Sequence) (n : Entries)
-    → first_note kind turns b n ≡ risen_below most_slots kind turns b n
+pub risen_whole : (stop : ℕ) (kind : ℕ → Bool) (turns : ℕ) (b : Sequence) (n : Entries)
+    → first_note stop kind turns b n ≡ risen_below stop most_slots kind turns b n
 unfolding first_note
-risen_whole kind turns b n = refl
+risen_whole stop kind turns b n = refl
 
 pub ruleset rises = (risen_start, risen_bundle, risen_plain, risen_whole)
 
 -- ---- the bundles below a slot
 
-module _ (kind : ℕ → Bool) (turns : ℕ) (b : Sequence) (n : Entries) where
+module _ (stop : ℕ) (kind : ℕ → Bool) (turns : ℕ) (b : Sequence) (n : Entries) where
   abbrev below : ℕ → Entries
-  below m = risen_below m kind turns b n
+  below m = risen_below stop m kind turns b n
 
   abbrev next : ℕ → ℕ
-  next m = risen (bound_at (below m) m) (rise turns b m)
+  next m = risen stop (bound_at (below m) m) (rise turns b m)
 
   part_below : (m : ℕ) → plain_part (below m) ≡ plain_part n
   unfolding risen_below
@@ -147,27 +146,27 @@ module _ (kind : ℕ → Bool) (turns : ℕ) (b : Sequence) (n : Entries) where
         | false ↦ part_below m
       ]
 
-  forms_below : (m : ℕ) → Forms kind 0 n → Forms kind 0 (below m)
+  forms_below : (m : ℕ) → 1 ≤ stop → Forms kind 0 n → Forms kind 0 (below m)
   unfolding risen_below
-  forms_below zero f = f
-  forms_below (suc m) f =
+  forms_below zero some f = f
+  forms_below (suc m) some f =
       elim (kind m) as (λ t. kind m ≡ t → Forms kind 0 (if t then with_rise m (next m) (below m) else below m)) [
-        | true ↦ λ e. with_rise_forms kind m (rise turns b m) (below m) e (forms_below m f)
-        | false ↦ λ e. forms_below m f
+        | true ↦ λ e. with_rise_forms stop kind m (rise turns b m) (below m) some e (forms_below m some f)
+        | false ↦ λ e. forms_below m some f
       ] refl
 
-  pins_below : (m : ℕ) → note_pins (below m) ≤ note_pins n + m * most_counted
+  pins_below : (m : ℕ) → note_pins (below m) ≤ note_pins n + m * stop
   unfolding risen_below
   pins_below zero = omega arith
   pins_below (suc m) =
       elim (kind m)
       as (λ t. note_pins (if t then with_rise m (next m) (below m) else below m) ≤ note_pins n
-      + suc m * most_counted) [
+      + suc m * stop) [
         | true ↦ omega (
           arith,
           with_rise_pins m (next m) (below m),
           pins_below m,
-          risen_low (bound_at (below m) m) (rise turns b m),
+          risen_low stop (bound_at (below m) m) (rise turns b m),
         )
         | false ↦ omega (arith, pins_below m)
       ]
@@ -189,19 +188,19 @@ module _ (kind : ℕ → Bool) (turns : ℕ) (b : Sequence) (n : Entries) where
         | false ↦ bound_from m t (omega (arith, l))
       ]
 
-  bound_below : (m t : ℕ) → t < m → kind t ≡ true → bound_at (below m) t ≡ risen (bound_at n t) (rise turns b t)
+  bound_below : (m t : ℕ) → t < m → kind t ≡ true → bound_at (below m) t ≡ risen stop (bound_at n t) (rise turns b t)
   unfolding risen_below
   bound_below zero t l k = absurd (omega (arith, l))
   bound_below (suc m) t l k =
       elim (kind m) as (λ x. kind m ≡ x
-      → bound_at (if x then with_rise m (next m) (below m) else below m) t ≡ risen (bound_at n t) (rise turns b t)) [
+      → bound_at (if x then with_rise m (next m) (below m) else below m) t ≡ risen stop (bound_at n t) (rise turns b t)) [
         | true ↦ λ i. elim (m == t) as (λ x. (m == t) ≡ x
-            → bound_at (with_rise m (next m) (below m)) t ≡ risen (bound_at n t) (rise turns b t)) [
+            → bound_at (with_rise m (next m) (below m)) t ≡ risen stop (bound_at n t) (rise turns b t)) [
               | true ↦ λ e.
-                  subst (λ x. bound_at (with_rise m (next m) (below m)) x ≡ risen (bound_at n x) (rise turns b x))
+                  subst (λ x. bound_at (with_rise m (next m) (below m)) x ≡ risen stop (bound_at n x) (rise turns b x))
                   (eqb-true m t e)
                   (with_rise_here m (next m) (below m)
-                  ∙ ap (λ x. risen x (rise turns b m)) (bound_from m m (omega arith)))
+                  ∙ ap (λ x. risen stop x (rise turns b m)) (bound_from m m (omega arith)))
               | false ↦ λ e.
                   with_rise_other m (next m) t (below m) e ∙ bound_below m t (still_below m t l e) k
             ] refl
@@ -240,42 +239,42 @@ module _ (kind : ℕ → Bool) (turns : ℕ) (b : Sequence) (n : Entries) where
 
   -- ---- all bundles
 
-  pub first_part : plain_part (first_note kind turns b n) ≡ plain_part n
+  pub first_part : plain_part (first_note stop kind turns b n) ≡ plain_part n
   unfolding first_note
   first_part = part_below most_slots
 
-  pub first_forms : Forms kind 0 n → Forms kind 0 (first_note kind turns b n)
+  pub first_forms : 1 ≤ stop → Forms kind 0 n → Forms kind 0 (first_note stop kind turns b n)
   unfolding first_note
-  first_forms f = forms_below most_slots f
+  first_forms some f = forms_below most_slots some f
 
-  pub first_pins : note_pins (first_note kind turns b n) ≤ note_pins n + 131104
+  pub first_pins : note_pins (first_note stop kind turns b n) ≤ note_pins n + most_slots * stop
   unfolding first_note
   first_pins = omega (arith, pins_below most_slots)
 
   pub first_bundle : (t : ℕ) → t < most_slots → kind t ≡ true
-      → bound_at (first_note kind turns b n) t ≡ risen (bound_at n t) (rise turns b t)
+      → bound_at (first_note stop kind turns b n) t ≡ risen stop (bound_at n t) (rise turns b t)
   unfolding first_note
   first_bundle t l k = bound_below most_slots t l k
 
-  pub first_plain : (t : ℕ) → kind t ≡ false → bound_at (first_note kind turns b n) t ≡ bound_at n t
+  pub first_plain : (t : ℕ) → kind t ≡ false → bound_at (first_note stop kind turns b n) t ≡ bound_at n t
   unfolding first_note
   first_plain t k = bound_plain most_slots t k
 
   -- without bundles it is the same note
-  pub first_same : ((s : ℕ) → kind s ≡ false) → first_note kind turns b n ≡ n
+  pub first_same : ((s : ℕ) → kind s ≡ false) → first_note stop kind turns b n ≡ n
   unfolding first_note
   first_same k = none_below most_slots k
 
   -- where the bundles are among the slots that a plan may have, and their bounds are counted so, no bound falls
   module _ (few : (s : ℕ) → kind s ≡ true → s < most_slots) where
-    pub first_more : (t : ℕ) → (kind t ≡ true → bound_at n t ≤ most_counted)
-        → bound_at n t ≤ bound_at (first_note kind turns b n) t
+    pub first_more : (t : ℕ) → (kind t ≡ true → bound_at n t ≤ stop)
+        → bound_at n t ≤ bound_at (first_note stop kind turns b n) t
     first_more t low =
-        elim (kind t) as (λ x. kind t ≡ x → bound_at n t ≤ bound_at (first_note kind turns b n) t) [
-          | true ↦ λ k. omega (arith, first_bundle t (few t k) k, risen_more (bound_at n t) (rise turns b t) (low k))
+        elim (kind t) as (λ x. kind t ≡ x → bound_at n t ≤ bound_at (first_note stop kind turns b n) t) [
+          | true ↦ λ k. omega (arith, first_bundle t (few t k) k, risen_more stop (bound_at n t) (rise turns b t) (low k))
           | false ↦ λ k. omega (arith, first_plain t k)
         ] refl
 
     -- the bounds there are counted so too
-    pub first_low : (t : ℕ) → kind t ≡ true → bound_at (first_note kind turns b n) t ≤ most_counted
-    first_low t k = omega (arith, first_bundle t (few t k) k, risen_low (bound_at n t) (rise turns b t))
+    pub first_low : (t : ℕ) → kind t ≡ true → bound_at (first_note stop kind turns b n) t ≤ stop
+    first_low t k = omega (arith, first_bundle t (few t k) k, risen_low stop (bound_at n t) (rise turns b t))

@@ -11,6 +11,7 @@ use Rattle.pp_plan.specs.Rules.{uses_bundle}
 use Rattle.pp_plan.specs.Terms.{Terms, IsPlan}
 use Rattle.pp_cert.specs.declared.check_error.CheckError.{CheckError}
 use Rattle.pp_cert.specs.declared.note.Entry.TheVariants.{Slot, Bundle}
+use Rattle.pp_cert.specs.Limits.{most_counted}
 use Rattle.pp_cert.specs.Held.{is_latched_page}
 use Rattle.pp_cert.specs.Notes.{Entries, note_pins, noted_at, bound_at, plain_part, is_bundle, same_note, is_in_form}
 use Rattle.pp_cert.specs.Notes.{is_above_latched, is_begun, has_grown, all_bundles, begins_turns, ends_as_begun}
@@ -20,14 +21,14 @@ use Rattle.pp_cert.specs.Walk.{there, as_expected, may_begin, within_peak, slot_
 use Rattle.pp_cert.specs.Walk.{slot_latched, slot_in_order, bundle_gathered, loop_keeps, loop_grows, branch_agrees}
 use Rattle.pp_cert.specs.Walk.{holds_nothing, no_more_notes, steps_allowed, steps_enough, peak_allowed, passes, fault_of}
 use Rattle.pp_cert.specs.Walk.{first_fault, note_tests, turn_tests, step_tests, statement_tests, sequence_tests}
-use Rattle.pp_cert.specs.Walk.{later_tests, tests, tests_with, statement_end, sequence_end}
+use Rattle.pp_cert.specs.Walk.{later_tests, tests, statement_end, sequence_end}
 use Rattle.pp_cert.proofs.Faults.{past_first, in_first}
 use Rattle.pp_cert.proofs.Passing.{first_passes, both_pass, note_passes, turn_passes, note_same}
 use Rattle.pp_cert.proofs.SlotKinds.{StatementKeeps, IsOfKinds, BranchesKeep}
 use Rattle.pp_annotate.specs.Growth.{first_note}
 use Rattle.pp_annotate.specs.Made.{after_statement, after_sequence, statement_notes, sequence_notes, branches_notes}
 use Rattle.pp_annotate.specs.Made.{made_notes, made}
-use Rattle.pp_annotate.specs.Annotation.{IsBeforeLimits, HasPagesAlone}
+use Rattle.pp_annotate.specs.Annotation.{counted_tests, IsBeforeLimits, HasPagesAlone}
 use Rattle.pp_annotate.proofs.Forms.{Forms}
 use Rattle.pp_annotate.proofs.Rises.{first_forms, first_same}
 use Rattle.pp_annotate.proofs.Bundles.{bundles_few, own_kinds}
@@ -183,7 +184,7 @@ module _ (g : Geometry) (d c : Claims) where
       → same_note (note_at d j) (note_at d k) ≡ same_note (note_at c j) (note_at c k)
   pair_same j k n m dj cj dk ck = λ i. same_note ((dj ∙ sym cj) i) ((dk ∙ sym ck) i)
 
-  module _ (kind : ℕ → Bool) (plain : (s : ℕ) → kind s ≡ false)
+  module _ (stop : ℕ) (some : 1 ≤ stop) (kind : ℕ → Bool) (plain : (s : ℕ) → kind s ≡ false)
       (alone : (k : ℕ) → plain_part (note_at d k) ≡ note_at d k) where
     abbrev Here : ℕ → List Entries → Type 0
     Here k ns = Stand c.peak c.notes k ns
@@ -191,10 +192,10 @@ module _ (g : Geometry) (d c : Claims) where
     few : (s : ℕ) → kind s ≡ true → s < most_slots
     few s k = absurd (let other = plain s in cc (other, k))
 
-    low_note : (n : Entries) → Low kind n
+    low_note : (n : Entries) → Low stop kind n
     low_note n = λ t k. absurd (let other = plain t in cc (other, k))
 
-    may : MayBeMade kind d
+    may : MayBeMade stop kind d
     may = inr (plain, alone)
 
     -- `d` has no bundle whose bound doesn't grow
@@ -216,32 +217,32 @@ module _ (g : Geometry) (d c : Claims) where
 
     mutual
       statement_same : (k : ℕ) (s : Statement) (n : Entries) → StatementKeeps kind s → note_at d k ≡ n
-          → note_at c k ≡ n → Forms kind 0 n → note_pins n ≤ d.peak → Here (k + 1) (statement_notes kind s n)
-          → Same (statement_tests true k s) (statement_tests false k s)
+          → note_at c k ≡ n → Forms kind 0 n → note_pins n ≤ d.peak → Here (k + 1) (statement_notes stop kind s n)
+          → Same (statement_tests None k s) (statement_tests (Some stop) k s)
       statement_same k (step s) n is e f form small h = step_same k s (e ∙ sym f)
       statement_same k (loop turns b) n is e f form small h =
           let end : ℕ = sequence_end (k + 1) b in
-          let first : Entries = first_note kind turns b n in
+          let first : Entries = first_note stop kind turns b n in
           let front : List Test = turn_tests (k + 1) k b in
-          let its_form : Forms kind 0 first = first_forms kind turns b n form in
+          let its_form : Forms kind 0 first = first_forms stop kind turns b n some form in
           let start : Same front front =
-          same_never front front (turn_none g c (k + 1) k b n first f h.0 h.1 (begins kind few turns b n form (low_note n)))
+          same_never front front (turn_none g c (k + 1) k b n first f h.0 h.1 (begins stop kind few turns b n some form (low_note n)))
           (turn_never (k + 1) k b) in
           let mine = is_at c (k + 1) first h.0 in
           let theirs : first_fault g d front ≡ None → note_at d (k + 1) ≡ first = λ p.
-          first_is k b (turn_passes g d (k + 1) k b p).1 ∙ e ∙ sym (first_same kind turns b n plain) in
+          first_is k b (turn_passes g d (k + 1) k b p).1 ∙ e ∙ sym (first_same stop kind turns b n plain) in
           let low : first_fault g d front ≡ None → note_pins first ≤ d.peak = λ p.
           subst (λ x. note_pins x ≤ d.peak) (theirs p) (turn_passes g d (k + 1) k b p).2 in
-          let inner : Same (front ++ sequence_tests true (k + 1) b) (front ++ sequence_tests false (k + 1) b) =
-          same_then front front (sequence_tests true (k + 1) b) (sequence_tests false (k + 1) b) start
+          let inner : Same (front ++ sequence_tests None (k + 1) b) (front ++ sequence_tests (Some stop) (k + 1) b) =
+          same_then front front (sequence_tests None (k + 1) b) (sequence_tests (Some stop) (k + 1) b) start
           (λ p. sequence_same (k + 1) b first is.1 (theirs p) mine its_form (low p) h.2) in
-          same_then (front ++ sequence_tests true (k + 1) b) (front ++ sequence_tests false (k + 1) b)
+          same_then (front ++ sequence_tests None (k + 1) b) (front ++ sequence_tests (Some stop) (k + 1) b)
           (loop_keeps end k b ∷ loop_grows end k (k + 1) turns b ∷ []) (loop_keeps end k b ∷ []) inner (λ p.
-          let q = both_pass g d front (sequence_tests true (k + 1) b) p in
+          let q = both_pass g d front (sequence_tests None (k + 1) b) p in
           let last =
-          (sequence_written g d kind few may (k + 1) b first is.1 (theirs q.0) its_form (low q.0) q.1).1 in
+          (sequence_written g d stop some kind few may (k + 1) b first is.1 (theirs q.0) its_form (low q.0) q.1).1 in
           let same_last : note_at d end ≡ note_at c end =
-          last ∙ sym (ends_at c kind (k + 1) b first mine h.2) in
+          last ∙ sym (ends_at c stop kind (k + 1) b first mine h.2) in
           let same_before : note_at d k ≡ note_at c k = e ∙ sym f in
           same_cons (loop_keeps end k b) (loop_grows end k (k + 1) turns b ∷ []) []
           (λ i. ends_as_begun (scatters b) (same_before i) (same_last i))
@@ -250,49 +251,49 @@ module _ (g : Geometry) (d c : Claims) where
       statement_same k (choice (either b bs)) n is e f form small h =
           let end : ℕ = sequence_end (k + 1) b in
           let front : List Test = note_tests (k + 1) (same k) in
-          let at : k + 1 + length (n ∷ sequence_notes kind b n) ≡ end + 1 =
-          omega (arith, sequence_places kind (k + 1) b n) in
+          let at : k + 1 + length (n ∷ sequence_notes stop kind b n) ≡ end + 1 =
+          omega (arith, sequence_places stop kind (k + 1) b n) in
           let s =
-          stand_split c.peak c.notes (k + 1) (end + 1) (n ∷ sequence_notes kind b n) (branches_notes kind bs n) at h in
+          stand_split c.peak c.notes (k + 1) (end + 1) (n ∷ sequence_notes stop kind b n) (branches_notes stop kind bs n) at h in
           let start : Same front front =
           same_never front front (note_none g c (k + 1) (same k) n s.0.0 s.0.1 f) (note_never (k + 1) (same k)) in
           let mine = is_at c (k + 1) n s.0.0 in
           let theirs : first_fault g d front ≡ None → note_at d (k + 1) ≡ n = λ p.
           (note_passes g d (k + 1) (same k) p).1 ∙ e in
-          let inner : Same (front ++ sequence_tests true (k + 1) b) (front ++ sequence_tests false (k + 1) b) =
-          same_then front front (sequence_tests true (k + 1) b) (sequence_tests false (k + 1) b) start
+          let inner : Same (front ++ sequence_tests None (k + 1) b) (front ++ sequence_tests (Some stop) (k + 1) b) =
+          same_then front front (sequence_tests None (k + 1) b) (sequence_tests (Some stop) (k + 1) b) start
           (λ p. sequence_same (k + 1) b n is.0 (theirs p) mine form small s.0.2) in
-          same_then (front ++ sequence_tests true (k + 1) b) (front ++ sequence_tests false (k + 1) b)
-          (later_tests true k end (end + 1) bs) (later_tests false k end (end + 1) bs) inner (λ p.
-          let q = both_pass g d front (sequence_tests true (k + 1) b) p in
-          let last = (sequence_written g d kind few may (k + 1) b n is.0 (theirs q.0) form small q.1).1 in
-          later_same k end (end + 1) bs n (after_sequence kind b n) is.1 e f last (ends_at c kind (k + 1) b n mine s.0.2)
+          same_then (front ++ sequence_tests None (k + 1) b) (front ++ sequence_tests (Some stop) (k + 1) b)
+          (later_tests None k end (end + 1) bs) (later_tests (Some stop) k end (end + 1) bs) inner (λ p.
+          let q = both_pass g d front (sequence_tests None (k + 1) b) p in
+          let last = (sequence_written g d stop some kind few may (k + 1) b n is.0 (theirs q.0) form small q.1).1 in
+          later_same k end (end + 1) bs n (after_sequence stop kind b n) is.1 e f last (ends_at c stop kind (k + 1) b n mine s.0.2)
           form small s.1)
 
       sequence_same : (k : ℕ) (b : Sequence) (n : Entries) → IsOfKinds kind b → note_at d k ≡ n → note_at c k ≡ n
-          → Forms kind 0 n → note_pins n ≤ d.peak → Here (k + 1) (sequence_notes kind b n)
-          → Same (sequence_tests true k b) (sequence_tests false k b)
+          → Forms kind 0 n → note_pins n ≤ d.peak → Here (k + 1) (sequence_notes stop kind b n)
+          → Same (sequence_tests None k b) (sequence_tests (Some stop) k b)
       sequence_same k skip n is e f form small h = same_none
       sequence_same k (andthen s b) n is e f form small h =
           let next : ℕ = statement_end k s in
-          let m : Entries = after_statement kind s n in
-          let theirs_between : List Test = note_tests next (outcome true k s) in
-          let between : List Test = note_tests next (outcome false k s) in
+          let m : Entries = after_statement stop kind s n in
+          let theirs_between : List Test = note_tests next (outcome None k s) in
+          let between : List Test = note_tests next (outcome (Some stop) k s) in
           let p =
-          stand_split c.peak c.notes (k + 1) next (statement_notes kind s n) (m ∷ sequence_notes kind b m)
-          (statement_places kind k s n) h in
+          stand_split c.peak c.notes (k + 1) next (statement_notes stop kind s n) (m ∷ sequence_notes stop kind b m)
+          (statement_places stop kind k s n) h in
           let inner = statement_same k s n is.0 e f form small p.0 in
-          let note : first_fault g d (statement_tests true k s) ≡ None → Same theirs_between between = λ q.
-          let expected = expected_is g c kind few k s n f (inner.0 q) p.0 in
-          same_never theirs_between between (note_none g c next (outcome false k s) m p.1.0 p.1.1 expected)
-          (note_never next (outcome true k s)) in
-          let first : Same (statement_tests true k s ++ theirs_between) (statement_tests false k s ++ between) =
-          same_then (statement_tests true k s) (statement_tests false k s) theirs_between between inner note in
-          same_then (statement_tests true k s ++ theirs_between) (statement_tests false k s ++ between)
-          (sequence_tests true next b) (sequence_tests false next b) first (λ q.
-          let r = both_pass g d (statement_tests true k s) theirs_between q in
-          let their = note_passes g d next (outcome true k s) r.1 in
-          let done = statement_written g d kind few may k s n is.0 e form small r.0 in
+          let note : first_fault g d (statement_tests None k s) ≡ None → Same theirs_between between = λ q.
+          let expected = expected_is g c stop some kind few k s n f (inner.0 q) p.0 in
+          same_never theirs_between between (note_none g c next (outcome (Some stop) k s) m p.1.0 p.1.1 expected)
+          (note_never next (outcome None k s)) in
+          let first : Same (statement_tests None k s ++ theirs_between) (statement_tests (Some stop) k s ++ between) =
+          same_then (statement_tests None k s) (statement_tests (Some stop) k s) theirs_between between inner note in
+          same_then (statement_tests None k s ++ theirs_between) (statement_tests (Some stop) k s ++ between)
+          (sequence_tests None next b) (sequence_tests (Some stop) next b) first (λ q.
+          let r = both_pass g d (statement_tests None k s) theirs_between q in
+          let their = note_passes g d next (outcome None k s) r.1 in
+          let done = statement_written g d stop some kind few may k s n is.0 e form small r.0 in
           let theirs : note_at d next ≡ m = their.1 ∙ done.1 in
           sequence_same next b m is.1 theirs (is_at c next m p.1.0) done.2
           (subst (λ x. note_pins x ≤ d.peak) theirs their.2) p.1.2)
@@ -300,38 +301,40 @@ module _ (g : Geometry) (d c : Claims) where
       -- of the second and later branches; `m` is noted at the end of the first one
       later_same : (before first k : ℕ) (bs : Alternatives) (n m : Entries) → BranchesKeep kind bs
           → note_at d before ≡ n → note_at c before ≡ n → note_at d first ≡ m → note_at c first ≡ m
-          → Forms kind 0 n → note_pins n ≤ d.peak → Here k (branches_notes kind bs n)
-          → Same (later_tests true before first k bs) (later_tests false before first k bs)
+          → Forms kind 0 n → note_pins n ≤ d.peak → Here k (branches_notes stop kind bs n)
+          → Same (later_tests None before first k bs) (later_tests (Some stop) before first k bs)
       later_same before first k none n m is e f u v form small h = same_none
       later_same before first k (either b bs) n m is e f u v form small h =
           let end : ℕ = sequence_end k b in
           let front : List Test = note_tests k (same before) in
-          let at : k + length (n ∷ sequence_notes kind b n) ≡ end + 1 = omega (arith, sequence_places kind k b n) in
+          let at : k + length (n ∷ sequence_notes stop kind b n) ≡ end + 1 = omega (arith, sequence_places stop kind k b n) in
           let s =
-          stand_split c.peak c.notes k (end + 1) (n ∷ sequence_notes kind b n) (branches_notes kind bs n) at h in
+          stand_split c.peak c.notes k (end + 1) (n ∷ sequence_notes stop kind b n) (branches_notes stop kind bs n) at h in
           let start : Same front front =
           same_never front front (note_none g c k (same before) n s.0.0 s.0.1 f) (note_never k (same before)) in
           let mine = is_at c k n s.0.0 in
           let theirs : first_fault g d front ≡ None → note_at d k ≡ n = λ p.
           (note_passes g d k (same before) p).1 ∙ e in
-          let inner : Same (front ++ sequence_tests true k b) (front ++ sequence_tests false k b) =
-          same_then front front (sequence_tests true k b) (sequence_tests false k b) start
+          let inner : Same (front ++ sequence_tests None k b) (front ++ sequence_tests (Some stop) k b) =
+          same_then front front (sequence_tests None k b) (sequence_tests (Some stop) k b) start
           (λ p. sequence_same k b n is.0 (theirs p) mine form small s.0.2) in
-          same_then (front ++ sequence_tests true k b) (front ++ sequence_tests false k b)
-          (branch_agrees end first ∷ later_tests true before first (end + 1) bs)
-          (branch_agrees end first ∷ later_tests false before first (end + 1) bs) inner (λ p.
-          let q = both_pass g d front (sequence_tests true k b) p in
-          let last = (sequence_written g d kind few may k b n is.0 (theirs q.0) form small q.1).1 in
-          same_cons (branch_agrees end first) (later_tests true before first (end + 1) bs)
-          (later_tests false before first (end + 1) bs)
-          (pair_same end first (after_sequence kind b n) m last (ends_at c kind k b n mine s.0.2) u v)
+          same_then (front ++ sequence_tests None k b) (front ++ sequence_tests (Some stop) k b)
+          (branch_agrees end first ∷ later_tests None before first (end + 1) bs)
+          (branch_agrees end first ∷ later_tests (Some stop) before first (end + 1) bs) inner (λ p.
+          let q = both_pass g d front (sequence_tests None k b) p in
+          let last = (sequence_written g d stop some kind few may k b n is.0 (theirs q.0) form small q.1).1 in
+          same_cons (branch_agrees end first) (later_tests None before first (end + 1) bs)
+          (later_tests (Some stop) before first (end + 1) bs)
+          (pair_same end first (after_sequence stop kind b n) m last (ends_at c stop kind k b n mine s.0.2) u v)
           (later_same before first (end + 1) bs n m is.1 e f u v form small s.1))
 
 pub made_same : (g : Geometry) (p : Terms) → IsPlan p → p.version ≡ 1 → (d : Claims) (fault : CheckError)
     → HasPagesAlone d → first_fault g d (tests p) ≡ Some fault → IsBeforeLimits fault
-    → first_fault g (made p) (tests_with false p) ≡ Some fault
+    → first_fault g (made p) (counted_tests p) ≡ Some fault
 made_same g p plan one d fault pages =
     let c : Claims = made p in
+    let stop : ℕ = most_counted p.layout in
+    let some : 1 ≤ stop = omega arith in
     let kind : ℕ → Bool = uses_bundle p.body in
     let plain : (s : ℕ) → kind s ≡ false = plan.plain one in
     let alone : (k : ℕ) → plain_part (note_at d k) ≡ note_at d k = λ k. note_alone d.notes k pages in
@@ -348,16 +351,16 @@ made_same g p plan one d fault pages =
     no_more_notes (k + 1) ∷ steps_allowed ∷ steps_enough (sequence_longest p.body) ∷ peak_allowed ∷ [] in
     let note : first_fault g d front ≡ None → note_at d 0 ≡ [] = λ h.
     (note_passes g d 0 empty (first_passes g d (same_settings p.layout) (note_tests 0 empty) h).1).1 in
-    let walk : Same g d c (front ++ sequence_tests true 0 p.body) (front ++ sequence_tests false 0 p.body) =
-    same_then g d c front front (sequence_tests true 0 p.body) (sequence_tests false 0 p.body) settings
-    (λ h. sequence_same g d c kind plain alone 0 p.body [] kinds (note h) refl tt (omega arith) here.2) in
-    owns_then g d c (front ++ sequence_tests true 0 p.body) (front ++ sequence_tests false 0 p.body)
+    let walk : Same g d c (front ++ sequence_tests None 0 p.body) (front ++ sequence_tests (Some stop) 0 p.body) =
+    same_then g d c front front (sequence_tests None 0 p.body) (sequence_tests (Some stop) 0 p.body) settings
+    (λ h. sequence_same g d c stop some kind plain alone 0 p.body [] kinds (note h) refl tt (omega arith) here.2) in
+    owns_then g d c (front ++ sequence_tests None 0 p.body) (front ++ sequence_tests (Some stop) 0 p.body)
     (holds_nothing k ∷ finals) (holds_nothing k ∷ finals) walk (λ h.
-    let q = both_pass g d front (sequence_tests true 0 p.body) h in
+    let q = both_pass g d front (sequence_tests None 0 p.body) h in
     let theirs =
-    (sequence_written g d kind (bundles_few p plan) (inr (plain, alone)) 0 p.body [] kinds (note q.0) tt (omega arith)
+    (sequence_written g d stop some kind (bundles_few p plan) (inr (plain, alone)) 0 p.body [] kinds (note q.0) tt (omega arith)
     q.1).1 in
-    let mine = ends_at c kind 0 p.body [] refl here.2 in
+    let mine = ends_at c stop kind 0 p.body [] refl here.2 in
     let nothing : passes g d (holds_nothing k) ≡ passes g c (holds_nothing k) =
     ap (λ n. length n == 0) (theirs ∙ sym mine) in
     owns_then g d c (holds_nothing k ∷ []) (holds_nothing k ∷ []) finals finals

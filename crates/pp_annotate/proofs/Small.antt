@@ -1,7 +1,8 @@
--- The notes that are made of a plan pin few pages: a step adds one at most, and a loop 4,097 for each slot and what its body
--- adds.
-use Rattle.std.proofs.Common.{◌≡◌, ℕ, ◌+◌, ◌*◌, ◌≤◌, ◌<◌, ◌^◌, Bool, true, false, [], ◌∷◌, ◌++◌, List, refl, arith}
+-- The notes that are made of a plan pin few pages: a step adds one at most, and a loop as many as are counted for each slot and
+-- what its body adds.
+use Rattle.std.proofs.Common.{◌≡◌, ℕ, ◌+◌, ◌*◌, ◌≤◌, ◌<◌, ◌^◌, Bool, true, false, Some, [], ◌∷◌, ◌++◌, List, refl, arith}
 use Rattle.std.specs.Prelude.{if◌then◌else◌}
+use Rattle.pp_settings.specs.Limits.{most_frames}
 use Rattle.pp_plan.specs.Tree.{Step, fix, unfix, latch, unlatch, gather, scatter, Statement, step, loop, choice}
 use Rattle.pp_plan.specs.Tree.{Sequence, skip, andthen, Alternatives, none, either, statement_count, sequence_count}
 use Rattle.pp_plan.specs.Tree.{alternatives_count}
@@ -11,6 +12,7 @@ use Rattle.pp_cert.specs.declared.note.Entry.{Entry}
 use Rattle.pp_cert.specs.declared.note.Entry.TheVariants.{Slot, Bundle}
 use Rattle.pp_cert.specs.declared.note.Held.{Held}
 use Rattle.pp_cert.specs.declared.note.Held.TheVariants.{Free}
+use Rattle.pp_cert.specs.Limits.{most_counted}
 use Rattle.pp_cert.specs.Held.{held_in}
 use Rattle.pp_cert.specs.Notes.{Entries, entry_pins, note_pins, is_slot, entry_as, noted_as, without_page}
 use Rattle.pp_cert.specs.Notes.{bound_at, one_more as one_page_more}
@@ -44,13 +46,13 @@ as_many held s (y ∷ n) =
       | false ↦ omega (arith, as_many held s n)
     ]
 
-step_small : (s : Step) (n : Entries) → note_pins (after_step s n) ≤ note_pins n + 1
-step_small (fix s r) n = page_pins s r n
-step_small (unfix s) n = omega (arith, no_more s n)
-step_small (latch s m) n = omega (arith, as_many (held_in m) s n)
-step_small (unlatch s) n = omega (arith, as_many Free s n)
-step_small (gather s r) n = omega (arith, bounded_pins s (one_page_more false (bound_at n s)) n)
-step_small (scatter s) n = omega (arith, others_pins s n)
+step_small : (stop : ℕ) (s : Step) (n : Entries) → note_pins (after_step stop s n) ≤ note_pins n + 1
+step_small stop (fix s r) n = page_pins s r n
+step_small stop (unfix s) n = omega (arith, no_more s n)
+step_small stop (latch s m) n = omega (arith, as_many (held_in m) s n)
+step_small stop (unlatch s) n = omega (arith, as_many Free s n)
+step_small stop (gather s r) n = omega (arith, bounded_pins s (one_page_more (Some stop) (bound_at n s)) n)
+step_small stop (scatter s) n = omega (arith, others_pins s n)
 
 -- ---- notes
 
@@ -62,17 +64,17 @@ greatest_both (x ∷ ms) ns m a b =
 
 -- so many pins for each statement
 abbrev each : ℕ
-each = 131105
+each = 536870945
 
-module _ (kind : ℕ → Bool) where
+module _ (stop : ℕ) (low : stop ≤ most_frames + 1) (kind : ℕ → Bool) where
   mutual
     statement_small : (s : Statement) (n : Entries) (m : ℕ) → note_pins n + each * statement_count s ≤ m
-        → (greatest (statement_notes kind s n) ≤ m)
-        × (note_pins (after_statement kind s n) ≤ note_pins n + each * statement_count s)
-    statement_small (step s) n m h = (omega arith, omega (arith, step_small s n))
+        → (greatest (statement_notes stop kind s n) ≤ m)
+        × (note_pins (after_statement stop kind s n) ≤ note_pins n + each * statement_count s)
+    statement_small (step s) n m h = (omega arith, omega (arith, step_small stop s n))
     statement_small (loop c b) n m h =
-        let first : Entries = first_note kind c b n in
-        let at_first = first_pins kind c b n in
+        let first : Entries = first_note stop kind c b n in
+        let at_first = first_pins stop kind c b n in
         let body = sequence_small b first m (omega (arith, h, at_first)) in
         (omega (arith, h, at_first, body.0), omega (arith, at_first, body.1))
     statement_small (choice bs) n m h =
@@ -80,31 +82,34 @@ module _ (kind : ℕ → Bool) where
         (all.0, omega (arith, all.1))
 
     sequence_small : (b : Sequence) (n : Entries) (m : ℕ) → note_pins n + each * sequence_count b ≤ m
-        → (greatest (sequence_notes kind b n) ≤ m)
-        × (note_pins (after_sequence kind b n) ≤ note_pins n + each * sequence_count b)
+        → (greatest (sequence_notes stop kind b n) ≤ m)
+        × (note_pins (after_sequence stop kind b n) ≤ note_pins n + each * sequence_count b)
     sequence_small skip n m h = (omega arith, omega arith)
     sequence_small (andthen s b) n m h =
-        let next : Entries = after_statement kind s n in
+        let next : Entries = after_statement stop kind s n in
         let first = statement_small s n m (omega (arith, h)) in
         let rest = sequence_small b next m (omega (arith, h, first.1)) in
-        let later : greatest (next ∷ sequence_notes kind b next) ≤ m = omega (arith, h, first.1, rest.0) in (
-          greatest_both (statement_notes kind s n) (next ∷ sequence_notes kind b next) m first.0 later,
+        let later : greatest (next ∷ sequence_notes stop kind b next) ≤ m = omega (arith, h, first.1, rest.0) in (
+          greatest_both (statement_notes stop kind s n) (next ∷ sequence_notes stop kind b next) m first.0 later,
           omega (arith, first.1, rest.1),
         )
 
     branches_small : (bs : Alternatives) (n : Entries) (m : ℕ) → note_pins n + each * alternatives_count bs ≤ m
-        → (greatest (branches_notes kind bs n) ≤ m)
-        × (note_pins (after_first kind bs n) ≤ note_pins n + each * alternatives_count bs)
+        → (greatest (branches_notes stop kind bs n) ≤ m)
+        × (note_pins (after_first stop kind bs n) ≤ note_pins n + each * alternatives_count bs)
     branches_small none n m h = (omega arith, omega arith)
     branches_small (either b bs) n m h =
         let first = sequence_small b n m (omega (arith, h)) in
         let later = branches_small bs n m (omega (arith, h)) in
-        let here : greatest (n ∷ sequence_notes kind b n) ≤ m = omega (arith, h, first.0) in (
-          greatest_both (n ∷ sequence_notes kind b n) (branches_notes kind bs n) m here later.0,
+        let here : greatest (n ∷ sequence_notes stop kind b n) ≤ m = omega (arith, h, first.0) in (
+          greatest_both (n ∷ sequence_notes stop kind b n) (branches_notes stop kind bs n) m here later.0,
           omega (arith, first.1),
         )
 
 pub made_small : (p : Terms) → IsPlan p → greatest (made_notes p) < 2 ^ 64
 made_small p plan =
-    let all = sequence_small (uses_bundle p.body) p.body [] (each * sequence_count p.body) (omega arith) in
+    let stop : ℕ = most_counted p.layout in
+    let all =
+    sequence_small stop (omega (arith, plan.layout.frames.1)) (uses_bundle p.body) p.body []
+    (each * sequence_count p.body) (omega arith) in
     omega (arith, all.0, plan.body.count)

@@ -78,33 +78,33 @@ stand_itself ns = stand_behind (greatest ns) [] ns (omega arith)
 
 -- ---- how many there are
 
-module _ (kind : ℕ → Bool) where
+module _ (stop : ℕ) (kind : ℕ → Bool) where
   mutual
     pub statement_places : (k : ℕ) (s : Statement) (n : Entries)
-        → k + 1 + length (statement_notes kind s n) ≡ statement_end k s
+        → k + 1 + length (statement_notes stop kind s n) ≡ statement_end k s
     statement_places k (step s) n = omega arith
-    statement_places k (loop c b) n = omega (arith, sequence_places (k + 1) b (first_note kind c b n))
+    statement_places k (loop c b) n = omega (arith, sequence_places (k + 1) b (first_note stop kind c b n))
     statement_places k (choice bs) n = branches_places (k + 1) bs n
 
     pub sequence_places : (k : ℕ) (b : Sequence) (n : Entries)
-        → k + length (sequence_notes kind b n) ≡ sequence_end k b
+        → k + length (sequence_notes stop kind b n) ≡ sequence_end k b
     sequence_places k skip n = omega arith
     sequence_places k (andthen s b) n =
-        let m : Entries = after_statement kind s n in
+        let m : Entries = after_statement stop kind s n in
         omega (
           arith,
-          length-append (statement_notes kind s n) (m ∷ sequence_notes kind b m),
+          length-append (statement_notes stop kind s n) (m ∷ sequence_notes stop kind b m),
           statement_places k s n,
           sequence_places (statement_end k s) b m,
         )
 
     pub branches_places : (k : ℕ) (bs : Alternatives) (n : Entries)
-        → k + length (branches_notes kind bs n) ≡ alternatives_end k bs
+        → k + length (branches_notes stop kind bs n) ≡ alternatives_end k bs
     branches_places k none n = omega arith
     branches_places k (either b bs) n =
         omega (
           arith,
-          length-append (n ∷ sequence_notes kind b n) (branches_notes kind bs n),
+          length-append (n ∷ sequence_notes stop kind b n) (branches_notes stop kind bs n),
           sequence_places k b n,
           branches_places (sequence_end k b + 1) bs n,
         )
@@ -114,13 +114,13 @@ module _ (kind : ℕ → Bool) where
 pub is_at : (c : Claims) (k : ℕ) (n : Entries) → slice_get c.notes k ≡ Some n → note_at c k ≡ n
 is_at c k n s = ap (λ o. unwrap_or o []) s
 
-pub ends_at : (c : Claims) (kind : ℕ → Bool) (k : ℕ) (b : Sequence) (n : Entries) → note_at c k ≡ n
-    → Stand c.peak c.notes (k + 1) (sequence_notes kind b n) → note_at c (sequence_end k b) ≡ after_sequence kind b n
-ends_at c kind k skip n e h = e
-ends_at c kind k (andthen s b) n e h =
+pub ends_at : (c : Claims) (stop : ℕ) (kind : ℕ → Bool) (k : ℕ) (b : Sequence) (n : Entries) → note_at c k ≡ n
+    → Stand c.peak c.notes (k + 1) (sequence_notes stop kind b n) → note_at c (sequence_end k b) ≡ after_sequence stop kind b n
+ends_at c stop kind k skip n e h = e
+ends_at c stop kind k (andthen s b) n e h =
     let next : ℕ = statement_end k s in
-    let m : Entries = after_statement kind s n in
+    let m : Entries = after_statement stop kind s n in
     let p =
-    stand_split c.peak c.notes (k + 1) next (statement_notes kind s n) (m ∷ sequence_notes kind b m)
-    (statement_places kind k s n) h in
-    ends_at c kind next b m (is_at c next m p.1.0) p.1.2
+    stand_split c.peak c.notes (k + 1) next (statement_notes stop kind s n) (m ∷ sequence_notes stop kind b m)
+    (statement_places stop kind k s n) h in
+    ends_at c stop kind next b m (is_at c next m p.1.0) p.1.2

@@ -1,7 +1,6 @@
 -- What is made of a plan is tight, where it is accepted.
 use Rattle.std.proofs.Common.{◌≡◌, ℕ, ◌<◌, ◌≤◌, min, Bool, true, List, [], ◌∷◌, ◌++◌, length, refl, sym, subst, ◌∙◌, arith}
 use Rattle.std.proofs.lemmas.List.{append-nil}
-use Rattle.pp_settings.specs.Limits.{most_frames}
 use Rattle.pp_settings.specs.Layout.{Geometry}
 use Rattle.pp_plan.specs.Limits.{most_slots}
 use Rattle.pp_plan.specs.declared.action.Action.{Action}
@@ -9,7 +8,7 @@ use Rattle.pp_plan.specs.Tree.{Sequence}
 use Rattle.pp_plan.specs.Traces.{IsTrace}
 use Rattle.pp_plan.specs.Rules.{uses_bundle}
 use Rattle.pp_plan.specs.Terms.{Terms, IsPlan}
-use Rattle.pp_cert.specs.Limits.{counted}
+use Rattle.pp_cert.specs.Limits.{counted, most_counted}
 use Rattle.pp_cert.specs.Walk.{Certifies}
 use Rattle.pp_cert.specs.Longest.{sequence_longest, IsLongest}
 use Rattle.pp_annotate.specs.Made.{sequence_notes, made_notes, made}
@@ -33,15 +32,17 @@ tight_here p plan h longest =
     let kind : ℕ → Bool = uses_bundle p.body in
     let few : (s : ℕ) → kind s ≡ true → s < most_slots = bundles_few p plan in
     let slots : ℕ = length p.slots in
-    let low : (made p).peak ≤ most_frames = omega (arith, is.peak, plan.layout.frames.1) in
+    let stop : ℕ = most_counted p.layout in
+    let some : 1 ≤ stop = omega arith in
+    let low : (made p).peak < stop = omega (arith, is.peak) in
     let here : Stand (made p).peak (made p).notes 0 (made_notes p) = stand_itself (made_notes p) in
-    let start : At g plan.layout (made p) slots kind few low p.body [] [] = ([], refl, fits_nothing g kind) in
-    let all : AllReached g plan.layout (made p) slots kind few low p.body ([] ∷ sequence_notes kind p.body []) =
-    body_reached g plan.layout (made p) slots kind few low p.body 0 p.body [] (own_kinds p plan) refl tt is.first.2
+    let start : At g plan.layout (made p) slots stop some kind few low p.body [] [] = ([], refl, fits_nothing g kind) in
+    let all : AllReached g plan.layout (made p) slots stop some kind few low p.body ([] ∷ sequence_notes stop kind p.body []) =
+    body_reached g plan.layout (made p) slots stop some kind few low p.body 0 p.body [] (own_kinds p plan) refl tt is.first.2
     here.2 is.walk plan.body.parts [] start (whole g p.body) in
     record {
       peak =
-          greatest_reached g plan.layout (made p) slots kind few low p.body [] (sequence_notes kind p.body []) all;
+          greatest_reached g plan.layout (made p) slots stop some kind few low p.body [] (sequence_notes stop kind p.body []) all;
       steps =
           let full : sequence_longest p.body ≡ min (sequence_longest p.body) counted =
           sym (counted_whole (sequence_longest p.body) (omega (arith, is.limit, is.enough))) in

@@ -25,14 +25,15 @@ use Rattle.pp_cert.specs.Longest.{sequence_longest}
 use Rattle.pp_cert.specs.Notes.{Entries, entry_slot, entry_held, note_pins, is_slot, is_bundle_of, entry_at, noted_at, bound_at}
 use Rattle.pp_cert.specs.Notes.{noted_as, one_more, without_page, without_bundle, with_bound}
 use Rattle.pp_cert.specs.Walk.{empty, Test, same_settings, holds_nothing, no_more_notes, steps_allowed, steps_enough}
-use Rattle.pp_cert.specs.Walk.{peak_allowed, first_fault, note_tests, sequence_tests, tests_with, sequence_end}
-use Rattle.pp_cert.specs.Limits.{most_bound, most_entries}
+use Rattle.pp_cert.specs.Walk.{peak_allowed, first_fault, note_tests, sequence_tests, sequence_end}
+use Rattle.pp_cert.specs.Limits.{most_bound, most_counted, most_entries}
 use Rattle.pp_cert.proofs.Passing.{first_passes, both_pass, layout_same}
 use Rattle.pp_cert.proofs.Places.{sequence_end-most}
 use Rattle.pp_cert.proofs.SlotKinds.{KeepsKinds, StatementKeeps, IsOfKinds, BranchesKeep}
 use Rattle.pp_annotate.specs.Growth.{rise, risen, with_rise, risen_below, first_note}
 use Rattle.pp_annotate.specs.Made.{after_step, after_statement, after_sequence, statement_notes, sequence_notes}
 use Rattle.pp_annotate.specs.Made.{branches_notes, made_notes, greatest, made}
+use Rattle.pp_annotate.specs.Annotation.{counted_tests}
 use Rattle.pp_annotate.proofs.Forms.{Forms, Absent, absent_bundle}
 use Rattle.pp_annotate.proofs.Rises.{above_it}
 use Rattle.pp_annotate.proofs.Bundles.{sequence_few, own_kinds}
@@ -116,28 +117,28 @@ module _ (kind : ℕ → Bool) (slots regions : ℕ) where
 
   -- ---- the first note of a loop's body
 
-  rise_rises : (s m : ℕ) (n : Entries) → s < slots → kind s ≡ true → Rises 0 n
-      → Rises 0 (with_rise s (risen (bound_at n s) m) n)
-  rise_rises s m n within is r =
-      let k : ℕ = risen (bound_at n s) m in
+  rise_rises : (stop s m : ℕ) (n : Entries) → 1 ≤ stop → s < slots → kind s ≡ true → Rises 0 n
+      → Rises 0 (with_rise s (risen stop (bound_at n s) m) n)
+  rise_rises stop s m n some within is r =
+      let k : ℕ = risen stop (bound_at n s) m in
       elim (k == bound_at n s) as (λ b. (k == bound_at n s) ≡ b → Rises 0 (if b then n else with_bound s k n)) [
         | true ↦ λ e. r
-        | false ↦ λ e. rises_bound s k n within is (above_it (bound_at n s) m e) r
+        | false ↦ λ e. rises_bound s k n within is (above_it stop (bound_at n s) m some e) r
       ] refl
 
-  module _ (few : (s : ℕ) → kind s ≡ true → s < slots) where
-    below_rises : (m turns : ℕ) (b : Sequence) (n : Entries) → Rises 0 n → Rises 0 (risen_below m kind turns b n)
+  module _ (stop : ℕ) (some : 1 ≤ stop) (few : (s : ℕ) → kind s ≡ true → s < slots) where
+    below_rises : (m turns : ℕ) (b : Sequence) (n : Entries) → Rises 0 n → Rises 0 (risen_below stop m kind turns b n)
     unfolding risen_below
     below_rises zero turns b n r = r
     below_rises (suc m) turns b n r =
-        let at : Entries = risen_below m kind turns b n in
+        let at : Entries = risen_below stop m kind turns b n in
         elim (kind m) as (λ t. kind m ≡ t
-        → Rises 0 (if t then with_rise m (risen (bound_at at m) (rise turns b m)) at else at)) [
-          | true ↦ λ e. rise_rises m (rise turns b m) at (few m e) e (below_rises m turns b n r)
+        → Rises 0 (if t then with_rise m (risen stop (bound_at at m) (rise turns b m)) at else at)) [
+          | true ↦ λ e. rise_rises stop m (rise turns b m) at some (few m e) e (below_rises m turns b n r)
           | false ↦ λ e. below_rises m turns b n r
         ] refl
 
-    pub first_rises : (turns : ℕ) (b : Sequence) (n : Entries) → Rises 0 n → Rises 0 (first_note kind turns b n)
+    pub first_rises : (turns : ℕ) (b : Sequence) (n : Entries) → Rises 0 n → Rises 0 (first_note stop kind turns b n)
     unfolding first_note
     first_rises turns b n r = below_rises most_slots turns b n r
 
@@ -160,7 +161,7 @@ module _ (kind : ℕ → Bool) (slots regions : ℕ) where
         ] refl
 
     pub step_rises : (s : Step) (n : Entries) → KeepsKinds kind s → IsStep slots regions s → Rises 0 n
-        → Rises 0 (after_step s n)
+        → Rises 0 (after_step stop s n)
     step_rises (fix s r) n keeps is rises =
         elim (is_some (noted_at n s)) as (λ b. is_some (noted_at n s) ≡ b
         → Rises 0 (if b then n else slot_insert entry_slot (Slot s r Free) n)) [
@@ -172,7 +173,7 @@ module _ (kind : ℕ → Bool) (slots regions : ℕ) where
     step_rises (latch s m) n keeps is rises = rises_held_as 0 (held_in m) s n rises
     step_rises (unlatch s) n keeps is rises = rises_held_as 0 Free s n rises
     step_rises (gather s r) n keeps is rises =
-        rises_bound s (one_more false (bound_at n s)) n is.0 keeps (omega arith) rises
+        rises_bound s (one_more (Some stop) (bound_at n s)) n is.0 keeps (omega (arith, some)) rises
     step_rises (scatter s) n keeps is rises = rises_scatter 0 s n rises
 
     abbrev AllRise : List Entries → Type 0
@@ -180,35 +181,35 @@ module _ (kind : ℕ → Bool) (slots regions : ℕ) where
 
     mutual
       pub statement_rises : (s : Statement) (n : Entries) → StatementKeeps kind s → IsStatement slots regions s → Rises 0 n
-          → AllRise (statement_notes kind s n) × Rises 0 (after_statement kind s n)
+          → AllRise (statement_notes stop kind s n) × Rises 0 (after_statement stop kind s n)
       statement_rises (step s) n keeps is r = (All-nil (Rises 0), step_rises s n keeps is r)
       statement_rises (loop m b) n keeps is r =
-          let first : Entries = first_note kind m b n in
+          let first : Entries = first_note stop kind m b n in
           let start : Rises 0 first = first_rises m b n r in
           let body = sequence_rises b first keeps.1 is.3 start in
-          (All-cons (Rises 0) first (sequence_notes kind b first) start body.0, body.1)
+          (All-cons (Rises 0) first (sequence_notes stop kind b first) start body.0, body.1)
       statement_rises (choice none) n keeps is r = (All-nil (Rises 0), r)
       statement_rises (choice (either b bs)) n keeps is r =
           (branches_rise (either b bs) n keeps is.2 r, (sequence_rises b n keeps.0 is.2.0 r).1)
 
       sequence_rises : (b : Sequence) (n : Entries) → IsOfKinds kind b → IsSequence slots regions b → Rises 0 n
-          → AllRise (sequence_notes kind b n) × Rises 0 (after_sequence kind b n)
+          → AllRise (sequence_notes stop kind b n) × Rises 0 (after_sequence stop kind b n)
       sequence_rises skip n keeps is r = (All-nil (Rises 0), r)
       sequence_rises (andthen s b) n keeps is r =
-          let m : Entries = after_statement kind s n in
+          let m : Entries = after_statement stop kind s n in
           let inner = statement_rises s n keeps.0 is.0 r in
           let rest = sequence_rises b m keeps.1 is.1 inner.1 in (
-            All-append (Rises 0) (statement_notes kind s n) (m ∷ sequence_notes kind b m) inner.0
-                (All-cons (Rises 0) m (sequence_notes kind b m) inner.1 rest.0),
+            All-append (Rises 0) (statement_notes stop kind s n) (m ∷ sequence_notes stop kind b m) inner.0
+                (All-cons (Rises 0) m (sequence_notes stop kind b m) inner.1 rest.0),
             rest.1,
           )
 
       branches_rise : (bs : Alternatives) (n : Entries) → BranchesKeep kind bs → AreAlternatives slots regions bs
-          → Rises 0 n → AllRise (branches_notes kind bs n)
+          → Rises 0 n → AllRise (branches_notes stop kind bs n)
       branches_rise none n keeps is r = All-nil (Rises 0)
       branches_rise (either b bs) n keeps is r =
-          All-append (Rises 0) (n ∷ sequence_notes kind b n) (branches_notes kind bs n)
-          (All-cons (Rises 0) n (sequence_notes kind b n) r (sequence_rises b n keeps.0 is.0 r).0)
+          All-append (Rises 0) (n ∷ sequence_notes stop kind b n) (branches_notes stop kind bs n)
+          (All-cons (Rises 0) n (sequence_notes stop kind b n) r (sequence_rises b n keeps.0 is.0 r).0)
           (branches_rise bs n keeps.1 is.1 r)
 
 -- ---- such a note is in form
@@ -229,7 +230,7 @@ module _ (c : Configuration) (p : Terms) where
   RisesFrom low n = Rises kinds (length p.slots) (length c.regions) low n
 
   is_entry : (e : Entry) → entry_slot e < length p.slots → IsKnown kinds (length p.slots) (length c.regions) e
-      → note_pins (e ∷ []) ≤ most_bound → IsEntry c p e
+      → note_pins (e ∷ []) ≤ most_bound (geometry_of c) → IsEntry c p e
   is_entry (Slot s r h) within known small = record { slot = within; kind = known.1; region = known.0; bound = tt }
   is_entry (Bundle s k) within known small = record {
     slot = within;
@@ -238,7 +239,7 @@ module _ (c : Configuration) (p : Terms) where
     bound = (known.0, omega (arith, small));
   }
 
-  is_note : (low : ℕ) (n : Entries) → RisesFrom low n → note_pins n ≤ most_bound → IsNote c p n
+  is_note : (low : ℕ) (n : Entries) → RisesFrom low n → note_pins n ≤ most_bound (geometry_of c) → IsNote c p n
   is_note low [] r small = record { entries = All-nil (IsEntry c p); rising = λ i j d h l. absurd (omega (arith, l)) }
   is_note low (e ∷ es) r small =
       let rest = is_note (entry_slot e + 1) es r.2 (omega (arith, small)) in
@@ -267,8 +268,8 @@ all_rise p regions plan count =
     let parts : IsSequence slots regions p.body = subst (λ (r : ℕ). IsSequence slots r p.body) count plan.body.parts in
     let few : (s : ℕ) → kind s ≡ true → s < slots = λ s k. sequence_few slots regions p.body s parts k in
     let none_yet : Rises kind slots regions 0 [] = omega arith in
-    All-cons (Rises kind slots regions 0) [] (sequence_notes kind p.body []) none_yet
-    (sequence_rises kind slots regions few p.body [] (own_kinds p plan) parts none_yet).0
+    All-cons (Rises kind slots regions 0) [] (sequence_notes (most_counted p.layout) kind p.body []) none_yet
+    (sequence_rises kind slots regions (most_counted p.layout) (omega arith) few p.body [] (own_kinds p plan) parts none_yet).0
 
 rise_few : (p : Terms) (regions : ℕ) → IsPlan p
     → All (Rises (uses_bundle p.body) (length p.slots) regions 0) (made_notes p)
@@ -284,9 +285,10 @@ pub made_few : (p : Terms) → IsPlan p → All (λ (n : Entries). length n ≤ 
 made_few p plan = rise_few p (length p.layout.extents) plan (all_rise p (length p.layout.extents) plan refl)
 
 pub writable : (c : Configuration) (p : Terms) → IsPlan p
-    → first_fault (geometry_of c) (made p) (tests_with false p) ≡ None → AreClaims c p (made p)
+    → first_fault (geometry_of c) (made p) (counted_tests p) ≡ None → AreClaims c p (made p)
 writable c p plan h =
     let g : Geometry = geometry_of c in
+    let stop : ℕ = most_counted p.layout in
     let kind : ℕ → Bool = uses_bundle p.body in
     let slots : ℕ = length p.slots in
     let regions : ℕ = length c.regions in
@@ -295,24 +297,22 @@ writable c p plan h =
     let longest : ℕ = sequence_longest p.body in
     let finals : List Test =
     holds_nothing end ∷ no_more_notes (end + 1) ∷ steps_allowed ∷ steps_enough longest ∷ peak_allowed ∷ [] in
-    let q = both_pass g (made p) (front ++ sequence_tests false 0 p.body) finals h in
-    let r = both_pass g (made p) front (sequence_tests false 0 p.body) q.0 in
+    let q = both_pass g (made p) (front ++ sequence_tests (Some stop) 0 p.body) finals h in
+    let r = both_pass g (made p) front (sequence_tests (Some stop) 0 p.body) q.0 in
     let settings = layout_same g p.layout (first_passes g (made p) (same_settings p.layout) (note_tests 0 empty) r.0).0 in
     let count : length p.layout.extents ≡ regions = ap (λ (x : Geometry). length x.extents) (sym settings)
     ∙ length-map c.regions (λ r. r.extent) in
-    let frames = ap (λ (x : Geometry). x.frames) settings in
-    let low : (made p).peak ≤ most_bound =
-    omega (arith, peak_of g (made p) end (end + 1) longest q.1, frames, plan.layout.frames.1) in
+    let low : (made p).peak ≤ most_bound g = omega (arith, peak_of g (made p) end (end + 1) longest q.1) in
     let parts : IsSequence slots regions p.body = subst (λ (r : ℕ). IsSequence slots r p.body) count plan.body.parts in
     let rise : All (Rises kind slots regions 0) (made_notes p) = all_rise p regions plan count in
-    let within : All (λ (n : Entries). note_pins n ≤ most_bound) (made_notes p) =
-    all_within most_bound (made_notes p) low in
+    let within : All (λ (n : Entries). note_pins n ≤ most_bound g) (made_notes p) =
+    all_within (most_bound g) (made_notes p) low in
     record {
       few = record {
         notes_few =
             omega (
               arith,
-              sequence_places kind 0 p.body [],
+              sequence_places stop kind 0 p.body [],
               sequence_end-most slots regions 0 p.body parts,
               plan.body.count,
             );

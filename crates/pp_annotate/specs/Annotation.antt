@@ -14,6 +14,7 @@ use Rattle.pp_cert.specs.declared.check_error.CheckError.TheVariants.{NotFixed, 
 use Rattle.pp_cert.specs.declared.check_error.CheckError.TheVariants.{OverPeak, LoopChanges, BranchDiffers, EndsHolding}
 use Rattle.pp_cert.specs.declared.check_error.CheckError.TheVariants.{StepsTooFew, StepsTooMany, PeakTooBig}
 use Rattle.pp_cert.specs.declared.check_error.CheckError.TheVariants.{OtherSettings}
+use Rattle.pp_cert.specs.Limits.{most_counted}
 use Rattle.pp_cert.specs.Held.{pins}
 use Rattle.pp_cert.specs.Notes.{entry_slot, is_bundle}
 use Rattle.pp_cert.specs.Walk.{Claims, claims_of, Certifies, tests, tests_with, first_fault, unless_fault, passes}
@@ -25,10 +26,15 @@ use Rattle.pp_annotate.specs.declared.error.AnnotateError.{AnnotateError}
 use Rattle.pp_annotate.specs.declared.error.AnnotateError.TheVariants.{Fault, OutOfMemory}
 use Rattle.pp_annotate.specs.Made.{made}
 
+-- The tests that a maker of certificates makes of a plan: bounds are counted up to the stop of the plan's layout, and no test
+-- says that they grow in a loop as its turns want it.
+abbrev pub counted_tests : Terms → List Test
+counted_tests p = tests_with (Some (most_counted p.layout)) p
+
 -- What is made of the plan where no test of it fails, else the first fault. That bounds grow in a loop as its turns want it
 -- isn't tested: they do where they are counted in full, and a bound that isn't is more than the frames.
 abbrev pub annotation : Geometry → Terms → Result Claims CheckError
-annotation g p = unless_fault (first_fault g (made p) (tests_with false p)) (made p)
+annotation g p = unless_fault (first_fault g (made p) (counted_tests p)) (made p)
 
 -- What the code returned is this; want of memory says nothing of the plan.
 abbrev pub AnswersAs : Result Certificate AnnotateError → Result Claims CheckError → Type 0

@@ -3,7 +3,6 @@ use Rattle.std.specs.Prelude.{ℕ, zero, suc, ◌+◌, ◌-◌, ◌*◌, ◌==�
 use Rattle.pp_plan.specs.Limits.{most_slots}
 use Rattle.pp_plan.specs.Tree.{Step, fix, unfix, latch, unlatch, gather, scatter, Statement, step, loop, choice}
 use Rattle.pp_plan.specs.Tree.{Sequence, skip, andthen, Alternatives, none, either, scatters}
-use Rattle.pp_cert.specs.Limits.{most_counted}
 use Rattle.pp_cert.specs.Notes.{Entries, bound_at, with_bound}
 
 -- ---- growth
@@ -68,21 +67,21 @@ abbrev mutual
 abbrev pub rise : (turns : ℕ) → Sequence → ℕ → ℕ
 rise turns b k = if scatters b k then 0 else (turns - 1) * growth b k
 
--- The bound `before` after such a rise, counted no further than to the first that is too large.
-abbrev pub risen : (before rise : ℕ) → ℕ
-risen before rise = min (before + rise) most_counted
+-- The bound `before` after such a rise, counted up to the stop.
+abbrev pub risen : (stop before rise : ℕ) → ℕ
+risen stop before rise = min (before + rise) stop
 
 -- The note with this bound for the bundle; the same note where that is its bound.
 abbrev pub with_rise : (slot bound : ℕ) → Entries → Entries
 with_rise s k n = if k == bound_at n s then n else with_bound s k n
 
 -- The note with the bounds of the bundles among so many slots as they are at the first place of the body.
-unfoldable pub risen_below : ℕ → (is_bundle : ℕ → Bool) → (turns : ℕ) → Sequence → Entries → Entries
-risen_below zero is_bundle turns b n = n
-risen_below (suc k) is_bundle turns b n =
-    if is_bundle k then with_rise k (risen (bound_at (risen_below k is_bundle turns b n) k) (rise turns b k))
-    (risen_below k is_bundle turns b n) else risen_below k is_bundle turns b n
+unfoldable pub risen_below : (stop : ℕ) → ℕ → (is_bundle : ℕ → Bool) → (turns : ℕ) → Sequence → Entries → Entries
+risen_below stop zero is_bundle turns b n = n
+risen_below stop (suc k) is_bundle turns b n =
+    if is_bundle k then with_rise k (risen stop (bound_at (risen_below stop k is_bundle turns b n) k) (rise turns b k))
+    (risen_below stop k is_bundle turns b n) else risen_below stop k is_bundle turns b n
 
 -- What is noted at the first place of the body of a loop of so many turns, where `n` is noted just before the loop.
-unfoldable pub first_note : (is_bundle : ℕ → Bool) → (turns : ℕ) → Sequence → Entries → Entries
-first_note is_bundle turns b n = risen_below most_slots is_bundle turns b n
+unfoldable pub first_note : (stop : ℕ) → (is_bundle : ℕ → Bool) → (turns : ℕ) → Sequence → Entries → Entries
+first_note stop is_bundle turns b n = risen_below stop most_slots is_bundle turns b n

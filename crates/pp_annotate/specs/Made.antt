@@ -1,11 +1,12 @@
 -- The certificate that is made of a plan: what is held at each place, noted statement by statement. Nothing is tested
--- here: a statement that may not happen is noted as if it did. `is_bundle` tells which slots are bundles.
-use Rattle.std.specs.Prelude.{ℕ, min, max, Bool, false, is_some, if◌then◌else◌, List, [], ◌∷◌, ◌++◌}
+-- here: a statement that may not happen is noted as if it did. `is_bundle` tells which slots are bundles, and `stop` where
+-- counting their pages stops.
+use Rattle.std.specs.Prelude.{ℕ, min, max, Bool, Some, is_some, if◌then◌else◌, List, [], ◌∷◌, ◌++◌}
 use Rattle.pp_plan.specs.Tree.{Step, fix, unfix, latch, unlatch, gather, scatter, Statement, step, loop, choice}
 use Rattle.pp_plan.specs.Tree.{Sequence, skip, andthen, Alternatives, none, either}
 use Rattle.pp_plan.specs.Rules.{uses_bundle}
 use Rattle.pp_plan.specs.Terms.{Terms}
-use Rattle.pp_cert.specs.Limits.{counted}
+use Rattle.pp_cert.specs.Limits.{counted, most_counted}
 use Rattle.pp_cert.specs.Claims.{Claims}
 use Rattle.pp_cert.specs.declared.note.Entry.{Entry}
 use Rattle.pp_cert.specs.declared.note.Entry.TheVariants.{Slot}
@@ -21,57 +22,56 @@ use Rattle.pp_annotate.specs.Growth.{first_note}
 abbrev pub with_page : Entry → Entries → Entries
 with_page e n = if is_some (noted_at n (entry_slot e)) then n else slot_insert entry_slot e n
 
--- After a step: what the check expects where the step may happen, with bounds that are counted no further than to the first
--- that is too large.
-abbrev pub after_step : Step → Entries → Entries
-after_step (fix s r) n = with_page (Slot s r Free) n
-after_step (unfix s) n = noted_with false (unfix s) n
-after_step (latch s m) n = noted_with false (latch s m) n
-after_step (unlatch s) n = noted_with false (unlatch s) n
-after_step (gather s r) n = noted_with false (gather s r) n
-after_step (scatter s) n = noted_with false (scatter s) n
+-- After a step: what the check expects where the step may happen, with bounds that are counted up to the stop.
+abbrev pub after_step : (stop : ℕ) → Step → Entries → Entries
+after_step stop (fix s r) n = with_page (Slot s r Free) n
+after_step stop (unfix s) n = noted_with (Some stop) (unfix s) n
+after_step stop (latch s m) n = noted_with (Some stop) (latch s m) n
+after_step stop (unlatch s) n = noted_with (Some stop) (unlatch s) n
+after_step stop (gather s r) n = noted_with (Some stop) (gather s r) n
+after_step stop (scatter s) n = noted_with (Some stop) (scatter s) n
 
 abbrev mutual
   -- After a loop what is noted at the end of its body; after a choice what is noted at the end of its first branch.
-  pub after_statement : (is_bundle : ℕ → Bool) → Statement → Entries → Entries
-  after_statement is_bundle (step s) n = after_step s n
-  after_statement is_bundle (loop c b) n = after_sequence is_bundle b (first_note is_bundle c b n)
-  after_statement is_bundle (choice bs) n = after_first is_bundle bs n
+  pub after_statement : (stop : ℕ) → (is_bundle : ℕ → Bool) → Statement → Entries → Entries
+  after_statement stop is_bundle (step s) n = after_step stop s n
+  after_statement stop is_bundle (loop c b) n = after_sequence stop is_bundle b (first_note stop is_bundle c b n)
+  after_statement stop is_bundle (choice bs) n = after_first stop is_bundle bs n
 
-  pub after_sequence : (is_bundle : ℕ → Bool) → Sequence → Entries → Entries
-  after_sequence is_bundle skip n = n
-  after_sequence is_bundle (andthen s b) n = after_sequence is_bundle b (after_statement is_bundle s n)
+  pub after_sequence : (stop : ℕ) → (is_bundle : ℕ → Bool) → Sequence → Entries → Entries
+  after_sequence stop is_bundle skip n = n
+  after_sequence stop is_bundle (andthen s b) n = after_sequence stop is_bundle b (after_statement stop is_bundle s n)
 
   -- At the end of the first branch; the same as before where there is none.
-  pub after_first : (is_bundle : ℕ → Bool) → Alternatives → Entries → Entries
-  after_first is_bundle none n = n
-  after_first is_bundle (either b bs) n = after_sequence is_bundle b n
+  pub after_first : (stop : ℕ) → (is_bundle : ℕ → Bool) → Alternatives → Entries → Entries
+  after_first stop is_bundle none n = n
+  after_first stop is_bundle (either b bs) n = after_sequence stop is_bundle b n
 
 -- ---- the notes, in the order of their places
 
 abbrev mutual
   -- Those inside a statement: of its bodies. A loop's begins with what is noted before its last turn, and a branch with what
   -- is noted before the choice.
-  pub statement_notes : (is_bundle : ℕ → Bool) → Statement → Entries → List Entries
-  statement_notes is_bundle (step s) n = []
-  statement_notes is_bundle (loop c b) n =
-      first_note is_bundle c b n ∷ sequence_notes is_bundle b (first_note is_bundle c b n)
-  statement_notes is_bundle (choice bs) n = branches_notes is_bundle bs n
+  pub statement_notes : (stop : ℕ) → (is_bundle : ℕ → Bool) → Statement → Entries → List Entries
+  statement_notes stop is_bundle (step s) n = []
+  statement_notes stop is_bundle (loop c b) n =
+      first_note stop is_bundle c b n ∷ sequence_notes stop is_bundle b (first_note stop is_bundle c b n)
+  statement_notes stop is_bundle (choice bs) n = branches_notes stop is_bundle bs n
 
   -- Those of a body after its first one: for each statement the ones inside it, and then the one after it.
-  pub sequence_notes : (is_bundle : ℕ → Bool) → Sequence → Entries → List Entries
-  sequence_notes is_bundle skip n = []
-  sequence_notes is_bundle (andthen s b) n =
-      statement_notes is_bundle s n ++ after_statement is_bundle s n
-      ∷ sequence_notes is_bundle b (after_statement is_bundle s n)
+  pub sequence_notes : (stop : ℕ) → (is_bundle : ℕ → Bool) → Sequence → Entries → List Entries
+  sequence_notes stop is_bundle skip n = []
+  sequence_notes stop is_bundle (andthen s b) n =
+      statement_notes stop is_bundle s n ++ after_statement stop is_bundle s n
+      ∷ sequence_notes stop is_bundle b (after_statement stop is_bundle s n)
 
-  pub branches_notes : (is_bundle : ℕ → Bool) → Alternatives → Entries → List Entries
-  branches_notes is_bundle none n = []
-  branches_notes is_bundle (either b bs) n = (n ∷ sequence_notes is_bundle b n) ++ branches_notes is_bundle bs n
+  pub branches_notes : (stop : ℕ) → (is_bundle : ℕ → Bool) → Alternatives → Entries → List Entries
+  branches_notes stop is_bundle none n = []
+  branches_notes stop is_bundle (either b bs) n = (n ∷ sequence_notes stop is_bundle b n) ++ branches_notes stop is_bundle bs n
 
 -- All notes of a plan; the first one is empty.
 abbrev pub made_notes : Terms → List Entries
-made_notes p = [] ∷ sequence_notes (uses_bundle p.body) p.body []
+made_notes p = [] ∷ sequence_notes (most_counted p.layout) (uses_bundle p.body) p.body []
 
 -- The most pages that a note pins.
 abbrev pub greatest : List Entries → ℕ

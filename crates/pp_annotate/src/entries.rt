@@ -1,12 +1,12 @@
 //! What is held after a step, from what is held before it.
 
-ghost use Rattle.std.specs.Prelude.{◌≡◌, false, IfOk, is_some, nat_lt, position};
+ghost use Rattle.std.specs.Prelude.{◌≡◌, IfOk, is_some, nat_lt, position};
 ghost use Rattle.pp_cert.specs.Notes.{entry_slot, is_slot, noted_at, noted_as, without_page, bound_at, one_more, without_bundle};
 ghost use Rattle.pp_cert.specs.Notes.{with_bound};
 ghost use Rattle.pp_cert.specs.Slots.{slot_insert};
 ghost use Rattle.pp_annotate.specs.Made.{with_page};
 
-use pp_cert::{Entry, Held, MOST_COUNTED};
+use pp_cert::{Entry, Held};
 use std::alloc::{AllocError, Global};
 
 /// The place of the slot's entry, if it has one.
@@ -89,7 +89,7 @@ pub fn held_as(
 }
 
 /// The most pages that the bundle pins, as the note says; 0 without an entry.
-pub fn bound_at(note: &[Entry], slot: u8) -> u16
+pub fn bound_at(note: &[Entry], slot: u8) -> u32
     ensures { result ≡ bound_at note.now slot }
 {
     match note.iter().find(|entry| entry.is_bundle_of(slot)) {
@@ -112,7 +112,7 @@ pub(crate) fn bounded(
     alloc: Global,
     before: &[Entry],
     slot: u8,
-    bound: u16,
+    bound: u32,
 ) -> Result<Vec<Entry>, AllocError>
     ensures { IfOk result (λ after. after.items ≡ with_bound slot bound before.now) }
 {
@@ -120,12 +120,16 @@ pub(crate) fn bounded(
     put_in(alloc, &others, Entry::Bundle { slot, bound })
 }
 
-/// What is held with one more page in the bundle, whose bound counts no further than to the first that is too large.
-/// `AllocError` where memory runs out.
-pub fn gathered(alloc: Global, before: &[Entry], slot: u8) -> Result<Vec<Entry>, AllocError>
+/// What is held with one more page in the bundle, whose bound is counted up to the stop. `AllocError` where memory runs out.
+pub fn gathered(
+    alloc: Global,
+    before: &[Entry],
+    slot: u8,
+    stop: u32,
+) -> Result<Vec<Entry>, AllocError>
     ensures { IfOk result (λ after. after.items
-        ≡ with_bound slot (one_more false (bound_at before.now slot)) before.now) }
+        ≡ with_bound slot (one_more (Some stop) (bound_at before.now slot)) before.now) }
 {
-    let bound = bound_at(before, slot).saturating_add(1).min(MOST_COUNTED);
+    let bound = bound_at(before, slot).saturating_add(1).min(stop);
     bounded(alloc, before, slot, bound)
 }

@@ -60,9 +60,10 @@ pub fn annotate(
         → AnswersAs result (Err fault) }
     // Of any plan: no certificate comes past the fault that is answered, where that is one of what the plan does.
     ensures wall { IfFault result (λ fault. IsBeforeLimits fault → IsWall (geometry_of settings.now) plan.now fault) }
-    // Of any plan of which no run gathers more than 4,097 pages: where the first test that some certificate fails is one of what
-    // the plan does, its fault is the answer. The certificate may note any bounds inside its loops.
-    ensures own { sequence_gathers plan.now.body ≤ most_counted → (d : Claims) (test : Test) → HasOwnBundles plan.now d
+    // Of any plan of which no run gathers more pages than are counted: where the first test that some certificate fails is one of
+    // what the plan does, its fault is the answer. The certificate may note any bounds inside its loops.
+    ensures own { sequence_gathers plan.now.body ≤ most_counted plan.now.layout → (d : Claims) (test : Test)
+        → HasOwnBundles plan.now d
         → first_failed (geometry_of settings.now) d (tests plan.now) ≡ Some test
         → IsOfPlan test
         → AnswersAs result (Err (fault_of test)) }
@@ -95,7 +96,7 @@ fn made(alloc: Global, plan: &Plan) -> Result<Certificate, AllocError>
 /// The notes of the plan's statements, the first of which is empty.
 fn notes_of(alloc: Global, plan: &Plan, stmts: &[Stmt]) -> Result<Vec<Note>, AllocError>
     ensures { IfOk result (λ notes. notes.items
-        ≡ [] ∷ sequence_notes (uses_bundle plan.now.body) (sequence_of stmts.now) []) }
+        ≡ [] ∷ sequence_notes (most_counted plan.now.layout) (uses_bundle plan.now.body) (sequence_of stmts.now) []) }
 {
     let mut draft = Draft::new(alloc);
     draft.write(alloc, &[])?;

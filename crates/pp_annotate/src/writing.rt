@@ -4,6 +4,7 @@ ghost use Rattle.std.specs.Prelude.{◌≡◌, ◌++◌, [], ◌∷◌, IfOk, On
 ghost use Rattle.pp_plan.specs.Tree.{loop};
 ghost use Rattle.pp_plan.specs.Rules.{uses_bundle};
 ghost use Rattle.pp_plan.specs.View.{statement_of, sequence_of, alternatives_of};
+ghost use Rattle.pp_cert.specs.Limits.{most_counted};
 ghost use Rattle.pp_cert.specs.Notes.{bound_at};
 ghost use Rattle.pp_annotate.specs.Growth.{rise, risen, with_rise, first_note};
 ghost use Rattle.pp_annotate.specs.Made.{after_statement, after_sequence, after_first, statement_notes, sequence_notes};
@@ -11,7 +12,7 @@ ghost use Rattle.pp_annotate.specs.Made.{branches_notes};
 
 use crate::entries::{bound_at, bounded, gathered, held_as, inserted, removed, scattered};
 use crate::growth::first_bound;
-use pp_cert::{Entry, Held, Note};
+use pp_cert::{Entry, Held, Note, most_counted};
 use pp_plan::{Body, Branches, Plan, Stmt};
 use std::alloc::{AllocError, Global};
 
@@ -29,12 +30,13 @@ pub fn first_note(
     before: &[Entry],
 ) -> Result<Vec<Entry>, AllocError>
     ensures { IfOk result (λ first. first.items
-        ≡ first_note (uses_bundle plan.now.body) turns body.now before.now) }
+        ≡ first_note (most_counted plan.now.layout) (uses_bundle plan.now.body) turns body.now before.now) }
 {
+    let stop = most_counted(&plan.layout());
     let mut first = Vec::from_slice(alloc, before)?;
     for slot in 0..SLOTS {
         if plan.is_bundle(slot) {
-            first = risen(alloc, turns, body, slot, first)?;
+            first = risen(alloc, turns, body, slot, first, stop)?;
         }
     }
     Ok(first)
@@ -47,12 +49,13 @@ fn risen(
     body: &Body,
     slot: u8,
     note: Vec<Entry>,
+    stop: u32,
 ) -> Result<Vec<Entry>, AllocError>
     ensures { IfOk result (λ first. first.items
-        ≡ with_rise slot (risen (bound_at note.items slot) (rise turns body.now slot)) note.items) }
+        ≡ with_rise slot (risen stop (bound_at note.items slot) (rise turns body.now slot)) note.items) }
 {
     let before = bound_at(&note, slot);
-    let bound = first_bound(turns, body, slot, before);
+    let bound = first_bound(turns, body, slot, before, stop);
     if bound == before {
         return Ok(note);
     }
@@ -103,9 +106,10 @@ impl Draft {
         stmts: &[Stmt],
     ) -> Result<Vec<Entry>, AllocError>
         ensures notes { OnOk result (self.new.notes.items
-            ≡ self.old.notes.items ++ sequence_notes (uses_bundle plan.now.body) (sequence_of stmts.now) before.now) }
+            ≡ self.old.notes.items
+            ++ sequence_notes (most_counted plan.now.layout) (uses_bundle plan.now.body) (sequence_of stmts.now) before.now) }
         ensures after { IfOk result (λ after. after.items
-            ≡ after_sequence (uses_bundle plan.now.body) (sequence_of stmts.now) before.now) }
+            ≡ after_sequence (most_counted plan.now.layout) (uses_bundle plan.now.body) (sequence_of stmts.now) before.now) }
     {
         let mut current = Vec::from_slice(alloc, before)?;
         for stmt in stmts {
@@ -126,9 +130,10 @@ impl Draft {
         stmt: &Stmt,
     ) -> Result<Vec<Entry>, AllocError>
         ensures notes { OnOk result (self.new.notes.items
-            ≡ self.old.notes.items ++ statement_notes (uses_bundle plan.now.body) (statement_of stmt.now) before.now) }
+            ≡ self.old.notes.items
+            ++ statement_notes (most_counted plan.now.layout) (uses_bundle plan.now.body) (statement_of stmt.now) before.now) }
         ensures after { IfOk result (λ after. after.items
-            ≡ after_statement (uses_bundle plan.now.body) (statement_of stmt.now) before.now) }
+            ≡ after_statement (most_counted plan.now.layout) (uses_bundle plan.now.body) (statement_of stmt.now) before.now) }
     {
         match stmt {
             Stmt::Fix { slot, region } => {
@@ -142,7 +147,9 @@ impl Draft {
             Stmt::Unfix { slot } => removed(alloc, before, *slot),
             Stmt::Latch { slot, mode } => held_as(alloc, before, Held::from(*mode), *slot),
             Stmt::Unlatch { slot } => held_as(alloc, before, Held::Free, *slot),
-            Stmt::Gather { slot, .. } => gathered(alloc, before, *slot),
+            Stmt::Gather { slot, .. } => {
+                gathered(alloc, before, *slot, most_counted(&plan.layout()))
+            }
             Stmt::Scatter { slot } => scattered(alloc, before, *slot),
             Stmt::Loop { count, body } => self.turns(alloc, plan, before, *count, body),
             Stmt::Choice { branches } => self.choice(alloc, plan, before, branches),
@@ -160,8 +167,10 @@ impl Draft {
         body: &Body,
     ) -> Result<Vec<Entry>, AllocError>
         ensures notes { OnOk result (self.new.notes.items
-            ≡ self.old.notes.items ++ (before.now ∷ sequence_notes (uses_bundle plan.now.body) body.now before.now)) }
-        ensures after { IfOk result (λ after. after.items ≡ after_sequence (uses_bundle plan.now.body) body.now before.now) }
+            ≡ self.old.notes.items
+            ++ (before.now ∷ sequence_notes (most_counted plan.now.layout) (uses_bundle plan.now.body) body.now before.now)) }
+        ensures after { IfOk result (λ after. after.items
+            ≡ after_sequence (most_counted plan.now.layout) (uses_bundle plan.now.body) body.now before.now) }
     {
         self.write(alloc, before)?;
         self.sequence(alloc, plan, before, body.stmts())
@@ -179,9 +188,10 @@ impl Draft {
         body: &Body,
     ) -> Result<Vec<Entry>, AllocError>
         ensures notes { OnOk result (self.new.notes.items
-            ≡ self.old.notes.items ++ statement_notes (uses_bundle plan.now.body) (loop count body.now) before.now) }
+            ≡ self.old.notes.items
+            ++ statement_notes (most_counted plan.now.layout) (uses_bundle plan.now.body) (loop count body.now) before.now) }
         ensures after { IfOk result (λ after. after.items
-            ≡ after_statement (uses_bundle plan.now.body) (loop count body.now) before.now) }
+            ≡ after_statement (most_counted plan.now.layout) (uses_bundle plan.now.body) (loop count body.now) before.now) }
     {
         let first = first_note(alloc, plan, count, body, before)?;
         self.inside(alloc, plan, &first, body)
@@ -199,8 +209,10 @@ impl Draft {
         branches: &Branches,
     ) -> Result<Vec<Entry>, AllocError>
         ensures notes { OnOk result (self.new.notes.items
-            ≡ self.old.notes.items ++ branches_notes (uses_bundle plan.now.body) branches.now before.now) }
-        ensures after { IfOk result (λ after. after.items ≡ after_first (uses_bundle plan.now.body) branches.now before.now) }
+            ≡ self.old.notes.items
+            ++ branches_notes (most_counted plan.now.layout) (uses_bundle plan.now.body) branches.now before.now) }
+        ensures after { IfOk result (λ after. after.items
+            ≡ after_first (most_counted plan.now.layout) (uses_bundle plan.now.body) branches.now before.now) }
     {
         let Some((first, later)) = branches.bodies().split_first() else {
             return Vec::from_slice(alloc, before);
@@ -221,7 +233,8 @@ impl Draft {
         bodies: &[Body],
     ) -> Result<(), AllocError>
         ensures { OnOk result (self.new.notes.items
-            ≡ self.old.notes.items ++ branches_notes (uses_bundle plan.now.body) (alternatives_of bodies.now) before.now) }
+            ≡ self.old.notes.items
+            ++ branches_notes (most_counted plan.now.layout) (uses_bundle plan.now.body) (alternatives_of bodies.now) before.now) }
     {
         for body in bodies {
             self.inside(alloc, plan, before, body)?;

@@ -4,10 +4,11 @@
 //! same of so many misses with no page held, with 1,000, 4,000 and all of 4,096. `pp_bench marks OPS [FRAMES]` prints how many
 //! pages were brought in, each in place of another. `pp_bench moves hit|skew|loop|mixed OPS` plays fixes, latches, unlatches and
 //! unfixes to the core, and `pp_bench pool` the same to a vault over pages in memory; both print how many pages were read.
+//! `pp_bench large` is `pp_bench pool` with 65,536 frames and 1,048,576 pages of 512 bytes, and `pp_bench open` opens such a vault.
 //! `pp_bench lives` plays the trace twice, in two lives of one vault, and prints how many pages each of them read. `pp_bench
 //! journal LINES` writes a journal of at least so many lines, and `pp_bench audit LINES` audits it from standard input; it prints
 //! how many lines there were.
-//! On standard error each run but `marks` and `journal` says what one operation, one line or the renewal took by the clock,
+//! On standard error each run but `marks` and `journal` says what one operation, one line, the renewal or the opening took by the clock,
 //! from the first one's begin to the last one's end. How long these two take is for the caller to measure.
 #![tactic(auto)]
 
@@ -48,6 +49,8 @@ fn play(rt: &HostRuntime) -> Result<(), Trouble> {
         "marks" => marks::play(rt, &words[2..]),
         "moves" => moves::play(rt, &words[2..]),
         "pool" => pool::play(rt, &words[2..]),
+        "large" => pool::play_large(rt, &words[2..]),
+        "open" => pool::open_large(rt),
         "lives" => pool::play_lives(rt, &words[2..]),
         "journal" => journal::write(rt, &words[2..]),
         "audit" => journal::audit(rt, &words[2..]),

@@ -1,6 +1,7 @@
 //! Plays a trace to the core of a pool, by its moves: each operation is a fix, an S latch, its unlatch, and an unfix.
 
-ghost use Rattle.std.specs.Prelude.{◌≤◌};
+ghost use Rattle.std.specs.Prelude.{◌≡◌, ◌≤◌, IfOk};
+ghost use Rattle.pp_settings.specs.declared.span.Span.TheVariants.{Bounded};
 
 use crate::trouble::Trouble;
 use crate::watch::{self, Counted, Watch};
@@ -19,8 +20,10 @@ pub fn play(rt: &HostRuntime, words: &[String]) -> Result<(), Trouble> {
     play_to(rt, &mut core, accepted, kind, ops)
 }
 
-/// The settings of one worker, and its plan of so many operations.
-pub fn setting(alloc: Global, ops: u64) -> Result<(Settings, Accepted), Trouble> {
+/// The settings of one worker, in which lives are bounded, and its plan of so many operations.
+pub fn setting(alloc: Global, ops: u64) -> Result<(Settings, Accepted), Trouble>
+    ensures { IfOk result (λ made. made.0.span ≡ Bounded) }
+{
     let settings = pp_bench_traces::settings(alloc, 1)?;
     let accepted = pp_bench_traces::accepted(alloc, &settings, ops)?;
     Ok((settings, accepted))

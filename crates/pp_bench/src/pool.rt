@@ -1,13 +1,13 @@
 //! Plays a trace to a vault over pages in memory, on one thread: each operation fixes a page, latches it S, looks at
 //! eight bytes of it, unlatches it and unfixes it. Or it plays the trace in two lives of one vault.
 
-ghost use Rattle.std.specs.Prelude.{◌≡◌, true, IfOk};
+ghost use Rattle.std.specs.Prelude.{◌≡◌, ◌≤◌, true, IfOk};
 ghost use Rattle.pp_vault.specs.Stages.{is_idle_hand, AllIdle};
 
 use crate::trouble::Trouble;
 use crate::watch::{self, Counted, Watch};
 use crate::words;
-use pp_bench_traces::{Kind, PAGES, Trace};
+use pp_bench_traces::{FRAMES, Kind, LARGE_FRAMES, Trace};
 use pp_device::{Device, SoloDevice, image};
 use pp_settings::Settings;
 use pp_vault::{
@@ -15,9 +15,6 @@ use pp_vault::{
     Stage, Stopped, Vault,
 };
 use std::alloc::Global;
-
-/// How many bytes a page has.
-const PAGE_BYTES: usize = 4096;
 
 /// How many bytes each operation looks at: the page's number, which stands at the front of its body.
 const LOOKED_AT: usize = 8;
@@ -33,8 +30,37 @@ struct Pool {
 /// 4,096 frames. Prints how many pages had to be read, and on standard error how many nanoseconds an operation took.
 pub fn play(rt: &HostRuntime, words: &[String]) -> Result<(), Trouble> {
     let (kind, ops) = words::kind_and_ops(words)?;
-    let (misses, nanos) = run(rt, kind, ops)?;
+    let settings = pp_bench_traces::settings(rt.alloc(), 1)?;
+    let (misses, nanos) = run(rt, &settings, Trace::new(kind, FRAMES), ops)?;
     watch::tell(rt, Counted::One(misses), nanos, ops, "an operation")
+}
+
+/// The same with a large pool, of 65,536 frames and 1,048,576 pages of 512 bytes.
+pub fn play_large(rt: &HostRuntime, words: &[String]) -> Result<(), Trouble> {
+    let (kind, ops) = words::kind_and_ops(words)?;
+    let settings = pp_bench_traces::large_settings(rt.alloc())?;
+    let (misses, nanos) = run(rt, &settings, Trace::new(kind, LARGE_FRAMES), ops)?;
+    watch::tell(rt, Counted::One(misses), nanos, ops, "an operation")
+}
+
+/// Opens the vault of a large pool and gives it up. Prints how many frames it has, and on standard error how many nanoseconds
+/// the opening took.
+pub fn open_large(rt: &HostRuntime) -> Result<(), Trouble> {
+    let settings = pp_bench_traces::large_settings(rt.alloc())?;
+    let watch = Watch::start(rt);
+    let opened = Vault::new(rt.alloc(), &settings);
+    let nanos = watch.nanos(rt);
+    let Ok((vault, hands)) = opened else {
+        return Err(Trouble::Memory);
+    };
+    vault.scrap(hands);
+    watch::tell(
+        rt,
+        Counted::One(u64::from(settings.frames())),
+        nanos,
+        1,
+        "the opening",
+    )
 }
 
 /// Plays the trace in one life, and then again in the next. Prints how many pages had to be read in each, and on standard
@@ -53,15 +79,19 @@ struct Lives {
     nanos: Option<u128>,
 }
 
-/// How many pages are read in so many operations of a trace of this kind, and how many nanoseconds the operations took.
-fn run(rt: &HostRuntime, kind: Kind, ops: u64) -> Result<(u64, Option<u128>), Trouble> {
+/// How many pages are read in so many operations of the trace, and how many nanoseconds the operations took.
+fn run(
+    rt: &HostRuntime,
+    settings: &Settings,
+    trace: Trace,
+    ops: u64,
+) -> Result<(u64, Option<u128>), Trouble> {
     let alloc = rt.alloc();
-    let settings = pp_bench_traces::settings(alloc, 1)?;
-    let accepted = pp_bench_traces::accepted(alloc, &settings, ops)?;
-    let (mut pool, mut hands) = pool_of(alloc, &settings)?;
+    let accepted = pp_bench_traces::accepted(alloc, settings, ops)?;
+    let (mut pool, mut hands) = pool_of(alloc, settings)?;
     let watch = Watch::start(rt);
     let played = match hands.part(0) {
-        Some(hand) => pool.play(chair_of(hand), accepted, Trace::new(kind, 4096), ops),
+        Some(hand) => pool.play(chair_of(hand), accepted, trace, ops),
         None => Err(Stopped::with_nothing()),
     };
     let nanos = watch.nanos(rt);
@@ -87,7 +117,7 @@ fn run_lives(rt: &HostRuntime, kind: Kind, ops: u64) -> Result<Lives, Trouble> {
 fn pool_of(alloc: Global, settings: &Settings) -> Result<(Pool, Hands), Trouble>
     ensures { IfOk result (λ made. AllIdle settings.now.workers made.1.workers) }
 {
-    let device = numbered(alloc)?;
+    let device = numbered(alloc, settings.pages(), settings.page_bytes() as usize)?;
     match Vault::new(alloc, settings) {
         Ok((vault, hands)) => Ok((Pool { vault, device }, hands)),
         Err(_) => Err(Trouble::Memory),
@@ -104,11 +134,13 @@ fn chair_of(hand: Hand) -> Chair
     }
 }
 
-/// A device of all pages, with the number of each at the front of its body.
-fn numbered(alloc: Global) -> Result<SoloDevice, Trouble> {
-    let mut device = SoloDevice::new(alloc, PAGES, PAGE_BYTES)?;
-    let mut bytes = vec![in alloc; 0; PAGE_BYTES]?;
-    for page in 0..PAGES {
+/// A device of so many pages, each of so many bytes, with the number of each page at the front of its body.
+fn numbered(alloc: Global, pages: u32, page_bytes: usize) -> Result<SoloDevice, Trouble>
+    requires { 64 ≤ page_bytes }
+{
+    let mut device = SoloDevice::new(alloc, pages, page_bytes)?;
+    let mut bytes = vec![in alloc; 0; page_bytes]?;
+    for page in 0..pages {
         image::make(&mut bytes, page, 0);
         bytes[image::HEAD..image::HEAD + LOOKED_AT].copy_from_slice(&u64::from(page).to_le_bytes());
         device.write(page, &bytes).map_err(|_| Trouble::Refused)?;
@@ -152,14 +184,14 @@ impl Pool {
         kind: Kind,
         ops: u64,
     ) -> Result<(Chair, Lives), Stopped> {
-        let (chair, cold) = self.play(chair, first, Trace::new(kind, 4096), ops)?;
+        let (chair, cold) = self.play(chair, first, Trace::new(kind, FRAMES), ops)?;
         let watch = Watch::start(rt);
         let renewed = self.vault.renew();
         let nanos = watch.nanos(rt);
         if renewed.is_err() {
             return Err(Stopped::at(Stage::Idle(chair)));
         }
-        let (chair, warm) = self.play(chair, second, Trace::new(kind, 4096), ops)?;
+        let (chair, warm) = self.play(chair, second, Trace::new(kind, FRAMES), ops)?;
         Ok((chair, Lives { cold, warm, nanos }))
     }
 

@@ -2,7 +2,10 @@
 #![tactic(auto)]
 
 pub use error::PlanError;
-pub use plans::{FRAMES, MOST_OPS, accepted, accepted_while_held, settings};
+pub use plans::{
+    FRAMES, LARGE_FRAMES, LARGE_PAGES, MOST_OPS, accepted, accepted_while_held, large_settings,
+    settings,
+};
 pub use trace::{Kind, PAGES, Trace};
 pub use trouble::Trouble;
 

@@ -1,5 +1,8 @@
 //! The plan that a worker follows, and the settings of its pool.
 
+ghost use Rattle.std.specs.Prelude.{◌≡◌, IfOk};
+ghost use Rattle.pp_settings.specs.declared.span.Span.TheVariants.{Bounded};
+
 use crate::error::PlanError;
 use pp_annotate::annotate;
 use pp_cert::{Accepted, check};
@@ -12,6 +15,12 @@ pub const MOST_OPS: u64 = 250_000;
 
 /// How many frames the pools have.
 pub const FRAMES: u32 = 4096;
+
+/// How many frames the large pools have.
+pub const LARGE_FRAMES: u32 = 65_536;
+
+/// How many page numbers the large pools have.
+pub const LARGE_PAGES: u32 = 1 << 20;
 
 /// The most turns that a loop has.
 const LONGEST: u64 = 65_535;
@@ -26,12 +35,14 @@ const GATHER: &str = "{\"gather\":\"held\",\"region\":\"all\"}";
 /// All pages that are held are given back.
 const SCATTER: &str = "{\"scatter\":\"held\"}";
 
-/// 4,096 frames, a region of all page numbers, pages of 4,096 bytes, no flush, and so many workers.
+/// 4,096 frames, a region of all page numbers of version 1, pages of 4,096 bytes, no flush, and so many workers. Lives are bounded.
 ///
 /// # Errors
 ///
 /// [`PlanError::Refused`] where these aren't 1 to 32 workers. Memory may run out.
-pub fn settings(alloc: Global, workers: u32) -> Result<Settings, PlanError> {
+pub fn settings(alloc: Global, workers: u32) -> Result<Settings, PlanError>
+    ensures { IfOk result (λ settings. settings.span ≡ Bounded) }
+{
     let text = format!(in alloc;
         "frames = {FRAMES}
 page_bytes = 4096
@@ -41,6 +52,34 @@ flushes = 0
 name = \"all\"
 first = 0
 count = 65536
+class = 0
+"
+    )?;
+    let settings = Settings::from_text(alloc, text.as_str()).map_err(|_| PlanError::Refused)?;
+    match settings.see_bounded() {
+        Ok(()) => Ok(settings),
+        Err(_) => Err(PlanError::Refused),
+    }
+}
+
+/// Those of a large pool, which are of version 2: 65,536 frames, a region of 1,048,576 pages, pages of 512 bytes, no flush, and one
+/// worker. Its lives are bounded.
+///
+/// # Errors
+///
+/// Memory may run out.
+pub fn large_settings(alloc: Global) -> Result<Settings, PlanError> {
+    let text = format!(in alloc;
+        "version = 2
+frames = {LARGE_FRAMES}
+page_bytes = 512
+workers = 1
+waiting = 0
+flushes = 0
+[[region]]
+name = \"all\"
+first = 0
+count = {LARGE_PAGES}
 class = 0
 "
     )?;

@@ -15,7 +15,8 @@ use Rattle.pp_text.specs.Objects.{has_only_keys, Holds}
 use Rattle.pp_text.proofs.Steps.{bind_ok, must_ok, ok_or_ok}
 use Rattle.pp_text.proofs.Keys.{only_found, only_again}
 use Rattle.pp_text.proofs.Values.{array_is, object_is, string_is, number_is, list_is}
-use Rattle.pp_settings.specs.Settings.{Configuration, region_named}
+use Rattle.pp_settings.specs.Layout.{Geometry}
+use Rattle.pp_settings.specs.Settings.{Configuration, geometry_of, region_named}
 use Rattle.pp_plan.specs.Terms.{Terms}
 use Rattle.pp_plan.specs.Slots.{slot_named}
 use Rattle.pp_plan.specs.Rules.{uses_bundle}
@@ -75,15 +76,15 @@ before_form no_region b = b
 before_form other_kind b = b
 
 form_told : (c : Configuration) (p : Terms) (w : Written) (e : CertError) → WrongField ≡ e → ¬ IsPageForm w.value
-    → ¬ IsBundleForm w.value → EntryTold c p w e
+    → ¬ IsBundleForm c w.value → EntryTold c p w e
 form_told c p w e is no_page no_bundle = (other_form, is, ((no_page, no_bundle), λ g b. absurd (before_form g b)))
 
 -- a number is no list, and only a number is a bundle's entry
 page_is_list : (d : Data) (name : List ℕ) (rest : Items) → d ≡ array (item (string name) rest) → as_number d ≡ None
 page_is_list d name rest is = ap as_number is
 
-bundle_is_number : (d : Data) → as_number d ≡ None → ¬ IsBundleForm d
-bundle_is_number d none has = none_some (as_number d) (unsigned has.0) none (ap as_number has.2)
+bundle_is_number : (c : Configuration) (d : Data) → as_number d ≡ None → ¬ IsBundleForm c d
+bundle_is_number c d none has = none_some (as_number d) (unsigned has.0) none (ap as_number has.2)
 
 parts_are : (x y a b : Data) (d : Data) → d ≡ array (item x (item y no_items)) → d ≡ array (item a (item b no_items))
     → (a ≡ x) × (b ≡ y)
@@ -105,7 +106,7 @@ module _ (c : Configuration) (p : Terms) where
   unfolding read_page
   page_first key d e other h =
       let w : Written = record { name = key; value = d } in
-      let told = λ (is : WrongField ≡ e) (no : ¬ IsPageForm d). form_told c p w e is no (bundle_is_number d other) in
+      let told = λ (is : WrongField ≡ e) (no : ¬ IsPageForm d). form_told c p w e is no (bundle_is_number c d other) in
       step (ok_or (as_array d) WrongField) _ e h
       (λ bad.
       let (none, is) = ok_or_err (as_array d) WrongField e bad in
@@ -185,20 +186,21 @@ module _ (c : Configuration) (p : Terms) where
           none_some (region_named c form.0) region (ap (region_named c) (sym same) ∙ has.3) there
       kind_before w form slot region known there other_kind b has = b
 
-  bundle_first : (key : List ℕ) (n : Num) (e : CertError) → read_bundle p key (number n) ≡ Err e
+  bundle_first : (key : List ℕ) (n : Num) (e : CertError) → read_bundle c p key (number n) ≡ Err e
       → EntryTold c p (record { name = key; value = number n }) e
   unfolding read_bundle
   bundle_first key n e h =
       let d : Data = number n in
       let w : Written = record { name = key; value = d } in
-      step (ok_or (bound_of d) WrongField) _ e h
+      let g : Geometry = geometry_of c in
+      step (ok_or (bound_of g d) WrongField) _ e h
       (λ bad.
-      let (none, is) = ok_or_err (bound_of d) WrongField e bad in
+      let (none, is) = ok_or_err (bound_of g d) WrongField e bad in
       form_told c p w e is (λ f. no_list n f.0 _ f.2)
-      (λ f. none_some (bound_of d) f.0 none (ap bound_of f.2 ∙ bound_again f.0 f.1)))
+      (λ f. none_some (bound_of g d) f.0 none (ap (bound_of g) f.2 ∙ bound_again g f.0 f.1)))
       (λ bound k h1.
-      let (value, within) = bound_is d bound (ok_or_ok _ _ bound k) in
-      let form : IsBundleForm d = (bound, within, value) in
+      let (value, within) = bound_is g d bound (ok_or_ok _ _ bound k) in
+      let form : IsBundleForm c d = (bound, within, value) in
       step (ok_or (slot_named p key) UnknownName) _ e h1
       (λ bad.
       let (none, is) = ok_or_err (slot_named p key) UnknownName e bad in
@@ -214,14 +216,14 @@ module _ (c : Configuration) (p : Terms) where
       no_list : (n : Num) (name : List ℕ) (rest : Items) → number n ≡ array (item (string name) rest) → ⊥
       no_list n name rest is = none_some (as_number (number n)) n (page_is_list (number n) name rest is) refl
 
-      slot_before : IsBundleForm (number n) → (g : EntryFault) → EntryBefore g no_slot
+      slot_before : IsBundleForm c (number n) → (g : EntryFault) → EntryBefore g no_slot
           → ¬ HasEntryFault c p (record { name = key; value = number n }) g
       slot_before form other_form b has = has.1 form
       slot_before form no_slot b has = b
       slot_before form no_region b has = b
       slot_before form other_kind b has = b
 
-      kind_before : IsBundleForm (number n) → (slot : ℕ) → slot_named p key ≡ Some slot
+      kind_before : IsBundleForm c (number n) → (slot : ℕ) → slot_named p key ≡ Some slot
           → (g : EntryFault) → EntryBefore g other_kind
           → ¬ HasEntryFault c p (record { name = key; value = number n }) g
       kind_before form slot known other_form b has = has.1 form

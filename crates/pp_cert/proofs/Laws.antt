@@ -16,7 +16,7 @@ use Rattle.pp_text.specs.Objects.{has_only_keys}
 use Rattle.pp_text.proofs.Steps.{bind_ok, must_ok, ok_or_ok, ok_is}
 use Rattle.pp_text.proofs.Keys.{only_found, only_again}
 use Rattle.pp_text.proofs.Values.{array_is, object_is, string_is, number_is, list_is}
-use Rattle.pp_settings.specs.Settings.{Configuration, region_named}
+use Rattle.pp_settings.specs.Settings.{Configuration, geometry_of, region_named}
 use Rattle.pp_plan.specs.Terms.{Terms}
 use Rattle.pp_plan.specs.Slots.{slot_named}
 use Rattle.pp_plan.specs.Rules.{uses_bundle}
@@ -64,15 +64,15 @@ page_found c p key d e h =
       value = is;
     })
 
-bundle_found : (c : Configuration) (p : Terms) (key : List ℕ) (d : Data) (e : Entry) → read_bundle p key d ≡ Ok e
+bundle_found : (c : Configuration) (p : Terms) (key : List ℕ) (d : Data) (e : Entry) → read_bundle c p key d ≡ Ok e
     → SpellsEntry c p key d e
 unfolding read_bundle
 bundle_found c p key d e h =
-    let (bound, k, h1) = bind_ok (ok_or (bound_of d) WrongField) _ e h in
+    let (bound, k, h1) = bind_ok (ok_or (bound_of (geometry_of c) d) WrongField) _ e h in
     let (slot, s, h2) = bind_ok (ok_or (slot_named p key) UnknownName) _ e h1 in
     let (x, bundle, h3) = bind_ok (must (uses_bundle p.body slot) WrongKind) _ e h2 in
     let made : Entry = Bundle slot bound in
-    let (is, within) = bound_is d bound (ok_or_ok _ _ bound k) in
+    let (is, within) = bound_is (geometry_of c) d bound (ok_or_ok _ _ bound k) in
     subst (λ (x : Entry). SpellsEntry c p key d x) (ok_is made e h3)
     (record { slot = ok_or_ok _ _ slot s; bundle = must_ok _ _ x bundle; bound = within; value = is })
 
@@ -86,7 +86,7 @@ pub entry_again : (c : Configuration) (p : Terms) (key : List ℕ) (d : Data) (e
     → read_entry c p key d ≡ Ok e
 unfolding read_entry read_page read_bundle
 entry_again c p key d (Slot t r h) s = rw (s.value, held_again h, s.slot, s.region, s.plain) refl
-entry_again c p key d (Bundle t k) s = rw (s.value, bound_again k s.bound, s.slot, s.bundle) refl
+entry_again c p key d (Bundle t k) s = rw (s.value, bound_again (geometry_of c) k s.bound, s.slot, s.bundle) refl
 
 pub entries_found : (c : Configuration) (p : Terms) (earlier : List Entry) (ms : Members) (all : List Entry)
     → entries_from c p earlier ms ≡ Ok all → (es : List Entry) × (all ≡ earlier ++ es) × SpellsEntries c p ms es

@@ -269,7 +269,7 @@ turn_passes g c k before b h =
 pub record AllPass (g : Geometry) (p : Terms) (c : Claims) : Type 0 where
   pub settings : g ≡ p.layout
   pub first : (slice_get c.notes 0 ≡ Some (note_at c 0)) × (note_at c 0 ≡ []) × (note_pins (note_at c 0) ≤ c.peak)
-  pub walk : first_fault g c (sequence_tests true 0 p.body) ≡ None
+  pub walk : first_fault g c (sequence_tests None 0 p.body) ≡ None
   pub last : length (note_at c (sequence_end 0 p.body)) ≡ 0
   pub few : length c.notes ≤ sequence_end 0 p.body + 1
   pub limit : c.steps ≤ most_steps
@@ -282,8 +282,8 @@ all_pass g p c h =
     let longest : ℕ = sequence_longest p.body in
     let finals : List Test = steps_allowed ∷ steps_enough longest ∷ peak_allowed ∷ [] in
     let lasts : List Test = holds_nothing k ∷ no_more_notes (k + 1) ∷ finals in
-    let a = both_pass g c (same_settings p.layout ∷ note_tests 0 empty ++ sequence_tests true 0 p.body) lasts h in
-    let b = both_pass g c (same_settings p.layout ∷ note_tests 0 empty) (sequence_tests true 0 p.body) a.0 in
+    let a = both_pass g c (same_settings p.layout ∷ note_tests 0 empty ++ sequence_tests None 0 p.body) lasts h in
+    let b = both_pass g c (same_settings p.layout ∷ note_tests 0 empty) (sequence_tests None 0 p.body) a.0 in
     let d = first_passes g c (same_settings p.layout) (note_tests 0 empty) b.0 in
     let e1 = first_passes g c (holds_nothing k) (no_more_notes (k + 1) ∷ finals) a.1 in
     let e2 = first_passes g c (no_more_notes (k + 1)) finals e1.1 in
@@ -302,7 +302,7 @@ all_pass g p c h =
     }
 
 -- bounds that are told in full are those of the step
-pub noted_told : (s : Step) (n : Entries) → noted_with true s n ≡ noted_after s n
+pub noted_told : (s : Step) (n : Entries) → noted_with None s n ≡ noted_after s n
 noted_told (fix s r) n = refl
 noted_told (unfix s) n = refl
 noted_told (latch s m) n = refl

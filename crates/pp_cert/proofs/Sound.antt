@@ -283,12 +283,12 @@ module _ (g : Geometry) (l : IsLayout g) (kind : ℕ → Bool) (c : Claims) wher
 
   mutual
     pub statement_goes : (k : ℕ) (s : Statement) → StatementKeeps kind s → note_pins (note_at c k) ≤ c.peak
-        → first_fault g c (statement_tests true k s) ≡ None
-        → first_fault g c (note_tests (statement_end k s) (outcome true k s)) ≡ None → (off : ℕ → ℕ)
+        → first_fault g c (statement_tests None k s) ≡ None
+        → first_fault g c (note_tests (statement_end k s) (outcome None k s)) ≡ None → (off : ℕ → ℕ)
         → MayWait (statement_scatters s) off → (hs : Holdings) → Fits g kind off (note_at c k) hs → (t : List Action)
         → IsStatementTrace g s t → GoesTo off (note_at c (statement_end k s)) hs t
     statement_goes k (step s) is small h n off w hs f t r =
-        let note = note_passes g c (k + 1) (after true s k) n in
+        let note = note_passes g c (k + 1) (after None s k) n in
         let goes = step_goes off k s r.0 hs is w r.2 f h in
         let fit = fits_same off (noted_after s (note_at c k)) (note_at c (k + 1)) goes.1.0
         (sym (note.1 ∙ noted_told s (note_at c k))) goes.1.2 in
@@ -300,9 +300,9 @@ module _ (g : Geometry) (l : IsLayout g) (kind : ℕ → Bool) (c : Claims) wher
         let first : Entries = note_at c (k + 1) in
         let last : Entries = note_at c end in
         let p =
-        both_pass g c (turn_tests (k + 1) k b ++ sequence_tests true (k + 1) b)
+        both_pass g c (turn_tests (k + 1) k b ++ sequence_tests None (k + 1) b)
         (loop_keeps end k b ∷ loop_grows end k (k + 1) turns b ∷ []) h in
-        let q = both_pass g c (turn_tests (k + 1) k b) (sequence_tests true (k + 1) b) p.0 in
+        let q = both_pass g c (turn_tests (k + 1) k b) (sequence_tests None (k + 1) b) p.0 in
         let begins = turn_passes g c (k + 1) k b q.0 in
         let keeps = first_passes g c (loop_keeps end k b) (loop_grows end k (k + 1) turns b ∷ []) p.1 in
         let grows = first_passes g c (loop_grows end k (k + 1) turns b) [] keeps.1 in
@@ -325,9 +325,9 @@ module _ (g : Geometry) (l : IsLayout g) (kind : ℕ → Bool) (c : Claims) wher
     statement_goes k (choice (either b bs)) is small h n off w hs f t r =
         let end : ℕ = sequence_end (k + 1) b in
         let p =
-        both_pass g c (note_tests (k + 1) (same k) ++ sequence_tests true (k + 1) b)
-        (later_tests true k end (end + 1) bs) h in
-        let q = both_pass g c (note_tests (k + 1) (same k)) (sequence_tests true (k + 1) b) p.0 in
+        both_pass g c (note_tests (k + 1) (same k) ++ sequence_tests None (k + 1) b)
+        (later_tests None k end (end + 1) bs) h in
+        let q = both_pass g c (note_tests (k + 1) (same k)) (sequence_tests None (k + 1) b) p.0 in
         let note = note_passes g c (k + 1) (same k) q.0 in
         let last = note_passes g c (alternatives_end (end + 1) bs) (same end) n in
         let to : GoesTo off (note_at c end) hs r.1 =
@@ -344,7 +344,7 @@ module _ (g : Geometry) (l : IsLayout g) (kind : ℕ → Bool) (c : Claims) wher
         (subst (λ x. GoesTo off x hs (Choose r.0 ∷ r.1)) (sym last.1) chosen)
 
     pub sequence_goes : (k : ℕ) (b : Sequence) → IsOfKinds kind b → note_pins (note_at c k) ≤ c.peak
-        → first_fault g c (sequence_tests true k b) ≡ None → (off : ℕ → ℕ) → MayWait (scatters b) off → (hs : Holdings)
+        → first_fault g c (sequence_tests None k b) ≡ None → (off : ℕ → ℕ) → MayWait (scatters b) off → (hs : Holdings)
         → Fits g kind off (note_at c k) hs → (t : List Action) → IsTrace g b t
         → GoesTo off (note_at c (sequence_end k b)) hs t
     sequence_goes k skip is small h off w hs f t r =
@@ -352,9 +352,9 @@ module _ (g : Geometry) (l : IsLayout g) (kind : ℕ → Bool) (c : Claims) wher
     sequence_goes k (andthen s b) is small h off w hs f t r =
         let next : ℕ = statement_end k s in
         let p =
-        both_pass g c (statement_tests true k s ++ note_tests next (outcome true k s)) (sequence_tests true next b) h in
-        let q = both_pass g c (statement_tests true k s) (note_tests next (outcome true k s)) p.0 in
-        let note = note_passes g c next (outcome true k s) q.1 in
+        both_pass g c (statement_tests None k s ++ note_tests next (outcome None k s)) (sequence_tests None next b) h in
+        let q = both_pass g c (statement_tests None k s) (note_tests next (outcome None k s)) p.0 in
+        let note = note_passes g c next (outcome None k s) q.1 in
         subst (λ u. GoesTo off (note_at c (sequence_end k (andthen s b))) hs u) (sym r.2)
         (goes_to off off (note_at c next) (note_at c (sequence_end k (andthen s b))) hs r.0 r.1
         (statement_goes k s is.0 small q.0 q.1 off
@@ -364,28 +364,28 @@ module _ (g : Geometry) (l : IsLayout g) (kind : ℕ → Bool) (c : Claims) wher
 
     -- of the second and later branches
     later_go : (before first k : ℕ) (bs : Alternatives) → BranchesKeep kind bs
-        → first_fault g c (later_tests true before first k bs) ≡ None → (off : ℕ → ℕ) → MayWait (branches_scatter bs) off
+        → first_fault g c (later_tests None before first k bs) ≡ None → (off : ℕ → ℕ) → MayWait (branches_scatter bs) off
         → (hs : Holdings) → Fits g kind off (note_at c before) hs → (i : ℕ) (t : List Action) → IsBranchTrace g bs i t
         → GoesTo off (note_at c first) hs t
     later_go before first k none is h off w hs f i t r = absurd r
     later_go before first k (either b bs) is h off w hs f zero t r =
         let end : ℕ = sequence_end k b in
         let p =
-        both_pass g c (note_tests k (same before) ++ sequence_tests true k b)
-        (branch_agrees end first ∷ later_tests true before first (end + 1) bs) h in
-        let q = both_pass g c (note_tests k (same before)) (sequence_tests true k b) p.0 in
+        both_pass g c (note_tests k (same before) ++ sequence_tests None k b)
+        (branch_agrees end first ∷ later_tests None before first (end + 1) bs) h in
+        let q = both_pass g c (note_tests k (same before)) (sequence_tests None k b) p.0 in
         let note = note_passes g c k (same before) q.0 in
         let agrees =
         note_same (note_at c end) (note_at c first)
-        (first_passes g c (branch_agrees end first) (later_tests true before first (end + 1) bs) p.1).0 in
+        (first_passes g c (branch_agrees end first) (later_tests None before first (end + 1) bs) p.1).0 in
         subst (λ x. GoesTo off x hs t) agrees
         (sequence_goes k b is.0 note.2 q.1 off (λ s e. w s (or_left (scatters b s) (branches_scatter bs s) e)) hs
         (fits_same off (note_at c before) (note_at c k) hs (sym note.1) f) t r)
     later_go before first k (either b bs) is h off w hs f (suc i) t r =
         let end : ℕ = sequence_end k b in
         let p =
-        both_pass g c (note_tests k (same before) ++ sequence_tests true k b)
-        (branch_agrees end first ∷ later_tests true before first (end + 1) bs) h in
-        let rest = first_passes g c (branch_agrees end first) (later_tests true before first (end + 1) bs) p.1 in
+        both_pass g c (note_tests k (same before) ++ sequence_tests None k b)
+        (branch_agrees end first ∷ later_tests None before first (end + 1) bs) h in
+        let rest = first_passes g c (branch_agrees end first) (later_tests None before first (end + 1) bs) p.1 in
         later_go before first (end + 1) bs is.1 rest.1 off
         (λ s e. w s (or_right (scatters b s) (branches_scatter bs s) e)) hs f i t r

@@ -11,6 +11,7 @@ use Rattle.serde_json.specs.Find.{as_str, as_number, as_u64}
 use Rattle.pp_cert.specs.declared.note.Held.{Held}
 use Rattle.pp_cert.specs.declared.note.Held.TheVariants.{Free, S, X}
 use Rattle.pp_cert.specs.Words.{held_text, held_of}
+use Rattle.pp_settings.specs.Layout.{Geometry}
 use Rattle.pp_cert.specs.Limits.{most_bound}
 use Rattle.pp_cert.specs.Claims.{IsBound}
 use Rattle.pp_cert.specs.Reading.{as_two, bound_in}
@@ -51,30 +52,30 @@ held_again X = refl
 -- ---- a bundle's bound
 
 -- The bound that a value spells, if it spells one.
-abbrev pub bound_of : Data → Option ℕ
-bound_of d = option_and_then bound_in (option_and_then as_u64 (as_number d))
+abbrev pub bound_of : Geometry → Data → Option ℕ
+bound_of g d = option_and_then (bound_in g) (option_and_then as_u64 (as_number d))
 
-bound_by_tests : (n k : ℕ) (x y : Bool) → nat_le 1 n ≡ x → nat_le n most_bound ≡ y
-    → ◌≡◌ {A = Option ℕ} (if x && y then Some n else None) (Some k) → (n ≡ k) × IsBound k
-bound_by_tests n k true true a b e =
+bound_by_tests : (g : Geometry) (n k : ℕ) (x y : Bool) → nat_le 1 n ≡ x → nat_le n (most_bound g) ≡ y
+    → ◌≡◌ {A = Option ℕ} (if x && y then Some n else None) (Some k) → (n ≡ k) × IsBound g k
+bound_by_tests g n k true true a b e =
     let same : n ≡ k = cc in
     let some : 1 ≤ n = leb-true 1 n a in
-    let few : n ≤ most_bound = leb-true n most_bound b in
+    let few : n ≤ most_bound g = leb-true n (most_bound g) b in
     (same, (omega (arith, same, some), omega (arith, same, few)))
-bound_by_tests n k true false a b e = absurd cc
-bound_by_tests n k false y a b e = absurd cc
+bound_by_tests g n k true false a b e = absurd cc
+bound_by_tests g n k false y a b e = absurd cc
 
-pub bound_is : (d : Data) (k : ℕ) → bound_of d ≡ Some k → (d ≡ number (unsigned k)) × IsBound k
-bound_is (number (unsigned n)) k e =
-    let (same, is) = bound_by_tests n k _ _ refl refl e in
+pub bound_is : (g : Geometry) (d : Data) (k : ℕ) → bound_of g d ≡ Some k → (d ≡ number (unsigned k)) × IsBound g k
+bound_is g (number (unsigned n)) k e =
+    let (same, is) = bound_by_tests g n k _ _ refl refl e in
     (ap (λ (m : ℕ). number (unsigned m)) same, is)
-bound_is (number (negative z)) k e = absurd cc
-bound_is (number (float x)) k e = absurd cc
-bound_is null k e = absurd cc
-bound_is (boolean b) k e = absurd cc
-bound_is (string text) k e = absurd cc
-bound_is (array es) k e = absurd cc
-bound_is (object ns) k e = absurd cc
+bound_is g (number (negative z)) k e = absurd cc
+bound_is g (number (float x)) k e = absurd cc
+bound_is g null k e = absurd cc
+bound_is g (boolean b) k e = absurd cc
+bound_is g (string text) k e = absurd cc
+bound_is g (array es) k e = absurd cc
+bound_is g (object ns) k e = absurd cc
 
-pub bound_again : (k : ℕ) → IsBound k → bound_in k ≡ Some k
-bound_again k is = rw (le-leb 1 k is.0, le-leb k most_bound is.1) refl
+pub bound_again : (g : Geometry) (k : ℕ) → IsBound g k → bound_in g k ≡ Some k
+bound_again g k is = rw (le-leb 1 k is.0, le-leb k (most_bound g) is.1) refl

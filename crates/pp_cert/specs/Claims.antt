@@ -1,6 +1,7 @@
 -- What a certificate claims, apart from where it lies in memory.
 use Rattle.std.specs.Prelude.{◌≡◌, ℕ, List, ◌<◌, ◌≤◌, length, All, AllPairs}
-use Rattle.pp_settings.specs.Settings.{Configuration}
+use Rattle.pp_settings.specs.Layout.{Geometry}
+use Rattle.pp_settings.specs.Settings.{Configuration, geometry_of}
 use Rattle.pp_plan.specs.Terms.{Terms}
 use Rattle.pp_plan.specs.Rules.{uses_bundle}
 use Rattle.pp_cert.specs.Limits.{most_notes, most_entries, most_bound}
@@ -29,22 +30,22 @@ abbrev pub HasRegion : Configuration → Entry → Type 0
 HasRegion c (Slot s r h) = r < length c.regions
 HasRegion c (Bundle s k) = Unit {0}
 
--- A bound that a bundle's entry can have: from 1 to 4,096, since no entry means 0.
-abbrev pub IsBound : ℕ → Type 0
-IsBound k = (1 ≤ k) × (k ≤ most_bound)
+-- A bound that a bundle's entry can have under a layout: from 1 to the greatest, since no entry means 0.
+abbrev pub IsBound : Geometry → ℕ → Type 0
+IsBound g k = (1 ≤ k) × (k ≤ most_bound g)
 
 -- A bundle's entry has such a bound; a page's has none.
-abbrev pub HasBound : Entry → Type 0
-HasBound (Slot s r h) = Unit {0}
-HasBound (Bundle s k) = IsBound k
+abbrev pub HasBound : Geometry → Entry → Type 0
+HasBound g (Slot s r h) = Unit {0}
+HasBound g (Bundle s k) = IsBound g k
 
 -- The entry's slot is one of the plan's. The entry is a bundle's where the plan uses the slot as a bundle, with a bound from
--- 1 to 4,096; else it is a page's, with a region of the settings.
+-- 1 to the greatest; else it is a page's, with a region of the settings.
 pub record IsEntry (c : Configuration) (p : Terms) (e : Entry) : Type 0 where
   pub slot : entry_slot e < length p.slots
   pub kind : uses_bundle p.body (entry_slot e) ≡ is_bundle e
   pub region : HasRegion c e
-  pub bound : HasBound e
+  pub bound : HasBound (geometry_of c) e
 
 -- The entries are the plan's and the settings', and stand by rising slot.
 pub record IsNote (c : Configuration) (p : Terms) (note : List Entry) : Type 0 where

@@ -8,7 +8,7 @@ use Rattle.serde_json.specs.Data.{no_members, member}
 use Rattle.serde_json.specs.Find.{get, as_array}
 use Rattle.pp_text.specs.First.{IsFirstBy}
 use Rattle.pp_text.specs.Objects.{HasOnly, Holds, elements}
-use Rattle.pp_settings.specs.Settings.{Configuration, region_named}
+use Rattle.pp_settings.specs.Settings.{Configuration, geometry_of, region_named}
 use Rattle.pp_plan.specs.Terms.{Terms}
 use Rattle.pp_plan.specs.Slots.{slot_named}
 use Rattle.pp_plan.specs.Rules.{uses_bundle}
@@ -41,9 +41,9 @@ entries_in (member key d ms) = (record { name = key; value = d }) ∷ entries_in
 abbrev pub IsPageForm : Data → Type 0
 IsPageForm d = (name : List ℕ) × (h : Held) × (d ≡ array (item (string name) (item (string (held_text h)) no_items)))
 
--- The form of a bundle's entry: a whole number from 1 to 4,096.
-abbrev pub IsBundleForm : Data → Type 0
-IsBundleForm d = (k : ℕ) × IsBound k × (d ≡ number (unsigned k))
+-- The form of a bundle's entry: a whole number from 1 to the greatest bound under the settings.
+abbrev pub IsBundleForm : Configuration → Data → Type 0
+IsBundleForm c d = (k : ℕ) × IsBound (geometry_of c) k × (d ≡ number (unsigned k))
 
 -- The value has neither form; the plan has no slot of this name; the settings have no region of that name; the value has the
 -- form of the other kind of slot.
@@ -54,13 +54,13 @@ pub data EntryFault : Type 0 where
   other_kind : EntryFault
 
 abbrev pub HasEntryFault : Configuration → Terms → Written → EntryFault → Type 0
-HasEntryFault c p e other_form = ¬ IsPageForm e.value × ¬ IsBundleForm e.value
+HasEntryFault c p e other_form = ¬ IsPageForm e.value × ¬ IsBundleForm c e.value
 HasEntryFault c p e no_slot = slot_named p e.name ≡ None
 HasEntryFault c p e no_region =
     (name : List ℕ) × (rest : Items) × (e.value ≡ array (item (string name) rest)) × (region_named c name ≡ None)
 HasEntryFault c p e other_kind =
     (slot : ℕ) × (slot_named p e.name ≡ Some slot)
-    × ((IsBundleForm e.value × (uses_bundle p.body slot ≡ false))
+    × ((IsBundleForm c e.value × (uses_bundle p.body slot ≡ false))
     ⊎ (IsPageForm e.value × (uses_bundle p.body slot ≡ true)))
 
 -- The first is told before the second.

@@ -1,5 +1,6 @@
 -- The limits of certificates and of what they claim.
-use Rattle.std.specs.Prelude.{ℕ, ◌+◌}
+use Rattle.std.specs.Prelude.{ℕ, ◌+◌, max}
+use Rattle.pp_settings.specs.Layout.{Geometry}
 
 -- The most notes, and the most entries in a note.
 abbrev pub most_notes : ℕ
@@ -8,13 +9,18 @@ most_notes = 70000
 abbrev pub most_entries : ℕ
 most_entries = 32
 
--- The greatest bound of a bundle. The least is 1, since no entry means 0.
-abbrev pub most_bound : ℕ
-most_bound = 4096
+-- The greatest bound of a bundle in a pool with few frames.
+abbrev pub usual_bound : ℕ
+usual_bound = 4096
 
--- Where counting the pages of a bundle stops: one more than the frames of any pool.
-abbrev pub most_counted : ℕ
-most_counted = most_bound + 1
+-- The greatest bound of a bundle under a layout: that, or as many pages as there are frames, where these are more. The least
+-- is 1, since no entry means 0.
+abbrev pub most_bound : Geometry → ℕ
+most_bound g = max usual_bound g.frames
+
+-- Where counting the pages of a bundle stops under a layout: one more than the greatest bound, so more than there are frames.
+abbrev pub most_counted : Geometry → ℕ
+most_counted g = most_bound g + 1
 
 -- The most steps that a certificate may claim.
 abbrev pub most_steps : ℕ

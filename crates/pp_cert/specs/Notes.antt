@@ -1,6 +1,6 @@
 -- Notes: what a certificate says is held at a place, and what is held there after one more statement.
 use Rattle.std.specs.Prelude.{ℕ, ◌+◌, ◌-◌, ◌*◌, min, Bool, true, false, ◌==◌, ◌&&◌, ◌||◌, not, nat_lt, nat_le, if◌then◌else◌}
-use Rattle.std.specs.Prelude.{find, Option, option_map, List, [], ◌∷◌, slice_get, unwrap_or}
+use Rattle.std.specs.Prelude.{find, Option, None, Some, option_map, List, [], ◌∷◌, slice_get, unwrap_or}
 use Rattle.std.specs.List.{list_all}
 use Rattle.std.specs.Cmp.Lexicographic.{pointwise}
 use Rattle.pp_settings.specs.Layout.{Geometry}
@@ -9,7 +9,6 @@ use Rattle.pp_cert.specs.declared.note.Entry.{Entry}
 use Rattle.pp_cert.specs.declared.note.Entry.TheVariants.{Slot, Bundle}
 use Rattle.pp_cert.specs.declared.note.Held.{Held}
 use Rattle.pp_cert.specs.declared.note.Held.TheVariants.{Free, S, X}
-use Rattle.pp_cert.specs.Limits.{most_counted}
 use Rattle.pp_cert.specs.Slots.{slot_insert}
 use Rattle.pp_cert.specs.Held.{held_in, is_latched}
 
@@ -152,15 +151,15 @@ noted_after (unlatch s) n = noted_as Free s n
 noted_after (gather s r) n = with_bound s (bound_at n s + 1) n
 noted_after (scatter s) n = without_bundle s n
 
--- The bound with one page more: exactly, or counted up to 4,097, which is more than the frames of any pool.
-abbrev pub one_more : (told : Bool) → (bound : ℕ) → ℕ
-one_more true bound = bound + 1
-one_more false bound = min (bound + 1) most_counted
+-- The bound with one page more: exactly, or counted up to a stop where there is one.
+abbrev pub one_more : (stop : Option ℕ) → (bound : ℕ) → ℕ
+one_more None bound = bound + 1
+one_more (Some stop) bound = min (bound + 1) stop
 
--- What is noted after the step, with bounds that are told exactly or counted so.
-abbrev pub noted_with : (told : Bool) → Step → Entries → Entries
-noted_with told (gather s r) n = with_bound s (one_more told (bound_at n s)) n
-noted_with told s n = noted_after s n
+-- What is noted after the step, with bounds that are told exactly, or counted up to a stop where there is one.
+abbrev pub noted_with : (stop : Option ℕ) → Step → Entries → Entries
+noted_with stop (gather s r) n = with_bound s (one_more stop (bound_at n s)) n
+noted_with stop s n = noted_after s n
 
 -- ---- the notes of a loop's body
 

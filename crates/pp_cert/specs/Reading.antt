@@ -8,7 +8,8 @@ use Rattle.serde_json.specs.Find.{as_object, as_array, as_str, as_number, as_u64
 use Rattle.serde_json.specs.Read.{read}
 use Rattle.pp_text.specs.Steps.{◌>>=◌, must}
 use Rattle.pp_text.specs.Objects.{has_only_keys}
-use Rattle.pp_settings.specs.Settings.{Configuration, region_named}
+use Rattle.pp_settings.specs.Layout.{Geometry}
+use Rattle.pp_settings.specs.Settings.{Configuration, geometry_of, region_named}
 use Rattle.pp_plan.specs.Terms.{Terms}
 use Rattle.pp_plan.specs.Slots.{slot_named}
 use Rattle.pp_plan.specs.Rules.{uses_bundle}
@@ -27,9 +28,9 @@ abbrev pub as_two : Items → Option (Data × Data)
 as_two (item a (item b no_items)) = Some (a, b)
 as_two _ = None
 
--- The bound that a number is, if it is from 1 to 4,096.
-abbrev pub bound_in : ℕ → Option ℕ
-bound_in n = if nat_le 1 n && nat_le n most_bound then Some n else None
+-- The bound that a number is, if it is from 1 to the greatest under the layout.
+abbrev pub bound_in : Geometry → ℕ → Option ℕ
+bound_in g n = if nat_le 1 n && nat_le n (most_bound g) then Some n else None
 
 -- A page: its form first, then the slot's name, then the region's, then that the slot is no bundle.
 unfoldable pub read_page : Configuration → Terms → List ℕ → Data → Result Entry CertError
@@ -44,16 +45,16 @@ read_page c p key d = do
   Ok (Slot slot region held)
 
 -- A bundle: its bound first, then the slot's name, then that the slot is a bundle.
-unfoldable pub read_bundle : Terms → List ℕ → Data → Result Entry CertError
-read_bundle p key d = do
-  bound ← ok_or (option_and_then bound_in (option_and_then as_u64 (as_number d))) WrongField
+unfoldable pub read_bundle : Configuration → Terms → List ℕ → Data → Result Entry CertError
+read_bundle c p key d = do
+  bound ← ok_or (option_and_then (bound_in (geometry_of c)) (option_and_then as_u64 (as_number d))) WrongField
   slot ← ok_or (slot_named p key) UnknownName
   bundle ← must (uses_bundle p.body slot) WrongKind
   Ok (Bundle slot bound)
 
 -- The entry of one slot: a bundle's where the value is a number, and else a page's.
 unfoldable pub read_entry : Configuration → Terms → List ℕ → Data → Result Entry CertError
-read_entry c p key d = if is_some (as_number d) then read_bundle p key d else read_page c p key d
+read_entry c p key d = if is_some (as_number d) then read_bundle c p key d else read_page c p key d
 
 -- ---- notes
 

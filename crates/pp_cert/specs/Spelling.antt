@@ -4,7 +4,7 @@ use Rattle.serde_json.specs.Data.{unsigned, Data, number, string, array, object,
 use Rattle.serde_json.specs.Data.{no_members, member}
 use Rattle.serde_json.specs.Read.{read}
 use Rattle.pp_text.specs.Objects.{HasOnly, Holds}
-use Rattle.pp_settings.specs.Settings.{Configuration, region_named}
+use Rattle.pp_settings.specs.Settings.{Configuration, geometry_of, region_named}
 use Rattle.pp_plan.specs.Terms.{Terms}
 use Rattle.pp_plan.specs.Slots.{slot_named}
 use Rattle.pp_plan.specs.Rules.{uses_bundle}
@@ -23,17 +23,18 @@ pub record SpellsPage (c : Configuration) (p : Terms) (key : List ℕ) (d : Data
   pub region : region_named c name ≡ Some r
   pub value : d ≡ array (item (string name) (item (string (held_text h)) no_items))
 
--- The key names the slot, which the plan uses as a bundle, and the value is its bound: a number from 1 to 4,096.
-pub record SpellsBundle (p : Terms) (key : List ℕ) (d : Data) (s k : ℕ) : Type 0 where
+-- The key names the slot, which the plan uses as a bundle, and the value is its bound: a number from 1 to
+-- the greatest.
+pub record SpellsBundle (c : Configuration) (p : Terms) (key : List ℕ) (d : Data) (s k : ℕ) : Type 0 where
   pub slot : slot_named p key ≡ Some s
   pub bundle : uses_bundle p.body s ≡ true
-  pub bound : IsBound k
+  pub bound : IsBound (geometry_of c) k
   pub value : d ≡ number (unsigned k)
 
 -- The key and its value spell the entry: a page of a plain slot, or a bundle.
 abbrev pub SpellsEntry : Configuration → Terms → List ℕ → Data → Entry → Type 0
 SpellsEntry c p key d (Slot s r h) = SpellsPage c p key d s r h
-SpellsEntry c p key d (Bundle s k) = SpellsBundle p key d s k
+SpellsEntry c p key d (Bundle s k) = SpellsBundle c p key d s k
 
 -- There is one member for each entry, in the same order.
 abbrev pub SpellsEntries : Configuration → Terms → Members → List Entry → Type 0

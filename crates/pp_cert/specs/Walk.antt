@@ -1,6 +1,6 @@
 -- What a certificate has to say of a plan: the places of its notes, the tests in the order of a walk over the plan,
 -- and the first of them that fails.
-use Rattle.std.specs.Prelude.{◌≡◌, ℕ, ◌+◌, Bool, true, false, ◌==◌, ◌&&◌, not, nat_le, nat_lt, if◌then◌else◌}
+use Rattle.std.specs.Prelude.{◌≡◌, ℕ, ◌+◌, Bool, ◌==◌, ◌&&◌, not, nat_le, nat_lt, if◌then◌else◌}
 use Rattle.std.specs.Prelude.{Option, None, Some, is_some}
 use Rattle.std.specs.Prelude.{Result, Ok, Err, List, [], ◌∷◌, ◌++◌, length, slice_get, unwrap_or}
 use Rattle.std.specs.Cmp.Lexicographic.{pointwise}
@@ -52,26 +52,26 @@ abbrev mutual
 -- ---- expected notes
 
 -- What a note is to be: empty, the same as the note at an earlier place, or what is noted after a step from there, with
--- bounds that are told exactly or counted up to 4,097.
+-- bounds that are told exactly, or counted up to a stop where there is one.
 pub data Expectation : Type 0 where
   empty : Expectation
   same : (place : ℕ) → Expectation
-  after : (told : Bool) → Step → (place : ℕ) → Expectation
+  after : (stop : Option ℕ) → Step → (place : ℕ) → Expectation
 
 -- The expected note, written from the notes at lower places.
 abbrev pub expected_note : Claims → Expectation → Entries
 expected_note c empty = []
 expected_note c (same k) = note_at c k
-expected_note c (after told s k) = noted_with told s (note_at c k)
+expected_note c (after stop s k) = noted_with stop s (note_at c k)
 
 -- What is held after the statement at place k. A loop leaves what is held at the end of its last turn, which is what its
 -- body's end notes: the bound of a bundle that grows is `before + n * (last - first)`, which is `last` where its tests pass.
 -- A choice leaves what is held at the end of its first branch.
-abbrev pub outcome : (told : Bool) → ℕ → Statement → Expectation
-outcome told k (step s) = after told s k
-outcome told k (loop n b) = same (sequence_end (k + 1) b)
-outcome told k (choice none) = same k
-outcome told k (choice (either b bs)) = same (sequence_end (k + 1) b)
+abbrev pub outcome : (stop : Option ℕ) → ℕ → Statement → Expectation
+outcome stop k (step s) = after stop s k
+outcome stop k (loop n b) = same (sequence_end (k + 1) b)
+outcome stop k (choice none) = same k
+outcome stop k (choice (either b bs)) = same (sequence_end (k + 1) b)
 
 -- ---- the tests
 
@@ -182,51 +182,51 @@ step_tests k (unlatch s) = slot_fixed k s ∷ slot_latched k s ∷ []
 step_tests k (gather s r) = []
 step_tests k (scatter s) = bundle_gathered k s ∷ []
 
--- Of the bounds that grow in a loop, where they are told exactly; none where they are counted up to 4,097, as a maker of
+-- Of the bounds that grow in a loop, where they are told exactly; none where they are counted up to a stop, as a maker of
 -- certificates counts them.
-abbrev pub grow_tests : (told : Bool) → (place before first turns : ℕ) → Sequence → List Test
-grow_tests true k before first turns b = loop_grows k before first turns b ∷ []
-grow_tests false k before first turns b = []
+abbrev pub grow_tests : (stop : Option ℕ) → (place before first turns : ℕ) → Sequence → List Test
+grow_tests None k before first turns b = loop_grows k before first turns b ∷ []
+grow_tests (Some stop) k before first turns b = []
 
 abbrev mutual
   -- Of a statement at place k: a step's own; those of a loop's body, from its first note on, and of its last note beside
   -- the first and the one before the loop; those of a choice's branches, which end alike.
-  pub statement_tests : (told : Bool) → ℕ → Statement → List Test
-  statement_tests told k (step s) = step_tests k s
-  statement_tests told k (loop n b) =
+  pub statement_tests : (stop : Option ℕ) → ℕ → Statement → List Test
+  statement_tests stop k (step s) = step_tests k s
+  statement_tests stop k (loop n b) =
       turn_tests (k + 1) k b
-      ++ sequence_tests told (k + 1) b
+      ++ sequence_tests stop (k + 1) b
       ++ loop_keeps (sequence_end (k + 1) b) k b
-      ∷ grow_tests told (sequence_end (k + 1) b) k (k + 1) n b
-  statement_tests told k (choice none) = []
-  statement_tests told k (choice (either b bs)) =
-      note_tests (k + 1) (same k) ++ sequence_tests told (k + 1) b ++ later_tests told k (sequence_end (k + 1) b)
+      ∷ grow_tests stop (sequence_end (k + 1) b) k (k + 1) n b
+  statement_tests stop k (choice none) = []
+  statement_tests stop k (choice (either b bs)) =
+      note_tests (k + 1) (same k) ++ sequence_tests stop (k + 1) b ++ later_tests stop k (sequence_end (k + 1) b)
       (sequence_end (k + 1) b + 1) bs
 
   -- Of a body after its first note, at place k: for each statement its own, and then those of the note after it.
-  pub sequence_tests : (told : Bool) → ℕ → Sequence → List Test
-  sequence_tests told k skip = []
-  sequence_tests told k (andthen s b) =
-      statement_tests told k s
-      ++ note_tests (statement_end k s) (outcome told k s)
-      ++ sequence_tests told (statement_end k s) b
+  pub sequence_tests : (stop : Option ℕ) → ℕ → Sequence → List Test
+  sequence_tests stop k skip = []
+  sequence_tests stop k (andthen s b) =
+      statement_tests stop k s
+      ++ note_tests (statement_end k s) (outcome stop k s)
+      ++ sequence_tests stop (statement_end k s) b
 
   -- Of the second and later branches of the choice at place `before`, the next of which begins at place k; the first
   -- branch ends at place `first`.
-  pub later_tests : (told : Bool) → (before first k : ℕ) → Alternatives → List Test
-  later_tests told before first k none = []
-  later_tests told before first k (either b bs) =
+  pub later_tests : (stop : Option ℕ) → (before first k : ℕ) → Alternatives → List Test
+  later_tests stop before first k none = []
+  later_tests stop before first k (either b bs) =
       note_tests k (same before)
-      ++ sequence_tests told k b
+      ++ sequence_tests stop k b
       ++ branch_agrees (sequence_end k b) first
-      ∷ later_tests told before first (sequence_end k b + 1) bs
+      ∷ later_tests stop before first (sequence_end k b + 1) bs
 
--- All tests of a certificate of the plan, with bounds that are told exactly or counted up to 4,097.
-abbrev pub tests_with : (told : Bool) → Terms → List Test
-tests_with told p =
+-- All tests of a certificate of the plan, with bounds that are told exactly, or counted up to a stop where there is one.
+abbrev pub tests_with : (stop : Option ℕ) → Terms → List Test
+tests_with stop p =
     same_settings p.layout
     ∷ note_tests 0 empty
-    ++ sequence_tests told 0 p.body
+    ++ sequence_tests stop 0 p.body
     ++ holds_nothing (sequence_end 0 p.body)
     ∷ no_more_notes (sequence_end 0 p.body + 1)
     ∷ steps_allowed
@@ -236,7 +236,7 @@ tests_with told p =
 
 -- All tests of a certificate of the plan.
 abbrev pub tests : Terms → List Test
-tests p = tests_with true p
+tests p = tests_with None p
 
 -- ---- the first fault
 

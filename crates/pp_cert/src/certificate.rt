@@ -92,8 +92,8 @@ impl Certificate {
         settings: &Settings,
         plan: &Plan,
     ) -> Result<String, CertError>
-        // Slots rise in each note and are the plan's, those of bundles are its bundles, with bounds from 1 to 4,096, regions
-        // are the settings', and notes and entries are few enough.
+        // Slots rise in each note and are the plan's, those of bundles are its bundles, with bounds from 1 to 4,096, or to the
+        // frames where these are more, regions are the settings', and notes and entries are few enough.
         requires { AreClaims settings.now plan.now (claims_of self.now) }
         ensures text { IfOk result (λ s. string_bytes s
             ≡ certificate_text settings.now plan.now (claims_of self.now)) }

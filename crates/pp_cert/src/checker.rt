@@ -1,9 +1,10 @@
 //! The check of a certificate.
 
-ghost use Rattle.std.specs.Prelude.{◌≡◌, ◌<◌, ◌+◌, ◌^◌, ◌↔◌, ◌++◌, [], ◌∷◌, true, false, IsOk, IfOk, IfErr};
+ghost use Rattle.std.specs.Prelude.{◌≡◌, ◌<◌, ◌+◌, ◌^◌, ◌↔◌, ◌++◌, [], ◌∷◌, IsOk, IfOk, IfErr};
 ghost use Rattle.pp_settings.specs.Settings.{geometry_of};
 ghost use Rattle.pp_plan.specs.View.{sequence_of};
 ghost use Rattle.pp_plan.specs.Terms.{IsPlan};
+ghost use Rattle.pp_cert.specs.Limits.{most_counted};
 ghost use Rattle.pp_cert.specs.Walk.{claims_of, tests, tests_with, first_fault, Certifies, walked, note_tests, sequence_tests};
 ghost use Rattle.pp_cert.specs.Walk.{sequence_end, empty, same_layout, holds_nothing, no_more_notes, steps_allowed};
 ghost use Rattle.pp_cert.specs.Walk.{steps_enough, peak_allowed};
@@ -13,7 +14,7 @@ ghost use Rattle.pp_cert.specs.Accepted.{IsAccepted};
 use crate::accepted::Accepted;
 use crate::certificate::Certificate;
 use crate::check_error::CheckError;
-use crate::limits::MOST_STEPS;
+use crate::limits::{MOST_STEPS, most_counted};
 use crate::longest::longest;
 use crate::walk::Walk;
 use pp_plan::{Plan, Stmt};
@@ -61,13 +62,13 @@ pub fn fault_under(layout: &Layout, plan: &Plan, certificate: &Certificate) -> O
     ensures is { result ≡ first_fault layout.now (claims_of certificate.now) (tests plan.now) }
     ensures facts { IsPlan plan.now }
 {
-    fault_with(layout, plan, certificate, true)
+    fault_with(layout, plan, certificate, None)
 }
 
-/// The first test that fails where the bounds of bundles are counted up to 4,097, one more than the frames of any pool:
-/// a gather adds a page up to that number, and no test says that bounds have grown in a loop as its turns want it. It
-/// is for a maker of certificates, which counts so. Where no bound is over 4,096 and this finds no fault, the growth of
-/// bounds is all that is left to test.
+/// The first test that fails where the bounds of bundles are counted up to `most_counted` of the plan's layout: a gather adds
+/// a page up to that number, and no test says that bounds have grown in a loop as its turns want it. It is for a maker of
+/// certificates, which counts so. Where no bound is as large as that and this finds no fault, the growth of bounds is all that
+/// is left to test.
 ///
 /// It takes no memory.
 pub fn fault_apart_from_growth(
@@ -75,19 +76,22 @@ pub fn fault_apart_from_growth(
     plan: &Plan,
     certificate: &Certificate,
 ) -> Option<CheckError>
-    ensures { result ≡ first_fault layout.now (claims_of certificate.now) (tests_with false plan.now) }
+    ensures { result
+        ≡ first_fault layout.now (claims_of certificate.now)
+        (tests_with (Some (most_counted plan.now.layout)) plan.now) }
 {
-    fault_with(layout, plan, certificate, false)
+    let stop = most_counted(&plan.layout());
+    fault_with(layout, plan, certificate, Some(stop))
 }
 
-/// The first test that fails, with bounds that are told exactly or counted up to 4,097.
+/// The first test that fails, with bounds that are told exactly, or counted up to a stop where there is one.
 fn fault_with(
     layout: &Layout,
     plan: &Plan,
     certificate: &Certificate,
-    told: bool,
+    stop: Option<u32>,
 ) -> Option<CheckError>
-    ensures is { result ≡ first_fault layout.now (claims_of certificate.now) (tests_with told plan.now) }
+    ensures is { result ≡ first_fault layout.now (claims_of certificate.now) (tests_with stop plan.now) }
     ensures facts { IsPlan plan.now }
 {
     let stmts = plan.body();
@@ -97,7 +101,7 @@ fn fault_with(
     let walk = Walk {
         layout,
         certificate,
-        told,
+        stop,
     };
     match walk_over(&walk, stmts) {
         Err(fault) => Some(fault),
@@ -117,7 +121,7 @@ fn walk_over(walk: &Walk<'_>, stmts: &[Stmt]) -> Result<u32, CheckError>
     requires { sequence_end 0 (sequence_of stmts.now) < 2 ^ 32 }
     ensures { result
         ≡ walked walk.now.layout.now walk.now.certificate.now
-        (note_tests 0 empty ++ sequence_tests walk.now.told 0 (sequence_of stmts.now))
+        (note_tests 0 empty ++ sequence_tests walk.now.stop 0 (sequence_of stmts.now))
         (sequence_end 0 (sequence_of stmts.now)) }
 {
     let first = walk.begin()?;

@@ -33,7 +33,7 @@ pub(crate) fn noted_at(note: &[Entry], slot: u8) -> Option<Held>
 }
 
 /// The most pages that the bundle pins, as the note says; 0 without an entry.
-pub(crate) fn bound_at(note: &[Entry], slot: u8) -> u16
+pub(crate) fn bound_at(note: &[Entry], slot: u8) -> u32
     ensures { result ≡ bound_at note.now slot }
 {
     match note.iter().find(|entry| entry.is_bundle_of(slot)) {
@@ -169,7 +169,7 @@ pub(crate) fn is_scattered(before: &[Entry], slot: u8, after: &[Entry]) -> bool
 
 /// Whether `after` is `before` with this bound for the bundle, at its place by rising slot.
 #[tactic(auto, using(crate::proofs::Pins::gathers))]
-pub(crate) fn is_gathered(before: &[Entry], slot: u8, bound: u32, after: &[Entry]) -> bool
+pub(crate) fn is_gathered(before: &[Entry], slot: u8, bound: u64, after: &[Entry]) -> bool
     ensures { result ≡ same_note after.now (with_bound slot bound before.now) }
 {
     let mut left = after;

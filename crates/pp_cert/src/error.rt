@@ -19,7 +19,8 @@ pub enum CertError {
     /// The text is no JSON value.
     #[error("the text is not a JSON value")]
     NotJson,
-    /// An object, a key or a value is of another kind, or a bundle's bound isn't from 1 to 4,096.
+    /// An object, a key or a value is of another kind, or a bundle's bound isn't from 1 to 4,096, or to the frames where these are
+    /// more.
     #[error("an object, a key or a value of the certificate is of another kind")]
     WrongField,
     /// The plan has no such slot, or the settings have no such region.

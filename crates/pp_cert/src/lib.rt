@@ -21,7 +21,7 @@ pub use certificate::Certificate;
 pub use check_error::CheckError;
 pub use checker::{check, fault_apart_from_growth, fault_under};
 pub use error::CertError;
-pub use limits::{MOST_BOUND, MOST_COUNTED, MOST_ENTRIES, MOST_NOTES, MOST_STEPS};
+pub use limits::{MOST_ENTRIES, MOST_NOTES, MOST_STEPS, most_bound, most_counted};
 pub use longest::longest_trace;
 pub use note::{Entry, Held, Note};
 pub use scattered::scatters;

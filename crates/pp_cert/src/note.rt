@@ -62,7 +62,7 @@ pub enum Entry {
         /// The slot's number in the plan.
         slot: u8,
         /// The most pages that it pins.
-        bound: u16,
+        bound: u32,
     },
 }
 
@@ -81,7 +81,7 @@ impl Entry {
     }
 
     /// How many pages it pins: one, or at most as many as a bundle's bound says.
-    pub fn pins(&self) -> u16
+    pub fn pins(&self) -> u32
         ensures { result ≡ entry_pins self.now }
     {
         match *self {
@@ -131,12 +131,12 @@ impl Entry {
     }
 
     /// Whether the bundle is this slot, with this bound, which may be one that no entry can say.
-    pub(crate) fn is_bounded(&self, number: u8, most: u32) -> bool
+    pub(crate) fn is_bounded(&self, number: u8, most: u64) -> bool
         ensures { result ≡ same_entry self.now (Bundle number most) }
     {
         match *self {
             Entry::Slot { .. } => false,
-            Entry::Bundle { slot, bound } => slot == number && u32::from(bound) == most,
+            Entry::Bundle { slot, bound } => slot == number && u64::from(bound) == most,
         }
     }
 

@@ -5,6 +5,7 @@ ghost use Rattle.std.specs.Option.{ok_or};
 ghost use Rattle.serde_json.specs.Read.{read};
 ghost use Rattle.serde_json.specs.View.{view, items_view, members_view};
 ghost use Rattle.pp_text.specs.Steps.{Gives, Reads};
+ghost use Rattle.pp_settings.specs.Settings.{geometry_of};
 ghost use Rattle.pp_cert.specs.CertErrors.{is_certificate_memory};
 ghost use Rattle.pp_cert.specs.declared.error.CertError.TheVariants.{NotJson, OutOfMemory};
 ghost use Rattle.pp_cert.specs.Claims.{claims_of};
@@ -14,7 +15,7 @@ ghost use Rattle.pp_cert.specs.Reading.{notes_from, list_at, number_at, claims_a
 
 use crate::certificate::Certificate;
 use crate::error::CertError;
-use crate::limits::{MOST_BOUND, MOST_ENTRIES, MOST_NOTES};
+use crate::limits::{MOST_ENTRIES, MOST_NOTES, most_bound};
 use crate::note::{Entry, Held, Note};
 use pp_plan::Plan;
 use pp_settings::Settings;
@@ -48,12 +49,12 @@ fn as_two(items: &[Value]) -> Option<(&Value, &Value)>
     }
 }
 
-/// The bound that the number is, if it is from 1 to 4,096.
-fn bound_in(number: u64) -> Option<u16>
-    ensures { result ≡ bound_in number }
+/// The bound that the number is, if it is from 1 to the greatest under the settings.
+fn bound_in(settings: &Settings, number: u64) -> Option<u32>
+    ensures { result ≡ bound_in (geometry_of settings.now) number }
 {
-    if 1 <= number && number <= u64::from(MOST_BOUND) {
-        Some(number as u16)
+    if 1 <= number && number <= u64::from(most_bound(settings)) {
+        Some(number as u32)
     } else {
         None
     }
@@ -81,12 +82,17 @@ fn read_page(settings: &Settings, plan: &Plan, key: &str, value: &Value) -> Resu
 
 /// A bundle: its bound first, then the slot's name, then that the slot is a bundle.
 #[tactic(auto, unfolding(crate::specs::Reading::read_bundle))]
-fn read_bundle(plan: &Plan, key: &str, value: &Value) -> Result<Entry, CertError>
-    ensures { Reads (λ e. e) result (read_bundle plan.now key.now (view value.now)) }
+fn read_bundle(
+    settings: &Settings,
+    plan: &Plan,
+    key: &str,
+    value: &Value,
+) -> Result<Entry, CertError>
+    ensures { Reads (λ e. e) result (read_bundle settings.now plan.now key.now (view value.now)) }
 {
     let bound = value
         .as_u64()
-        .and_then(bound_in)
+        .and_then(|number| bound_in(settings, number))
         .ok_or(CertError::WrongField)?;
     let slot = plan.slot(key).ok_or(CertError::UnknownName)?;
     if !plan.is_bundle(slot) {
@@ -106,7 +112,7 @@ fn read_entry(
     ensures { Reads (λ e. e) result (read_entry settings.now plan.now key.now (view value.now)) }
 {
     if value.is_number() {
-        read_bundle(plan, key, value)
+        read_bundle(settings, plan, key, value)
     } else {
         read_page(settings, plan, key, value)
     }

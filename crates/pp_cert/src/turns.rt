@@ -12,7 +12,7 @@ use pp_plan::Body;
 
 /// Whether the bound `first` may stand at the body's first place, where `before` stands just before the loop.
 #[tactic(auto, using(crate::proofs::Bounds::turns))]
-fn is_begun(body: &Body, slot: u8, before: u16, first: u16) -> bool
+fn is_begun(body: &Body, slot: u8, before: u32, first: u32) -> bool
     ensures { result ≡ is_begun (scatters body.now slot) before first }
 {
     first == before || (before < first && !scatters(body, slot))
@@ -20,14 +20,14 @@ fn is_begun(body: &Body, slot: u8, before: u16, first: u16) -> bool
 
 /// Whether the bound `last` may stand at the body's end, if the body scatters the bundle.
 #[tactic(auto, using(crate::proofs::Bounds::turns))]
-fn is_back(body: &Body, slot: u8, before: u16, last: u16) -> bool
+fn is_back(body: &Body, slot: u8, before: u32, last: u32) -> bool
     ensures { result ≡ is_back (scatters body.now slot) before last }
 {
     last == before || !scatters(body, slot)
 }
 
 /// Whether so many turns make the bound `last` of `before`, where the last of them begins with `first`.
-fn is_sum(turns: u16, before: u16, first: u16, last: u16) -> bool
+fn is_sum(turns: u16, before: u32, first: u32, last: u32) -> bool
     ensures { result ≡ has_grown turns false before first last }
 {
     if last < first {
@@ -39,7 +39,7 @@ fn is_sum(turns: u16, before: u16, first: u16, last: u16) -> bool
 
 /// Whether the bound has grown so, if the body doesn't scatter the bundle.
 #[tactic(auto, using(crate::proofs::Bounds::turns))]
-fn has_grown(turns: u16, body: &Body, slot: u8, before: u16, first: u16, last: u16) -> bool
+fn has_grown(turns: u16, body: &Body, slot: u8, before: u32, first: u32, last: u32) -> bool
     ensures { result ≡ has_grown turns (scatters body.now slot) before first last }
 {
     is_sum(turns, before, first, last) || scatters(body, slot)

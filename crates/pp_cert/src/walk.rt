@@ -10,7 +10,6 @@ use crate::entries::{
     bound_at, is_above_latched, is_gathered, is_held_as, is_inserted, is_removed, is_same,
     is_scattered, noted_at,
 };
-use crate::limits::MOST_COUNTED;
 use crate::note::{Entry, Held};
 use crate::turns::{begins_turns, ends_as_begun, grows_by_turns};
 use pp_plan::{Body, Branches, Mode, Stmt};
@@ -26,16 +25,17 @@ pub(crate) struct Walk<'a> {
     pub(crate) layout: &'a Layout,
     /// The certificate.
     pub(crate) certificate: &'a Certificate,
-    /// Whether the bounds of bundles are told exactly, and so have to grow in a loop as its turns want it. Otherwise they
-    /// are counted up to 4,097.
-    pub(crate) told: bool,
+    /// Where counting the pages of a bundle stops. `None`: bounds are told exactly, and so have to grow in a loop as its turns
+    /// want it.
+    pub(crate) stop: Option<u32>,
 }
 
 impl Walk<'_> {
     ghost use Rattle.pp_cert.specs.Walk.{Test, empty, same, after, slot_fixed, slot_unlatched, claims_of, note_at};
     ghost use Rattle.pp_cert.specs.Walk.{walked, note_fault, first_fault, unless_fault, note_tests, step_tests};
     ghost use Rattle.pp_cert.specs.Walk.{statement_tests, sequence_tests, later_tests, outcome, statement_end};
-    ghost use Rattle.pp_cert.specs.Walk.{sequence_end, alternatives_end, turn_tests, loop_keeps, grow_tests};
+    ghost use Rattle.pp_cert.specs.Walk.{sequence_end, alternatives_end, turn_tests, loop_keeps, loop_grows, grow_tests};
+    ghost use Rattle.pp_cert.specs.Walk.{passes};
     ghost use Rattle.pp_cert.specs.Notes.{one_more};
 
     /// The note at a place; the empty one where none is left.
@@ -97,7 +97,7 @@ impl Walk<'_> {
         requires { at + 1 < 2 ^ 32 }
         ensures { result
             ≡ walked self.now.layout.now self.now.certificate.now
-            (step_tests at (fix slot region) ++ note_tests (at + 1) (after self.now.told (fix slot region) at)) (at + 1) }
+            (step_tests at (fix slot region) ++ note_tests (at + 1) (after self.now.stop (fix slot region) at)) (at + 1) }
     {
         let before = self.entries(at);
         if noted_at(before, slot).is_some() || bound_at(before, slot) != 0 {
@@ -116,7 +116,7 @@ impl Walk<'_> {
         requires { at + 1 < 2 ^ 32 }
         ensures { result
             ≡ walked self.now.layout.now self.now.certificate.now
-            (step_tests at (unfix slot) ++ note_tests (at + 1) (after self.now.told (unfix slot) at)) (at + 1) }
+            (step_tests at (unfix slot) ++ note_tests (at + 1) (after self.now.stop (unfix slot) at)) (at + 1) }
     {
         if let Some(fault) = self.unlatched_fault(at, slot) {
             return Err(fault);
@@ -130,7 +130,7 @@ impl Walk<'_> {
         requires { at + 1 < 2 ^ 32 }
         ensures { result
             ≡ walked self.now.layout.now self.now.certificate.now
-            (step_tests at (latch slot mode) ++ note_tests (at + 1) (after self.now.told (latch slot mode) at)) (at + 1) }
+            (step_tests at (latch slot mode) ++ note_tests (at + 1) (after self.now.stop (latch slot mode) at)) (at + 1) }
     {
         if let Some(fault) = self.unlatched_fault(at, slot) {
             return Err(fault);
@@ -148,7 +148,7 @@ impl Walk<'_> {
         requires { at + 1 < 2 ^ 32 }
         ensures { result
             ≡ walked self.now.layout.now self.now.certificate.now
-            (step_tests at (unlatch slot) ++ note_tests (at + 1) (after self.now.told (unlatch slot) at)) (at + 1) }
+            (step_tests at (unlatch slot) ++ note_tests (at + 1) (after self.now.stop (unlatch slot) at)) (at + 1) }
     {
         let before = self.entries(at);
         match noted_at(before, slot) {
@@ -161,15 +161,14 @@ impl Walk<'_> {
         }
     }
 
-    /// The bound with one page more, told exactly or counted up to 4,097.
-    fn one_more(&self, bound: u16) -> u32
-        ensures { result ≡ one_more self.now.told bound }
+    /// The bound with one page more, told exactly, or counted up to the stop where there is one.
+    fn one_more(&self, bound: u32) -> u64
+        ensures { result ≡ one_more self.now.stop bound }
     {
-        let more = u32::from(bound) + 1;
-        if self.told {
-            more
-        } else {
-            more.min(u32::from(MOST_COUNTED))
+        let more = u64::from(bound) + 1;
+        match self.stop {
+            Some(stop) => more.min(u64::from(stop)),
+            None => more,
         }
     }
 
@@ -178,7 +177,7 @@ impl Walk<'_> {
         requires { at + 1 < 2 ^ 32 }
         ensures { result
             ≡ walked self.now.layout.now self.now.certificate.now
-            (note_tests (at + 1) (after self.now.told (gather slot 0) at)) (at + 1) }
+            (note_tests (at + 1) (after self.now.stop (gather slot 0) at)) (at + 1) }
     {
         let before = self.entries(at);
         let bound = self.one_more(bound_at(before, slot));
@@ -193,7 +192,7 @@ impl Walk<'_> {
         requires { at + 1 < 2 ^ 32 }
         ensures { result
             ≡ walked self.now.layout.now self.now.certificate.now
-            (step_tests at (scatter slot) ++ note_tests (at + 1) (after self.now.told (scatter slot) at)) (at + 1) }
+            (step_tests at (scatter slot) ++ note_tests (at + 1) (after self.now.stop (scatter slot) at)) (at + 1) }
     {
         let before = self.entries(at);
         if bound_at(before, slot) == 0 {
@@ -208,7 +207,7 @@ impl Walk<'_> {
     pub(crate) fn sequence(&self, first: u32, stmts: &[Stmt]) -> Result<u32, CheckError>
         requires { sequence_end first (sequence_of stmts.now) < 2 ^ 32 }
         ensures { result
-            ≡ walked self.now.layout.now self.now.certificate.now (sequence_tests self.now.told first (sequence_of stmts.now))
+            ≡ walked self.now.layout.now self.now.certificate.now (sequence_tests self.now.stop first (sequence_of stmts.now))
             (sequence_end first (sequence_of stmts.now)) }
     {
         let mut place = first;
@@ -225,8 +224,8 @@ impl Walk<'_> {
         requires { statement_end at (statement_of stmt.now) < 2 ^ 32 }
         ensures { result
             ≡ walked self.now.layout.now self.now.certificate.now
-            (statement_tests self.now.told at (statement_of stmt.now)
-            ++ note_tests (statement_end at (statement_of stmt.now)) (outcome self.now.told at (statement_of stmt.now)))
+            (statement_tests self.now.stop at (statement_of stmt.now)
+            ++ note_tests (statement_end at (statement_of stmt.now)) (outcome self.now.stop at (statement_of stmt.now)))
             (statement_end at (statement_of stmt.now)) }
     {
         match stmt {
@@ -248,7 +247,7 @@ impl Walk<'_> {
         requires { sequence_end first body.now < 2 ^ 32 }
         ensures { result
             ≡ walked self.now.layout.now self.now.certificate.now
-            (note_tests first (same before) ++ sequence_tests self.now.told first body.now) (sequence_end first body.now) }
+            (note_tests first (same before) ++ sequence_tests self.now.stop first body.now) (sequence_end first body.now) }
     {
         self.keep(first, before)?;
         self.sequence(first, body.stmts())
@@ -265,6 +264,21 @@ impl Walk<'_> {
         )
     }
 
+    /// Whether the bounds at the end of a loop's body have grown as so many turns want it.
+    fn grows(&self, end: u32, before: u32, first: u32, turns: u16, body: &Body) -> bool
+        ensures { result
+            ≡ passes self.now.layout.now (claims_of self.now.certificate.now)
+            (loop_grows end before first turns body.now) }
+    {
+        grows_by_turns(
+            turns,
+            body,
+            self.entries(before),
+            self.entries(first),
+            self.entries(end),
+        )
+    }
+
     /// The fault of the bounds at the end of a loop's body, where they are told and haven't grown as so many turns want it.
     fn growth_fault(
         &self,
@@ -276,21 +290,13 @@ impl Walk<'_> {
     ) -> Option<CheckError>
         ensures { result
             ≡ first_fault self.now.layout.now (claims_of self.now.certificate.now)
-            (grow_tests self.now.told end before first turns body.now) }
+            (grow_tests self.now.stop end before first turns body.now) }
     {
-        if !self.told {
-            return None;
+        match self.stop {
+            Some(_) => None,
+            None if self.grows(end, before, first, turns, body) => None,
+            None => Some(CheckError::LoopChanges { place: end }),
         }
-        if grows_by_turns(
-            turns,
-            body,
-            self.entries(before),
-            self.entries(first),
-            self.entries(end),
-        ) {
-            return None;
-        }
-        Some(CheckError::LoopChanges { place: end })
     }
 
     /// The fault of the last note of the body of a loop at the place `before`, if it has one.
@@ -304,7 +310,7 @@ impl Walk<'_> {
     ) -> Option<CheckError>
         ensures { result
             ≡ first_fault self.now.layout.now (claims_of self.now.certificate.now)
-            (loop_keeps end before body.now ∷ grow_tests self.now.told end before first turns body.now) }
+            (loop_keeps end before body.now ∷ grow_tests self.now.stop end before first turns body.now) }
     {
         if !ends_as_begun(body, self.entries(before), self.entries(end)) {
             return Some(CheckError::LoopChanges { place: end });
@@ -319,7 +325,7 @@ impl Walk<'_> {
         requires { sequence_end first body.now < 2 ^ 32 }
         ensures { result
             ≡ walked self.now.layout.now self.now.certificate.now
-            (turn_tests first before body.now ++ sequence_tests self.now.told first body.now)
+            (turn_tests first before body.now ++ sequence_tests self.now.stop first body.now)
             (sequence_end first body.now) }
     {
         self.begin_turns(first, before, body)?;
@@ -333,7 +339,7 @@ impl Walk<'_> {
         requires { sequence_end (at + 1) body.now + 1 < 2 ^ 32 }
         ensures { result
             ≡ walked self.now.layout.now self.now.certificate.now
-            (statement_tests self.now.told at (loop count body.now)
+            (statement_tests self.now.stop at (loop count body.now)
             ++ note_tests (sequence_end (at + 1) body.now + 1) (same (sequence_end (at + 1) body.now)))
             (sequence_end (at + 1) body.now + 1) }
     {
@@ -351,8 +357,8 @@ impl Walk<'_> {
         requires { alternatives_end (at + 1) branches.now < 2 ^ 32 }
         ensures { result
             ≡ walked self.now.layout.now self.now.certificate.now
-            (statement_tests self.now.told at (choice branches.now)
-            ++ note_tests (alternatives_end (at + 1) branches.now) (outcome self.now.told at (choice branches.now)))
+            (statement_tests self.now.stop at (choice branches.now)
+            ++ note_tests (alternatives_end (at + 1) branches.now) (outcome self.now.stop at (choice branches.now)))
             (alternatives_end (at + 1) branches.now) }
     {
         let Some((body, later)) = branches.bodies().split_first() else {
@@ -370,7 +376,7 @@ impl Walk<'_> {
         requires { alternatives_end (first + 1) (alternatives_of bodies.now) < 2 ^ 32 }
         ensures { result
             ≡ walked self.now.layout.now self.now.certificate.now
-            (later_tests self.now.told before first (first + 1) (alternatives_of bodies.now))
+            (later_tests self.now.stop before first (first + 1) (alternatives_of bodies.now))
             (alternatives_end (first + 1) (alternatives_of bodies.now)) }
     {
         let mut next = first + 1;

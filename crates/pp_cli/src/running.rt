@@ -1,6 +1,7 @@
 //! The command `run`: its files, the run, and the file of the journal.
 
 ghost use Rattle.std.specs.Prelude.{◌≡◌, ◌⊎◌, ◌&&◌, IfErr, IfOk, IfSome, List, MatchResult, None, Some, is_none, is_some, length, option_map, string_bytes};
+ghost use Rattle.pp_settings.specs.declared.span.Span.TheVariants.{Bounded};
 ghost use Rattle.pp_judge.specs.Answers.{seen};
 ghost use Rattle.pp_explain.specs.Paragraphs.{IsAbout};
 ghost use Rattle.pp_report.specs.Reports.{report_text};
@@ -110,6 +111,7 @@ fn run_traced<
     terminal: Option<&mut P>,
     note: &mut Option<Vec<u8>>,
 ) -> Exit<'a>
+    requires bounded { workload.settings.span ≡ Bounded }
     requires long { length texts.paths.now ≡ length texts.plans.now }
     requires traced { is_some trace ≡ is_some paths.now.trace }
     requires note { note.old ≡ None }
@@ -148,6 +150,7 @@ fn run_workload<
     terminal: Option<&mut P>,
     note: &mut Option<Vec<u8>>,
 ) -> Exit<'a>
+    requires bounded { workload.settings.span ≡ Bounded }
     requires long { length texts.paths.now ≡ length texts.plans.now }
     requires note { note.old ≡ None }
     ensures explained { IsBeside (paths_at texts.entry) (text_in paths.now.journal) (is_some choices.now.trace) (seen result)
@@ -181,6 +184,7 @@ fn run_held<
     terminal: Option<&mut P>,
     note: &mut Option<Vec<u8>>,
 ) -> Exit<'a>
+    requires bounded { workload.settings.span ≡ Bounded }
     requires long { length texts.paths.now ≡ length texts.plans.now }
     requires note { note.old ≡ None }
     ensures explained { IsBeside (paths_at texts.entry) (option_map (λ journal. journal.path.now) held.entry.journal)

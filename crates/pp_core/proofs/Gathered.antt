@@ -413,7 +413,7 @@ bundles_few s h w r seat more =
       peaks_room s h,
     )
 
--- There are at most 32 workers, so the number of a place fits 32 bits.
+-- There are at most 1,024 workers, so the number of a place fits 32 bits.
 pub place_fits : (s : State) → IsReached s → (w : ℕ) (r : Running) (slot : ℕ) → seat_of s w ≡ Some (Some r) → slot < 32
     → bundle_place w slot < 2 ^ 32
 place_fits s h w r slot seat low =

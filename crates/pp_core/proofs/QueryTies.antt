@@ -208,8 +208,8 @@ no_seat [] w le = refl
 no_seat (x ∷ xs) zero le = absurd (omega (arith, le))
 no_seat (x ∷ xs) (suc w) le = no_seat xs w (omega (arith, le))
 
--- There are at most 32 workers, so the number of a place fits 32 bits.
-pub few_seats : (f : Parts) → IsKept f → length f.seats ≤ 32
+-- There are at most 1,024 workers, so the number of a place fits 32 bits.
+pub few_seats : (f : Parts) → IsKept f → length f.seats ≤ 1024
 few_seats f k =
     omega (
       arith,
@@ -218,7 +218,7 @@ few_seats f k =
       k.stands.reached.settings.workers.1,
     )
 
-pub place_within : (n w slot : ℕ) → n ≤ 32 → slot < 32 → w < n → bundle_place w slot < 2 ^ 32
+pub place_within : (n w slot : ℕ) → n ≤ 1024 → slot < 32 → w < n → bundle_place w slot < 2 ^ 32
 place_within n w slot few low there = omega (arith, few, low, there)
 
 module _ (f : Parts) (s : State) (st : StandsFor f s) where

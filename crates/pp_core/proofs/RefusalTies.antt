@@ -1,5 +1,5 @@
 -- What a move is refused with, as the core's tests tell it.
-use Rattle.std.proofs.Common.{◌≡◌, ◌∙◌, ℕ, ◌+◌, ◌<◌, ◌≤◌, Bool, true, false, Some, None, [], refl, sym, ap}
+use Rattle.std.proofs.Common.{◌≡◌, ◌∙◌, ℕ, ◌+◌, ◌^◌, ◌<◌, ◌≤◌, Bool, true, false, Some, None, [], refl, sym, ap}
 use Rattle.std.proofs.Common.{subst, arith}
 use Rattle.std.specs.Prelude.{option_map, not, ◌&&◌, ◌==◌, Result, Ok}
 use Rattle.std.proofs.lemmas.Bool.Decides.{nat_tests}
@@ -180,7 +180,7 @@ module _ (f : Parts) where
   pub few_cached : IsKept f → cached_count f.lists ≤ f.lists.c
   few_cached k = (bounds k).cached
 
-  pub frames_few : IsKept f → f.layout.frames ≤ 4096
+  pub frames_few : IsKept f → f.layout.frames ≤ 2 ^ 24
   frames_few k =
       omega (arith, ap (λ g. g.frames) k.stands.layout, k.stands.reached.settings.layout.frames.1)
 

@@ -1,5 +1,5 @@
 -- Renewing, on the core's side and on the state's.
-use Rattle.std.proofs.Common.{◌≡◌, ◌∙◌, suc, ◌&&◌, Option, Some, None, List, [], ◌∷◌}
+use Rattle.std.proofs.Common.{◌≡◌, ◌∙◌, suc, ◌^◌, ◌≤◌, ◌&&◌, Option, Some, None, List, [], ◌∷◌}
 use Rattle.std.proofs.Common.{length, refl, sym, ap, subst, arith}
 use Rattle.std.specs.Prelude.{slice_get, option_map, is_none}
 use Rattle.std.specs.List.{list_all}
@@ -12,10 +12,11 @@ use Rattle.pp_model.specs.Renewing.{mark_limit, is_at_rest, first_high_page, ren
 use Rattle.pp_model.proofs.Journeys.{renewed_reached}
 use Rattle.pp_model.proofs.MarkChanges.{count_told}
 use Rattle.pp_model.proofs.Rest.{Rests, can_renew, bound_renews}
+use Rattle.pp_model.proofs.Spans.{flushes_small}
 use Rattle.pp_core.specs.declared.seat.Seat.{Seat}
 use Rattle.pp_core.specs.declared.table.Flush.{Flush}
 use Rattle.pp_core.specs.Parts.{Parts}
-use Rattle.pp_core.specs.StandsFor.{in_flight_as, FitsSeat, FitsCrew, StandsFor}
+use Rattle.pp_core.specs.StandsFor.{in_flight_as, FitsSeat, FitsCrew, StandsFor, IsKept}
 use Rattle.pp_core.specs.Renewals.{is_resting, renew_fault, kept_plans, renewed_parts, Renews}
 use Rattle.pp_core.proofs.PlanTies.{none_told}
 use Rattle.pp_core.proofs.Gathered.{bundles_kept}
@@ -58,6 +59,12 @@ pub fault_is : (f : Parts) (s : State) → StandsFor f s → renew_error s ≡ r
 fault_is f s st = λ i. renew_error_where (rests_alike f s st i) (high_alike f s st i)
 
 -- ---- a core that is renewed
+
+-- Twice the flushes of a life fit 64 bits.
+pub flushes_few : (f : Parts) → IsKept f → f.flushes ≤ 2 ^ 59
+flushes_few f k =
+    let settings = k.state.settings in
+    omega (arith, k.stands.flushes, flushes_small settings.span settings.flushes k.stands.reached.settings.flushes)
 
 empty_seat : (ps qs : List Acceptance) (x : Option Seat) → FitsSeat ps x None → FitsSeat qs x None
 empty_seat ps qs None h = tt

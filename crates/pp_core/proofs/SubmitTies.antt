@@ -230,6 +230,7 @@ pub takes_prepared : (f g : Parts) (place number : ℕ) (a : Acceptance) → (f.
     → slice_get f.plans place ≡ Some a → submit_fault f a ≡ None → g ≡ with_waiting f place a
     → number ≡ f.taken + length f.waiting → TakesPrepared f place number a g
 takes_prepared f g place number a endless ok at e is told = record {
+  endless = endless;
   plan = at;
   allowed = λ s st. fault_is f s a st ∙ e;
   numbered = λ s st. told ∙ plans_told f s st;

@@ -58,7 +58,7 @@ module _ {A : Type 0} (p : A → Bool) (xs : List A) where
 -- ---- the least worker of a kind
 
 -- There are few workers.
-pub seats_few : (f : Parts) → IsKept f → length f.seats ≤ 32
+pub seats_few : (f : Parts) → IsKept f → length f.seats ≤ 1024
 seats_few f k =
     omega (
       arith,

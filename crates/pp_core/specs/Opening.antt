@@ -2,21 +2,15 @@
 use Rattle.std.specs.Prelude.{◌*◌, false, None, [], replicate}
 use Rattle.pp_settings.specs.Layout.{page_count}
 use Rattle.pp_settings.specs.Settings.{Configuration, geometry_of}
-use Rattle.pp_settings.specs.declared.span.Span.{Span}
-use Rattle.pp_settings.specs.declared.span.Span.TheVariants.{Bounded}
 use Rattle.pp_arc.specs.FourLists.{empty_lists}
 use Rattle.pp_frames.specs.Marks.{opening as opening_marks}
 use Rattle.pp_bundles.specs.Bundles.{empty_stacks}
 use Rattle.pp_model.specs.Pool.{Settings}
 use Rattle.pp_core.specs.Parts.{Parts}
 
--- What a pool keeps of its settings, whose lives may last so long.
-abbrev pub kept_for : Configuration → Span → Settings
-kept_for c span = record { layout = geometry_of c; workers = c.workers; flushes = c.flushes; span = span }
-
--- The same where its lives are bounded.
+-- What a pool keeps of its settings.
 abbrev pub kept_of : Configuration → Settings
-kept_of c = kept_for c Bounded
+kept_of c = record { layout = geometry_of c; workers = c.workers; flushes = c.flushes; span = c.span }
 
 -- Every worker idle, no plan, nothing cached, and no flush begun.
 abbrev pub opening_parts : Settings → Parts

@@ -52,8 +52,9 @@ pub record TakesIn (old : Parts) (a : Acceptance) (number : ℕ) (new : Parts) :
   pub stands : (s : State) → StandsFor old s → StandsFor new (after_submit s a)
   pub parts : new ≡ with_plan old a
 
--- The same of a prepared plan, which stands at this place. The plans that are kept stay.
+-- The same of a prepared plan, in an endless life: it stands at this place, and the plans that are kept stay.
 pub record TakesPrepared (old : Parts) (place number : ℕ) (a : Acceptance) (new : Parts) : Type 0 where
+  pub endless : old.span ≢ Bounded
   pub plan : slice_get old.plans place ≡ Some a
   pub allowed : (s : State) → StandsFor old s → submit_error s a ≡ None
   pub numbered : (s : State) → StandsFor old s → number ≡ length s.plans

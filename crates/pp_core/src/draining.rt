@@ -34,7 +34,7 @@ pub trait Decide {
     /// The page that a worker fixes, of a region that has so many pages from the first on.
     fn page(&mut self, region: u8, first: u32, count: u32) -> u32
         requires some { 1 ≤ count }
-        requires ends { first + count ≤ 65536 }
+        requires ends { first + count ≤ 4294967292 }
         ensures from { first ≤ result }
         ensures below { result < first + count }
         ensures picked { picks self.old region first count result self.new };

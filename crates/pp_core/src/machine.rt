@@ -10,11 +10,11 @@ ghost use Rattle.pp_model.specs.Renewing.{renew_error};
 ghost use Rattle.pp_model.specs.Moves.{is_refusal};
 ghost use Rattle.pp_model.specs.Turns.{IsOpen, next_turn, IsUnderWay};
 ghost use Rattle.pp_core.specs.StandsFor.{StandsFor, IsKept, Moves};
-ghost use Rattle.pp_core.specs.Opening.{kept_of, kept_for};
-ghost use Rattle.std.specs.Prelude.{◌≢◌, ◌^◌, true, is_none, [], slice_get};
+ghost use Rattle.pp_core.specs.Opening.{kept_of};
+ghost use Rattle.std.specs.Prelude.{◌≢◌, true, is_none, [], slice_get};
 ghost use Rattle.pp_model.specs.declared.refusals.SubmitError.TheVariants.{NotPrepared};
 ghost use Rattle.pp_cert.specs.Accepted.{Acceptance};
-ghost use Rattle.pp_settings.specs.declared.span.Span.TheVariants.{Bounded, Endless};
+ghost use Rattle.pp_settings.specs.declared.span.Span.TheVariants.{Bounded};
 ghost use Rattle.pp_core.specs.Submits.{TakesIn, SubmitFails, TakesPrepared, PreparedFails, Prepares, PrepareFails};
 ghost use Rattle.pp_core.specs.Renewals.{Renews};
 ghost use Rattle.pp_core.specs.Runs.{MovesAll};
@@ -100,7 +100,7 @@ impl Prepared {
 /// isn't ended some actor's next move is possible ([`Core::next_possible`] names the actor).
 ///
 /// Workers, plans, slots, pages and frames are numbered from 0; slots by their names in byte order. All its memory is
-/// got by [`Core::new`] or [`Core::endless`]; no other call takes any for the core. There are no locks in it.
+/// got by [`Core::new`]; no other call takes any for the core. There are no locks in it.
 pub struct Core {
     pub(crate) table: Table,
 }
@@ -127,46 +127,28 @@ impl Model for Core {
 }
 
 impl Core {
-    /// A core with these settings: every worker is idle, no plan was submitted, and no page is cached.
+    /// A core with these settings: every worker is idle, no plan is kept, and no page is cached. Its lives last as long as the
+    /// settings say.
     ///
-    /// It gets all the memory that the core ever needs: room for 256 plans, for the workers, for what is noted of each
-    /// page number, and for as many pages of bundles as there are frames. Of the settings it keeps the layout, the workers and the flushes.
+    /// In a bounded life plans are submitted, 256 of them at most ([`Core::submit`]). In an endless one plans are prepared, 4,096
+    /// of them at most, and each is submitted as often as wanted ([`Core::prepare`], [`Core::submit_prepared`]); a plan that was
+    /// ended leaves nothing behind. The flushes of the settings are those of a whole life, so once they have begun none begins
+    /// until a renewal.
+    ///
+    /// It gets all the memory that the core ever needs: room for 256 or 4,096 plans, 4 bytes for each plan that may wait, room
+    /// for the workers, for what is noted of each page number, and for as many pages of bundles as there are frames. Of the
+    /// settings it keeps the layout, the workers, the flushes and the span.
     ///
     /// # Errors
     ///
     /// Only where that memory can't be had.
     pub fn new(alloc: Global, settings: &Settings) -> Result<Core, CoreError>
         ensures opens { IfOk result (λ core. StandsFor core (opening (kept_of settings.now))) }
+        ensures none_kept { IfOk result (λ core. core.plans ≡ []) }
         ensures kept { IfOk result IsKept }
         ensures headline { IfOk result HeadlineHolds }
     {
-        let table = Table::new(alloc, settings, Span::Bounded)?;
-        Ok(Core { table })
-    }
-
-    /// A core with these settings whose lives last as long as its host wants. At most `waiting` plans, 1 to 1,048,576, wait
-    /// at a time.
-    ///
-    /// Plans are prepared, at most 4,096 of them, and each is submitted as often as wanted ([`Core::prepare`],
-    /// [`Core::submit_prepared`]). A plan that was ended leaves nothing behind. A life has room for plans whose costs, with
-    /// twice the flushes, are 2^61 at most. The flushes of the settings are those of a whole life, so once they have
-    /// begun none begins until a renewal.
-    ///
-    /// The core gets all memory that it ever needs: that of [`Core::new`], with room for 4,096 prepared plans, and 4 bytes for
-    /// each plan that may wait.
-    ///
-    /// # Errors
-    ///
-    /// Only where that memory can't be had.
-    pub fn endless(alloc: Global, settings: &Settings, waiting: u32) -> Result<Core, CoreError>
-        requires some { 1 ≤ waiting }
-        requires most { waiting ≤ 2 ^ 20 }
-        ensures opens { IfOk result (λ core. StandsFor core (opening (kept_for settings.now (Endless waiting)))) }
-        ensures none_prepared { IfOk result (λ core. core.plans ≡ []) }
-        ensures kept { IfOk result IsKept }
-        ensures headline { IfOk result HeadlineHolds }
-    {
-        let table = Table::new(alloc, settings, Span::Endless { waiting })?;
+        let table = Table::new(alloc, settings)?;
         Ok(Core { table })
     }
 
@@ -258,8 +240,8 @@ impl Core {
     }
 
     /// Begins the next life of a core at rest. In a bounded life its plans go, so 256 may be submitted again; in an endless one
-    /// the prepared plans stay. Plans are numbered from 0 again, and all flushes of its settings may begin again. All else stays as it is: what is cached, ARC's lists and target, which pages are newer
-    /// than the device's, and every known mark.
+    /// the prepared plans stay. Plans are numbered from 0 again, and all flushes of its settings may begin again. All else
+    /// stays as it is: what is cached, ARC's lists and target, which pages are newer than the device's, and every known mark.
     ///
     /// It takes no memory, copies nothing, and reads each page's mark one time. The journal of the next life begins in the
     /// state that the core stands for now.
@@ -395,7 +377,7 @@ impl Core {
         self.table.budget
     }
 
-    /// How many plans were submitted, those that were ended among them.
+    /// How many plans were submitted in this life, those that were ended among them.
     pub fn plans(&self) -> u64
         ensures { (s : State) → StandsFor self.now s → result ≡ plan_count s }
     {

@@ -1,9 +1,9 @@
 //! The table of a new pool.
 
 ghost use Rattle.std.specs.Prelude.{◌≡◌, None, IfOk, replicate};
-ghost use Rattle.pp_model.specs.Reached.{IsSettings, IsSpan};
+ghost use Rattle.pp_model.specs.Reached.{IsSettings};
 ghost use Rattle.pp_core.specs.Parts.{parts_of};
-ghost use Rattle.pp_core.specs.Opening.{kept_for, opening_parts};
+ghost use Rattle.pp_core.specs.Opening.{kept_of, opening_parts};
 
 use crate::seat::Seat;
 use crate::submitting::{most_kept, plan_limit};
@@ -12,7 +12,7 @@ use circular_buffer::HeapCircularBuffer;
 use pp_arc::{Directory, Search};
 use pp_bundles::Bundles;
 use pp_frames::Marks;
-use pp_settings::{Settings, Span};
+use pp_settings::Settings;
 use std::alloc::{AllocError, Global};
 
 /// The seats of so many idle workers.
@@ -27,14 +27,14 @@ fn idle_seats(alloc: Global, workers: u32) -> Result<Vec<Option<Seat>>, AllocErr
 }
 
 impl Table {
-    /// The table of a pool with these settings, whose lives may last so long, in which nothing was done yet.
-    pub(crate) fn new(alloc: Global, settings: &Settings, span: Span) -> Result<Table, AllocError>
-        requires { IsSpan span }
-        ensures opens { IfOk result (λ table. parts_of table ≡ opening_parts (kept_for settings.now span)) }
-        ensures within { IfOk result (λ _. IsSettings (kept_for settings.now span)) }
+    /// The table of a pool with these settings, in which nothing was done yet.
+    pub(crate) fn new(alloc: Global, settings: &Settings) -> Result<Table, AllocError>
+        ensures opens { IfOk result (λ table. parts_of table ≡ opening_parts (kept_of settings.now)) }
+        ensures within { IfOk result (λ _. IsSettings (kept_of settings.now)) }
     {
         let layout = settings.layout();
         let pages = layout.pages();
+        let span = settings.span();
         let plans = Vec::with_capacity(alloc, most_kept(span))?;
         let waiting = HeapCircularBuffer::with_capacity(alloc, plan_limit(span) as usize)?;
         let seats = idle_seats(alloc, settings.workers())?;
@@ -44,6 +44,8 @@ impl Table {
         let bundles = Bundles::new(alloc, 32 * settings.workers(), layout.frames())?;
         let in_flight = vec![in alloc; false; pages as usize]?;
         let flushes = settings.flushes();
+        // Each flush has a begin and an end.
+        let moves = 2 * flushes;
         Ok(Table {
             layout,
             flushes,
@@ -60,8 +62,8 @@ impl Table {
             in_flight,
             flush: None,
             running: 0,
-            need: 2 * u64::from(flushes),
-            budget: 2 * u64::from(flushes),
+            need: moves,
+            budget: moves,
         })
     }
 }

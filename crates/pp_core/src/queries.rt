@@ -50,7 +50,7 @@ impl Table {
 
     /// How many pins the worker's slot has as a bundle.
     pub(crate) fn gathered(&self, worker: u32, slot: u32) -> u32
-        requires { length self.now.seats.items ≤ 32 }
+        requires { length self.now.seats.items ≤ 1024 }
         ensures { result ≡ gathered_in self.now.bundles (length self.now.seats.items) worker slot }
     {
         if slot >= 32 || worker as usize >= self.seats.len() {

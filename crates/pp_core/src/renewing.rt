@@ -1,6 +1,6 @@
 //! Renewing a core that is at rest.
 
-ghost use Rattle.std.specs.Prelude.{◌≡◌, Some, IfErr, OnOk, OnErr, is_none};
+ghost use Rattle.std.specs.Prelude.{◌≡◌, ◌^◌, ◌≤◌, Some, IfErr, OnOk, OnErr, is_none};
 ghost use Rattle.std.specs.List.{list_all};
 ghost use Rattle.pp_model.specs.Pool.{State};
 ghost use Rattle.pp_model.specs.Renewing.{renew_error};
@@ -52,14 +52,16 @@ impl Table {
 
     /// The plans of a bounded life go, none waits, and the flushes come back.
     fn begin_anew(&mut self)
+        requires { self.old.flushes ≤ 2 ^ 59 }
         ensures { parts_of self.new ≡ renewed_parts (parts_of self.old) }
     {
+        let moves = 2 * self.flushes;
         self.forget_plans();
         self.waiting.clear();
         self.taken = 0;
         self.flushes_left = self.flushes;
-        self.need = 2 * u64::from(self.flushes);
-        self.budget = 2 * u64::from(self.flushes);
+        self.need = moves;
+        self.budget = moves;
     }
 
     /// Begins the next life of a core that is at rest.

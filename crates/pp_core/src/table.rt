@@ -36,8 +36,8 @@ pub struct Table {
     /// The layout of all plans.
     pub(crate) layout: Layout,
     /// How many flushes a run may begin, and how many of them are left.
-    pub(crate) flushes: u32,
-    pub(crate) flushes_left: u32,
+    pub(crate) flushes: u64,
+    pub(crate) flushes_left: u64,
     /// How long a life may last.
     pub(crate) span: Span,
     /// The plans that are kept: all that were submitted, in a bounded life; those that were prepared, in an endless one.

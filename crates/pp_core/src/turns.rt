@@ -37,7 +37,7 @@ impl Table {
 
     /// How many workers there are.
     fn workers(&self) -> u32
-        requires { length self.now.seats.items ≤ 32 }
+        requires { length self.now.seats.items ≤ 1024 }
         ensures { result ≡ length self.now.seats.items }
     {
         self.seats.len() as u32

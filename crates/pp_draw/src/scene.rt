@@ -1,6 +1,7 @@
 //! What a picture shows of a run.
 
 ghost use Rattle.std.specs.Prelude.{◌≡◌, ◌≤◌, IfOk, replicate, true};
+ghost use Rattle.pp_settings.specs.declared.span.Span.TheVariants.{Bounded};
 ghost use Rattle.pp_text.specs.Steps.{Gives};
 ghost use Rattle.pp_report.specs.Auditing.{auditing, outset};
 ghost use Rattle.pp_report.specs.Journals.{journal_lines};
@@ -37,7 +38,7 @@ impl Scene {
     }
 }
 
-/// The scene of a journal of these plans under the settings.
+/// The scene of a journal of these plans under the settings, by which a life must be bounded ([`Settings::see_bounded`]).
 ///
 /// It goes over the text once for its size and once line by line, as an audit does, and beside the text it wants the memory of
 /// a core and of the columns, of which there are at most 4,000.
@@ -51,6 +52,7 @@ pub fn scene_of(
     plans: Vec<Accepted>,
     journal: &[u8],
 ) -> Result<Scene, AuditError>
+    requires { settings.now.span ≡ Bounded }
     // The verdict of an audit: how many lines a true journal has, or the first fault.
     ensures exact { Gives is_audit_memory (λ scene. scene.lines) result
         (auditing settings.now plans.items journal.now) }

@@ -1,6 +1,7 @@
 //! The walk over a journal: each line is audited, and the core is looked at behind the last line of each column.
 
 ghost use Rattle.std.specs.Prelude.{◌≡◌, ◌≤◌, ◌+◌, ℕ, [], IfOk, IfErr, OnOk, true};
+ghost use Rattle.pp_settings.specs.declared.span.Span.TheVariants.{Bounded};
 ghost use Rattle.pp_text.specs.Steps.{Gives};
 ghost use Rattle.pp_report.specs.Auditing.{Progress, auditing_from, outset};
 ghost use Rattle.pp_report.specs.Auditors.{IsAt};
@@ -41,6 +42,7 @@ impl Walk {
         settings: &Settings,
         plans: Vec<Accepted>,
     ) -> Result<Walk, AuditError>
+        requires { settings.now.span ≡ Bounded }
         ensures outset { IfOk result (λ walk. IsAt walk.auditor (outset settings.now plans.items)) }
         ensures empty { IfOk result (λ walk. walk.columns.items ≡ []) }
         ensures totals { IfOk result (λ walk. (f : Figure) → total_of walk.tally.totals f ≡ 0) }

@@ -30,7 +30,7 @@ impl Descent {
     /// The page that comes next, if it is one of the region; else the region's first, since some page has to be fixed.
     fn page(self, first: u32, count: u32) -> u32
         requires some { 1 ≤ count }
-        requires ends { first + count ≤ 65536 }
+        requires ends { first + count ≤ 4294967292 }
         ensures from { first ≤ result }
         ensures below { result < first + count }
         ensures next { IfSome self.next (λ page. first ≤ page → page < first + count → result ≡ page) }

@@ -23,7 +23,12 @@ pub struct Pool {
 
 impl Pool {
     /// A pool that has read no page yet.
+    ///
+    /// # Errors
+    ///
+    /// Where the settings are of lives without end, which a book doesn't serve, and where memory runs out.
     pub fn new(alloc: Global, settings: &Settings, device: SoloDevice) -> anyhow::Result<Pool> {
+        settings.see_bounded()?;
         let (book, mut hands) = Book::new(alloc, settings)?;
         let hand = match hands.part(0) {
             Some(hand) => hand,
@@ -61,7 +66,7 @@ impl Pool {
         let (site, device, hand, _log) = worker.end();
         let mut flusher = Flusher::new(site, device);
         // A flush takes two turns: one begins it, and one calls the device and ends it.
-        for _ in 0..2 * settings.flushes() {
+        for _ in 0..settings.flushes().saturating_mul(2) {
             if flusher.turn() != Turned::Done {
                 break;
             }

@@ -1,7 +1,7 @@
 //! What is held at a place of a plan.
 
 use pp_annotate::{gathered, held_as, inserted, removed, scattered};
-use pp_cert::{Entry, Held, MOST_COUNTED};
+use pp_cert::{Entry, Held, most_counted};
 use pp_explain_text::{region_name, slot_name};
 use pp_locate::front;
 use pp_plan::{Plan, Stmt};
@@ -17,15 +17,16 @@ pub(crate) fn entry_of(entries: &[Entry], slot: u8) -> Option<Entry> {
 pub(crate) fn pins_of(entries: &[Entry]) -> u32 {
     let mut pins = 0u32;
     for entry in entries {
-        pins = pins.saturating_add(u32::from(entry.pins()));
+        pins = pins.saturating_add(entry.pins());
     }
     pins
 }
 
-/// What is held after a statement that is neither a loop nor a choice, where this is held before it. Bounds count no further
-/// than to the first that is too large for any pool.
+/// What is held after a statement of the plan that is neither a loop nor a choice, where this is held before it. Bounds are
+/// counted as a maker of certificates counts them.
 pub(crate) fn after(
     alloc: Global,
+    plan: &Plan,
     before: &[Entry],
     stmt: &Stmt,
 ) -> Result<Vec<Entry>, AllocError> {
@@ -41,20 +42,23 @@ pub(crate) fn after(
         Stmt::Unfix { slot } => removed(alloc, before, *slot),
         Stmt::Latch { slot, mode } => held_as(alloc, before, Held::from(*mode), *slot),
         Stmt::Unlatch { slot } => held_as(alloc, before, Held::Free, *slot),
-        Stmt::Gather { slot, .. } => gathered(alloc, before, *slot),
+        Stmt::Gather { slot, .. } => {
+            gathered(alloc, before, *slot, most_counted(&plan.layout()))
+        }
         Stmt::Scatter { slot } => scattered(alloc, before, *slot),
         Stmt::Loop { .. } | Stmt::Choice { .. } => Vec::from_slice(alloc, before),
     }
 }
 
-/// The entries as a certificate writes them, as in `{"a":["root","-"],"g":3}`; of a bound that is too large for any pool it is
-/// said that it may be more. Of a long text it is the front.
+/// The entries as a certificate writes them, as in `{"a":["root","-"],"g":3}`; of a bound that isn't counted further it is said
+/// that it may be more. Of a long text it is the front.
 pub(crate) fn note_text(
     alloc: Global,
     settings: &Settings,
     plan: &Plan,
     entries: &[Entry],
 ) -> Result<String, AllocError> {
+    let stop = most_counted(&plan.layout());
     let mut text = String::from_str(alloc, "{")?;
     for (place, entry) in entries.iter().enumerate() {
         if place > 0 {
@@ -67,10 +71,7 @@ pub(crate) fn note_text(
                 let held = held.text();
                 write!(text, "{slot:?}:[{region:?},{held:?}]")?;
             }
-            Entry::Bundle { bound, .. } if bound < MOST_COUNTED => write!(
-                text,
-                "{slot:?}:{bound}"
-            )?,
+            Entry::Bundle { bound, .. } if bound < stop => write!(text, "{slot:?}:{bound}")?,
             Entry::Bundle { bound, .. } => write!(text, "{slot:?}:{bound} or more")?,
         }
     }

@@ -11,10 +11,10 @@ use crate::plans::refused_plan;
 use crate::reading::{plan_in, settings_in};
 use crate::source::Source;
 use crate::stop::{Stop, stop_said};
-use crate::submit::submit_said;
+use crate::submit::{submit_said, unkept_said};
 use pp_annotate::AnnotateError;
 use pp_cert::{CertError, CheckError};
-use pp_explain_text::{certificate_said, plan_said, script_said, settings_said};
+use pp_explain_text::{certificate_said, other_life_said, plan_said, script_said, settings_said};
 use pp_locate::Said;
 use pp_model::SubmitError;
 use pp_plan::PlanError;
@@ -39,6 +39,8 @@ pub struct Sources<'a> {
 pub enum Refused {
     /// The settings' file gives no settings.
     Settings(SettingsError),
+    /// The settings are of lives without end, which the command doesn't serve.
+    OtherLife,
     /// The script's file gives no script.
     Script(ScriptError),
     /// A plan's file gives no plan.
@@ -51,6 +53,8 @@ pub enum Refused {
     Annotate(AnnotateError),
     /// A new pool doesn't take a plan in.
     Submit(SubmitError),
+    /// A new pool whose life has no end doesn't keep a plan beside the earlier ones.
+    TooManyPrepared,
     /// The journal is not a true one of the plans.
     Audit(AuditError),
     /// The run gives no record.
@@ -137,6 +141,10 @@ fn finding_of(
             Which::Settings,
             settings_said(alloc, files.settings.bytes, error)?,
         ),
+        Refused::OtherLife => Finding::of(
+            Which::Settings,
+            other_life_said(alloc, files.settings.bytes)?,
+        ),
         Refused::Script(error) => Finding::of(Which::Other, script_said(alloc, other, error)?),
         refused => match settings_in(alloc, files.settings.bytes)? {
             Some(settings) => finding_under(alloc, &settings, files.plans, other, refused)?,
@@ -162,6 +170,10 @@ fn finding_under(
             Some((number, said)) => Finding::of(Which::Plan(number), said),
             None => None,
         }),
+        Refused::TooManyPrepared => {
+            let (number, said) = unkept_said(alloc)?;
+            Ok(Finding::of(Which::Plan(number), said))
+        }
         Refused::Plan(_) | Refused::Annotate(_) => {
             finding_among(alloc, settings, plans, refused)
         }
@@ -173,7 +185,7 @@ fn finding_under(
             let said = journal_said(alloc, settings, plans, other, error)?;
             Ok(Finding::of(Which::Other, said))
         }
-        Refused::Settings(_) | Refused::Script(_) => Ok(None),
+        Refused::Settings(_) | Refused::OtherLife | Refused::Script(_) => Ok(None),
     }
 }
 

@@ -4,7 +4,7 @@ use crate::entries::{entry_of, note_text};
 use crate::longest::{Multiplied, multiplied_in};
 use crate::places::{Excess, Place, Role, excess_of, place_of};
 use crate::reading::plan_in;
-use pp_cert::{CheckError, Entry, Held, MOST_COUNTED, MOST_STEPS};
+use pp_cert::{CheckError, Entry, Held, MOST_STEPS, most_counted};
 use pp_explain_text::{region_name, slot_name};
 use pp_locate::{Said, Statement, slot_in, steps_text, steps_to, text_of, value_of};
 use pp_plan::Plan;
@@ -50,9 +50,10 @@ fn has_bundle(entries: &[Entry]) -> bool {
     entries.iter().any(Entry::is_bundle)
 }
 
-/// Whether the bound of a bundle may be more than it says.
-fn is_counted_out(entries: &[Entry]) -> bool {
-    entries.iter().any(|entry| entry.pins() >= MOST_COUNTED)
+/// Whether the bound of a bundle of the plan may be more than it says.
+fn is_counted_out(plan: &Plan, entries: &[Entry]) -> bool {
+    let stop = most_counted(&plan.layout());
+    entries.iter().any(|entry| entry.pins() >= stop)
 }
 
 /// Where a place of the plan of these bytes lies, as in `before statement 1 at body[1]`.
@@ -165,7 +166,7 @@ impl Matter<'_> {
     fn excess(&self, alloc: Global, excess: &Excess, rule: &str) -> Result<Said, AllocError> {
         let (pins, place) = (excess.pins, &excess.place);
         let held = self.note(alloc, &place.held)?;
-        let least = if is_counted_out(&place.held) {
+        let least = if is_counted_out(self.plan, &place.held) {
             "at least "
         } else {
             ""

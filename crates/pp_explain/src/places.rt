@@ -250,7 +250,7 @@ impl Walk<'_> {
             }
             Stmt::Choice { branches } => self.choice(alloc, levels - 1, number, before, branches),
             _ => {
-                let held = after(alloc, before, stmt)?;
+                let held = after(alloc, self.plan, before, stmt)?;
                 if matches!(stmt, Stmt::Fix { .. } | Stmt::Gather { .. }) {
                     self.hold(alloc, number, &held)?;
                 }

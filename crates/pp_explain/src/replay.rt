@@ -91,8 +91,11 @@ fn accepted_in(
 }
 
 impl<'a> Played<'a> {
-    /// An audit that has passed the lines before the one that it is played to, where all plans are accepted.
+    /// An audit that has passed the lines before the one that it is played to, where a life is bounded and all plans are accepted.
     pub(crate) fn auditor(&self, alloc: Global) -> Result<Option<Auditor>, AllocError> {
+        let Ok(()) = self.settings.see_bounded() else {
+            return Ok(None);
+        };
         let Some(plans) = self.accepted(alloc)? else {
             return Ok(None);
         };

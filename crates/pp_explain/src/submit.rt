@@ -4,14 +4,20 @@ use crate::plans::certificate_of;
 use crate::source::Source;
 use pp_locate::Said;
 use pp_model::SubmitError;
-use pp_settings::Settings;
+use pp_settings::{Settings, Span};
 use std::alloc::{AllocError, Global};
 
-/// How many plans a pool takes in at most.
+/// How many plans a pool takes in at most in a bounded life.
 const MOST_PLANS: usize = 256;
 
-/// How many events the journal of a pool has at most.
+/// How many plans a pool keeps at most in a life without end.
+const MOST_KEPT: usize = 4_096;
+
+/// How many events the journal of a bounded life has at most.
 const MOST_EVENTS: u64 = 4_000_000;
+
+/// How many events a life without end has at most: 2^61.
+const MOST_ENDLESS_EVENTS: u64 = 2_305_843_009_213_693_952;
 
 /// How many events a journal has at most for a step of a plan, and for a plan besides.
 const STEP_EVENTS: u64 = 3;
@@ -28,13 +34,43 @@ pub(crate) fn submit_said(
 ) -> Result<Option<(usize, Said)>, AllocError> {
     match error {
         SubmitError::OtherSettings | SubmitError::NotPrepared => Ok(None),
-        SubmitError::TooManyPlans => {
+        SubmitError::TooManyPlans => Ok(Some(one_too_many(alloc, settings.span())?)),
+        SubmitError::JournalLimit => too_long(alloc, settings, plans),
+    }
+}
+
+/// The number of the plan that a new pool doesn't keep beside the earlier ones, where its life has no end, and what is said of it.
+pub(crate) fn unkept_said(alloc: Global) -> Result<(usize, Said), AllocError> {
+    let text = format!(in alloc;
+        "it is plan {MOST_KEPT}, counted from 0: in a life without end a pool keeps at most {MOST_KEPT} plans"
+    )?;
+    Ok((MOST_KEPT, Said::of(text)))
+}
+
+/// The number of the plan that is one too many for a new pool whose life lasts so long, and what is said of it.
+fn one_too_many(alloc: Global, span: Span) -> Result<(usize, Said), AllocError> {
+    match span {
+        Span::Bounded => {
             let text = format!(in alloc;
                 "it is plan {MOST_PLANS}, counted from 0: a pool takes in at most {MOST_PLANS} plans"
             )?;
-            Ok(Some((MOST_PLANS, Said::of(text))))
+            Ok((MOST_PLANS, Said::of(text)))
         }
-        SubmitError::JournalLimit => too_long(alloc, settings, plans),
+        Span::Endless { waiting } => {
+            let text = format!(in alloc;
+                "it is plan {waiting}, counted from 0: waiting is {waiting}, so at most {waiting} plans wait at a time, \
+                and all wait before the script begins"
+            )?;
+            Ok((waiting as usize, Said::of(text)))
+        }
+    }
+}
+
+/// How many events a life has at most that lasts so long.
+fn most_events(span: Span) -> u64 {
+    match span {
+        Span::Bounded => MOST_EVENTS,
+        Span::Endless { .. } => MOST_ENDLESS_EVENTS,
     }
 }
 
@@ -44,16 +80,16 @@ fn too_long(
     settings: &Settings,
     plans: &[Source<'_>],
 ) -> Result<Option<(usize, Said)>, AllocError> {
-    let flushes = u64::from(settings.flushes()) * 2;
+    let (flushes, most) = (settings.flushes() * 2, most_events(settings.span()));
     let mut before = 0u64;
     for (number, plan) in plans.iter().enumerate() {
         let Some(cost) = cost_in(alloc, settings, plan.bytes)? else {
             return Ok(None);
         };
-        if before.saturating_add(cost).saturating_add(flushes) > MOST_EVENTS {
+        if before.saturating_add(cost).saturating_add(flushes) > most {
             let text = format!(in alloc;
                 "plan {number}, counted from 0, costs {cost}, those before it {before}, and the flushes {flushes}: \
-                a pool takes in at most {MOST_EVENTS} in all"
+                a pool takes in at most {most} in all"
             )?;
             return Ok(Some((number, Said::of(text))));
         }

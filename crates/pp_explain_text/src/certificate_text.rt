@@ -2,7 +2,7 @@
 
 use crate::names::{region_names, slot_names};
 use crate::plan_text::stranger;
-use pp_cert::{CertError, MOST_BOUND, MOST_ENTRIES, MOST_NOTES};
+use pp_cert::{CertError, MOST_ENTRIES, MOST_NOTES, most_bound};
 use pp_locate::{
     Said, Step, hint, listed, no_text, quoted, said_at, shown_at, steps_text, text_of, value_of,
 };
@@ -223,7 +223,7 @@ fn way_to(alloc: Global, place: usize, key: &str, part: Part) -> Result<Vec<Step
 /// The fault of an entry: its form first, then the slot's name, then the region's, then that the slot is of another kind.
 fn entry_fault(matter: Matter<'_>, key: &str, value: &Value) -> Option<Part> {
     let region = region_in(value);
-    if region.is_none() && !is_bound(value) {
+    if region.is_none() && !is_bound(most_bound(matter.settings), value) {
         return Some(Part::Value);
     }
     let Some(slot) = matter.plan.slot(key) else {
@@ -255,12 +255,13 @@ fn entry_text(
         Part::Region => no_region_text(alloc, matter.settings, region.unwrap_or("")),
         Part::Value => {
             let shown = shown_at(alloc, matter.text, way)?;
-            if region.is_none() && !is_bound(value) {
+            let most = most_bound(matter.settings);
+            if region.is_none() && !is_bound(most, value) {
                 return format!(in alloc;
-                    "{shown}: an entry is {PAGE}, or of a bundle a whole number from 1 to {MOST_BOUND}"
+                    "{shown}: an entry is {PAGE}, or of a bundle a whole number from 1 to {most}"
                 );
             }
-            other_kind_text(alloc, matter.plan, key, &shown)
+            other_kind_text(alloc, matter.plan, most, key, &shown)
         }
     }
 }
@@ -287,6 +288,7 @@ fn no_region_text(alloc: Global, settings: &Settings, region: &str) -> Result<St
 fn other_kind_text(
     alloc: Global,
     plan: &Plan,
+    most: u32,
     name: &str,
     shown: &str,
 ) -> Result<String, AllocError> {
@@ -296,7 +298,7 @@ fn other_kind_text(
     };
     if is_bundle {
         return format!(in alloc;
-            "{shown}: {name} is a bundle of the plan, so its entry is a whole number from 1 to {MOST_BOUND}, the most pages \
+            "{shown}: {name} is a bundle of the plan, so its entry is a whole number from 1 to {most}, the most pages \
             that it pins there"
         );
     }
@@ -304,9 +306,9 @@ fn other_kind_text(
 }
 
 /// Whether the value is a number of pages that a bundle's entry may say.
-fn is_bound(value: &Value) -> bool {
+fn is_bound(most: u32, value: &Value) -> bool {
     match value.as_u64() {
-        Some(number) => 1 <= number && number <= u64::from(MOST_BOUND),
+        Some(number) => 1 <= number && number <= u64::from(most),
         None => false,
     }
 }

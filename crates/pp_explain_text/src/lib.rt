@@ -13,4 +13,4 @@ pub use certificate_text::certificate_said;
 pub use names::{region_name, region_names, slot_name, slot_names};
 pub use plan_text::plan_said;
 pub use script_text::script_said;
-pub use settings_text::settings_said;
+pub use settings_text::{other_life_said, settings_said};

@@ -3,18 +3,35 @@
 use crate::settings_places::{Wanted, place_in};
 use pp_locate::{Said, hint, listed, no_text, quoted, spot_at, text_of};
 use pp_settings::limits::{
-    FEWEST_PAGE_BYTES, GREATEST_CLASS, LONGEST_NAME, MOST_FLUSHES, MOST_FRAMES, MOST_PAGE_BYTES,
-    MOST_REGIONS, MOST_WORKERS, PAGE_NUMBERS,
+    FEWEST_PAGE_BYTES, FIRST_FRAMES, FIRST_PAGE_BYTES, FIRST_WORKERS, GREATEST_CLASS, LONGEST_NAME,
+    MOST_ENDLESS_FLUSHES, MOST_FLUSHES, MOST_FRAMES, MOST_PAGE_BYTES, MOST_REGIONS, MOST_WAITING,
+    MOST_WORKERS, SECOND_PAGE_BYTES,
 };
-use pp_settings::{RegionKey, Settings, SettingsError, Spot, TopKey};
+use pp_settings::{RegionKey, Settings, SettingsError, Spot, TextVersion, TopKey};
 use std::alloc::{AllocError, Global};
 use toml::{Table, Value};
 
-/// The keys of the document.
-const TOP_KEYS: [&str; 5] = ["frames", "page_bytes", "workers", "flushes", "region"];
+/// The keys of a document of version 1.
+const FIRST_KEYS: [&str; 5] = ["frames", "page_bytes", "workers", "flushes", "region"];
+
+/// The keys of a document of version 2.
+const SECOND_KEYS: [&str; 7] = [
+    "version",
+    "frames",
+    "page_bytes",
+    "workers",
+    "waiting",
+    "flushes",
+    "region",
+];
 
 /// The keys of a region.
 const REGION_KEYS: [&str; 4] = ["name", "first", "count", "class"];
+
+/// What is said of settings whose lives have no end.
+const OTHER_LIFE: &str =
+    "waiting is more than 0, so lives have no end: this command serves bounded ones alone, \
+    and with waiting = 0 they are bounded";
 
 /// What is said of the bytes of settings that are refused so.
 pub fn settings_said(
@@ -29,6 +46,17 @@ pub fn settings_said(
     match toml::table_from_str(alloc, text) {
         Ok(table) => table_said(alloc, text, &table, error),
         Err(refused) => no_toml(alloc, text, &refused),
+    }
+}
+
+/// What is said of the bytes of settings whose lives have no end, where bounded ones alone are served.
+pub fn other_life_said(alloc: Global, bytes: &[u8]) -> Result<Said, AllocError> {
+    match text_of(bytes) {
+        Ok(text) => Ok(Said {
+            spot: place_in(text, Wanted::Key("waiting")).map(|offset| spot_at(bytes, offset)),
+            text: String::from_str(alloc, OTHER_LIFE)?,
+        }),
+        Err(spot) => no_text(alloc, spot, "TOML"),
     }
 }
 
@@ -55,7 +83,7 @@ fn offset_of(text: &str, table: &Table, error: SettingsError) -> Option<usize> {
             Spot::Top(_) => place_in(text, Wanted::Key(spot.key())),
             Spot::InRegion(region, _) => key_of(text, region, spot.key()),
         },
-        SettingsError::Unknown(None) => place_in(text, Wanted::Key(stranger(table, &TOP_KEYS)?)),
+        SettingsError::Unknown(None) => place_in(text, Wanted::Key(top_stranger(table)?)),
         SettingsError::Unknown(Some(region)) => {
             let found = region_at(table, usize::from(region))?;
             key_of(text, region, stranger(found, &REGION_KEYS)?)
@@ -133,39 +161,79 @@ fn prefix_of(alloc: Global, table: &Table, spot: Spot) -> Result<String, AllocEr
 /// What the value at the key is to be.
 fn rule_of(alloc: Global, table: &Table, spot: Spot) -> Result<String, AllocError> {
     match spot {
-        Spot::Top(TopKey::Frames) => number_rule(alloc, 1, MOST_FRAMES),
-        Spot::Top(TopKey::PageBytes) => number_rule(alloc, FEWEST_PAGE_BYTES, MOST_PAGE_BYTES),
-        Spot::Top(TopKey::Workers) => number_rule(alloc, 1, MOST_WORKERS),
-        Spot::Top(TopKey::Flushes) => number_rule(alloc, 0, MOST_FLUSHES),
-        Spot::Top(TopKey::Region) => {
-            format!(in alloc; "a list of 1 to {MOST_REGIONS} tables, each `[[region]]`")
-        }
+        Spot::Top(key) => top_rule(alloc, table, key),
         Spot::InRegion(_, RegionKey::Name) => {
             format!(in alloc; "a text of 1 to {LONGEST_NAME} of a-z, 0-9 and _, the first a letter")
         }
-        Spot::InRegion(_, RegionKey::First) => number_rule(alloc, 0, PAGE_NUMBERS - 1),
+        Spot::InRegion(_, RegionKey::First) => {
+            let pages = TextVersion::of(table).page_numbers();
+            number_rule(alloc, 0, u64::from(pages - 1))
+        }
         Spot::InRegion(region, RegionKey::Count) => count_rule(alloc, table, region),
-        Spot::InRegion(_, RegionKey::Class) => number_rule(alloc, 0, GREATEST_CLASS),
+        Spot::InRegion(_, RegionKey::Class) => number_rule(alloc, 0, u64::from(GREATEST_CLASS)),
     }
 }
 
+/// What the value at a key of the document is to be.
+fn top_rule(alloc: Global, table: &Table, key: TopKey) -> Result<String, AllocError> {
+    let version = TextVersion::of(table);
+    match key {
+        TopKey::Version => number_rule(alloc, 2, 2),
+        TopKey::Frames => number_rule(alloc, 1, limit_in(version, FIRST_FRAMES, MOST_FRAMES)),
+        TopKey::PageBytes => {
+            let fewest = limit_in(version, FEWEST_PAGE_BYTES, SECOND_PAGE_BYTES);
+            let most = limit_in(version, FIRST_PAGE_BYTES, MOST_PAGE_BYTES);
+            number_rule(alloc, fewest, most)
+        }
+        TopKey::Workers => number_rule(alloc, 1, limit_in(version, FIRST_WORKERS, MOST_WORKERS)),
+        TopKey::Waiting => number_rule(alloc, 0, u64::from(MOST_WAITING)),
+        TopKey::Flushes => flushes_rule(alloc, table),
+        TopKey::Region => {
+            format!(in alloc; "a list of 1 to {MOST_REGIONS} tables, each `[[region]]`")
+        }
+    }
+}
+
+/// The limit that texts of the version have.
+fn limit_in(version: TextVersion, first: u32, second: u32) -> u64 {
+    match version {
+        TextVersion::One => u64::from(first),
+        TextVersion::Two => u64::from(second),
+    }
+}
+
+/// How many flushes a life may begin that lasts as long as the document says.
+fn flushes_rule(alloc: Global, table: &Table) -> Result<String, AllocError> {
+    match (TextVersion::of(table), waiting_in(table)) {
+        (TextVersion::One, _) => number_rule(alloc, 0, MOST_FLUSHES),
+        (TextVersion::Two, Some(0)) => format!(in alloc;
+            "a whole number from 0 to {MOST_FLUSHES}, since waiting is 0 and a life is bounded"
+        ),
+        (TextVersion::Two, _) => number_rule(alloc, 0, MOST_ENDLESS_FLUSHES),
+    }
+}
+
+/// The whole number at `waiting`, if there is one.
+fn waiting_in(table: &Table) -> Option<i64> {
+    table.get("waiting")?.as_integer()
+}
+
 /// A number within limits.
-fn number_rule(alloc: Global, low: u32, high: u32) -> Result<String, AllocError> {
+fn number_rule(alloc: Global, low: u64, high: u64) -> Result<String, AllocError> {
     format!(in alloc; "a whole number from {low} to {high}")
 }
 
 /// How many pages a region has that begins where this one does.
 fn count_rule(alloc: Global, table: &Table, region: u8) -> Result<String, AllocError> {
+    let pages = TextVersion::of(table).page_numbers();
     match number_in(table, region, "first") {
-        Some(first) if 0 <= first && first < i64::from(PAGE_NUMBERS) => {
-            let most = i64::from(PAGE_NUMBERS) - first;
+        Some(first) if 0 <= first && first < i64::from(pages) => {
+            let most = i64::from(pages) - first;
             format!(in alloc;
-                "a whole number from 1 to {most}, since first is {first} and pages are below {PAGE_NUMBERS}"
+                "a whole number from 1 to {most}, since first is {first} and pages are below {pages}"
             )
         }
-        _ => format!(in alloc;
-            "a whole number of 1 or more; first plus count is at most {PAGE_NUMBERS}"
-        ),
+        _ => format!(in alloc; "a whole number of 1 or more; first plus count is at most {pages}"),
     }
 }
 
@@ -228,7 +296,12 @@ fn value_text(alloc: Global, value: &Value) -> Result<String, AllocError> {
 /// The document, or a region, has a key that isn't known.
 fn unknown_text(alloc: Global, table: &Table, region: Option<u8>) -> Result<String, AllocError> {
     match region {
-        None => stranger_text(alloc, table, "settings have", &TOP_KEYS),
+        None => match TextVersion::of(table) {
+            TextVersion::One => first_stranger_text(alloc, table),
+            TextVersion::Two => {
+                stranger_text(alloc, table, "settings of version 2 have", &SECOND_KEYS)
+            }
+        },
         Some(region) => {
             let prefix = region_text(alloc, table, region)?;
             match region_at(table, usize::from(region)) {
@@ -240,6 +313,23 @@ fn unknown_text(alloc: Global, table: &Table, region: Option<u8>) -> Result<Stri
             }
         }
     }
+}
+
+/// The document of version 1 has a key that isn't known, or one of another version.
+fn first_stranger_text(alloc: Global, table: &Table) -> Result<String, AllocError> {
+    if let Some(version) = table.get("version") {
+        let version = value_text(alloc, version)?;
+        return format!(in alloc;
+            "version is {version}: the only version that a text names is the whole number 2, and one of version 1 has no such key"
+        );
+    }
+    if stranger(table, &FIRST_KEYS) == Some("waiting") {
+        return String::from_str(
+            alloc,
+            "the key waiting is one of settings of version 2 alone, whose first key is version = 2",
+        );
+    }
+    stranger_text(alloc, table, "settings have", &FIRST_KEYS)
 }
 
 /// The first key of the table that isn't known, and those that are.
@@ -258,6 +348,22 @@ fn stranger_text(
         }
         None => format!(in alloc; "a key isn't known: {whose} the keys {keys}"),
     }
+}
+
+/// The key of the document that its version doesn't have, the first of them.
+fn top_stranger(table: &Table) -> Option<&str> {
+    match TextVersion::of(table) {
+        TextVersion::One => first_stranger(table),
+        TextVersion::Two => stranger(table, &SECOND_KEYS),
+    }
+}
+
+/// The key that a document of version 1 doesn't have: `version` where it stands there, and else the first in the order of bytes.
+fn first_stranger(table: &Table) -> Option<&str> {
+    if table.get("version").is_some() {
+        return Some("version");
+    }
+    stranger(table, &FIRST_KEYS)
 }
 
 /// The first key of the table that isn't one of these, in the order of bytes.

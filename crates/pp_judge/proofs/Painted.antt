@@ -1,8 +1,8 @@
 -- What drawing a journal from its files ends with.
-use Rattle.std.proofs.Common.{◌≡◌, ℕ, Bool, true, false, List, Result, Ok, Err, IsErrAnd, String, refl, sym, subst, ap, inl, inr}
+use Rattle.std.proofs.Common.{◌≡◌, ℕ, Bool, true, false, List, Result, Ok, Err, IsErrAnd, String, sym, subst, ap, inl, inr}
 use Rattle.std.proofs.Common.{if◌then◌else◌}
 use Rattle.pp_text.specs.Steps.{Refuses}
-use Rattle.pp_judge.specs.Answers.{Draws, IsDrawingAnswer, MayCome, drawn, refused, seen}
+use Rattle.pp_judge.specs.Answers.{Draws, IsDrawingAnswer, MayCome, drawn, seen}
 use Rattle.pp_judge.specs.Steps.{is_want_of_memory}
 use Rattle.pp_judge.specs.declared.error.JudgeError.{JudgeError}
 use Rattle.pp_judge.specs.declared.exit.Exit.{Exit}

@@ -4,11 +4,10 @@ use Rattle.std.proofs.Common.{refl, sym, ap, subst, ◌∙◌, inl, inr}
 use Rattle.std.proofs.Common.{◌⊎◌, String}
 use Rattle.pp_core.specs.Opening.{kept_of}
 use Rattle.pp_model.specs.Pool.{opening}
-use Rattle.pp_model.specs.Submitting.{after_submits}
-use Rattle.pp_simulate.specs.Simulating.{Simulates, TellsSubmit}
+use Rattle.pp_simulate.specs.Simulating.{IsSimulateError, Simulates}
 use Rattle.pp_simulate.specs.declared.error.SimulateError.{SimulateError}
-use Rattle.pp_simulate.specs.declared.error.SimulateError.TheVariants.{Submit, OutOfMemory}
-use Rattle.pp_judge.specs.Answers.{IsSimulationAnswer, Rehearses, refused, simulated}
+use Rattle.pp_simulate.specs.declared.error.SimulateError.TheVariants.{Submit, TooManyPrepared, OutOfMemory}
+use Rattle.pp_judge.specs.Answers.{IsSimulationAnswer, RefusesPlan, Rehearses, refused, simulated}
 use Rattle.pp_judge.specs.Judgement.{Stage}
 use Rattle.pp_judge.specs.Steps.{is_want_of_memory}
 use Rattle.pp_judge.specs.declared.error.JudgeError.{JudgeError}
@@ -35,10 +34,12 @@ stopped staged (Err f) e same told =
 pub not_played : {Z : Type 0} (staged : Result Stage JudgeError) (stage : Stage) (r : Result (String Z) JudgeError)
     (e : SimulateError)
     → staged ≡ Ok stage → IsErrAnd r (λ f. f ≡ Simulate e)
-    → TellsSubmit (after_submits (opening (kept_of stage.settings)) stage.plans) e → Rehearses staged r
+    → IsSimulateError (opening (kept_of stage.settings)) stage.plans e → Rehearses staged r
 not_played staged stage (Ok x) e is same told = absurd same
 not_played staged stage (Err f) (Submit error) is same told =
-    inr (subst (λ s. IsSimulationAnswer s (refused f)) (sym is) (record { error = error; first = told; told = same }))
+    inr (subst (λ s. IsSimulationAnswer s (refused f)) (sym is) (subst (RefusesPlan stage) (sym same) told))
+not_played staged stage (Err f) TooManyPrepared is same told =
+    inr (subst (λ s. IsSimulationAnswer s (refused f)) (sym is) (subst (RefusesPlan stage) (sym same) told))
 not_played staged stage (Err f) OutOfMemory is same told = inl (ap is_want_of_memory same)
 
 -- Where all files are read, the text is what playing the script may come to.

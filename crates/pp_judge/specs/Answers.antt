@@ -7,9 +7,8 @@ use Rattle.pp_cert.specs.Limits.{step_events, plan_events}
 use Rattle.pp_core.specs.Opening.{kept_of}
 use Rattle.pp_model.specs.Pool.{opening}
 use Rattle.pp_model.specs.Submitting.{after_submits}
-use Rattle.pp_model.specs.declared.refusals.SubmitError.{SubmitError}
-use Rattle.pp_simulate.specs.Simulating.{Simulates}
-use Rattle.pp_simulate.specs.declared.error.SimulateError.TheVariants.{Submit}
+use Rattle.pp_simulate.specs.Simulating.{KeepsNoMore, Simulates}
+use Rattle.pp_simulate.specs.declared.error.SimulateError.TheVariants.{Submit, TooManyPrepared}
 use Rattle.pp_judge.specs.Judgement.{Stage, audited_in, certification, judgement, lives_audited_in, staged_in}
 use Rattle.pp_judge.specs.Steps.{is_want_of_memory}
 use Rattle.pp_judge.specs.declared.contents.Contents.{Contents}
@@ -162,14 +161,15 @@ Draws verdict (Err refusal) = Refuses (is_want_of_memory refusal) refusal verdic
 abbrev pub MayDraw : (settings journal : List ℕ) → (plans : List (List ℕ)) → Answer → Type 0
 MayDraw settings journal plans answer = IsDrawingAnswer (audited_in settings journal plans) answer
 
--- a new pool with these settings takes the plans in up to one, which it refuses so
-pub record RefusesPlan (stage : Stage) (refusal : JudgeError) : Type 0 where
-  pub error : SubmitError
-  pub first : after_submits (opening (kept_of stage.settings)) stage.plans ≡ Err error
-  pub told : refusal ≡ judge_error.Simulate (Submit error)
+-- a new pool with these settings takes the plans in up to one: it refuses that one so, or keeps no plan more
+abbrev pub RefusesPlan : Stage → JudgeError → Type 0
+RefusesPlan stage (judge_error.Simulate (Submit error)) =
+    after_submits (opening (kept_of stage.settings)) stage.plans ≡ Err error
+RefusesPlan stage (judge_error.Simulate TooManyPrepared) = KeepsNoMore (opening (kept_of stage.settings)) stage.plans
+RefusesPlan stage _ = ⊥
 
--- what may be answered where the files of `simulate` spell this: the text of playing the script, or the refusal of a plan;
--- and where they are refused, that refusal
+-- what may be answered where the files of `simulate` spell this: the text of playing the script, or that a plan is not
+-- taken in; and where they are refused, that refusal
 abbrev pub IsSimulationAnswer : Result Stage JudgeError → Answer → Type 0
 IsSimulationAnswer (Err refusal) answer = answer ≡ refused refusal
 IsSimulationAnswer (Ok stage) (simulated text) = Simulates stage.settings stage.plans stage.script text

@@ -3,6 +3,7 @@ use Rattle.std.specs.Prelude.{ℕ, if◌then◌else◌, List, [], ◌∷◌, Opt
 use Rattle.std.specs.Str.{is_utf8}
 use Rattle.pp_settings.specs.Settings.{Configuration, geometry_of}
 use Rattle.pp_settings.specs.Layout.{page_count}
+use Rattle.pp_settings.specs.Spans.{is_bounded}
 use Rattle.pp_settings.specs.Reading.{reading as read_settings}
 use Rattle.pp_settings.specs.declared.error.SettingsError.TheVariants.{NotToml}
 use Rattle.pp_plan.specs.Terms.{Terms}
@@ -26,13 +27,20 @@ use Rattle.pp_judge.specs.declared.judgement.Sources.{Sources}
 use Rattle.pp_judge.specs.declared.device.DeviceSize.{DeviceSize}
 use Rattle.pp_judge.specs.declared.error.JudgeError.{JudgeError}
 use Rattle.pp_judge.specs.declared.error.JudgeError.TheVariants.{Settings, Script, Plan, Certificate, Check, Annotate}
-use Rattle.pp_judge.specs.declared.error.JudgeError.TheVariants.{Audit}
-use Rattle.pp_text.specs.Steps.{◌>>=◌}
+use Rattle.pp_judge.specs.declared.error.JudgeError.TheVariants.{OtherLife, Audit}
+use Rattle.pp_text.specs.Steps.{◌>>=◌, must}
 use Rattle.pp_judge.specs.Steps.{refusing}
 
 -- The settings that bytes spell; what is no text is no TOML.
 unfoldable pub settings_in : List ℕ → Result Configuration JudgeError
 settings_in bytes = refusing Settings (if is_utf8 bytes then read_settings bytes else Err NotToml)
+
+-- The same for what serves bounded lives alone: settings of a life without end are refused, behind all else of them.
+unfoldable pub bounded_in : List ℕ → Result Configuration JudgeError
+bounded_in bytes = do
+  s ← settings_in bytes
+  seen ← must (is_bounded s.span) OtherLife
+  Ok s
 
 -- The plan that bytes spell under the settings; what is no text is no JSON.
 unfoldable pub plan_in : Configuration → List ℕ → Result Terms JudgeError
@@ -122,11 +130,11 @@ staged_in settings script plans = do
   accepted ← accepted_all s plans
   Ok (record { settings = s; script = cues; plans = accepted })
 
--- What the bytes of settings and of plans spell: each is refused in its turn.
+-- What the bytes of settings, whose lives must be bounded, and of plans spell: each is refused in its turn.
 unfoldable pub workload_in : (settings : List ℕ) → (plans : List (List ℕ))
     → Result (Configuration × List Acceptance) JudgeError
 workload_in settings plans = do
-  s ← settings_in settings
+  s ← bounded_in settings
   accepted ← accepted_all s plans
   Ok (s, accepted)
 

@@ -3,7 +3,7 @@ use Rattle.std.specs.Prelude.{ℕ, List, [], ◌++◌, codes}
 use Rattle.std.specs.Fmt.{decimal}
 use Rattle.pp_shown.specs.Shown.{shown_path}
 use Rattle.pp_text.specs.Refusals.{Row, refusal_text}
-use Rattle.pp_settings.specs.Refusals.{settings_error_row}
+use Rattle.pp_settings.specs.Refusals.{settings_error_row, other_life_row}
 use Rattle.pp_plan.specs.Refusals.{plan_error_row}
 use Rattle.pp_cert.specs.CertErrors.{certificate_error_row}
 use Rattle.pp_cert.specs.CheckErrors.{check_error_row}
@@ -15,12 +15,13 @@ use Rattle.pp_judge.specs.Answers.{Answer, done, made, simulated, formatted, ran
 use Rattle.pp_judge.specs.Answers.{kept, refused, misused, wordless, in_use, unread, unwritten, out_of_memory}
 use Rattle.pp_judge.specs.declared.error.JudgeError.{JudgeError}
 use Rattle.pp_judge.specs.declared.error.JudgeError.TheVariants.{Settings, Script, Plan, Certificate, Check, Annotate}
-use Rattle.pp_judge.specs.declared.error.JudgeError.TheVariants.{Simulate, Audit}
+use Rattle.pp_judge.specs.declared.error.JudgeError.TheVariants.{Simulate, OtherLife, Audit}
 use Rattle.pp_judge.specs.declared.exit.Figures.{Figures}
 
 -- The number and the name of a refusal, and what it is about.
 abbrev pub judge_error_row : JudgeError → Row
 judge_error_row (Settings e) = settings_error_row e
+judge_error_row OtherLife = other_life_row
 judge_error_row (Script e) = script_error_row e
 judge_error_row (Plan e) = plan_error_row e
 judge_error_row (Certificate e) = certificate_error_row e

@@ -9,7 +9,7 @@ use Rattle.pp_simulate.specs.Refusals.{is_simulate_memory}
 use Rattle.pp_report.specs.Refusals.{is_audit_memory}
 use Rattle.pp_judge.specs.declared.error.JudgeError.{JudgeError}
 use Rattle.pp_judge.specs.declared.error.JudgeError.TheVariants.{Settings, Script, Plan, Certificate, Check, Annotate}
-use Rattle.pp_judge.specs.declared.error.JudgeError.TheVariants.{Simulate, Audit}
+use Rattle.pp_judge.specs.declared.error.JudgeError.TheVariants.{Simulate, OtherLife, Audit}
 
 -- What was done, or the refusal that its fault is.
 abbrev pub refusing : {A E : Type 0} → (E → JudgeError) → Result A E → Result A JudgeError
@@ -19,6 +19,7 @@ refusing refusal (Err e) = Err (refusal e)
 -- Whether it is no refusal of a file, but want of memory.
 abbrev pub is_want_of_memory : JudgeError → Bool
 is_want_of_memory (Settings e) = is_settings_memory e
+is_want_of_memory OtherLife = false
 is_want_of_memory (Script e) = is_script_memory e
 is_want_of_memory (Plan e) = is_plan_memory e
 is_want_of_memory (Certificate e) = is_certificate_memory e

@@ -16,8 +16,8 @@ use std::alloc::Global;
 ///
 /// # Errors
 ///
-/// The first refusal in that order; then the first fault of the journal. A line of it that is not UTF-8 is no line of a
-/// journal.
+/// The first refusal in that order. Settings of a life without end are [`JudgeError::OtherLife`], before any plan.
+/// Then the first fault of the journal. A line of it that is not UTF-8 is no line of a journal.
 pub fn audit(alloc: Global, files: AuditFiles<'_>) -> Result<Audited, JudgeError>
     // What is answered is the verdict on the journal, unless memory ran out.
     ensures { Gives is_want_of_memory (λ audited. audited.lines) result
@@ -33,7 +33,7 @@ pub fn audit(alloc: Global, files: AuditFiles<'_>) -> Result<Audited, JudgeError
 ///
 /// # Errors
 ///
-/// The first refusal in that order; then the first fault of the text.
+/// The first refusal in that order, as [`audit`] has it; then the first fault of the text.
 pub fn audit_lives(alloc: Global, files: AuditFiles<'_>) -> Result<Audited, JudgeError>
     // What is answered is the verdict on the journals, unless memory ran out.
     ensures { Gives is_want_of_memory (λ audited. audited.lines) result

@@ -26,8 +26,8 @@ pub struct DeviceSize {
 pub fn device_size(alloc: Global, settings: &[u8]) -> Result<DeviceSize, JudgeError>
     // Exactly what the definition gives of these bytes, unless memory ran out.
     ensures exact { Gives is_want_of_memory same result (device_size_in settings.now) }
-    ensures pages { IfOk result (λ size. (1 ≤ size.pages) × (size.pages ≤ 65536)) }
-    ensures page_bytes { IfOk result (λ size. (64 ≤ size.page_bytes) × (size.page_bytes ≤ 65536)) }
+    ensures pages { IfOk result (λ size. (1 ≤ size.pages) × (size.pages ≤ 4294967292)) }
+    ensures page_bytes { IfOk result (λ size. (64 ≤ size.page_bytes) × (size.page_bytes ≤ 1048576)) }
 {
     let settings = settings_in(alloc, settings)?;
     Ok(DeviceSize {

@@ -6,6 +6,7 @@ ghost use Rattle.pp_text.specs.Views.{row_of_refusal};
 ghost use Rattle.pp_judge.specs.Lines.{refusal_line, judge_error_row};
 ghost use Rattle.pp_judge.specs.declared.error.JudgeError.TheVariants.{Settings, Script, Plan, Certificate, Annotate};
 ghost use Rattle.pp_judge.specs.declared.error.JudgeError.TheVariants.{Simulate, Audit};
+ghost use Rattle.pp_judge.specs.declared.error.JudgeError.TheVariants.{OtherLife as other_life};
 ghost use Rattle.pp_simulate.specs.declared.error.SimulateError.TheVariants.{OutOfMemory};
 
 use pp_annotate::AnnotateError;
@@ -13,7 +14,7 @@ use pp_cert::{CertError, CheckError};
 use pp_plan::PlanError;
 use pp_report::AuditError;
 use pp_script::ScriptError;
-use pp_settings::SettingsError;
+use pp_settings::{OtherLife, SettingsError};
 use pp_simulate::SimulateError;
 use std::alloc::AllocFailed;
 use std::fmt;
@@ -23,6 +24,8 @@ use std::fmt;
 pub enum JudgeError {
     /// The first file gives no settings.
     Settings(SettingsError),
+    /// The settings are of a life without end, and what was asked serves bounded lives alone.
+    OtherLife,
     /// The script's file gives no script.
     Script(ScriptError),
     /// A plan's file gives no plan under these settings.
@@ -33,7 +36,7 @@ pub enum JudgeError {
     Check(CheckError),
     /// The plan has no certificate under these settings.
     Annotate(AnnotateError),
-    /// A new pool doesn't take a plan in behind the earlier ones.
+    /// A new pool doesn't take a plan in behind the earlier ones, or keeps no more of them.
     Simulate(SimulateError),
     /// The journal is not a true one of these plans.
     Audit(AuditError),
@@ -62,6 +65,7 @@ impl JudgeError {
     {
         match self {
             JudgeError::Settings(error) => error.refusal(),
+            JudgeError::OtherLife => OtherLife.refusal(),
             JudgeError::Script(error) => error.refusal(),
             JudgeError::Plan(error) => error.refusal(),
             JudgeError::Certificate(error) => error.refusal(),
@@ -89,6 +93,14 @@ impl From<SettingsError> for JudgeError {
 
     fn from(error: SettingsError) -> JudgeError {
         JudgeError::Settings(error)
+    }
+}
+
+impl From<OtherLife> for JudgeError {
+    ghost from_gives = { λ _ refusal. refusal ≡ other_life };
+
+    fn from(_other: OtherLife) -> JudgeError {
+        JudgeError::OtherLife
     }
 }
 

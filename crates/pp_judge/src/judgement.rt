@@ -1,8 +1,9 @@
 //! Reading, checking and making certificates, from the bytes of files.
 
-ghost use Rattle.std.specs.Prelude.{IfOk, IsOk, string_bytes};
+ghost use Rattle.std.specs.Prelude.{◌≡◌, IfOk, IsOk, string_bytes};
+ghost use Rattle.pp_settings.specs.declared.span.Span.TheVariants.{Bounded};
 ghost use Rattle.pp_cert.specs.Claims.{claims_of};
-ghost use Rattle.pp_judge.specs.Judgement.{settings_in, plan_in, claims_in, sources_in, judgement, certification};
+ghost use Rattle.pp_judge.specs.Judgement.{settings_in, bounded_in, plan_in, claims_in, sources_in, judgement, certification};
 ghost use Rattle.pp_text.specs.Steps.{Gives};
 ghost use Rattle.pp_judge.specs.Steps.{is_want_of_memory, same};
 
@@ -79,6 +80,16 @@ pub fn settings_in(alloc: Global, bytes: &[u8]) -> Result<Settings, JudgeError>
         return Err(JudgeError::Settings(SettingsError::NotToml));
     };
     Ok(Settings::from_text(alloc, text)?)
+}
+
+/// The settings that the bytes spell, whose lives are bounded.
+pub fn bounded_in(alloc: Global, bytes: &[u8]) -> Result<Settings, JudgeError>
+    ensures exact { Gives is_want_of_memory same result (bounded_in bytes.now) }
+    ensures bounded { IfOk result (λ settings. settings.span ≡ Bounded) }
+{
+    let settings = settings_in(alloc, bytes)?;
+    settings.see_bounded()?;
+    Ok(settings)
 }
 
 /// The plan that the bytes spell under the settings.

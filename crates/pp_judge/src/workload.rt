@@ -1,18 +1,19 @@
 //! What a pool is run with, from the bytes of files: settings, and plans that were accepted under them.
 
-ghost use Rattle.std.specs.Prelude.{◌≡◌, map};
+ghost use Rattle.std.specs.Prelude.{◌≡◌, IfOk, map};
+ghost use Rattle.pp_settings.specs.declared.span.Span.TheVariants.{Bounded};
 ghost use Rattle.pp_text.specs.Steps.{Gives};
 ghost use Rattle.pp_judge.specs.Judgement.{accepted_in, accepted_all, workload_in};
 ghost use Rattle.pp_judge.specs.Steps.{is_want_of_memory, same};
 
 use crate::error::JudgeError;
-use crate::judgement::{plan_in, settings_in};
+use crate::judgement::{bounded_in, plan_in};
 use pp_annotate::annotate;
 use pp_cert::Accepted;
 use pp_settings::Settings;
 use std::alloc::Global;
 
-/// The settings of a pool, and the plans for it.
+/// The settings of a pool whose lives are bounded, and the plans for it.
 #[derive(Drop)]
 pub struct Workload {
     /// The settings.
@@ -26,14 +27,16 @@ impl Workload {
     ///
     /// # Errors
     ///
-    /// The first refusal in that order. A file whose bytes are not UTF-8 is refused in its turn, as one that is no TOML or
-    /// no JSON.
+    /// The first refusal in that order. Settings of a life without end are [`JudgeError::OtherLife`], before any plan.
+    /// A file whose bytes are not UTF-8 is refused in its turn, as one that is no TOML or no JSON.
     pub fn read(alloc: Global, settings: &[u8], plans: &[Vec<u8>]) -> Result<Workload, JudgeError>
         // Exactly what the definition gives of these bytes, unless memory ran out.
-        ensures { Gives is_want_of_memory (λ w. (w.settings, w.plans.items)) result
+        ensures exact { Gives is_want_of_memory (λ w. (w.settings, w.plans.items)) result
             (workload_in settings.now (map (λ plan. plan.items) plans.now)) }
+        // What serves bounded lives alone serves it.
+        ensures bounded { IfOk result (λ w. w.settings.span ≡ Bounded) }
     {
-        let settings = settings_in(alloc, settings)?;
+        let settings = bounded_in(alloc, settings)?;
         let plans = accepted_all(alloc, &settings, plans)?;
         Ok(Workload { settings, plans })
     }

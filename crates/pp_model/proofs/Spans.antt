@@ -4,10 +4,10 @@ use Rattle.std.specs.Prelude.{sum_by}
 use Rattle.std.proofs.lemmas.List.Sums.{sum_by-cons}
 use Rattle.pp_settings.specs.declared.span.Span.{Span}
 use Rattle.pp_settings.specs.declared.span.Span.TheVariants.{Bounded, Endless}
+use Rattle.pp_settings.specs.Spans.{flush_limit}
 use Rattle.pp_cert.specs.Accepted.{Acceptance}
 use Rattle.pp_model.specs.Budget.{cost_of}
 use Rattle.pp_model.specs.Submitting.{counted_plans, plan_limit, most_events}
-use Rattle.pp_model.specs.Reached.{flush_limit}
 
 -- The most events of any life.
 pub events_small : (k : Span) → most_events k ≤ 2 ^ 61
@@ -18,6 +18,11 @@ events_small (Endless waiting) = omega arith
 pub flushes_fit : (k : Span) (n : ℕ) → n ≤ flush_limit k → 2 * n ≤ most_events k
 flushes_fit Bounded n le = omega (arith, le)
 flushes_fit (Endless waiting) n le = omega (arith, le)
+
+-- The flushes of any life.
+pub flushes_small : (k : Span) (n : ℕ) → n ≤ flush_limit k → n ≤ 2 ^ 59
+flushes_small Bounded n le = omega (arith, le)
+flushes_small (Endless waiting) n le = omega (arith, le)
 
 -- No more plans count where more were taken.
 pub fewer_count : (k : Span) (n i j : ℕ) → i ≤ j → counted_plans k n j ≤ counted_plans k n i

@@ -1,24 +1,13 @@
 -- The states that a pool can be in.
-use Rattle.std.specs.Prelude.{ℕ, ◌^◌, ◌≤◌, List, All}
-use Rattle.pp_settings.specs.Limits.{most_workers, most_flushes}
+use Rattle.std.specs.Prelude.{◌≤◌, List, All}
+use Rattle.pp_settings.specs.Limits.{most_workers}
 use Rattle.pp_settings.specs.Layout.{IsLayout}
-use Rattle.pp_settings.specs.declared.span.Span.{Span}
-use Rattle.pp_settings.specs.declared.span.Span.TheVariants.{Bounded, Endless}
+use Rattle.pp_settings.specs.Spans.{IsSpan, flush_limit}
 use Rattle.pp_cert.specs.Accepted.{IsAccepted}
 use Rattle.pp_model.specs.declared.event.Event.{Event}
 use Rattle.pp_model.specs.Pool.{State, Settings, opening}
 use Rattle.pp_model.specs.Journals.{IsJournalFrom}
 use Rattle.pp_model.specs.Lives.{Life, AreLives, after_lives}
-
--- The most flushes of one life. Each takes two events: in an endless one half of all that it may have.
-abbrev pub flush_limit : Span → ℕ
-flush_limit Bounded = most_flushes
-flush_limit (Endless waiting) = 2 ^ 59
-
--- Where a life is endless, 1 to 1,048,576 plans may wait at a time: a host keeps a number for each.
-abbrev pub IsSpan : Span → Type 0
-IsSpan Bounded = Unit {0}
-IsSpan (Endless waiting) = (1 ≤ waiting) × (waiting ≤ 2 ^ 20)
 
 -- The settings are within their limits.
 pub record IsSettings (k : Settings) : Type 0 where

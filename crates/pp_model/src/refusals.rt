@@ -152,7 +152,8 @@ pub enum SubmitError {
     /// The events of all plans and flushes would not fit a journal.
     #[error("the journal of all plans and flushes would be too long")]
     JournalLimit,
-    /// A plan is submitted in an endless life that isn't one of those that the pool keeps, or a prepared plan in a bounded life.
+    /// In an endless life a plan is submitted that wasn't prepared before, or a prepared one that the pool doesn't keep; or in a
+    /// bounded life a prepared one.
     #[error("the plan isn't prepared")]
     NotPrepared,
 }

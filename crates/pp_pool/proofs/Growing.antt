@@ -96,7 +96,7 @@ abbrev settings_by : Geometry → (workers flushes : ℕ) → Span → Settings
 settings_by layout workers flushes span = record { layout = layout; workers = workers; flushes = flushes; span = span }
 
 -- The settings that a vault's core and a book keep.
-kept_settings : (v : vault.Parts) (w f : ℕ) (s : State) → StandsFor v s → s.settings.span ≡ Bounded
+pub kept_settings : (v : vault.Parts) (w f : ℕ) (s : State) → StandsFor v s → s.settings.span ≡ Bounded
     → w ≡ s.settings.workers → f ≡ s.settings.flushes
     → settings_by v.core.layout w f Bounded ≡ s.settings
 kept_settings v w f s st bounded e g =

@@ -1,5 +1,6 @@
 pub mod Noted
 pub mod Growing
+pub mod Opened
 pub mod Renewed
 pub mod Tokens
 pub mod Joining

@@ -3,6 +3,7 @@
 ghost use Rattle.std.specs.Prelude.{◌≡◌, ◌≤◌, ◌<◌, ◌+◌, ◌↔◌, ◌++◌, true, false, [], None, Some, IsSome, is_ok, IfOk, IfErr};
 ghost use Rattle.std.specs.Prelude.{OnOk, OnErr, IfSome, length, option_map};
 ghost use Rattle.std.specs.Option.{is_some};
+ghost use Rattle.pp_settings.specs.declared.span.Span.TheVariants.{Bounded};
 ghost use Rattle.pp_model.specs.declared.event.Event.TheVariants.{Step};
 ghost use Rattle.pp_model.specs.Pool.{dirty_pages};
 ghost use Rattle.pp_model.specs.Budget.{cost_of};
@@ -43,8 +44,9 @@ use std::marker::Model;
 /// leads to from the opening state of its life; and that there is memory for every event that can still come. Of
 /// that state the headline holds.
 ///
-/// A new book's life begins in the opening state of the settings. [`Book::renew`] begins the next one, which opens with what
-/// the life before left ([`Book::began`]).
+/// Its lives are bounded ([`Span::Bounded`](pp_settings::Span)), so its journal has all that was done in a life. A new book's life
+/// begins in the opening state of the settings. [`Book::renew`] begins the next one, which opens with what the life before left
+/// ([`Book::began`]).
 pub struct Book {
     pub(crate) vault: Vault,
     workers: u32,
@@ -83,7 +85,8 @@ impl Model for Book {
 }
 
 impl Book {
-    /// A book with these settings, in which nothing was done yet, and the hands of its vault.
+    /// A book with these settings, whose lives are bounded ([`Settings::span`]), in which nothing was done yet, and the hands of
+    /// its vault.
     ///
     /// It gets all memory that the vault and the outsets of all lives ever need, and room in the journal for twice the flushes of
     /// the settings.
@@ -92,6 +95,7 @@ impl Book {
     ///
     /// Only where that memory can't be had.
     pub fn new(alloc: Global, settings: &Settings) -> Result<(Book, Hands), VaultError>
+        requires { settings.now.span ≡ Bounded }
         ensures settings { IfOk result (λ made. settings_of made.0 ≡ kept_of settings.now) }
         ensures no_plan { IfOk result (λ made. plans_of made.0 ≡ []) }
         ensures nothing_done { IfOk result (λ made. made.0.journal ≡ []) }
@@ -113,7 +117,8 @@ impl Book {
                     workers: settings.workers(),
                     journal,
                     most: 0,
-                    flushes: settings.flushes(),
+                    // Of a bounded life there are 100,000 at most.
+                    flushes: settings.flushes() as u32,
                     began,
                 };
                 Ok((book, hands))
@@ -318,7 +323,7 @@ impl Book {
         &self.began
     }
 
-    /// How many flushes may begin in one life.
+    /// How many flushes may begin in one life, 100,000 at most.
     pub fn flushes(&self) -> u32
         ensures { result ≡ (settings_of self.now).flushes }
     {

@@ -116,7 +116,7 @@ pub trait Work {
     /// in byte order.
     fn page_into(&mut self, _slot: u8, _kind: Kind, region: u8, first: u32, count: u32) -> u32
         requires some { 1 ≤ count }
-        requires ends { first + count ≤ 65536 }
+        requires ends { first + count ≤ 4294967292 }
         ensures from { first ≤ result }
         ensures below { result < first + count }
         ensures given { page_into_gives self.old _slot _kind region first count result self.new
@@ -128,7 +128,7 @@ pub trait Work {
     /// The page to fix or to gather, of a region that has `count` pages from `first` on.
     fn page(&mut self, region: u8, first: u32, count: u32) -> u32
         requires some { 1 ≤ count }
-        requires ends { first + count ≤ 65536 }
+        requires ends { first + count ≤ 4294967292 }
         ensures from { first ≤ result }
         ensures below { result < first + count }
         ensures given { page_gives self.old region first count result self.new };

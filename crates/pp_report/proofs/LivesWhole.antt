@@ -6,6 +6,7 @@ use Rattle.std.specs.Str.{bytes_eq}
 use Rattle.std.proofs.lemmas.Slice.Eq.{bytes_eq-Decides}
 use Rattle.pp_text.specs.Steps.{◌>>=◌}
 use Rattle.pp_settings.specs.Settings.{Configuration}
+use Rattle.pp_settings.specs.declared.span.Span.TheVariants.{Bounded}
 use Rattle.pp_cert.specs.Accepted.{Acceptance}
 use Rattle.pp_model.specs.declared.event.Event.{Event}
 use Rattle.pp_model.specs.Pool.{State, opening}
@@ -48,17 +49,18 @@ few_after_lives o [] are few = few
 few_after_lives o (l ∷ ls) are few =
     few_after_lives (renewed (life_end o l)) ls are.1 (few_next o l few are.0.is_true)
 
-pub whole_spelled : (c : Configuration) (plans : List Acceptance) (journals : List (List Event)) (last : List Event)
-    → AllByRecursion (AllByRecursion HasNumbers) journals → AllByRecursion HasNumbers last
+pub whole_spelled : (c : Configuration) (plans : List Acceptance) → c.span ≡ Bounded
+    → (journals : List (List Event)) (last : List Event) → AllByRecursion (AllByRecursion HasNumbers) journals
+    → AllByRecursion HasNumbers last
     → AreWholeJournals c plans journals last
     → IsAuditedLives c plans (lives_words journals last) (length (lives_lines journals last))
-whole_spelled c plans journals last h k are =
+whole_spelled c plans bounded journals last h k are =
     let is = are.whole.are_true in
     let fits : FitLives (journals_of are.lives) last = record {
       each = lives_fit (opening (kept_of c)) are.lives (subst (AllByRecursion (AllByRecursion HasNumbers)) are.journals_are h)
-          is.over (few_at_first (kept_of c) refl);
+          is.over (few_at_first (kept_of c) bounded);
       latest = all_fit are.rest (next_opening c are.lives) last k is.is_true
-          (few_after_lives (opening (kept_of c)) are.lives is.over (few_at_first (kept_of c) refl));
+          (few_after_lives (opening (kept_of c)) are.lives is.over (few_at_first (kept_of c) bounded));
     } in
     record {
       lives = are.lives;
@@ -68,13 +70,14 @@ whole_spelled c plans journals last h k are =
       number = ap (λ js. length (lives_lines js last)) are.journals_are;
     }
 
-pub whole_audited : (c : Configuration) (plans : List Acceptance) (journals : List (List Event)) (last : List Event)
-    → AllByRecursion (AllByRecursion HasNumbers) journals → AllByRecursion HasNumbers last
+pub whole_audited : (c : Configuration) (plans : List Acceptance) → c.span ≡ Bounded
+    → (journals : List (List Event)) (last : List Event) → AllByRecursion (AllByRecursion HasNumbers) journals
+    → AllByRecursion HasNumbers last
     → AreWholeJournals c plans journals last
     → auditing_lives c plans (lives_words journals last) ≡ Ok (length (lives_lines journals last))
-whole_audited c plans journals last h k are =
+whole_audited c plans bounded journals last h k are =
     lives.audited_again c plans (lives_words journals last) (length (lives_lines journals last))
-    (whole_spelled c plans journals last h k are)
+    (whole_spelled c plans bounded journals last h k are)
 
 -- ---- one life
 

@@ -59,20 +59,20 @@ all_fit plans s (e ∷ es) h t few =
 pub few_at_first : (k : Settings) → k.span ≡ Bounded → Few (opening k)
 few_at_first k bounded = record { span = bounded; plans = omega arith }
 
-pub whole_spelled : (c : Configuration) (plans : List Acceptance) (es : List Event) → AllByRecursion HasNumbers es
-    → IsWhole c plans es → IsAudited c plans (journal_words es) (length es)
-whole_spelled c plans es h whole = record {
+pub whole_spelled : (c : Configuration) (plans : List Acceptance) → c.span ≡ Bounded → (es : List Event)
+    → AllByRecursion HasNumbers es → IsWhole c plans es → IsAudited c plans (journal_words es) (length es)
+whole_spelled c plans bounded es h whole = record {
   events = es;
-  spelled = record { fits = all_fit plans _ es h whole.is_true (few_at_first (kept_of c) refl); text_is = inl refl };
+  spelled = record { fits = all_fit plans _ es h whole.is_true (few_at_first (kept_of c) bounded); text_is = inl refl };
   is_true = whole.is_true;
   over = whole.over;
   number = refl;
 }
 
-pub whole_audited : (c : Configuration) (plans : List Acceptance) (es : List Event) → AllByRecursion HasNumbers es
-    → IsWhole c plans es → auditing c plans (journal_words es) ≡ Ok (length es)
-whole_audited c plans es h whole =
-    audited_again c plans (journal_words es) (length es) (whole_spelled c plans es h whole)
+pub whole_audited : (c : Configuration) (plans : List Acceptance) → c.span ≡ Bounded → (es : List Event)
+    → AllByRecursion HasNumbers es → IsWhole c plans es → auditing c plans (journal_words es) ≡ Ok (length es)
+whole_audited c plans bounded es h whole =
+    audited_again c plans (journal_words es) (length es) (whole_spelled c plans bounded es h whole)
 
 -- One event more of a list whose other events are known.
 pub one_before : (P : Event → Type 0) (es : List Event) (i : ℕ) (d : Event) → i < length es → P (get_or es i d)

@@ -1,6 +1,7 @@
 //! Auditing a journal.
 
-ghost use Rattle.std.specs.Prelude.{ℕ, Ok, Err, IfOk, IfErr};
+ghost use Rattle.std.specs.Prelude.{◌≡◌, ℕ, Ok, Err, IfOk, IfErr};
+ghost use Rattle.pp_settings.specs.declared.span.Span.TheVariants.{Bounded};
 ghost use Rattle.pp_text.specs.Steps.{Gives};
 ghost use Rattle.pp_report.specs.Audits.{IsAudited, TellsFault};
 ghost use Rattle.pp_report.specs.Auditing.{auditing};
@@ -20,7 +21,7 @@ pub struct Audited {
 }
 
 /// Whether the text is a true journal of these plans under the settings, at whose end each of them is submitted and
-/// ended and no flush is in flight.
+/// ended and no flush is in flight. A life must be bounded under the settings ([`Settings::see_bounded`]).
 ///
 /// It goes line by line and keeps none: beside the text it wants the memory of a core. The last line feed may be
 /// missing. The n-th `submit` is of the n-th plan.
@@ -36,6 +37,7 @@ pub fn audit(
     plans: Vec<Accepted>,
     journal: &[u8],
 ) -> Result<Audited, AuditError>
+    requires { settings.now.span ≡ Bounded }
     // What is accepted is a true journal of these plans, to their end, with so many lines.
     ensures found { IfOk result (λ audited. IsAudited settings.now plans.items journal.now audited.lines) }
     // Each such journal is accepted, unless memory runs out.
@@ -57,6 +59,7 @@ fn verdict(
     plans: Vec<Accepted>,
     journal: &[u8],
 ) -> Result<Audited, AuditError>
+    requires { settings.now.span ≡ Bounded }
     ensures { Gives is_audit_memory (λ audited. audited.lines) result
         (auditing settings.now plans.items journal.now) }
 {

@@ -1,6 +1,7 @@
 //! What an audit keeps: a core, and the plans that no line has submitted yet.
 
 ghost use Rattle.std.specs.Prelude.{◌≡◌, ◌∷◌, ◌<◌, ℕ, Option, None, IfOk, IfErr, length};
+ghost use Rattle.pp_settings.specs.declared.span.Span.TheVariants.{Bounded};
 ghost use Rattle.pp_core.specs.StandsFor.{StandsFor};
 ghost use Rattle.pp_report.specs.declared.line.Asked.TheVariants as asked;
 ghost use Rattle.pp_report.specs.declared.line.Line.{Line};
@@ -23,7 +24,8 @@ use std::alloc::Global;
 /// The line between the journals of two lives of a pool, without its line feed. It is no line of a journal.
 pub const RENEWAL_LINE: &str = "renew = renewed";
 
-/// An audit that is under way: a core to which the lines so far were done, and the plans that no line has submitted yet.
+/// An audit that is under way: a core to which the lines so far were done, and the plans that no line has submitted yet. The
+/// core's life is bounded.
 ///
 /// It is for whoever watches an audit line by line; [`audit`](crate::audit) is the whole of it.
 #[derive(Drop)]
@@ -33,7 +35,8 @@ pub struct Auditor {
 }
 
 impl Auditor {
-    /// An audit of a journal of these plans, of which no line was passed yet.
+    /// An audit of a journal of these plans, of which no line was passed yet, under settings by which a life is bounded
+    /// ([`Settings::see_bounded`]).
     ///
     /// # Errors
     ///
@@ -43,6 +46,7 @@ impl Auditor {
         settings: &Settings,
         plans: Vec<Accepted>,
     ) -> Result<Auditor, CoreError>
+        requires { settings.now.span ≡ Bounded }
         ensures { IfOk result (λ made. IsAt made (outset settings.now plans.items)) }
     {
         let core = Core::new(alloc, settings)?;

@@ -3,6 +3,7 @@
 ghost use Rattle.std.specs.Prelude.{◌≡◌, ◌⊎◌, ◌++◌, ℕ, List, Ok, codes, length, map};
 ghost use Rattle.std.specs.List.{AllByRecursion};
 ghost use Rattle.pp_settings.specs.Settings.{Configuration};
+ghost use Rattle.pp_settings.specs.declared.span.Span.TheVariants.{Bounded};
 ghost use Rattle.pp_cert.specs.Accepted.{Acceptance};
 ghost use Rattle.pp_model.specs.declared.event.Event.{Event};
 ghost use Rattle.pp_report.specs.declared.line.Line.{Line};
@@ -31,29 +32,30 @@ pub fn reports_are_complete()
     ensures each { (es : List Event) → EachHasRow es }
 {}
 
-/// What was done to the end is accepted: where these events are a true journal of plans, at whose end they are all
-/// submitted and ended, the verdict of [`audit`](crate::audit) on the text that [`journal_text`](crate::journal_text)
-/// writes of them is their number.
+/// What was done to the end is accepted: where these events are a true journal of plans in a bounded life, at whose end they
+/// are all submitted and ended, the verdict of [`audit`](crate::audit) on the text that
+/// [`journal_text`](crate::journal_text) writes of them is their number.
 ///
-/// It is handed the events since a text has no number of more bits than an event has.
+/// It is handed the events since a text has no number of more bits than an event has. Plans' numbers have 64 in an event and 32
+/// in a text: so it speaks of a bounded life, which takes no more than 256 plans in.
 pub fn whole_journals_are_audited(events: &Journal)
-    ensures text { (c : Configuration) (plans : List Acceptance) → IsWhole c plans events.now.items
+    ensures text { (c : Configuration) (plans : List Acceptance) → c.span ≡ Bounded → IsWhole c plans events.now.items
         → IsAudited c plans (journal_words events.now.items) (length events.now.items) }
-    ensures verdict { (c : Configuration) (plans : List Acceptance) → IsWhole c plans events.now.items
+    ensures verdict { (c : Configuration) (plans : List Acceptance) → c.span ≡ Bounded → IsWhole c plans events.now.items
         → auditing c plans (journal_words events.now.items) ≡ Ok (length events.now.items) }
 {
     have_numbers(events);
 }
 
-/// Lives that were gone through to their end are accepted: where these are the journals of whole lives of a pool with some
-/// plans, the verdict of [`audit_lives`](crate::audit_lives) on their text is the number of its lines. The text has behind
-/// each journal but the last the line [`RENEWAL_LINE`](crate::RENEWAL_LINE).
+/// Bounded lives that were gone through to their end are accepted: where these are the journals of whole lives of a pool with
+/// some plans, the verdict of [`audit_lives`](crate::audit_lives) on their text is the number of its lines. The text has
+/// behind each journal but the last the line [`RENEWAL_LINE`](crate::RENEWAL_LINE).
 pub fn whole_lives_are_audited(journals: &[Journal], last: &Journal)
-    ensures text { (c : Configuration) (plans : List Acceptance)
+    ensures text { (c : Configuration) (plans : List Acceptance) → c.span ≡ Bounded
         → AreWholeJournals c plans (map (λ events. events.items) journals.now) last.now.items
         → IsAuditedLives c plans (lives_words (map (λ events. events.items) journals.now) last.now.items)
         (length (lives_lines (map (λ events. events.items) journals.now) last.now.items)) }
-    ensures verdict { (c : Configuration) (plans : List Acceptance)
+    ensures verdict { (c : Configuration) (plans : List Acceptance) → c.span ≡ Bounded
         → AreWholeJournals c plans (map (λ events. events.items) journals.now) last.now.items
         → auditing_lives c plans (lives_words (map (λ events. events.items) journals.now) last.now.items)
         ≡ Ok (length (lives_lines (map (λ events. events.items) journals.now) last.now.items)) }

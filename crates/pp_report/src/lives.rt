@@ -1,6 +1,7 @@
 //! Auditing the journals of a pool's lives.
 
-ghost use Rattle.std.specs.Prelude.{ℕ, Ok, All, IfOk, IfErr};
+ghost use Rattle.std.specs.Prelude.{◌≡◌, ℕ, Ok, All, IfOk, IfErr};
+ghost use Rattle.pp_settings.specs.declared.span.Span.TheVariants.{Bounded};
 ghost use Rattle.pp_text.specs.Steps.{Gives};
 ghost use Rattle.pp_cert.specs.Accepted.{IsAccepted};
 ghost use Rattle.pp_report.specs.AuditingLives.{auditing_lives};
@@ -17,7 +18,7 @@ use std::alloc::Global;
 /// Whether the text is the true journals of a pool's lives under the settings: of each life its journal, and between two
 /// lives the line [`RENEWAL_LINE`](crate::RENEWAL_LINE). At each such line the pool could be renewed. The plans are those of
 /// the first life, then those of the second, and so on; at the end each of them is submitted and ended, and no flush is in
-/// flight.
+/// flight. A life must be bounded under the settings ([`Settings::see_bounded`]).
 ///
 /// Everything is replayed from the settings, and nothing is believed that a text says of an earlier life: pages that it
 /// cached, marks, ARC's lists. As [`audit`](crate::audit) does, it goes line by line and wants the memory of a core. Lines
@@ -34,6 +35,7 @@ pub fn audit_lives(
     plans: Vec<Accepted>,
     journals: &[u8],
 ) -> Result<Audited, AuditError>
+    requires { settings.now.span ≡ Bounded }
     // What is accepted is the journals of whole lives with these plans, with so many lines.
     ensures found { IfOk result (λ audited. IsAuditedLives settings.now plans.items journals.now audited.lines) }
     // Each such text is accepted, unless memory runs out.
@@ -56,6 +58,7 @@ fn verdict(
     plans: Vec<Accepted>,
     journals: &[u8],
 ) -> Result<Audited, AuditError>
+    requires { settings.now.span ≡ Bounded }
     ensures { Gives is_audit_memory (λ audited. audited.lines) result
         (auditing_lives settings.now plans.items journals.now) }
 {

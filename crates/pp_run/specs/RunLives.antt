@@ -1,6 +1,7 @@
 -- Runs over one pool are its lives.
 use Rattle.std.specs.Prelude.{◌≡◌, List, [], ◌∷◌, ◌++◌, length, Ok}
 use Rattle.pp_settings.specs.Settings.{Configuration}
+use Rattle.pp_settings.specs.declared.span.Span.TheVariants.{Bounded}
 use Rattle.pp_cert.specs.Accepted.{Acceptance}
 use Rattle.pp_core.specs.Opening.{kept_of}
 use Rattle.pp_model.specs.declared.event.Event.{Event}
@@ -28,10 +29,10 @@ RunsAreLives =
     (c : Configuration) (lives : List Life) (p q : Rested) (l : Life) → HasLived c lives p → IsLife (opening_of p) l
     → ComesBack p l.plans l.journal q → HasLived c (lives ++ l ∷ []) q
 
--- The journals of all lives, in one text with the last run's behind them, are audited Ok.
+-- The journals of all lives, which are bounded, in one text with the last run's behind them, are audited Ok.
 abbrev pub LivesAreAudited : (journals : List (List Event)) (last : List Event) → Type 0
 LivesAreAudited journals last =
-    (c : Configuration) (lives : List Life) (p : Rested) (plans : List Acceptance) → HasLived c lives p
+    (c : Configuration) (lives : List Life) (p : Rested) (plans : List Acceptance) → c.span ≡ Bounded → HasLived c lives p
     → journals_of lives ≡ journals → IsLife (opening_of p) (record { plans = plans; journal = last })
     → IsOver plans (life_end (opening_of p) (record { plans = plans; journal = last }))
     → auditing_lives c (plans_of lives ++ plans) (lives_words journals last) ≡ Ok (length (lives_lines journals last))

@@ -1,6 +1,7 @@
 //! All plans at once, on threads.
 
 ghost use Rattle.std.specs.Prelude.{◌≡◌, ◌⊎◌, ◌+◌, Ok, IfOk, IfErr, length, vec_len};
+ghost use Rattle.pp_settings.specs.declared.span.Span.TheVariants.{Bounded};
 ghost use Rattle.pp_core.specs.Opening.{kept_of};
 ghost use Rattle.pp_model.specs.Journals.{replay};
 ghost use Rattle.pp_model.specs.Lives.{IsLife};
@@ -57,6 +58,7 @@ impl Pool {
         devices: Vec<D>,
         works: Vec<W>,
     ) -> Result<(RunRecord, Vec<D>), RunError>
+        requires bounded { settings.now.span ≡ Bounded }
         requires ends { vec_len devices ≡ settings.now.workers + 1 }
         requires works { vec_len works ≡ settings.now.workers }
         ensures journal { IfOk result (λ r. IsRun (kept_of settings.now) plans.items r.0) }
@@ -86,6 +88,7 @@ impl Pool {
         works: Vec<W>,
         finished: &AtomicU64,
     ) -> Result<(RunRecord, Vec<D>), RunError>
+        requires bounded { settings.now.span ≡ Bounded }
         requires ends { vec_len devices ≡ settings.now.workers + 1 }
         requires works { vec_len works ≡ settings.now.workers }
         ensures journal { IfOk result (λ r. IsRun (kept_of settings.now) plans.items r.0) }

@@ -44,13 +44,14 @@ impl Model for RestedPool {
 }
 
 impl RestedPool {
-    /// A pool with these settings, in which nothing was done yet. It gets all memory that its vault ever needs, and room in the
-    /// journal for twice the flushes.
+    /// A pool with these settings, whose lives are bounded ([`Settings::span`]), in which nothing was done yet. It gets all memory
+    /// that its vault ever needs, and room in the journal for twice the flushes.
     ///
     /// # Errors
     ///
     /// [`RunError::OutOfMemory`] where that memory can't be had.
     pub fn open(alloc: Global, settings: &Settings) -> Result<RestedPool, RunError>
+        requires { settings.now.span ≡ Bounded }
         ensures settings { IfOk result (λ pool. pool.settings ≡ kept_of settings.now) }
         ensures page_bytes { IfOk result (λ pool. pool.page_bytes ≡ settings.now.page_bytes) }
         ensures outset { IfOk result (λ pool. pool.began ≡ new_outset (kept_of settings.now)) }

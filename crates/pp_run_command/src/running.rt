@@ -1,6 +1,7 @@
 //! Running plans over the file of a device.
 
 ghost use Rattle.std.specs.Prelude.{◌≡◌, ◌+◌, IfOk, IfErr, vec_len};
+ghost use Rattle.pp_settings.specs.declared.span.Span.TheVariants.{Bounded};
 ghost use Rattle.pp_core.specs.Opening.{kept_of};
 ghost use Rattle.pp_run.specs.Runs.{IsRun, IsRunError};
 ghost use Rattle.pp_run_command.specs.Choices.{new_works};
@@ -48,6 +49,7 @@ pub fn run<
     choices: &Choices<'_>,
     terminal: Option<&mut T>,
 ) -> Result<RunRecord, RunCommandError>
+    requires { workload.settings.span ≡ Bounded }
     // What was done is a true journal of these settings and plans, to their end.
     ensures journal { IfOk result (λ done. IsRun (kept_of workload.settings) workload.plans.items done) }
     // A run stops where the pool doesn't take a plan in, or by a thread of its own.
@@ -80,6 +82,7 @@ fn run_works<
     works: Vec<W>,
     terminal: Option<&mut T>,
 ) -> Result<RunRecord, RunCommandError>
+    requires bounded { settings.now.span ≡ Bounded }
     requires ends { vec_len ends ≡ settings.now.workers + 1 }
     requires works { vec_len works ≡ settings.now.workers }
     ensures journal { IfOk result (λ done. IsRun (kept_of settings.now) plans.items done) }
@@ -108,6 +111,7 @@ fn run_shown<
     works: Vec<W>,
     terminal: &mut T,
 ) -> Result<RunRecord, RunError>
+    requires bounded { settings.now.span ≡ Bounded }
     requires ends { vec_len ends ≡ settings.now.workers + 1 }
     requires works { vec_len works ≡ settings.now.workers }
     ensures journal { IfOk result (λ done. IsRun (kept_of settings.now) plans.items done) }
@@ -120,6 +124,7 @@ fn run_shown<
         rt,
         || watch(rt, alloc, &progress, all, &completion, terminal),
         || -> Result<RunRecord, RunError>
+            requires bounded { settings.now.span ≡ Bounded }
             requires ends { vec_len ends ≡ settings.now.workers + 1 }
             requires works { vec_len works ≡ settings.now.workers }
             ensures journal { IfOk result (λ done. IsRun (kept_of settings.entry.now) plans.items done) }

@@ -77,7 +77,7 @@ impl<'a> Traced<'a> {
     /// The next choice among `count` numbers from `first` on.
     fn choose(&mut self, first: u32, count: u32) -> u32
         requires some { 1 ≤ count }
-        requires ends { first + count ≤ 65536 }
+        requires ends { first + count ≤ 4294967292 }
         ensures number { result ≡ traced self.old first count }
         ensures from { first ≤ result }
         ensures below { result < first + count }

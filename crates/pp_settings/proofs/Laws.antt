@@ -1,5 +1,5 @@
 -- What is read is spelled so, and what is spelled so is read: one key, and one region.
-use Rattle.std.proofs.Common.{◌≡◌, ℕ, ◌-◌, ◌≤◌, pos, negsuc, true, IsTrue, List}
+use Rattle.std.proofs.Common.{◌≡◌, ℕ, ◌+◌, ◌-◌, ◌≤◌, pos, negsuc, true, IsTrue, List}
 use Rattle.std.proofs.Common.{Option, Some, Ok, codes, refl, ap}
 use Rattle.std.proofs.Common.{subst, ◌∙◌, arith}
 use Rattle.std.proofs.lemmas.Option.{cond_some}
@@ -12,7 +12,11 @@ use Rattle.pp_settings.specs.declared.extent.Extent.{Extent}
 use Rattle.pp_settings.specs.declared.key.RegionKey.TheVariants.{Name, First, Count, Class}
 use Rattle.pp_settings.specs.declared.key.Spot.{Spot}
 use Rattle.pp_settings.specs.declared.key.Spot.TheVariants.{InRegion}
+use Rattle.pp_settings.specs.declared.version.TextVersion.{TextVersion}
+use Rattle.pp_settings.specs.declared.version.TextVersion.TheVariants.{One, Two}
 use Rattle.pp_settings.specs.Keys.{key_of, known_keys}
+use Rattle.pp_settings.specs.Limits.{page_numbers}
+use Rattle.pp_settings.specs.Versions.{page_limit}
 use Rattle.pp_settings.specs.Layout.{IsExtent}
 use Rattle.pp_settings.specs.Settings.{NamedRegion, IsNamedRegion, is_region_name}
 use Rattle.pp_settings.specs.Reading.{is_known, keys_known, only_known, value_at, as_number, number_at, as_name}
@@ -21,22 +25,26 @@ use Rattle.pp_settings.specs.Spelling.{HasOnly, Holds, SpellsRegion}
 
 -- ---- keys
 
-keys_found : (region : Option ℕ) (ms : Members) → keys_known region ms ≡ true → HasOnly (known_keys region) ms
-keys_found region no_members e = tt
-keys_found region (member k d ms) e =
-    let (here, more) = and_parts (is_known region k) (keys_known region ms) e in
-    (among k (known_keys region) here, keys_found region ms more)
+keys_found : (version : TextVersion) (region : Option ℕ) (ms : Members) → keys_known version region ms ≡ true
+    → HasOnly (known_keys version region) ms
+keys_found version region no_members e = tt
+keys_found version region (member k d ms) e =
+    let (here, more) = and_parts (is_known version region k) (keys_known version region ms) e in
+    (among k (known_keys version region) here, keys_found version region ms more)
 
-keys_again : (region : Option ℕ) (ms : Members) → HasOnly (known_keys region) ms → keys_known region ms ≡ true
-keys_again region no_members h = refl
-keys_again region (member k d ms) h = rw (among_again k (known_keys region) h.0) (keys_again region ms h.1)
+keys_again : (version : TextVersion) (region : Option ℕ) (ms : Members) → HasOnly (known_keys version region) ms
+    → keys_known version region ms ≡ true
+keys_again version region no_members h = refl
+keys_again version region (member k d ms) h =
+    rw (among_again k (known_keys version region) h.0) (keys_again version region ms h.1)
 
-pub known_found : (region : Option ℕ) (ms : Members) (x : Unit {0}) → only_known region ms ≡ Ok x
-    → HasOnly (known_keys region) ms
-known_found region ms x e = keys_found region ms (must_ok _ _ x e)
+pub known_found : (version : TextVersion) (region : Option ℕ) (ms : Members) (x : Unit {0})
+    → only_known version region ms ≡ Ok x → HasOnly (known_keys version region) ms
+known_found version region ms x e = keys_found version region ms (must_ok _ _ x e)
 
-pub known_again : (region : Option ℕ) (ms : Members) → HasOnly (known_keys region) ms → only_known region ms ≡ Ok tt
-known_again region ms h = rw (keys_again region ms h)
+pub known_again : (version : TextVersion) (region : Option ℕ) (ms : Members) → HasOnly (known_keys version region) ms
+    → only_known version region ms ≡ Ok tt
+known_again version region ms h = rw (keys_again version region ms h)
 
 -- ---- numbers
 
@@ -101,55 +109,72 @@ pub record SpellsExtent (ms : Members) (e : Extent) : Type 0 where
   pub count : Holds ms (codes "count") (integer (pos e.count))
   pub class : Holds ms (codes "class") (integer (pos e.class))
 
-pub extent_found : (i : ℕ) (ms : Members) (x : Extent) → extent_at i ms ≡ Ok x → SpellsExtent ms x × IsExtent x
+pub limit_within : (version : TextVersion) → (1 ≤ page_limit version) × (page_limit version ≤ page_numbers)
+limit_within One = (omega arith, omega arith)
+limit_within Two = (omega arith, omega arith)
+
+-- its pages are within the version's limit
+abbrev pub IsBelow : TextVersion → Extent → Type 0
+IsBelow version x = x.first + x.count ≤ page_limit version
+
+pub extent_found : (version : TextVersion) (i : ℕ) (ms : Members) (x : Extent) → extent_at version i ms ≡ Ok x
+    → SpellsExtent ms x × IsExtent x × IsBelow version x
 unfolding extent_at
-extent_found i ms x e =
-    let (first, begins, e1) = bind_ok (number_at (InRegion i First) 0 65535 ms) _ x e in
-    let (count, counts, e2) = bind_ok (number_at (InRegion i Count) 1 (65536 - first) ms) _ x e1 in
+extent_found version i ms x e =
+    let limit = page_limit version in
+    let (some, most) = limit_within version in
+    let (first, begins, e1) = bind_ok (number_at (InRegion i First) 0 (limit - 1) ms) _ x e in
+    let (count, counts, e2) = bind_ok (number_at (InRegion i Count) 1 (limit - first) ms) _ x e1 in
     let (class, stands, e3) = bind_ok (number_at (InRegion i Class) 0 63 ms) _ x e2 in
     let made : Extent = record { first = first; count = count; class = class } in
-    let f = number_found (InRegion i First) 0 65535 first ms begins in
-    let n = number_found (InRegion i Count) 1 (65536 - first) count ms counts in
+    let f = number_found (InRegion i First) 0 (limit - 1) first ms begins in
+    let n = number_found (InRegion i Count) 1 (limit - first) count ms counts in
     let c = number_found (InRegion i Class) 0 63 class ms stands in
-    subst (λ (y : Extent). SpellsExtent ms y × IsExtent y) (ok_is made x e3) (
+    let below : first + count ≤ page_limit version = omega (arith, n.2, f.2, some) in
+    subst (λ (y : Extent). SpellsExtent ms y × IsExtent y × IsBelow version y) (ok_is made x e3) (
       record { first = f.0; count = n.0; class = c.0 },
-      record { some = n.1; ends = omega (arith, n.2, f.2); class = c.2 },
+      record { some = n.1; ends = omega (arith, below, most); class = c.2 },
+      below,
     )
 
-pub extent_again : (i : ℕ) (ms : Members) (x : Extent) → SpellsExtent ms x → IsExtent x → extent_at i ms ≡ Ok x
+pub extent_again : (version : TextVersion) (i : ℕ) (ms : Members) (x : Extent) → SpellsExtent ms x → IsExtent x
+    → IsBelow version x → extent_at version i ms ≡ Ok x
 unfolding extent_at
-extent_again i ms x s h =
+extent_again version i ms x s h below =
+    let limit = page_limit version in
     rw (
-      number_again (InRegion i First) 0 65535 x.first ms s.first (omega arith) (omega (arith, h.some, h.ends)),
-      number_again (InRegion i Count) 1 (65536 - x.first) x.count ms s.count h.some (omega (arith, h.ends)),
+      number_again (InRegion i First) 0 (limit - 1) x.first ms s.first (omega arith) (omega (arith, h.some, below)),
+      number_again (InRegion i Count) 1 (limit - x.first) x.count ms s.count h.some (omega (arith, below)),
       number_again (InRegion i Class) 0 63 x.class ms s.class (omega arith) h.class,
     ) refl
 
-pub region_found : (i : ℕ) (ms : Members) (r : NamedRegion) → region_at i ms ≡ Ok r
-    → SpellsRegion ms r × IsNamedRegion r
+pub region_found : (version : TextVersion) (i : ℕ) (ms : Members) (r : NamedRegion) → region_at version i ms ≡ Ok r
+    → SpellsRegion ms r × IsNamedRegion r × IsBelow version r.extent
 unfolding region_at
-region_found i ms r e =
-    let (x, known, e1) = bind_ok (only_known (Some i) ms) _ r e in
+region_found version i ms r e =
+    let (x, known, e1) = bind_ok (only_known version (Some i) ms) _ r e in
     let (name, named, e2) = bind_ok (name_at (InRegion i Name) ms) _ r e1 in
-    let (extent, lies, e3) = bind_ok (extent_at i ms) _ r e2 in
+    let (extent, lies, e3) = bind_ok (extent_at version i ms) _ r e2 in
     let made : NamedRegion = record { name = name; extent = extent } in
     let n = name_found (InRegion i Name) name ms named in
-    let l = extent_found i ms extent lies in
-    subst (λ (q : NamedRegion). SpellsRegion ms q × IsNamedRegion q) (ok_is made r e3) (
+    let l = extent_found version i ms extent lies in
+    subst (λ (q : NamedRegion). SpellsRegion ms q × IsNamedRegion q × IsBelow version q.extent) (ok_is made r e3) (
       record {
         keys = known_found
-            (Some i) ms x known;
+            version (Some i) ms x known;
         name = n.0;
         first = l.0.first;
         count = l.0.count;
         class = l.0.class;
       },
       record { name = n.1; extent = l.1 },
+      l.2,
     )
 
-pub region_again : (i : ℕ) (ms : Members) (r : NamedRegion) → SpellsRegion ms r → IsNamedRegion r
-    → region_at i ms ≡ Ok r
+pub region_again : (version : TextVersion) (i : ℕ) (ms : Members) (r : NamedRegion) → SpellsRegion ms r
+    → IsNamedRegion r → IsBelow version r.extent → region_at version i ms ≡ Ok r
 unfolding region_at
-region_again i ms r s h =
-    let x = extent_again i ms r.extent (record { first = s.first; count = s.count; class = s.class }) h.extent in
-    rw (known_again (Some i) ms s.keys, name_again (InRegion i Name) r.name ms s.name h.name, x) refl
+region_again version i ms r s h below =
+    let x =
+    extent_again version i ms r.extent (record { first = s.first; count = s.count; class = s.class }) h.extent below in
+    rw (known_again version (Some i) ms s.keys, name_again (InRegion i Name) r.name ms s.name h.name, x) refl

@@ -1,5 +1,6 @@
 pub mod Pages
 pub mod Trees
+pub mod Spans
 pub mod Laws
 pub mod Spelled
 pub mod Named

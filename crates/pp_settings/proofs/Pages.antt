@@ -108,10 +108,10 @@ pages_last g h = last_of g.extents h.count.0 h.extents
         (are r unused (slice_get_within (e ∷ es) r x is)) in
         (r, (x, is, last_page x (end_of (e ∷ es)) last h.some))
 
-pub pages_most : (g : Geometry) → IsLayout g → page_count g ≤ 65536
+pub pages_most : (g : Geometry) → IsLayout g → page_count g ≤ 4294967292
 pages_most g h = most_of g.extents h.extents
   where
-    most_of : (es : List Extent) → All IsExtent es → end_of es ≤ 65536
+    most_of : (es : List Extent) → All IsExtent es → end_of es ≤ 4294967292
     most_of [] are = omega arith
     most_of (e ∷ es) are =
         let here : IsExtent e = are 0 unused (omega arith) in

@@ -9,6 +9,7 @@ configured s = record {
   frames = s.layout.frames;
   page_bytes = s.page_bytes;
   workers = s.workers;
+  span = s.span;
   flushes = s.flushes;
   regions = named (map string_bytes s.names.items) s.layout.extents;
 }

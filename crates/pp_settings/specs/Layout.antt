@@ -52,7 +52,7 @@ page_count g = end_of g.extents
 
 -- ---- what holds of every layout
 
--- A region has a page at least, its pages are numbered below 65,536, and its class is below 64.
+-- A region has a page at least, its pages are numbered below 4,294,967,292, and its class is below 64.
 pub record IsExtent (e : Extent) : Type 0 where
   pub some : 1 ≤ e.count
   pub ends : e.first + e.count ≤ page_numbers
@@ -62,7 +62,7 @@ pub record IsExtent (e : Extent) : Type 0 where
 abbrev pub IsApart : Extent → Extent → Type 0
 IsApart d e = (d.first + d.count ≤ e.first) ⊎ (e.first + e.count ≤ d.first)
 
--- 1 to 4,096 frames, and 1 to 64 regions, disjoint.
+-- 1 to 16,777,216 frames, and 1 to 64 regions, disjoint.
 pub record IsLayout (g : Geometry) : Type 0 where
   pub frames : (1 ≤ g.frames) × (g.frames ≤ most_frames)
   pub count : (1 ≤ length g.extents) × (length g.extents ≤ most_regions)

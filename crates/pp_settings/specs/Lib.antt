@@ -1,4 +1,6 @@
 pub mod Limits
+pub mod Spans
+pub mod Versions
 pub mod Layout
 pub mod Places
 pub mod Keys

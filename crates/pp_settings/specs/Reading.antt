@@ -9,7 +9,8 @@ use Rattle.toml.specs.Data.{get_member, as_table}
 use Rattle.toml.specs.Parse.{parse_document}
 use Rattle.pp_text.specs.Steps.{◌>>=◌, must}
 use Rattle.pp_settings.specs.declared.extent.Extent.{Extent}
-use Rattle.pp_settings.specs.declared.key.TopKey.TheVariants.{Frames, PageBytes, Workers, Flushes, Region}
+use Rattle.pp_settings.specs.declared.key.TopKey.TheVariants.{Frames, PageBytes, Workers, Waiting}
+use Rattle.pp_settings.specs.declared.key.TopKey.TheVariants.{Flushes, Region}
 use Rattle.pp_settings.specs.declared.key.RegionKey.TheVariants.{Name, First, Count, Class}
 use Rattle.pp_settings.specs.declared.key.Spot.{Spot}
 use Rattle.pp_settings.specs.declared.key.Spot.TheVariants.{Top, InRegion}
@@ -17,25 +18,31 @@ use Rattle.pp_settings.specs.declared.error.SettingsError.{SettingsError}
 use Rattle.pp_settings.specs.declared.error.SettingsError.TheVariants.{NotToml, Missing, Unknown, Range, Overlap}
 use Rattle.pp_settings.specs.declared.error.SettingsError.TheVariants.{SameName}
 use Rattle.pp_settings.specs.Keys.{key_of, known_keys}
-use Rattle.pp_settings.specs.Limits.{most_frames, fewest_page_bytes, most_page_bytes, most_workers, most_flushes}
-use Rattle.pp_settings.specs.Limits.{most_regions, page_numbers, greatest_page, greatest_class}
+use Rattle.pp_settings.specs.declared.span.Span.TheVariants.{Bounded}
+use Rattle.pp_settings.specs.declared.version.TextVersion.{TextVersion}
+use Rattle.pp_settings.specs.declared.version.TextVersion.TheVariants.{One, Two}
+use Rattle.pp_settings.specs.Limits.{most_frames, fewest_page_bytes, most_page_bytes, most_workers, most_waiting}
+use Rattle.pp_settings.specs.Limits.{most_flushes, most_regions, greatest_class, first_frames, first_page_bytes}
+use Rattle.pp_settings.specs.Limits.{first_workers, second_page_bytes}
 use Rattle.pp_settings.specs.Layout.{shares_page}
 use Rattle.pp_settings.specs.Settings.{NamedRegion, Configuration, is_region_name}
+use Rattle.pp_settings.specs.Spans.{span_of, flush_limit}
+use Rattle.pp_settings.specs.Versions.{is_second, page_limit}
 
 -- ---- one key
 
 -- A table of the document or of a region may have this key.
-abbrev pub is_known : Option ℕ → List ℕ → Bool
-is_known region key = list_any (bytes_eq key) (known_keys region)
+abbrev pub is_known : TextVersion → Option ℕ → List ℕ → Bool
+is_known version region key = list_any (bytes_eq key) (known_keys version region)
 
 -- Each key of the table is known.
-abbrev pub keys_known : Option ℕ → Members → Bool
-keys_known region no_members = true
-keys_known region (member k d ms) = is_known region k && keys_known region ms
+abbrev pub keys_known : TextVersion → Option ℕ → Members → Bool
+keys_known version region no_members = true
+keys_known version region (member k d ms) = is_known version region k && keys_known version region ms
 
 -- The table has no other key than the known ones.
-abbrev pub only_known : Option ℕ → Members → Result (Unit {0}) SettingsError
-only_known region ms = must (keys_known region ms) (Unknown region)
+abbrev pub only_known : TextVersion → Option ℕ → Members → Result (Unit {0}) SettingsError
+only_known version region ms = must (keys_known version region ms) (Unknown region)
 
 -- The value at a key.
 abbrev pub value_at : Spot → Members → Result Data SettingsError
@@ -64,19 +71,19 @@ name_at spot ms = do
 -- ---- regions
 
 -- Where the region with number i lies.
-unfoldable pub extent_at : ℕ → Members → Result Extent SettingsError
-extent_at i ms = do
-  first ← number_at (InRegion i First) 0 greatest_page ms
-  count ← number_at (InRegion i Count) 1 (page_numbers - first) ms
+unfoldable pub extent_at : TextVersion → ℕ → Members → Result Extent SettingsError
+extent_at version i ms = do
+  first ← number_at (InRegion i First) 0 (page_limit version - 1) ms
+  count ← number_at (InRegion i Count) 1 (page_limit version - first) ms
   class ← number_at (InRegion i Class) 0 greatest_class ms
   Ok (record { first = first; count = count; class = class })
 
 -- The region with number i.
-unfoldable pub region_at : ℕ → Members → Result NamedRegion SettingsError
-region_at i ms = do
-  known ← only_known (Some i) ms
+unfoldable pub region_at : TextVersion → ℕ → Members → Result NamedRegion SettingsError
+region_at version i ms = do
+  known ← only_known version (Some i) ms
   name ← name_at (InRegion i Name) ms
-  extent ← extent_at i ms
+  extent ← extent_at version i ms
   Ok (record { name = name; extent = extent })
 
 -- The region has this name.
@@ -94,17 +101,18 @@ beside earlier r = do
   must (not (list_any (shares_page_with r.extent) earlier)) (Overlap (length earlier))
 
 -- One item's region, after the earlier ones.
-unfoldable pub next_region : List NamedRegion → Data → Result NamedRegion SettingsError
-next_region earlier d = do
+unfoldable pub next_region : TextVersion → List NamedRegion → Data → Result NamedRegion SettingsError
+next_region version earlier d = do
   ms ← ok_or (as_table d) (Range (Top Region))
-  r ← region_at (length earlier) ms
+  r ← region_at version (length earlier) ms
   passed ← beside earlier r
   Ok r
 
 -- The earlier regions and then those of the items, one item after the other.
-abbrev pub regions_from : List NamedRegion → Items → Result (List NamedRegion) SettingsError
-regions_from earlier no_items = Ok earlier
-regions_from earlier (item d ds) = next_region earlier d >>= λ r. regions_from (earlier ++ r ∷ []) ds
+abbrev pub regions_from : TextVersion → List NamedRegion → Items → Result (List NamedRegion) SettingsError
+regions_from version earlier no_items = Ok earlier
+regions_from version earlier (item d ds) =
+    next_region version earlier d >>= λ r. regions_from version (earlier ++ r ∷ []) ds
 
 -- ---- the document
 
@@ -129,16 +137,47 @@ tables_at spot ms = do
   d ← value_at spot ms
   ok_or (as_tables d) (Range spot)
 
-unfoldable pub configuration_of : Members → Result Configuration SettingsError
-configuration_of ms = do
-  known ← only_known None ms
-  frames ← number_at (Top Frames) 1 most_frames ms
-  page_bytes ← number_at (Top PageBytes) fewest_page_bytes most_page_bytes ms
-  workers ← number_at (Top Workers) 1 most_workers ms
+-- The settings of a document of version 1.
+unfoldable pub first_of : Members → Result Configuration SettingsError
+first_of ms = do
+  known ← only_known One None ms
+  frames ← number_at (Top Frames) 1 first_frames ms
+  page_bytes ← number_at (Top PageBytes) fewest_page_bytes first_page_bytes ms
+  workers ← number_at (Top Workers) 1 first_workers ms
   flushes ← number_at (Top Flushes) 0 most_flushes ms
   tables ← tables_at (Top Region) ms
-  regions ← regions_from [] tables
-  Ok (record { frames = frames; page_bytes = page_bytes; workers = workers; flushes = flushes; regions = regions })
+  regions ← regions_from One [] tables
+  Ok (record {
+    frames = frames;
+    page_bytes = page_bytes;
+    workers = workers;
+    span = Bounded;
+    flushes = flushes;
+    regions = regions;
+  })
+
+-- Those of a document of version 2.
+unfoldable pub second_of : Members → Result Configuration SettingsError
+second_of ms = do
+  known ← only_known Two None ms
+  frames ← number_at (Top Frames) 1 most_frames ms
+  page_bytes ← number_at (Top PageBytes) second_page_bytes most_page_bytes ms
+  workers ← number_at (Top Workers) 1 most_workers ms
+  waiting ← number_at (Top Waiting) 0 most_waiting ms
+  flushes ← number_at (Top Flushes) 0 (flush_limit (span_of waiting)) ms
+  tables ← tables_at (Top Region) ms
+  regions ← regions_from Two [] tables
+  Ok (record {
+    frames = frames;
+    page_bytes = page_bytes;
+    workers = workers;
+    span = span_of waiting;
+    flushes = flushes;
+    regions = regions;
+  })
+
+abbrev pub configuration_of : Members → Result Configuration SettingsError
+configuration_of ms = if is_second ms then second_of ms else first_of ms
 
 -- The settings of a text.
 abbrev pub reading : List ℕ → Result Configuration SettingsError

@@ -1,12 +1,17 @@
 -- What settings are, apart from the text that spells them: the sizes of a pool, and its regions with their names.
-use Rattle.std.specs.Prelude.{◌≢◌, ℕ, ◌≤◌, List, [], ◌∷◌, length, map, All, AllPairs, Bool, IsTrue, Option, option_map}
+use Rattle.std.specs.Prelude.{◌≢◌, ℕ, ◌+◌, ◌≤◌, List, [], ◌∷◌, length, map, All, AllPairs, Bool, IsTrue, Option, option_map}
 use Rattle.std.specs.Prelude.{slice_get, position}
 use Rattle.std.specs.Str.{bytes_eq}
 use Rattle.pp_text.specs.Names.{is_name}
-use Rattle.pp_settings.specs.Limits.{most_frames, fewest_page_bytes, most_page_bytes, most_workers, most_flushes}
-use Rattle.pp_settings.specs.Limits.{most_regions, longest_region_name}
+use Rattle.pp_settings.specs.Limits.{most_frames, fewest_page_bytes, most_page_bytes, most_workers, most_regions}
+use Rattle.pp_settings.specs.Limits.{longest_region_name, first_frames, first_page_bytes, first_workers}
+use Rattle.pp_settings.specs.Limits.{first_page_numbers, second_page_bytes}
 use Rattle.pp_settings.specs.declared.extent.Extent.{Extent}
+use Rattle.pp_settings.specs.declared.span.Span.{Span}
+use Rattle.pp_settings.specs.declared.version.TextVersion.{TextVersion}
+use Rattle.pp_settings.specs.declared.version.TextVersion.TheVariants.{One, Two}
 use Rattle.pp_settings.specs.Layout.{Geometry, IsExtent, IsApart}
+use Rattle.pp_settings.specs.Spans.{IsSpan, flush_limit}
 
 -- A region: the name by which plans ask for its pages, and where it lies.
 pub record NamedRegion : Type 0 where
@@ -18,6 +23,7 @@ pub record Configuration : Type 0 where
   pub frames : ℕ
   pub page_bytes : ℕ
   pub workers : ℕ
+  pub span : Span
   pub flushes : ℕ
   pub regions : List NamedRegion
 
@@ -61,11 +67,25 @@ pub record AreRegions (rs : List NamedRegion) : Type 0 where
   pub names : AllPairs (λ q r. q.name ≢ r.name) rs
   pub apart : AllPairs (λ q r. IsApart q.extent r.extent) rs
 
--- 1 to 4,096 frames, pages of 64 to 65,536 bytes, 1 to 32 workers, at most 100,000 flushes, and 1 to 64 regions.
+-- What holds of all settings: 1 to 16,777,216 frames, pages of 64 to 1,048,576 bytes, 1 to 1,024 workers, a span and the
+-- flushes within their limits, and 1 to 64 regions.
 pub record IsConfiguration (c : Configuration) : Type 0 where
   pub frames : (1 ≤ c.frames) × (c.frames ≤ most_frames)
   pub page_bytes : (fewest_page_bytes ≤ c.page_bytes) × (c.page_bytes ≤ most_page_bytes)
   pub workers : (1 ≤ c.workers) × (c.workers ≤ most_workers)
-  pub flushes : c.flushes ≤ most_flushes
+  pub span : IsSpan c.span
+  pub flushes : c.flushes ≤ flush_limit c.span
   pub count : (1 ≤ length c.regions) × (length c.regions ≤ most_regions)
   pub regions : AreRegions c.regions
+
+-- A text of version 1 has at most 4,096 frames, 65,536 bytes of a page and 32 workers, and pages below 65,536.
+pub record IsOfFirst (c : Configuration) : Type 0 where
+  pub frames : c.frames ≤ first_frames
+  pub page_bytes : c.page_bytes ≤ first_page_bytes
+  pub workers : c.workers ≤ first_workers
+  pub pages : All (λ r. r.extent.first + r.extent.count ≤ first_page_numbers) c.regions
+
+-- The limits that a text of each version has besides those of all: in one of version 2 a page has at least 512 bytes.
+abbrev pub IsOf : TextVersion → Configuration → Type 0
+IsOf One c = IsOfFirst c
+IsOf Two c = second_page_bytes ≤ c.page_bytes

@@ -13,6 +13,7 @@ drafted d = record {
   frames = d.frames;
   page_bytes = d.page_bytes;
   workers = d.workers;
+  span = d.span;
   flushes = d.flushes;
   regions = d.regions;
 }

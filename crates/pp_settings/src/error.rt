@@ -10,8 +10,8 @@ use thiserror::Error;
 
 /// Why a text is refused: the first error in this fixed order, or `OutOfMemory`.
 ///
-/// First comes `NotToml`, and then `Unknown` of the document. Then each key of the document follows in turn, `Missing`
-/// or `Range`. Then each region follows in turn: `Unknown`, each of its keys, `SameName`, `Overlap`. Regions are
+/// First comes `NotToml`, and then `Unknown` of the document. Then each key of the document's version follows in turn, `Missing`
+/// or `Range`; none is at `version`. Then each region follows in turn: `Unknown`, each of its keys, `SameName`, `Overlap`. Regions are
 /// numbered from 0.
 #[derive(Clone, Copy, Debug, PartialEq, Eq, Error)]
 pub enum SettingsError {
@@ -86,5 +86,23 @@ impl<T: Drop> From<AllocFailed<T>> for SettingsError {
 
     fn from(_refused: AllocFailed<T>) -> SettingsError {
         SettingsError::OutOfMemory
+    }
+}
+
+/// Why settings aren't served: their lives have no end, and what was asked serves bounded ones alone, of which a journal has
+/// everything that was done.
+#[derive(Clone, Copy, Debug, PartialEq, Eq, Error)]
+#[error("the settings are of a life without end, and only a bounded one is served here")]
+pub struct OtherLife;
+
+impl OtherLife {
+    ghost use Rattle.pp_text.specs.Views.{row_of_refusal};
+    ghost use Rattle.pp_settings.specs.Refusals.{other_life_row};
+
+    /// The refusal as programs print it: `8 OtherLife`.
+    pub fn refusal(self) -> Refusal
+        ensures { row_of_refusal result ≡ other_life_row }
+    {
+        Refusal::new(8, "OtherLife", About::Nothing)
     }
 }

@@ -8,13 +8,17 @@ use std::fmt;
 /// A key of the document itself.
 #[derive(Clone, Copy, Debug, PartialEq, Eq)]
 pub enum TopKey {
+    /// The version of the text. No refusal names it.
+    Version,
     /// How many frames the pool has.
     Frames,
     /// How many bytes a page has.
     PageBytes,
     /// How many workers run plans.
     Workers,
-    /// How many flushes one run may begin.
+    /// How many submitted plans may wait at a time.
+    Waiting,
+    /// How many flushes one life may begin.
     Flushes,
     /// The array of regions.
     Region,
@@ -28,9 +32,11 @@ impl TopKey {
         ensures { result.now ≡ top_key self }
     {
         match self {
+            TopKey::Version => "version",
             TopKey::Frames => "frames",
             TopKey::PageBytes => "page_bytes",
             TopKey::Workers => "workers",
+            TopKey::Waiting => "waiting",
             TopKey::Flushes => "flushes",
             TopKey::Region => "region",
         }

@@ -9,8 +9,8 @@ use std::marker::Model;
 
 /// The frames of a pool, and where the regions of its pages lie. It is plain data, and copied where it is wanted.
 ///
-/// There are 1 to 4,096 frames and 1 to 64 regions. No two regions share a page. Page numbers are below 65,536, and
-/// classes below 64. A region's number is its place in the settings' text, from 0.
+/// There are 1 to 16,777,216 frames and 1 to 64 regions. No two regions share a page. Page numbers are below
+/// 4,294,967,292, and classes below 64. A region's number is its place in the settings' text, from 0.
 #[derive(Clone, Copy, Debug, PartialEq, Eq)]
 pub struct Layout {
     frames: u32,
@@ -33,7 +33,7 @@ impl Layout {
     /// How many frames the pool has.
     pub fn frames(&self) -> u32
         ensures is { result ≡ self.now.frames }
-        ensures within { (1 ≤ result) × (result ≤ 4096) }
+        ensures within { (1 ≤ result) × (result ≤ 16777216) }
     {
         self.frames
     }
@@ -61,7 +61,7 @@ impl Layout {
         // Each page of a region is below the number, and some region ends with the page before it.
         ensures above { (r page : ℕ) → HasPage self.now r page → page < result }
         ensures last { (r : ℕ) × HasPage self.now r (result - 1) }
-        ensures most { result ≤ 65536 }
+        ensures most { result ≤ 4294967292 }
     {
         let mut pages = 0;
         for extent in self.extents() {

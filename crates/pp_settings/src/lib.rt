@@ -12,10 +12,12 @@ mod reading;
 mod regions;
 mod settings;
 mod span;
+mod version;
 
-pub use error::SettingsError;
+pub use error::{OtherLife, SettingsError};
 pub use extent::Extent;
 pub use key::{RegionKey, Spot, TopKey};
 pub use layout::Layout;
 pub use settings::Settings;
 pub use span::Span;
+pub use version::TextVersion;

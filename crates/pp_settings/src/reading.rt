@@ -13,17 +13,19 @@ ghost use Rattle.pp_settings.specs.Refusals.{is_settings_memory};
 ghost use Rattle.pp_settings.specs.Views.{drafted, entered};
 ghost use Rattle.pp_settings.specs.Reading.{is_known, only_known, value_at, number_at, name_at, extent_at, region_at};
 ghost use Rattle.pp_settings.specs.Reading.{has_name, shares_page_with, beside, next_region, regions_from, are_tables};
-ghost use Rattle.pp_settings.specs.Reading.{are_regions, tables_at, configuration_of};
+ghost use Rattle.pp_settings.specs.Reading.{are_regions, tables_at, first_of, second_of, configuration_of};
 
 use crate::error::SettingsError;
 use crate::extent::Extent;
 use crate::key::{RegionKey, Spot, TopKey};
 use crate::limits::{
-    FEWEST_PAGE_BYTES, GREATEST_CLASS, MOST_FLUSHES, MOST_FRAMES, MOST_PAGE_BYTES, MOST_REGIONS,
-    MOST_WORKERS, PAGE_NUMBERS,
+    FEWEST_PAGE_BYTES, FIRST_FRAMES, FIRST_PAGE_BYTES, FIRST_WORKERS, GREATEST_CLASS, MOST_FLUSHES,
+    MOST_FRAMES, MOST_PAGE_BYTES, MOST_REGIONS, MOST_WAITING, MOST_WORKERS, SECOND_PAGE_BYTES,
 };
 use crate::names::{is_known, is_region_name};
 use crate::regions::Regions;
+use crate::span::Span;
+use crate::version::TextVersion;
 use std::alloc::Global;
 use toml::{Table, Value};
 
@@ -33,7 +35,8 @@ pub(crate) struct Draft {
     pub(crate) frames: u32,
     pub(crate) page_bytes: u32,
     pub(crate) workers: u32,
-    pub(crate) flushes: u32,
+    pub(crate) span: Span,
+    pub(crate) flushes: u64,
     pub(crate) regions: Regions,
 }
 
@@ -51,14 +54,22 @@ fn value_at(table: &Table, spot: Spot) -> Result<&Value, SettingsError>
 }
 
 #[tactic(auto, unfolding(crate::specs::Reading::number_at))]
-fn number_at(table: &Table, spot: Spot, low: u32, high: u32) -> Result<u32, SettingsError>
+fn long_at(table: &Table, spot: Spot, low: u64, high: u64) -> Result<u64, SettingsError>
     ensures gives { Reads (λ n. n) result (number_at spot low high (table_view table.now)) }
     ensures within { IfOk result (λ n. (low ≤ n) × (n ≤ high)) }
 {
     match value_at(table, spot)?.as_integer() {
-        Some(n) if i64::from(low) <= n && n <= i64::from(high) => Ok(n as u32),
+        Some(n) if 0 <= n && low <= n as u64 && n as u64 <= high => Ok(n as u64),
         _ => Err(SettingsError::Range(spot)),
     }
+}
+
+fn number_at(table: &Table, spot: Spot, low: u32, high: u32) -> Result<u32, SettingsError>
+    ensures gives { Reads (λ n. n) result (number_at spot low high (table_view table.now)) }
+    ensures within { IfOk result (λ n. (low ≤ n) × (n ≤ high)) }
+{
+    let number = long_at(table, spot, u64::from(low), u64::from(high))?;
+    Ok(number as u32)
 }
 
 #[tactic(auto, unfolding(crate::specs::Reading::name_at))]
@@ -71,32 +82,35 @@ fn name_at(table: &Table, spot: Spot) -> Result<&str, SettingsError>
     }
 }
 
-fn has_known_keys(table: &Table, region: Option<u8>) -> bool
-    ensures { result ≡ list_all (λ k. is_known region (string_bytes k)) (keys table.now) }
+fn has_known_keys(table: &Table, version: TextVersion, region: Option<u8>) -> bool
+    ensures { result ≡ list_all (λ k. is_known version region (string_bytes k)) (keys table.now) }
 {
-    table.keys().all(|key| is_known(region, key.as_str()))
+    table
+        .keys()
+        .all(|key| is_known(version, region, key.as_str()))
 }
 
-fn only_known(table: &Table, region: Option<u8>) -> Result<(), SettingsError>
-    ensures { Reads (λ _. tt) result (only_known region (table_view table.now)) }
+fn only_known(table: &Table, version: TextVersion, region: Option<u8>) -> Result<(), SettingsError>
+    ensures { Reads (λ _. tt) result (only_known version region (table_view table.now)) }
 {
-    if !has_known_keys(table, region) {
+    if !has_known_keys(table, version, region) {
         return Err(SettingsError::Unknown(region));
     }
     Ok(())
 }
 
 #[tactic(auto, unfolding(crate::specs::Reading::extent_at))]
-fn extent_at(table: &Table, region: u8) -> Result<Extent, SettingsError>
-    ensures { Reads (λ e. e) result (extent_at region (table_view table.now)) }
+fn extent_at(table: &Table, version: TextVersion, region: u8) -> Result<Extent, SettingsError>
+    ensures { Reads (λ e. e) result (extent_at version region (table_view table.now)) }
 {
+    let pages = version.page_numbers();
     let first = number_at(
         table,
         Spot::InRegion(region, RegionKey::First),
         0,
-        PAGE_NUMBERS - 1,
+        pages - 1,
     )?;
-    let room = PAGE_NUMBERS - first;
+    let room = pages - first;
     let count = number_at(table, Spot::InRegion(region, RegionKey::Count), 1, room)?;
     let class = number_at(
         table,
@@ -112,12 +126,12 @@ fn extent_at(table: &Table, region: u8) -> Result<Extent, SettingsError>
 }
 
 #[tactic(auto, unfolding(crate::specs::Reading::region_at))]
-fn region_at(table: &Table, region: u8) -> Result<Entry<'_>, SettingsError>
-    ensures { Reads entered result (region_at region (table_view table.now)) }
+fn region_at(table: &Table, version: TextVersion, region: u8) -> Result<Entry<'_>, SettingsError>
+    ensures { Reads entered result (region_at version region (table_view table.now)) }
 {
-    only_known(table, Some(region))?;
+    only_known(table, version, Some(region))?;
     let name = name_at(table, Spot::InRegion(region, RegionKey::Name))?;
-    let extent = extent_at(table, region)?;
+    let extent = extent_at(table, version, region)?;
     Ok(Entry { name, extent })
 }
 
@@ -136,25 +150,34 @@ fn beside(earlier: &Regions, entry: &Entry<'_>) -> Result<(), SettingsError>
 }
 
 #[tactic(auto, unfolding(crate::specs::Reading::next_region))]
-fn next_region<'a>(earlier: &Regions, value: &'a Value) -> Result<Entry<'a>, SettingsError>
-    ensures { Reads entered result (next_region earlier.now (view value.now)) }
+fn next_region<'a>(
+    version: TextVersion,
+    earlier: &Regions,
+    value: &'a Value,
+) -> Result<Entry<'a>, SettingsError>
+    ensures { Reads entered result (next_region version earlier.now (view value.now)) }
 {
     let table = match value.as_table() {
         Some(table) => table,
         None => return Err(SettingsError::Range(Spot::Top(TopKey::Region))),
     };
-    let entry = region_at(table, earlier.len())?;
+    let entry = region_at(table, version, earlier.len())?;
     beside(earlier, &entry)?;
     Ok(entry)
 }
 
-fn regions_of(alloc: Global, items: &[Value]) -> Result<Regions, SettingsError>
+fn regions_of(
+    alloc: Global,
+    version: TextVersion,
+    items: &[Value],
+) -> Result<Regions, SettingsError>
     requires { length items.now ≤ 64 }
-    ensures { Gives is_settings_memory (λ (rs : List NamedRegion). rs) result (regions_from [] (items_view items.now)) }
+    ensures { Gives is_settings_memory (λ (rs : List NamedRegion). rs) result
+        (regions_from version [] (items_view items.now)) }
 {
     let mut regions = Regions::new(alloc);
     for value in items {
-        let entry = next_region(&regions, value)?;
+        let entry = next_region(version, &regions, value)?;
         regions.push(alloc, entry.name, entry.extent)?;
     }
     Ok(regions)
@@ -188,29 +211,69 @@ fn tables_at(table: &Table, spot: Spot) -> Result<&[Value], SettingsError>
     }
 }
 
-#[tactic(auto, unfolding(crate::specs::Reading::configuration_of))]
-pub(crate) fn draft_of(alloc: Global, table: &Table) -> Result<Draft, SettingsError>
-    ensures { Gives is_settings_memory drafted result (configuration_of (table_view table.now)) }
+/// What a document of version 1 gives.
+#[tactic(auto, unfolding(crate::specs::Reading::first_of))]
+fn first_of(alloc: Global, table: &Table) -> Result<Draft, SettingsError>
+    ensures { Gives is_settings_memory drafted result (first_of (table_view table.now)) }
 {
-    only_known(table, None)?;
-    let frames = number_at(table, Spot::Top(TopKey::Frames), 1, MOST_FRAMES)?;
+    only_known(table, TextVersion::One, None)?;
+    let frames = number_at(table, Spot::Top(TopKey::Frames), 1, FIRST_FRAMES)?;
     let page_bytes = number_at(
         table,
         Spot::Top(TopKey::PageBytes),
         FEWEST_PAGE_BYTES,
-        MOST_PAGE_BYTES,
+        FIRST_PAGE_BYTES,
     )?;
-    let workers = number_at(table, Spot::Top(TopKey::Workers), 1, MOST_WORKERS)?;
-    let flushes = number_at(table, Spot::Top(TopKey::Flushes), 0, MOST_FLUSHES)?;
+    let workers = number_at(table, Spot::Top(TopKey::Workers), 1, FIRST_WORKERS)?;
+    let flushes = long_at(table, Spot::Top(TopKey::Flushes), 0, MOST_FLUSHES)?;
     let tables = tables_at(table, Spot::Top(TopKey::Region))?;
-    let regions = regions_of(alloc, tables)?;
+    let regions = regions_of(alloc, TextVersion::One, tables)?;
     Ok(Draft {
         frames,
         page_bytes,
         workers,
+        span: Span::Bounded,
         flushes,
         regions,
     })
+}
+
+/// What a document of version 2 gives.
+#[tactic(auto, unfolding(crate::specs::Reading::second_of))]
+fn second_of(alloc: Global, table: &Table) -> Result<Draft, SettingsError>
+    ensures { Gives is_settings_memory drafted result (second_of (table_view table.now)) }
+{
+    only_known(table, TextVersion::Two, None)?;
+    let frames = number_at(table, Spot::Top(TopKey::Frames), 1, MOST_FRAMES)?;
+    let page_bytes = number_at(
+        table,
+        Spot::Top(TopKey::PageBytes),
+        SECOND_PAGE_BYTES,
+        MOST_PAGE_BYTES,
+    )?;
+    let workers = number_at(table, Spot::Top(TopKey::Workers), 1, MOST_WORKERS)?;
+    let waiting = number_at(table, Spot::Top(TopKey::Waiting), 0, MOST_WAITING)?;
+    let span = Span::waiting(waiting);
+    let flushes = long_at(table, Spot::Top(TopKey::Flushes), 0, span.most_flushes())?;
+    let tables = tables_at(table, Spot::Top(TopKey::Region))?;
+    let regions = regions_of(alloc, TextVersion::Two, tables)?;
+    Ok(Draft {
+        frames,
+        page_bytes,
+        workers,
+        span,
+        flushes,
+        regions,
+    })
+}
+
+pub(crate) fn draft_of(alloc: Global, table: &Table) -> Result<Draft, SettingsError>
+    ensures { Gives is_settings_memory drafted result (configuration_of (table_view table.now)) }
+{
+    match TextVersion::of(table) {
+        TextVersion::One => first_of(alloc, table),
+        TextVersion::Two => second_of(alloc, table),
+    }
 }
 
 /// The text's document, as the TOML reader gives it.

@@ -1,6 +1,6 @@
 //! Settings, and what they say.
 
-ghost use Rattle.std.specs.Prelude.{◌≡◌, ◌≢◌, ◌-◌, ◌≤◌, ◌<◌, ℕ, Ok, Some, IfOk, IfErr, IfSome, length};
+ghost use Rattle.std.specs.Prelude.{◌≡◌, ◌≢◌, ◌-◌, ◌≤◌, ◌<◌, ℕ, Ok, Some, IfOk, IfErr, IfSome, is_ok, length};
 ghost use Rattle.toml.specs.Parse.{parse_document};
 ghost use Rattle.pp_text.specs.Steps.{Gives};
 ghost use Rattle.pp_text.specs.First.{IsFirst};
@@ -9,27 +9,34 @@ ghost use Rattle.pp_settings.specs.declared.error.SettingsError.TheVariants.{Out
 ghost use Rattle.pp_settings.specs.Faults.{HasFault, order};
 ghost use Rattle.pp_settings.specs.Layout.{HasPage, TellsClass, IsLayout, region_of, class_of, page_count};
 ghost use Rattle.pp_settings.specs.Settings.{Configuration, IsConfiguration, geometry_of, region_named, name_of};
+ghost use Rattle.pp_settings.specs.Spans.{IsSpan, flush_limit, is_bounded};
+ghost use Rattle.pp_settings.specs.declared.span.Span.TheVariants.{Bounded};
 ghost use Rattle.pp_settings.specs.Spelling.{IsText};
 ghost use Rattle.pp_settings.specs.Reading.{reading};
 ghost use Rattle.pp_settings.specs.Refusals.{is_settings_memory};
 ghost use Rattle.pp_settings.specs.Views.{drafted};
 
-use crate::error::SettingsError;
+use crate::error::{OtherLife, SettingsError};
 use crate::layout::Layout;
 use crate::reading::{Draft, document_of, draft_of};
+use crate::span::Span;
 use std::alloc::Global;
 use std::marker::Model;
 
 /// The settings of a pool, within their limits.
 ///
-/// A pool has 1 to 4,096 frames and 1 to 32 workers. A page has 64 to 65,536 bytes. One run begins at most 100,000
-/// flushes. There are 1 to 64 regions. No two have the same name, and no two share a page. A region's number is its
-/// place in the text, from 0.
+/// A pool has 1 to 16,777,216 frames and 1 to 1,024 workers. A page has 64 to 1,048,576 bytes. A bounded life begins at
+/// most 100,000 flushes, and one without end at most 2^59. There are 1 to 64 regions. No two have the same name, and no
+/// two share a page. A region's number is its place in the text, from 0.
+///
+/// A text of version 1 has narrower limits: at most 4,096 frames, 32 workers, 65,536 bytes of a page, and pages below 65,536;
+/// its lives are bounded. A text of version 2 has at least 512 bytes of a page.
 #[derive(Debug)]
 pub struct Settings {
     page_bytes: u32,
     workers: u32,
-    flushes: u32,
+    span: Span,
+    flushes: u64,
     layout: Layout,
     names: Vec<String>,
 }
@@ -40,6 +47,7 @@ impl Drop for Settings {
         let Settings {
             page_bytes: _,
             workers: _,
+            span: _,
             flushes: _,
             layout: _,
             names: _,
@@ -76,6 +84,7 @@ fn settled(draft: Draft) -> Settings
     Settings {
         page_bytes: draft.page_bytes,
         workers: draft.workers,
+        span: draft.span,
         flushes: draft.flushes,
         layout: Layout::new(draft.frames, regions.extents),
         names: regions.names,
@@ -85,8 +94,9 @@ fn settled(draft: Draft) -> Settings
 impl Settings {
     /// Reads settings from a text.
     ///
-    /// Accepts a text if and only if it is TOML with every setting, in range, and no other key, unless memory runs
-    /// out. Answers any other text with the first error in the fixed order of [`SettingsError`].
+    /// A text is of version 2 exactly where it is TOML whose key `version` holds the whole number 2; any other is of
+    /// version 1. Accepts a text if and only if it is TOML with every setting of its version, in range, and no other key,
+    /// unless memory runs out. Answers any other text with the first error in the fixed order of [`SettingsError`].
     pub fn from_text(alloc: Global, text: &str) -> Result<Settings, SettingsError>
         // What is accepted is spelled so: each key and value, and nothing else stands in the text.
         ensures found { IfOk result (IsText text.now) }
@@ -106,7 +116,7 @@ impl Settings {
     /// How many frames the pool has.
     pub fn frames(&self) -> u32
         ensures is { result ≡ self.now.frames }
-        ensures within { (1 ≤ result) × (result ≤ 4096) }
+        ensures within { (1 ≤ result) × (result ≤ 16777216) }
     {
         self.layout.frames()
     }
@@ -114,7 +124,7 @@ impl Settings {
     /// How many bytes a page has.
     pub fn page_bytes(&self) -> u32
         ensures is { result ≡ self.now.page_bytes }
-        ensures within { (64 ≤ result) × (result ≤ 65536) }
+        ensures within { (64 ≤ result) × (result ≤ 1048576) }
     {
         self.page_bytes
     }
@@ -122,15 +132,40 @@ impl Settings {
     /// How many workers run plans.
     pub fn workers(&self) -> u32
         ensures is { result ≡ self.now.workers }
-        ensures within { (1 ≤ result) × (result ≤ 32) }
+        ensures within { (1 ≤ result) × (result ≤ 1024) }
     {
         self.workers
     }
 
-    /// How many flushes one run may begin.
-    pub fn flushes(&self) -> u32
+    /// How long a life of the pool may last.
+    pub fn span(&self) -> Span
+        ensures is { result ≡ self.now.span }
+        ensures within { IsSpan result }
+    {
+        self.span
+    }
+
+    /// Sees that a life of the pool is bounded. A book, a run, an audit and a picture serve no other: this is the test for their
+    /// condition.
+    ///
+    /// # Errors
+    ///
+    /// [`OtherLife`] where it has no end.
+    pub fn see_bounded(&self) -> Result<(), OtherLife>
+        ensures bounded { IfOk result (λ seen. self.now.span ≡ Bounded) }
+        ensures exact { is_ok result ≡ is_bounded self.now.span }
+    {
+        match self.span {
+            Span::Bounded => Ok(()),
+            Span::Endless { .. } => Err(OtherLife),
+        }
+    }
+
+    /// How many flushes one life may begin: at most 100,000 in a bounded life, and 2^59 in one without end.
+    pub fn flushes(&self) -> u64
         ensures is { result ≡ self.now.flushes }
-        ensures within { result ≤ 100000 }
+        ensures within { result ≤ flush_limit self.now.span }
+        ensures most { result ≤ 576460752303423488 }
     {
         self.flushes
     }
@@ -141,7 +176,7 @@ impl Settings {
         // Each page of a region is below the number, and some region ends with the page before it.
         ensures above { (r page : ℕ) → HasPage (geometry_of self.now) r page → page < result }
         ensures last { (r : ℕ) × HasPage (geometry_of self.now) r (result - 1) }
-        ensures most { result ≤ 65536 }
+        ensures most { result ≤ 4294967292 }
     {
         self.kept_layout().pages()
     }

@@ -1,12 +1,10 @@
 -- What a played script comes to, from what its steps did.
-use Rattle.std.proofs.Common.{◌≡◌, ℕ, List, [], ◌++◌, length, Result, Ok, Err, refl, sym, ap, subst, ◌∙◌}
+use Rattle.std.proofs.Common.{◌≡◌, ℕ, List, [], ◌++◌, length, sym, ap, subst, ◌∙◌}
 use Rattle.pp_cert.specs.Accepted.{Acceptance}
 use Rattle.pp_core.specs.Opening.{kept_of}
 use Rattle.pp_device.specs.Disk.{Disk, DiskReads, DiskWrites}
 use Rattle.pp_device.specs.Troubled.{Troubled, TroubledReads, TroubledWrites}
 use Rattle.pp_model.specs.Pool.{State, opening}
-use Rattle.pp_model.specs.Submitting.{after_submits}
-use Rattle.pp_model.specs.declared.refusals.SubmitError.{SubmitError}
 use Rattle.pp_play.specs.Following.{AllOver, PlaysOverDevice}
 use Rattle.pp_play.specs.declared.line.Line.{Line}
 use Rattle.pp_script.specs.Scripts.{Scenario}
@@ -22,19 +20,13 @@ use Rattle.pp_simulate.specs.Simulating.{device_for, formatted, Simulates, Takes
 use Rattle.pp_simulate.proofs.Begun.{begun_agrees}
 use Rattle.pp_simulate.proofs.Exactly.{in_turn}
 
--- Where all plans are taken in, there is a state after, for which the vault stands.
-pub all_taken : (submits : Result State SubmitError) (v : Parts) → TakesAll submits v (Ok tt)
-    → (s : State) × (submits ≡ Ok s) × StandsFor v s
-all_taken (Ok s) v takes = (s, refl, takes)
-all_taken (Err e) v takes = absurd takes
-
 -- No line was there before.
 all_new : (before lines told : List Line) → before ≡ [] → lines ≡ before ++ told → told ≡ lines
 all_new before lines told begun is = sym (is ∙ ap (λ xs. xs ++ told) begun)
 
 pub simulated : (c : Configuration) (plans : List Acceptance) (script : Scenario) (told : List ℕ)
     (between after : Parts) (hands left : Hands) (device : Troubled Disk) (cues : List Cue) (before lines : List Line)
-    → EmptyAgree → TakesAll (after_submits (opening (kept_of c)) plans) between (Ok tt) → HandsFit between hands
+    → EmptyAgree → TakesAll (opening (kept_of c)) plans between → HandsFit between hands
     → between.page_bytes ≡ c.page_bytes
     → before ≡ [] → cues ≡ script.cues
     → PlaysOverDevice (TroubledReads DiskReads) (TroubledWrites DiskWrites) between hands (device_for c script) cues
@@ -42,25 +34,25 @@ pub simulated : (c : Configuration) (plans : List Acceptance) (script : Scenario
     → ((s : State) → StandsFor after s → told ≡ transcript (length plans) cues lines s)
     → Simulates c plans script told
 simulated c plans script told between after hands left device cues before lines empty takes fits size begun same follows text =
-    let taken = all_taken (after_submits (opening (kept_of c)) plans) between takes in
-    let agrees = begun_agrees (kept_of c) plans taken.0 between hands (formatted c) empty taken.1 taken.2 fits in
-    let w = follows fits taken.0 taken.2 (formatted c) agrees in
-    let played : AllOver (TroubledReads DiskReads) (TroubledWrites DiskWrites) between taken.0 hands
+    let agrees =
+    begun_agrees (kept_of c) plans takes.after between hands (formatted c) empty takes.taken_in takes.stands fits in
+    let w = follows fits takes.after takes.stands (formatted c) agrees in
+    let played : AllOver (TroubledReads DiskReads) (TroubledWrites DiskWrites) between takes.after hands
     (device_for c script) (formatted c) script.cues lines after w.1 left device w.2 =
     subst
-    (λ xs. AllOver (TroubledReads DiskReads) (TroubledWrites DiskWrites) between taken.0 hands (device_for c script)
+    (λ xs. AllOver (TroubledReads DiskReads) (TroubledWrites DiskWrites) between takes.after hands (device_for c script)
     (formatted c) xs lines after w.1 left device w.2) same
     (subst
-    (λ ls. AllOver (TroubledReads DiskReads) (TroubledWrites DiskWrites) between taken.0 hands (device_for c script)
+    (λ ls. AllOver (TroubledReads DiskReads) (TroubledWrites DiskWrites) between takes.after hands (device_for c script)
     (formatted c) cues ls after w.1 left device w.2) (all_new before lines w.0 begun w.3) w.4) in
     record {
-      taken_in = taken.0;
-      submits = taken.1;
+      taken_in = takes.after;
+      submits = takes.taken_in;
       lines = lines;
       last = w.1;
       comes =
-          in_turn (TroubledReads DiskReads) (TroubledWrites DiskWrites) between taken.0 hands (device_for c script)
-          (formatted c) script.cues lines after w.1 left device w.2 taken.2 played;
+          in_turn (TroubledReads DiskReads) (TroubledWrites DiskWrites) between takes.after hands (device_for c script)
+          (formatted c) script.cues lines after w.1 left device w.2 takes.stands played;
       bytes =
           record {
             vault = between;
@@ -69,7 +61,7 @@ simulated c plans script told between after hands left device cues before lines 
             left = left;
             device = device;
             told = w.2;
-            stands = taken.2;
+            stands = takes.stands;
             fits = fits;
             length = size;
             agrees = agrees;

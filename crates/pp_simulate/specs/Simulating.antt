@@ -1,18 +1,20 @@
 -- What playing a script over a new pool may come to.
-use Rattle.std.specs.Prelude.{◌≡◌, ℕ, List, length, Result, Ok, Err, ⊤}
+use Rattle.std.specs.Prelude.{◌≡◌, ◌≢◌, ℕ, ◌≤◌, ◌<◌, true, List, [], ◌∷◌, ◌++◌, length, slice_get, take, Some, Ok, Err, ⊤}
 use Rattle.pp_cert.specs.Accepted.{Acceptance}
+use Rattle.pp_cert.specs.Walk.{same_layout}
+use Rattle.pp_core.specs.Limits.{most_kept}
 use Rattle.pp_core.specs.Opening.{kept_of}
 use Rattle.pp_device.specs.Disk.{Disk, new_disk, image_of, DiskReads, DiskWrites}
 use Rattle.pp_device.specs.Troubled.{Troubled, TroubledReads, TroubledWrites}
 use Rattle.pp_model.specs.Pool.{State, opening}
-use Rattle.pp_model.specs.Submitting.{after_submits}
-use Rattle.pp_model.specs.declared.refusals.SubmitError.{SubmitError}
+use Rattle.pp_model.specs.Submitting.{after_submits, submit_error}
 use Rattle.pp_play.specs.ByStates.{ComeInTurn}
 use Rattle.pp_play.specs.Following.{AllOver}
 use Rattle.pp_play.specs.declared.line.Line.{Line}
 use Rattle.pp_script.specs.Scripts.{Scenario}
 use Rattle.pp_settings.specs.Layout.{page_count}
 use Rattle.pp_settings.specs.Settings.{Configuration, geometry_of}
+use Rattle.pp_settings.specs.declared.span.Span.TheVariants.{Bounded}
 use Rattle.pp_contents.specs.Agreeing.{Agrees}
 use Rattle.pp_vault.specs.Hands.{HandsFit}
 use Rattle.pp_vault.specs.Parts.{Parts}
@@ -20,18 +22,45 @@ use Rattle.pp_vault.specs.StandsFor.{StandsFor}
 use Rattle.pp_vault.specs.declared.hands.Hands.{Hands}
 use Rattle.pp_simulate.specs.Lines.{transcript}
 use Rattle.pp_simulate.specs.declared.error.SimulateError.{SimulateError}
-use Rattle.pp_simulate.specs.declared.error.SimulateError.TheVariants.{Submit, OutOfMemory}
+use Rattle.pp_simulate.specs.declared.error.SimulateError.TheVariants.{Submit, TooManyPrepared, OutOfMemory}
 
--- The vault stands for the state after all plans were taken in; a refusal is that of the first that isn't.
-abbrev pub TakesAll : Result State SubmitError → Parts → Result (Unit {0}) SubmitError → Type 0
-TakesAll (Ok s) v (Ok done) = StandsFor v s
-TakesAll (Err error) v (Err told) = told ≡ error
-TakesAll _ v _ = ⊥
+-- All plans are taken in from this state, and the vault stands for the state after.
+pub record TakesAll (s : State) (plans : List Acceptance) (v : Parts) : Type 0 where
+  pub after : State
+  pub taken_in : after_submits s plans ≡ Ok after
+  pub stands : StandsFor v after
 
--- The error tells the refusal of a plan. Want of memory tells nothing.
-abbrev pub TellsSubmit : Result State SubmitError → SimulateError → Type 0
-TellsSubmit submits (Submit error) = submits ≡ Err error
-TellsSubmit submits OutOfMemory = ⊤
+-- In a life without end the pool keeps no plan more: the first plans are taken in, as many as it keeps. Behind them
+-- stands one more, which is of the pool's layout.
+pub record KeepsNoMore (s : State) (plans : List Acceptance) : Type 0 where
+  pub endless : s.settings.span ≢ Bounded
+  pub after : State
+  pub taken_in : after_submits s (take (most_kept s.settings.span) plans) ≡ Ok after
+  pub next : Acceptance
+  pub there : slice_get plans (most_kept s.settings.span) ≡ Some next
+  pub same : same_layout s.settings.layout next.plan.layout ≡ true
+
+-- Why not all plans are taken in from this state: the refusal of the first that isn't, or that the pool keeps no plan
+-- more. Want of memory tells nothing.
+abbrev pub IsSimulateError : State → List Acceptance → SimulateError → Type 0
+IsSimulateError s plans (Submit error) = after_submits s plans ≡ Err error
+IsSimulateError s plans TooManyPrepared = KeepsNoMore s plans
+IsSimulateError s plans OutOfMemory = ⊤
+
+-- In a life without end one plan more was kept, behind the others, which were fewer than may be kept.
+abbrev pub Keeps : (old : Parts) → Acceptance → (new : Parts) → Type 0
+Keeps old a new =
+    old.core.span ≢ Bounded
+    → (length old.core.plans < most_kept old.core.span) × (new.core.plans ≡ old.core.plans ++ a ∷ [])
+
+-- Why a plan isn't taken in: the model refuses it so. Or it is of the pool's layout, but the life is without end, and
+-- as many plans are kept as may be.
+abbrev pub TakeFails : Parts → Acceptance → SimulateError → Type 0
+TakeFails v a (Submit error) = (s : State) → StandsFor v s → submit_error s a ≡ Some error
+TakeFails v a TooManyPrepared =
+    (v.core.span ≢ Bounded) × (same_layout v.core.layout a.plan.layout ≡ true)
+    × (most_kept v.core.span ≤ length v.core.plans)
+TakeFails v a OutOfMemory = ⊥
 
 -- A device in memory that was just formatted, behind the script's troubles.
 abbrev pub device_for : Configuration → Scenario → Troubled Disk

@@ -15,6 +15,9 @@ pub enum SimulateError {
     /// The pool does not take a plan in.
     #[error("a plan is not taken in: {0}")]
     Submit(SubmitError),
+    /// The pool's life is without end, and it has taken in 4,096 plans: it keeps no plan more.
+    #[error("a plan is not taken in: the pool keeps no more than the 4,096 before it")]
+    TooManyPrepared,
     /// Memory ran out. It says nothing of the plans and the script.
     #[error("out of memory")]
     OutOfMemory,
@@ -30,6 +33,9 @@ impl SimulateError {
     {
         match self {
             SimulateError::Submit(error) => error.refusal(),
+            SimulateError::TooManyPrepared => {
+                Refusal::new(57, "TooManyPrepared", About::Nothing)
+            }
             SimulateError::OutOfMemory => Refusal::new(19, "OutOfMemory", About::Nothing),
         }
     }

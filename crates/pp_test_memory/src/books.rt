@@ -44,6 +44,9 @@ impl Tried for Opening {
     type Told = Answer;
 
     fn call(&mut self) -> Answer {
+        let Ok(()) = self.settings.see_bounded() else {
+            return Answer::Nothing;
+        };
         match Book::new(self.alloc, &self.settings) {
             Ok((book, hands)) => Answer::One("events", book.close(hands).len() as u64),
             Err(error) => Answer::Refused(error.refusal()),
@@ -92,6 +95,7 @@ impl Submitting {
 
 fn submits<R: AllocGlobal + Print>(rt: &R, settings: &Settings) -> anyhow::Result<()> {
     let plan = accepted(rt.alloc(), settings, WRITE)?;
+    settings.see_bounded()?;
     let (book, hands) = Book::new(rt.alloc(), settings)?;
     let mut submitting = Submitting {
         book,

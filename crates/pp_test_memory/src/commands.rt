@@ -1,5 +1,8 @@
 //! The calls of the command that runs plans, and what it tells of a run.
 
+ghost use Rattle.std.specs.Prelude.{◌≡◌};
+ghost use Rattle.pp_settings.specs.declared.span.Span.TheVariants.{Bounded};
+
 use crate::answer::Answer;
 use crate::judging::bytes_of;
 use crate::printing::{begin, end, twice};
@@ -119,7 +122,9 @@ fn ran<R: Files<File = File> + AllocGlobal + Threads + Wait + Clock + Sync + Cop
     rt: &R,
     workload: Workload,
     device: &str,
-) -> Answer {
+) -> Answer
+    requires { workload.settings.span ≡ Bounded }
+{
     match run(
         rt,
         workload,

@@ -94,6 +94,9 @@ impl Tried for Auditing<'_> {
     type Told = Answer;
 
     fn call(&mut self) -> Answer {
+        let Ok(()) = self.settings.see_bounded() else {
+            return Answer::Nothing;
+        };
         let Some(plans) = self.lots.pop() else {
             return Answer::Nothing;
         };

@@ -70,9 +70,9 @@ fn case<
         | "pp_core"
         | "pp_outset"
         | "pp_device"
-        | "pp_vault" => making::case(rt, call),
+        | "pp_vault" => making::case(rt, call, row),
         "pp_shared" => shared::case(rt, call),
-        "pp_play" | "pp_simulate" => playing::case(rt, call),
+        "pp_play" | "pp_simulate" => playing::case(rt, call, row),
         "pp_journal" | "pp_report" => journals::case(rt, call),
         "pp_judge" => judging::case(rt, call, row),
         "pp_words" => words::case(rt, row),

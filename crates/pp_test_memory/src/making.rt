@@ -3,12 +3,12 @@
 
 use crate::answer::Answer;
 use crate::printing::twice;
-use crate::samples::MOVES;
+use crate::samples::{MOVES, settings_of};
 use crate::tried::Tried;
 use pp_arc::{Directory, List, Search};
 use pp_bundles::Bundles;
 use pp_cache::Cache;
-use pp_core::{Accepted, Core, CoreError};
+use pp_core::{Accepted, Core};
 use pp_device::{Device, SoloDevice};
 use pp_frames::Marks;
 use pp_keyed::KeyedCache;
@@ -17,17 +17,14 @@ use pp_names::Names;
 use pp_outset::Outset;
 use pp_settings::Settings;
 use pp_test_plain::accepted;
-use pp_test_plain::samples::{SETTINGS, TOUCH};
-use pp_vault::{Hands, Vault, VaultError};
+use pp_test_plain::samples::TOUCH;
+use pp_vault::Vault;
 use std::alloc::Global;
 
-/// How many plans may wait where lives are endless.
-const WAITING: u32 = 3;
-
-/// Does the case of this call.
-pub fn case<R: AllocGlobal + Print>(rt: &R, call: &str) -> anyhow::Result<()> {
+/// Does the case of this call and this row.
+pub fn case<R: AllocGlobal + Print>(rt: &R, call: &str, row: &str) -> anyhow::Result<()> {
     let alloc = rt.alloc();
-    let settings = Settings::from_text(alloc, SETTINGS)?;
+    let settings = settings_of(alloc, row)?;
     match call {
         "Directory::new"
         | "Search::new"
@@ -37,7 +34,7 @@ pub fn case<R: AllocGlobal + Print>(rt: &R, call: &str) -> anyhow::Result<()> {
         | "Names::new"
         | "KeyedCache::new"
         | "Cache::new" => twice(rt, &mut Plain { alloc, call }),
-        "Core::new" | "Core::endless" | "Outset::new" | "Vault::new" | "Vault::endless" => twice(
+        "Core::new" | "Outset::new" | "Vault::new" => twice(
             rt,
             &mut Set {
                 alloc,
@@ -175,20 +172,15 @@ impl Tried for Set<'_> {
 
     fn call(&mut self) -> Answer {
         match self.call {
-            "Core::new" => core_of(self.alloc, Core::new(self.alloc, &self.settings)),
-            "Core::endless" => core_of(
-                self.alloc,
-                Core::endless(self.alloc, &self.settings, WAITING),
-            ),
+            "Core::new" => core_of(self.alloc, &self.settings),
             "Outset::new" => outset(self.alloc, &self.settings),
-            "Vault::new" => vault(Vault::new(self.alloc, &self.settings)),
-            _ => vault(Vault::endless(self.alloc, &self.settings, WAITING)),
+            _ => vault(self.alloc, &self.settings),
         }
     }
 }
 
-fn core_of(alloc: Global, made: Result<Core, CoreError>) -> Answer {
-    match made {
+fn core_of(alloc: Global, settings: &Settings) -> Answer {
+    match Core::new(alloc, settings) {
         Ok(core) => {
             let made = Moving {
                 core,
@@ -214,8 +206,8 @@ fn outset(alloc: Global, settings: &Settings) -> Answer {
     }
 }
 
-fn vault(made: Result<(Vault, Hands), VaultError>) -> Answer {
-    match made {
+fn vault(alloc: Global, settings: &Settings) -> Answer {
+    match Vault::new(alloc, settings) {
         Ok((made, hands)) => {
             let budget = made.budget();
             made.scrap(hands);

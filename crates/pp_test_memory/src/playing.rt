@@ -2,21 +2,21 @@
 
 use crate::answer::Answer;
 use crate::printing::twice;
-use crate::samples::SCRIPT;
+use crate::samples::{SCRIPT, settings_of};
 use crate::tried::Tried;
 use pp_device::SoloDevice;
 use pp_play::{Line, play};
 use pp_script::{Cue, Script};
 use pp_settings::Settings;
 use pp_simulate::simulate;
-use pp_test_plain::samples::{SETTINGS, WRITE};
+use pp_test_plain::samples::WRITE;
 use pp_test_plain::{accepted, all_accepted};
 use pp_vault::{Accepted, Hands, Vault};
 use std::alloc::Global;
 
-/// Does the case of this call.
-pub fn case<R: AllocGlobal + Print>(rt: &R, call: &str) -> anyhow::Result<()> {
-    let settings = Settings::from_text(rt.alloc(), SETTINGS)?;
+/// Does the case of this call and this row.
+pub fn case<R: AllocGlobal + Print>(rt: &R, call: &str, row: &str) -> anyhow::Result<()> {
+    let settings = settings_of(rt.alloc(), row)?;
     match call {
         "play" => plays(rt, &settings),
         "simulate" => simulates(rt, settings),

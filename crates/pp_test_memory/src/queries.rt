@@ -1,6 +1,7 @@
 //! The call that runs plans on threads, each with a work of its own.
 
 ghost use Rattle.std.specs.Prelude.{◌≡◌, ◌+◌, vec_len};
+ghost use Rattle.pp_settings.specs.declared.span.Span.TheVariants.{Bounded};
 
 use crate::answer::Answer;
 use crate::printing::{begin, end};
@@ -51,6 +52,9 @@ fn ran<R: Files<File = File> + AllocGlobal + Threads + Wait + Sync + Copy + Send
         spare,
         other,
     } = lot;
+    let Ok(()) = settings.see_bounded() else {
+        return Answer::Nothing;
+    };
     if ends.len() != settings.workers() as usize + 1 {
         return Answer::Nothing;
     }
@@ -69,7 +73,8 @@ fn life<R: Files<File = File> + AllocGlobal + Threads + Wait + Sync + Copy + Sen
     spare: SharedDevice<R>,
     other: Rounds,
 ) -> Result<(RunRecord, u32), RunError>
-    requires { vec_len ends ≡ settings.now.workers + 1 }
+    requires bounded { settings.now.span ≡ Bounded }
+    requires ends { vec_len ends ≡ settings.now.workers + 1 }
 {
     let queries = with_works(rt.alloc(), plans)?;
     let pool = RestedPool::open(rt.alloc(), settings)?;

@@ -1,6 +1,7 @@
 //! The calls that run plans on threads.
 
 ghost use Rattle.std.specs.Prelude.{◌≡◌, ◌+◌, vec_len};
+ghost use Rattle.pp_settings.specs.declared.span.Span.TheVariants.{Bounded};
 
 use crate::answer::Answer;
 use crate::printing::{begin, end};
@@ -89,6 +90,9 @@ fn ran<R: Files<File = File> + AllocGlobal + Threads + Wait + Sync + Copy + Send
         spare,
         other,
     } = lot;
+    let Ok(()) = settings.see_bounded() else {
+        return Answer::Nothing;
+    };
     let workers = settings.workers() as usize;
     if ends.len() != workers + 1 || works.len() != workers {
         return Answer::Nothing;
@@ -132,6 +136,7 @@ fn life<R: Files<File = File> + AllocGlobal + Threads + Wait + Sync + Copy + Sen
     spare: SharedDevice<R>,
     other: Rounds,
 ) -> Result<(RunRecord, u32), RunError>
+    requires bounded { settings.now.span ≡ Bounded }
     requires ends { vec_len ends ≡ settings.now.workers + 1 }
     requires works { vec_len works ≡ settings.now.workers }
 {

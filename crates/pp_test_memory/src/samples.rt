@@ -2,6 +2,8 @@
 
 use pp_model::{Came, Ending, Event, Move, Reply};
 use pp_report::{Journal, RunRecord};
+use pp_settings::Settings;
+use pp_test_plain::samples::{REGIONS, SETTINGS};
 use std::alloc::Global;
 
 /// No frame, and no region.
@@ -127,4 +129,15 @@ pub fn record(alloc: Global) -> anyhow::Result<RunRecord> {
         events: Journal::from_events(alloc, &events(alloc)?)?,
         dirty: 0,
     })
+}
+
+/// The sample settings; in the row `endless` they are of version 2, lives don't end, and three plans may wait.
+pub fn settings_of(alloc: Global, row: &str) -> anyhow::Result<Settings> {
+    if row != "endless" {
+        return Ok(Settings::from_text(alloc, SETTINGS)?);
+    }
+    let text = format!(in alloc;
+        "version = 2\nframes = 3\npage_bytes = 512\nworkers = 2\nwaiting = 3\nflushes = 4\n{REGIONS}"
+    )?;
+    Ok(Settings::from_text(alloc, &text)?)
 }

@@ -65,6 +65,7 @@ impl Working {
     pub fn new(alloc: Global, settings: &Settings) -> anyhow::Result<Working> {
         let plan = accepted(alloc, settings, WRITE)?;
         let device = SoloDevice::new(alloc, 24, 64)?;
+        settings.see_bounded()?;
         let (mut book, mut hands) = Book::new(alloc, settings)?;
         let is_queued = book.submit(plan).is_ok();
         let hand = match hands.part(0) {

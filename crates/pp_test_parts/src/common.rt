@@ -15,6 +15,15 @@ pub fn two_regions(alloc: Global, frames: u32) -> Result<Settings, Fail> {
     Ok(Settings::from_text(alloc, &text)?)
 }
 
+/// The sample settings of version 2 with this many frames and larger pages, in which so many plans may wait; lives have no end
+/// where that isn't 0.
+pub fn endless_settings(alloc: Global, frames: u32, waiting: u32) -> Result<Settings, Fail> {
+    let text = format!(in alloc;
+        "version = 2\nframes = {frames}\npage_bytes = 512\nworkers = 2\nwaiting = {waiting}\nflushes = 4\n{REGIONS}"
+    )?;
+    Ok(Settings::from_text(alloc, &text)?)
+}
+
 /// Compares two answers. Where they differ, the test fails and tells both.
 pub fn same<T: Copy + PartialEq + Debug>(rt: &impl Abort, got: T, want: T) {
     assert!(rt; got == want, "got {got:?}, wanted {want:?}");

@@ -1,6 +1,6 @@
 //! A core whose lives last as long as its host wants: plans are prepared once, and submitted as often as wanted.
 
-use crate::common::{same, two_regions};
+use crate::common::{endless_settings, same};
 use pp_core::{Core, PrepareError, Prepared, SubmitError};
 use pp_model::Came::Image;
 use pp_model::Ending::Done;
@@ -59,8 +59,8 @@ fn play(rt: &impl Abort, core: &mut Core, number: u64, touches: bool) {
 
 #[test]
 fn an_endless_core_goes_on(rt: HostRuntime) -> Result<(), Fail> {
-    let settings = Settings::from_text(rt.alloc(), SETTINGS)?;
-    let mut core = Core::endless(rt.alloc(), &settings, 3)?;
+    let settings = endless_settings(rt.alloc(), 3, 3)?;
+    let mut core = Core::new(rt.alloc(), &settings)?;
     same(&rt, core.span(), Span::Endless { waiting: 3 });
     let nothing = prepare(&rt, rt.alloc(), &mut core, NOTHING)?;
     let touch = prepare(&rt, rt.alloc(), &mut core, TOUCH)?;
@@ -79,8 +79,8 @@ fn an_endless_core_goes_on(rt: HostRuntime) -> Result<(), Fail> {
 
 #[test]
 fn so_many_plans_wait(rt: HostRuntime) -> Result<(), Fail> {
-    let settings = Settings::from_text(rt.alloc(), SETTINGS)?;
-    let mut core = Core::endless(rt.alloc(), &settings, 2)?;
+    let settings = endless_settings(rt.alloc(), 3, 2)?;
+    let mut core = Core::new(rt.alloc(), &settings)?;
     let nothing = prepare(&rt, rt.alloc(), &mut core, NOTHING)?;
     same(&rt, submit(&mut core, nothing), Ok(0));
     same(&rt, submit(&mut core, nothing), Ok(1));
@@ -94,8 +94,8 @@ fn so_many_plans_wait(rt: HostRuntime) -> Result<(), Fail> {
 
 #[test]
 fn prepared_plans_outlast_a_renewal(rt: HostRuntime) -> Result<(), Fail> {
-    let settings = Settings::from_text(rt.alloc(), SETTINGS)?;
-    let mut core = Core::endless(rt.alloc(), &settings, 1)?;
+    let settings = endless_settings(rt.alloc(), 3, 1)?;
+    let mut core = Core::new(rt.alloc(), &settings)?;
     let nothing = prepare(&rt, rt.alloc(), &mut core, NOTHING)?;
     same(&rt, submit(&mut core, nothing), Ok(0));
     same(&rt, core.renew().is_ok(), false);
@@ -108,9 +108,9 @@ fn prepared_plans_outlast_a_renewal(rt: HostRuntime) -> Result<(), Fail> {
 
 #[test]
 fn what_isnt_prepared_is_refused(rt: HostRuntime) -> Result<(), Fail> {
-    let settings = Settings::from_text(rt.alloc(), SETTINGS)?;
-    let mut core = Core::endless(rt.alloc(), &settings, 1)?;
-    let mut other = Core::endless(rt.alloc(), &settings, 1)?;
+    let settings = endless_settings(rt.alloc(), 3, 1)?;
+    let mut core = Core::new(rt.alloc(), &settings)?;
+    let mut other = Core::new(rt.alloc(), &settings)?;
     let first = prepare(&rt, rt.alloc(), &mut other, NOTHING)?;
     same(&rt, submit(&mut core, first), Err(56));
     same(&rt, core.prepared(first).is_some(), false);
@@ -123,7 +123,8 @@ fn what_isnt_prepared_is_refused(rt: HostRuntime) -> Result<(), Fail> {
             back
         }
     };
-    let mut bounded = Core::new(rt.alloc(), &settings)?;
+    let sample = Settings::from_text(rt.alloc(), SETTINGS)?;
+    let mut bounded = Core::new(rt.alloc(), &sample)?;
     same(&rt, bounded.span(), Span::Bounded);
     same(&rt, submit(&mut bounded, first), Err(56));
     let back = match bounded.prepare(back) {
@@ -134,8 +135,8 @@ fn what_isnt_prepared_is_refused(rt: HostRuntime) -> Result<(), Fail> {
             back
         }
     };
-    let wider = two_regions(rt.alloc(), 4)?;
-    let mut third = Core::endless(rt.alloc(), &wider, 1)?;
+    let wider = endless_settings(rt.alloc(), 4, 1)?;
+    let mut third = Core::new(rt.alloc(), &wider)?;
     match third.prepare(back) {
         Ok(_) => panic!(rt; "prepared"),
         Err((_, error)) => same(&rt, error, PrepareError::OtherSettings),

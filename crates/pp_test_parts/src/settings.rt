@@ -1,7 +1,7 @@
 //! Settings that are read, and what they say.
 
-use crate::common::{is_printed, same, two_regions};
-use pp_settings::{Extent, RegionKey, Settings, SettingsError, Spot, TopKey};
+use crate::common::{endless_settings, is_printed, same, two_regions};
+use pp_settings::{Extent, OtherLife, RegionKey, Settings, SettingsError, Span, Spot, TopKey};
 use std::alloc::{AllocError, Global};
 use std::process::Abort;
 use std::test::*;
@@ -38,13 +38,13 @@ fn settings_of_two_regions(rt: HostRuntime) -> Result<(), Fail> {
         (settings.frames(), 3),
         (settings.page_bytes(), 64),
         (settings.workers(), 2),
-        (settings.flushes(), 4),
         (settings.pages(), 24),
         (layout.frames(), 3),
         (layout.pages(), 24),
     ] {
         same(&rt, got, want);
     }
+    same(&rt, settings.flushes(), 4);
     for (name, want) in [("root", Some(0)), ("leaf", Some(1)), ("roo", None)] {
         same(&rt, settings.region(name), want);
         name_is(&rt, &settings, name);
@@ -69,6 +69,31 @@ fn settings_of_two_regions(rt: HostRuntime) -> Result<(), Fail> {
     same(&rt, layout.extent(1), Some(leaf));
     same(&rt, layout.extent(2), None);
     Ok(())
+}
+
+/// Lives of settings of version 1 are bounded, and others may have no end; what serves bounded lives alone tells these apart.
+#[test]
+fn lives_are_bounded_or_without_end(rt: HostRuntime) -> Result<(), Fail> {
+    let (first, second) = (
+        two_regions(rt.alloc(), 3)?,
+        endless_settings(rt.alloc(), 3, 5)?,
+    );
+    same(&rt, first.span(), Span::Bounded);
+    same(&rt, first.see_bounded(), Ok(()));
+    same(&rt, second.span(), Span::Endless { waiting: 5 });
+    same(&rt, second.see_bounded(), Err(OtherLife));
+    same(
+        &rt,
+        endless_settings(rt.alloc(), 3, 0)?.span(),
+        Span::Bounded,
+    );
+    is_printed(&rt, rt.alloc(), OtherLife.refusal(), "8 OtherLife")?;
+    is_printed(
+        &rt,
+        rt.alloc(),
+        OtherLife,
+        "the settings are of a life without end, and only a bounded one is served here",
+    )
 }
 
 /// A text of 64 regions that share out all pages, with comments of 1,600 bytes before each.
@@ -96,11 +121,11 @@ fn sixty_four_regions_in_a_long_text(rt: HostRuntime) -> Result<(), Fail> {
         (settings.frames(), 4096),
         (settings.page_bytes(), 65_536),
         (settings.workers(), 32),
-        (settings.flushes(), 100_000),
         (settings.pages(), 65_536),
     ] {
         same(&rt, got, want);
     }
+    same(&rt, settings.flushes(), 100_000);
     same(&rt, settings.region("r63"), Some(63));
     name_is(&rt, &settings, "r63");
     for (page, region) in [

@@ -1,5 +1,8 @@
 //! A book in several lives: what it gives at the end of one, and what the next begins with.
 
+ghost use Rattle.std.specs.Prelude.{◌≡◌};
+ghost use Rattle.pp_settings.specs.declared.span.Span.TheVariants.{Bounded};
+
 use crate::noting::note;
 use crate::rows::{FLUSHED, WRITTEN};
 use crate::stand::{
@@ -34,7 +37,9 @@ const SUBMITTED: &str = "submit 0 = queued\n";
 const NONE: u64 = 999;
 
 /// A stand over a device of the sample settings' pages.
-fn new_stand(rt: &impl Abort, alloc: Global, settings: &Settings) -> Stand {
+fn new_stand(rt: &impl Abort, alloc: Global, settings: &Settings) -> Stand
+    requires { settings.now.span ≡ Bounded }
+{
     let device = disk_of(rt, alloc, 24, 64, 0);
     stand_of(rt, alloc, settings, device)
 }
@@ -105,7 +110,9 @@ fn refuses(rt: &impl Abort, book: &mut Book, given: Journal) {
 }
 
 /// Whether the text is audited as the journal of a new pool with this plan.
-fn is_audited(alloc: Global, settings: &Settings, plans: Vec<Accepted>, journal: &str) -> bool {
+fn is_audited(alloc: Global, settings: &Settings, plans: Vec<Accepted>, journal: &str) -> bool
+    requires { settings.now.span ≡ Bounded }
+{
     audit(alloc, settings, plans, journal.as_bytes()).is_ok()
 }
 

@@ -1,5 +1,8 @@
 //! What one worker does with plans, and the flusher after it.
 
+ghost use Rattle.std.specs.Prelude.{◌≡◌};
+ghost use Rattle.pp_settings.specs.declared.span.Span.TheVariants.{Bounded};
+
 use crate::noting::{Noting, Picks};
 use crate::site::Habit;
 use crate::stand::{
@@ -340,7 +343,9 @@ see 26 1 26 1 65536 0
 ];
 
 /// The settings of a row.
-fn settings_in(rt: &impl Abort, alloc: Global, row: &Row) -> Settings {
+fn settings_in(rt: &impl Abort, alloc: Global, row: &Row) -> Settings
+    ensures { result.span ≡ Bounded }
+{
     let text = format!(in alloc;
         "frames = {}\npage_bytes = {}\nworkers = 2\nflushes = {}\n{}",
         row.frames, row.page_bytes, row.flushes, row.regions
@@ -356,7 +361,9 @@ fn filled(
     settings: &Settings,
     row: &Row,
     fails: u32,
-) -> (Stand, String) {
+) -> (Stand, String)
+    requires { settings.now.span ≡ Bounded }
+{
     let device = disk_of(rt, alloc, 49, row.page_bytes, fails);
     let mut stand = stand_of(rt, alloc, settings, device);
     let mut submitted = String::new(alloc);

@@ -1,5 +1,8 @@
 //! A book, its tokens and its device, and what is done with them.
 
+ghost use Rattle.std.specs.Prelude.{◌≡◌};
+ghost use Rattle.pp_settings.specs.declared.span.Span.TheVariants.{Bounded};
+
 use crate::noting::{Noting, Picks, note};
 use crate::site::{Habit, Odd};
 use pp_cert::Accepted;
@@ -29,12 +32,17 @@ pub fn same_text(rt: &impl Abort, name: &str, got: &str, want: &str) {
     }
 }
 
-/// The settings of this text.
-pub fn settings_of(rt: &impl Abort, alloc: Global, text: &str) -> Settings {
-    match Settings::from_text(alloc, text) {
-        Ok(settings) => settings,
-        Err(_) => panic!(rt; "no settings: {text}"),
-    }
+/// The settings of this text, in which lives are bounded.
+pub fn settings_of(rt: &impl Abort, alloc: Global, text: &str) -> Settings
+    ensures { result.span ≡ Bounded }
+{
+    let Ok(settings) = Settings::from_text(alloc, text) else {
+        panic!(rt; "no settings: {text}")
+    };
+    let Ok(()) = settings.see_bounded() else {
+        panic!(rt; "lives without end: {text}")
+    };
+    settings
 }
 
 /// The plan of this text; it is accepted.
@@ -58,7 +66,9 @@ pub fn disk_of(rt: &impl Abort, alloc: Global, pages: u32, bytes: usize, fails: 
 }
 
 /// A book with these settings, in which nothing was done yet, over this device.
-pub fn stand_of(rt: &impl Abort, alloc: Global, settings: &Settings, device: Disk) -> Stand {
+pub fn stand_of(rt: &impl Abort, alloc: Global, settings: &Settings, device: Disk) -> Stand
+    requires { settings.now.span ≡ Bounded }
+{
     let Ok((book, hands)) = Book::new(alloc, settings) else {
         panic!(rt; "no memory")
     };

@@ -6,7 +6,7 @@ use pp_judge::{DeviceSize, Exit, JudgeError, device_size, exit_of};
 use pp_plan::{Plan, PlanError};
 use pp_report::Line;
 use pp_script::{Script, ScriptError};
-use pp_settings::{Settings, SettingsError};
+use pp_settings::{Settings, SettingsError, Span};
 use std::alloc::{AllocError, Global};
 use std::{io, str};
 
@@ -67,13 +67,17 @@ fn settings_in(alloc: Global, bytes: &[u8]) -> Result<Settings, SettingsError> {
     }
 }
 
-/// The figures of the settings.
+/// The figures of the settings. How many plans may wait stands in those of a life without end alone.
 fn figures(alloc: Global, settings: &Settings) -> Result<String, AllocError> {
     let (frames, page_bytes) = (settings.frames(), settings.page_bytes());
     let (workers, flushes) = (settings.workers(), settings.flushes());
     let (regions, pages) = (settings.layout().extents().len(), settings.pages());
+    let waiting = match settings.span() {
+        Span::Bounded => String::new(alloc),
+        Span::Endless { waiting } => format!(in alloc; " waiting {waiting}")?,
+    };
     format!(in alloc;
-        "settings frames {frames} page_bytes {page_bytes} workers {workers} flushes {flushes} \
+        "settings frames {frames} page_bytes {page_bytes} workers {workers}{waiting} flushes {flushes} \
         regions {regions} pages {pages}"
     )
 }

@@ -97,12 +97,14 @@ fn worker(row: &Row<'_>) -> Option<u32> {
 fn refused_as(refusal: JudgeError) -> Option<Refused> {
     match refusal {
         JudgeError::Settings(error) => Some(Refused::Settings(error)),
+        JudgeError::OtherLife => Some(Refused::OtherLife),
         JudgeError::Script(error) => Some(Refused::Script(error)),
         JudgeError::Plan(error) => Some(Refused::Plan(error)),
         JudgeError::Certificate(error) => Some(Refused::Certificate(error)),
         JudgeError::Check(error) => Some(Refused::Check(error)),
         JudgeError::Annotate(error) => Some(Refused::Annotate(error)),
         JudgeError::Simulate(SimulateError::Submit(error)) => Some(Refused::Submit(error)),
+        JudgeError::Simulate(SimulateError::TooManyPrepared) => Some(Refused::TooManyPrepared),
         JudgeError::Simulate(SimulateError::OutOfMemory) => None,
         JudgeError::Audit(error) => Some(Refused::Audit(error)),
     }

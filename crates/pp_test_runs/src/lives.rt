@@ -1,6 +1,7 @@
 //! A pool that is kept from run to run.
 
 ghost use Rattle.std.specs.Prelude.{◌≡◌, ◌+◌, vec_len};
+ghost use Rattle.pp_settings.specs.declared.span.Span.TheVariants.{Bounded};
 
 use crate::board::Board;
 use crate::case::{Area, Case, Part, Picks, SAMPLE, Step, Thing, Until};
@@ -93,7 +94,9 @@ fn live_on<R: AllocGlobal + Abort + Threads + Wait + Clock + Copy + Drop + Sync 
 }
 
 /// A new pool.
-fn opened(rt: &impl Abort, alloc: Global, settings: &Settings) -> RestedPool {
+fn opened(rt: &impl Abort, alloc: Global, settings: &Settings) -> RestedPool
+    requires { settings.now.span ≡ Bounded }
+{
     match RestedPool::open(alloc, settings) {
         Ok(pool) => pool,
         Err(_) => panic!(rt; "no memory"),
@@ -101,12 +104,9 @@ fn opened(rt: &impl Abort, alloc: Global, settings: &Settings) -> RestedPool {
 }
 
 /// How many lines of the journals of lives are audited, where they are those of these settings and plans.
-fn audited(
-    alloc: Global,
-    settings: &Settings,
-    plans: Vec<Accepted>,
-    journals: &str,
-) -> Option<u64> {
+fn audited(alloc: Global, settings: &Settings, plans: Vec<Accepted>, journals: &str) -> Option<u64>
+    requires { settings.now.span ≡ Bounded }
+{
     match audit_lives(alloc, settings, plans, journals.as_bytes()) {
         Ok(audited) => Some(audited.lines),
         Err(_) => None,

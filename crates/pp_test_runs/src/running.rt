@@ -1,6 +1,7 @@
 //! Runs a case on threads, and looks at all that it leaves.
 
 ghost use Rattle.std.specs.Prelude.{◌≡◌, ◌+◌, vec_len};
+ghost use Rattle.pp_settings.specs.declared.span.Span.TheVariants.{Bounded};
 
 use crate::board::Board;
 use crate::case::{Case, Faults, Thing};
@@ -32,17 +33,22 @@ pub fn same(rt: &impl Abort, name: &str, what: &str, got: u64, want: u64) {
     }
 }
 
-/// The settings of a case.
-pub fn settings_of(rt: &impl Abort, alloc: Global, case: &Case) -> Settings {
+/// The settings of a case, in which lives are bounded.
+pub fn settings_of(rt: &impl Abort, alloc: Global, case: &Case) -> Settings
+    ensures { result.span ≡ Bounded }
+{
     let text = format!(in alloc;
         "frames = {}\npage_bytes = {}\nworkers = {}\nflushes = {}\n{}",
         case.frames, case.page_bytes, case.workers, case.flushes, case.regions
     )
     .expect(rt, "memory");
-    match Settings::from_text(alloc, &text) {
-        Ok(settings) => settings,
-        Err(_) => panic!(rt; "{}: no settings", case.name),
-    }
+    let Ok(settings) = Settings::from_text(alloc, &text) else {
+        panic!(rt; "{}: no settings", case.name)
+    };
+    let Ok(()) = settings.see_bounded() else {
+        panic!(rt; "{}: lives without end", case.name)
+    };
+    settings
 }
 
 /// Adds the plans of a case, accepted.
@@ -167,6 +173,7 @@ fn pool_run<D: Device + Drop + Send, W: Work + Drop + Send, R: Threads + Wait + 
     works: Vec<W>,
     finished: Option<&AtomicU64>,
 ) -> Result<(RunRecord, Vec<D>), RunError>
+    requires bounded { settings.now.span ≡ Bounded }
     requires ends { vec_len devices ≡ settings.now.workers + 1 }
     requires works { vec_len works ≡ settings.now.workers }
 {
@@ -189,7 +196,9 @@ fn run_over<
     devices: Vec<D>,
     works: Vec<W>,
     finished: Option<&AtomicU64>,
-) -> Result<(RunRecord, Vec<D>), RunError> {
+) -> Result<(RunRecord, Vec<D>), RunError>
+    requires { settings.now.span ≡ Bounded }
+{
     let alloc = rt.alloc();
     let workers = settings.workers() as usize;
     assert!(rt; workers < 64);
@@ -200,6 +209,7 @@ fn run_over<
         rt,
         || watch(rt, name, &over),
         || -> Result<(RunRecord, Vec<D>), RunError>
+            requires bounded { settings.now.span ≡ Bounded }
             requires ends { vec_len devices ≡ settings.now.workers + 1 }
             requires works { vec_len works ≡ settings.now.workers }
         {
@@ -282,7 +292,9 @@ fn run_case<R: AllocGlobal + Abort + Threads + Wait + Clock + Copy + Drop + Sync
 }
 
 /// How many lines of a journal are audited, where it is one of these settings and plans.
-fn audited(alloc: Global, settings: &Settings, plans: Vec<Accepted>, journal: &str) -> Option<u64> {
+fn audited(alloc: Global, settings: &Settings, plans: Vec<Accepted>, journal: &str) -> Option<u64>
+    requires { settings.now.span ≡ Bounded }
+{
     match audit(alloc, settings, plans, journal.as_bytes()) {
         Ok(audited) => Some(audited.lines),
         Err(_) => None,

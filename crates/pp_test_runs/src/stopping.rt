@@ -1,6 +1,7 @@
 //! A thread that stops wakes all that wait, also where it stops without an event; and what comes of want of room for its log.
 
 ghost use Rattle.std.specs.Prelude.{◌≡◌, ◌^◌, ◌<◌, vec_len};
+ghost use Rattle.pp_settings.specs.declared.span.Span.TheVariants.{Bounded};
 
 use crate::board::Board;
 use crate::case::{ANY, Call, Case, Cue, SAMPLE, Thing, Until};
@@ -34,7 +35,9 @@ fn desk_of(
     settings: &Settings,
     plans: Vec<Accepted>,
     row: &'static Row,
-) -> Odd {
+) -> Odd
+    requires { settings.now.span ≡ Bounded }
+{
     let Ok((mut book, hands)) = Book::new(alloc, settings) else {
         panic!(rt; "no memory")
     };

@@ -13,7 +13,7 @@ use crate::turns::move_of;
 use crate::words::Word;
 use pp_core::{Came, Core, Move, RenewError, Reply, SubmitError};
 use pp_script::Cue;
-use pp_settings::{Settings, Span};
+use pp_settings::Settings;
 use pp_test_plain::samples::GAPS;
 use pp_test_plain::{Chance, accepted};
 use std::alloc::Global;
@@ -162,7 +162,7 @@ fn count_way(tally: &mut Tally, way: usize) {
 impl Pools {
     /// New pools.
     fn new(alloc: Global, settings: &Settings, chance: &mut Chance) -> anyhow::Result<Pools> {
-        let plain = Plain::new(alloc, settings, Span::Bounded)?;
+        let plain = Plain::new(alloc, settings)?;
         let core = Core::new(alloc, settings)?;
         let plans = plans_of_a_life(chance);
         Ok(Pools { core, plain, plans })

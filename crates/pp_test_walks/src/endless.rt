@@ -10,7 +10,7 @@ use crate::kept::see_kept;
 use crate::plain::{MOST_KEPT, Plain};
 use crate::plans::{PLANS, Sample};
 use pp_core::{Accepted, Core, PrepareError, Prepared, SubmitError};
-use pp_settings::{Settings, Span};
+use pp_settings::Settings;
 use pp_test_plain::samples::REGIONS;
 use pp_test_plain::{Chance, accepted};
 use std::alloc::Global;
@@ -38,10 +38,11 @@ const NOT_PREPARED: usize = ALL + 1;
 
 const KINDS: usize = ALL + 2;
 
-/// Five frames, eight workers, and four roots and eight leaves, with so many flushes.
-fn eight_workers(alloc: Global, flushes: u32) -> anyhow::Result<Settings> {
+/// Five frames, eight workers, and four roots and eight leaves, with so many flushes, in lives that don't end, in which so many
+/// plans may wait.
+fn eight_workers(alloc: Global, flushes: u32, waiting: u32) -> anyhow::Result<Settings> {
     let text = format!(in alloc;
-        "frames = 5\npage_bytes = 64\nworkers = 8\nflushes = {flushes}\n{REGIONS}"
+        "version = 2\nframes = 5\npage_bytes = 512\nworkers = 8\nwaiting = {waiting}\nflushes = {flushes}\n{REGIONS}"
     )?;
     Ok(Settings::from_text(alloc, &text)?)
 }
@@ -64,7 +65,7 @@ fn plan_at(alloc: Global, settings: &Settings, place: usize) -> anyhow::Result<A
 
 /// A core whose lives don't end.
 fn endless_core(alloc: Global, settings: &Settings) -> anyhow::Result<Core> {
-    Ok(Core::endless(alloc, settings, WAITING)?)
+    Ok(Core::new(alloc, settings)?)
 }
 
 /// The core keeps the plan from now on; or none, where it keeps as many as it does.
@@ -101,8 +102,8 @@ fn stranger(alloc: Global, settings: &Settings) -> anyhow::Result<Prepared> {
 
 /// Submits a plan to a core in which as many may wait as in any, until it is refused. It says how many wait then.
 fn most_wait(alloc: Global) -> anyhow::Result<u64> {
-    let settings = eight_workers(alloc, 0)?;
-    let mut core = Core::endless(alloc, &settings, MOST_WAITING)?;
+    let settings = eight_workers(alloc, 0, MOST_WAITING)?;
+    let mut core = endless_core(alloc, &settings)?;
     let Some(prepared) = prepare(&mut core, plan_at(alloc, &settings, 0)?)? else {
         anyhow::bail!("a plan isn't kept");
     };
@@ -146,9 +147,8 @@ impl Drop for Walk {
 impl Walk {
     /// New pools, in which no plan is kept.
     fn new(alloc: Global, settings: &Settings, wanted: u64) -> anyhow::Result<Walk> {
-        let span = Span::Endless { waiting: WAITING };
         let stranger = stranger(alloc, settings)?;
-        let plain = Plain::new(alloc, settings, span)?;
+        let plain = Plain::new(alloc, settings)?;
         let core = endless_core(alloc, settings)?;
         let plans = 0;
         Ok(Walk {
@@ -351,7 +351,7 @@ fn flushes_of(submits: u64) -> u32 {
 
 /// Makes so many submits of three plans, and then some of as many plans as a core keeps, and tells what came.
 pub fn walked(alloc: Global, submits: u64) -> anyhow::Result<String> {
-    let settings = eight_workers(alloc, flushes_of(submits))?;
+    let settings = eight_workers(alloc, flushes_of(submits), WAITING)?;
     let mut tally = Tally::new(alloc, KINDS)?;
     let mut walk = Walk::new(alloc, &settings, submits)?;
     let most = walk.walk_all(alloc, &settings, &mut tally)?;

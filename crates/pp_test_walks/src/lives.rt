@@ -21,25 +21,15 @@ const LIVES: u32 = 20;
 /// How many cues look like chance in a life at most. After them its plans are played to their ends.
 const CUES: u32 = 80;
 
-/// The pool of this number before its first life.
-fn stand_of<'a>(alloc: Global, scenario: &'a Scenario, number: u32) -> anyhow::Result<Stand<'a>> {
-    if number % 3 == 2 {
-        Stand::endless(alloc, scenario, number % 4 + 1)
-    } else {
-        Stand::new(alloc, scenario, None)
-    }
-}
-
 /// Lives all lives of the pool, and then reads each page in one more, from a device without trouble. Tells how many lives
 /// were over before that.
 fn live_all(
     alloc: Global,
     scenario: &Scenario,
-    number: u32,
     chance: &mut Chance,
     counts: &mut Counts,
 ) -> anyhow::Result<u32> {
-    let mut stand = stand_of(alloc, scenario, number)?;
+    let mut stand = Stand::new(alloc, scenario, None)?;
     counts.begin();
     let lived = live(&mut stand, scenario, chance, counts);
     let mut stand = stand.mended();
@@ -115,7 +105,7 @@ fn live_lives(alloc: Global, counts: &mut Counts) -> anyhow::Result<u32> {
     let mut lives: u32 = 0;
     for number in 0..POOLS {
         let pool = pool_of(alloc, &mut chance, number)?;
-        match live_all(alloc, &pool, number, &mut chance, counts) {
+        match live_all(alloc, &pool, &mut chance, counts) {
             Ok(more) => lives = lives.saturating_add(more),
             Err(error) => anyhow::bail!("pool {number}, {lives} lives behind it: {error}"),
         }

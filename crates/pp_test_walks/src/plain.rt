@@ -68,8 +68,8 @@ pub struct Plain<'a> {
     /// The page that is being flushed, and its mark as that began.
     pub flush: Option<(u32, u64)>,
     /// How many flushes a life begins at most, and how many of them are left.
-    pub flushes: u32,
-    pub flushes_left: u32,
+    pub flushes: u64,
+    pub flushes_left: u64,
 }
 
 impl Drop for Plain<'_> {
@@ -124,8 +124,8 @@ fn workers_of<'a>(alloc: Global, crew: u32) -> Result<Vec<Worker<'a>>, AllocErro
 }
 
 impl<'a> Plain<'a> {
-    /// A new pool whose lives may last so long.
-    pub fn new(alloc: Global, settings: &Settings, span: Span) -> Result<Plain<'a>, AllocError> {
+    /// A new pool with these settings.
+    pub fn new(alloc: Global, settings: &Settings) -> Result<Plain<'a>, AllocError> {
         let regions = regions_of(alloc, settings)?;
         let pages = pages_of(alloc, settings.pages())?;
         let workers = workers_of(alloc, settings.workers())?;
@@ -137,7 +137,7 @@ impl<'a> Plain<'a> {
             pages,
             workers,
             holdings: Vec::new(alloc),
-            span,
+            span: settings.span(),
             kept: Vec::new(alloc),
             queue: VecDeque::new(alloc),
             taken: 0,

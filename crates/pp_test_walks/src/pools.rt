@@ -31,7 +31,7 @@ pub fn pool_of(alloc: Global, chance: &mut Chance, number: u32) -> anyhow::Resul
     Ok(pool)
 }
 
-/// The text of settings.
+/// The text of settings. In every third pool it is of version 2, lives don't end, and up to four plans may wait.
 fn settings_of(alloc: Global, chance: &mut Chance, number: u32) -> Result<String, AllocError> {
     let workers = (number % 8).saturating_add(1);
     let page_bytes: u32 = match number / 8 % 3 {
@@ -40,9 +40,16 @@ fn settings_of(alloc: Global, chance: &mut Chance, number: u32) -> Result<String
         _ => 1000,
     };
     let (frames, flushes) = (chance.below(5).saturating_add(1), chance.below(7));
-    let mut text = format!(in alloc;
-        "frames = {frames}\npage_bytes = {page_bytes}\nworkers = {workers}\nflushes = {flushes}\n"
-    )?;
+    let mut text = if number % 3 == 2 {
+        let (page_bytes, waiting) = (page_bytes.max(512), number % 4 + 1);
+        format!(in alloc;
+            "version = 2\nframes = {frames}\npage_bytes = {page_bytes}\nworkers = {workers}\nwaiting = {waiting}\nflushes = {flushes}\n"
+        )?
+    } else {
+        format!(in alloc;
+            "frames = {frames}\npage_bytes = {page_bytes}\nworkers = {workers}\nflushes = {flushes}\n"
+        )?
+    };
     push_regions(chance, &mut text)?;
     Ok(text)
 }

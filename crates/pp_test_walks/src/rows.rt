@@ -6,7 +6,7 @@
 //! | Row | What is done |
 //! |---|---|
 //! | `core FILE` | a core is made anew with the settings of the file, which is named by its frames, workers and flushes |
-//! | `endless COUNT FILE` | the same, but its lives don't end, and so many plans may wait |
+//! | `endless COUNT FILE` | the same, but the settings are of version 2: its lives don't end, and so many plans may wait |
 //! | `settings FILE` | plans are accepted under these settings from here on, and no more under the core's |
 //! | `submit FILE` | the plan is submitted; its number, or the refusal and how many steps the plan has that came back |
 //! | `resubmit` | so is the plan that came back last |
@@ -124,7 +124,7 @@ impl Pool {
         kept(rt.alloc(), row)
     }
 
-    /// The same with a core whose lives don't end.
+    /// The same with settings of version 2, in which lives don't end.
     fn open_endless<R: Files + AllocGlobal>(
         &mut self,
         rt: &R,
@@ -132,8 +132,8 @@ impl Pool {
         row: &str,
     ) -> anyhow::Result<String> {
         let (waiting, file) = rest.split_once(" ").unwrap_or((rest, ""));
-        self.settings = settings_in(rt, file)?;
-        self.core = endless(rt.alloc(), &self.settings, waiting.parse()?)?;
+        self.settings = endless_in(rt, file, waiting)?;
+        self.core = Core::new(rt.alloc(), &self.settings)?;
         kept(rt.alloc(), row)
     }
 
@@ -220,14 +220,6 @@ impl Pool {
     }
 }
 
-/// A core whose lives don't end, in which so many plans may wait.
-fn endless(alloc: Global, settings: &Settings, waiting: u32) -> anyhow::Result<Core> {
-    if !matches!(waiting, 1..=1_048_576) {
-        anyhow::bail!("so many plans can't wait: {waiting}");
-    }
-    Ok(Core::endless(alloc, settings, waiting)?)
-}
-
 /// The row as it stands.
 fn kept(alloc: Global, row: &str) -> anyhow::Result<String> {
     Ok(String::from_str(alloc, row)?)
@@ -236,6 +228,17 @@ fn kept(alloc: Global, row: &str) -> anyhow::Result<String> {
 /// The settings of the file.
 fn settings_in<R: Files + AllocGlobal>(rt: &R, file: &str) -> anyhow::Result<Settings> {
     let text = text_in(rt, "rows", file)?;
+    Ok(Settings::from_text(rt.alloc(), text.as_str())?)
+}
+
+/// The settings of the file as a text of version 2, in which so many plans may wait and lives don't end.
+fn endless_in<R: Files + AllocGlobal>(
+    rt: &R,
+    file: &str,
+    waiting: &str,
+) -> anyhow::Result<Settings> {
+    let text = text_in(rt, "rows", file)?;
+    let text = format!(in rt.alloc(); "version = 2\nwaiting = {waiting}\n{text}")?;
     Ok(Settings::from_text(rt.alloc(), text.as_str())?)
 }
 

@@ -97,31 +97,9 @@ impl<'a> Stand<'a> {
         planted: Option<(u32, Trouble)>,
     ) -> anyhow::Result<Stand<'a>> {
         let troubles = scenario.troubles_with(alloc, planted)?;
-        let store = Store::new(alloc, &scenario.settings, Span::Bounded, troubles)?;
+        let store = Store::new(alloc, &scenario.settings, troubles)?;
         let device = device_of(alloc, scenario, planted)?;
         let (vault, hands) = Vault::new(alloc, &scenario.settings)?;
-        Ok(Stand {
-            alloc,
-            vault,
-            hands,
-            device,
-            store,
-            kept: Vec::new(alloc),
-        })
-    }
-
-    /// The same, where lives don't end, and one plan may wait, or up to four.
-    pub fn endless(
-        alloc: Global,
-        scenario: &'a Scenario,
-        waiting: u32,
-    ) -> anyhow::Result<Stand<'a>> {
-        let waiting = waiting.max(1).min(4);
-        let troubles = scenario.troubles_with(alloc, None)?;
-        let span = Span::Endless { waiting };
-        let store = Store::new(alloc, &scenario.settings, span, troubles)?;
-        let device = device_of(alloc, scenario, None)?;
-        let (vault, hands) = Vault::endless(alloc, &scenario.settings, waiting)?;
         Ok(Stand {
             alloc,
             vault,
@@ -192,6 +170,7 @@ impl<'a> Stand<'a> {
     }
 
     fn play_all(&mut self, scenario: &'a Scenario) -> anyhow::Result<Vec<Call>> {
+        self.keep_all(scenario)?;
         for number in 0..scenario.plans {
             self.submit(scenario, number)?;
         }

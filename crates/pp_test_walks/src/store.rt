@@ -5,7 +5,7 @@ use crate::turns::move_of;
 use pp_device::Trouble;
 use pp_play::Line;
 use pp_script::Cue;
-use pp_settings::{Settings, Span};
+use pp_settings::Settings;
 use pp_vault::{Came, Cause, Held, Move, Refusal, Reply};
 use std::alloc::{AllocError, Global};
 
@@ -67,14 +67,13 @@ impl Drop for Store<'_> {
 }
 
 impl<'a> Store<'a> {
-    /// A new pool, whose lives may last so long, over a new device.
+    /// A new pool over a new device.
     pub fn new(
         alloc: Global,
         settings: &Settings,
-        span: Span,
         troubles: Vec<(u32, Trouble)>,
     ) -> Result<Store<'a>, AllocError> {
-        let plain = Plain::new(alloc, settings, span)?;
+        let plain = Plain::new(alloc, settings)?;
         let bytes = Vec::from_elem(alloc, NEW, settings.pages() as usize)?;
         Ok(Store {
             plain,

@@ -111,9 +111,7 @@ impl<'a> Plain<'a> {
     /// How many moves are left at most, where no plan has a choice.
     pub fn budget(&self) -> u64 {
         let flush = u64::from(self.flush.is_some());
-        let mut budget = u64::from(self.flushes_left)
-            .saturating_mul(2)
-            .saturating_add(flush);
+        let mut budget = self.flushes_left.saturating_mul(2).saturating_add(flush);
         for plan in &self.queue {
             budget = budget.saturating_add(left(plan.words, 34));
         }

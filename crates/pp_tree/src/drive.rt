@@ -40,7 +40,12 @@ impl<D: Drop> Drop for Stand<D> {
 
 impl<D: Drop> Stand<D> {
     /// A new pool over these ends of a device: one for each worker, and one for the flusher.
+    ///
+    /// # Errors
+    ///
+    /// Where the settings are of lives without end, which a run doesn't serve, and where memory runs out.
     pub fn open(alloc: Global, settings: &Settings, devices: Vec<D>) -> anyhow::Result<Stand<D>> {
+        settings.see_bounded()?;
         Ok(Stand {
             pool: RestedPool::open(alloc, settings)?,
             devices,

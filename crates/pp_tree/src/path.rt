@@ -50,7 +50,7 @@ impl Path {
     /// The page to fix in this region: the node that comes next, where it is of the region, and else the page there that is free.
     pub fn page(&self, region: u8, first: u32, count: u32) -> u32
         requires some { 1 ≤ count }
-        requires ends { first + count ≤ 65536 }
+        requires ends { first + count ≤ 4294967292 }
         ensures from { first ≤ result }
         ensures below { result < first + count }
     {

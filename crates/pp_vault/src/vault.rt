@@ -1,8 +1,8 @@
 //! The vault: its core's moves, with the images of the pages.
 
 ghost use Rattle.std.specs.Prelude.{◌≡◌, ◌↔◌, true, Some, None, is_ok, IsSome, IfOk, IfErr, IfSome, OnOk, OnErr, length};
-ghost use Rattle.std.specs.Prelude.{◌≤◌, ◌^◌, []};
-ghost use Rattle.pp_settings.specs.declared.span.Span.TheVariants.{Bounded, Endless};
+ghost use Rattle.std.specs.Prelude.{◌≤◌, []};
+ghost use Rattle.pp_settings.specs.declared.span.Span.TheVariants.{Bounded};
 ghost use Rattle.std.specs.Option.{is_some};
 ghost use Rattle.pp_cert.specs.Accepted.{Acceptance};
 ghost use Rattle.pp_core.specs.Submits.{PrepareFails, PreparedFails};
@@ -13,7 +13,7 @@ ghost use Rattle.pp_model.specs.Renewing.{renew_error};
 ghost use Rattle.pp_vault.specs.Submits.{TakesIn, TakesPrepared, SubmitFails, Prepares};
 ghost use Rattle.pp_vault.specs.Renewals.{Renews};
 ghost use Rattle.pp_model.specs.Turns.{next_turn, IsOpen, IsUnderWay};
-ghost use Rattle.pp_core.specs.Opening.{kept_of, kept_for};
+ghost use Rattle.pp_core.specs.Opening.{kept_of};
 ghost use Rattle.pp_core.specs.Queries.{is_idle, ask_of, errand_of};
 ghost use Rattle.pp_vault.specs.Stages.{AllIdle};
 ghost use Rattle.pp_vault.specs.Hands.{HandsFit};
@@ -83,7 +83,12 @@ impl Model for Vault {
 }
 
 impl Vault {
-    /// A vault with these settings, in which nothing was done yet, and its hands, with the chair of each worker.
+    /// A vault with these settings, in which nothing was done yet, and its hands, with the chair of each worker. Its lives last as
+    /// long as the settings say.
+    ///
+    /// In a bounded life plans are submitted, 256 of them at most ([`Vault::submit`]). In an endless one plans are prepared, 4,096
+    /// of them at most, and each is submitted as often as wanted ([`Vault::prepare`], [`Vault::submit_prepared`]);
+    /// [`Core::prepared`] of [`Vault::core`] lends one.
     ///
     /// It gets all memory that the vault ever needs: the core's, and an image of a page for each frame and for the
     /// flusher.
@@ -93,6 +98,7 @@ impl Vault {
     /// Only where that memory can't be had.
     pub fn new(alloc: Global, settings: &Settings) -> Result<(Vault, Hands), VaultError>
         ensures opens { IfOk result (λ made. StandsFor made.0 (opening (kept_of settings.now))) }
+        ensures none_kept { IfOk result (λ made. made.0.core.plans ≡ []) }
         ensures idle { IfOk result (λ made. AllIdle settings.now.workers made.1.workers) }
         ensures no_flush { IfOk result (λ made. made.1.flushing ≡ None) }
         ensures fit { IfOk result (λ made. HandsFit made.0 made.1) }
@@ -100,36 +106,6 @@ impl Vault {
         ensures holds { IfOk result (λ made. Holds made.0) }
     {
         let store = Store::new(alloc, settings)?;
-        let hands = Hands::new(alloc, settings.workers())?;
-        Ok((Vault { store }, hands))
-    }
-
-    /// A vault in which nothing was done yet, whose lives last as long as the host wants, and all hands over it. At most
-    /// `waiting` plans, 1 to 1,048,576, wait at a time.
-    ///
-    /// Plans are prepared, at most 4,096 of them, and each is submitted as often as wanted ([`Vault::prepare`],
-    /// [`Vault::submit_prepared`]); [`Core::prepared`] of [`Vault::core`] lends one. The vault gets all memory that it
-    /// ever needs, that of [`Vault::new`] with the core's for these plans ([`Core::endless`]).
-    ///
-    /// # Errors
-    ///
-    /// Only where that memory can't be had.
-    pub fn endless(
-        alloc: Global,
-        settings: &Settings,
-        waiting: u32,
-    ) -> Result<(Vault, Hands), VaultError>
-        requires some { 1 ≤ waiting }
-        requires most { waiting ≤ 2 ^ 20 }
-        ensures opens { IfOk result (λ made. StandsFor made.0 (opening (kept_for settings.now (Endless waiting)))) }
-        ensures none_prepared { IfOk result (λ made. made.0.core.plans ≡ []) }
-        ensures idle { IfOk result (λ made. AllIdle settings.now.workers made.1.workers) }
-        ensures no_flush { IfOk result (λ made. made.1.flushing ≡ None) }
-        ensures fit { IfOk result (λ made. HandsFit made.0 made.1) }
-        ensures page_bytes { IfOk result (λ made. made.0.page_bytes ≡ settings.now.page_bytes) }
-        ensures holds { IfOk result (λ made. Holds made.0) }
-    {
-        let store = Store::endless(alloc, settings, waiting)?;
         let hands = Hands::new(alloc, settings.workers())?;
         Ok((Vault { store }, hands))
     }
@@ -313,9 +289,10 @@ impl Vault {
         self.store.core.span()
     }
 
-    /// Begins the next life of a vault at rest, as the core does: the plans of a bounded life go, all flushes may begin again, and
-    /// all else stays, prepared plans and each image in its frame. So pages stay cached, dirty and known, and the tokens of the old life, which are chairs,
-    /// are those of the next. The next life's journal begins in the state that the vault stands for now.
+    /// Begins the next life of a vault at rest, as the core does: the plans of a bounded life go, all flushes may begin again,
+    /// and all else stays, prepared plans and each image in its frame. So pages stay cached, dirty and known, and the tokens
+    /// of the old life, which are chairs, are those of the next. The next life's journal begins in the state that the vault
+    /// stands for now.
     ///
     /// It takes no memory and copies nothing.
     ///

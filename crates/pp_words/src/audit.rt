@@ -34,7 +34,8 @@ impl<'a> AuditPaths<'a> {
                 \n\
                 Status: 0 a true journal, 1 refused, 2 a bad command line, 3 a file that can't be read, 4 out of memory.\n\
                 A refusal is one line on standard output; standard error says where and why.\n\
-                Limits: 256 plans, and 4,000,000 moves by their costs, in each life.\n\
+                Limits: 256 plans, and 4,000,000 moves by their costs, in each life. Settings of a life without\n\
+                end are refused.\n\
                 Read on: docs/formats.md, Journals.",
             )
             .about(

@@ -30,7 +30,8 @@ impl<'a> FormatPaths<'a> {
                 \n\
                 Status: 0 written, 1 refused, 2 a bad command line, 3 a file that can't be read or written, 4 out of memory.\n\
                 A refusal is one line on standard output; standard error says where and why.\n\
-                Limits: pages below 65,536, of 64 to 65,536 bytes each.\n\
+                Limits: pages below 65,536, of 64 to 65,536 bytes each; by settings of version 2\n\
+                below 4,294,967,292, of 512 to 1,048,576 bytes each.\n\
                 Read on: docs/formats.md, Devices.",
             )
             .about("Writes a device anew, with every page of the settings blank.")

@@ -41,7 +41,8 @@ impl<'a> RunPaths<'a> {
                 Status: 0 done, 1 refused, 2 a bad command line, 3 a file that can't be read or written,\n\
                 or a plan that is gone or a flush that failed, 4 out of memory.\n\
                 A refusal is one line on standard output; standard error says where and why.\n\
-                Limits: 32 workers, 256 plans, and 4,000,000 moves by their costs.\n\
+                Limits: 32 workers, or 1,024 by settings of version 2; 256 plans, and 4,000,000 moves by their\n\
+                costs. Settings of a life without end are refused.\n\
                 Read on: docs/formats.md, Runs and Reports.",
             )
             .about("Runs plans on threads over a device, and prints a report.")

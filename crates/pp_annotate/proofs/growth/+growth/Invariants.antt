@@ -1,7 +1,6 @@
 use Rattle.std.proofs.Common.{◌≡◌, ◌+◌, ◌*◌, ◌≤◌, min, drop}
 use Rattle.pp_plan.specs.Tree.{statement_size, sequence_size, alternatives_size}
 use Rattle.pp_plan.specs.View.{statement_of, sequence_of}
-use Rattle.pp_cert.specs.Limits.{most_counted}
 use Rattle.pp_annotate.specs.Growth.{growth}
 use Rattle.pp_annotate.proofs.growth.+growth.Given as goal
 
@@ -18,6 +17,6 @@ abbrev pub decreases-growth_of_first : goal.decreases-growth_of_first
 decreases-growth_of_first l = 2 * alternatives_size l.branches.now
 
 abbrev pub invariant-growth-loop-stmt : goal.invariant-growth-loop-stmt
-invariant-growth-loop-stmt l = (l.sum ≤ most_counted)
-    × (min (l.sum + growth (sequence_of (drop l.stmt-index l.stmts)) l.slot) most_counted
-    ≡ min (growth (sequence_of l.stmts) l.slot) most_counted)
+invariant-growth-loop-stmt l = (l.sum ≤ l.stop)
+    × (min (l.sum + growth (sequence_of (drop l.stmt-index l.stmts)) l.slot) l.stop
+    ≡ min (growth (sequence_of l.stmts) l.slot) l.stop)

@@ -1,11 +1,11 @@
-use Rattle.std.proofs.Common.{◌≡◌, Err, Option, false, ap, sym, subst, ◌∙◌}
+use Rattle.std.proofs.Common.{◌≡◌, Err, Option, ap, sym, subst, ◌∙◌}
 use Rattle.pp_settings.specs.Layout.{Geometry}
 use Rattle.pp_settings.specs.Settings.{geometry_of}
 use Rattle.pp_plan.specs.Terms.{Terms}
 use Rattle.pp_cert.specs.declared.check_error.CheckError.{CheckError}
 use Rattle.pp_cert.specs.Claims.{AreClaims}
-use Rattle.pp_cert.specs.Walk.{Claims, Certifies, first_fault, fault_of, tests_with}
-use Rattle.pp_annotate.specs.Annotation.{IsTight, IsLeast}
+use Rattle.pp_cert.specs.Walk.{Claims, Certifies, first_fault, fault_of}
+use Rattle.pp_annotate.specs.Annotation.{counted_tests, IsTight, IsLeast}
 use Rattle.pp_annotate.proofs.Least.{made_least, none_accepted}
 use Rattle.pp_annotate.proofs.Told.{made_told}
 use Rattle.pp_annotate.proofs.Faults.{made_faults}
@@ -17,9 +17,9 @@ use Rattle.pp_annotate.proofs.maker.annotate.Goals as goal
 
 -- what the test of the certificate answered is the verdict on what is made
 verdict : (p : Terms) (g h : Geometry) (c d : Claims) (answer : Option CheckError) → h ≡ g → c ≡ d
-    → answer ≡ first_fault h c (tests_with false p) → first_fault g d (tests_with false p) ≡ answer
+    → answer ≡ first_fault h c (counted_tests p) → first_fault g d (counted_tests p) ≡ answer
 verdict p g h c d answer layouts claims e =
-    sym (e ∙ (λ i. first_fault (layouts i) (claims i) (tests_with false p)))
+    sym (e ∙ (λ i. first_fault (layouts i) (claims i) (counted_tests p)))
 
 pub returns-in-None-clause-accepted : goal.returns-in-None-clause-accepted
 returns-in-None-clause-accepted c =

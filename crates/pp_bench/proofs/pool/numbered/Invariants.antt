@@ -3,4 +3,4 @@ use Rattle.std.proofs.Common.{◌≡◌, length}
 use Rattle.pp_bench.proofs.pool.numbered.Given as goal
 
 abbrev pub invariant-loop-page : goal.invariant-loop-page
-invariant-loop-page l = length l.bytes.items ≡ 4096
+invariant-loop-page l = length l.bytes.items ≡ l.page_bytes

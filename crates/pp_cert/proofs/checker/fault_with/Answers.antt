@@ -18,7 +18,7 @@ last_fault-requires c =
     let body = c.body-stmts.ensures.facts.body in
     let ends = ap (sequence_end 0) c.body-stmts.ensures.is in
     let end =
-    plan_end c.args.told c.args.layout.now c.args.certificate.now (sequence_of c.body-stmts.result.now) c.in-Ok.end
+    plan_end c.args.stop c.args.layout.now c.args.certificate.now (sequence_of c.body-stmts.result.now) c.in-Ok.end
     c.in-Ok.ensures in
     omega (
       arith,
@@ -34,8 +34,8 @@ returns-in-Err-clause-is c =
     let cert = c.args.certificate.now in
     let same = ap (same_layout g) (sym c.layout.ensures) ∙ sym c.is_same_layout.ensures
     ∙ c.if-not-is_same_layout.false in
-    plan_err c.args.told g cert c.args.plan.now.layout (sequence_of c.body-stmts.result.now) c.in-Err.fault same c.in-Err.ensures
-    ∙ ap (λ b. first_fault g (claims_of cert) (all_tests c.args.told c.args.plan.now.layout b)) c.body-stmts.ensures.is
+    plan_err c.args.stop g cert c.args.plan.now.layout (sequence_of c.body-stmts.result.now) c.in-Err.fault same c.in-Err.ensures
+    ∙ ap (λ b. first_fault g (claims_of cert) (all_tests c.args.stop c.args.plan.now.layout b)) c.body-stmts.ensures.is
 
 pub returns-in-Ok-clause-is : goal.returns-in-Ok-clause-is
 returns-in-Ok-clause-is c =
@@ -43,6 +43,6 @@ returns-in-Ok-clause-is c =
     let cert = c.args.certificate.now in
     let same = ap (same_layout g) (sym c.layout.ensures) ∙ sym c.is_same_layout.ensures
     ∙ c.if-not-is_same_layout.false in
-    c.last_fault.ensures ∙ plan_ok c.args.told g cert c.args.plan.now.layout (sequence_of c.body-stmts.result.now) c.in-Ok.end same
-    c.in-Ok.ensures ∙ ap (λ b. first_fault g (claims_of cert) (all_tests c.args.told c.args.plan.now.layout b))
+    c.last_fault.ensures ∙ plan_ok c.args.stop g cert c.args.plan.now.layout (sequence_of c.body-stmts.result.now) c.in-Ok.end same
+    c.in-Ok.ensures ∙ ap (λ b. first_fault g (claims_of cert) (all_tests c.args.stop c.args.plan.now.layout b))
     c.body-stmts.ensures.is

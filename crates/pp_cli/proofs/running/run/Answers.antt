@@ -30,7 +30,7 @@ returns-in-Ok-clause-comes g c =
     (map (λ plan. plan.items) c.as_slice-2.result.now) _ (seen c.run_traced.result)
     (length-map c.as_slice-2.result.now (λ plan. plan.items) ∙ ap length c.as_slice-2.ensures.value
     ∙ c.in_ok-plans.ensures.each ∙ ap length c.deref.ensures.value
-    ∙ sym (length-map c.args.paths.plans.items (λ text. text.now))) c.in-Ok.ensures
+    ∙ sym (length-map c.args.paths.plans.items (λ text. text.now))) c.in-Ok.ensures.exact
     c.run_traced.ensures.comes
 
 pub returns-clause-comes : goal.returns-clause-comes
@@ -40,4 +40,4 @@ returns-clause-comes g c =
     c.as_slice.result.now (map (λ plan. plan.items) c.as_slice-2.result.now) c.in-Err.refusal c.from-exit.result
     (length-map c.as_slice-2.result.now (λ plan. plan.items) ∙ ap length c.as_slice-2.ensures.value
     ∙ c.in_ok-plans.ensures.each ∙ ap length c.deref.ensures.value
-    ∙ sym (length-map c.args.paths.plans.items (λ text. text.now))) c.from-exit.ensures c.in-Err.ensures
+    ∙ sym (length-map c.args.paths.plans.items (λ text. text.now))) c.from-exit.ensures c.in-Err.ensures.exact

@@ -4,6 +4,6 @@ use Rattle.pp_run.proofs.Lived.{whole_journals}
 use Rattle.pp_run.proofs.laws.lives_are_audited.Goals as goal
 
 pub returns : goal.returns
-returns c = λ conf lives p plans lived are life over.
-    c.whole_lives_are_audited.ensures.verdict conf (plans_of lives ++ plans)
+returns c = λ conf lives p plans bounded lived are life over.
+    c.whole_lives_are_audited.ensures.verdict conf (plans_of lives ++ plans) bounded
     (whole_journals conf lives p plans (map (λ events. events.items) c.args.journals.now) c.args.last.now.items lived are life over)

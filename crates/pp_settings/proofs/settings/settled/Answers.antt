@@ -21,6 +21,7 @@ returns c =
     (λ (g : Geometry). configured (record {
       page_bytes = d.page_bytes;
       workers = d.workers;
+      span = d.span;
       flushes = d.flushes;
       layout = g;
       names = c.regions.inside.names;

@@ -28,9 +28,9 @@ decreases-later l = 3 * alternatives_size (alternatives_of l.bodies.now)
 abbrev pub invariant-sequence-loop-stmt : goal.invariant-sequence-loop-stmt
 invariant-sequence-loop-stmt l = record {
   goes_on : walked l.self.layout.now l.self.certificate.now
-      (sequence_tests l.self.told l.place (sequence_of (drop l.stmt-index l.stmts)))
+      (sequence_tests l.self.stop l.place (sequence_of (drop l.stmt-index l.stmts)))
       (sequence_end l.place (sequence_of (drop l.stmt-index l.stmts)))
-      ≡ walked l.self.layout.now l.self.certificate.now (sequence_tests l.self.told l.first (sequence_of l.stmts))
+      ≡ walked l.self.layout.now l.self.certificate.now (sequence_tests l.self.stop l.first (sequence_of l.stmts))
       (sequence_end l.first (sequence_of l.stmts));
   end : sequence_end l.place (sequence_of (drop l.stmt-index l.stmts)) ≡ sequence_end l.first (sequence_of l.stmts);
 }
@@ -38,10 +38,10 @@ invariant-sequence-loop-stmt l = record {
 abbrev pub invariant-later-loop-body : goal.invariant-later-loop-body
 invariant-later-loop-body l = record {
   goes_on : walked l.self.layout.now l.self.certificate.now
-      (later_tests l.self.told l.before l.first l.next (alternatives_of (drop l.body-index l.bodies)))
+      (later_tests l.self.stop l.before l.first l.next (alternatives_of (drop l.body-index l.bodies)))
       (alternatives_end l.next (alternatives_of (drop l.body-index l.bodies)))
       ≡ walked l.self.layout.now l.self.certificate.now
-      (later_tests l.self.told l.before l.first (l.first + 1) (alternatives_of l.bodies))
+      (later_tests l.self.stop l.before l.first (l.first + 1) (alternatives_of l.bodies))
       (alternatives_end (l.first + 1) (alternatives_of l.bodies));
   end : alternatives_end l.next (alternatives_of (drop l.body-index l.bodies))
       ≡ alternatives_end (l.first + 1) (alternatives_of l.bodies);

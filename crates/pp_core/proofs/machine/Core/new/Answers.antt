@@ -1,5 +1,6 @@
+use Rattle.std.proofs.Common.{ap}
 use Rattle.pp_model.specs.Pool.{opening}
-use Rattle.pp_core.specs.Parts.{parts_of}
+use Rattle.pp_core.specs.Parts.{Parts, parts_of}
 use Rattle.pp_core.specs.Opening.{kept_of}
 use Rattle.pp_core.proofs.OpeningTies.{opened_stands}
 use Rattle.pp_core.proofs.Standing.{headline_holds}
@@ -25,6 +26,9 @@ returns-clause-kept c =
       state = opening k;
       stands = opened_stands k (parts_of c.in_ok-table.table) c.in_ok-table.ensures.within c.in_ok-table.ensures.opens;
     }
+
+pub returns-clause-none_kept : goal.returns-clause-none_kept
+returns-clause-none_kept c = ap (λ (z : Parts). z.plans) c.in_ok-table.ensures.opens
 
 pub returns-clause-headline : goal.returns-clause-headline
 returns-clause-headline c = headline_holds (parts_of c.in_ok-table.table)

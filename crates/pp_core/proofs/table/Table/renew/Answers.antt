@@ -1,8 +1,11 @@
 use Rattle.std.proofs.Common.{◌≡◌, ◌∙◌, None, Some, rules}
 use Rattle.pp_core.specs.Parts.{parts_of}
 use Rattle.pp_core.specs.Renewals.{renew_fault}
-use Rattle.pp_core.proofs.RenewTies.{fault_is, renews}
+use Rattle.pp_core.proofs.RenewTies.{fault_is, flushes_few, renews}
 use Rattle.pp_core.proofs.table.Table.renew.Goals as goal
+
+pub begin_anew-requires : goal.begin_anew-requires
+begin_anew-requires c = flushes_few (parts_of c.args.self.now) c.requires
 
 pub returns-clause-ok : goal.returns-clause-ok
 returns-clause-ok c =

@@ -39,7 +39,7 @@ returns-in-Ok-ran-clause-audited g c =
     let whole : IsWhole k plans events
     = new_whole k p plans b dirty events c.in_ok-pool.ensures.settings c.in_ok-pool.ensures.outset end c.known.ensures.kept
     c.closed-record.ensures.events in
-    c.whole_journals_are_audited.ensures.verdict k plans whole
+    c.whole_journals_are_audited.ensures.verdict k plans c.requires.bounded whole
 
 pub returns-in-Err-clause-error : goal.returns-in-Err-clause-error
 returns-in-Err-clause-error g c =
