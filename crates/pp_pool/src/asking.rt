@@ -16,9 +16,10 @@ use pp_vault::{
     Returned, Session, Vault, WriteGuard,
 };
 
-/// Makes the call of the request. Tells what it is answered, and what the vault did, where it isn't refused.
+/// Makes the request's call of a vault. Tells what it is answered, and what the vault did, where it isn't refused. A
+/// [`Book`](crate::Book) notes that in its journal; who keeps a vault's journal in another way notes it there.
 #[inline(always)]
-pub(crate) fn ask(vault: &mut Vault, request: Request) -> (BookAnswer, Option<Done>)
+pub fn ask(vault: &mut Vault, request: Request) -> (BookAnswer, Option<Done>)
     ensures comes { ComesTo vault.old request result.0 vault.new }
     ensures does { DoesUnless vault.old request result.0 vault.new }
     ensures done { TellsOf vault.old request result.0 result.1 }

@@ -85,8 +85,8 @@ impl Model for Book {
 }
 
 impl Book {
-    /// A book with these settings, whose lives are bounded ([`Settings::span`]), in which nothing was done yet, and the hands of
-    /// its vault.
+    /// A book with these settings, whose lives are bounded ([`Settings::see_bounded`]), in which nothing was done yet, and the
+    /// hands of its vault.
     ///
     /// It gets all memory that the vault and the outsets of all lives ever need, and room in the journal for twice the flushes of
     /// the settings.

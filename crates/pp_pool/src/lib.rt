@@ -1,6 +1,7 @@
 //! The pool on one thread: a vault with the journal of what was done.
 #![tactic(auto)]
 
+pub use asking::ask;
 pub use book::Book;
 pub use error::{BookError, BookRenewError};
 pub use flusher::Flusher;

@@ -22,9 +22,10 @@ impl Book {
     ///
     /// The empty journal becomes that of the next life; what stands in it is let go first. It gets room for twice the flushes,
     /// before anything is given away. The journal that comes back keeps its room, and a book's journal always has that much. So
-    /// two journals serve in turn with no memory more, and one can be audited while the other fills.
+    /// two journals serve in turn with no memory more, and one can be written down while the other fills.
     ///
-    /// The plans and the journal of the life that is over are a whole life of the pool, as an audit of lives wants them.
+    /// The plans and the journal of the life that is over are a whole life of the pool, as an audit of lives wants them. Such an
+    /// audit begins with the first life: a later journal isn't audited without those before it.
     ///
     /// The outset of the next life ([`Book::began`]) is copied: some 32 bytes for each page number.
     ///

@@ -44,8 +44,8 @@ impl Model for RestedPool {
 }
 
 impl RestedPool {
-    /// A pool with these settings, whose lives are bounded ([`Settings::span`]), in which nothing was done yet. It gets all memory
-    /// that its vault ever needs, and room in the journal for twice the flushes.
+    /// A pool with these settings, whose lives are bounded ([`Settings::see_bounded`]), in which nothing was done yet. It gets
+    /// all memory that its vault ever needs, and room in the journal for twice the flushes.
     ///
     /// # Errors
     ///
