@@ -1,0 +1,14 @@
+//! An endless pool, on one thread: a vault with the present segment of its journal.
+//!
+//! An endless life, of up to 2^61 moves, has a journal that no memory holds. So its host takes it out in segments, one
+//! after the other, at any time ([`Ledger::take_segment`]). One behind the other they are a true journal of the life.
+#![tactic(auto)]
+
+pub use error::LedgerError;
+pub use ledger::Ledger;
+pub use segment::Segment;
+
+mod error;
+pub mod laws;
+mod ledger;
+mod segment;
