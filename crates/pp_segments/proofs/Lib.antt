@@ -1,0 +1,11 @@
+pub mod Fitting
+pub mod Spoken
+pub mod Splitting
+pub mod Told
+pub mod Verdicts
+pub mod Faults
+pub mod Again
+pub mod Whole
+pub mod Passing
+pub mod Begins
+pub mod Texts
