@@ -92,7 +92,7 @@ told_led word f more t low is =
     ap (option_and_then (λ (p : ℕ × List ℕ). told_of word p.0 p.1)) (ap leading (spaced f more) ∙ leading_again f more low)
     ∙ is
 
-asked_again : (a : Asked) → FitsAsked a → asked_in (asked_words a) ≡ Some a
+pub asked_again : (a : Asked) → FitsAsked a → asked_in (asked_words a) ≡ Some a
 asked_again (Submit n) h = ap (option_map (λ n. Submit n)) (small_again n h)
 asked_again (Do (Take w)) h = ap (option_map (λ w. Do (Take w))) (small_again w h)
 asked_again (Do (Fix w p)) h =
@@ -116,7 +116,7 @@ asked_again (Do (FlushBegin p)) h = ap (option_map (λ p. Do (FlushBegin p))) (s
 asked_again (Do (FlushDone true)) h = refl
 asked_again (Do (FlushDone false)) h = refl
 
-told_again : (t : Told) → FitsTold t → told_in (told_words t) ≡ Some t
+pub told_again : (t : Told) → FitsTold t → told_in (told_words t) ≡ Some t
 told_again Queued h = refl
 told_again (Answer (Taken k)) h = ap (option_map (λ k. Answer (Taken k))) (small_again k h)
 told_again (Answer (Hit f m)) h =
@@ -279,7 +279,7 @@ asked_after_found word text a e =
     let (fits, same) = asked_of_found word p.0 p.1 a low f in
     (fits, ap (λ l. word ++ (32 ∷ l)) (is ∙ sym (spaced p.0 p.1)) ∙ same)))))))))
 
-asked_found : (text : List ℕ) (a : Asked) → asked_in text ≡ Some a → FitsAsked a × (text ≡ asked_words a)
+pub asked_found : (text : List ℕ) (a : Asked) → asked_in text ≡ Some a → FitsAsked a × (text ≡ asked_words a)
 asked_found text a e =
     let (rest, is, f) = then_some (behind 32 text) (λ rest. asked_after (ahead 32 text) rest) a e in
     let (fits, same) = asked_after_found (ahead 32 text) rest a f in
@@ -337,7 +337,7 @@ told_after_found word text t e =
     let (fits, same) = told_of_found word p.0 p.1 t low f in
     (fits, ap (λ l. word ++ (32 ∷ l)) (is ∙ sym (spaced p.0 p.1)) ∙ same))))))))
 
-told_found : (text : List ℕ) (t : Told) → told_in text ≡ Some t → FitsTold t × (text ≡ told_words t)
+pub told_found : (text : List ℕ) (t : Told) → told_in text ≡ Some t → FitsTold t × (text ≡ told_words t)
 told_found text t e = by (behind 32 text) (cut_whole 32 text) (cut_found 32 text) e
   where
     by : (o : Option (List ℕ)) → (o ≡ None → text ≡ ahead 32 text)

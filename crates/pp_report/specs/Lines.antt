@@ -122,6 +122,13 @@ FitsLine l = FitsAsked l.asked × FitsTold l.told
 
 -- ---- what a text says
 
+-- The text of one side of a line says this.
+abbrev pub SaysAsked : List ℕ → Asked → Type 0
+SaysAsked text a = FitsAsked a × (text ≡ asked_words a)
+
+abbrev pub SaysTold : List ℕ → Told → Type 0
+SaysTold text t = FitsTold t × (text ≡ told_words t)
+
 -- The text of a line says this: something asked and something told that a journal can have, whether or not they go
 -- together; it is their words, and nothing else.
 abbrev pub Says : List ℕ → Line → Type 0

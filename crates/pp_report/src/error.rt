@@ -46,8 +46,9 @@ pub enum AuditError {
     /// moved. [`audit`](crate::audit), which knows one life, never gives it.
     #[error("line {0}: the pool can't be renewed there, since {1}; {2}")]
     NotRenewed(u64, RenewError, Next),
-    /// The lines are true, and a plan was not submitted or not ended, or a flush is in flight.
-    #[error("the journal ends before all plans were submitted and ended")]
+    /// The lines are true, and at the end something is left to do: a plan was not submitted or not ended, or a flush is in
+    /// flight.
+    #[error("the journal ends with something left to do")]
     Unfinished,
     /// Memory ran out. It says nothing of the journal.
     #[error("out of memory")]

@@ -2,7 +2,7 @@
 
 ghost use Rattle.std.specs.Prelude.{◌≡◌, Some, IfSome};
 
-use crate::reading::line_in;
+use crate::reading::{asked_in, line_in, told_in};
 use pp_model::{Event, Move, Reply};
 use std::fmt;
 
@@ -28,6 +28,27 @@ impl fmt::Display for Asked {
     }
 }
 
+impl Asked {
+    ghost use Rattle.pp_report.specs.declared.line.Asked.{Asked};
+    ghost use Rattle.pp_report.specs.Lines.{SaysAsked};
+    ghost use Rattle.pp_report.specs.Reading.{asked_in};
+
+    /// Reads what stands in a line before its equals sign, as in `fix 0 16`.
+    ///
+    /// None where the text isn't exactly the words of something asked: other words, and numbers out of their ranges or
+    /// with leading zeros.
+    pub fn from_text(text: &str) -> Option<Asked>
+        // What is read is spelled so.
+        ensures found { IfSome result (SaysAsked text.now) }
+        // What is spelled so is read.
+        ensures only { (asked : Asked) → SaysAsked text.now asked → result ≡ Some asked }
+        // The same as a function of the text.
+        ensures exact { result ≡ asked_in text.now }
+    {
+        asked_in(text)
+    }
+}
+
 /// What was told.
 #[derive(Clone, Copy, Debug, PartialEq, Eq)]
 pub enum Told {
@@ -47,6 +68,27 @@ impl fmt::Display for Told {
             Told::Queued => f.write_str("queued"),
             Told::Answer(reply) => write!(f, "{reply}"),
         }
+    }
+}
+
+impl Told {
+    ghost use Rattle.pp_report.specs.declared.line.Told.{Told};
+    ghost use Rattle.pp_report.specs.Lines.{SaysTold};
+    ghost use Rattle.pp_report.specs.Reading.{told_in};
+
+    /// Reads what stands in a line behind its equals sign, as in `mustread 1`.
+    ///
+    /// None where the text isn't exactly the words of something told: other words, numbers out of their ranges or with
+    /// leading zeros, and refusals.
+    pub fn from_text(text: &str) -> Option<Told>
+        // What is read is spelled so.
+        ensures found { IfSome result (SaysTold text.now) }
+        // What is spelled so is read.
+        ensures only { (told : Told) → SaysTold text.now told → result ≡ Some told }
+        // The same as a function of the text.
+        ensures exact { result ≡ told_in text.now }
+    {
+        told_in(text)
     }
 }
 

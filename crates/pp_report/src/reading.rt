@@ -129,7 +129,7 @@ fn asked_after(word: &str, text: &str) -> Option<Asked>
 }
 
 /// What the text asks.
-fn asked_in(text: &str) -> Option<Asked>
+pub(crate) fn asked_in(text: &str) -> Option<Asked>
     ensures { result ≡ asked_in text.now }
 {
     let (word, rest) = cut(text, ' ');
@@ -205,7 +205,7 @@ fn told_after(word: &str, text: &str) -> Option<Told>
 }
 
 /// What the text tells.
-fn told_in(text: &str) -> Option<Told>
+pub(crate) fn told_in(text: &str) -> Option<Told>
     ensures { result ≡ told_in text.now }
 {
     let (word, rest) = cut(text, ' ');
