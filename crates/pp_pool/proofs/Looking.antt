@@ -5,12 +5,13 @@ use Rattle.std.proofs.lemmas.Bool.{cases_lt, lt-leb, le-leb, false≢true}
 use Rattle.std.specs.Int.{w32, w64, to_be_bytes}
 use Rattle.pp_device.specs.Image.{head_of, body_of}
 use Rattle.pp_vault.proofs.Heads.{head_written}
+use Rattle.pp_model.specs.Pool.{State}
 use Rattle.pp_vault.specs.declared.guards.ReadGuard.{ReadGuard}
+use Rattle.pp_vault.specs.Parts.{Parts}
+use Rattle.pp_vault.specs.StandsFor.{StandsFor}
 use Rattle.pp_vault.specs.Flushes.{IsImageOf}
 use Rattle.pp_vault.specs.Looks.{ShowsBody, may_see}
-use Rattle.pp_pool.specs.Parts.{Parts, state_of}
-use Rattle.pp_pool.specs.Books.{IsBook}
-use Rattle.pp_pool.specs.Fronts.{ShowsPage}
+use Rattle.pp_pool.specs.Fronts.{ShowsPageIn}
 
 -- Bytes that begin with a head have that head.
 pub head_made : (bytes rest : List ℕ) (page stamp : ℕ) → bytes ≡ to_be_bytes w32 page ++ to_be_bytes w64 stamp ++ rest
@@ -19,13 +20,11 @@ head_made bytes rest page stamp e p s =
     ap head_of e ∙ head_written (to_be_bytes w32 page ++ to_be_bytes w64 stamp ++ rest) page stamp p s
 
 -- A body that is shown has all bytes of a page but those of the head.
-body_long : (b : Parts) (page : ℕ) (body : List ℕ) → IsBook b → ShowsBody b.vault page body
-    → length body ≡ b.vault.page_bytes - 12
-body_long b page body k h =
-    let s = state_of b in
-    let at : IsImageOf b.vault s page h.image = h.shown.copy s k.stands in
-    let images = k.stands.images in
-    ap length h.body_is ∙ length-drop 12 h.image ∙ ap (λ n. n - 12) (images.long at.frame h.image at.there)
+body_long : (v : Parts) (s : State) (page : ℕ) (body : List ℕ) → StandsFor v s → ShowsBody v page body
+    → length body ≡ v.page_bytes - 12
+body_long v s page body st h =
+    let at : IsImageOf v s page h.image = h.shown.copy s st in
+    ap length h.body_is ∙ length-drop 12 h.image ∙ ap (λ n. n - 12) (st.images.long at.frame h.image at.there)
 
 -- So many bytes are no more than a page has exactly where those behind the head are no more than the body has.
 cut_le : (n p : ℕ) → 64 ≤ p → (nat_le 64 n && nat_le (n - 12) (p - 12)) ≡ (nat_le 64 n && nat_le n p)
@@ -36,19 +35,19 @@ cut_le n p wide =
     ]
 
 -- The front of a body that is there is shown where it can be copied.
-pub shows_page : (b : Parts) (guard : ReadGuard) (body before after : List ℕ) (shown : Bool) → IsBook b
-    → may_see guard (state_of b) ≡ true → ShowsBody b.vault guard.page body
+pub shows_page : (v : Parts) (s : State) (guard : ReadGuard) (body before after : List ℕ) (shown : Bool) → StandsFor v s
+    → may_see guard s ≡ true → ShowsBody v guard.page body
     → shown ≡ (nat_le 64 (length before) && nat_le (length before - 12) (length body))
     → (shown ≡ true → head_of after ≡ (guard.page, guard.mark))
     → (shown ≡ true → body_of after ≡ take (length before - 12) body) → (shown ≡ true → 64 ≤ length after)
-    → (shown ≡ false → after ≡ before) → length after ≡ length before → ShowsPage b guard before shown after
-shows_page b guard body before after shown k may there copied head front long unchanged same =
+    → (shown ≡ false → after ≡ before) → length after ≡ length before → ShowsPageIn v s guard before shown after
+shows_page v s guard body before after shown st may there copied head front long unchanged same =
     record {
       exact =
           copied
-          ∙ ap (λ n. nat_le 64 (length before) && nat_le (length before - 12) n) (body_long b guard.page body k there)
-          ∙ cut_le (length before) b.vault.page_bytes k.stands.images.wide
-          ∙ sym (ap (λ t. t && (nat_le 64 (length before) && nat_le (length before) b.vault.page_bytes)) may);
+          ∙ ap (λ n. nat_le 64 (length before) && nat_le (length before - 12) n) (body_long v s guard.page body st there)
+          ∙ cut_le (length before) v.page_bytes st.images.wide
+          ∙ sym (ap (λ t. t && (nat_le 64 (length before) && nat_le (length before) v.page_bytes)) may);
       front = λ yes. record {
         long = long yes;
         head = head yes;
@@ -60,12 +59,12 @@ shows_page b guard body before after shown k may there copied head front long un
       unchanged = unchanged;
     }
 
--- Nothing is shown to a guard that isn't one of the book's state.
-pub no_page : (b : Parts) (guard : ReadGuard) (bytes : List ℕ) → may_see guard (state_of b) ≡ false
-    → ShowsPage b guard bytes false bytes
-no_page b guard bytes stranger =
+-- Nothing is shown to a guard that isn't one of the state.
+pub no_page : (v : Parts) (s : State) (guard : ReadGuard) (bytes : List ℕ) → may_see guard s ≡ false
+    → ShowsPageIn v s guard bytes false bytes
+no_page v s guard bytes stranger =
     record {
-      exact = sym (ap (λ t. t && (nat_le 64 (length bytes) && nat_le (length bytes) b.vault.page_bytes)) stranger);
+      exact = sym (ap (λ t. t && (nat_le 64 (length bytes) && nat_le (length bytes) v.page_bytes)) stranger);
       front = λ yes. absurd (false≢true yes);
       length = refl;
       unchanged = λ _. refl;

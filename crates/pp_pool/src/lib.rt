@@ -11,7 +11,7 @@ pub use pp_model::Event;
 pub use pp_outset::Outset;
 pub use request::Request;
 pub use response::{BookAnswer, Response};
-pub use site::{OwnSite, Site};
+pub use site::{OwnSite, Site, copy_front};
 pub use turned::Turned;
 pub use work::{End, Kind, Work};
 pub use worker::Worker;

@@ -96,9 +96,10 @@ pub trait Site {
 }
 
 /// Copies the front of the image that has this head and this body into the slice, as far as the slice goes, where that is
-/// 64 bytes at least and no more than the image has. Tells whether it did.
+/// 64 bytes at least and no more than the image has. Tells whether it did; else the slice is as it was. With it a site of a
+/// vault shows what [`Vault::see`](pp_vault::Vault::see) lends.
 #[inline(always)]
-fn copy_front(page: u32, mark: u64, body: &[u8], bytes: &mut [u8]) -> bool
+pub fn copy_front(page: u32, mark: u64, body: &[u8], bytes: &mut [u8]) -> bool
     ensures result { result ≡ (nat_le 64 (length bytes.old) && nat_le (length bytes.old - HEAD) (length body.now)) }
     ensures head { result ≡ true → head_of bytes.new ≡ (page, mark) }
     ensures body { result ≡ true → body_of bytes.new ≡ take (length bytes.old - HEAD) body.now }
