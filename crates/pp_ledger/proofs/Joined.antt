@@ -27,15 +27,14 @@ headed : (o : State) (number count : ℕ) (plans : List Acceptance) (xs : List T
 headed o number count plans [] e h = tt
 headed o number count plans (x ∷ xs) e h =
     let g = h.0.segment in
-    let submits = plans_submitted o x.end x.ledger.segment.events g.told in
-    (
+    let submits = plans_submitted o x.end x.ledger.segment.events g.told in (
       record {
         number = h.0.number;
         plans_before = g.plans_before ∙ sym e;
         places = omega (arith, plans_counted x.ledger o x.end g, g.plans_before, submits);
       },
       headed x.end (number + 1) (count + count_submits x.ledger.segment.events) x.ledger.vault.core.plans xs
-      (omega (arith, e, submits)) h.1,
+          (omega (arith, e, submits)) h.1,
     )
 
 -- ---- which plans they name
@@ -79,8 +78,8 @@ named o number plans (x ∷ xs) h =
     let grown = prepared_grow x.end (number + 1) now xs h.1 in
     let here = drop (length o.plans) x.end.plans in
     let first : Places (plans_at_end now xs) x.ledger.segment.prepared here =
-        subst (λ ps. Places ps x.ledger.segment.prepared here) (sym grown.1)
-        (more_places now grown.0 x.ledger.segment.prepared here h.0.segment.prepared) in
+    subst (λ ps. Places ps x.ledger.segment.prepared here) (sym grown.1)
+    (more_places now grown.0 x.ledger.segment.prepared here h.0.segment.prepared) in
     both_places (plans_at_end now xs) x.ledger.segment.prepared (all_prepared xs) here
     (drop (length x.end.plans) end) first
     (named x.end (number + 1) now xs h.1)

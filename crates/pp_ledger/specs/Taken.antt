@@ -70,8 +70,8 @@ pub record AreOneJournal (o : State) (number : ℕ) (plans : List Acceptance) (x
   pub told : IsJournalFrom o (segments_end o (segments_of xs)) (all_events (segments_of xs))
   pub headed : AreHeaded number (length o.plans) xs
   pub prepared :
-    map (slice_get (plans_at_end plans xs)) (all_prepared xs)
-    ≡ map Some (drop (length o.plans) (segments_end o (segments_of xs)).plans)
+      map (slice_get (plans_at_end plans xs)) (all_prepared xs)
+      ≡ map Some (drop (length o.plans) (segments_end o (segments_of xs)).plans)
 
 -- Segments that were taken out one after the other are so.
 abbrev pub TakenAreAJournal : State → Type 0
