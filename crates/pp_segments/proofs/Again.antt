@@ -105,7 +105,8 @@ module _ (prepared plans : List Acceptance) where
       Ok (after_one p (after_submit p.state h.plan))) h.taken_in
 
   step_again : (p : Progress) (did : Move) (reply : Reply) → nat_lt 0 p.segments ≡ true
-      → not (is_refusal (reply_of p.state did)) ≡ true → reply ≡ reply_of p.state did → FitsLine (Step did (Answer reply))
+      → not (is_refusal (reply_of p.state did)) ≡ true → reply ≡ reply_of p.state did
+      → FitsLine (Step did (Answer reply))
       → pass_text prepared p (line_words (Step did (Answer reply))) ≡ Ok (after_one p (next_of p.state did))
   step_again p did reply some can is fits =
       let l : SegmentLine = Step did (Answer reply) in
@@ -119,7 +120,8 @@ module _ (prepared plans : List Acceptance) where
   -- One line more in front.
   went : (p : Progress) (e : Event) (es : List Event) (ns more ms : List ℕ) (l : SegmentLine) (s : State)
       → pass_text prepared p (line_words l) ≡ Ok (after_one p s) → after_event plans p.state e ≡ s
-      → event_lines (e ∷ es) ns ≡ l ∷ event_lines es more → length s.plans + length more ≡ length p.state.plans + length ns
+      → event_lines (e ∷ es) ns ≡ l ∷ event_lines es more
+      → length s.plans + length more ≡ length p.state.plans + length ns
       → Went (after_one p s) es more ms → Went p (e ∷ es) ns ms
   went p e es ns more ms l s passes after is many w =
       let lines = w.lines in
@@ -170,7 +172,8 @@ module _ (prepared plans : List Acceptance) where
       let s : State = next_of p.state did in
       let same : s.plans ≡ p.state.plans = same_plans p.state did in
       went p (event.Step did reply) es ns ns ms (Step did (Answer reply)) s
-      (step_again p did reply some h.0.0 h.0.1 fits.0) refl refl (ap (λ (ps : List Acceptance). length ps + length ns) same)
+      (step_again p did reply some h.0.0 h.0.1 fits.0) refl refl
+      (ap (λ (ps : List Acceptance). length ps + length ns) same)
       (events_again (after_one p s) es ns ms h.1
       (omega (arith, one, count_step (event.Step did reply) es refl))
       (ahead ∙ ap (λ (ps : List Acceptance). map Some (drop (length ps) plans)) (sym same)) some fits.1)
@@ -201,13 +204,15 @@ module _ (prepared plans : List Acceptance) where
   segments_again p n k (x ∷ xs) e f h named ahead fits =
       let q : Progress = record p { lines = p.lines + 1; segments = p.segments + 1 } in
       let (first, rest) = true_parts plans p.state x.events (all_events xs) h in
-      let (fits_here, fits_later) = fits_parts (segment_lines n k x) (lines_from (n + 1) (k + length x.prepared) xs) fits in
+      let (fits_here, fits_later) =
+      fits_parts (segment_lines n k x) (lines_from (n + 1) (k + length x.prepared) xs) fits in
       let some : nat_lt 0 (p.segments + 1) ≡ true = grind (arith, nat_tests) in
       let w = events_again q x.events x.prepared (all_names xs) first named.0 ahead some fits_here.1 in
       let w_many = w.many in
       let w_lines = w.lines in
       let w_segments = w.segments in
-      let all = segments_again w.to (n + 1) (k + length x.prepared) xs (omega (arith, e, w_segments)) (omega (arith, f, w_many))
+      let all = segments_again w.to (n + 1) (k + length x.prepared) xs
+      (omega (arith, e, w_segments)) (omega (arith, f, w_many))
       (subst (λ s. IsTrueFrom plans s (all_events xs)) (sym w.state_is) rest) named.1 w.ahead fits_later in
       let all_lines = all.lines in
       let all_segments = all.segments in
@@ -216,7 +221,8 @@ module _ (prepared plans : List Acceptance) where
       length-append (segment_lines n k x) (lines_from (n + 1) (k + length x.prepared) xs) in
       record {
         to = all.to;
-        passes = ap (pass_lines prepared p) (map-append line_words (segment_lines n k x) (lines_from (n + 1) (k + length x.prepared) xs))
+        passes = ap (pass_lines prepared p)
+            (map-append line_words (segment_lines n k x) (lines_from (n + 1) (k + length x.prepared) xs))
             ∙ pass_both p w.to (map line_words (segment_lines n k x))
             (map line_words (lines_from (n + 1) (k + length x.prepared) xs))
             (ap (λ r. r >>= λ q. pass_lines prepared q (map line_words (event_lines x.events x.prepared)))

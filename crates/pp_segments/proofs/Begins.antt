@@ -29,7 +29,8 @@ prepared_next old new a at g span rest h layout is =
     ap (λ s. nat_lt (length old.plans) (most_kept s)) (sym is) ∙ room (length old.plans) (most_kept old.span) h.few in
     let more : length old.plans + 1 ≡ length new.plans =
     sym (ap (λ (f : Parts). length f.plans) h.parts ∙ length-append old.plans (a ∷ [])) in
-    ap (λ b. if b then (if nat_lt (length old.plans) (most_kept span) then prepare_fault g span (length old.plans + 1) rest
+    ap (λ b. if b then (if nat_lt (length old.plans) (most_kept span)
+    then prepare_fault g span (length old.plans + 1) rest
     else Some TooManyPrepared) else Some OtherSettings) same
     ∙ ap (λ b. if b then prepare_fault g span (length old.plans + 1) rest else Some TooManyPrepared) few
     ∙ ap (λ n. prepare_fault g span n rest) more
@@ -38,18 +39,21 @@ prepared_next old new a at g span rest h layout is =
     room m n h = grind (arith, nat_tests)
 
 -- It can't be prepared, and that is the fault.
-pub prepare_failed : (old : Parts) (a : Acceptance) (e : PrepareError) (g : Geometry) (span : Span) (rest : List Acceptance)
+pub prepare_failed : (old : Parts) (a : Acceptance) (e : PrepareError) (g : Geometry) (span : Span)
+    (rest : List Acceptance)
     → PrepareFails old a e → old.layout ≡ g → old.span ≡ span → span ≢ Bounded
     → prepare_fault g span (length old.plans) (a ∷ rest) ≡ Some e
 prepare_failed old a OtherSettings g span rest h layout is endless =
     let other : same_layout g a.plan.layout ≡ false = ap (λ g. same_layout g a.plan.layout) (sym layout) ∙ h in
-    ap (λ b. if b then (if nat_lt (length old.plans) (most_kept span) then prepare_fault g span (length old.plans + 1) rest
+    ap (λ b. if b then (if nat_lt (length old.plans) (most_kept span)
+    then prepare_fault g span (length old.plans + 1) rest
     else Some TooManyPrepared) else Some OtherSettings) other
 prepare_failed old a TooManyPrepared g span rest h layout is endless =
     let same : same_layout g a.plan.layout ≡ true = ap (λ g. same_layout g a.plan.layout) (sym layout) ∙ h.0 in
     let full : nat_lt (length old.plans) (most_kept span) ≡ false =
     ap (λ s. nat_lt (length old.plans) (most_kept s)) (sym is) ∙ many h.1 in
-    ap (λ b. if b then (if nat_lt (length old.plans) (most_kept span) then prepare_fault g span (length old.plans + 1) rest
+    ap (λ b. if b then (if nat_lt (length old.plans) (most_kept span)
+    then prepare_fault g span (length old.plans + 1) rest
     else Some TooManyPrepared) else Some OtherSettings) same
     ∙ ap (λ b. if b then prepare_fault g span (length old.plans + 1) rest else Some TooManyPrepared) full
   where

@@ -167,7 +167,8 @@ module _ (c : Configuration) (prepared : List Acceptance) (ended : Bool) (texts 
               can,
               due,
               λ same.
-                  let yes_same : same_told told right ≡ true = ap (same_told told) (sym same) ∙ same_told_same told in cc,
+                  let yes_same : same_told told right ≡ true =
+                  ap (same_told told) (sym same) ∙ same_told_same told in cc,
             ))
         last right tells (inr (yes_same, g)) = absurd (no_ok _ e g)
 
@@ -213,8 +214,10 @@ module _ (c : Configuration) (prepared : List Acceptance) (ended : Bool) (texts 
             subst Tells same (stops IsNoLine (λ l says. let again = line_again text l says in cc))
         by (Some l) is f = line_wrong l e (line_found text l is) f
 
-  pub lines_wrong : (xs : List ToldSegment) (p : Progress) (rest : List (List ℕ)) (e : SegmentError) → Holds c prepared xs p
-      → flat_map journal_lines texts ≡ map line_words (all_lines xs) ++ rest → pass_lines prepared p rest ≡ Err e → Tells e
+  pub lines_wrong : (xs : List ToldSegment) (p : Progress) (rest : List (List ℕ)) (e : SegmentError)
+      → Holds c prepared xs p
+      → flat_map journal_lines texts ≡ map line_words (all_lines xs) ++ rest → pass_lines prepared p rest ≡ Err e
+      → Tells e
   lines_wrong xs p [] e h stands f = absurd (no_ok p e f)
   lines_wrong xs p (text ∷ rest) e h stands f =
       by (λ ys q k s g. lines_wrong ys q rest e k s g) (pass_text prepared p text) refl f

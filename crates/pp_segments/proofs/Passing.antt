@@ -1,15 +1,13 @@
 -- Lines that an auditor of segments passes, one after the other.
 use Rattle.std.proofs.Common.{◌≡◌, ◌∙◌, ℕ, zero, suc, ◌+◌, ◌<◌, ◌≤◌, get_or, true, false, List, [], ◌∷◌, ◌++◌, length}
-use Rattle.std.proofs.Common.{drop, map, flat_map, Bor, Option, Some, None, codes, ◌==◌}
+use Rattle.std.proofs.Common.{drop, map, flat_map, Bor, Option, Some, None, ◌==◌}
 use Rattle.std.proofs.Common.{Result, Ok, Err, refl, sym, ap, subst, arith}
 use Rattle.std.specs.Prelude.{slice_get, option_map}
 use Rattle.std.specs.List.{range_with_len}
 use Rattle.std.proofs.lemmas.List.{drop_all, length-map}
 use Rattle.std.proofs.lemmas.Option.{slice_get-get_or, slice_get_past}
 use Rattle.std.specs.Option.{ok_or}
-use Rattle.std.specs.Str.{bytes_eq}
 use Rattle.pp_text.specs.Steps.{◌>>=◌, must}
-use Rattle.pp_lines.specs.Parts.{ahead}
 use Rattle.pp_model.specs.declared.moves.Move.{Move}
 use Rattle.pp_model.specs.declared.reply.Reply.{Reply}
 use Rattle.pp_model.specs.Moves.{reply_of, next_of}
@@ -30,7 +28,6 @@ use Rattle.pp_report.specs.Auditing.{is_none, told_reply}
 use Rattle.pp_segments.specs.declared.auditor.SegmentAuditor.{SegmentAuditor}
 use Rattle.pp_segments.specs.declared.error.SegmentError.{SegmentError}
 use Rattle.pp_segments.specs.declared.error.SegmentError.TheVariants.{Audit, NotPrepared}
-use Rattle.pp_segments.specs.Reading.{step_in, line_from}
 use Rattle.pp_segments.specs.Auditing.{Progress, next_line, not_possible, pass_plan, pass_submit, pass_told, pass_step}
 use Rattle.pp_segments.specs.Auditing.{pass_text}
 use Rattle.pp_segments.specs.Auditing.{pass_lines}
@@ -57,8 +54,8 @@ went_on prepared a q lines line rest x e h =
     (r, at, ap (pass_lines prepared q) e ∙ ap (λ o. o >>= λ r. pass_lines prepared r rest) is)
 
 -- A fault ends the audit.
-pub went_wrong : (prepared : List Acceptance) (a : SegmentAuditor) (q : Progress) (lines : List (List ℕ)) (line : List ℕ)
-    (rest : List (List ℕ)) (error : SegmentError) → lines ≡ line ∷ rest
+pub went_wrong : (prepared : List Acceptance) (a : SegmentAuditor) (q : Progress) (lines : List (List ℕ))
+    (line : List ℕ) (rest : List (List ℕ)) (error : SegmentError) → lines ≡ line ∷ rest
     → Passes prepared a (pass_text prepared q line) (Err error) → pass_lines prepared q lines ≡ Err error
 went_wrong prepared a q lines line rest error e h =
     ap (pass_lines prepared q) e
@@ -155,7 +152,8 @@ submit_unnamed prepared p plan name next none =
 
 -- ---- a move
 
-pub stepped_at : (prepared : List Acceptance) (was : SegmentAuditor) (core : Parts) (p : Progress) (did : Move) (reply : Reply)
+pub stepped_at : (prepared : List Acceptance) (was : SegmentAuditor) (core : Parts) (p : Progress) (did : Move)
+    (reply : Reply)
     → IsAt prepared was p → Moves was.core did reply core
     → IsAt prepared (record was { core = core }) (record p { state = next_of p.state did })
 stepped_at prepared was core p did reply at moves =
@@ -200,13 +198,6 @@ told_same prepared a p did told right reply line is e yes_same at number =
     subst (λ r. Passes prepared (record a { lines = line }) r (Ok tt)) (sym right_is)
     (counted prepared a (record p { state = next_of p.state did }) line at number)
 
--- ---- a line by its sides
-
-pub line_default : (text left right : List ℕ) → bytes_eq (ahead 32 left) (codes "segment") ≡ false
-    → bytes_eq (ahead 32 left) (codes "submit") ≡ false → bytes_eq (ahead 32 left) (codes "take") ≡ false
-    → step_in text ≡ line_from text left right
-line_default text left right a b d = rw (a, b, d) refl
-
 -- ---- the end of a text
 
 -- A line's fault is the text's.
@@ -238,7 +229,8 @@ lines_both : (prepared : List Acceptance) (q : Progress) (xs ys : List (List ℕ
 lines_both prepared q [] ys = refl
 lines_both prepared q (x ∷ xs) ys = by (λ r. lines_both prepared r xs ys) (pass_text prepared q x)
   where
-    by : ((r : Progress) → pass_lines prepared r (xs ++ ys) ≡ (pass_lines prepared r xs >>= λ s. pass_lines prepared s ys))
+    by : ((r : Progress) → pass_lines prepared r (xs ++ ys)
+        ≡ (pass_lines prepared r xs >>= λ s. pass_lines prepared s ys))
         → (o : Result Progress SegmentError) → (o >>= λ r. pass_lines prepared r (xs ++ ys))
         ≡ ((o >>= (λ r. pass_lines prepared r xs)) >>= (λ s. pass_lines prepared s ys))
     by more (Ok r) = more r
@@ -288,8 +280,10 @@ text_at [] i d low = absurd (omega (arith, low))
 text_at (t ∷ texts) zero d low = refl
 text_at (t ∷ texts) (suc i) d low =
     let next : suc (i + 1) ≡ suc i + 1 = omega arith in
-    text_at texts i d (omega (arith, low)) ∙ ap (λ n. (get_or texts i d).now ∷ drop n (map (λ t. t.now) (t ∷ texts))) next
+    text_at texts i d (omega (arith, low))
+    ∙ ap (λ n. (get_or texts i d).now ∷ drop n (map (λ t. t.now) (t ∷ texts))) next
 
 pub texts_end : (texts : List (Bor (List ℕ))) (i : ℕ) → length texts ≤ i → lines_at (map (λ t. t.now) texts) i ≡ []
 texts_end texts i past =
-    ap (λ ts. flat_map journal_lines ts) (drop_all i (map (λ t. t.now) texts) (omega (arith, past, length-map texts (λ t. t.now))))
+    ap (λ ts. flat_map journal_lines ts) (drop_all i (map (λ t. t.now) texts)
+    (omega (arith, past, length-map texts (λ t. t.now))))

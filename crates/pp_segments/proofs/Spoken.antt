@@ -1,6 +1,5 @@
 -- What is read of a line is what it says, and what it says is read.
-use Rattle.std.proofs.Common.{◌≡◌, ◌⊎◌, inl, inr, ℕ, ◌<◌, ◌^◌, Bool, true, false, List, ◌∷◌, ◌++◌, Option, Some, None}
-use Rattle.std.proofs.Common.{codes}
+use Rattle.std.proofs.Common.{◌≡◌, ℕ, ◌<◌, ◌^◌, Bool, true, false, List, ◌∷◌, ◌++◌, Option, Some, None, codes}
 use Rattle.std.proofs.Common.{if◌then◌else◌, refl, sym, ap, subst, ◌∙◌, append_assoc}
 use Rattle.std.specs.Prelude.{option_map, option_and_then}
 use Rattle.std.specs.Fmt.{decimal}
@@ -19,18 +18,17 @@ use Rattle.pp_report.specs.declared.line.Asked.{Asked}
 use Rattle.pp_report.specs.declared.line.Asked.TheVariants as asked
 use Rattle.pp_report.specs.declared.line.Told.{Told}
 use Rattle.pp_report.specs.declared.line.Told.TheVariants.{Answer}
-use Rattle.pp_report.specs.declared.line.Line.{Line}
-use Rattle.pp_report.specs.Lines.{told_words, line_words as journal_words, FitsAsked, FitsTold}
-use Rattle.pp_report.specs.Reading.{sides, line_in as journal_line_in}
+use Rattle.pp_report.specs.Lines.{asked_words, told_words, FitsAsked, FitsMove}
+use Rattle.pp_report.specs.Reading.{sides, asked_in, told_in}
 use Rattle.pp_report.proofs.Plain.{no_equals}
 use Rattle.pp_report.proofs.Sides.{sides_again, sides_found}
-use Rattle.pp_report.proofs.Spoken.{line_found as journal_found, line_again as journal_again}
+use Rattle.pp_report.proofs.Spoken.{asked_again, told_again, asked_found, told_found}
 use Rattle.pp_segments.specs.declared.line.SegmentLine.{SegmentLine}
 use Rattle.pp_segments.specs.declared.line.SegmentLine.TheVariants.{Head, Submit, Step}
-use Rattle.pp_segments.specs.Lines.{left_words, right_words, line_words, Says}
-use Rattle.pp_segments.specs.Reading.{head_in, submit_of, submit_in, step_of, step_in, taken_in, take_in, line_from}
-use Rattle.pp_segments.specs.Reading.{line_in}
-use Rattle.pp_segments.proofs.Fitting.{Takes, Other, step_kind, step_fits, left_plain}
+use Rattle.pp_segments.specs.Lines.{left_words, right_words, line_words, FitsAnswered, FitsLine, Says}
+use Rattle.pp_segments.specs.Reading.{head_in, submit_of, submit_in, move_of, move_in, taken_in, answered_in, step_in}
+use Rattle.pp_segments.specs.Reading.{line_from, line_in}
+use Rattle.pp_segments.proofs.Fitting.{answered_by, answered_fits, left_plain}
 
 -- ---- what is spelled is read
 
@@ -39,99 +37,71 @@ head_again n k low low' =
     ap (option_and_then (λ n. option_map (λ k. Head n k) (number_in (decimal k)))) (number_again n low)
     ∙ ap (option_map (λ k. Head n k)) (number_again k low')
 
-submit_again : (k p : ℕ) → k < 2 ^ 64 → p < 2 ^ 32 → submit_of (decimal k ++ codes " " ++ decimal p) ≡ Some (Submit k p)
+submit_again : (k p : ℕ) → k < 2 ^ 64 → p < 2 ^ 32
+    → submit_of (decimal k ++ codes " " ++ decimal p) ≡ Some (Submit k p)
 submit_again k p low low' =
     let text : List ℕ = decimal k ++ (32 ∷ decimal p) in
+    let named : List ℕ → ℕ → Option SegmentLine = λ rest k. option_map (λ p. Submit k p) (small_number rest) in
     ap submit_of (append_assoc (decimal k) (codes " ") (decimal p))
-    ∙ ap (option_and_then (λ k. option_and_then (λ rest. option_map (λ p. Submit k p) (small_number rest)) (behind 32 text)))
+    ∙ ap (option_and_then (λ k. option_and_then (λ rest. named rest k) (behind 32 text)))
     (ap number_in (ahead_at 32 (decimal k) (decimal p) (digits k low)) ∙ number_again k low)
-    ∙ ap (option_and_then (λ rest. option_map (λ p. Submit k p) (small_number rest)))
-    (behind_at 32 (decimal k) (decimal p) (digits k low))
+    ∙ ap (option_and_then (λ rest. named rest k)) (behind_at 32 (decimal k) (decimal p) (digits k low))
     ∙ ap (option_map (λ p. Submit k p)) (small_again p low')
 
-taken_again : (w k : ℕ) → w < 2 ^ 32 → k < 2 ^ 64
-    → taken_in (decimal w) (codes "taken " ++ decimal k) ≡ Some (Step (Take w) (Answer (Taken k)))
-taken_again w k low low' =
-    ap (option_and_then (λ w. option_map (λ k. Step (Take w) (Answer (Taken k))) (number_in (decimal k)))) (small_again w low)
-    ∙ ap (option_map (λ k. Step (Take w) (Answer (Taken k)))) (number_again k low')
+move_again : (did : Move) → FitsMove did → move_in (move_words did) ≡ Some did
+move_again did fits = ap (option_and_then move_of) (asked_again (asked.Do did) fits)
 
-step_again : (text : List ℕ) (did : Move) (told : Told) → Other did told → text ≡ line_words (Step did told)
-    → step_in text ≡ Some (Step did told)
-step_again text did told o e =
-    ap (option_and_then (λ (j : Line). step_of j.asked j.told))
-    (journal_again text (record { asked = asked.Do did; told = told }) ((o.move, o.told_fits), e))
+answered_again : (told : Told) → FitsAnswered told → answered_in (told_words told) ≡ Some told
+answered_again =
+    answered_by (λ told. answered_in (told_words told) ≡ Some told)
+    (λ plan low. ap (option_map (λ plan. Answer (Taken plan))) (number_again plan low))
+    (λ told fits apart.
+    ap (λ b. if b then taken_in (told_words told) else told_in (told_words told)) apart ∙ told_again told fits)
 
--- The word of a move is neither of the other two, and more follows it.
+step_again : (did : Move) (told : Told) → FitsMove did → FitsAnswered told
+    → step_in (move_words did) (told_words told) ≡ Some (Step did told)
+step_again did told fits fits' =
+    ap (option_and_then (λ did. option_map (λ told. Step did told) (answered_in (told_words told))))
+    (move_again did fits)
+    ∙ ap (option_map (λ told. Step did told)) (answered_again told fits')
+
+-- The word of a move is neither of the other two.
 record Moves (did : Move) : Type 0 where
   pub no_head : bytes_eq (ahead 32 (move_words did)) (codes "segment") ≡ false
   pub no_submit : bytes_eq (ahead 32 (move_words did)) (codes "submit") ≡ false
-  pub rest : List ℕ
-  pub follows : behind 32 (move_words did) ≡ Some rest
 
 moves : (did : Move) → Moves did
-moves (Take w) = record { no_head = refl; no_submit = refl; rest = _; follows = refl }
-moves (Fix w p) = record { no_head = refl; no_submit = refl; rest = _; follows = refl }
-moves (WriteDone w ok) = record { no_head = refl; no_submit = refl; rest = _; follows = refl }
-moves (ReadDone w c) = record { no_head = refl; no_submit = refl; rest = _; follows = refl }
-moves (Unfix w) = record { no_head = refl; no_submit = refl; rest = _; follows = refl }
-moves (Latch w) = record { no_head = refl; no_submit = refl; rest = _; follows = refl }
-moves (Unlatch w) = record { no_head = refl; no_submit = refl; rest = _; follows = refl }
-moves (Choose w i) = record { no_head = refl; no_submit = refl; rest = _; follows = refl }
-moves (Unwind w s) = record { no_head = refl; no_submit = refl; rest = _; follows = refl }
-moves (Finish w) = record { no_head = refl; no_submit = refl; rest = _; follows = refl }
-moves (FlushBegin p) = record { no_head = refl; no_submit = refl; rest = _; follows = refl }
-moves (FlushDone ok) = record { no_head = refl; no_submit = refl; rest = _; follows = refl }
+moves (Take w) = record { no_head = refl; no_submit = refl }
+moves (Fix w p) = record { no_head = refl; no_submit = refl }
+moves (WriteDone w ok) = record { no_head = refl; no_submit = refl }
+moves (ReadDone w c) = record { no_head = refl; no_submit = refl }
+moves (Unfix w) = record { no_head = refl; no_submit = refl }
+moves (Latch w) = record { no_head = refl; no_submit = refl }
+moves (Unlatch w) = record { no_head = refl; no_submit = refl }
+moves (Choose w i) = record { no_head = refl; no_submit = refl }
+moves (Unwind w s) = record { no_head = refl; no_submit = refl }
+moves (Finish w) = record { no_head = refl; no_submit = refl }
+moves (FlushBegin p) = record { no_head = refl; no_submit = refl }
+moves (FlushDone ok) = record { no_head = refl; no_submit = refl }
 
-other_again : (text : List ℕ) (did : Move) (told : Told) → Other did told → text ≡ line_words (Step did told)
-    → line_from text (move_words did) (told_words told) ≡ Some (Step did told)
-other_again text did told o e =
-    let m = moves did in
-    ap (λ b. if b then option_and_then (λ rest. head_in rest right) (behind 32 left) else after) m.no_head
-    ∙ ap (λ b. if b then option_and_then (λ rest. submit_in rest right) (behind 32 left) else last) m.no_submit
-    ∙ by m.rest m.follows (bytes_eq (ahead 32 left) (codes "take")) o.apart
-  where
-    left : List ℕ
-    left = move_words did
+-- What begins with neither word is a move and what is told of it.
+pub line_default : (left right : List ℕ) → bytes_eq (ahead 32 left) (codes "segment") ≡ false
+    → bytes_eq (ahead 32 left) (codes "submit") ≡ false → step_in left right ≡ line_from left right
+line_default left right a b = rw (a, b) refl
 
-    right : List ℕ
-    right = told_words told
-
-    last : Option SegmentLine
-    last =
-        if bytes_eq (ahead 32 left) (codes "take") then option_and_then (λ rest. take_in text rest right) (behind 32 left)
-        else step_in text
-
-    after : Option SegmentLine
-    after =
-        if bytes_eq (ahead 32 left) (codes "submit") then option_and_then (λ rest. submit_in rest right) (behind 32 left)
-        else last
-
-    by : (rest : List ℕ) → behind 32 left ≡ Some rest → (b : Bool)
-        → (b ≡ true → bytes_eq (ahead 32 right) (codes "taken") ≡ false)
-        → (if b then option_and_then (λ rest. take_in text rest right) (behind 32 left) else step_in text)
-        ≡ Some (Step did told)
-    by rest follows false apart = step_again text did told o e
-    by rest follows true apart =
-        ap (option_and_then (λ rest. take_in text rest right)) follows
-        ∙ ap (λ b. if b then taken_in rest right else step_in text) (apart refl)
-        ∙ step_again text did told o e
-
-from_again : (text : List ℕ) (l : SegmentLine) → Says text l → line_from text (left_words l) (right_words l) ≡ Some l
-from_again text (Head n k) (h, e) = head_again n k h.0 h.1
-from_again text (Submit k p) (h, e) = submit_again k p h.0 h.1
-from_again text (Step did told) (h, e) = by did told (step_kind did told h) e
-  where
-    by : (did : Move) (told : Told) → Takes did told ⊎ Other did told → text ≡ line_words (Step did told)
-        → line_from text (move_words did) (told_words told) ≡ Some (Step did told)
-    by did told (inl t) e = rw (t.did_is, t.told_is) (taken_again t.worker t.plan t.small t.wide)
-    by did told (inr o) e = other_again text did told o e
+from_again : (l : SegmentLine) → FitsLine l → line_from (left_words l) (right_words l) ≡ Some l
+from_again (Head n k) h = head_again n k h.0 h.1
+from_again (Submit k p) h = submit_again k p h.0 h.1
+from_again (Step did told) h =
+    sym (line_default (move_words did) (told_words told) (moves did).no_head (moves did).no_submit)
+    ∙ step_again did told h.0 h.1
 
 pub line_again : (text : List ℕ) (l : SegmentLine) → Says text l → line_in text ≡ Some l
 line_again text l (h, e) =
-    ap (option_and_then (λ (p : List ℕ × List ℕ). line_from text p.0 p.1))
+    ap (option_and_then (λ (p : List ℕ × List ℕ). line_from p.0 p.1))
     (ap sides (e ∙ append_assoc (left_words l) (codes " = ") (right_words l))
     ∙ sides_again (left_words l) (right_words l) (no_equals (left_words l) (left_plain l h)))
-    ∙ from_again text l (h, e)
+    ∙ from_again l h
 
 -- ---- what is read is spelled
 
@@ -141,12 +111,12 @@ mapped None f y e = absurd cc
 mapped (Some x) f y e = (x, refl, cc)
 
 -- an arm of a choice by words: it is taken, or one of those after it
-arm : (P : SegmentLine → Type 0) (word key : List ℕ) (here there : Option SegmentLine) (l : SegmentLine)
-    → (if bytes_eq word key then here else there) ≡ Some l → (word ≡ key → here ≡ Some l → P l)
-    → (there ≡ Some l → P l) → P l
-arm P word key here there l e now later = by (bytes_eq word key) (bytes_eq-Decides word key).0 e
+arm : {B : Type 0} (P : B → Type 0) (word key : List ℕ) (here there : Option B) (y : B)
+    → (if bytes_eq word key then here else there) ≡ Some y → (word ≡ key → here ≡ Some y → P y)
+    → (there ≡ Some y → P y) → P y
+arm P word key here there y e now later = by (bytes_eq word key) (bytes_eq-Decides word key).0 e
   where
-    by : (b : Bool) → (b ≡ true → word ≡ key) → (if b then here else there) ≡ Some l → P l
+    by : (b : Bool) → (b ≡ true → word ≡ key) → (if b then here else there) ≡ Some y → P y
     by true is e = now (is refl) e
     by false is e = later e
 
@@ -163,17 +133,28 @@ whole text left right l parted e f =
     ∙ ap (λ ys. left_words l ++ (codes " = " ++ ys)) f
     ∙ sym (append_assoc (left_words l) (codes " = ") (right_words l))
 
-step_found : (text : List ℕ) (l : SegmentLine) → step_in text ≡ Some l → Says text l
-step_found text l e =
-    let (j, is, f) = then_some (journal_line_in text) (λ (j : Line). step_of j.asked j.told) l e in
-    let (fits, words) = journal_found text j is in
-    by j.asked j.told fits.0 fits.1 words f
+move_found : (text : List ℕ) (did : Move) → move_in text ≡ Some did → FitsMove did × (text ≡ move_words did)
+move_found text did e =
+    let (a, is, f) = then_some (asked_in text) move_of did e in
+    let (fits, words) = asked_found text a is in by a fits words f
   where
-    by : (a : Asked) (t : Told) → FitsAsked a → FitsTold t → text ≡ journal_words (record { asked = a; told = t })
-        → step_of a t ≡ Some l → Says text l
-    by (asked.Submit k) t fits fits' words f = absurd cc
-    by (asked.Do did) t fits fits' words f =
-        let same : Step did t ≡ l = cc in subst (Says text) same (step_fits did t fits fits', words)
+    by : (a : Asked) → FitsAsked a → text ≡ asked_words a → move_of a ≡ Some did
+        → FitsMove did × (text ≡ move_words did)
+    by (asked.Submit k) fits words f = absurd cc
+    by (asked.Do d) fits words f =
+        let same : d ≡ did = cc in subst (λ m. FitsMove m × (text ≡ move_words m)) same (fits, words)
+
+answered_found : (text : List ℕ) (told : Told) → answered_in text ≡ Some told
+    → FitsAnswered told × (text ≡ told_words told)
+answered_found text told e =
+    let P : Told → Type 0 = λ t. FitsAnswered t × (text ≡ told_words t) in
+    arm P (ahead 32 text) (codes "taken") (taken_in text) (told_in text) told e (λ taken f.
+    let (rest, is, g) =
+    then_some (behind 32 text) (λ rest. option_map (λ plan. Answer (Taken plan)) (number_in rest)) told f in
+    let (plan, number, same) = mapped (number_in rest) (λ plan. Answer (Taken plan)) told g in
+    let (a, low) = number_found rest plan number in
+    subst P same (low, led text (codes "taken") rest (decimal plan) is taken a)) (λ f.
+    let (fits, words) = told_found text told f in (answered_fits told fits, words))
 
 module _ (text left right : List ℕ) (parted : sides text ≡ Some (left, right)) (l : SegmentLine) where
   head_found : ahead 32 left ≡ codes "segment" → option_and_then (λ rest. head_in rest right) (behind 32 left) ≡ Some l
@@ -187,8 +168,8 @@ module _ (text left right : List ℕ) (parted : sides text ≡ Some (left, right
       subst (Says text) same
       ((low, low'), whole text left right (Head n k) parted (led left (codes "segment") rest (decimal n) is first a) b)
 
-  submit_found : ahead 32 left ≡ codes "submit" → option_and_then (λ rest. submit_in rest right) (behind 32 left) ≡ Some l
-      → Says text l
+  submit_found : ahead 32 left ≡ codes "submit"
+      → option_and_then (λ rest. submit_in rest right) (behind 32 left) ≡ Some l → Says text l
   submit_found first e =
       let (rest, is, f) = then_some (behind 32 left) (λ rest. submit_in rest right) l e in
       arm (Says text) right (codes "queued") (submit_of rest) None l f (λ queued f.
@@ -208,37 +189,23 @@ module _ (text left right : List ℕ) (parted : sides text ≡ Some (left, right
             (led left (codes "submit") rest (decimal k ++ codes " " ++ decimal p) is first numbers) queued,
       )) (λ f. absurd cc)
 
-  take_found : ahead 32 left ≡ codes "take" → option_and_then (λ rest. take_in text rest right) (behind 32 left) ≡ Some l
-      → Says text l
-  take_found first e =
-      let (rest, is, f) = then_some (behind 32 left) (λ rest. take_in text rest right) l e in
-      arm (Says text) (ahead 32 right) (codes "taken") (taken_in rest right) (step_in text) l f (λ taken f.
-      let (w, worker, g) =
-      then_some (small_number rest)
-      (λ w. option_and_then (λ more. option_map (λ k. Step (Take w) (Answer (Taken k))) (number_in more)) (behind 32 right))
-      l f in
-      let (more, parts, h) =
-      then_some (behind 32 right) (λ more. option_map (λ k. Step (Take w) (Answer (Taken k))) (number_in more)) l g in
-      let (k, plan, same) = mapped (number_in more) (λ k. Step (Take w) (Answer (Taken k))) l h in
-      let (a, low) = small_found rest w worker in
-      let (b, low') = number_found more k plan in
-      subst (Says text) same (
-        (low, low'),
-        whole text left right (Step (Take w) (Answer (Taken k))) parted
-            (led left (codes "take") rest (decimal w) is first a)
-            (led right (codes "taken") more (decimal k) parts taken b),
-      )) (step_found text l)
+  step_found : step_in left right ≡ Some l → Says text l
+  step_found e =
+      let (did, asks, f) =
+      then_some (move_in left) (λ did. option_map (λ told. Step did told) (answered_in right)) l e in
+      let (told, tells, same) = mapped (answered_in right) (λ told. Step did told) l f in
+      let (fits, a) = move_found left did asks in
+      let (fits', b) = answered_found right told tells in
+      subst (Says text) same ((fits, fits'), whole text left right (Step did told) parted a b)
 
-  pub from_found : line_from text left right ≡ Some l → Says text l
+  pub from_found : line_from left right ≡ Some l → Says text l
   from_found e =
-      arm (Says text) (ahead 32 left) (codes "segment") (option_and_then (λ rest. head_in rest right) (behind 32 left)) _ l e
-      head_found (λ e.
-      arm (Says text) (ahead 32 left) (codes "submit") (option_and_then (λ rest. submit_in rest right) (behind 32 left)) _ l e
-      submit_found (λ e.
-      arm (Says text) (ahead 32 left) (codes "take") (option_and_then (λ rest. take_in text rest right) (behind 32 left))
-      (step_in text) l e take_found (step_found text l)))
+      let head : Option SegmentLine = option_and_then (λ rest. head_in rest right) (behind 32 left) in
+      let submit : Option SegmentLine = option_and_then (λ rest. submit_in rest right) (behind 32 left) in
+      arm (Says text) (ahead 32 left) (codes "segment") head _ l e head_found (λ e.
+      arm (Says text) (ahead 32 left) (codes "submit") submit (step_in left right) l e submit_found step_found)
 
 pub line_found : (text : List ℕ) (l : SegmentLine) → line_in text ≡ Some l → Says text l
 line_found text l e =
-    let (p, parted, f) = then_some (sides text) (λ (p : List ℕ × List ℕ). line_from text p.0 p.1) l e in
+    let (p, parted, f) = then_some (sides text) (λ (p : List ℕ × List ℕ). line_from p.0 p.1) l e in
     from_found text p.0 p.1 parted l f

@@ -28,7 +28,8 @@ unfolding parts_from
 all_written n k [] = refl
 all_written n k (x ∷ xs) = ap (λ ls. segment_lines n k x ++ ls) (all_written (n + 1) (k + length x.prepared) xs)
 
-pub written_audited : (c : Configuration) (prepared : List Acceptance) (ended : Bool) (told : List ToldSegment) (s : State)
+pub written_audited : (c : Configuration) (prepared : List Acceptance) (ended : Bool) (told : List ToldSegment)
+    (s : State)
     → begin_fault c prepared ≡ None → AreTrueSegments c prepared told s → AllByRecursion FitsLine (all_lines told)
     → EndsSo ended s
     → IsAuditedSegments c prepared ended (texts_from 0 0 told) (told_count (length (all_lines told)))

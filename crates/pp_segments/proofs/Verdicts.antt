@@ -96,7 +96,8 @@ no_segment n some none = let no : nat_lt 0 n ≡ false = ap (nat_lt 0) none in c
 
 module _ (c : Configuration) (prepared : List Acceptance) where
   -- As many plans were submitted as are named.
-  as_many : (xs : List ToldSegment) (s : State) → AreTrueSegments c prepared xs s → length (all_names xs) ≡ length s.plans
+  as_many : (xs : List ToldSegment) (s : State) → AreTrueSegments c prepared xs s
+      → length (all_names xs) ≡ length s.plans
   as_many xs s h =
       sym (length-map (all_names xs) (slice_get prepared)) ∙ ap length h.plans ∙ length-map s.plans Some
 
@@ -130,8 +131,8 @@ module _ (c : Configuration) (prepared : List Acceptance) where
       }
 
   -- An event more in the last segment.
-  event_more : (x : ToldSegment) (xs : List ToldSegment) (p : Progress) (s : State) (e : Event) (ns : List ℕ) (l : SegmentLine)
-      (text : List ℕ) → Holds c prepared (x ∷ xs) p → Says text l → event_lines (e ∷ []) ns ≡ l ∷ []
+  event_more : (x : ToldSegment) (xs : List ToldSegment) (p : Progress) (s : State) (e : Event) (ns : List ℕ)
+      (l : SegmentLine) (text : List ℕ) → Holds c prepared (x ∷ xs) p → Says text l → event_lines (e ∷ []) ns ≡ l ∷ []
       → length ns ≡ submits (e ∷ []) → IsJournalFrom (opening (kept_of c)) s (all_events (x ∷ xs) ++ (e ∷ []))
       → map (slice_get prepared) (all_names (x ∷ xs) ++ ns) ≡ map Some s.plans
       → Next c prepared (x ∷ xs) (record { state = s; lines = p.lines + 1; segments = p.segments }) text
@@ -188,18 +189,21 @@ module _ (c : Configuration) (prepared : List Acceptance) where
       → Next c prepared (x ∷ xs) q text
   step_passed x xs p q did told text h says e =
       let reply : Reply = reply_of p.state did in
-      let (right, f, g) = bind_ok (ok_or (told_reply reply) (not_possible p (asked.Do did))) (pass_told p did told) q e in
+      let (right, f, g) = bind_ok (ok_or (told_reply reply) (not_possible p (asked.Do did)))
+      (pass_told p did told) q e in
       let (u, i, j) = bind_ok (must (same_told told right) (Audit (ReplyDiffers (next_line p) told right)))
       (λ passed. Ok (record p { state = next_of p.state did; lines = p.lines + 1 })) q g in
       let (can, right_is) = told_given reply right (ok_or_ok _ _ right f) in
       let told_is : told ≡ Answer reply = same_told_is told right (must_ok _ _ u i) ∙ right_is in
       let names : List ℕ = all_names (x ∷ xs) in
-      subst (λ r. Next c prepared (x ∷ xs) r text) (ok_is (record p { state = next_of p.state did; lines = p.lines + 1 }) q j)
+      subst (λ r. Next c prepared (x ∷ xs) r text)
+      (ok_is (record p { state = next_of p.state did; lines = p.lines + 1 }) q j)
       (event_more x xs p (next_of p.state did) (event.Step did reply) [] (Step did told) text h says
       (ap (λ t. Step did t ∷ []) (sym told_is))
       (sym (count_step (event.Step did reply) [] refl))
       (step_told p.state (opening (kept_of c)) (all_events (x ∷ xs)) did h.are_true.is_true can)
-      (ap (map (slice_get prepared)) (append-nil names) ∙ h.are_true.plans ∙ ap (map Some) (sym (same_plans p.state did))))
+      (ap (map (slice_get prepared)) (append-nil names) ∙ h.are_true.plans
+      ∙ ap (map Some) (sym (same_plans p.state did))))
 
   line_passed : (xs : List ToldSegment) (p q : Progress) (l : SegmentLine) (text : List ℕ) → Holds c prepared xs p
       → Says text l → pass prepared p l ≡ Ok q → Next c prepared xs q text

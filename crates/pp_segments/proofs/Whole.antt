@@ -62,7 +62,8 @@ fault_ok None x e = refl
 fault_ok (Some error) x e = absurd cc
 
 begin_told : (g : Geometry) (span : Span) (prepared : List Acceptance) (P : SegmentError → Type 0)
-    → (span ≡ Bounded → P OtherLife) → ((x : PrepareError) → span_fault g span prepared ≡ Some (Prepare x) → P (Prepare x))
+    → (span ≡ Bounded → P OtherLife)
+    → ((x : PrepareError) → span_fault g span prepared ≡ Some (Prepare x) → P (Prepare x))
     → (e : SegmentError) → span_fault g span prepared ≡ Some e → P e
 begin_told g Bounded prepared P life prep e f =
     let same : OtherLife ≡ e = cc in subst P same (life refl)
@@ -106,11 +107,13 @@ module _ (c : Configuration) (prepared : List Acceptance) (ended : Bool) (texts 
             ∙ ap told_count s.holds.segments;
       }
 
-  pub audited_again : (n m : ℕ) → IsAuditedSegments c prepared ended texts n m → auditing c prepared ended texts ≡ Ok (n, m)
+  pub audited_again : (n m : ℕ) → IsAuditedSegments c prepared ended texts n m
+      → auditing c prepared ended texts ≡ Ok (n, m)
   audited_again n m h =
       let lines : lines_of_texts ≡ map line_words (all_lines h.told) =
       each_lines texts h.spelled.parts h.spelled.each ∙ ap (map line_words) h.spelled.whole in
-      let w = segments_again prepared h.state.plans (outset c) 0 0 h.told refl refl h.are_true.is_true.is_true h.are_true.named
+      let w = segments_again prepared h.state.plans (outset c) 0 0 h.told refl refl h.are_true.is_true.is_true
+      h.are_true.named
       h.are_true.plans
       (subst (AllByRecursion FitsLine) h.spelled.whole (each_fits texts h.spelled.parts h.spelled.each)) in
       let there : w.to.state ≡ h.state = w.state_is ∙ h.are_true.is_true.leads_here in
@@ -119,7 +122,8 @@ module _ (c : Configuration) (prepared : List Acceptance) (ended : Bool) (texts 
       let many : w.to.lines ≡ length (all_lines h.told) = omega (arith, w_lines) in
       let heads : w.to.segments ≡ length h.told = omega (arith, w_segments) in
       let ends : EndsSo ended w.to.state = λ e. ap next_turn there ∙ h.ends e in
-      ap (λ o. no_fault o >>= λ begun. pass_lines prepared (outset c) lines_of_texts >>= see_end ended >>= λ p. Ok (counts_of p))
+      ap (λ o. no_fault o >>= λ begun. pass_lines prepared (outset c) lines_of_texts
+      >>= see_end ended >>= λ p. Ok (counts_of p))
       h.begins
       ∙ ap (λ ls. pass_lines prepared (outset c) ls >>= see_end ended >>= λ p. Ok (counts_of p)) lines
       ∙ ap (λ r. r >>= see_end ended >>= λ p. Ok (counts_of p)) w.passes
@@ -162,12 +166,14 @@ module _ (c : Configuration) (prepared : List Acceptance) (ended : Bool) (texts 
           (is ∙ ap (λ x. Err x) same)
 
       begin : (o : Option SegmentError) → begin_fault c prepared ≡ o
-          → (no_fault o >>= λ begun. pass_lines prepared (outset c) lines_of_texts >>= see_end ended >>= λ p. Ok (counts_of p))
+          → (no_fault o >>= λ begun. pass_lines prepared (outset c) lines_of_texts
+          >>= see_end ended >>= λ p. Ok (counts_of p))
           ≡ Err e → TellsFault c prepared ended texts e
       begin None is f = lines is (pass_lines prepared (outset c) lines_of_texts) refl f
       begin (Some d) is f =
           let same : d ≡ e = cc in
-          begin_told (kept_of c).layout c.span prepared (TellsFault c prepared ended texts) (λ life. life) (λ x prep. prep) e
+          begin_told (kept_of c).layout c.span prepared (TellsFault c prepared ended texts)
+          (λ life. life) (λ x prep. prep) e
           (is ∙ ap Some same)
 
   -- What is accepted are the segments of a true journal.
@@ -179,7 +185,8 @@ module _ (c : Configuration) (prepared : List Acceptance) (ended : Bool) (texts 
 
   -- Such segments are accepted.
   pub verdict_only : (r : Result AuditedSegments SegmentError) (n m : ℕ)
-      → Gives is_segment_memory counts r (auditing c prepared ended texts) → IsAuditedSegments c prepared ended texts n m
+      → Gives is_segment_memory counts r (auditing c prepared ended texts)
+      → IsAuditedSegments c prepared ended texts n m
       → Gives is_segment_memory counts r (Ok (n, m))
   verdict_only r n m gives h =
       subst (λ (x : Result (ℕ × ℕ) SegmentError). Gives is_segment_memory counts r x) (audited_again n m h) gives
@@ -214,7 +221,8 @@ comes_to c prepared ended texts p lines segments begins passes over a b =
     (see_end_again ended p (λ e. none_is (next_turn p.state) (over e)))
     ∙ (λ i. Ok (sym a i, sym b i))
 
-pub stops_with : (c : Configuration) (prepared : List Acceptance) (ended : Bool) (texts : List (List ℕ)) (e : SegmentError)
+pub stops_with : (c : Configuration) (prepared : List Acceptance) (ended : Bool) (texts : List (List ℕ))
+    (e : SegmentError)
     → begin_fault c prepared ≡ None → pass_lines prepared (outset c) (flat_map journal_lines texts) ≡ Err e
     → auditing c prepared ended texts ≡ Err e
 stops_with c prepared ended texts e begins fails =
@@ -222,12 +230,14 @@ stops_with c prepared ended texts e begins fails =
     >>= λ p. Ok (counts_of p)) begins
     ∙ ap (λ r. r >>= see_end ended >>= λ p. Ok (counts_of p)) fails
 
-pub begins_with : (c : Configuration) (prepared : List Acceptance) (ended : Bool) (texts : List (List ℕ)) (e : SegmentError)
+pub begins_with : (c : Configuration) (prepared : List Acceptance) (ended : Bool) (texts : List (List ℕ))
+    (e : SegmentError)
     → Refuses (is_segment_memory e) e (no_fault (begin_fault c prepared))
     → Refuses (is_segment_memory e) e (auditing c prepared ended texts)
 begins_with c prepared ended texts e h =
     refuses_then (is_segment_memory e) e (no_fault (begin_fault c prepared))
-    (λ begun. pass_lines prepared (outset c) (flat_map journal_lines texts) >>= see_end ended >>= λ p. Ok (counts_of p)) h
+    (λ begun. pass_lines prepared (outset c) (flat_map journal_lines texts)
+    >>= see_end ended >>= λ p. Ok (counts_of p)) h
 
 -- A fault of these texts isn't want of memory, and is told.
 pub gives_err : {X : Type 0} (view : X → ℕ × ℕ) (e : SegmentError) (w : Result (ℕ × ℕ) SegmentError) → w ≡ Err e

@@ -49,8 +49,8 @@ pub record AreTrueSegments (c : Configuration) (prepared : List Acceptance) (xs 
 abbrev pub EndsSo : (ended : Bool) → State → Type 0
 EndsSo ended t = ended ≡ true → next_turn t ≡ None
 
--- The texts are true segments with so many lines, and so many of them; at the end nothing is left to do, where that
--- is wanted. A pool with these settings prepares these plans.
+-- The texts are those of so many true segments, with so many lines, of a pool that has these settings and prepares
+-- these plans. Where an end is wanted, nothing is left to do behind them.
 pub record IsAuditedSegments (c : Configuration) (prepared : List Acceptance) (ended : Bool) (texts : List (List ℕ))
     (lines segments : ℕ) : Type 0 where
   pub begins : begin_fault c prepared ≡ None

@@ -1,9 +1,7 @@
 -- How a line of a segment is spelled: `segment 1 = 2`, `submit 2 0 = queued`, `fix 0 16 = mustread 1`.
 use Rattle.std.specs.Prelude.{◌≡◌, ℕ, ◌<◌, ◌^◌, List, ◌++◌, codes}
 use Rattle.std.specs.Fmt.{decimal}
-use Rattle.pp_model.specs.declared.moves.Move.{Move}
-use Rattle.pp_model.specs.declared.moves.Move.TheVariants as move
-use Rattle.pp_model.specs.declared.reply.Reply.TheVariants as reply
+use Rattle.pp_model.specs.declared.reply.Reply.TheVariants.{Taken}
 use Rattle.pp_model.specs.Words.{move_words}
 use Rattle.pp_report.specs.declared.line.Told.{Told}
 use Rattle.pp_report.specs.declared.line.Told.TheVariants.{Answer}
@@ -32,18 +30,17 @@ line_words l = left_words l ++ codes " = " ++ right_words l
 
 -- ---- which numbers a line may have
 
--- Of a move and what is told they are those of a journal's line, but for the number of a plan that a take is told: an
--- endless life takes more than 2^32 plans in. A true line of another move tells no plan; there the number has 32 bits,
--- as in a journal.
-abbrev pub FitsStep : Move → Told → Type 0
-FitsStep (move.Take w) (Answer (reply.Taken plan)) = (w < 2 ^ 32) × (plan < 2 ^ 64)
-FitsStep did told = FitsMove did × FitsTold told
+-- What a move is told fits as in a journal, but that a plan's number is below 2^64: an endless life needs so many.
+abbrev pub FitsAnswered : Told → Type 0
+FitsAnswered (Answer (Taken plan)) = plan < 2 ^ 64
+FitsAnswered told = FitsTold told
 
--- Numbers of segments and of plans have 64 bits, those of prepared plans 32.
+-- Numbers of segments and of plans have 64 bits wherever they stand, those of prepared plans 32, and all others as many
+-- as in a journal.
 abbrev pub FitsLine : SegmentLine → Type 0
 FitsLine (Head segment plans_before) = (segment < 2 ^ 64) × (plans_before < 2 ^ 64)
 FitsLine (Submit plan prepared) = (plan < 2 ^ 64) × (prepared < 2 ^ 32)
-FitsLine (Step did told) = FitsStep did told
+FitsLine (Step did told) = FitsMove did × FitsAnswered told
 
 -- The text of a line says this: it is its words, and nothing else.
 abbrev pub Says : List ℕ → SegmentLine → Type 0

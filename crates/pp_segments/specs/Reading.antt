@@ -3,13 +3,13 @@ use Rattle.std.specs.Prelude.{ℕ, List, Option, Some, None, if◌then◌else◌
 use Rattle.std.specs.Str.{bytes_eq}
 use Rattle.pp_lines.specs.Parts.{ahead, behind}
 use Rattle.pp_lines.specs.Numbers.{number_in, small_number}
-use Rattle.pp_model.specs.declared.moves.Move.TheVariants.{Take}
+use Rattle.pp_model.specs.declared.moves.Move.{Move}
 use Rattle.pp_model.specs.declared.reply.Reply.TheVariants.{Taken}
 use Rattle.pp_report.specs.declared.line.Asked.{Asked}
 use Rattle.pp_report.specs.declared.line.Asked.TheVariants as asked
 use Rattle.pp_report.specs.declared.line.Told.{Told}
 use Rattle.pp_report.specs.declared.line.Told.TheVariants.{Answer}
-use Rattle.pp_report.specs.Reading.{sides, line_in as journal_line_in}
+use Rattle.pp_report.specs.Reading.{sides, asked_in, told_in}
 use Rattle.pp_segments.specs.declared.line.SegmentLine.{SegmentLine}
 use Rattle.pp_segments.specs.declared.line.SegmentLine.TheVariants.{Head, Submit, Step}
 
@@ -28,35 +28,36 @@ submit_of numbers =
 abbrev pub submit_in : List ℕ → List ℕ → Option SegmentLine
 submit_in numbers told = if bytes_eq told (codes "queued") then submit_of numbers else None
 
--- What a journal asks and tells, where it is a move.
-abbrev pub step_of : Asked → Told → Option SegmentLine
-step_of (asked.Submit plan) told = None
-step_of (asked.Do did) told = Some (Step did told)
+-- What is asked in a journal, where it is a move.
+abbrev pub move_of : Asked → Option Move
+move_of (asked.Submit plan) = None
+move_of (asked.Do did) = Some did
 
--- The line of a journal, where it has a move.
-abbrev pub step_in : List ℕ → Option SegmentLine
-step_in text = option_and_then (λ l. step_of l.asked l.told) (journal_line_in text)
+-- The move that the text asks, in the words of a journal.
+abbrev pub move_in : List ℕ → Option Move
+move_in text = option_and_then move_of (asked_in text)
 
--- The take of the worker that has this number, where a plan's number is told, which has 64 bits here.
-abbrev pub taken_in : List ℕ → List ℕ → Option SegmentLine
-taken_in worker told =
-    option_and_then (λ w. option_and_then (λ rest. option_map (λ k. Step (Take w) (Answer (Taken k))) (number_in rest))
-    (behind 32 told)) (small_number worker)
+-- The plan of a number of 64 bits that stands behind a word.
+abbrev pub taken_in : List ℕ → Option Told
+taken_in text = option_and_then (λ rest. option_map (λ plan. Answer (Taken plan)) (number_in rest)) (behind 32 text)
 
--- That take, or the line of a journal where something else is told.
-abbrev pub take_in : (text worker told : List ℕ) → Option SegmentLine
-take_in text worker told = if bytes_eq (ahead 32 told) (codes "taken") then taken_in worker told else step_in text
+-- What the text tells of a move: such a plan, or anything else in the words of a journal.
+abbrev pub answered_in : List ℕ → Option Told
+answered_in text = if bytes_eq (ahead 32 text) (codes "taken") then taken_in text else told_in text
+
+-- The move and what is told of it.
+abbrev pub step_in : (left right : List ℕ) → Option SegmentLine
+step_in left right =
+    option_and_then (λ did. option_map (λ told. Step did told) (answered_in right)) (move_in left)
 
 -- What a text says that has these sides.
-abbrev pub line_from : (text left right : List ℕ) → Option SegmentLine
-line_from text left right =
+abbrev pub line_from : (left right : List ℕ) → Option SegmentLine
+line_from left right =
     if bytes_eq (ahead 32 left) (codes "segment") then option_and_then (λ rest. head_in rest right) (behind 32 left)
     else (if bytes_eq (ahead 32 left) (codes "submit")
     then option_and_then (λ rest. submit_in rest right) (behind 32 left)
-    else (if bytes_eq (ahead 32 left) (codes "take")
-    then option_and_then (λ rest. take_in text rest right) (behind 32 left)
-    else step_in text))
+    else step_in left right)
 
 -- What the line says, if it is one of a segment.
 abbrev pub line_in : List ℕ → Option SegmentLine
-line_in text = option_and_then (λ p. line_from text p.0 p.1) (sides text)
+line_in text = option_and_then (λ p. line_from p.0 p.1) (sides text)

@@ -22,7 +22,7 @@ abbrev pub is_submit : Event → Bool
 is_submit (event.Submit plan) = true
 is_submit (event.Step did reply) = false
 
--- There are as many names as submits: each submit has its own, and none is left over.
+-- It has as many names of prepared plans as submits, one for each.
 abbrev pub IsNamed : ToldSegment → Type 0
 IsNamed x = length x.prepared ≡ count_by is_submit x.events
 

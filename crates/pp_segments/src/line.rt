@@ -49,9 +49,10 @@ impl SegmentLine {
     /// None where the text isn't exactly the words of one: other words, numbers out of their ranges or with leading
     /// zeros, and refusals are no line, and neither is the `submit` of a journal, which names no prepared plan.
     ///
-    /// Whether a move and what is told of it go together isn't asked of a move: `fix 0 1 = did` is a line. But the
-    /// number of a plan that is told has 64 bits only behind a `take`, and 32 behind any other move. And a `submit`
-    /// has one reply: with any but `queued` it is no line.
+    /// The number of a plan is below 2^64 wherever it stands.
+    ///
+    /// Whether a move and what is told of it go together isn't asked: `fix 0 1 = did` is a line. But a `submit` has
+    /// one reply: with any but `queued` it is no line.
     pub fn from_text(text: &str) -> Option<SegmentLine>
         // What is read is spelled so.
         ensures found { IfSome result (Says text.now) }

@@ -2,12 +2,12 @@
 
 ghost use Rattle.std.specs.Prelude.{◌≡◌, option_map};
 ghost use Rattle.pp_report.specs.Reading.{sides};
-ghost use Rattle.pp_segments.specs.Reading.{head_in, submit_in, step_of, step_in, take_in, line_from, line_in};
+ghost use Rattle.pp_segments.specs.Reading.{head_in, submit_in, move_in, answered_in, step_in, line_from, line_in};
 
 use crate::line::SegmentLine;
 use pp_lines::{cut, number, small_number};
 use pp_model::{Move, Reply};
-use pp_report::{Asked, Line, Told};
+use pp_report::{Asked, Told};
 
 /// What stands before the first equals sign between spaces, and what follows it.
 fn sides(text: &str) -> Option<(&str, &str)>
@@ -40,47 +40,48 @@ fn submit_in(numbers: &str, told: &str) -> Option<SegmentLine>
     })
 }
 
-/// The line of a journal, where it has a move.
-fn step_in(text: &str) -> Option<SegmentLine>
-    ensures { result ≡ step_in text.now }
+/// The move that the text asks.
+fn move_in(text: &str) -> Option<Move>
+    ensures { result ≡ move_in text.now }
 {
-    let line = Line::from_text(text)?;
-    match line.asked {
-        Asked::Do(did) => Some(SegmentLine::Step {
-            did,
-            told: line.told,
-        }),
+    let asked = Asked::from_text(text)?;
+    match asked {
+        Asked::Do(did) => Some(did),
         Asked::Submit { .. } => None,
     }
 }
 
-/// The take of the worker that has this number: of a plan whose number is told, which has 64 bits here, or as a
-/// journal has it.
-fn take_in(text: &str, worker: &str, told: &str) -> Option<SegmentLine>
-    ensures { result ≡ take_in text.now worker.now told.now }
+/// What the text tells of a move. The number of a plan has 64 bits here, and in a journal 32.
+fn answered_in(text: &str) -> Option<Told>
+    ensures { result ≡ answered_in text.now }
 {
-    let (word, plan) = cut(told, ' ');
+    let (word, plan) = cut(text, ' ');
     if word != "taken" {
-        return step_in(text);
+        return Told::from_text(text);
     }
-    let worker = small_number(worker)?;
     let plan = number(plan?)?;
+    Some(Told::Answer(Reply::Taken { plan }))
+}
+
+/// The move and what is told of it.
+fn step_in(asked: &str, told: &str) -> Option<SegmentLine>
+    ensures { result ≡ step_in asked.now told.now }
+{
     Some(SegmentLine::Step {
-        did: Move::Take { worker },
-        told: Told::Answer(Reply::Taken { plan }),
+        did: move_in(asked)?,
+        told: answered_in(told)?,
     })
 }
 
-/// What the text says, of which these are the two sides.
-fn line_from(text: &str, asked: &str, told: &str) -> Option<SegmentLine>
-    ensures { result ≡ line_from text.now asked.now told.now }
+/// What a line says that has these two sides.
+fn line_from(asked: &str, told: &str) -> Option<SegmentLine>
+    ensures { result ≡ line_from asked.now told.now }
 {
     let (word, rest) = cut(asked, ' ');
     match word {
         "segment" => head_in(rest?, told),
         "submit" => submit_in(rest?, told),
-        "take" => take_in(text, rest?, told),
-        _ => step_in(text),
+        _ => step_in(asked, told),
     }
 }
 
@@ -89,5 +90,5 @@ pub(crate) fn line_in(text: &str) -> Option<SegmentLine>
     ensures { result ≡ line_in text.now }
 {
     let (asked, told) = sides(text)?;
-    line_from(text, asked, told)
+    line_from(asked, told)
 }

@@ -22,7 +22,8 @@ loop-plan-preserved c =
       does.stands _ was.2,
       was.3,
       plans_more old new c.in-Some.plan c.in-Ok.place rest _ _ does step was.4,
-      place_more c.loop-plan.places.items _ old new c.in-Some.plan c.in-Ok.place was.5 does c.in_ok-push-in-Ok.ensures.items,
+      place_more c.loop-plan.places.items _ old new c.in-Some.plan c.in-Ok.place was.5 does
+          c.in_ok-push-in-Ok.ensures.items,
       was.6 ∙ ap (prepare_fault k.layout k.span (length old.plans)) step
           ∙ prepared_next old new c.in-Some.plan c.in-Ok.place k.layout k.span rest does was.2.layout was.2.span,
       one_kept old new c.in-Some.plan c.in-Ok.place _ _ _ does c.in-Some.ensures.steps.1 was.7,
@@ -39,7 +40,8 @@ returns-in-Err-clause-error c =
     ap no_fault (fault_of k.layout k.span c.args.prepared.items (Some c.in-Err.refused.1) was.3
     (ap (prepare_fault k.layout k.span 0) (sym all) ∙ was.6
     ∙ ap (prepare_fault k.layout k.span (length old.plans)) step
-    ∙ prepare_failed old c.in-Some.plan c.in-Err.refused.1 k.layout k.span rest c.in-Err.ensures.error was.2.layout was.2.span
+    ∙ prepare_failed old c.in-Some.plan c.in-Err.refused.1 k.layout k.span rest c.in-Err.ensures.error
+    was.2.layout was.2.span
     was.3))
 
 pub returns-clause-begins : goal.returns-clause-begins

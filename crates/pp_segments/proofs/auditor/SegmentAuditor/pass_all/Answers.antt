@@ -27,7 +27,8 @@ returns-in_err-pass_text c = λ prepared p at.
     (journal_lines c.first_line.result.1.now) c.in_err-pass_text.field-0.0 c.first_line.ensures.lines done in
     let result : c.from_residual.result ≡ Err c.in_err-pass_text.field-0.0 = search rules in
     rw result
-    (went_short prepared c.pass_text.new.self p c.args.text.now c.in_err-pass_text.field-0.0 c.in_err-pass_text.field-0.0 wrong
+    (went_short prepared c.pass_text.new.self p c.args.text.now c.in_err-pass_text.field-0.0
+    c.in_err-pass_text.field-0.0 wrong
     refl)
 
 pub returns : goal.returns
