@@ -2,7 +2,9 @@
 
 use crate::section::Section;
 use pp_explain::Source;
-use pp_judge::{AnnotateFiles, AuditFiles, CheckFiles, Contents, DrawFiles, SimulateFiles};
+use pp_judge::{
+    AnnotateFiles, AuditFiles, CheckFiles, Contents, DrawFiles, SegmentsFiles, SimulateFiles,
+};
 use pp_lines::small_number;
 use std::alloc::{AllocError, Global};
 use std::rt::Files;
@@ -29,6 +31,10 @@ pub enum Question {
     Audit,
     /// Whether the second text is the true journals of a pool's lives with the plans of those behind it.
     AuditLives,
+    /// Whether the texts behind `--` are the segments of an endless pool's journal with the plans before it.
+    Segments,
+    /// The same, where nothing may be left to do at their end.
+    EndedSegments,
     /// The picture of the journal of the second text.
     Draw,
     /// What is said of a run that stops since the log of the worker of the last text is another one.
@@ -52,6 +58,8 @@ pub struct Row<'a> {
     pub names: Vec<&'a str>,
     /// Their bytes.
     pub texts: Vec<Vec<u8>>,
+    /// How many of them stand before a word `--`; 0 where there is none.
+    pub before: usize,
 }
 
 impl<'a> Row<'a> {
@@ -70,9 +78,12 @@ impl<'a> Row<'a> {
             question,
             names: Vec::new(rt.alloc()),
             texts: Vec::new(rt.alloc()),
+            before: 0,
         };
         for name in files.split(" ") {
-            if !name.is_empty() {
+            if name == "--" {
+                row.before = row.texts.len();
+            } else if !name.is_empty() {
                 row.read_file(rt, section.folder(), name)?;
             }
         }
@@ -148,6 +159,8 @@ impl<'a> Row<'a> {
                     plans,
                 },
             )),
+            (Question::Segments, [settings, ..]) => Some(self.segments(settings, false)),
+            (Question::EndedSegments, [settings, ..]) => Some(self.segments(settings, true)),
             (Question::Draw, [settings, journal, plans @ ..]) => Some(Contents::Draw(DrawFiles {
                 settings,
                 journal,
@@ -156,6 +169,16 @@ impl<'a> Row<'a> {
             })),
             _ => None,
         }
+    }
+
+    /// The command that audits the texts behind `--` as segments, with the plans between the settings and that word.
+    fn segments<'b>(&'b self, settings: &'b [u8], ended: bool) -> Contents<'b> {
+        Contents::AuditSegments(SegmentsFiles {
+            settings,
+            plans: self.texts.get(1..self.before).unwrap_or(&[]),
+            files: self.texts.get(self.before..).unwrap_or(&[]),
+            ended,
+        })
     }
 }
 
@@ -179,7 +202,7 @@ fn named(words: &str) -> (Question, &str) {
 }
 
 /// The questions by their names.
-static QUESTIONS: [(&str, Question); 13] = [
+static QUESTIONS: [(&str, Question); 15] = [
     ("settings", Question::Settings),
     ("plan", Question::Plan),
     ("script", Question::Script),
@@ -189,6 +212,8 @@ static QUESTIONS: [(&str, Question); 13] = [
     ("simulate", Question::Simulate),
     ("audit", Question::Audit),
     ("lives", Question::AuditLives),
+    ("segments", Question::Segments),
+    ("ended", Question::EndedSegments),
     ("mismatch", Question::Mismatch),
     ("broken", Question::Broken),
     ("nothread", Question::NoThread),
