@@ -2,9 +2,12 @@
 
 use crate::answer::answer_to;
 use crate::row::{Question, Row};
+use crate::segments::segments_paragraph;
+use pp_core::PrepareError;
 use pp_explain::{Refused, Source, Sources, Stop, explain, repeated};
 use pp_judge::{Exit, JudgeError};
 use pp_lines::small_number;
+use pp_segments::SegmentError;
 use pp_simulate::SimulateError;
 use std::alloc::{AllocError, Global};
 use std::str;
@@ -14,6 +17,10 @@ pub fn explained(alloc: Global, row: &Row<'_>) -> Exit<'static> {
     let Ok(sources) = row.sources(alloc) else {
         return Exit::OutOfMemory;
     };
+    if row.has_segments() {
+        let exit = answer_to(alloc, row);
+        return with_paragraph(alloc, &exit, segments_paragraph(alloc, row, &sources));
+    }
     match files_of(row.question, &sources) {
         Some(files) => explained_of(alloc, row, files),
         None => Exit::Wordless,
@@ -27,6 +34,15 @@ fn explained_of(alloc: Global, row: &Row<'_>, files: Sources<'_>) -> Exit<'stati
         Some(refused) => explain(alloc, files, refused),
         None => repeated(alloc, files),
     };
+    with_paragraph(alloc, &exit, paragraph)
+}
+
+/// The exit, and behind it the paragraph.
+fn with_paragraph(
+    alloc: Global,
+    exit: &Exit<'_>,
+    paragraph: Result<Option<Vec<u8>>, AllocError>,
+) -> Exit<'static> {
     let Ok(paragraph) = paragraph else {
         return Exit::OutOfMemory;
     };
@@ -75,7 +91,7 @@ fn files_of<'a>(question: Question, sources: &'a [Source<'a>]) -> Option<Sources
 }
 
 /// Why the row is refused, or how its run stops.
-fn refused(row: &Row<'_>, exit: &Exit<'_>) -> Option<Refused> {
+fn refused(row: &Row<'_>, exit: &Exit<'_>) -> Option<Refused<'static>> {
     match (row.question, exit) {
         (Question::Mismatch, _) => Some(Refused::Stop(Stop::Mismatch(worker(row)?))),
         (Question::Broken, _) => Some(Refused::Stop(Stop::Broken(worker(row)?))),
@@ -93,8 +109,8 @@ fn worker(row: &Row<'_>) -> Option<u32> {
     }
 }
 
-/// The refusal, as it is explained.
-fn refused_as(refusal: JudgeError) -> Option<Refused> {
+/// The refusal, as it is explained. One in a file of segments is explained with its audit at hand.
+pub fn refused_as(refusal: JudgeError) -> Option<Refused<'static>> {
     match refusal {
         JudgeError::Settings(error) => Some(Refused::Settings(error)),
         JudgeError::OtherLife => Some(Refused::OtherLife),
@@ -107,5 +123,10 @@ fn refused_as(refusal: JudgeError) -> Option<Refused> {
         JudgeError::Simulate(SimulateError::TooManyPrepared) => Some(Refused::TooManyPrepared),
         JudgeError::Simulate(SimulateError::OutOfMemory) => None,
         JudgeError::Audit(error) => Some(Refused::Audit(error)),
+        JudgeError::Segments(SegmentError::OtherLife) => Some(Refused::BoundedLife),
+        JudgeError::Segments(SegmentError::Prepare(PrepareError::TooManyPrepared)) => Some(
+            Refused::TooManyPrepared,
+        ),
+        JudgeError::Segments(_) => None,
     }
 }

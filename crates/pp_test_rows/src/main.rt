@@ -9,6 +9,7 @@ mod cuts;
 mod explained;
 mod row;
 mod section;
+mod segments;
 
 use crate::answer::{answer_to, is_a_line, verdict_on};
 use crate::cuts::answers_to_cuts;

@@ -171,6 +171,11 @@ impl<'a> Row<'a> {
         }
     }
 
+    /// Whether it is about segments.
+    pub fn has_segments(&self) -> bool {
+        matches!(self.question, Question::Segments | Question::EndedSegments)
+    }
+
     /// The command that audits the texts behind `--` as segments, with the plans between the settings and that word.
     fn segments<'b>(&'b self, settings: &'b [u8], ended: bool) -> Contents<'b> {
         Contents::AuditSegments(SegmentsFiles {
