@@ -24,6 +24,20 @@ fn words_of(row: &str) -> anyhow::Result<&'static [&'static str]> {
         "run" => Ok(&["pinpool", "run", "--journal", "a", "b", "c", "0", "d"]),
         "help" => Ok(&["pinpool", "--help"]),
         "none" => Ok(&["pinpool", "check"]),
+        "segments" => Ok(&[
+            "pinpool",
+            "audit",
+            "a",
+            "--ended",
+            "--segments",
+            "b",
+            "c",
+            "--",
+            "-d",
+            "--",
+            "--segments",
+        ]),
+        "no_file" => Ok(&["pinpool", "audit", "--segments", "a", "b", "--"]),
         _ => anyhow::bail!("there is no such row"),
     }
 }

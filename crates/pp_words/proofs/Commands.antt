@@ -36,3 +36,8 @@ pub with_after_help : (old new : Command) (text : _) (app : App)
     → out-Command new ≡ record (out-Command old) { after_help = Some text } → IsApp old app → IsApp new app
 with_after_help old new text app adds was =
     (ap (λ (f : Command-F Command). f.has_globals) adds ∙ was.0, ap app_of_fields adds ∙ was.1)
+
+pub with_usage : (old new : Command) (text : _) (app : App)
+    → out-Command new ≡ record (out-Command old) { usage_str = Some text } → IsApp old app → IsApp new app
+with_usage old new text app adds was =
+    (ap (λ (f : Command-F Command). f.has_globals) adds ∙ was.0, ap app_of_fields adds ∙ was.1)

@@ -1,5 +1,7 @@
 pub mod Asked
 pub mod Ended
+pub mod Dashes
+pub mod Cutting
 pub mod PlainWalk
 pub mod PlainPlans
 pub mod PlainTwo
@@ -7,6 +9,7 @@ pub mod PlainCheck
 pub mod PlainAnnotateFormat
 pub mod PlainSimulateAuditDraw
 pub mod PlainRun
+pub mod PlainSegments
 pub mod Numbers
 pub mod Commands
 pub mod PlainWords

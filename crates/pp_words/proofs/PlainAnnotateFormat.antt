@@ -5,8 +5,8 @@ use Rattle.clap.specs.Walk.{Held, Text, Walk, nothing_held, settled, finished, v
 use Rattle.clap.specs.Simple.{Shape, built, subcommand_of}
 use Rattle.clap.specs.Faults.{level_fault, walk_fault, settle_fault, defaults_fault, check_fault, fault_of, step_fault}
 use Rattle.clap.proofs.OnLiterals.{clap_on_literals}
-use Rattle.pp_words.specs.CommandLine.{Asked, asked, annotate, annotate_command, format, asked_of, is_plain_word, program}
-use Rattle.pp_words.specs.CommandLine.{unless_faulty}
+use Rattle.pp_words.specs.CommandLine.{Asked, annotate, annotate_command, asked_of, asked_plainly, format}
+use Rattle.pp_words.specs.CommandLine.{is_plain_word, program, unless_faulty}
 use Rattle.pp_words.proofs.PlainWalk.{between, fault_cons, held_after, no_more, turn_plain, walked_plain}
 
 pub data Command : Type 0 where
@@ -122,7 +122,7 @@ level_is_right command a b p q =
     ∙ ap (λ (v : Walk). after_walk command v.held) (walk_ends command a b p q) ∙ end_is_right command a b
 
 pub plain_paths : (command : Command) (name a b : Text) → is_plain_word a ≡ true → is_plain_word b ≡ true
-    → asked (the_words command name a b) ≡ Some (asks command a b)
+    → asked_plainly (the_words command name a b) ≡ Some (asks command a b)
 plain_paths command name a b p q =
     ap (λ (kinds : Kinds). unless_faulty kinds (asked_of (subcommand_of program (the_words command name a b))))
     (top_is_right command name a b ∙ ap (λ (kinds : Kinds). or_else kinds []) (level_is_right command a b p q))

@@ -5,7 +5,8 @@ use Rattle.clap.specs.Walk.{Held, Text, Walk, nothing_held, settled, finished, w
 use Rattle.clap.specs.Simple.{Shape, built, subcommand_of}
 use Rattle.clap.specs.Faults.{level_fault, walk_fault, settle_fault, defaults_fault, check_fault, fault_of}
 use Rattle.clap.proofs.OnLiterals.{clap_on_literals}
-use Rattle.pp_words.specs.CommandLine.{asked, asked_of, check, check_command, is_plain_word, program, unless_faulty}
+use Rattle.pp_words.specs.CommandLine.{asked_of, asked_plainly, check, check_command, is_plain_word, program}
+use Rattle.pp_words.specs.CommandLine.{unless_faulty}
 use Rattle.pp_words.proofs.PlainWalk.{between, fault_cons, held_after, no_more, turn_plain, walked_plain}
 
 -- the first of some commands
@@ -95,7 +96,7 @@ unfolding clap_on_literals first_shape
 values_are a b c = refl
 
 pub plain_check : (name a b c : Text) → is_plain_word a ≡ true → is_plain_word b ≡ true → is_plain_word c ≡ true
-    → asked (the_words name a b c) ≡ Some (check a b c)
+    → asked_plainly (the_words name a b c) ≡ Some (check a b c)
 plain_check name a b c p q r =
     ap (λ (kinds : Kinds). unless_faulty kinds (asked_of (subcommand_of program (the_words name a b c))))
     (top_is_right name a b c ∙ ap (λ (kinds : Kinds). or_else kinds []) (level_is_right a b c p q r))

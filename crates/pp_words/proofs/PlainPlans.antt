@@ -1,17 +1,17 @@
--- Commands whose last words are plans: the plans behind the first one, and the program's level above a command.
-use Rattle.std.proofs.Common.{◌≡◌, ℕ, true, false, List, [], ◌∷◌, ◌++◌, Some, None, codes, ap, ◌∙◌, fold}
+-- Commands whose last words are plans: the plans behind the first one, and a program's level above a command.
+use Rattle.std.proofs.Common.{◌≡◌, ℕ, true, false, List, [], ◌∷◌, ◌++◌, Some, None, codes, ap, drop, ◌∙◌, fold}
 use Rattle.std.proofs.Common.{append_assoc, append-nil, is_some, refl, sym}
 use Rattle.std.specs.List.{All}
 use Rattle.std.proofs.lemmas.List.Elements.{All-head, All-tail}
 use Rattle.clap.specs.Kinds.{Kinds, or_else}
 use Rattle.clap.specs.Walk.{Held, Row, Rule, Step, Text, Walk, after_step, arg_by_index, finished, nothing_held}
 use Rattle.clap.specs.Walk.{positional, reading_by, settled, to_positional, value, walk, walked}
-use Rattle.clap.specs.Walk.{Names, walk_from, with_default, word_met}
-use Rattle.clap.specs.Simple.{Shape, built, entered, names_of, subcommand_of}
+use Rattle.clap.specs.Walk.{Names, stop_after, walk_from, with_default, word_met}
+use Rattle.clap.specs.Simple.{App, Shape, argument_words, built, entered, names_of, subcommand_of}
 use Rattle.clap.specs.Faults.{level_fault, walk_fault, settle_fault, defaults_fault, check_fault, fault_of}
-use Rattle.clap.specs.Faults.{entered_fault, step_fault, turn_fault, word_fault}
+use Rattle.clap.specs.Faults.{built_fault, entered_fault, step_fault, turn_fault, word_fault}
 use Rattle.clap.specs.declared.parser.matches.ValueSource.TheVariants.{CommandLine}
-use Rattle.pp_words.specs.CommandLine.{is_plain_word, IsPlainWord, program}
+use Rattle.pp_words.specs.CommandLine.{is_plain_word, IsPlainWord}
 use Rattle.pp_words.proofs.PlainWalk.{fault_cons, no_dashes, no_hyphen, no_more}
 
 -- the steps after a command's walk
@@ -143,71 +143,78 @@ module _ (shape : Shape) (position : ℕ) (rule : Rule) (front : List Row)
       (all_settled [] last rest)
       ∙ rows
 
--- ---- the program's own level
+-- ---- a program's own level
 
-abbrev top_shape : Shape
-top_shape = (built program).top
+abbrev top_shape : App → Shape
+top_shape app = (built app).top
 
-abbrev the_names : Names
-the_names = names_of (built program)
+abbrev the_names : App → Names
+the_names app = names_of (built app)
 
 -- where the walk stands that has met the command, with these words behind it
 abbrev stopped_at : Text → List Text → Walk
 stopped_at command behind = record (walk_from nothing_held) { stopped = Some (command, behind) }
 
-stays : (command : Text) (before rest : List Text)
-    → fold (walked top_shape.rules the_names) (stopped_at command before) rest ≡ stopped_at command (before ++ rest)
+stays : (app : App) (command : Text) (before rest : List Text)
+    → fold (walked (top_shape app).rules (the_names app)) (stopped_at command before) rest
+    ≡ stopped_at command (before ++ rest)
 unfolding walked
-stays command before [] = ap (stopped_at command) (sym (append-nil before))
-stays command before (x ∷ xs) =
-    stays command (before ++ x ∷ []) xs ∙ ap (stopped_at command) (append_assoc before (x ∷ []) xs)
+stays app command before [] = ap (stopped_at command) (sym (append-nil before))
+stays app command before (x ∷ xs) =
+    stays app command (before ++ x ∷ []) xs ∙ ap (stopped_at command) (append_assoc before (x ∷ []) xs)
 
-stays_right : (command : Text) (before rest : List Text)
-    → walk_fault top_shape the_names (stopped_at command before) rest ≡ []
+stays_right : (app : App) (command : Text) (before rest : List Text)
+    → walk_fault (top_shape app) (the_names app) (stopped_at command before) rest ≡ []
 unfolding walked walk_fault
-stays_right command before [] = refl
-stays_right command before (x ∷ xs) = stays_right command (before ++ x ∷ []) xs
+stays_right app command before [] = refl
+stays_right app command before (x ∷ xs) = stays_right app command (before ++ x ∷ []) xs
 
 -- the faults of the program's level, from those of its walk and from where that ends
-abbrev top_fault : Kinds → Walk → Kinds
-top_fault faults w = or_else faults
-    (or_else (entered_fault (built program) w.stopped)
-    (or_else (settle_fault top_shape.rules top_shape.args_override_self w.held)
-    (or_else (defaults_fault (settled top_shape.rules w.held).rows top_shape.rules)
-    (check_fault top_shape (finished top_shape.rules w.held) (is_some (entered (built program) w.stopped))))))
+abbrev top_fault : App → Kinds → Walk → Kinds
+top_fault app faults w = or_else faults
+    (or_else (entered_fault (built app) w.stopped)
+    (or_else (settle_fault (top_shape app).rules (top_shape app).args_override_self w.held)
+    (or_else (defaults_fault (settled (top_shape app).rules w.held).rows (top_shape app).rules)
+    (check_fault (top_shape app) (finished (top_shape app).rules w.held)
+    (is_some (entered (built app) w.stopped))))))
 
--- What the program shows by computing: it has a command of this name, of this shape.
-pub record HasCommand (command : Text) (shape : Shape) : Type 0 where
-  pub met : walked top_shape.rules the_names (walk_from nothing_held) command ≡ stopped_at command []
-  pub turn : turn_fault top_shape the_names (walk_from nothing_held) command ≡ []
-  pub level : (behind : List Text) → top_fault [] (stopped_at command behind)
+-- What a program shows by computing: it reads the words behind its own name, and has a command of this name and shape.
+pub record HasCommand (app : App) (command : Text) (shape : Shape) : Type 0 where
+  pub read : (words : List Text) → argument_words app words ≡ drop 1 words
+  pub met : walked (top_shape app).rules (the_names app) (walk_from nothing_held) command ≡ stopped_at command []
+  pub turn : turn_fault (top_shape app) (the_names app) (walk_from nothing_held) command ≡ []
+  pub level : (behind : List Text) → top_fault app [] (stopped_at command behind)
       ≡ or_else (level_fault shape [] nothing_held behind false []) []
-  pub rows : (behind : List Text) → entered (built program) (stopped_at command behind).stopped
+  pub rows : (behind : List Text) → entered (built app) (stopped_at command behind).stopped
       ≡ Some (command, finished shape.rules (walk shape.rules [] nothing_held behind).held)
 
-module _ (command : Text) (shape : Shape) (has : HasCommand command shape) where
+module _ (app : App) (command : Text) (shape : Shape) (has : HasCommand app command shape) where
   top_walk : (behind : List Text)
-      → walk top_shape.rules the_names nothing_held (command ∷ behind) ≡ stopped_at command behind
+      → walk (top_shape app).rules (the_names app) nothing_held (command ∷ behind) ≡ stopped_at command behind
   top_walk behind =
-      ap (λ (v : Walk). fold (walked top_shape.rules the_names) v behind) has.met ∙ stays command [] behind
+      ap (λ (v : Walk). fold (walked (top_shape app).rules (the_names app)) v behind) has.met
+      ∙ stays app command [] behind
 
   top_walk_right : (behind : List Text)
-      → walk_fault top_shape the_names (walk_from nothing_held) (command ∷ behind) ≡ []
+      → walk_fault (top_shape app) (the_names app) (walk_from nothing_held) (command ∷ behind) ≡ []
   unfolding walk_fault
   top_walk_right behind =
-      ap (λ (kinds : Kinds). or_else kinds (walk_fault top_shape the_names
-      (walked top_shape.rules the_names (walk_from nothing_held) command) behind)) has.turn
-      ∙ ap (λ (v : Walk). walk_fault top_shape the_names v behind) has.met
-      ∙ stays_right command [] behind
+      ap (λ (kinds : Kinds). or_else kinds (walk_fault (top_shape app) (the_names app)
+      (walked (top_shape app).rules (the_names app) (walk_from nothing_held) command) behind)) has.turn
+      ∙ ap (λ (v : Walk). walk_fault (top_shape app) (the_names app) v behind) has.met
+      ∙ stays_right app command [] behind
 
-  pub top_is_right : (name : Text) (behind : List Text) → fault_of program (name ∷ command ∷ behind)
+  pub top_is_right : (name : Text) (behind : List Text) → fault_of app (name ∷ command ∷ behind)
       ≡ or_else (level_fault shape [] nothing_held behind false []) []
   top_is_right name behind =
-      ap (λ (kinds : Kinds). top_fault kinds (walk top_shape.rules the_names nothing_held (command ∷ behind)))
-      (top_walk_right behind)
-      ∙ ap (top_fault []) (top_walk behind) ∙ has.level behind
+      ap (built_fault (built app) nothing_held) (has.read (name ∷ command ∷ behind))
+      ∙ ap (λ (kinds : Kinds). top_fault app kinds
+      (walk (top_shape app).rules (the_names app) nothing_held (command ∷ behind))) (top_walk_right behind)
+      ∙ ap (top_fault app []) (top_walk behind) ∙ has.level behind
 
-  pub command_is : (name : Text) (behind : List Text) → subcommand_of program (name ∷ command ∷ behind)
+  pub command_is : (name : Text) (behind : List Text) → subcommand_of app (name ∷ command ∷ behind)
       ≡ Some (command, finished shape.rules (walk shape.rules [] nothing_held behind).held)
   command_is name behind =
-      ap (λ (v : Walk). entered (built program) v.stopped) (top_walk behind) ∙ has.rows behind
+      ap (λ (words : List Text). entered (built app) (stop_after (top_shape app).rules (the_names app) words))
+      (has.read (name ∷ command ∷ behind))
+      ∙ ap (λ (v : Walk). entered (built app) v.stopped) (top_walk behind) ∙ has.rows behind

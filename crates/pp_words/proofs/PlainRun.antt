@@ -14,7 +14,7 @@ use Rattle.clap.specs.Walk.{settled, to_positional, value, walk, walked, with_de
 use Rattle.clap.specs.Simple.{Shape, built, new_rule, subcommand_of}
 use Rattle.clap.specs.Faults.{level_fault, walk_fault, defaults_fault, check_fault, step_fault}
 use Rattle.clap.proofs.OnLiterals.{clap_on_literals}
-use Rattle.pp_words.specs.CommandLine.{asked, run, run_command, asked_of, is_plain_word, IsPlainWord, program}
+use Rattle.pp_words.specs.CommandLine.{asked_of, asked_plainly, is_plain_word, IsPlainWord, program, run, run_command}
 use Rattle.pp_words.specs.CommandLine.{number_in, unless_faulty}
 use Rattle.pp_words.proofs.Numbers.{accepts_decimal, number_decimal, plain_decimal}
 use Rattle.pp_words.proofs.PlainWalk.{between, fault_cons, held_after, turn_plain, walked_plain}
@@ -82,9 +82,9 @@ takes_plans a b n = record {
   settles = λ before last. refl;
 }
 
-has_command : HasCommand (codes "run") run_shape
+has_command : HasCommand program (codes "run") run_shape
 unfolding clap_on_literals fifth_shape
-has_command = record { met = refl; turn = refl; level = λ behind. refl; rows = λ behind. refl }
+has_command = record { read = λ words. refl; met = refl; turn = refl; level = λ behind. refl; rows = λ behind. refl }
 
 rows_are_right : (a b n c : Text) (rest : List Text)
     → or_else (defaults_fault (all_rows a b n (c ∷ rest)) run_shape.rules)
@@ -172,13 +172,14 @@ level_is_right a b n c rest p q s fits r plain =
 
 all_plain : (name a b n c : Text) (rest : List Text) → is_plain_word a ≡ true → is_plain_word b ≡ true
     → is_plain_word n ≡ true → IsSeed n → is_plain_word c ≡ true → All IsPlainWord rest
-    → asked (name ∷ codes "run" ∷ a ∷ b ∷ n ∷ c ∷ rest) ≡ Some (run None None a b (number_in (without_minus n)) (c ∷ rest))
+    → asked_plainly (name ∷ codes "run" ∷ a ∷ b ∷ n ∷ c ∷ rest)
+    ≡ Some (run None None a b (number_in (without_minus n)) (c ∷ rest))
 all_plain name a b n c rest p q s fits r plain =
     ap (λ (kinds : Kinds).
     unless_faulty kinds (asked_of (subcommand_of program (name ∷ codes "run" ∷ a ∷ b ∷ n ∷ c ∷ rest))))
-    (top_is_right (codes "run") run_shape has_command name (a ∷ b ∷ n ∷ c ∷ rest)
+    (top_is_right program (codes "run") run_shape has_command name (a ∷ b ∷ n ∷ c ∷ rest)
     ∙ ap (λ (kinds : Kinds). or_else kinds []) (level_is_right a b n c rest p q s fits r plain))
-    ∙ ap asked_of (command_is (codes "run") run_shape has_command name (a ∷ b ∷ n ∷ c ∷ rest))
+    ∙ ap asked_of (command_is program (codes "run") run_shape has_command name (a ∷ b ∷ n ∷ c ∷ rest))
     ∙ ap (λ (v : Walk). asked_of (Some (codes "run", finished run_shape.rules v.held)))
     (walk_ends a b n c rest p q s r plain)
     ∙ ap (λ (rows : List Row). asked_of (Some (codes "run", fold with_default rows run_shape.rules)))
@@ -187,7 +188,7 @@ all_plain name a b n c rest p q s fits r plain =
 
 pub plain_run : (name a b c : Text) (seed : ℕ) (rest : List Text) → seed < 2 ^ 32 → is_plain_word a ≡ true
     → is_plain_word b ≡ true → is_plain_word c ≡ true → All IsPlainWord rest
-    → asked (name ∷ codes "run" ∷ a ∷ b ∷ decimal seed ∷ c ∷ rest) ≡ Some (run None None a b seed (c ∷ rest))
+    → asked_plainly (name ∷ codes "run" ∷ a ∷ b ∷ decimal seed ∷ c ∷ rest) ≡ Some (run None None a b seed (c ∷ rest))
 plain_run name a b c seed rest fits p q r plain =
     all_plain name a b (decimal seed) c rest p q (plain_decimal seed fits) (accepts_decimal seed fits) r plain
     ∙ ap (λ (n : ℕ). Some (run None None a b n (c ∷ rest))) (number_decimal seed fits)

@@ -5,8 +5,8 @@ use Rattle.clap.specs.Walk.{Row, Rule, Text, arg_by_index, settled, to_positiona
 use Rattle.clap.specs.Simple.{Shape, built, new_rule}
 use Rattle.clap.specs.Faults.{settle_fault, step_fault}
 use Rattle.clap.proofs.OnLiterals.{clap_on_literals}
-use Rattle.pp_words.specs.CommandLine.{Asked, asked, asked_of, simulate, audit, draw, is_plain_word, IsPlainWord, program}
-use Rattle.pp_words.specs.CommandLine.{simulate_command}
+use Rattle.pp_words.specs.CommandLine.{Asked, asked_of, asked_plainly, simulate, audit, draw, is_plain_word}
+use Rattle.pp_words.specs.CommandLine.{IsPlainWord, program, simulate_command}
 use Rattle.pp_words.proofs.PlainPlans.{among, plan_rows, plans_held, TakesPlans, HasCommand}
 use Rattle.pp_words.proofs.PlainTwo.{WordsGo, NoFaults, TakesTwo, two_rows, all_rows, plain_two}
 
@@ -98,11 +98,29 @@ takes_plans command a b = record {
   settles = settles command a b;
 }
 
-has_command : (command : Command) → HasCommand (name_of command) (shape command)
+has_command : (command : Command) → HasCommand program (name_of command) (shape command)
 unfolding clap_on_literals shape_among
-has_command plays = record { met = refl; turn = refl; level = λ behind. refl; rows = λ behind. refl }
-has_command audits = record { met = refl; turn = refl; level = λ behind. refl; rows = λ behind. refl }
-has_command draws = record { met = refl; turn = refl; level = λ behind. refl; rows = λ behind. refl }
+has_command plays = record {
+  read = λ words. refl;
+  met = refl;
+  turn = refl;
+  level = λ behind. refl;
+  rows = λ behind. refl;
+}
+has_command audits = record {
+  read = λ words. refl;
+  met = refl;
+  turn = refl;
+  level = λ behind. refl;
+  rows = λ behind. refl;
+}
+has_command draws = record {
+  read = λ words. refl;
+  met = refl;
+  turn = refl;
+  level = λ behind. refl;
+  rows = λ behind. refl;
+}
 
 goes : (command : Command) → WordsGo (shape command) (plans_rule command)
 unfolding clap_on_literals shape_among third_rule
@@ -138,7 +156,7 @@ takes_two command = record {
 
 pub plain_plans : (command : Command) (name a b c : Text) (rest : List Text) → is_plain_word a ≡ true
     → is_plain_word b ≡ true → is_plain_word c ≡ true → All IsPlainWord rest
-    → asked (name ∷ name_of command ∷ a ∷ b ∷ c ∷ rest) ≡ Some (asks command a b (c ∷ rest))
+    → asked_plainly (name ∷ name_of command ∷ a ∷ b ∷ c ∷ rest) ≡ Some (asks command a b (c ∷ rest))
 plain_plans command name a b c rest p q r plain =
     plain_two (name_of command) (shape command) (plans_rule command) (asks command) (takes_two command) a b c rest p q r
     plain name

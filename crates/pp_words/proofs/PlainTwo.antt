@@ -6,7 +6,8 @@ use Rattle.clap.specs.Walk.{Held, Row, Rule, Text, Walk, arg_by_index, finished,
 use Rattle.clap.specs.Walk.{settled, to_positional, value, walk, walked, with_default}
 use Rattle.clap.specs.Simple.{Shape, subcommand_of}
 use Rattle.clap.specs.Faults.{level_fault, walk_fault, defaults_fault, check_fault, step_fault}
-use Rattle.pp_words.specs.CommandLine.{Asked, asked, asked_of, is_plain_word, IsPlainWord, program, unless_faulty}
+use Rattle.pp_words.specs.CommandLine.{Asked, asked_of, asked_plainly, is_plain_word, IsPlainWord, program}
+use Rattle.pp_words.specs.CommandLine.{unless_faulty}
 use Rattle.pp_words.proofs.PlainWalk.{between, fault_cons, held_after, turn_plain, walked_plain}
 use Rattle.pp_words.proofs.PlainPlans.{after_walk, plan_rows, plans_held, among, TakesPlans, end_held, rest_walked}
 use Rattle.pp_words.proofs.PlainPlans.{rest_is_right, all_settled, end_is_right, HasCommand, top_is_right, command_is}
@@ -49,7 +50,7 @@ pub record NoFaults (shape : Shape) (rule : Rule) : Type 0 where
 -- What a command's rules show by computing: two words go to its first two arguments, and plans to the third. It asks for
 -- what these are.
 pub record TakesTwo (command : Text) (shape : Shape) (rule : Rule) (asks : Text → Text → List Text → Asked) : Type 0 where
-  pub has : HasCommand command shape
+  pub has : HasCommand program command shape
   pub goes : WordsGo shape rule
   pub right : NoFaults shape rule
   pub plans : (a b : Text) → TakesPlans shape 3 rule (two_rows shape a b)
@@ -100,13 +101,13 @@ module _ (command : Text) (shape : Shape) (rule : Rule) (asks : Text → Text �
       ∙ ap (λ (v : Walk). after_walk shape v.held) walk_ends
       ∙ end_is_right shape 3 rule front (takes.plans a b) c rest (takes.right.rows a b c rest)
 
-  pub plain_two : (name : Text) → asked (name ∷ command ∷ a ∷ b ∷ c ∷ rest) ≡ Some (asks a b (c ∷ rest))
+  pub plain_two : (name : Text) → asked_plainly (name ∷ command ∷ a ∷ b ∷ c ∷ rest) ≡ Some (asks a b (c ∷ rest))
   plain_two name =
       ap (λ (kinds : Kinds).
       unless_faulty kinds (asked_of (subcommand_of program (name ∷ command ∷ a ∷ b ∷ c ∷ rest))))
-      (top_is_right command shape takes.has name (a ∷ b ∷ c ∷ rest)
+      (top_is_right program command shape takes.has name (a ∷ b ∷ c ∷ rest)
       ∙ ap (λ (kinds : Kinds). or_else kinds []) level_is_right)
-      ∙ ap asked_of (command_is command shape takes.has name (a ∷ b ∷ c ∷ rest))
+      ∙ ap asked_of (command_is program command shape takes.has name (a ∷ b ∷ c ∷ rest))
       ∙ ap (λ (v : Walk). asked_of (Some (command, finished shape.rules v.held))) walk_ends
       ∙ ap (λ (found : List Row). asked_of (Some (command, fold with_default found shape.rules)))
       (all_settled shape 3 rule front (takes.plans a b) [] c rest)

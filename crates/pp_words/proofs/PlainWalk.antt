@@ -10,7 +10,7 @@ use Rattle.clap.specs.Simple.{Shape}
 use Rattle.clap.specs.Faults.{step_fault, turn_fault, walk_fault, word_fault}
 use Rattle.pp_words.specs.CommandLine.{is_plain_word}
 
-not_true : (b : Bool) → not b ≡ true → b ≡ false
+pub not_true : (b : Bool) → not b ≡ true → b ≡ false
 not_true true h = sym h
 not_true false h = refl
 

@@ -4,7 +4,6 @@ use Rattle.std.specs.Prelude.{not}
 use Rattle.std.specs.List.{list_any}
 use Rattle.clap.specs.Words.{App, Text, fault_of, Kinds, IsAmong}
 use Rattle.clap.specs.declared.error.ErrorKind.{ErrorKind}
-use Rattle.pp_words.specs.CommandLine.{program}
 use Rattle.pp_words.specs.Faults.{IsToldAs, IsToldBy, is_mistake, is_request}
 use Rattle.pp_words.specs.declared.request.JobError.{JobError}
 use Rattle.pp_words.specs.declared.request.JobError.TheVariants.{Shown, Words, OutOfMemory}
@@ -26,11 +25,11 @@ told_among kinds k (Words text) among told = inl (any_among is_mistake k kinds a
 told_among kinds k OutOfMemory among told = tt
 
 -- what is told of one fault of the words is told of the words
-pub told_by : (a : App) (words : List Text) (k : ErrorKind) (error : JobError) → a ≡ program
+pub told_by : (a p : App) (words : List Text) (k : ErrorKind) (error : JobError) → a ≡ p
     → IsAmong k (fault_of a words)
-    → IsToldAs k error → IsToldBy (fault_of program words) error
-told_by a words k error is among told =
-    told_among (fault_of program words) k error
+    → IsToldAs k error → IsToldBy (fault_of p words) error
+told_by a p words k error is among told =
+    told_among (fault_of p words) k error
     (let P : App → Type 0 = λ b. IsAmong k (fault_of b words) in subst P is among) told
 
 -- want of memory says nothing of the words

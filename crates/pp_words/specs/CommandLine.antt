@@ -1,8 +1,8 @@
 -- The program's command line, as `clap` reads it.
 use Rattle.std.specs.Prelude.{◌≡◌, Bool, true, false, List, [], ◌∷◌, Option, Some, None, codes, unwrap_or, if◌then◌else◌, not}
-use Rattle.std.specs.Prelude.{ℕ, ◌<◌, ◌^◌, ◌==◌, map, option_map, pos}
+use Rattle.std.specs.Prelude.{ℕ, ◌<◌, ◌^◌, ◌==◌, ◌&&◌, ◌++◌, map, option_map, pos}
 use Rattle.std.specs.Borrow.{Bor}
-use Rattle.std.specs.List.{All}
+use Rattle.std.specs.List.{All, after_first, before_first, list_any}
 use Rattle.std.specs.Str.{bytes_eq}
 use Rattle.std.specs.Str.Parse.{digits_value, without_leading_plus}
 use Rattle.std.specs.Fmt.{decimal}
@@ -21,9 +21,11 @@ use Rattle.pp_words.specs.declared.simulate.SimulatePaths.{SimulatePaths}
 use Rattle.pp_words.specs.declared.format.FormatPaths.{FormatPaths}
 use Rattle.pp_words.specs.declared.run.RunPaths.{RunPaths}
 use Rattle.pp_words.specs.declared.audit.AuditPaths.{AuditPaths}
+use Rattle.pp_words.specs.declared.segments.SegmentsPaths.{SegmentsPaths}
 use Rattle.pp_words.specs.declared.draw.DrawPaths.{DrawPaths}
 use Rattle.pp_words.specs.declared.request.Job.{Job}
-use Rattle.pp_words.specs.declared.request.Job.TheVariants.{Check, Annotate, Simulate, Format, Run, Audit, Draw}
+use Rattle.pp_words.specs.declared.request.Job.TheVariants.{Check, Annotate, Simulate, Format, Run, Audit}
+use Rattle.pp_words.specs.declared.request.Job.TheVariants.{AuditSegments, Draw}
 
 -- a path that has to be given, as a word of its own
 abbrev pub path_rule : Text → Rule
@@ -85,6 +87,12 @@ audit_command =
     with_rule (with_rule (with_rule (with_rule (new_app (codes "audit")) (path_rule (codes "settings")))
     (path_rule (codes "journal"))) (paths_rule (codes "plans"))) (flag_rule (codes "lives"))
 
+-- `audit --segments [--ended] SETTINGS PLAN...`, the front of the words of an audit of segments
+abbrev pub segments_command : App
+segments_command =
+    with_rule (with_rule (with_rule (with_rule (new_app (codes "audit")) (flag_rule (codes "segments")))
+    (flag_rule (codes "ended"))) (path_rule (codes "settings"))) (paths_rule (codes "plans"))
+
 -- `draw [-o FILE] SETTINGS JOURNAL PLAN...`
 abbrev pub draw_command : App
 draw_command =
@@ -106,6 +114,10 @@ program =
     program_alone check_command.top) annotate_command.top) simulate_command.top) format_command.top) run_command.top)
     audit_command.top) draw_command.top
 
+-- the program with the one command that reads the front of the words of an audit of segments
+abbrev pub segments_program : App
+segments_program = with_subcommand program_alone segments_command.top
+
 -- what words ask for: a command with the paths of its files
 pub data Asked : Type 0 where
   check : (settings plan certificate : Text) → Asked
@@ -114,6 +126,7 @@ pub data Asked : Type 0 where
   format : (settings device : Text) → Asked
   run : (journal trace : Option Text) → (settings device : Text) → (seed : ℕ) → (plans : List Text) → Asked
   audit : (lives : Bool) → (settings journal : Text) → (plans : List Text) → Asked
+  segments : (ended : Bool) → (settings : Text) → (plans files : List Text) → Asked
   draw : (output : Option Text) → (settings journal : Text) → (plans : List Text) → Asked
 
 -- a check of three files
@@ -150,6 +163,10 @@ asked_run p =
 abbrev pub asked_audit : AuditPaths → Asked
 asked_audit p = audit p.lives p.settings.now p.journal.now (texts p.plans.items)
 
+-- the segments of an endless pool in some files, audited against the prepared plans of others
+abbrev pub asked_segments : SegmentsPaths → Asked
+asked_segments p = segments p.ended p.settings.now (texts p.plans.items) (texts p.files.items)
+
 -- a journal drawn with the plans of some files, and the picture written to a file where that is asked for
 abbrev pub asked_draw : DrawPaths → Asked
 asked_draw p = draw (text_in p.output) p.settings.now p.journal.now (texts p.plans.items)
@@ -162,6 +179,7 @@ asked_by (Simulate p) = asked_simulate p
 asked_by (Format p) = asked_format p
 asked_by (Run p) = asked_run p
 asked_by (Audit p) = asked_audit p
+asked_by (AuditSegments p) = asked_segments p
 asked_by (Draw p) = asked_draw p
 
 -- the first value of an argument; the arguments of the commands are required, so they have one
@@ -214,6 +232,11 @@ abbrev pub audit_among : List Row → Asked
 audit_among rows = audit (flag_among rows (codes "lives")) (value_among rows (codes "settings"))
     (value_among rows (codes "journal")) (values_among rows (codes "plans"))
 
+-- the flag and the values of the arguments of an audit of segments, with its files
+abbrev pub segments_among : List Row → (files : List Text) → Asked
+segments_among rows files = segments (flag_among rows (codes "ended")) (value_among rows (codes "settings"))
+    (values_among rows (codes "plans")) files
+
 -- the values of the option and of the arguments of `draw`
 abbrev pub draw_among : List Row → Asked
 draw_among rows = draw (first_of (codes "output") rows) (value_among rows (codes "settings"))
@@ -232,15 +255,63 @@ asked_of (Some command) =
     else if bytes_eq command.0 (codes "draw") then Some (draw_among command.1)
     else None
 
+-- what the command of an audit of segments asks for with these files, of which there is one at least
+abbrev pub segments_of : Option (Text × List Row) → (files : List Text) → Option Asked
+segments_of None files = None
+segments_of (Some command) [] = None
+segments_of (Some command) (file ∷ files) = Some (segments_among command.1 (file ∷ files))
+
 -- what is found, where there is no fault
 abbrev pub unless_faulty : Kinds → Option Asked → Option Asked
 unless_faulty [] found = found
 unless_faulty (kind ∷ kinds) found = None
 
--- what the words ask for, the program's name first: the command and the paths that `clap` matches, where it
--- finds no fault in the words
+-- the word behind which the files of an audit of segments stand
+abbrev pub is_dashes : Text → Bool
+is_dashes word = bytes_eq word (codes "--")
+
+-- the flag of an audit of segments
+abbrev pub is_segments_flag : Text → Bool
+is_segments_flag word = bytes_eq word (codes "--segments")
+
+-- whether the words, the program's name first, ask for an audit of segments: the second one is `audit`, and the flag
+-- `--segments` stands behind it, before the first `--`
+abbrev pub wants_segments : List Text → Bool
+wants_segments (name ∷ command ∷ rest) =
+    bytes_eq command (codes "audit") && list_any is_segments_flag (before_first is_dashes rest)
+wants_segments words = false
+
+-- the words of an audit of segments that `clap` reads: the name, the command, and what stands before the first `--`
+-- behind it, which is all where there is none
+abbrev pub front_words : List Text → List Text
+front_words (name ∷ command ∷ rest) = name ∷ command ∷ before_first is_dashes rest
+front_words words = words
+
+-- the files of an audit of segments: the words behind the first `--` behind the command, each as it is
+abbrev pub file_words : List Text → List Text
+file_words (name ∷ command ∷ rest) = after_first is_dashes rest
+file_words words = []
+
+-- what words ask for that want no audit of segments: the command and the paths that `clap` matches, where it finds no
+-- fault in them
+abbrev pub asked_plainly : List Text → Option Asked
+asked_plainly words = unless_faulty (fault_of program words) (asked_of (subcommand_of program words))
+
+-- what an audit of segments asks for by its front and its files, where `clap` finds no fault in the front
+abbrev pub asked_in_parts : (front files : List Text) → Option Asked
+asked_in_parts front files =
+    unless_faulty (fault_of segments_program front) (segments_of (subcommand_of segments_program front) files)
+
+-- what the words ask for, the program's name first: an audit of segments where they want one, and else what the whole
+-- program reads in them
 abbrev pub asked : List Text → Option Asked
-asked words = unless_faulty (fault_of program words) (asked_of (subcommand_of program words))
+asked words =
+    if wants_segments words then asked_in_parts (front_words words) (file_words words) else asked_plainly words
+
+-- the faults that `clap` finds in the words, the program's name first; of an audit of segments in their front
+abbrev pub faults_in : List Text → Kinds
+faults_in words =
+    if wants_segments words then fault_of segments_program (front_words words) else fault_of program words
 
 -- the word doesn't begin with a hyphen, so it is no option
 abbrev pub is_plain_word : Text → Bool
@@ -251,7 +322,8 @@ is_plain_word (first ∷ rest) = not (first == 45)
 abbrev pub IsPlainWord : Text → Type 0
 IsPlainWord word = is_plain_word word ≡ true
 
--- plain words after a command are the paths of its files, in this order
+-- plain words after a command are the paths of its files, in this order; the files of an audit of segments may be any
+-- words
 pub record PlainWordsAreThePaths : Type 0 where
   pub check : (name settings plan certificate : Text) → is_plain_word settings ≡ true → is_plain_word plan ≡ true
       → is_plain_word certificate ≡ true
@@ -273,6 +345,15 @@ pub record PlainWordsAreThePaths : Type 0 where
       → is_plain_word journal ≡ true → is_plain_word plan ≡ true → All IsPlainWord plans
       → asked (name ∷ codes "audit" ∷ settings ∷ journal ∷ plan ∷ plans)
       ≡ Some (audit false settings journal (plan ∷ plans))
+  pub segments_ended : (name settings plan file : Text) (plans files : List Text) → is_plain_word settings ≡ true
+      → is_plain_word plan ≡ true → All IsPlainWord plans
+      → asked (name ∷ codes "audit" ∷ codes "--segments" ∷ codes "--ended" ∷ settings ∷ plan
+      ∷ plans ++ codes "--" ∷ file ∷ files)
+      ≡ Some (segments true settings (plan ∷ plans) (file ∷ files))
+  pub segments : (name settings plan file : Text) (plans files : List Text) → is_plain_word settings ≡ true
+      → is_plain_word plan ≡ true → All IsPlainWord plans
+      → asked (name ∷ codes "audit" ∷ codes "--segments" ∷ settings ∷ plan ∷ plans ++ codes "--" ∷ file ∷ files)
+      ≡ Some (segments false settings (plan ∷ plans) (file ∷ files))
   pub draw : (name settings journal plan : Text) (plans : List Text) → is_plain_word settings ≡ true
       → is_plain_word journal ≡ true → is_plain_word plan ≡ true → All IsPlainWord plans
       → asked (name ∷ codes "draw" ∷ settings ∷ journal ∷ plan ∷ plans)

@@ -2,11 +2,10 @@
 use Rattle.std.specs.Prelude.{◌≡◌, ◌≢◌, ◌⊎◌, Bool, true, false, List, [], not, ⊤}
 use Rattle.std.specs.List.{list_any}
 use Rattle.clap.specs.Walk.{Text}
-use Rattle.clap.specs.Faults.{fault_of}
 use Rattle.clap.specs.Kinds.{Kinds}
 use Rattle.clap.specs.declared.error.kind.ErrorKind.{ErrorKind}
 use Rattle.clap.specs.declared.error.kind.ErrorKind.TheVariants as kind
-use Rattle.pp_words.specs.CommandLine.{program}
+use Rattle.pp_words.specs.CommandLine.{faults_in}
 use Rattle.pp_words.specs.declared.request.JobError.{JobError}
 use Rattle.pp_words.specs.declared.request.JobError.TheVariants.{Shown, Words, OutOfMemory}
 
@@ -35,8 +34,8 @@ IsToldBy faults OutOfMemory = ⊤
 
 -- whether the words ask for the help or the version, the program's name first
 abbrev pub asks_for_help : List Text → Bool
-asks_for_help words = list_any is_request (fault_of program words)
+asks_for_help words = list_any is_request (faults_in words)
 
--- whether there is a mistake in the words, the program's name first, or no fault of theirs and yet no command is found
+-- whether there is a mistake in the words, the program's name first, or no fault of theirs and yet no job is found
 abbrev pub IsMistaken : List Text → Type 0
-IsMistaken words = (list_any is_mistake (fault_of program words) ≡ true) ⊎ (fault_of program words ≡ [])
+IsMistaken words = (list_any is_mistake (faults_in words) ≡ true) ⊎ (faults_in words ≡ [])

@@ -34,8 +34,10 @@ impl<'a> AuditPaths<'a> {
                 \n\
                 Status: 0 a true journal, 1 refused, 2 a bad command line, 3 a file that can't be read, 4 out of memory.\n\
                 A refusal is one line on standard output; standard error says where and why.\n\
-                Limits: 256 plans, and 4,000,000 moves by their costs, in each life. Settings of a life without\n\
-                end are refused.\n\
+                Limits: 256 plans, and 4,000,000 moves by their costs, in each life. Settings of an endless life\n\
+                are refused.\n\
+                With --segments: pinpool audit --segments [--ended] SETTINGS PLAN... -- FILE... audits the\n\
+                segments of an endless pool; see pinpool audit --segments --help.\n\
                 Read on: docs/formats.md, Journals.",
             )
             .about(

@@ -35,7 +35,7 @@ impl<'a> DrawPaths<'a> {
                 Status: 0 drawn, 1 refused, 2 a bad command line, 3 a file that can't be read or written, 4 out of memory.\n\
                 A refusal is one line on standard output; standard error says where and why.\n\
                 Limits: 256 plans, and 4,000,000 moves by their costs; 4,000 columns, rows for 64 frames.\n\
-                Settings of a life without end are refused.\n\
+                Settings of an endless life are refused.\n\
                 Read on: docs/formats.md, Pictures.",
             )
             .about("Draws a true journal of these plans as a picture, an SVG text.")

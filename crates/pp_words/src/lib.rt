@@ -4,11 +4,13 @@
 mod annotate;
 mod audit;
 mod check;
+mod cut;
 mod draw;
 mod format;
 mod parts;
 mod request;
 mod run;
+mod segments;
 mod simulate;
 mod words;
 
@@ -19,5 +21,6 @@ pub use draw::DrawPaths;
 pub use format::FormatPaths;
 pub use request::{Job, JobError};
 pub use run::RunPaths;
+pub use segments::SegmentsPaths;
 pub use simulate::SimulatePaths;
 pub use words::job;

@@ -9,6 +9,7 @@ use crate::check::CheckPaths;
 use crate::draw::DrawPaths;
 use crate::format::FormatPaths;
 use crate::run::RunPaths;
+use crate::segments::SegmentsPaths;
 use crate::simulate::SimulatePaths;
 use std::alloc::{AllocError, AllocFailed};
 use thiserror::Error;
@@ -28,6 +29,9 @@ pub enum Job<'a> {
     Run(RunPaths<'a>),
     /// Say whether a journal is a true one: `audit [--lives] SETTINGS JOURNAL PLAN...`.
     Audit(AuditPaths<'a>),
+    /// Say whether the segments of an endless pool's journal are true ones:
+    /// `audit --segments [--ended] SETTINGS PLAN... -- FILE...`.
+    AuditSegments(SegmentsPaths<'a>),
     /// Draw a true journal: `draw [-o FILE] SETTINGS JOURNAL PLAN...`.
     Draw(DrawPaths<'a>),
 }

@@ -42,7 +42,7 @@ impl<'a> RunPaths<'a> {
                 or a plan that is gone or a flush that failed, 4 out of memory.\n\
                 A refusal is one line on standard output; standard error says where and why.\n\
                 Limits: 32 workers, or 1,024 by settings of version 2; 256 plans, and 4,000,000 moves by their\n\
-                costs. Settings of a life without end are refused.\n\
+                costs. Settings of an endless life are refused.\n\
                 Read on: docs/formats.md, Runs and Reports.",
             )
             .about("Runs plans on threads over a device, and prints a report.")

@@ -3,17 +3,21 @@
 ghost use Rattle.std.specs.Prelude.{◌≡◌, ◌≢◌, false, map, IfOk, IfErr, IfSome, IsSome, string_bytes, option_map, true, Some};
 ghost use Rattle.clap.specs.Words.{app_of, fault_of, kind_of, subcommand_rows_of};
 ghost use Rattle.pp_shown.specs.Shown.{shown_lines, shown_path};
-ghost use Rattle.pp_words.specs.CommandLine.{asked, asked_by, asked_of, program, program_alone, PlainWordsAreThePaths};
+ghost use Rattle.pp_words.specs.CommandLine.{asked, asked_by, asked_in_parts, asked_of, asked_plainly, asked_segments};
+ghost use Rattle.pp_words.specs.CommandLine.{faults_in, program, program_alone, segments_of, segments_program};
+ghost use Rattle.pp_words.specs.CommandLine.{PlainWordsAreThePaths};
 ghost use Rattle.pp_words.specs.Faults.{IsToldAs, IsToldBy};
 ghost use Rattle.pp_words.specs.Texts.{is_ended, with_line_feed, IsSaid, IsShownText};
 
 use crate::annotate::AnnotatePaths;
 use crate::audit::AuditPaths;
 use crate::check::CheckPaths;
+use crate::cut::front_and_files;
 use crate::draw::DrawPaths;
 use crate::format::FormatPaths;
 use crate::request::{Job, JobError};
 use crate::run::RunPaths;
+use crate::segments::{SegmentsPaths, USAGE};
 use crate::simulate::SimulatePaths;
 use clap::error::ErrorKind;
 use clap::{ArgMatches, Command};
@@ -26,8 +30,9 @@ use std::fmt::Display;
 ///
 /// # Errors
 ///
-/// `Shown` where the words ask for the help or the version, `Words` where they are no command of the program, and
-/// `OutOfMemory`.
+/// `Shown` where the words ask for the help or the version, `Words` where they are no command of the program or an
+/// audit of segments without a file, and `OutOfMemory`.
+#[tactic(auto, using(crate::proofs::PlainWords::plain_words))]
 pub fn job<'a, S: AsStr>(alloc: Global, words: &'a [S]) -> Result<Job<'a>, JobError>
     // The command and its paths are what the matches of the words give, and the words have no fault.
     ensures ok { IfOk result (λ job. asked (map S.text words.entry.now) ≡ Some (asked_by job)) }
@@ -35,12 +40,26 @@ pub fn job<'a, S: AsStr>(alloc: Global, words: &'a [S]) -> Result<Job<'a>, JobEr
     ensures err { IfErr result (λ error. IsSome (asked (map S.text words.entry.now))
         → error ≡ JobError.OutOfMemory) }
     // The help and the version are shown only where the words ask for them, and all other faults are told as such.
-    ensures told { IfErr result (IsToldBy (fault_of program (map S.text words.entry.now))) }
+    ensures told { IfErr result (IsToldBy (faults_in (map S.text words.entry.now))) }
     // The text of a fault, of the help or of the version ends with a line feed, and so is never empty. A fault's shows nothing
     // that isn't printable but line feeds.
     ensures text { IfErr result IsSaid }
     // What a command asks for where none of its paths begins with a hyphen.
     ensures plain { PlainWordsAreThePaths }
+{
+    match front_and_files(words) {
+        Some((front, files)) => segments_job(alloc, front, files),
+        None => plain_job(alloc, words),
+    }
+}
+
+/// As [`job`], of words that want no audit of segments.
+fn plain_job<'a, S: AsStr>(alloc: Global, words: &'a [S]) -> Result<Job<'a>, JobError>
+    ensures ok { IfOk result (λ job. asked_plainly (map S.text words.entry.now) ≡ Some (asked_by job)) }
+    ensures err { IfErr result (λ error. IsSome (asked_plainly (map S.text words.entry.now))
+        → error ≡ JobError.OutOfMemory) }
+    ensures told { IfErr result (IsToldBy (fault_of program (map S.text words.entry.now))) }
+    ensures text { IfErr result IsSaid }
 {
     match command(alloc)?.try_get_matches_from(words) {
         Ok(matches) => match job_of(alloc, &matches)? {
@@ -48,6 +67,29 @@ pub fn job<'a, S: AsStr>(alloc: Global, words: &'a [S]) -> Result<Job<'a>, JobEr
             None => Err(JobError::Words(shown(alloc, "error: no command is named", true)?)),
         },
         Err(fault) => Err(refused(alloc, &fault, are_lines(words))),
+    }
+}
+
+/// As [`job`], of words that want an audit of segments: of their front, which `clap` reads, and of their files.
+fn segments_job<'a, S: AsStr>(
+    alloc: Global,
+    front: &'a [S],
+    files: &'a [S],
+) -> Result<Job<'a>, JobError>
+    ensures ok { IfOk result (λ job.
+        asked_in_parts (map S.text front.entry.now) (map S.text files.entry.now) ≡ Some (asked_by job)) }
+    ensures err { IfErr result (λ error.
+        IsSome (asked_in_parts (map S.text front.entry.now) (map S.text files.entry.now))
+        → error ≡ JobError.OutOfMemory) }
+    ensures told { IfErr result (IsToldBy (fault_of segments_program (map S.text front.entry.now))) }
+    ensures text { IfErr result IsSaid }
+{
+    match segments_command(alloc)?.try_get_matches_from(front) {
+        Ok(matches) => match segments_of(alloc, &matches, files)? {
+            Some(paths) => Ok(Job::AuditSegments(paths)),
+            None => Err(JobError::Words(no_file(alloc)?)),
+        },
+        Err(fault) => Err(refused(alloc, &fault, are_lines(front))),
     }
 }
 
@@ -63,6 +105,14 @@ fn command<'a>(alloc: Global) -> Result<Command<'a>, AllocError>
         .subcommand(RunPaths::command(alloc)?)?
         .subcommand(AuditPaths::command(alloc)?)?
         .subcommand(DrawPaths::command(alloc)?)?;
+    Ok(whole)
+}
+
+/// The command line that reads the front of the words of an audit of segments.
+fn segments_command<'a>(alloc: Global) -> Result<Command<'a>, AllocError>
+    ensures { IfOk result (λ command. app_of command ≡ segments_program) }
+{
+    let whole = top(alloc)?.subcommand(SegmentsPaths::command(alloc)?)?;
     Ok(whole)
 }
 
@@ -98,6 +148,35 @@ fn job_of<'a>(alloc: Global, matches: &ArgMatches<'a>) -> Result<Option<Job<'a>>
         _ => return Ok(None),
     };
     Ok(Some(job))
+}
+
+/// The audit of segments that the matches and these files ask for; none where there is no file.
+fn segments_of<'a, S: AsStr>(
+    alloc: Global,
+    matches: &ArgMatches<'a>,
+    files: &'a [S],
+) -> Result<Option<SegmentsPaths<'a>>, AllocError>
+    ensures { IfOk result (λ paths.
+        option_map asked_segments paths ≡ segments_of (subcommand_rows_of matches.now) (map S.text files.entry.now)) }
+{
+    match matches.subcommand() {
+        Some((_, given)) if !files.is_empty() => {
+            Ok(Some(SegmentsPaths::among(alloc, given, files)?))
+        }
+        _ => Ok(None),
+    }
+}
+
+/// The text of the mistake that an audit of segments has no file, as `clap` words it of other arguments.
+fn no_file(alloc: Global) -> Result<String, AllocError>
+    ensures ended { IfOk result (λ text. is_ended (string_bytes text) ≡ true) }
+    ensures quiet { IfOk result (λ text. IsShownText (string_bytes text)) }
+{
+    let text = format!(in alloc;
+        "error: the following required arguments were not provided:\n  <FILE>...\n\nUsage: {USAGE}\n\n\
+        For more information, try '--help'.\n"
+    )?;
+    shown(alloc, text.as_str(), true)
 }
 
 /// Why words with this fault give no job.

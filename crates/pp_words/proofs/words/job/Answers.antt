@@ -1,72 +1,48 @@
-use Rattle.std.proofs.Common.{◌≡◌, ◌∙◌, ap, sym, map, inl, inr, None, option_map}
-use Rattle.clap.specs.Words.{app_of, fault_of, is_simple, is_simple_and_free, kind_of, subcommand_rows_of}
-use Rattle.pp_words.specs.CommandLine.{asked, asked_by, program}
-use Rattle.pp_words.proofs.Asked.{asked_by_fault, asked_by_matches, nothing_asked, program_is_free, program_is_simple}
-use Rattle.pp_words.proofs.PlainWords.{plain_words}
-use Rattle.pp_words.proofs.Told.{told_by, told_of_memory}
+use Rattle.std.proofs.Common.{map}
+use Rattle.pp_words.proofs.Asked.{read_in_parts, read_plainly}
 use Rattle.pp_words.proofs.words.job.Goals as goal
 
 pub returns-in-Some-clause-ok : goal.returns-in-Some-clause-ok
 returns-in-Some-clause-ok g c =
-    let is : app_of c.in_ok-command.field-0 ≡ program = c.in_ok-command.ensures in
-    asked_by_matches (app_of c.in_ok-command.field-0) (map g.S.AsStr.text c.args.words.now)
-    (subcommand_rows_of c.in-Ok.matches) is
-    (c.in-Ok.ensures.kinds (ap is_simple_and_free is ∙ program_is_free))
-    ((c.in-Ok.ensures.matches (ap is_simple is ∙ program_is_simple)).1)
-    ∙ sym c.in_ok-job-in-Ok.ensures ∙ ap (option_map asked_by) c.in-Some.is
+    (read_in_parts c.segments_job.result (map g.S.AsStr.text c.args.words.now) _ _ c.in-Some.ensures.some
+    c.in-Some.ensures.front c.in-Some.ensures.files
+    (record {
+      ok = c.segments_job.ensures.ok;
+      err = c.segments_job.ensures.err;
+      told = c.segments_job.ensures.told;
+    })).ok
 
-pub returns-in-Ok-clause-err : goal.returns-in-Ok-clause-err
-returns-in-Ok-clause-err g c = λ some.
-    let is : app_of c.in_ok-command.field-0 ≡ program = c.in_ok-command.ensures in
-    let none : asked (map g.S.AsStr.text c.args.words.now) ≡ None =
-    asked_by_matches (app_of c.in_ok-command.field-0) (map g.S.AsStr.text c.args.words.now)
-    (subcommand_rows_of c.in-Ok.matches) is
-    (c.in-Ok.ensures.kinds (ap is_simple_and_free is ∙ program_is_free))
-    ((c.in-Ok.ensures.matches (ap is_simple is ∙ program_is_simple)).1)
-    ∙ sym c.in_ok-job-in-Ok.ensures ∙ ap (option_map asked_by) c.in-None.is in
-    absurd (nothing_asked (asked (map g.S.AsStr.text c.args.words.now)) none some)
+pub returns-in-Some-clause-err : goal.returns-in-Some-clause-err
+returns-in-Some-clause-err g c =
+    (read_in_parts c.segments_job.result (map g.S.AsStr.text c.args.words.now) _ _ c.in-Some.ensures.some
+    c.in-Some.ensures.front c.in-Some.ensures.files
+    (record {
+      ok = c.segments_job.ensures.ok;
+      err = c.segments_job.ensures.err;
+      told = c.segments_job.ensures.told;
+    })).err
 
-pub returns-clause-err : goal.returns-clause-err
-returns-clause-err g c = λ some.
-    let is : app_of c.in_ok-command.field-0 ≡ program = c.in_ok-command.ensures in
-    elim (c.in-Err.ensures.kinds (ap is_simple_and_free is ∙ program_is_free)) [
-      | inl memory ↦ c.refused.ensures.memory memory
-      | inr among ↦ absurd (nothing_asked (asked (map g.S.AsStr.text c.args.words.now))
-          (asked_by_fault (app_of c.in_ok-command.field-0) (map g.S.AsStr.text c.args.words.now)
-          (kind_of c.in-Err.fault) is among) some)
-    ]
+pub returns-in-Some-clause-told : goal.returns-in-Some-clause-told
+returns-in-Some-clause-told g c =
+    (read_in_parts c.segments_job.result (map g.S.AsStr.text c.args.words.now) _ _ c.in-Some.ensures.some
+    c.in-Some.ensures.front c.in-Some.ensures.files
+    (record {
+      ok = c.segments_job.ensures.ok;
+      err = c.segments_job.ensures.err;
+      told = c.segments_job.ensures.told;
+    })).told
 
-pub returns-in_err-command-clause-plain : goal.returns-in_err-command-clause-plain
-returns-in_err-command-clause-plain g c = plain_words
+pub returns-in-None-clause-ok : goal.returns-in-None-clause-ok
+returns-in-None-clause-ok g c =
+    (read_plainly c.plain_job.result (map g.S.AsStr.text c.args.words.now) c.in-None.ensures.none
+    (record { ok = c.plain_job.ensures.ok; err = c.plain_job.ensures.err; told = c.plain_job.ensures.told })).ok
 
-pub returns-in_err-job-in-Ok-clause-plain : goal.returns-in_err-job-in-Ok-clause-plain
-returns-in_err-job-in-Ok-clause-plain g c = plain_words
+pub returns-in-None-clause-err : goal.returns-in-None-clause-err
+returns-in-None-clause-err g c =
+    (read_plainly c.plain_job.result (map g.S.AsStr.text c.args.words.now) c.in-None.ensures.none
+    (record { ok = c.plain_job.ensures.ok; err = c.plain_job.ensures.err; told = c.plain_job.ensures.told })).err
 
-pub returns-in-Some-clause-plain : goal.returns-in-Some-clause-plain
-returns-in-Some-clause-plain g c = plain_words
-
-pub returns-in_err-shown-in-None-clause-plain : goal.returns-in_err-shown-in-None-clause-plain
-returns-in_err-shown-in-None-clause-plain g c = plain_words
-
-pub returns-in-Ok-clause-plain : goal.returns-in-Ok-clause-plain
-returns-in-Ok-clause-plain g c = plain_words
-
-pub returns-clause-plain : goal.returns-clause-plain
-returns-clause-plain g c = plain_words
-
-pub returns-in-Ok-clause-told : goal.returns-in-Ok-clause-told
-returns-in-Ok-clause-told g c =
-    let is : app_of c.in_ok-command.field-0 ≡ program = c.in_ok-command.ensures in
-    inr (ap (λ a. fault_of a (map g.S.AsStr.text c.args.words.now)) (sym is)
-    ∙ c.in-Ok.ensures.kinds (ap is_simple_and_free is ∙ program_is_free))
-
-pub returns-clause-told : goal.returns-clause-told
-returns-clause-told g c =
-    let is : app_of c.in_ok-command.field-0 ≡ program = c.in_ok-command.ensures in
-    elim (c.in-Err.ensures.kinds (ap is_simple_and_free is ∙ program_is_free)) [
-      | inl memory ↦ told_of_memory (fault_of program (map g.S.AsStr.text c.args.words.now)) c.refused.result
-          (c.refused.ensures.memory memory)
-      | inr among ↦ told_by (app_of c.in_ok-command.field-0) (map g.S.AsStr.text c.args.words.now)
-          (kind_of c.in-Err.fault) c.refused.result
-          is among c.refused.ensures.told
-    ]
+pub returns-in-None-clause-told : goal.returns-in-None-clause-told
+returns-in-None-clause-told g c =
+    (read_plainly c.plain_job.result (map g.S.AsStr.text c.args.words.now) c.in-None.ensures.none
+    (record { ok = c.plain_job.ensures.ok; err = c.plain_job.ensures.err; told = c.plain_job.ensures.told })).told
