@@ -1,14 +1,15 @@
 -- A ledger after a plan was prepared or submitted, and after its segment was taken out.
 use Rattle.std.proofs.Common.{◌≡◌, ◌∙◌, ℕ, ◌+◌, ◌≤◌, ◌<◌, Some, List, [], ◌∷◌, ◌++◌, length, map, drop}
-use Rattle.std.proofs.Common.{refl, sym, ap, subst, arith, length-append, suc, true, false}
+use Rattle.std.proofs.Common.{refl, sym, ap, subst, arith, length-append, suc, true, false, max}
 use Rattle.std.proofs.lemmas.Bool.{false≢true}
 use Rattle.std.proofs.lemmas.Bool.Decides.{nat_tests}
 use Rattle.std.proofs.lemmas.List.{drop_all}
-use Rattle.std.specs.Prelude.{slice_get, ◌==◌, ◌&&◌, nat_le, Result, Ok, Err, IfOk, OnErr}
+use Rattle.std.specs.Prelude.{slice_get, ◌==◌, ◌&&◌, nat_le}
 use Rattle.pp_cert.specs.Accepted.{Acceptance}
 use Rattle.pp_model.specs.declared.event.Event.{Event}
 use Rattle.pp_model.specs.declared.event.Event.TheVariants.{Submit}
 use Rattle.pp_model.specs.Pool.{State}
+use Rattle.pp_model.specs.Budget.{cost_of}
 use Rattle.pp_model.specs.Submitting.{submitted_unless, after_submit}
 use Rattle.pp_model.specs.Journals.{IsJournalFrom}
 use Rattle.pp_model.proofs.Journeys.{submit_told}
@@ -19,9 +20,11 @@ use Rattle.pp_vault.specs.StandsFor.{StandsFor}
 use Rattle.pp_vault.specs.Headline.{Holds}
 use Rattle.pp_vault.specs.Submits as vault_submits
 use Rattle.pp_vault.proofs.Kept.{headline}
+use Rattle.pp_pool.specs.Books.{greatest_from, greatest_cost}
 use Rattle.pp_ledger.specs.Segments.{Segment, begun, is_full, is_ready, with_submit, numbered}
 use Rattle.pp_ledger.specs.Ledgers.{Parts, IsSegment, IsLedger}
 use Rattle.pp_ledger.specs.Calls.{Prepares, TakesPrepared, going_on}
+use Rattle.pp_ledger.specs.Inside.{LedgerKeeps}
 use Rattle.pp_ledger.proofs.Added.{plans_before, plans_counted, named_behind}
 
 abbrev pub ledger_of : vault.Parts → Segment → Parts
@@ -36,6 +39,11 @@ holds l k = record {
 
 -- ---- a plan is prepared
 
+greatest_more : (n : ℕ) (plans : List Acceptance) (a : Acceptance)
+    → greatest_from n (plans ++ a ∷ []) ≡ max (greatest_from n plans) (cost_of a)
+greatest_more n [] a = refl
+greatest_more n (p ∷ plans) a = greatest_more (max n (cost_of p)) plans a
+
 module _ (l : Parts) (a : Acceptance) (place : ℕ) (v : vault.Parts) (t : vault_submits.Prepares l.vault a place v) where
   prepared_then : (o s : State) → IsSegment l o s → IsSegment (ledger_of v l.segment) o s
   prepared_then o s k = record {
@@ -49,7 +57,7 @@ module _ (l : Parts) (a : Acceptance) (place : ℕ) (v : vault.Parts) (t : vault
         (more_places l.vault.core.plans (a ∷ []) l.segment.prepared (drop (length o.plans) s.plans) k.prepared);
   }
 
-  prepared_ledger : IsLedger l → IsLedger (ledger_of v l.segment)
+  pub prepared_ledger : IsLedger l → IsLedger (ledger_of v l.segment)
   prepared_ledger k = record {
     endless = λ bounded. k.endless (sym (ap (λ (f : core.Parts). f.span) t.core.parts) ∙ bounded);
     opening = k.opening;
@@ -58,20 +66,18 @@ module _ (l : Parts) (a : Acceptance) (place : ℕ) (v : vault.Parts) (t : vault
     room = k.room;
   }
 
-  prepares : Prepares l a place (ledger_of v l.segment)
+  pub prepares : Prepares l a place (ledger_of v l.segment)
   prepares = record { vault = t; parts = refl; segment = prepared_then }
 
--- Prepared or refused.
-module _ {E : Type 0} (l : Parts) (a : Acceptance) (v : vault.Parts) where
-  pub prepares_by : (r : Result ℕ E) → IfOk r (λ place. vault_submits.Prepares l.vault a place v)
-      → IfOk r (λ place. Prepares l a place (ledger_of v l.segment))
-  prepares_by (Ok place) t = prepares l a place v t
-  prepares_by (Err e) t = tt
-
-  pub prepared_by : (r : Result ℕ E) → IfOk r (λ place. vault_submits.Prepares l.vault a place v)
-      → OnErr r (v ≡ l.vault) → IsLedger l → IsLedger (ledger_of v l.segment)
-  prepared_by (Ok place) t same k = prepared_ledger l a place v t k
-  prepared_by (Err e) t same k = subst (λ w. IsLedger (ledger_of w l.segment)) (sym same) k
+  -- The greatest cost rises where this plan's is greater.
+  pub prepared_keeps : (most after : ℕ) → after ≡ max most (cost_of a) → LedgerKeeps l most
+      → LedgerKeeps (ledger_of v l.segment) after
+  prepared_keeps most after is k = record {
+    ledger = prepared_ledger k.ledger;
+    greatest =
+        is ∙ ap (λ n. max n (cost_of a)) k.greatest ∙ sym (greatest_more 0 l.vault.core.plans a)
+        ∙ ap greatest_cost (sym (ap (λ (f : core.Parts). f.plans) t.core.parts));
+  }
 
 -- ---- a prepared plan is submitted
 
@@ -123,6 +129,13 @@ module _ (l : Parts) (place number : ℕ) (a : Acceptance) (v : vault.Parts) (ha
     pub submitted_is : IsLedger l → length l.segment.events < l.segment.capacity → IsLedger (ledger_of v g)
     submitted_is k room = subst (λ x. IsLedger (ledger_of v x)) (sym is) (submitted_ledger k room)
 
+    pub submitted_keeps : (most : ℕ) → LedgerKeeps l most → length l.segment.events < l.segment.capacity
+        → LedgerKeeps (ledger_of v g) most
+    submitted_keeps most k room = record {
+      ledger = submitted_is k.ledger room;
+      greatest = k.greatest ∙ ap greatest_cost (sym (ap (λ (f : core.Parts). f.plans) t.core.parts));
+    }
+
     pub takes_is : TakesPrepared l place number a (ledger_of v g)
     takes_is = subst (λ x. TakesPrepared l place number a (ledger_of v x)) (sym is) takes_prepared
 
@@ -172,6 +185,9 @@ module _ (l : Parts) (next : Segment) (ready : is_ready next ≡ true) (none_pre
     segment = chain_is k.opening k.present k.segment;
     room = omega (arith, ap (λ (x : Segment). length x.events) is, ap length (ready_events next ready));
   }
+
+  pub next_keeps : (most : ℕ) → LedgerKeeps l most → LedgerKeeps (ledger_of l.vault g) most
+  next_keeps most k = record { ledger = next_ledger k.ledger; greatest = k.greatest }
 
   -- It has begun: nothing is noted in it.
   has_begun : numbered next (before + 1) plans ≡ begun next.capacity (before + 1) plans

@@ -1,5 +1,5 @@
 -- A ledger after a request.
-use Rattle.std.proofs.Common.{◌≡◌, ◌∙◌, ◌+◌, ◌≤◌, ◌<◌, Bool, true, false, Option, Some, None, List, [], ◌∷◌, ◌++◌, length, drop}
+use Rattle.std.proofs.Common.{◌≡◌, ◌∙◌, ℕ, ◌+◌, ◌≤◌, ◌<◌, Bool, true, false, Option, Some, None, List, [], ◌∷◌, ◌++◌, length, drop}
 use Rattle.std.proofs.Common.{refl, sym, ap, subst, arith, append-nil, length-append, if◌then◌else◌}
 use Rattle.std.specs.Prelude.{option_map}
 use Rattle.pp_model.specs.declared.moves.Move.{Move}
@@ -22,9 +22,11 @@ use Rattle.pp_pool.specs.declared.response.BookAnswer.TheVariants.{Acts, Idle, L
 use Rattle.pp_pool.specs.declared.response.BookAnswer.TheVariants.{Opened, Joined, Flushed, No}
 use Rattle.pp_pool.specs.Requests.{call_of, event_of, events_in}
 use Rattle.pp_pool.specs.Performing.{ComesTo, DoesUnless, TellsOf}
+use Rattle.pp_pool.specs.Books.{greatest_cost}
 use Rattle.pp_pool.proofs.Noted.{IsNoted, noted}
 use Rattle.pp_ledger.specs.Segments.{Segment, with_event}
 use Rattle.pp_ledger.specs.Ledgers.{Parts, IsSegment, IsLedger}
+use Rattle.pp_ledger.specs.Inside.{LedgerKeeps}
 use Rattle.pp_ledger.proofs.Going.{ledger_of}
 
 -- ---- what a call leaves
@@ -125,3 +127,12 @@ module _ (l : Parts) (asked : Request) (out : BookAnswer) (v : vault.Parts) (don
   pub performed_is : (g : Segment) → g ≡ with_event l.segment e → IsLedger l
       → length l.segment.events < l.segment.capacity → IsLedger (ledger_of v g)
   performed_is g same k room = subst (λ x. IsLedger (ledger_of v x)) (sym same) (performed_ledger k room)
+
+  pub performed_keeps : (g : Segment) → g ≡ with_event l.segment e → (most : ℕ) → LedgerKeeps l most
+      → length l.segment.events < l.segment.capacity → LedgerKeeps (ledger_of v g) most
+  performed_keeps g same most k room = record {
+    ledger = performed_is g same k.ledger room;
+    greatest =
+        k.greatest
+        ∙ ap greatest_cost (sym (kept_plans l.vault v asked out comes does k.ledger.present k.ledger.segment.stands));
+  }

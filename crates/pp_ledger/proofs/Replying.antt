@@ -51,7 +51,7 @@ some_mapped (Some t) = refl
 module _ (l : Parts) (asked : Request) (out : BookAnswer) (v : vault.Parts) (done : Option (Move × Reply))
     (comes : ComesTo l.vault asked out v) (does : DoesUnless l.vault asked out v) (tells : TellsOf l.vault asked out done)
     (e : Option Event) (is : e ≡ event_in done) (fit : TokensFit asked out) where
-  replies : (s : State) → StandsFor l.vault s → Replies asked (record { event = e; answer = out })
+  pub replies : (s : State) → StandsFor l.vault s → Replies asked (record { event = e; answer = out })
   replies s st = record {
     done = ap is_some is ∙ some_mapped done ∙ tells_done l.vault v asked s st out comes done tells;
     event =

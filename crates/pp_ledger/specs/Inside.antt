@@ -1,7 +1,9 @@
--- How a segment is kept: a journal, and a vector of places.
-use Rattle.std.specs.Prelude.{◌≤◌, length, vec_capacity}
+-- How a segment is kept: a journal, and a vector of places. And what a ledger keeps that callers don't see.
+use Rattle.std.specs.Prelude.{◌≡◌, ℕ, ◌≤◌, length, vec_capacity}
+use Rattle.pp_pool.specs.Books.{greatest_cost}
 use Rattle.pp_ledger.specs.declared.segment.Segment.TheInside.{Inside}
 use Rattle.pp_ledger.specs.Segments.{Segment}
+use Rattle.pp_ledger.specs.Ledgers.{Parts, IsLedger}
 
 -- What a segment is to a caller.
 abbrev pub segment_in : Inside → Segment
@@ -19,3 +21,8 @@ segment_in a =
 pub record PreparedFit (a : Inside) : Type 0 where
   pub few : length a.prepared.items ≤ length a.journal.items
   pub room : a.journal.capacity ≤ vec_capacity a.prepared
+
+-- What holds of every ledger, and the greatest cost of its prepared plans, which it keeps.
+pub record LedgerKeeps (l : Parts) (most : ℕ) : Type 0 where
+  pub ledger : IsLedger l
+  pub greatest : most ≡ greatest_cost l.vault.core.plans

@@ -13,6 +13,7 @@ ghost use Rattle.pp_vault.specs.Hands.{HandsFit};
 ghost use Rattle.pp_vault.specs.Headline.{Holds};
 ghost use Rattle.pp_vault.specs.Stages.{AllIdle};
 ghost use Rattle.pp_vault.specs.StandsFor.{StandsFor};
+ghost use Rattle.pp_pool.specs.Books.{greatest_cost};
 ghost use Rattle.pp_ledger.specs.Segments.{empty_segment, is_full};
 ghost use Rattle.pp_ledger.specs.Ledgers.{IsSegment, IsLedger};
 ghost use Rattle.pp_ledger.specs.Calls.{Prepares, TakesPrepared, SubmitFails, Performs, can_go_on, going_on};
@@ -40,6 +41,8 @@ use std::mem;
 pub struct Ledger {
     vault: Vault,
     segment: Segment,
+    // The greatest cost of the prepared plans.
+    most: u64,
 }
 
 // By hand, so that code that lets one go calls this, and doesn't let each field go anew.
@@ -48,12 +51,14 @@ impl Drop for Ledger {
         let Ledger {
             vault: _,
             segment: _,
+            most: _,
         } = self;
     }
 }
 
 impl Model for Ledger {
-    ghost use Rattle.pp_ledger.specs.Ledgers.{Parts, IsLedger};
+    ghost use Rattle.pp_ledger.specs.Ledgers.{Parts};
+    ghost use Rattle.pp_ledger.specs.Inside.{LedgerKeeps};
     ghost use Rattle.pp_ledger.specs.Coding.{coded_parts};
 
     ghost Value = { Parts };
@@ -62,7 +67,7 @@ impl Model for Ledger {
 
     ghost view = { λ l. record { vault = l.vault; segment = l.segment } };
 
-    ghost invariant = { λ l. IsLedger (record { vault = l.vault; segment = l.segment }) };
+    ghost invariant = { λ l. LedgerKeeps (record { vault = l.vault; segment = l.segment }) l.most };
 }
 
 impl Ledger {
@@ -93,7 +98,14 @@ impl Ledger {
     {
         let (vault, hands) = Vault::new(alloc, settings)?;
         match Segment::with_room(alloc, room) {
-            Ok(segment) => Ok((Ledger { vault, segment }, hands)),
+            Ok(segment) => {
+                let ledger = Ledger {
+                    vault,
+                    segment,
+                    most: 0,
+                };
+                Ok((ledger, hands))
+            }
             Err(_) => {
                 vault.scrap(hands);
                 Err(VaultError::OutOfMemory)
@@ -123,7 +135,14 @@ impl Ledger {
         ensures kept { IsLedger self.new }
         ensures holds { Holds self.new.vault }
     {
-        self.vault.prepare(accepted)
+        let cost = accepted.cost();
+        match self.vault.prepare(accepted) {
+            Ok(prepared) => {
+                self.most = self.most.max(cost);
+                Ok(prepared)
+            }
+            Err(refused) => Err(refused),
+        }
     }
 
     /// Takes a prepared plan in, which waits behind the others, and answers its number: one event. It takes no
@@ -264,6 +283,15 @@ impl Ledger {
         self.vault.budget()
     }
 
+    /// The greatest cost of all prepared plans; 0 where there is none.
+    ///
+    /// From the taking of a plan to its end a worker has at most as many events as the plan costs.
+    pub fn most(&self) -> u64
+        ensures { result ≡ greatest_cost self.now.vault.core.plans }
+    {
+        self.most
+    }
+
     /// How many pages are newer than the device's. It looks at every page.
     pub fn dirty(&self) -> u32
         ensures { (s : State) → StandsFor self.now.vault s → result ≡ dirty_pages s }
@@ -275,7 +303,11 @@ impl Ledger {
     pub fn close(self, hands: Hands) -> Segment
         ensures { result ≡ self.segment }
     {
-        let Ledger { vault, segment } = self;
+        let Ledger {
+            vault,
+            segment,
+            most: _,
+        } = self;
         vault.scrap(hands);
         segment
     }

@@ -7,8 +7,15 @@
 pub use error::LedgerError;
 pub use ledger::Ledger;
 pub use segment::Segment;
+pub use sink::Sink;
+pub use site::LedgerSite;
+pub use vault_site::VaultSite;
 
 mod error;
 pub mod laws;
 mod ledger;
 mod segment;
+mod showing;
+mod sink;
+mod site;
+mod vault_site;

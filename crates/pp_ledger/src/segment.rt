@@ -118,7 +118,7 @@ impl Segment {
 
     /// Whether it is empty and has memory for an event, so that a ledger can go on in it.
     #[tactic(auto, using(crate::proofs::Going::ready_prepared))]
-    pub(crate) fn is_ready(&self) -> bool
+    pub fn is_ready(&self) -> bool
         ensures ready { result ≡ is_ready self.now }
         ensures none_prepared { result ≡ true → self.now.prepared ≡ [] }
     {

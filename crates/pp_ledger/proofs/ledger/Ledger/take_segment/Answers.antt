@@ -2,15 +2,15 @@ use Rattle.std.proofs.Common.{◌≡◌, ◌∙◌, sym, subst, rules}
 use Rattle.pp_core.specs.StandsFor as core
 use Rattle.pp_ledger.specs.Ledgers.{IsSegment}
 use Rattle.pp_ledger.specs.Calls.{going_on}
-use Rattle.pp_ledger.proofs.Going.{ledger_of, chain_is, next_ledger, goes_on}
+use Rattle.pp_ledger.proofs.Going.{ledger_of, chain_is, next_ledger, next_keeps, goes_on}
 use Rattle.pp_ledger.proofs.ledger.Ledger.take_segment.Goals as goal
 
 pub invariant_of-self : goal.invariant_of-self
 invariant_of-self c =
-    next_ledger (ledger_of c.self.inside.vault c.self.inside.segment) c.args.empty (search rules)
+    next_keeps (ledger_of c.self.inside.vault c.self.inside.segment) c.args.empty (search rules)
     (c.is_ready.ensures.none_prepared (search rules)) c.number-number.result c.number-number.ensures c.plans.result
     (λ s st. c.plans.ensures s (subst (λ f. core.StandsFor f s) (sym c.core.ensures) st.core)) c.replace.new.dest
-    (c.replace.ensures.after ∙ c.numbered-next.ensures) c.self.invariant
+    (c.replace.ensures.after ∙ c.numbered-next.ensures) c.self.inside.most c.self.invariant
 
 pub returns-clause-goes_on : goal.returns-clause-goes_on
 returns-clause-goes_on c =
@@ -18,7 +18,7 @@ returns-clause-goes_on c =
     (goes_on (ledger_of c.self.inside.vault c.self.inside.segment) c.args.empty (search rules)
     (c.is_ready.ensures.none_prepared (search rules)) c.number-number.result c.number-number.ensures c.plans.result
     (λ s st. c.plans.ensures s (subst (λ f. core.StandsFor f s) (sym c.core.ensures) st.core)) c.replace.new.dest
-    (c.replace.ensures.after ∙ c.numbered-next.ensures) c.self.invariant)
+    (c.replace.ensures.after ∙ c.numbered-next.ensures) c.self.invariant.ledger)
 
 pub returns-clause-chain : goal.returns-clause-chain
 returns-clause-chain c o s told =
@@ -32,4 +32,4 @@ returns-clause-kept c =
     next_ledger (ledger_of c.self.inside.vault c.self.inside.segment) c.args.empty (search rules)
     (c.is_ready.ensures.none_prepared (search rules)) c.number-number.result c.number-number.ensures c.plans.result
     (λ s st. c.plans.ensures s (subst (λ f. core.StandsFor f s) (sym c.core.ensures) st.core)) c.replace.new.dest
-    (c.replace.ensures.after ∙ c.numbered-next.ensures) c.self.invariant
+    (c.replace.ensures.after ∙ c.numbered-next.ensures) c.self.invariant.ledger
