@@ -21,7 +21,7 @@ use Rattle.pp_vault.specs.Headline.{Holds}
 use Rattle.pp_vault.specs.Submits as vault_submits
 use Rattle.pp_vault.proofs.Kept.{headline}
 use Rattle.pp_pool.specs.Books.{greatest_from, greatest_cost}
-use Rattle.pp_ledger.specs.Segments.{Segment, begun, is_full, is_ready, with_submit, numbered}
+use Rattle.pp_ledger.specs.Segments.{Segment, begun, is_full, is_ready, count_submits, with_submit, numbered}
 use Rattle.pp_ledger.specs.Ledgers.{Parts, IsSegment, IsLedger}
 use Rattle.pp_ledger.specs.Calls.{Prepares, TakesPrepared, going_on}
 use Rattle.pp_ledger.specs.Inside.{LedgerKeeps}
@@ -141,7 +141,7 @@ module _ (l : Parts) (place number : ℕ) (a : Acceptance) (v : vault.Parts) (ha
 
 -- ---- a segment is taken out
 
--- What is ready has no event and, where it has no more places than events, no place.
+-- What is ready has no event and, where it has a place for each submit alone, no place.
 pub ready_events : (g : Segment) → is_ready g ≡ true → g.events ≡ []
 ready_events g ready = by g.events ready
   where
@@ -151,8 +151,8 @@ ready_events g ready = by g.events ready
         let some : (suc (length es) == 0) ≡ false = grind (arith, nat_tests) in
         absurd (false≢true (sym (ap (λ b. b && nat_le 1 g.capacity) some) ∙ h))
 
-pub ready_prepared : (g : Segment) → length g.prepared ≤ length g.events → is_ready g ≡ true → g.prepared ≡ []
-ready_prepared g few ready = by g.prepared (omega (arith, few, ap length (ready_events g ready)))
+pub ready_prepared : (g : Segment) → length g.prepared ≡ count_submits g.events → is_ready g ≡ true → g.prepared ≡ []
+ready_prepared g named ready = by g.prepared (omega (arith, named, ap count_submits (ready_events g ready)))
   where
     by : (ns : List ℕ) → length ns ≤ 0 → ns ≡ []
     by [] h = refl

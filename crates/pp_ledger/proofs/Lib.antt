@@ -1,3 +1,4 @@
+pub mod Counted
 pub mod Added
 pub mod Going
 pub mod Performed

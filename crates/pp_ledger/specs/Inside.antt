@@ -2,7 +2,7 @@
 use Rattle.std.specs.Prelude.{◌≡◌, ℕ, ◌≤◌, length, vec_capacity}
 use Rattle.pp_pool.specs.Books.{greatest_cost}
 use Rattle.pp_ledger.specs.declared.segment.Segment.TheInside.{Inside}
-use Rattle.pp_ledger.specs.Segments.{Segment}
+use Rattle.pp_ledger.specs.Segments.{Segment, count_submits}
 use Rattle.pp_ledger.specs.Ledgers.{Parts, IsLedger}
 
 -- What a segment is to a caller.
@@ -16,10 +16,10 @@ segment_in a =
       capacity = a.journal.capacity;
     }
 
--- There is memory for as many places as for events, and no more places than events. So where an event has room, so
--- has a place.
+-- Each submit among the events has a place, and no place is left over. There is memory for as many places as for
+-- events. So where an event has room, so has a place.
 pub record PreparedFit (a : Inside) : Type 0 where
-  pub few : length a.prepared.items ≤ length a.journal.items
+  pub named : length a.prepared.items ≡ count_submits a.journal.items
   pub room : a.journal.capacity ≤ vec_capacity a.prepared
 
 -- What holds of every ledger, and the greatest cost of its prepared plans, which it keeps.

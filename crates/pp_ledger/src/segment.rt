@@ -2,7 +2,8 @@
 
 ghost use Rattle.std.specs.Prelude.{◌≡◌, ◌<◌, [], true, IfOk, IsSome, length, option_map};
 ghost use Rattle.pp_model.specs.declared.event.Event.TheVariants.{Step};
-ghost use Rattle.pp_ledger.specs.Segments.{empty_segment, is_full, is_ready, with_event, with_submit, numbered};
+ghost use Rattle.pp_ledger.specs.Segments.{empty_segment, is_full, is_ready, count_submits};
+ghost use Rattle.pp_ledger.specs.Segments.{with_event, with_submit, numbered};
 
 use pp_journal::Journal;
 use pp_model::Event;
@@ -66,6 +67,13 @@ impl Segment {
             number: 0,
             plans_before: 0,
         })
+    }
+
+    /// Does nothing. It tells that each submit among the events has its place, and that no place is left over.
+    pub fn known(&self)
+        ensures { length self.now.prepared ≡ count_submits self.now.events }
+    {
+        let _journal = &self.journal;
     }
 
     /// What was done in it, the first event first.
@@ -144,6 +152,7 @@ impl Segment {
     }
 
     /// Adds what a vault did, its move with the reply, where it did one.
+    #[tactic(auto, using(crate::proofs::Counted::step_counts))]
     #[inline(always)]
     pub(crate) fn note(&mut self, done: Option<Done>) -> Option<Event>
         requires { IsSome done → length self.old.events < self.old.capacity }
@@ -157,6 +166,7 @@ impl Segment {
     }
 
     /// Adds the submit of this number, of the plan that is prepared at this place.
+    #[tactic(auto, using(crate::proofs::Counted::submit_counts, crate::proofs::Counted::counted_within))]
     pub(crate) fn note_submit(&mut self, plan: u64, place: u32)
         requires { length self.old.events < self.old.capacity }
         ensures { self.new ≡ with_submit self.old plan place }

@@ -1,0 +1,5 @@
+use Rattle.pp_served.proofs.Served.{run_taken}
+use Rattle.pp_served.proofs.laws.runs_are_taken.Goals as goal
+
+pub returns : goal.returns
+returns c = run_taken
