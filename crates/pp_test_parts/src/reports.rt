@@ -1,9 +1,10 @@
 //! Journals with their reports, worked out by hand.
 
-use crate::common::same;
+use crate::common::{is_printed, same};
 use pp_model::Event;
 use pp_report::{Asked, Journal, Line, RunRecord, Told, report};
 use pp_test_plain::samples::WRITTEN;
+use pp_totals::Totals;
 use std::alloc::Global;
 use std::process::Abort;
 use std::test::*;
@@ -115,4 +116,40 @@ dirty               0
 #[test]
 fn three_plans_of_two_workers_and_one_is_gone(rt: HostRuntime) -> Result<(), Fail> {
     reports(&rt, rt.alloc(), 3, 0, MIXED, MIXED_REPORT)
+}
+
+/// The totals of these lines.
+fn totals_of(rt: &impl Abort, alloc: Global, journal: &str) -> Result<Totals, Fail> {
+    let events = Journal::from_events(alloc, &events_of(rt, alloc, journal)?)?;
+    Ok(Totals::of(&events))
+}
+
+/// The totals of [`MIXED`] and [`WRITTEN`] together.
+const BOTH_TOTALS: &str = "submitted           4
+taken               4
+done                3
+gone                1
+moves              28
+hits                1
+loads               2
+readfaults          1
+misreads            0
+writebacks          0
+writefaults         1
+flushes             1
+";
+
+#[test]
+fn totals_add_up(rt: HostRuntime) -> Result<(), Fail> {
+    let alloc = rt.alloc();
+    let mixed = totals_of(&rt, alloc, MIXED)?;
+    let written = totals_of(&rt, alloc, WRITTEN)?;
+    is_printed(&rt, alloc, mixed.saturating_add(written), BOTH_TOTALS)?;
+    same(&rt, mixed.saturating_add(Totals::default()), mixed);
+    same(&rt, totals_of(&rt, alloc, "")?, Totals::new());
+    let mut full = Totals::new();
+    full.moves = u64::MAX;
+    same(&rt, full.saturating_add(written).moves, u64::MAX);
+    same(&rt, full.saturating_add(written).loads, 1);
+    Ok(())
 }

@@ -1,0 +1,3 @@
+-- What contracts cite, lowest first.
+pub mod Counting
+pub mod Complete
