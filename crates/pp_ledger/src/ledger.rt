@@ -303,11 +303,7 @@ impl Ledger {
     pub fn close(self, hands: Hands) -> Segment
         ensures { result ≡ self.segment }
     {
-        let Ledger {
-            vault,
-            segment,
-            most: _,
-        } = self;
+        let Ledger { vault, segment, .. } = self;
         vault.scrap(hands);
         segment
     }
