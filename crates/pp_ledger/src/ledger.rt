@@ -303,7 +303,11 @@ impl Ledger {
     pub fn close(self, hands: Hands) -> Segment
         ensures { result ≡ self.segment }
     {
-        let Ledger { vault, segment, .. } = self;
+        let Ledger {
+            vault,
+            segment,
+            most: _,
+        } = self;
         vault.scrap(hands);
         segment
     }
