@@ -4,5 +4,6 @@ pub mod Judged
 pub mod Staged
 pub mod Rehearsed
 pub mod Audited
+pub mod Segmented
 pub mod Painted
 pub mod Ended

@@ -10,16 +10,18 @@ use Rattle.pp_model.specs.Submitting.{after_submits}
 use Rattle.pp_simulate.specs.Simulating.{KeepsNoMore, Simulates}
 use Rattle.pp_simulate.specs.declared.error.SimulateError.TheVariants.{Submit, TooManyPrepared}
 use Rattle.pp_judge.specs.Judgement.{Stage, audited_in, certification, judgement, lives_audited_in, staged_in}
+use Rattle.pp_judge.specs.Judgement.{segments_audited_in}
 use Rattle.pp_judge.specs.Steps.{is_want_of_memory}
 use Rattle.pp_judge.specs.declared.contents.Contents.{Contents}
 use Rattle.pp_judge.specs.declared.contents.Contents.TheVariants.{Check, Annotate, Simulate, Audit, AuditLives, Draw}
+use Rattle.pp_judge.specs.declared.contents.Contents.TheVariants.{AuditSegments}
 use Rattle.pp_judge.specs.declared.error.JudgeError.{JudgeError}
 use Rattle.pp_judge.specs.declared.error.JudgeError.TheVariants as judge_error
 use Rattle.pp_judge.specs.declared.exit.Figures.{Figures}
 use Rattle.pp_judge.specs.declared.exit.Exit.{Exit}
 use Rattle.pp_judge.specs.declared.exit.Exit.TheVariants.{Done, Made, Simulated, Formatted, Ran, Stopped, Audited, Drawn}
 use Rattle.pp_judge.specs.declared.exit.Exit.TheVariants.{Shown, Kept, Refused, Misused, Wordless, InUse, Unread}
-use Rattle.pp_judge.specs.declared.exit.Exit.TheVariants.{Unwritten, OutOfMemory}
+use Rattle.pp_judge.specs.declared.exit.Exit.TheVariants.{AuditedSegments, Unwritten, OutOfMemory}
 
 -- what a run comes to; texts are their bytes
 pub data Answer : Type 0 where
@@ -30,6 +32,7 @@ pub data Answer : Type 0 where
   ran : (report : List ℕ) → (is_well : Bool) → Answer
   stopped : (text : List ℕ) → Answer
   audited : (lines : ℕ) → Answer
+  audited_segments : (lines segments : ℕ) → Answer
   drawn : (text : List ℕ) → Answer
   shown : (text : List ℕ) → Answer
   refused : JudgeError → Answer
@@ -50,6 +53,7 @@ seen (Formatted pages) = formatted pages
 seen (Ran report) = ran (string_bytes report.text) report.is_well
 seen (Stopped text) = stopped (string_bytes text)
 seen (Audited lines) = audited lines
+seen (AuditedSegments told) = audited_segments told.lines told.segments
 seen (Drawn text) = drawn (string_bytes text)
 seen (Shown text) = shown (string_bytes text)
 seen (Refused refusal) = refused refusal
@@ -70,6 +74,7 @@ status_of (formatted pages) = 0
 status_of (ran report is_well) = if is_well then 0 else 3
 status_of (stopped text) = 1
 status_of (audited lines) = 0
+status_of (audited_segments lines segments) = 0
 status_of (drawn text) = 0
 status_of (shown text) = 0
 status_of (refused refusal) = 1
@@ -90,6 +95,7 @@ is_output_of (formatted pages) = true
 is_output_of (ran report is_well) = true
 is_output_of (stopped text) = true
 is_output_of (audited lines) = true
+is_output_of (audited_segments lines segments) = true
 is_output_of (drawn text) = true
 is_output_of (shown text) = true
 is_output_of (refused refusal) = true
@@ -145,6 +151,15 @@ abbrev pub audit_answer_of : (lives : Bool) → (settings journal : List ℕ) �
 audit_answer_of false settings journal plans = audit_answer settings journal plans
 audit_answer_of true settings journal plans = lives_answer settings journal plans
 
+-- segments that are audited: how many lines and segments there are, or the refusal
+abbrev pub answer_of_segments : Result (ℕ × ℕ) JudgeError → Answer
+answer_of_segments (Ok counts) = audited_segments counts.0 counts.1
+answer_of_segments (Err refusal) = refused refusal
+
+-- what the bytes of the files of `audit --segments` come to; `ended` is whether `--ended` is given
+abbrev pub segments_answer : (ended : Bool) → (settings : List ℕ) → (plans files : List (List ℕ)) → Answer
+segments_answer ended settings plans files = answer_of_segments (segments_audited_in ended settings plans files)
+
 -- what may be answered where this is the verdict on a journal that is to be drawn: some picture of a true one, whose text no
 -- clause says; and else the refusal
 abbrev pub IsDrawingAnswer : Result ℕ JudgeError → Answer → Type 0
@@ -196,6 +211,9 @@ MayAnswer (Audit files) answer =
     answer ≡ audit_answer files.settings.now files.journal.now (map (λ plan. plan.items) files.plans.now)
 MayAnswer (AuditLives files) answer =
     answer ≡ lives_answer files.settings.now files.journal.now (map (λ plan. plan.items) files.plans.now)
+MayAnswer (AuditSegments files) answer =
+    answer ≡ segments_answer files.ended files.settings.now (map (λ plan. plan.items) files.plans.now)
+    (map (λ file. file.items) files.files.now)
 MayAnswer (Draw files) answer =
     MayDraw files.settings.now files.journal.now (map (λ plan. plan.items) files.plans.now) answer
 

@@ -1,5 +1,5 @@
 -- What the contents of the files come to.
-use Rattle.std.specs.Prelude.{ℕ, if◌then◌else◌, List, [], ◌∷◌, Option, None, Some, Result, Ok, Err}
+use Rattle.std.specs.Prelude.{ℕ, Bool, not, if◌then◌else◌, List, [], ◌∷◌, Option, None, Some, Result, Ok, Err}
 use Rattle.std.specs.Str.{is_utf8}
 use Rattle.pp_settings.specs.Settings.{Configuration, geometry_of}
 use Rattle.pp_settings.specs.Layout.{page_count}
@@ -23,11 +23,13 @@ use Rattle.pp_script.specs.Reading.{reading as read_script}
 use Rattle.pp_script.specs.declared.error.ScriptError.TheVariants.{NotACue}
 use Rattle.pp_report.specs.Auditing.{auditing}
 use Rattle.pp_report.specs.AuditingLives.{auditing_lives}
+use Rattle.pp_segments.specs.Auditing.{auditing as auditing_segments}
+use Rattle.pp_segments.specs.declared.error.SegmentError.TheVariants as segment_error
 use Rattle.pp_judge.specs.declared.judgement.Sources.{Sources}
 use Rattle.pp_judge.specs.declared.device.DeviceSize.{DeviceSize}
 use Rattle.pp_judge.specs.declared.error.JudgeError.{JudgeError}
 use Rattle.pp_judge.specs.declared.error.JudgeError.TheVariants.{Settings, Script, Plan, Certificate, Check, Annotate}
-use Rattle.pp_judge.specs.declared.error.JudgeError.TheVariants.{OtherLife, Audit}
+use Rattle.pp_judge.specs.declared.error.JudgeError.TheVariants.{OtherLife, Audit, Segments}
 use Rattle.pp_text.specs.Steps.{◌>>=◌, must}
 use Rattle.pp_judge.specs.Steps.{refusing}
 
@@ -40,6 +42,13 @@ unfoldable pub bounded_in : List ℕ → Result Configuration JudgeError
 bounded_in bytes = do
   s ← settings_in bytes
   seen ← must (is_bounded s.span) OtherLife
+  Ok s
+
+-- The same for what serves endless lives alone: settings of a bounded life are refused, behind all else of them.
+unfoldable pub endless_in : List ℕ → Result Configuration JudgeError
+endless_in bytes = do
+  s ← settings_in bytes
+  seen ← must (not (is_bounded s.span)) (Segments segment_error.OtherLife)
   Ok s
 
 -- The plan that bytes spell under the settings; what is no text is no JSON.
@@ -151,3 +160,20 @@ unfoldable pub lives_audited_in : (settings journals : List ℕ) → (plans : Li
 lives_audited_in settings journals plans = do
   w ← workload_in settings plans
   refusing Audit (auditing_lives w.0 w.1 journals)
+
+-- What the bytes of settings, whose life must be endless, and of its prepared plans spell: each is refused in its turn.
+unfoldable pub prepared_in : (settings : List ℕ) → (plans : List (List ℕ))
+    → Result (Configuration × List Acceptance) JudgeError
+prepared_in settings plans = do
+  s ← endless_in settings
+  accepted ← accepted_all s plans
+  Ok (s, accepted)
+
+-- The verdict on the bytes of files of segments, once the settings and the plans are read: how many lines and segments they
+-- have, where they are those of a true journal with these prepared plans, and else their first fault. The files follow each
+-- other. If `ended`, nothing may be left to do at the end.
+unfoldable pub segments_audited_in : (ended : Bool) → (settings : List ℕ) → (plans files : List (List ℕ))
+    → Result (ℕ × ℕ) JudgeError
+segments_audited_in ended settings plans files = do
+  w ← prepared_in settings plans
+  refusing Segments (auditing_segments w.0 w.1 ended files)

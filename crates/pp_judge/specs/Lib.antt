@@ -1,4 +1,5 @@
 pub mod Steps
 pub mod Judgement
+pub mod Passed
 pub mod Answers
 pub mod Lines

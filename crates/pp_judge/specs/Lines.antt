@@ -11,11 +11,12 @@ use Rattle.pp_annotate.specs.Refusals.{annotate_error_row}
 use Rattle.pp_script.specs.Refusals.{script_error_row}
 use Rattle.pp_simulate.specs.Refusals.{simulate_error_row}
 use Rattle.pp_report.specs.Refusals.{audit_error_row}
-use Rattle.pp_judge.specs.Answers.{Answer, done, made, simulated, formatted, ran, stopped, audited, drawn, shown}
-use Rattle.pp_judge.specs.Answers.{kept, refused, misused, wordless, in_use, unread, unwritten, out_of_memory}
+use Rattle.pp_segments.specs.Refusals.{segment_error_row}
+use Rattle.pp_judge.specs.Answers.{Answer, done, made, simulated, formatted, ran, stopped, audited, audited_segments}
+use Rattle.pp_judge.specs.Answers.{drawn, shown, kept, refused, misused, wordless, in_use, unread, unwritten, out_of_memory}
 use Rattle.pp_judge.specs.declared.error.JudgeError.{JudgeError}
 use Rattle.pp_judge.specs.declared.error.JudgeError.TheVariants.{Settings, Script, Plan, Certificate, Check, Annotate}
-use Rattle.pp_judge.specs.declared.error.JudgeError.TheVariants.{Simulate, OtherLife, Audit}
+use Rattle.pp_judge.specs.declared.error.JudgeError.TheVariants.{Simulate, OtherLife, Audit, Segments}
 use Rattle.pp_judge.specs.declared.exit.Figures.{Figures}
 
 -- The number and the name of a refusal, and what it is about.
@@ -29,6 +30,7 @@ judge_error_row (Check e) = check_error_row e
 judge_error_row (Annotate e) = annotate_error_row e
 judge_error_row (Simulate e) = simulate_error_row e
 judge_error_row (Audit e) = audit_error_row e
+judge_error_row (Segments e) = segment_error_row e
 
 -- `refused`, and these.
 abbrev pub refusal_line : JudgeError → List ℕ
@@ -52,6 +54,8 @@ text_of (formatted pages) = codes "formatted " ++ decimal pages ++ codes " pages
 text_of (ran report is_well) = report
 text_of (stopped text) = text
 text_of (audited lines) = codes "audited " ++ decimal lines ++ codes " lines\n"
+text_of (audited_segments lines segments) =
+    codes "audited " ++ decimal lines ++ codes " lines in " ++ decimal segments ++ codes " segments\n"
 text_of (drawn text) = text
 text_of (shown text) = text
 text_of (refused refusal) = refusal_line refusal ++ codes "\n"

@@ -7,9 +7,10 @@ use Rattle.pp_annotate.specs.Refusals.{is_annotate_memory}
 use Rattle.pp_script.specs.Refusals.{is_script_memory}
 use Rattle.pp_simulate.specs.Refusals.{is_simulate_memory}
 use Rattle.pp_report.specs.Refusals.{is_audit_memory}
+use Rattle.pp_segments.specs.Refusals.{is_segment_memory}
 use Rattle.pp_judge.specs.declared.error.JudgeError.{JudgeError}
 use Rattle.pp_judge.specs.declared.error.JudgeError.TheVariants.{Settings, Script, Plan, Certificate, Check, Annotate}
-use Rattle.pp_judge.specs.declared.error.JudgeError.TheVariants.{Simulate, OtherLife, Audit}
+use Rattle.pp_judge.specs.declared.error.JudgeError.TheVariants.{Simulate, OtherLife, Audit, Segments}
 
 -- What was done, or the refusal that its fault is.
 abbrev pub refusing : {A E : Type 0} → (E → JudgeError) → Result A E → Result A JudgeError
@@ -27,6 +28,7 @@ is_want_of_memory (Check e) = false
 is_want_of_memory (Annotate e) = is_annotate_memory e
 is_want_of_memory (Simulate e) = is_simulate_memory e
 is_want_of_memory (Audit e) = is_audit_memory e
+is_want_of_memory (Segments e) = is_segment_memory e
 
 -- A value shows itself.
 abbrev pub same : {A : Type 0} → A → A

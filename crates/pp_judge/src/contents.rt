@@ -3,6 +3,7 @@
 ghost use Rattle.std.specs.Prelude.{map};
 ghost use Rattle.pp_judge.specs.Answers.{audit_answer, certification_answer, judgement_answer, ComesTo, IsDrawingAnswer};
 ghost use Rattle.pp_judge.specs.Answers.{MayAnswer, MayCome, IsSimulationAnswer, lives_answer};
+ghost use Rattle.pp_judge.specs.Answers.{segments_answer};
 ghost use Rattle.pp_judge.specs.Judgement.{audited_in, staged_in};
 
 use crate::auditing::{audit, audit_lives};
@@ -10,6 +11,7 @@ use crate::drawing::draw;
 use crate::exit::{Exit, Figures};
 use crate::judgement::{certify, judge};
 use crate::rehearsal::rehearse;
+use crate::segments::{SegmentsFiles, audit_segments};
 use std::alloc::Global;
 
 /// A command with the bytes of the files that it reads.
@@ -25,6 +27,8 @@ pub enum Contents<'a> {
     Audit(AuditFiles<'a>),
     /// The journals of a pool's lives are audited, which stand in one text.
     AuditLives(AuditFiles<'a>),
+    /// The segments of an endless pool's journal are audited.
+    AuditSegments(SegmentsFiles<'a>),
     /// A journal is drawn.
     Draw(DrawFiles<'a>),
 }
@@ -95,6 +99,7 @@ pub fn exit_of<'a>(alloc: Global, contents: Contents<'_>) -> Exit<'a>
         Contents::Simulate(files) => simulated(alloc, files),
         Contents::Audit(files) => audited(alloc, files),
         Contents::AuditLives(files) => lives_audited(alloc, files),
+        Contents::AuditSegments(files) => segments_audited(alloc, files),
         Contents::Draw(files) => drawn(alloc, files),
     }
 }
@@ -150,6 +155,17 @@ fn lives_audited<'a>(alloc: Global, files: AuditFiles<'_>) -> Exit<'a>
 {
     match audit_lives(alloc, files) {
         Ok(lives) => Exit::Audited(lives.lines),
+        Err(refusal) => Exit::from(refusal),
+    }
+}
+
+/// What the files of `audit --segments` come to.
+fn segments_audited<'a>(alloc: Global, files: SegmentsFiles<'_>) -> Exit<'a>
+    ensures { ComesTo (segments_answer files.entry.ended files.entry.settings.now
+        (map (λ plan. plan.items) files.entry.plans.now) (map (λ file. file.items) files.entry.files.now)) result }
+{
+    match audit_segments(alloc, files) {
+        Ok(audited) => Exit::AuditedSegments(audited),
         Err(refusal) => Exit::from(refusal),
     }
 }

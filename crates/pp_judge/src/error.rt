@@ -5,7 +5,7 @@ ghost use Rattle.pp_judge.specs.Steps.{is_want_of_memory};
 ghost use Rattle.pp_text.specs.Views.{row_of_refusal};
 ghost use Rattle.pp_judge.specs.Lines.{refusal_line, judge_error_row};
 ghost use Rattle.pp_judge.specs.declared.error.JudgeError.TheVariants.{Settings, Script, Plan, Certificate, Annotate};
-ghost use Rattle.pp_judge.specs.declared.error.JudgeError.TheVariants.{Simulate, Audit};
+ghost use Rattle.pp_judge.specs.declared.error.JudgeError.TheVariants.{Simulate, Audit, Segments};
 ghost use Rattle.pp_judge.specs.declared.error.JudgeError.TheVariants.{OtherLife as other_life};
 ghost use Rattle.pp_simulate.specs.declared.error.SimulateError.TheVariants.{OutOfMemory};
 
@@ -14,6 +14,7 @@ use pp_cert::{CertError, CheckError};
 use pp_plan::PlanError;
 use pp_report::AuditError;
 use pp_script::ScriptError;
+use pp_segments::SegmentError;
 use pp_settings::{OtherLife, SettingsError};
 use pp_simulate::SimulateError;
 use std::alloc::AllocFailed;
@@ -40,6 +41,9 @@ pub enum JudgeError {
     Simulate(SimulateError),
     /// The journal is not a true one of these plans.
     Audit(AuditError),
+    /// The texts are not the segments of a true journal with these prepared plans, or their audit doesn't begin: the life of
+    /// the settings is bounded, or there are more plans than a pool keeps.
+    Segments(SegmentError),
 }
 
 impl JudgeError {
@@ -56,6 +60,7 @@ impl JudgeError {
                 | JudgeError::Annotate(AnnotateError::OutOfMemory)
                 | JudgeError::Simulate(SimulateError::OutOfMemory)
                 | JudgeError::Audit(AuditError::OutOfMemory)
+                | JudgeError::Segments(SegmentError::Audit(AuditError::OutOfMemory))
         )
     }
 
@@ -73,6 +78,7 @@ impl JudgeError {
             JudgeError::Annotate(error) => error.refusal(),
             JudgeError::Simulate(error) => error.refusal(),
             JudgeError::Audit(error) => error.refusal(),
+            JudgeError::Segments(error) => error.refusal(),
         }
     }
 }
@@ -149,6 +155,14 @@ impl From<AuditError> for JudgeError {
 
     fn from(error: AuditError) -> JudgeError {
         JudgeError::Audit(error)
+    }
+}
+
+impl From<SegmentError> for JudgeError {
+    ghost from_gives = { λ error refusal. refusal ≡ Segments error };
+
+    fn from(error: SegmentError) -> JudgeError {
+        JudgeError::Segments(error)
     }
 }
 

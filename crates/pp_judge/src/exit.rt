@@ -6,6 +6,7 @@ ghost use Rattle.pp_judge.specs.Lines.{fault_text, figures_line, text_of};
 
 use crate::error::JudgeError;
 use pp_cert::Accepted;
+use pp_segments::AuditedSegments;
 use pp_shown::ShownPath;
 use std::fmt;
 
@@ -27,6 +28,8 @@ pub enum Exit<'a> {
     Stopped(String),
     /// A journal with so many lines is a true one.
     Audited(u64),
+    /// Segments with so many lines, and so many of them, are those of a true journal.
+    AuditedSegments(AuditedSegments),
     /// The picture of a true journal, which ends with a line feed.
     Drawn(String),
     /// The help or the version, which ends with a line feed.
@@ -122,6 +125,7 @@ impl Exit<'_> {
             | Exit::Simulated(_)
             | Exit::Formatted(_)
             | Exit::Audited(_)
+            | Exit::AuditedSegments(_)
             | Exit::Drawn(_)
             | Exit::Shown(_)
             | Exit::Kept => 0,
@@ -145,6 +149,7 @@ impl Exit<'_> {
             | Exit::Ran(_)
             | Exit::Stopped(_)
             | Exit::Audited(_)
+            | Exit::AuditedSegments(_)
             | Exit::Drawn(_)
             | Exit::Shown(_)
             | Exit::Kept
@@ -170,6 +175,10 @@ impl fmt::Display for Exit<'_> {
             Exit::Formatted(pages) => writeln!(f, "formatted {pages} pages"),
             Exit::Ran(report) => f.write_str(report.text.as_str()),
             Exit::Audited(lines) => writeln!(f, "audited {lines} lines"),
+            Exit::AuditedSegments(AuditedSegments { lines, segments }) => writeln!(
+                f,
+                "audited {lines} lines in {segments} segments"
+            ),
             Exit::Refused(refusal) => writeln!(f, "{refusal}"),
             Exit::Simulated(text)
             | Exit::Stopped(text)

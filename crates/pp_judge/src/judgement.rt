@@ -3,7 +3,7 @@
 ghost use Rattle.std.specs.Prelude.{◌≡◌, IfOk, IsOk, string_bytes};
 ghost use Rattle.pp_settings.specs.declared.span.Span.TheVariants.{Bounded};
 ghost use Rattle.pp_cert.specs.Claims.{claims_of};
-ghost use Rattle.pp_judge.specs.Judgement.{settings_in, bounded_in, plan_in, claims_in, sources_in, judgement, certification};
+ghost use Rattle.pp_judge.specs.Judgement.{settings_in, bounded_in, endless_in, plan_in, claims_in, sources_in, judgement, certification};
 ghost use Rattle.pp_text.specs.Steps.{Gives};
 ghost use Rattle.pp_judge.specs.Steps.{is_want_of_memory, same};
 
@@ -12,7 +12,8 @@ use crate::error::JudgeError;
 use pp_annotate::annotate;
 use pp_cert::{Accepted, CertError, Certificate};
 use pp_plan::{Plan, PlanError};
-use pp_settings::{Settings, SettingsError};
+use pp_segments::SegmentError;
+use pp_settings::{OtherLife, Settings, SettingsError};
 use std::alloc::Global;
 use std::str;
 
@@ -90,6 +91,17 @@ pub fn bounded_in(alloc: Global, bytes: &[u8]) -> Result<Settings, JudgeError>
     let settings = settings_in(alloc, bytes)?;
     settings.see_bounded()?;
     Ok(settings)
+}
+
+/// The settings that the bytes spell, whose life is endless.
+pub fn endless_in(alloc: Global, bytes: &[u8]) -> Result<Settings, JudgeError>
+    ensures { Gives is_want_of_memory same result (endless_in bytes.now) }
+{
+    let settings = settings_in(alloc, bytes)?;
+    match settings.see_bounded() {
+        Ok(()) => Err(JudgeError::Segments(SegmentError::OtherLife)),
+        Err(OtherLife) => Ok(settings),
+    }
 }
 
 /// The plan that the bytes spell under the settings.

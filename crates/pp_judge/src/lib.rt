@@ -9,6 +9,7 @@ mod error;
 mod exit;
 mod judgement;
 mod rehearsal;
+mod segments;
 mod workload;
 
 pub use auditing::{audit, audit_lives};
@@ -21,4 +22,5 @@ pub use error::JudgeError;
 pub use exit::{Exit, Figures, FileFault, RunReport};
 pub use judgement::{certify, judge};
 pub use rehearsal::rehearse;
+pub use segments::{SegmentsFiles, audit_segments, pass_segments, segment_auditor, segments_exit};
 pub use workload::Workload;
