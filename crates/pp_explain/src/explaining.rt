@@ -9,6 +9,7 @@ use crate::journal::journal_said;
 use crate::paragraph::paragraph;
 use crate::plans::refused_plan;
 use crate::reading::{plan_in, settings_in};
+use crate::segments::{SegmentFault, bounded_life_said, segments_said};
 use crate::source::Source;
 use crate::stop::{Stop, stop_said};
 use crate::submit::{submit_said, unkept_said};
@@ -28,7 +29,7 @@ use std::alloc::{AllocError, Global};
 pub struct Sources<'a> {
     /// The settings.
     pub settings: Source<'a>,
-    /// The certificate, the script or the journal, where the command reads one.
+    /// The certificate, the script, the journal or a file of segments, where the command reads one.
     pub other: Option<Source<'a>>,
     /// The plans, in their order.
     pub plans: &'a [Source<'a>],
@@ -36,11 +37,13 @@ pub struct Sources<'a> {
 
 /// Why the files of a command are refused.
 #[derive(Clone, Copy)]
-pub enum Refused {
+pub enum Refused<'a> {
     /// The settings' file gives no settings.
     Settings(SettingsError),
     /// The settings are of lives without end, which the command doesn't serve.
     OtherLife,
+    /// The settings are of a bounded life, and the command audits segments.
+    BoundedLife,
     /// The script's file gives no script.
     Script(ScriptError),
     /// A plan's file gives no plan.
@@ -57,6 +60,8 @@ pub enum Refused {
     TooManyPrepared,
     /// The journal is not a true one of the plans.
     Audit(AuditError),
+    /// A file of segments is refused, and `other` is that file.
+    Segments(SegmentFault<'a>),
     /// The run gives no record.
     Stop(Stop),
 }
@@ -69,7 +74,7 @@ pub enum Refused {
 pub fn explain(
     alloc: Global,
     files: Sources<'_>,
-    refused: Refused,
+    refused: Refused<'_>,
 ) -> Result<Option<Vec<u8>>, AllocError>
     // A paragraph about one of the files.
     ensures { IfOk result (λ told. IfSome told (λ text. IsAbout (paths_of files.entry) text.items)) }
@@ -130,7 +135,7 @@ pub(crate) fn told(
 fn finding_of(
     alloc: Global,
     files: Sources<'_>,
-    refused: Refused,
+    refused: Refused<'_>,
 ) -> Result<Option<Finding>, AllocError> {
     let other = match files.other {
         Some(other) => other.bytes,
@@ -145,6 +150,7 @@ fn finding_of(
             Which::Settings,
             other_life_said(alloc, files.settings.bytes)?,
         ),
+        Refused::BoundedLife => Finding::of(Which::Settings, bounded_life_said(alloc)?),
         Refused::Script(error) => Finding::of(Which::Other, script_said(alloc, other, error)?),
         refused => match settings_in(alloc, files.settings.bytes)? {
             Some(settings) => finding_under(alloc, &settings, files.plans, other, refused)?,
@@ -159,7 +165,7 @@ fn finding_under(
     settings: &Settings,
     plans: &[Source<'_>],
     other: &[u8],
-    refused: Refused,
+    refused: Refused<'_>,
 ) -> Result<Option<Finding>, AllocError> {
     match refused {
         Refused::Stop(stop) => {
@@ -185,7 +191,13 @@ fn finding_under(
             let said = journal_said(alloc, settings, plans, other, error)?;
             Ok(Finding::of(Which::Other, said))
         }
-        Refused::Settings(_) | Refused::OtherLife | Refused::Script(_) => Ok(None),
+        Refused::Segments(fault) => {
+            let said = segments_said(alloc, settings, plans.len(), other, fault)?;
+            Ok(Finding::of(Which::Other, said))
+        }
+        Refused::Settings(_) | Refused::OtherLife | Refused::BoundedLife | Refused::Script(_) => {
+            Ok(None)
+        }
     }
 }
 
@@ -194,7 +206,7 @@ fn finding_among(
     alloc: Global,
     settings: &Settings,
     plans: &[Source<'_>],
-    refused: Refused,
+    refused: Refused<'_>,
 ) -> Result<Option<Finding>, AllocError> {
     let Some(number) = refused_plan(alloc, settings, plans)? else {
         return Ok(None);
@@ -218,7 +230,7 @@ fn finding_beside(
     settings: &Settings,
     plan: &[u8],
     certificate: &[u8],
-    refused: Refused,
+    refused: Refused<'_>,
 ) -> Result<Option<Finding>, AllocError> {
     match refused {
         Refused::Check(error) => {

@@ -2,13 +2,18 @@
 
 use crate::replay::Played;
 use crate::source::Source;
-use crate::turns::{cause_text, delay_text};
+use crate::turns::Pool;
 use pp_core::Core;
 use pp_locate::{Said, line_at, line_text};
-use pp_model::{Move, Reply, Turn};
-use pp_report::{Asked, AuditError, RENEWAL_LINE, worker_of};
+use pp_model::Turn;
+use pp_plan::Plan;
+use pp_report::{Asked, AuditError, RENEWAL_LINE, Told, worker_of};
 use pp_settings::Settings;
 use std::alloc::{AllocError, Global};
+
+/// What is said of a line that ends with a carriage return.
+pub(crate) const CARRIAGE_RETURN: &str =
+    ": a carriage return stands at its end, and a line ends with a line feed alone";
 
 /// What is said of the bytes of a journal of these plans that is refused so.
 pub(crate) fn journal_said(
@@ -39,7 +44,7 @@ pub(crate) fn journal_said(
 }
 
 /// The line that the refusal names.
-fn line_of(error: AuditError) -> Option<u64> {
+pub(crate) fn line_of(error: AuditError) -> Option<u64> {
     match error {
         AuditError::NotALine(number)
         | AuditError::NotPossible(number, _, _)
@@ -56,10 +61,23 @@ fn no_line_text(line: &[u8]) -> &'static str {
     }
     match line.last() {
         None => ": an empty line is no line of a journal",
-        Some(b'\r') =>
-            ": a carriage return stands at its end, and a line ends with a line feed alone",
+        Some(b'\r') => CARRIAGE_RETURN,
         Some(_) => " is no line of a journal, MOVE = REPLY as in `fix 0 16 = mustread 1`",
     }
+}
+
+/// That what is asked isn't possible, for this reason.
+pub(crate) fn not_possible_text(
+    alloc: Global,
+    asked: Asked,
+    why: &str,
+) -> Result<String, AllocError> {
+    format!(in alloc; ": `{asked}` isn't possible there: {why}")
+}
+
+/// That something else is told than the pool tells.
+pub(crate) fn differs_text(alloc: Global, told: Told, due: Told) -> Result<String, AllocError> {
+    format!(in alloc; ": it tells `{told}`, and the pool tells `{due}`")
 }
 
 impl Played<'_> {
@@ -68,11 +86,9 @@ impl Played<'_> {
         match error {
             AuditError::NotPossible(_, asked, next) => {
                 let why = self.why_text(alloc, asked, next.turn)?;
-                format!(in alloc; ": `{asked}` isn't possible there: {why}")
+                not_possible_text(alloc, asked, why.as_str())
             }
-            AuditError::ReplyDiffers(_, told, due) => {
-                format!(in alloc; ": it tells `{told}`, and the pool tells `{due}`")
-            }
+            AuditError::ReplyDiffers(_, told, due) => differs_text(alloc, told, due),
             AuditError::NotRenewed(_, why, next) => {
                 let next = self.next_text(alloc, next.turn)?;
                 format!(in alloc; ": the pool can't be renewed there, since {why}; {next}")
@@ -115,7 +131,10 @@ impl Played<'_> {
     ) -> Result<String, AllocError> {
         let why = match asked {
             Asked::Submit { plan } => self.submit_text(alloc, plan)?,
-            Asked::Do(did) => self.move_text(alloc, core, did)?,
+            Asked::Do(did) => {
+                let plan = self.plan_at(alloc, worker_of(did))?;
+                self.pool(core, &plan).move_text(alloc, did)?
+            }
         };
         let next = self.turn_text(alloc, core, turn)?;
         format!(in alloc; "{why}; {next}")
@@ -138,23 +157,36 @@ impl Played<'_> {
         String::from_str(alloc, "the pool takes no more plans in")
     }
 
-    /// Why the move isn't done there.
-    fn move_text(&self, alloc: Global, core: &Core, did: Move) -> Result<String, AllocError> {
-        let mover = worker_of(did);
-        let why = match core.refusal(&did) {
-            Some(Reply::NotNow(delay)) => delay_text(delay),
-            Some(Reply::OffPlan(cause)) => cause_text(core, mover.unwrap_or(u32::MAX), cause),
-            _ => "the pool refuses it",
+    /// Whose move is next in the pool, in the words of a journal.
+    fn turn_text(
+        &self,
+        alloc: Global,
+        core: &Core,
+        turn: Option<Turn>,
+    ) -> Result<String, AllocError> {
+        let worker = match turn {
+            Some(Turn::Act(worker)) => Some(worker),
+            _ => None,
         };
-        let Some(worker) = mover else {
-            return String::from_str(alloc, why);
-        };
-        if core.ask(worker).is_none() && !core.is_leaving(worker) {
-            return String::from_str(alloc, why);
+        let plan = self.plan_at(alloc, worker)?;
+        self.pool(core, &plan).turn_text(alloc, turn)
+    }
+
+    /// The plan of the worker, if one was taken.
+    fn plan_at(&self, alloc: Global, worker: Option<u32>) -> Result<Option<Plan>, AllocError> {
+        match worker {
+            Some(worker) => self.plan_of(alloc, worker),
+            None => Ok(None),
         }
-        let asked = self.asked_text(alloc, core, worker)?;
-        let held = self.held_text(alloc, core, worker)?;
-        format!(in alloc; "{why}; worker {worker} is at {asked}, and {held}")
+    }
+
+    /// The pool, and the plan of the worker that is spoken of.
+    fn pool<'b>(&self, core: &'b Core, plan: &'b Option<Plan>) -> Pool<'_, 'b> {
+        Pool {
+            settings: self.settings,
+            core,
+            plan: plan.as_ref(),
+        }
     }
 
     /// What is left to do at the end.

@@ -15,6 +15,7 @@ mod places;
 mod plans;
 mod reading;
 mod replay;
+mod segments;
 mod source;
 mod stop;
 mod submit;
@@ -22,6 +23,7 @@ mod turns;
 mod warning;
 
 pub use explaining::{Refused, Sources, explain};
+pub use segments::SegmentFault;
 pub use source::Source;
 pub use stop::Stop;
 pub use warning::repeated;

@@ -1,23 +1,31 @@
 //! Whose move is next, in the words of a journal.
 
-use crate::replay::Played;
 use pp_core::Core;
 use pp_explain_text::{region_name, slot_name};
 use pp_locate::front;
-use pp_model::{Cause, Delay, Turn};
+use pp_model::{Cause, Delay, Move, Reply, Turn};
 use pp_plan::{Ask, Mode, Plan};
+use pp_report::worker_of;
 use pp_settings::Settings;
 use std::alloc::{AllocError, Global};
 
 /// How many slots a plan has at most.
 const MOST_SLOTS: u8 = 32;
 
-impl Played<'_> {
+/// A pool to which the lines before a fault were done.
+#[derive(Clone, Copy)]
+pub(crate) struct Pool<'a, 'b> {
+    pub(crate) settings: &'a Settings,
+    pub(crate) core: &'b Core,
+    /// The plan of the worker that is spoken of. Where it isn't known, slots go by their numbers.
+    pub(crate) plan: Option<&'b Plan>,
+}
+
+impl Pool<'_, '_> {
     /// The move of the turn, as in `` `fix 0 PAGE`, a page of region leaf into slot a ``.
     pub(crate) fn turn_text(
         &self,
         alloc: Global,
-        core: &Core,
         turn: Option<Turn>,
     ) -> Result<String, AllocError> {
         match turn {
@@ -26,45 +34,78 @@ impl Played<'_> {
                 String::from_str(alloc, "next is `flushed ok` or `flushed bad`")
             }
             Some(Turn::Take(worker)) => format!(in alloc; "next is `take {worker}`"),
-            Some(Turn::Device(worker)) => device_text(alloc, core, worker),
+            Some(Turn::Device(worker)) => device_text(alloc, self.core, worker),
             Some(Turn::Act(worker)) => {
-                let asked = self.asked_text(alloc, core, worker)?;
+                let asked = self.asked_text(alloc, worker)?;
                 format!(in alloc; "next is {asked}")
             }
         }
     }
 
+    /// Why the move isn't done there, what its worker is at, and what it holds.
+    pub(crate) fn move_text(&self, alloc: Global, did: Move) -> Result<String, AllocError> {
+        let mover = worker_of(did);
+        let why = match self.core.refusal(&did) {
+            Some(Reply::NotNow(delay)) => delay_text(delay),
+            Some(Reply::OffPlan(cause)) => {
+                cause_text(self.core, mover.unwrap_or(u32::MAX), cause)
+            }
+            _ => "the pool refuses it",
+        };
+        let Some(worker) = mover else {
+            return String::from_str(alloc, why);
+        };
+        if self.core.ask(worker).is_none() && !self.core.is_leaving(worker) {
+            return String::from_str(alloc, why);
+        }
+        let asked = self.asked_text(alloc, worker)?;
+        let held = self.held_text(alloc, worker)?;
+        format!(in alloc; "{why}; worker {worker} is at {asked}, and {held}")
+    }
+
     /// What the worker's plan asks, or that it is left.
-    pub(crate) fn asked_text(
-        &self,
-        alloc: Global,
-        core: &Core,
-        worker: u32,
-    ) -> Result<String, AllocError> {
-        if core.is_leaving(worker) {
+    fn asked_text(&self, alloc: Global, worker: u32) -> Result<String, AllocError> {
+        if self.core.is_leaving(worker) {
             return format!(in alloc;
                 "`unwind {worker} SLOT` for each slot held, and `finish {worker}`"
             );
         }
-        let (Some(ask), Some(plan)) = (core.ask(worker), self.plan_of(alloc, worker)?) else {
-            return format!(in alloc; "a move of worker {worker}");
-        };
-        ask_text(alloc, self.settings, &plan, worker, ask)
+        match self.core.ask(worker) {
+            Some(ask) => self.ask_text(alloc, worker, ask),
+            None => format!(in alloc; "a move of worker {worker}"),
+        }
     }
 
-    /// What the worker holds, as in `held are a (page 3), b (page 16, latched X)`.
-    pub(crate) fn held_text(
-        &self,
-        alloc: Global,
-        core: &Core,
-        worker: u32,
-    ) -> Result<String, AllocError> {
-        let Some(plan) = self.plan_of(alloc, worker)? else {
-            return String::from_str(alloc, "it holds nothing");
-        };
+    /// What the plan asks of the worker.
+    fn ask_text(&self, alloc: Global, worker: u32, ask: Ask) -> Result<String, AllocError> {
+        match ask {
+            Ask::Fix { slot, region } => {
+                let region = region_name(self.settings, region);
+                let slot = self.slot_text(alloc, "slot ", slot)?;
+                format!(in alloc; "`fix {worker} PAGE`, a page of region {region} into {slot}")
+            }
+            Ask::Gather { slot, region } => {
+                let region = region_name(self.settings, region);
+                let slot = self.slot_text(alloc, "bundle ", slot)?;
+                format!(in alloc; "`fix {worker} PAGE`, a page of region {region} into {slot}")
+            }
+            Ask::Choose { branches } => {
+                format!(in alloc; "`choose {worker} BRANCH`, a branch below {branches}")
+            }
+            Ask::End => format!(in alloc; "`finish {worker}`"),
+            ask => {
+                let (word, slot, how) = move_of(ask);
+                let slot = self.slot_text(alloc, "", slot)?;
+                format!(in alloc; "`{word} {worker}` of {slot}{how}")
+            }
+        }
+    }
+
+    /// What the worker holds, as in `it holds a (page 3), b (page 16, latched X)`.
+    fn held_text(&self, alloc: Global, worker: u32) -> Result<String, AllocError> {
         let mut text = String::new(alloc);
         for slot in 0..MOST_SLOTS {
-            push_held(&mut text, core, &plan, worker, slot)?;
+            self.push_held(alloc, &mut text, worker, slot)?;
         }
         if text.is_empty() {
             return String::from_str(alloc, "it holds nothing");
@@ -72,35 +113,39 @@ impl Played<'_> {
         let text = front(alloc, text.as_str())?;
         format!(in alloc; "it holds{text}")
     }
-}
 
-/// What the plan asks of the worker.
-fn ask_text(
-    alloc: Global,
-    settings: &Settings,
-    plan: &Plan,
-    worker: u32,
-    ask: Ask,
-) -> Result<String, AllocError> {
-    match ask {
-        Ask::Fix { slot, region } => {
-            let region = region_name(settings, region);
-            let slot = slot_name(plan, slot);
-            format!(in alloc; "`fix {worker} PAGE`, a page of region {region} into slot {slot}")
+    /// Adds what the slot holds.
+    fn push_held(
+        &self,
+        alloc: Global,
+        text: &mut String,
+        worker: u32,
+        slot: u8,
+    ) -> Result<(), AllocError> {
+        let comma = if text.is_empty() { "" } else { "," };
+        if let Some((page, held)) = self.core.held(worker, u32::from(slot)) {
+            let name = self.slot_text(alloc, "", slot)?;
+            return match held.text() {
+                "-" => write!(text, "{comma} {name} (page {page})"),
+                mode => write!(text, "{comma} {name} (page {page}, latched {mode})"),
+            };
         }
-        Ask::Gather { slot, region } => {
-            let region = region_name(settings, region);
-            let slot = slot_name(plan, slot);
-            format!(in alloc; "`fix {worker} PAGE`, a page of region {region} into bundle {slot}")
+        let pins = self.core.gathered(worker, u32::from(slot));
+        if pins > 0 {
+            let name = self.slot_text(alloc, "", slot)?;
+            write!(text, "{comma} {name} ({pins} pages)")?;
         }
-        Ask::Choose { branches } => {
-            format!(in alloc; "`choose {worker} BRANCH`, a branch below {branches}")
-        }
-        Ask::End => format!(in alloc; "`finish {worker}`"),
-        ask => {
-            let (word, slot, how) = move_of(ask);
-            let slot = slot_name(plan, slot);
-            format!(in alloc; "`{word} {worker}` of {slot}{how}")
+        Ok(())
+    }
+
+    /// The slot by its name, with this word before it; or by its number.
+    fn slot_text(&self, alloc: Global, kind: &str, slot: u8) -> Result<String, AllocError> {
+        match self.plan {
+            Some(plan) => {
+                let name = slot_name(plan, slot);
+                format!(in alloc; "{kind}{name}")
+            }
+            None => format!(in alloc; "slot {slot}"),
         }
     }
 }
@@ -133,31 +178,8 @@ fn move_of(ask: Ask) -> (&'static str, u8, &'static str) {
     }
 }
 
-/// Adds what the slot holds.
-fn push_held(
-    text: &mut String,
-    core: &Core,
-    plan: &Plan,
-    worker: u32,
-    slot: u8,
-) -> Result<(), AllocError> {
-    let comma = if text.is_empty() { "" } else { "," };
-    let name = slot_name(plan, slot);
-    if let Some((page, held)) = core.held(worker, u32::from(slot)) {
-        return match held.text() {
-            "-" => write!(text, "{comma} {name} (page {page})"),
-            mode => write!(text, "{comma} {name} (page {page}, latched {mode})"),
-        };
-    }
-    let pins = core.gathered(worker, u32::from(slot));
-    if pins > 0 {
-        write!(text, "{comma} {name} ({pins} pages)")?;
-    }
-    Ok(())
-}
-
 /// Why a move isn't possible now.
-pub(crate) fn delay_text(delay: Delay) -> &'static str {
+fn delay_text(delay: Delay) -> &'static str {
     match delay {
         Delay::NothingWaiting => "no plan waits to be taken",
         Delay::NoRoom => {
@@ -172,7 +194,7 @@ pub(crate) fn delay_text(delay: Delay) -> &'static str {
 }
 
 /// Why a move of the worker has no place there.
-pub(crate) fn cause_text(core: &Core, worker: u32, cause: Cause) -> &'static str {
+fn cause_text(core: &Core, worker: u32, cause: Cause) -> &'static str {
     match cause {
         Cause::NoWorker => "the settings have no such worker",
         Cause::NotIdle => "the worker has a plan",
