@@ -16,8 +16,8 @@ segment_in a =
       capacity = a.journal.capacity;
     }
 
--- Each submit among the events has a place, and no place is left over. There is memory for as many places as for
--- events. So where an event has room, so has a place.
+-- Each submit among the events has a place, and no place is left over. Where there is memory for an event, there is also
+-- some for a place.
 pub record PreparedFit (a : Inside) : Type 0 where
   pub named : length a.prepared.items ≡ count_submits a.journal.items
   pub room : a.journal.capacity ≤ vec_capacity a.prepared

@@ -73,7 +73,7 @@ impl Segment {
     pub fn known(&self)
         ensures { length self.now.prepared ≡ count_submits self.now.events }
     {
-        let _journal = &self.journal;
+        let _ = &self.journal;
     }
 
     /// What was done in it, the first event first.

@@ -1,5 +1,5 @@
 -- The lines of segments have no larger numbers than a line may have.
-use Rattle.std.proofs.Common.{◌≡◌, ◌<◌, ◌^◌, ℕ, ◌+◌, Bool, true, List, [], ◌∷◌, ◌++◌, length, map, sym, ap, subst}
+use Rattle.std.proofs.Common.{◌≡◌, ◌<◌, ◌^◌, ℕ, true, List, [], ◌∷◌, ◌++◌, sym, subst}
 use Rattle.std.specs.Prelude.{not}
 use Rattle.std.specs.List.{AllByRecursion}
 use Rattle.pp_cert.specs.Accepted.{Acceptance}
@@ -16,7 +16,7 @@ use Rattle.pp_model.specs.Journals.{after_event, IsTrueFrom}
 use Rattle.pp_report.specs.declared.line.Told.TheVariants.{Answer}
 use Rattle.pp_report.specs.Lines.{FitsMove, HasNumbersOf, HasNumbers}
 use Rattle.pp_segments.specs.declared.line.SegmentLine.{SegmentLine}
-use Rattle.pp_segments.specs.declared.line.SegmentLine.TheVariants.{Head, Step}
+use Rattle.pp_segments.specs.declared.line.SegmentLine.TheVariants.{Step}
 use Rattle.pp_segments.specs.Lines.{FitsLine}
 use Rattle.pp_segments.specs.Segments.{event_lines, segment_lines}
 use Rattle.pp_ledger.specs.Segments.{Segment}

@@ -1,5 +1,5 @@
 -- Whatever is called, the segments of a ledger are taken out one after the other.
-use Rattle.std.proofs.Common.{◌≡◌, ◌∙◌, ℕ, ◌+◌, ◌<◌, Bool, true, Some, None, List, [], ◌∷◌, ◌++◌, length, map}
+use Rattle.std.proofs.Common.{◌≡◌, ◌∙◌, ℕ, ◌+◌, ◌<◌, Bool, true, false, Some, None, List, [], ◌∷◌, ◌++◌, length, map}
 use Rattle.std.proofs.Common.{refl, sym, ap, subst, arith}
 use Rattle.std.specs.List.{AllByRecursion}
 use Rattle.std.proofs.lemmas.List.{drop_all}
@@ -7,7 +7,6 @@ use Rattle.pp_settings.specs.Settings.{Configuration}
 use Rattle.pp_cert.specs.Accepted.{Acceptance}
 use Rattle.pp_cert.specs.Walk.{same_layout}
 use Rattle.pp_model.specs.Pool.{State, Settings, opening}
-use Rattle.pp_model.specs.Moves.{next_of}
 use Rattle.pp_model.specs.Submitting.{submitted_unless, after_submit}
 use Rattle.pp_model.specs.Segments.{segments_end}
 use Rattle.pp_model.proofs.Alone.{settings_stay}
@@ -21,14 +20,14 @@ use Rattle.pp_pool.specs.Requests.{call_of}
 use Rattle.pp_ledger.specs.Segments.{Segment}
 use Rattle.pp_ledger.specs.Ledgers.{Parts, IsSegment}
 use Rattle.pp_ledger.specs.Calls.{going_on}
-use Rattle.pp_ledger.specs.Taken.{Taken, AreTaken, segments_of, plans_at_end}
+use Rattle.pp_ledger.specs.Taken.{Taken, ComesNext, AreTaken, segments_of, plans_at_end}
 use Rattle.pp_ledger.proofs.Added.{Adds, adds_none, adds_both, plans_counted}
 use Rattle.pp_segments.specs.Auditing.{prepare_fault, begin_fault}
 use Rattle.pp_served.specs.Texts.{HasAllNumbers}
-use Rattle.pp_served.specs.Runs.{Call, prepare, submit, perform, Leads, LeadAll, IsServed, IsRun, IsNew}
-use Rattle.pp_served.specs.Served.{ledgers_of, segments_in, end_of, IsTaken, RestsSo, AreAudited}
+use Rattle.pp_served.specs.Runs.{Call, prepare, submit, perform, Leads, LeadAll, IsRun, IsNew}
+use Rattle.pp_served.specs.Served.{ledgers_of, segments_in, end_of, IsTaken, RestsSo, AreAccepted}
 use Rattle.pp_served.proofs.Prepared.{one_more, can_begin}
-use Rattle.pp_served.proofs.Audited.{taken_audited}
+use Rattle.pp_served.proofs.Audited.{taken_accepted}
 
 -- An audit under these settings can prepare the plans.
 abbrev CanPrepare : Configuration → List Acceptance → Type 0
@@ -135,14 +134,18 @@ goes_on c l empty o s here = record {
 
 -- ---- the whole run
 
--- A run from a ledger on whose segment begins in this state and has this number.
-record Ran (c : Configuration) (o : State) (number : ℕ) (earlier : List Acceptance) (before : List Parts)
+-- A run whose first segment begins in this state and has this number, with those that were taken out before the last.
+record Ran (c : Configuration) (o : State) (number : ℕ) (plans : List Acceptance) (before : List Parts)
     (now : Parts) : Type 0 where
+  earlier : List Taken
+  earlier_are : ledgers_of earlier ≡ before
+  are_earlier : AreTaken o number plans earlier
+  added : Adds (plans_at_end plans earlier) now.vault.core.plans
   taken : List Taken
-  ledgers : ledgers_of taken ≡ before ++ now ∷ []
-  are_taken : AreTaken o number earlier taken
+  taken_are : ledgers_of taken ≡ before ++ now ∷ []
+  are_taken : AreTaken o number plans taken
+  ends : plans_at_end plans taken ≡ now.vault.core.plans
   stands : StandsFor now.vault (segments_end o (segments_of taken))
-  plans : plans_at_end earlier taken ≡ now.vault.core.plans
   can : CanPrepare c now.vault.core.plans
 
 ran : (c : Configuration) (l : Parts) (before : List Parts) (now : Parts) (o s : State) (number : ℕ) → IsAt c l o s
@@ -150,8 +153,12 @@ ran : (c : Configuration) (l : Parts) (before : List Parts) (now : Parts) (o s :
 ran c l [] now o s number here numbered h =
     let last = all_called c l now h.0 o s here h.1 in
     record {
+      earlier = [];
+      earlier_are = refl;
+      are_earlier = tt;
+      added = last.plans;
       taken = record { ledger = now; end = last.state } ∷ [];
-      ledgers = refl;
+      taken_are = refl;
       are_taken = (
         record {
           segment = last.is_at.segment;
@@ -161,51 +168,71 @@ ran c l [] now o s number here numbered h =
         },
         tt,
       );
+      ends = refl;
       stands = last.is_at.segment.stands;
-      plans = refl;
       can = last.is_at.can;
     }
 ran c l (x ∷ xs) now o s number here numbered h =
     let first = all_called c l x h.0.0 o s here h.0.1 in
     let is = first.number ∙ numbered in
+    let y : Taken = record { ledger = x; end = first.state } in
+    let next : ComesNext o number l.vault.core.plans y
+    = record { segment = first.is_at.segment; number = is; more = first.plans.0; plans = first.plans.1 } in
     let rest = ran c (going_on x h.1) xs now first.state first.state (number + 1)
     (goes_on c x h.1 o first.state first.is_at) (ap (λ n. n + 1) is) h.3 in
     record {
-      taken = record { ledger = x; end = first.state } ∷ rest.taken;
-      ledgers = ap (λ ls. x ∷ ls) rest.ledgers;
-      are_taken = (
-        record { segment = first.is_at.segment; number = is; more = first.plans.0; plans = first.plans.1 },
-        rest.are_taken,
-      );
+      earlier = y ∷ rest.earlier;
+      earlier_are = ap (λ ls. x ∷ ls) rest.earlier_are;
+      are_earlier = (next, rest.are_earlier);
+      added = rest.added;
+      taken = y ∷ rest.taken;
+      taken_are = ap (λ ls. x ∷ ls) rest.taken_are;
+      are_taken = (next, rest.are_taken);
+      ends = rest.ends;
       stands = rest.stands;
-      plans = rest.plans;
       can = rest.can;
     }
 
-pub run_taken : (c : Configuration) (l now : Parts) (before : List Parts) → IsNew c l → IsRun l before now
-    → IsTaken c before now
-run_taken c l now before fresh run =
-    let o = opening (kept_of c) in
-    let here : IsAt c l o o = record {
-      segment = fresh.begins;
-      settings = refl;
-      can = subst (CanPrepare c) (sym fresh.none_kept) refl;
-    } in
-    let r = ran c l before now o o 0 here (ap (λ (g : Segment). g.number) fresh.segment) run in
-    record {
-      taken = r.taken;
-      ledgers = r.ledgers;
-      are_taken = subst (λ ps. AreTaken o 0 ps r.taken) fresh.none_kept r.are_taken;
-      stands = r.stands;
-      plans = ap (λ ps. plans_at_end ps r.taken) (sym fresh.none_kept) ∙ r.plans;
-      begins = can_begin (kept_of c).layout c.span now.vault.core.plans fresh.endless r.can;
-    }
+module _ (c : Configuration) (l now : Parts) (before : List Parts) (fresh : IsNew c l) (run : IsRun l before now) where
+  abbrev o : State
+  o = opening (kept_of c)
 
-pub run_audited : (c : Configuration) (l now : Parts) (before : List Parts) (ended : Bool) (gs : List Segment)
-    → AllByRecursion HasAllNumbers gs → IsNew c l → IsRun l before now → segments_in (before ++ now ∷ []) ≡ gs
-    → RestsSo ended now → AreAudited c now.vault.core.plans ended gs
-run_audited c l now before ended gs numbers fresh run is rests =
-    let t = run_taken c l now before fresh run in
-    subst (λ ps. AreAudited c ps ended gs) t.plans
-    (taken_audited c t.taken ended t.are_taken gs numbers (ap segments_in t.ledgers ∙ is)
-    (subst (λ ps. begin_fault c ps ≡ None) (sym t.plans) t.begins) (λ yes. rests yes (end_of c t.taken) t.stands))
+  begun : IsAt c l o o
+  begun = record {
+    segment = fresh.begins;
+    settings = refl;
+    can = subst (CanPrepare c) (sym fresh.none_kept) refl;
+  }
+
+  whole : Ran c o 0 [] before now
+  whole =
+      subst (λ ps. Ran c o 0 ps before now) fresh.none_kept
+      (ran c l before now o o 0 begun (ap (λ (g : Segment). g.number) fresh.segment) run)
+
+  begins : begin_fault c now.vault.core.plans ≡ None
+  begins = can_begin (kept_of c).layout c.span now.vault.core.plans fresh.endless whole.can
+
+  pub run_taken : IsTaken c before now
+  run_taken = record {
+    taken = whole.taken;
+    ledgers = whole.taken_are;
+    are_taken = whole.are_taken;
+    stands = whole.stands;
+    plans = whole.ends;
+    begins = begins;
+  }
+
+  -- All segments, the present one among them.
+  pub all_accepted : (ended : Bool) (gs : List Segment) → AllByRecursion HasAllNumbers gs
+      → segments_in (before ++ now ∷ []) ≡ gs → RestsSo ended now → AreAccepted c now.vault.core.plans ended gs
+  all_accepted ended gs numbers is rests =
+      taken_accepted c whole.taken whole.are_taken now.vault.core.plans
+      (adds_none (plans_at_end [] whole.taken) now.vault.core.plans (sym whole.ends)) ended gs numbers
+      (ap segments_in whole.taken_are ∙ is) begins (λ yes. rests yes (end_of c whole.taken) whole.stands)
+
+  -- Those that were taken out.
+  pub earlier_accepted : (gs : List Segment) → AllByRecursion HasAllNumbers gs → segments_in before ≡ gs
+      → AreAccepted c now.vault.core.plans false gs
+  earlier_accepted gs numbers is =
+      taken_accepted c whole.earlier whole.are_earlier now.vault.core.plans whole.added false gs numbers
+      (ap segments_in whole.earlier_are ∙ is) begins (λ e. absurd cc)

@@ -13,20 +13,20 @@ use Rattle.pp_ledger.specs.Calls.{Prepares, TakesPrepared, Performs, can_go_on, 
 
 -- ---- calls
 
--- A call that a ledger answered: it prepared a plan, at this place; it took in the plan that is prepared at this place,
--- under this number; or it answered a request. What it refuses changes nothing, and is no call here.
+-- A call that a ledger answered: it prepared a plan at this place, took in the one at this place under this number, or
+-- performed a request. A call that it refused changed nothing, and is none.
 pub data Call : Type 0 where
   prepare : (plan : Acceptance) (place : ℕ) → Call
   submit : (plan : Acceptance) (place number : ℕ) → Call
   perform : (asked : Request) (response : Response) → Call
 
--- The call leads from the one ledger to the other, as the ledger's contracts say.
+-- The call leads from the one ledger to the other, as the contract of the call has it.
 abbrev pub Leads : Parts → Call → Parts → Type 0
 Leads l (prepare plan place) m = Prepares l plan place m
 Leads l (submit plan place number) m = TakesPrepared l place number plan m
 Leads l (perform asked response) m = Performs l asked response m
 
--- These calls do, one after the other.
+-- These calls lead from the one ledger to the other, each from where the one before it led.
 abbrev pub LeadAll : Parts → List Call → Parts → Type 0
 LeadAll l [] m = m ≡ l
 LeadAll l (call ∷ calls) m = (next : Parts) × Leads l call next × LeadAll next calls m
@@ -37,15 +37,15 @@ LeadAll l (call ∷ calls) m = (next : Parts) × Leads l call next × LeadAll ne
 abbrev pub IsServed : Parts → Parts → Type 0
 IsServed l m = (calls : List Call) × LeadAll l calls m
 
--- The run of a ledger. Calls lead to the first of these ledgers. Then its segment is taken out, it goes on in an empty
--- one, and calls lead to the next. From the last of them they lead to the ledger as it is now.
+-- A ledger's run: calls lead to the first of these ledgers, whose segment is then taken out, and so on to each next
+-- one, and from the last to the ledger as it is now.
 abbrev pub IsRun : Parts → (before : List Parts) → (now : Parts) → Type 0
 IsRun l [] now = IsServed l now
 IsRun l (x ∷ xs) now = IsServed l x × (empty : Segment) × (can_go_on x empty ≡ true) × IsRun (going_on x empty) xs now
 
 -- ---- its beginning
 
--- So `Ledger::new` makes a ledger of these settings, as its contract says.
+-- A ledger as `Ledger::new` makes it with these settings: nothing was called yet.
 pub record IsNew (c : Configuration) (l : Parts) : Type 0 where
   pub endless : c.span ≢ Bounded
   pub room : ℕ

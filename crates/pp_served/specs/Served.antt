@@ -28,8 +28,8 @@ segments_in ls = map (λ l. l.segment) ls
 abbrev pub end_of : Configuration → List Taken → State
 end_of c xs = segments_end (opening (kept_of c)) (segments_of xs)
 
--- The segments of these ledgers, and of the one that is left, were taken out one after the other. They lead to a state
--- for which the ledger's vault stands. An audit under these settings can prepare the plans that the ledger has.
+-- The segments of these ledgers and of the present one were taken out one after the other, and lead to a state for
+-- which the present vault stands. An audit under these settings can prepare the present plans.
 pub record IsTaken (c : Configuration) (before : List Parts) (now : Parts) : Type 0 where
   pub taken : List Taken
   pub ledgers : ledgers_of taken ≡ before ++ now ∷ []
@@ -44,13 +44,12 @@ RestsSo ended l = ended ≡ true → (s : State) → StandsFor l.vault s → nex
 
 -- ---- what is accepted
 
--- The texts of the segments, one behind the other, are those of a true journal of a pool with these settings and
--- prepared plans. They have a head for each segment, and a line for each event.
-abbrev pub AreAudited : Configuration → List Acceptance → (ended : Bool) → List Segment → Type 0
-AreAudited c prepared ended gs =
-    IsAuditedSegments c prepared ended (map text_words gs) (told_count (count_lines gs)) (told_count (length gs))
-
--- The verdict on them is how many lines and segments there are.
-abbrev pub AreAccepted : Configuration → List Acceptance → (ended : Bool) → List Segment → Type 0
-AreAccepted c prepared ended gs =
-    auditing c prepared ended (map text_words gs) ≡ Ok (told_count (count_lines gs), told_count (length gs))
+-- The texts of the segments, one behind the other, are accepted under these settings, with these prepared plans.
+pub record AreAccepted (c : Configuration) (prepared : List Acceptance) (ended : Bool)
+    (gs : List Segment) : Type 0 where
+  -- they are those of a true journal, and have a head for each segment and a line for each event
+  pub texts :
+      IsAuditedSegments c prepared ended (map text_words gs) (told_count (count_lines gs)) (told_count (length gs))
+  -- so the verdict is how many lines and segments there are
+  pub verdict :
+      auditing c prepared ended (map text_words gs) ≡ Ok (told_count (count_lines gs), told_count (length gs))

@@ -1,9 +1,9 @@
-//! Laws of segments that were taken out of a ledger. The functions do nothing: their contracts are the laws.
-//!
-//! Two are handed the segments, since a text has no number of more bits than a segment has.
+//! Laws of segments that were taken out of a ledger. But for one, which makes a ledger, the functions do nothing: their
+//! contracts are the laws. Two are handed the segments, since a text has no number of more bits than a segment has.
 
-ghost use Rattle.std.specs.Prelude.{◌≡◌, ◌++◌, [], ◌∷◌, None, Bool, List};
+ghost use Rattle.std.specs.Prelude.{◌≡◌, ◌≢◌, ◌++◌, [], ◌∷◌, None, Bool, false, List, IfOk};
 ghost use Rattle.pp_settings.specs.Settings.{Configuration};
+ghost use Rattle.pp_settings.specs.declared.span.Span.TheVariants.{Bounded};
 ghost use Rattle.pp_model.specs.Pool.{opening};
 ghost use Rattle.pp_core.specs.Opening.{kept_of};
 ghost use Rattle.pp_ledger.specs.Ledgers.{Parts};
@@ -11,22 +11,39 @@ ghost use Rattle.pp_ledger.specs.Taken.{Taken, AreTaken, plans_at_end};
 ghost use Rattle.pp_segments.specs.Auditing.{begin_fault};
 ghost use Rattle.pp_segments.specs.Audits.{EndsSo};
 ghost use Rattle.pp_served.specs.Runs.{IsNew, IsRun};
-ghost use Rattle.pp_served.specs.Served.{ledgers_of, segments_in, end_of, IsTaken, RestsSo, AreAudited, AreAccepted};
+ghost use Rattle.pp_served.specs.Served.{ledgers_of, segments_in, end_of, IsTaken, RestsSo, AreAccepted};
 
 use crate::numbers::have_all_numbers;
-use pp_ledger::Segment;
+use pp_ledger::{Ledger, Segment};
+use pp_settings::Settings;
+use pp_vault::{Hands, VaultError};
+use std::alloc::Global;
+
+/// Runs begin with what [`Ledger::new`] makes, and this law makes a ledger so.
+///
+/// # Errors
+///
+/// Only where its memory can't be had.
+pub fn made_ledgers_are_new(
+    alloc: Global,
+    settings: &Settings,
+    room: usize,
+) -> Result<(Ledger, Hands), VaultError>
+    requires { settings.now.span ≢ Bounded }
+    ensures { IfOk result (λ made. IsNew settings.now made.0) }
+{
+    let made = Ledger::new(alloc, settings, room)?;
+    Ok(made)
+}
 
 /// Segments that were taken out of a ledger one after the other, from its beginning on, are accepted: the verdict of
 /// [`audit_segments`](pp_segments::audit_segments) on their texts ([`text_of`](crate::text_of)) is how many lines and
 /// segments there are. The prepared plans are those of the last ledger.
 ///
-/// Which plans they are is said of no ledger by itself, so that an audit can prepare them is a premise. Each
-/// [`Ledger::prepare`](pp_ledger::Ledger::prepare) sees to it, and [`runs_are_audited`] hasn't the premise.
+/// A ledger by itself doesn't tell that an audit can prepare its plans, so that is a premise here. Each
+/// [`Ledger::prepare`] sees to it, and [`runs_are_audited`] has no such premise.
 pub fn taken_segments_are_audited(segments: &[Segment])
-    ensures texts { (c : Configuration) (xs : List Taken) (ended : Bool) → AreTaken (opening (kept_of c)) 0 [] xs
-        → segments_in (ledgers_of xs) ≡ segments.now → begin_fault c (plans_at_end [] xs) ≡ None
-        → EndsSo ended (end_of c xs) → AreAudited c (plans_at_end [] xs) ended segments.now }
-    ensures verdict { (c : Configuration) (xs : List Taken) (ended : Bool) → AreTaken (opening (kept_of c)) 0 [] xs
+    ensures { (c : Configuration) (xs : List Taken) (ended : Bool) → AreTaken (opening (kept_of c)) 0 [] xs
         → segments_in (ledgers_of xs) ≡ segments.now → begin_fault c (plans_at_end [] xs) ≡ None
         → EndsSo ended (end_of c xs) → AreAccepted c (plans_at_end [] xs) ended segments.now }
 {
@@ -34,23 +51,23 @@ pub fn taken_segments_are_audited(segments: &[Segment])
 }
 
 /// Whatever is called, the segments of a run from a ledger's beginning on were taken out one after the other. Each
-/// leads to some state, the last to one for which the vault stands. An audit can prepare the plans that the ledger
-/// has.
+/// leads to some state, the present one to one for which the vault stands. An audit can prepare the ledger's plans.
 pub fn runs_are_taken()
     ensures { (c : Configuration) (l now : Parts) (before : List Parts) → IsNew c l → IsRun l before now
         → IsTaken c before now }
 {}
 
-/// Whatever is called, the texts of a ledger's segments are accepted: those of all that were taken out, and the present
-/// one. The prepared plans are those of the ledger as it is. The audit may ask that nothing is left to do at the end
-/// where [`Ledger::next_possible`](pp_ledger::Ledger::next_possible) names no turn.
+/// Whatever is called, the texts of a ledger's segments are accepted. The prepared plans are those of the ledger as it
+/// is.
 pub fn runs_are_audited(segments: &[Segment])
-    ensures texts { (c : Configuration) (l now : Parts) (before : List Parts) (ended : Bool) → IsNew c l
-        → IsRun l before now → segments_in (before ++ now ∷ []) ≡ segments.now → RestsSo ended now
-        → AreAudited c now.vault.core.plans ended segments.now }
-    ensures verdict { (c : Configuration) (l now : Parts) (before : List Parts) (ended : Bool) → IsNew c l
+    // So are those of all segments: the present one, which [`Ledger::close`] gives, is the last. The audit may ask that
+    // nothing is left to do at the end, where [`Ledger::next_possible`] names no turn.
+    ensures all { (c : Configuration) (l now : Parts) (before : List Parts) (ended : Bool) → IsNew c l
         → IsRun l before now → segments_in (before ++ now ∷ []) ≡ segments.now → RestsSo ended now
         → AreAccepted c now.vault.core.plans ended segments.now }
+    // And so are those of the segments that were taken out, at any time.
+    ensures taken_out { (c : Configuration) (l now : Parts) (before : List Parts) → IsNew c l → IsRun l before now
+        → segments_in before ≡ segments.now → AreAccepted c now.vault.core.plans false segments.now }
 {
     have_all_numbers(segments);
 }
