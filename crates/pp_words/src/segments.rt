@@ -40,13 +40,14 @@ impl<'a> SegmentsPaths<'a> {
             .after_help(
                 "FILE... are the segments, in their order, one or more in each file: texts.\n\
                 \n\
-                Example: pinpool audit --segments examples/endless.toml examples/touch.json -- 0.segment\n\
+                Example: pinpool audit --segments examples/endless.toml examples/touch.json examples/two.json \
+                -- examples/endless-0.segment\n\
                 \n\
                 Status: 0 true segments, 1 refused, 2 a bad command line, 3 a file that can't be read, \
                 4 out of memory.\n\
                 A refusal is one line on standard output; standard error says where and why.\n\
                 Limits: 4,096 plans, and 2^61 moves. Settings of a bounded life are refused.\n\
-                Read on: docs/formats.md, Journals.",
+                Read on: docs/formats.md, Segments.",
             )
             .about(
                 "Says whether the segments of an endless pool's journal are true ones, and where they are not.",
