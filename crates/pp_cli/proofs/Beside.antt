@@ -3,6 +3,7 @@ use Rattle.std.proofs.Common.{◌≡◌, ◌⊎◌, ◌&&◌, ℕ, Bool, true, f
 use Rattle.std.proofs.Common.{refl, sym, subst, ap, inl, inr, codes}
 use Rattle.std.specs.Global.{Vec}
 use Rattle.pp_judge.specs.Answers.{Answer, seen, done, made, simulated, formatted, ran, stopped, audited, drawn, shown}
+use Rattle.pp_judge.specs.Answers.{audited_segments}
 use Rattle.pp_judge.specs.Answers.{kept, refused, misused, wordless, in_use, unread, unwritten, out_of_memory}
 use Rattle.pp_explain.specs.Paragraphs.{IsAbout}
 use Rattle.pp_report.specs.Reports.{report_text}
@@ -47,6 +48,7 @@ silent files journal is_traced (formatted pages) h = tt
 silent files journal is_traced (ran report is_well) h = absurd (h refl)
 silent files journal is_traced (stopped text) h = tt
 silent files journal is_traced (audited lines) h = tt
+silent files journal is_traced (audited_segments lines segments) h = tt
 silent files journal is_traced (drawn text) h = tt
 silent files journal is_traced (shown text) h = tt
 silent files journal is_traced kept h = tt
@@ -75,6 +77,7 @@ unheld device (ran report is_well) (inr (inl h)) e = absurd h
 unheld device (ran report is_well) (inr (inr h)) e = no_report (sym (ap is_report h))
 unheld device (stopped text) h e = no_report e
 unheld device (audited lines) h e = no_report e
+unheld device (audited_segments lines segments) h e = no_report e
 unheld device (drawn text) h e = no_report e
 unheld device (shown text) h e = no_report e
 unheld device kept h e = no_report e
@@ -95,6 +98,7 @@ unopened journal (ran report is_well) (inl h) e = absurd h
 unopened journal (ran report is_well) (inr h) e = absurd h
 unopened journal (stopped text) h e = no_report e
 unopened journal (audited lines) h e = no_report e
+unopened journal (audited_segments lines segments) h e = no_report e
 unopened journal (drawn text) h e = no_report e
 unopened journal (shown text) h e = no_report e
 unopened journal kept h e = no_report e
@@ -114,6 +118,7 @@ misplaced line (formatted pages) h e = no_report e
 misplaced line (ran report is_well) h e = absurd h
 misplaced line (stopped text) h e = no_report e
 misplaced line (audited lines) h e = no_report e
+misplaced line (audited_segments lines segments) h e = no_report e
 misplaced line (drawn text) h e = no_report e
 misplaced line (shown text) h e = no_report e
 misplaced line kept h e = no_report e
@@ -164,4 +169,5 @@ clash_quiet (Asked.annotate output settings plan) line answer told h none = rw n
 clash_quiet (Asked.simulate settings script plans) line answer told h none = rw none tt
 clash_quiet (Asked.format settings device) line answer told h none = rw none tt
 clash_quiet (Asked.audit lives settings journal plans) line answer told h none = rw none tt
+clash_quiet (Asked.segments ended settings plans files) line answer told h none = rw none tt
 clash_quiet (Asked.draw output settings journal plans) line answer told h none = rw none tt

@@ -5,5 +5,6 @@ mod Memory
 mod Misused
 mod Putting
 mod Ran
+mod Segmented
 mod Stopping
 mod Written

@@ -13,5 +13,6 @@ memory_comes (Some (Asked.simulate settings script plans)) words = inr (tt, inl 
 memory_comes (Some (Asked.format settings device)) words = inl (device, device, refl, tt)
 memory_comes (Some (Asked.run journal trace settings device seed plans)) words = inl (device, device, inl refl, tt)
 memory_comes (Some (Asked.audit lives settings journal plans)) words = inr (tt, inl tt)
+memory_comes (Some (Asked.segments ended settings plans files)) words = inr (tt, inl tt)
 memory_comes (Some (Asked.draw None settings journal plans)) words = inr ((tt, tt), inl tt)
 memory_comes (Some (Asked.draw (Some path) settings journal plans)) words = inl (path, path, refl, tt)

@@ -2,10 +2,12 @@
 use Rattle.std.proofs.Common.{◌≡◌, ◌⊎◌, ◌∙◌, ℕ, Bool, true, false, List, [], ◌∷◌, Option, Some, None, Result, Ok, Err, IfSome, is_some}
 use Rattle.std.proofs.Common.{codes, refl, sym, ap, inl, inr, arith}
 use Rattle.pp_judge.specs.Answers.{Answer, seen, done, made, simulated, formatted, ran, stopped, audited, drawn, shown}
+use Rattle.pp_judge.specs.Answers.{audited_segments}
 use Rattle.pp_judge.specs.Answers.{kept, refused, misused, wordless, in_use, unread, unwritten, out_of_memory}
 use Rattle.pp_judge.specs.Answers.{IsDrawingAnswer, IsSimulationAnswer, answer_of_annotate, answer_of_audit}
-use Rattle.pp_judge.specs.Answers.{answer_of_check, audit_answer_of, status_of}
+use Rattle.pp_judge.specs.Answers.{answer_of_check, answer_of_segments, audit_answer_of, status_of}
 use Rattle.pp_judge.specs.Judgement.{Stage, audited_in, certification, judgement, lives_audited_in, staged_in}
+use Rattle.pp_judge.specs.Judgement.{segments_audited_in}
 use Rattle.pp_judge.specs.declared.error.JudgeError.{JudgeError}
 use Rattle.pp_cert.specs.Accepted.{Acceptance}
 use Rattle.pp_words.specs.CommandLine.{Asked, Text}
@@ -23,6 +25,7 @@ fault_else (formatted pages) h e = absurd h
 fault_else (ran report is_well) h e = absurd h
 fault_else (stopped text) h e = absurd h
 fault_else (audited lines) h e = absurd h
+fault_else (audited_segments lines segments) h e = absurd h
 fault_else (drawn text) h e = absurd h
 fault_else (shown text) h e = absurd h
 fault_else kept h e = absurd h
@@ -42,6 +45,7 @@ stopped_else paths (formatted pages) h e = absurd h
 stopped_else paths (ran report is_well) h e = absurd h
 stopped_else paths (stopped text) h e = absurd h
 stopped_else paths (audited lines) h e = absurd h
+stopped_else paths (audited_segments lines segments) h e = absurd h
 stopped_else paths (drawn text) h e = absurd h
 stopped_else paths (shown text) h e = absurd h
 stopped_else paths kept h e = absurd h
@@ -73,6 +77,11 @@ lives_else : (lives : Bool) (settings journal : List ℕ) (plans : List (List �
 lives_else false settings journal plans answer is e = audited_else (audited_in settings journal plans) answer is e
 lives_else true settings journal plans answer is e = audited_else (lives_audited_in settings journal plans) answer is e
 
+segments_else : (verdict : Result (ℕ × ℕ) JudgeError) (answer : Answer) → answer ≡ answer_of_segments verdict
+    → status_of answer ≡ 2 → ⊥
+segments_else (Ok counts) answer is e = omega (arith, ap status_of is, e)
+segments_else (Err refusal) answer is e = omega (arith, ap status_of is, e)
+
 simulated_of : (stage : Stage) (answer : Answer) → IsSimulationAnswer (Ok stage) answer → status_of answer ≡ 2 → ⊥
 simulated_of stage (done figures) h e = absurd h
 simulated_of stage (made text) h e = absurd h
@@ -81,6 +90,7 @@ simulated_of stage (formatted pages) h e = absurd h
 simulated_of stage (ran report is_well) h e = absurd h
 simulated_of stage (stopped text) h e = absurd h
 simulated_of stage (audited lines) h e = absurd h
+simulated_of stage (audited_segments lines segments) h e = absurd h
 simulated_of stage (drawn text) h e = absurd h
 simulated_of stage (shown text) h e = absurd h
 simulated_of stage kept h e = absurd h
@@ -105,6 +115,7 @@ drawn_of lines (formatted pages) h e = absurd h
 drawn_of lines (ran report is_well) h e = absurd h
 drawn_of lines (stopped text) h e = absurd h
 drawn_of lines (audited count) h e = absurd h
+drawn_of lines (audited_segments count segments) h e = absurd h
 drawn_of lines (drawn text) h e = omega (arith, e)
 drawn_of lines (shown text) h e = absurd h
 drawn_of lines kept h e = absurd h
@@ -130,6 +141,7 @@ clashing (Asked.simulate settings script plans) word h = absurd h
 clashing (Asked.format settings device) word h = refl
 clashing (Asked.run journal trace settings device seed plans) word h = refl
 clashing (Asked.audit lives settings journal plans) word h = absurd h
+clashing (Asked.segments ended settings plans files) word h = absurd h
 clashing (Asked.draw output settings journal plans) word h = ap is_some h
 
 coming : (command : Asked) (answer : Answer) → ComesOf command answer → status_of answer ≡ 2
@@ -151,6 +163,12 @@ coming (Asked.run journal trace settings device seed plans) answer h e = refl
 coming (Asked.audit lives settings journal plans) answer (inl h) e =
     absurd (stopped_else (settings ∷ journal ∷ plans) answer h e)
 coming (Asked.audit lives settings journal plans) answer (inr h) e = absurd (lives_else lives h.0 h.1 h.2 answer h.4 e)
+coming (Asked.segments ended settings plans files) answer (inl h) e =
+    absurd (stopped_else (settings ∷ plans) answer h e)
+coming (Asked.segments ended settings plans files) answer (inr (s, ps, long, inl h)) e =
+    absurd (stopped_else (h.path ∷ []) answer h.stops e)
+coming (Asked.segments ended settings plans files) answer (inr (s, ps, long, inr h)) e =
+    absurd (segments_else (segments_audited_in ended s ps h.0) answer h.2 e)
 coming (Asked.draw None settings journal plans) answer (inl h) e =
     absurd (stopped_else (settings ∷ journal ∷ plans) answer h e)
 coming (Asked.draw None settings journal plans) answer (inr h) e =

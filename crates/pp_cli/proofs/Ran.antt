@@ -8,6 +8,7 @@ use Rattle.pp_text.specs.Steps.{Refuses}
 use Rattle.pp_report.specs.declared.record.RunRecord.{RunRecord}
 use Rattle.pp_run.specs.Runs.{IsRun}
 use Rattle.pp_judge.specs.Answers.{Answer, seen, done, made, simulated, formatted, ran, stopped, audited, drawn, shown}
+use Rattle.pp_judge.specs.Answers.{audited_segments}
 use Rattle.pp_judge.specs.Answers.{kept, refused, misused, wordless, in_use, unread, unwritten, out_of_memory}
 use Rattle.pp_judge.specs.Judgement.{workload_in}
 use Rattle.pp_judge.specs.declared.error.JudgeError.{JudgeError}
@@ -32,6 +33,7 @@ told_end device journal w run (simulated text) is h = absurd h
 told_end device journal w run (formatted pages) is h = absurd h
 told_end device journal w run (stopped text) is h = absurd h
 told_end device journal w run (audited lines) is h = absurd h
+told_end device journal w run (audited_segments lines segments) is h = absurd h
 told_end device journal w run (drawn text) is h = absurd h
 told_end device journal w run (shown text) is h = absurd h
 told_end device journal w run kept is h = absurd h

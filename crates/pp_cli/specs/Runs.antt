@@ -1,17 +1,17 @@
 -- What a whole run of the program may come to. No contract can say what a file holds when it is read, so its contents
 -- are some bytes here.
-use Rattle.std.specs.Prelude.{◌≡◌, ◌⊎◌, ℕ, Bool, true, false, List, [], ◌∷◌, ◌++◌, length, Option, None, Some, IfSome, is_some, Result, Ok, Err, ⊤}
+use Rattle.std.specs.Prelude.{◌≡◌, ◌⊎◌, ℕ, Bool, true, false, List, [], ◌∷◌, ◌++◌, length, Option, None, Some, IfSome, is_some, Result, Ok, Err, IsOk, ⊤}
 use Rattle.std.specs.List.{Contains}
 use Rattle.pp_judge.specs.declared.device.DeviceSize.{DeviceSize}
 use Rattle.pp_judge.specs.declared.error.JudgeError.{JudgeError}
-use Rattle.pp_judge.specs.Judgement.{device_size_in, workload_in}
+use Rattle.pp_judge.specs.Judgement.{device_size_in, segments_audited_in, workload_in}
 use Rattle.pp_explain.specs.Paragraphs.{IsAbout}
 use Rattle.pp_cert.specs.Accepted.{Acceptance}
 use Rattle.pp_settings.specs.Settings.{Configuration}
 use Rattle.pp_run_command.specs.Runs.{MayEnd}
 use Rattle.pp_judge.specs.Answers.{Answer, MayDraw, MaySimulate, audit_answer_of, certification_answer, judgement_answer}
 use Rattle.pp_judge.specs.Answers.{refused, shown, made, drawn, misused, status_of}
-use Rattle.pp_judge.specs.Answers.{formatted, out_of_memory, unread}
+use Rattle.pp_judge.specs.Answers.{formatted, out_of_memory, segments_answer, unread}
 use Rattle.pp_words.specs.CommandLine.{Asked, Text, asked}
 use Rattle.pp_words.specs.Faults.{IsMistaken, asks_for_help}
 use Rattle.pp_words.specs.Texts.{IsShownText, is_ended}
@@ -92,6 +92,25 @@ abbrev pub MayRunTraced : Asked → Result (Configuration × List Acceptance) Ju
 MayRunTraced command (Ok w) answer = MayEndTraced command w answer
 MayRunTraced command (Err refusal) answer = answer ≡ refused refusal
 
+-- the file of segments whose turn it is can't be read, or memory ran out: those before it are, with some bytes, segments of a true
+-- journal with settings and plans of these bytes
+pub record IsUnreadBehind (settings : List ℕ) (plans : List (List ℕ)) (files : List Text) (answer : Answer) : Type 0 where
+  pub before : List Text
+  pub path : Text
+  pub behind : List Text
+  pub files_are : files ≡ before ++ path ∷ behind
+  pub bytes : List (List ℕ)
+  pub long : length bytes ≡ length before
+  pub right : IsOk (segments_audited_in false settings plans bytes)
+  pub stops : IsStopped (path ∷ []) answer
+
+-- what `audit --segments` may come to with settings and plans of these bytes: a file of segments can't be read in its turn, or
+-- it is what some bytes come to as the contents of these files
+abbrev pub ComesOfSegments : (ended : Bool) → (settings : List ℕ) → (plans : List (List ℕ)) → (files : List Text) → Answer
+    → Type 0
+ComesOfSegments ended settings plans files answer = IsUnreadBehind settings plans files answer
+    ⊎ ((bytes : List (List ℕ)) × (length bytes ≡ length files) × (answer ≡ segments_answer ended settings plans bytes))
+
 -- what a command may come to: a file of it can't be read, or it is what some bytes come to as the contents of its
 -- files, one string of bytes for each path, in the order of the words
 abbrev pub ComesOf : Asked → Answer → Type 0
@@ -109,11 +128,14 @@ ComesOf (Asked.run journal trace settings device seed plans) answer = IsStopped 
     × MayRunTraced (Asked.run journal trace settings device seed plans) (workload_in s ps) answer))
 ComesOf (Asked.audit lives settings journal plans) answer = IsStopped (settings ∷ journal ∷ plans) answer
     ⊎ ((s j : List ℕ) × (ps : List (List ℕ)) × (length ps ≡ length plans) × (answer ≡ audit_answer_of lives s j ps))
+ComesOf (Asked.segments ended settings plans files) answer = IsStopped (settings ∷ plans) answer
+    ⊎ ((s : List ℕ) × (ps : List (List ℕ)) × (length ps ≡ length plans) × ComesOfSegments ended s ps files answer)
 ComesOf (Asked.draw output settings journal plans) answer = IsStopped (settings ∷ journal ∷ plans) answer
     ⊎ ((s j : List ℕ) × (ps : List (List ℕ)) × (drawing : Answer) × (length ps ≡ length plans) × MayDraw s j ps drawing
     × IsPut output drawing answer)
 
--- the files that a command reads texts from: the settings, then the certificate, the script or the journal, then the plans
+-- the files that a command reads texts from: the settings, then the certificate, the script or the journal, then the plans, then
+-- the files of segments
 abbrev pub files_of : Asked → List Text
 files_of (Asked.check settings plan certificate) = settings ∷ certificate ∷ plan ∷ []
 files_of (Asked.annotate output settings plan) = settings ∷ plan ∷ []
@@ -121,6 +143,7 @@ files_of (Asked.simulate settings script plans) = settings ∷ script ∷ plans
 files_of (Asked.format settings device) = settings ∷ []
 files_of (Asked.run journal trace settings device seed plans) = settings ∷ plans
 files_of (Asked.audit lives settings journal plans) = settings ∷ journal ∷ plans
+files_of (Asked.segments ended settings plans files) = (settings ∷ plans) ++ files
 files_of (Asked.draw output settings journal plans) = settings ∷ journal ∷ plans
 
 -- what standard error may have behind an answer of a command: behind the report of a run what is told of it beside, and else

@@ -2,6 +2,7 @@
 use Rattle.std.specs.Prelude.{◌≡◌, ◌⊎◌, ℕ, Bool, true, false, List, Option, None, Some, codes, take, ⊤}
 use Rattle.std.specs.Io.KnownBytes.{Appends}
 use Rattle.pp_judge.specs.Answers.{Answer, done, made, simulated, ran, stopped, audited, drawn, refused, kept, is_output_of}
+use Rattle.pp_judge.specs.Answers.{audited_segments}
 use Rattle.pp_judge.specs.Lines.{text_of}
 use Rattle.pp_cli.specs.Faults.{IsUnwrittenAt}
 
@@ -13,6 +14,7 @@ has_more_of (simulated text) = true
 has_more_of (ran report is_well) = true
 has_more_of (stopped text) = true
 has_more_of (audited lines) = true
+has_more_of (audited_segments lines segments) = true
 has_more_of (drawn text) = true
 has_more_of (refused refusal) = true
 has_more_of kept = true

@@ -34,7 +34,7 @@ pub fn clash_of<'a, R: Files>(rt: &R, job: &Job<'a>) -> Option<Clash<'a>>
         Job::Format(paths) => named(rt, Some(paths.device), &[paths.settings]),
         Job::Run(paths) => clash_of_run(rt, paths),
         Job::Draw(paths) => clash_of_draw(rt, paths),
-        Job::Check(_) | Job::Simulate(_) | Job::Audit(_) => None,
+        Job::Check(_) | Job::Simulate(_) | Job::Audit(_) | Job::AuditSegments(_) => None,
     }
 }
 

@@ -4,8 +4,10 @@ ghost use Rattle.std.specs.Prelude.{◌≡◌, ◌∷◌, [], IfOk, IfSome, leng
 ghost use Rattle.pp_explain.specs.Paragraphs.{IsAbout, paths_in, paths_of};
 ghost use Rattle.pp_words.specs.CommandLine.{texts};
 
+use pp_core::PrepareError;
 use pp_explain::{Refused, Source, Sources, explain, repeated};
 use pp_judge::{Exit, JudgeError};
+use pp_segments::SegmentError;
 use pp_simulate::SimulateError;
 use std::alloc::{AllocError, Global};
 
@@ -47,7 +49,7 @@ pub fn explained_alone(alloc: Global, settings: Source<'_>, exit: &Exit<'_>) -> 
 
 /// What explains that the files are refused so. Nothing where memory runs out for it.
 #[tactic(auto, using(crate::proofs::Beside::lifted))]
-pub fn explained_as(alloc: Global, files: Sources<'_>, refused: Refused) -> Option<Vec<u8>>
+pub fn explained_as(alloc: Global, files: Sources<'_>, refused: Refused<'_>) -> Option<Vec<u8>>
     ensures { IfSome (option_map (λ text. text.items) result) (IsAbout (paths_of files.entry)) }
 {
     match explain(alloc, files, refused) {
@@ -57,7 +59,7 @@ pub fn explained_as(alloc: Global, files: Sources<'_>, refused: Refused) -> Opti
 }
 
 /// The refusal, as it is explained.
-fn refused_as(refusal: JudgeError) -> Option<Refused> {
+fn refused_as(refusal: JudgeError) -> Option<Refused<'static>> {
     match refusal {
         JudgeError::Settings(error) => Some(Refused::Settings(error)),
         JudgeError::OtherLife => Some(Refused::OtherLife),
@@ -70,6 +72,16 @@ fn refused_as(refusal: JudgeError) -> Option<Refused> {
         JudgeError::Simulate(SimulateError::TooManyPrepared) => Some(Refused::TooManyPrepared),
         JudgeError::Simulate(SimulateError::OutOfMemory) => None,
         JudgeError::Audit(error) => Some(Refused::Audit(error)),
+        JudgeError::Segments(error) => begun_as(error),
+    }
+}
+
+/// Why an audit of segments doesn't begin. What it finds in a file is explained where that file is at hand.
+fn begun_as(error: SegmentError) -> Option<Refused<'static>> {
+    match error {
+        SegmentError::OtherLife => Some(Refused::BoundedLife),
+        SegmentError::Prepare(PrepareError::TooManyPrepared) => Some(Refused::TooManyPrepared),
+        _ => None,
     }
 }
 
@@ -78,7 +90,7 @@ fn refused_as(refusal: JudgeError) -> Option<Refused> {
 pub struct Texts<'a> {
     /// The settings.
     pub settings: Source<'a>,
-    /// The script or the journal, where the command reads one.
+    /// The script, the journal or a file of segments, where the command reads one.
     pub other: Option<Source<'a>>,
     /// The paths of the plans.
     pub paths: &'a [&'a str],
@@ -102,7 +114,7 @@ impl Texts<'_> {
     }
 
     /// What explains that they are refused so. Nothing where memory runs out for it.
-    pub fn explained_as(&self, alloc: Global, refused: Refused) -> Option<Vec<u8>>
+    pub fn explained_as(&self, alloc: Global, refused: Refused<'_>) -> Option<Vec<u8>>
         requires { length self.now.paths.now ≡ length self.now.plans.now }
         ensures { IfSome (option_map (λ text. text.items) result) (IsAbout (paths_at self.now)) }
     {
@@ -118,7 +130,7 @@ impl Texts<'_> {
     }
 
     /// What explains a refusal of them, or else what there is to warn of in them.
-    fn told(&self, alloc: Global, refused: Option<Refused>) -> Option<Vec<u8>>
+    fn told(&self, alloc: Global, refused: Option<Refused<'_>>) -> Option<Vec<u8>>
         requires { length self.now.paths.now ≡ length self.now.plans.now }
         ensures { IfSome (option_map (λ text. text.items) result) (IsAbout (paths_at self.now)) }
     {

@@ -15,6 +15,7 @@ use crate::fault::{fault_at, unwritten};
 use crate::holding::hold_anew;
 use crate::keeping::keep;
 use crate::running::run;
+use crate::segments::audit_segments;
 use pp_device::image::HEAD;
 use pp_explain::Sources;
 use pp_format::format_onto;
@@ -41,8 +42,9 @@ pub enum Unread<'a> {
     Memory,
 }
 
-/// What the job comes to. All texts that it needs are read, in the order of the words, before any is refused; the device
-/// of a run is opened after that. Where they are refused, the note explains that.
+/// What the job comes to. All texts that it needs are read, in the order of the words, before any is refused, but for files of
+/// segments, each of which is audited before the next is read; the device of a run is opened after that. Where they are refused,
+/// the note explains that.
 pub fn perform<
     'a,
     R: Files<File = File> + AllocGlobal + Threads + Wait + Clock + Sync + Copy + Send + Drop,
@@ -61,6 +63,7 @@ pub fn perform<
         Job::Format(paths) => format(rt, paths, bar, note),
         Job::Run(paths) => run(rt, paths, err, bar.terminal(), note),
         Job::Audit(paths) => audit(rt, paths, note),
+        Job::AuditSegments(paths) => audit_segments(rt, paths, note),
         Job::Draw(paths) => draw(rt, paths, note),
     };
     match ended {

@@ -14,6 +14,7 @@ mod looking;
 mod noting;
 mod program;
 mod running;
+mod segments;
 mod telling;
 mod tracing;
 mod writing;

@@ -303,7 +303,7 @@ fn stop_explained(alloc: Global, texts: Texts<'_>, error: RunError) -> Option<Ve
 }
 
 /// Why a run stopped, as it is explained.
-fn stopped_as(error: RunError) -> Option<Refused> {
+fn stopped_as(error: RunError) -> Option<Refused<'static>> {
     match error {
         RunError::Refused(error) => Some(Refused::Submit(error)),
         RunError::OutOfMemory => None,

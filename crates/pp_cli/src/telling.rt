@@ -88,6 +88,7 @@ fn has_more(exit: &Exit<'_>) -> bool
             | Exit::Ran(_)
             | Exit::Stopped(_)
             | Exit::Audited(_)
+            | Exit::AuditedSegments(_)
             | Exit::Drawn(_)
             | Exit::Refused(_)
             | Exit::Kept
