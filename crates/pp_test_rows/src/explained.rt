@@ -123,10 +123,15 @@ pub fn refused_as(refusal: JudgeError) -> Option<Refused<'static>> {
         JudgeError::Simulate(SimulateError::TooManyPrepared) => Some(Refused::TooManyPrepared),
         JudgeError::Simulate(SimulateError::OutOfMemory) => None,
         JudgeError::Audit(error) => Some(Refused::Audit(error)),
-        JudgeError::Segments(SegmentError::OtherLife) => Some(Refused::BoundedLife),
-        JudgeError::Segments(SegmentError::Prepare(PrepareError::TooManyPrepared)) => Some(
-            Refused::TooManyPrepared,
-        ),
-        JudgeError::Segments(_) => None,
+        JudgeError::Segments(error) => begun_as(error),
+    }
+}
+
+/// Why an audit of segments doesn't begin.
+fn begun_as(error: SegmentError) -> Option<Refused<'static>> {
+    match error {
+        SegmentError::OtherLife => Some(Refused::BoundedLife),
+        SegmentError::Prepare(PrepareError::TooManyPrepared) => Some(Refused::TooManyPrepared),
+        _ => None,
     }
 }
