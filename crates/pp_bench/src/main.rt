@@ -1,15 +1,21 @@
 //! The program `pp_bench`: plays a trace to a part of the pool, and prints what it counted.
 //!
-//! `pp_bench directory hit|skew|loop|mixed OPS [FRAMES]` prints how many of the requests missed, and `pp_bench pinned OPS` the
-//! same of so many misses with no page held, with 1,000, 4,000 and all of 4,096. `pp_bench marks OPS [FRAMES]` prints how many
-//! pages were brought in, each in place of another. `pp_bench moves hit|skew|loop|mixed OPS` plays fixes, latches, unlatches and
-//! unfixes to the core, and `pp_bench pool` the same to a vault over pages in memory; both print how many pages were read.
-//! `pp_bench large` is `pp_bench pool` with 65,536 frames and 1,048,576 pages of 512 bytes, and `pp_bench open` opens such a vault.
-//! `pp_bench lives` plays the trace twice, in two lives of one vault, and prints how many pages each of them read. `pp_bench
-//! journal LINES` writes a journal of at least so many lines, and `pp_bench audit LINES` audits it from standard input; it prints
-//! how many lines there were.
-//! On standard error each run but `marks` and `journal` says what one operation, one line, the renewal or the opening took by the clock,
-//! from the first one's begin to the last one's end. How long these two take is for the caller to measure.
+//! `pp_bench directory hit|skew|loop|mixed OPS [FRAMES]` prints how many of the requests missed, and `pp_bench pinned
+//! OPS` the same of so many misses with no page held, with 1,000, 4,000 and all of 4,096. `pp_bench marks OPS
+//! [FRAMES]` prints how many pages were brought in, each in place of another. `pp_bench moves hit|skew|loop|mixed OPS`
+//! plays fixes, latches, unlatches and unfixes to the core, and `pp_bench pool` the same to a vault over pages in
+//! memory; both print how many pages were read. `pp_bench large` is `pp_bench pool` with 65,536 frames and 1,048,576
+//! pages of 512 bytes, and `pp_bench open` opens such a vault. `pp_bench lives` plays the trace twice, in two lives of
+//! one vault, and prints how many pages each of them read.
+//!
+//! `pp_bench journal LINES` writes a journal of at least so many lines, and `pp_bench audit LINES` audits it from
+//! standard input; it prints how many lines there were. `pp_bench segments LINES` makes segments of the journal of an
+//! endless pool and audits each at once, until there are so many lines. `pp_bench write-segments DIR LINES PER_FILE
+//! SETTINGS PLAN..` writes such segments into files of so many lines each.
+//!
+//! On standard error each run but `marks`, `journal` and `write-segments` says what one operation, one line, the
+//! renewal or the opening took by the clock, from the first one's begin to the last one's end. How long these three
+//! take is for the caller to measure.
 #![tactic(auto)]
 
 mod directory;
@@ -18,6 +24,7 @@ mod marks;
 mod moves;
 mod pinned;
 mod pool;
+mod segments;
 mod trouble;
 mod watch;
 mod words;
@@ -54,6 +61,8 @@ fn play(rt: &HostRuntime) -> Result<(), Trouble> {
         "lives" => pool::play_lives(rt, &words[2..]),
         "journal" => journal::write(rt, &words[2..]),
         "audit" => journal::audit(rt, &words[2..]),
+        "segments" => segments::audit(rt, &words[2..]),
+        "write-segments" => segments::write(rt, &words[2..]),
         _ => Err(Trouble::Words),
     }
 }

@@ -17,6 +17,7 @@ mod printing;
 mod queries;
 mod runs;
 mod samples;
+mod segments;
 mod shared;
 mod texts;
 mod tried;
@@ -74,6 +75,7 @@ fn case<
         "pp_shared" => shared::case(rt, call),
         "pp_play" | "pp_simulate" => playing::case(rt, call, row),
         "pp_journal" | "pp_report" => journals::case(rt, call),
+        "pp_ledger" | "pp_segments" => segments::case(rt, call),
         "pp_judge" => judging::case(rt, call, row),
         "pp_words" => words::case(rt, row),
         "pp_pool" => books::case(rt, call),

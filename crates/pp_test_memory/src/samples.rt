@@ -88,6 +88,20 @@ unfix 0 = did
 finish 0 = done
 ";
 
+/// The texts of two segments of an endless pool, in which the plan that was prepared behind another one touches the page.
+pub const SEGMENTS: [&str; 2] = [
+    "segment 0 = 0
+submit 0 1 = queued
+take 0 = taken 0
+fix 0 1 = mustread 0
+",
+    "segment 1 = 1
+came 0 1 0 = loaded 0
+unfix 0 = did
+finish 0 = done
+",
+];
+
 /// The moves of the journal `TOUCHED`.
 pub static MOVES: [Move; 5] = [
     Move::Take { worker: 0 },
