@@ -30,8 +30,8 @@ ShowsPage v guard before shown after =
 
 -- ---- a vault alone
 
--- The vault answers the request. The event is the model's, from each state that the vault stands for, and the vault stands
--- for the state after it. The prepared plans stay. Nobody notes the event.
+-- The vault answers the request. The event is the model's, from each state that the vault stands for, and the vault
+-- stands for the state after it. The prepared plans stay. Nobody notes the event.
 pub record Answers (old : vault.Parts) (asked : Request) (response : Response) (new : vault.Parts) : Type 0 where
   pub answer : ComesTo old asked response.answer new
   pub event : (s : State) → StandsFor old s → response.event ≡ event_of s (call_of old asked s)
@@ -49,13 +49,13 @@ pub record SiteParts (S : Type 0) : Type 0 where
   -- who is handed the segments that are taken out
   pub sink : S
 
--- The ledger can go on in the spare segment, by what that is, and the present one has memory for an event.
+-- The spare segment is ready for the ledger to go on in it, and the present one has memory for an event.
 pub record IsSite {S : Type 0} (x : SiteParts S) : Type 0 where
   pub ready : is_ready x.spare ≡ true
   pub room : 1 ≤ x.ledger.segment.capacity
 
--- The present segment is taken out, and the ledger goes on in the spare one. The sink is handed the one that was taken out,
--- and gives the next spare one. By its contract it does that so.
+-- The present segment is taken out, and the ledger goes on in the spare one, from the state to which the present one
+-- leads. The sink is handed what was taken out, and gives the next spare one, as its own relation says.
 pub record HandsOn {S : Type 0} (keeps : S → Segment → Segment → S → Type 0) (old new : SiteParts S) : Type 0 where
   pub ledger : new.ledger ≡ going_on old.ledger old.spare
   pub handed : keeps old.sink old.ledger.segment new.spare new.sink
@@ -84,7 +84,7 @@ pub record Serves {S : Type 0} (keeps : S → Segment → Segment → S → Type
   pub performs : Performs between.ledger asked response new.ledger
   pub rest : new ≡ record between { ledger = new.ledger }
 
--- The request comes back as one that isn't possible now, with the delay that is told where there is no room. Nothing was done.
+-- The request comes back, as one for which there is no room now. Nothing was done.
 pub record Declines {S : Type 0} (old : SiteParts S) (asked : Request) (response : Response) (new : SiteParts S)
     : Type 0 where
   pub told : response ≡ record { event = None; answer = No asked (NotNow NoRoom) }

@@ -96,7 +96,7 @@ impl Ledger {
         ensures page_bytes { IfOk result (λ made. made.0.vault.page_bytes ≡ settings.now.page_bytes) }
         ensures holds { IfOk result (λ made. Holds made.0.vault) }
     {
-        let (vault, hands) = Vault::new(alloc, settings)?;
+        let (vault, tokens) = Vault::new(alloc, settings)?;
         match Segment::with_room(alloc, room) {
             Ok(segment) => {
                 let ledger = Ledger {
@@ -104,10 +104,10 @@ impl Ledger {
                     segment,
                     most: 0,
                 };
-                Ok((ledger, hands))
+                Ok((ledger, tokens))
             }
             Err(_) => {
-                vault.scrap(hands);
+                vault.scrap(tokens);
                 Err(VaultError::OutOfMemory)
             }
         }

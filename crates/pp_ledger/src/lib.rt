@@ -2,6 +2,9 @@
 //!
 //! An endless life, of up to 2^61 moves, has a journal that no memory holds. So its host takes it out in segments, one
 //! after the other, at any time ([`Ledger::take_segment`]). One behind the other they are a true journal of the life.
+//!
+//! The workers and the flusher of pp_pool serve it by a site: a [`LedgerSite`] hands each full segment to a [`Sink`],
+//! and a [`VaultSite`] is for a host that wants no journal.
 #![tactic(auto)]
 
 pub use error::LedgerError;

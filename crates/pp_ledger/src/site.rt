@@ -21,27 +21,30 @@ use pp_pool::{BookAnswer, Request, Response, Site};
 use pp_vault::{Accepted, PlanId, ReadGuard, Refusal};
 use std::marker::Model;
 
-/// A site for one thread, by which workers and a flusher serve an endless pool. It has a ledger, and a sink that is handed each
-/// segment when it is full.
+/// A site for one thread, by which workers and a flusher serve an endless pool. It has a ledger, and a sink that is
+/// handed each segment when it is full.
 ///
-/// Contracts see it as the record `SiteParts`: the ledger, the segment in which it goes on next, and the sink. Nothing but this site
-/// takes a segment out of its ledger, so each one comes to the sink, or is the present one when the site is parted.
+/// Contracts see it as the record `SiteParts`: the ledger, the segment in which it goes on next, and the sink. Nothing
+/// but this site takes a segment out of its ledger, so each one comes to the sink, or is the present one when the site
+/// is parted.
 ///
 ///     let (ledger, mut hands) = Ledger::new(alloc, &settings, 65_536)?;
 ///     let spare = Segment::with_room(alloc, 65_536)?;
 ///     let mut site = LedgerSite::new(ledger, spare, files);        // `files` is a sink of yours
 ///     let search = site.prepare(search).map_err(|(_plan, error)| error)?;
 ///     let mut worker = Worker::new(alloc, site, device, hand, &settings);
-///     loop {                                                       // for as long as the host wants
+///     while let Some(mut query) = next_query() {                   // yours
 ///         worker.site.submit(search)?;
-///         while worker.turn(&mut work) == Turned::Done {}
+///         for _ in 0..=worker.site.ledger().most() {
+///             if worker.turn(&mut query) != Turned::Done { break; }
+///         }
 ///         worker.log.clear();
 ///     }
 ///
-/// **What it costs.** The site takes no memory: the two segments are all that it has. A worker has room for one page, and a log, in
-/// which it notes each event once more, 16 bytes each. Before it takes a plan, it gets room there for as many events as the dearest
-/// prepared plan costs ([`Ledger::most`]). Nothing reads that log here, so its host empties it between two plans, as above; else it
-/// grows for as long as the worker turns. A flusher has no log.
+/// **What it costs.** The site takes no memory: the two segments are all that it has. A worker has room for one page,
+/// and a log, in which it notes each event once more, 16 bytes each. Before it takes a plan, it gets room there for as
+/// many events as the dearest prepared plan costs ([`Ledger::most`]). Nothing reads that log here, so its host empties
+/// it between two plans, as above; else it grows for as long as the worker turns. A flusher has no log.
 ///
 /// A reading of a cached page is two requests, as in [`Site::read`]'s default.
 #[derive(Drop)]
@@ -103,8 +106,8 @@ impl<S> LedgerSite<S> {
         self.ledger.prepare(accepted)
     }
 
-    /// Ends the site: its ledger, whose present segment the sink hasn't got, the segment in which it would have gone on, and the
-    /// sink.
+    /// Ends the site: its ledger, whose present segment the sink hasn't got, the segment in which it would have gone
+    /// on, and the sink.
     pub fn into_parts(self) -> (Ledger, Segment, S)
         ensures { result ≡ (self.ledger, self.spare, self.sink) }
     {
@@ -122,7 +125,8 @@ impl<S: Sink> LedgerSite<S> {
     ///
     /// # Errors
     ///
-    /// - [`LedgerError::SegmentFull`] only where the segment is full and 2^64 - 1 were taken out before. Nothing has changed.
+    /// - [`LedgerError::SegmentFull`] only where the segment is full and 2^64 - 1 were taken out before. Nothing has
+    ///   changed.
     /// - [`LedgerError::Refused`] as [`Ledger::submit`]'s. Nothing has changed but that a full segment was handed on.
     pub fn submit(&mut self, prepared: Prepared) -> Result<PlanId, LedgerError>
         ensures ok { IfOk result (λ id. Submits S.keeps self.old prepared id self.new) }
@@ -134,8 +138,9 @@ impl<S: Sink> LedgerSite<S> {
         self.ledger.submit(prepared)
     }
 
-    /// Takes the present segment out, full or not, and hands it to the sink. The ledger goes on in the spare one, and the sink gives
-    /// the next spare one. Tells whether it did. It didn't, and nothing has changed, exactly where 2^64 - 1 were taken out before.
+    /// Takes the present segment out, full or not, and hands it to the sink. The ledger goes on in the spare one, and
+    /// the sink gives the next spare one. Tells whether it did. It didn't, and nothing has changed, exactly where 2^64
+    /// - 1 were taken out before.
     ///
     /// A host calls it to have all that was done until now written down. A full segment is handed on without it.
     #[inline(never)]
@@ -181,8 +186,8 @@ impl<S: Sink> Site for LedgerSite<S> {
     ghost use Rattle.pp_pool.specs.Books.{greatest_cost};
     ghost use Rattle.pp_ledger.specs.Sites.{Gives, ShowsPage};
 
-    // A full segment is handed on, and then the ledger performs the request. Where no segment can be taken out any more, the
-    // request isn't possible now.
+    // A full segment is handed on, and then the ledger performs the request. Where no segment can be taken out any
+    // more, the request isn't possible now.
     ghost gives = { λ x request response t. Gives S.keeps (is_stuck x) x request response t };
 
     ghost shows = { λ x guard before shown after. ShowsPage x.ledger.vault guard before shown after };

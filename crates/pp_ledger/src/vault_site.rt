@@ -16,9 +16,9 @@ use pp_vault::{Done, ReadGuard, Vault};
 pub struct VaultSite {
     /// The vault.
     pub vault: Vault,
-    /// For how many events a worker gets room in its log before it takes a plan. Its host says it, since a vault doesn't tell
-    /// its plans' costs: the greatest cost of the plans that it submits ([`pp_vault::Accepted::cost`]). With less, a worker's log
-    /// gets room event by event.
+    /// For how many events a worker gets room in its log before it takes a plan. Its host says it, since a vault
+    /// doesn't tell its plans' costs: the greatest cost of the plans that it submits ([`pp_vault::Accepted::cost`]).
+    /// With less, a worker's log gets room event by event.
     pub most: u64,
 }
 

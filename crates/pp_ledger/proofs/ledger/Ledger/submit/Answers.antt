@@ -10,8 +10,9 @@ returns-then-is_full-clause-holds c = holds c.args.self.now (subst IsLedger c.se
 
 pub invariant_of-self : goal.invariant_of-self
 invariant_of-self c =
-    submitted_keeps (ledger_of c.self.inside.vault c.self.inside.segment) c.args.prepared c.in-Ok.id c.in-Ok.ensures.ok.0
-    c.submit_prepared.new.self (search rules) c.in-Ok.ensures.ok.1 c.note_submit.new.self (search rules)
+    submitted_keeps (ledger_of c.self.inside.vault c.self.inside.segment) c.args.prepared c.in-Ok.id
+    c.in-Ok.ensures.ok.0 c.submit_prepared.new.self (search rules) c.in-Ok.ensures.ok.1 c.note_submit.new.self
+    (search rules)
     c.self.inside.most c.self.invariant (search rules)
 
 pub returns-in-Ok-clause-ok : goal.returns-in-Ok-clause-ok

@@ -8,13 +8,13 @@ returns-clause-ok g c =
     submits_by g.S.Sink.keeps c.args.self.now
     (record { ledger = c.self.inside.ledger; spare = c.self.inside.spare; sink = c.self.inside.sink })
     (record { ledger = c.submit.new.self; spare = c.self.inside.spare; sink = c.self.inside.sink }) c.args.prepared
-    (subst (MakesRoom g.S.Sink.keeps c.args.self.now) (sym c.self.view_is) (c.make_room.ensures.made (search rules))) refl
-    c.submit.result c.submit.ensures.ok
+    (subst (MakesRoom g.S.Sink.keeps c.args.self.now) (sym c.self.view_is) (c.make_room.ensures.made (search rules)))
+    refl c.submit.result c.submit.ensures.ok
 
 pub returns-clause-error : goal.returns-clause-error
 returns-clause-error g c =
     refuses_by g.S.Sink.keeps c.args.self.now
     (record { ledger = c.self.inside.ledger; spare = c.self.inside.spare; sink = c.self.inside.sink })
     (record { ledger = c.submit.new.self; spare = c.self.inside.spare; sink = c.self.inside.sink }) c.args.prepared
-    (subst (MakesRoom g.S.Sink.keeps c.args.self.now) (sym c.self.view_is) (c.make_room.ensures.made (search rules))) refl
-    c.submit.result c.submit.ensures.error c.submit.ensures.unchanged
+    (subst (MakesRoom g.S.Sink.keeps c.args.self.now) (sym c.self.view_is) (c.make_room.ensures.made (search rules)))
+    refl c.submit.result c.submit.ensures.error c.submit.ensures.unchanged

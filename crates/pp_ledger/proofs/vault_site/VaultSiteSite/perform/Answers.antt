@@ -12,6 +12,6 @@ returns-clause-given c = (
 
 pub returns-clause-fits : goal.returns-clause-fits
 returns-clause-fits c =
-    answers_fit c.args.self.now.vault c.known.ensures.holds.kept c.args.request c.ask-answer.result.0 c.ask-answer.new.vault
-    c.ask-answer.result.1 c.ask-answer.ensures.comes c.ask-answer.ensures.does c.ask-answer.ensures.done
-    c.event_of-event.result c.event_of-event.ensures c.ask-answer.ensures.tokens
+    answers_fit c.args.self.now.vault c.known.ensures.holds.kept c.args.request c.ask-answer.result.0
+    c.ask-answer.new.vault c.ask-answer.result.1 c.ask-answer.ensures.comes c.ask-answer.ensures.does
+    c.ask-answer.ensures.done c.event_of-event.result c.event_of-event.ensures c.ask-answer.ensures.tokens
