@@ -8,7 +8,8 @@ use Rattle.std.specs.Borrow.{Bor}
 use Rattle.std.specs.List.{Contains}
 use Rattle.pp_judge.specs.Answers.{seen}
 use Rattle.pp_judge.specs.declared.exit.Exit.{Exit}
-use Rattle.pp_words.specs.CommandLine.{Asked, Text, texts}
+use Rattle.pp_words.specs.CommandLine.{Asked, Text, asked_by, texts}
+use Rattle.pp_words.specs.declared.request.Job.{Job}
 use Rattle.pp_cli.specs.Runs.{ComesOf, IsStopped, stopped_by}
 use Rattle.pp_cli.specs.declared.files.Unread.{Unread}
 use Rattle.pp_cli.specs.declared.files.Unread.TheVariants.{File, Memory}
@@ -62,3 +63,12 @@ pub handed_stop : {A : Type 0} (paths : List Text) (r : Result A Unread) (why : 
     → IfErr r (λ told. IsStopped paths (stopped_by told))
 handed_stop paths (Ok files) why same stopped = absurd same
 handed_stop paths (Err told) why same stopped = subst (λ w. IsStopped paths (stopped_by w)) (sym same) stopped
+
+-- What stops the work of a job stops the job.
+pub stops_job : (job : Job) (asked : Asked) (r : Result Exit Unread) (why : Unread) → asked_by job ≡ asked → r ≡ Err why
+    → MatchResult r (λ exit. ComesOf asked (seen exit)) (λ told. ComesOf asked (stopped_by told))
+    → ComesOf (asked_by job) (stopped_by why)
+stops_job job asked (Ok exit) why is stopped comes = absurd cc
+stops_job job asked (Err told) why is stopped comes =
+    let same : told ≡ why = cc in
+    subst (λ a. ComesOf a (stopped_by why)) (sym is) (subst (λ w. ComesOf asked (stopped_by w)) same comes)
