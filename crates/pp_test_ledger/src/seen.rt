@@ -14,6 +14,8 @@ use std::alloc::Global;
 pub struct Seen {
     auditor: SegmentAuditor,
     pub texts: Vec<String>,
+    /// The segment that was taken out last.
+    pub spare: Option<Segment>,
     /// How many lines the texts have.
     lines: u64,
     /// How many events were noted.
@@ -32,6 +34,7 @@ impl Drop for Seen {
         let Seen {
             auditor: _,
             texts: _,
+            spare: _,
             lines: _,
             events: _,
             plans: _,
@@ -59,6 +62,7 @@ impl Seen {
         Ok(Seen {
             auditor: SegmentAuditor::new(alloc, settings, plans)?,
             texts: Vec::new(alloc),
+            spare: None,
             lines: 0,
             events: 0,
             plans: 0,

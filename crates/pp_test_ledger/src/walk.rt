@@ -3,7 +3,7 @@
 use crate::common::{place_of, same};
 use crate::pools::{POOLS, Pool};
 use crate::seen::{Seen, told};
-use pp_ledger::LedgerError;
+use pp_ledger::{LedgerError, Segment};
 use pp_settings::Settings;
 use pp_test_plain::{Chance, all_accepted};
 use pp_test_stand::Stand;
@@ -97,6 +97,24 @@ fn submit(
     }
 }
 
+/// In what the ledger goes on: a new segment, or as often the one that was taken out last, emptied.
+fn empty_one(
+    alloc: Global,
+    spare: Option<Segment>,
+    chance: &mut Chance,
+) -> anyhow::Result<Segment> {
+    match spare {
+        Some(segment) if chance.below(2) == 0 => {
+            let mut empty = segment;
+            empty.clear();
+            let told = (empty.number(), empty.plans_before(), empty.events().len());
+            same("an emptied segment", told, (0, 0, 0))?;
+            Ok(empty)
+        }
+        _ => Ok(Segment::with_room(alloc, room(chance))?),
+    }
+}
+
 /// Takes the segment out and audits it.
 fn take(
     alloc: Global,
@@ -104,8 +122,12 @@ fn take(
     seen: &mut Seen,
     chance: &mut Chance,
 ) -> anyhow::Result<()> {
-    let segment = stand.take_segment(room(chance))?;
+    let empty = empty_one(alloc, seen.spare.take(), chance)?;
+    let Ok(segment) = stand.ledger.take_segment(empty) else {
+        anyhow::bail!("the ledger doesn't go on in an empty segment");
+    };
     seen.pass(alloc, &segment)?;
+    seen.spare = Some(segment);
     seen.see(&stand.ledger)
 }
 
