@@ -16,7 +16,8 @@ use Rattle.pp_ledger.specs.declared.error.LedgerError.TheVariants.{SegmentFull, 
 use Rattle.pp_ledger.specs.Segments.{Segment}
 use Rattle.pp_ledger.specs.Ledgers.{Parts, IsSegment}
 use Rattle.pp_ledger.specs.Calls.{TakesPrepared, SubmitFails, Performs, going_on}
-use Rattle.pp_ledger.specs.Sites.{SiteParts, HandsOn, MakesRoom, Gives, Submits, RefusesSubmit, is_stuck}
+use Rattle.pp_ledger.specs.Sites.{SiteParts, HandsOn, MakesRoom, Gives, Submits, RefusesSubmit, can_hand_on}
+use Rattle.pp_ledger.specs.Sites.{is_stuck}
 
 -- A request that comes back fits what was asked.
 pub declined_fits : (asked : Request) → Replies asked (record { event = None; answer = No asked (NotNow NoRoom) })
@@ -24,11 +25,12 @@ declined_fits asked = record { done = refl; event = tt; tokens = refl; slot = tt
 
 module _ {S : Type 0} (keeps : S → Segment → Segment → S → Type 0) where
   -- The sink was handed what was taken out.
-  pub hands_on : (x y : SiteParts S) (l : Parts) (full next : Segment) (after : S) → full ≡ x.ledger.segment
-      → l ≡ going_on x.ledger x.spare → ((o s : State) → IsSegment x.ledger o s → IsSegment l s s)
+  pub hands_on : (x y : SiteParts S) (l : Parts) (full next : Segment) (after : S)
+      → can_hand_on x ≡ true → full ≡ x.ledger.segment → l ≡ going_on x.ledger x.spare → ((o s : State) → IsSegment x.ledger o s → IsSegment l s s)
       → keeps x.sink full next after → y ≡ record { ledger = l; spare = next; sink = after } → HandsOn keeps x y
-  hands_on x y l full next after is goes chain given e =
+  hands_on x y l full next after can is goes chain given e =
       subst (HandsOn keeps x) (sym e) (record {
+        can = can;
         ledger = goes;
         handed = subst (λ g. keeps x.sink g next after) is given;
         segment = chain;

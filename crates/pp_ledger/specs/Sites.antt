@@ -54,16 +54,17 @@ pub record IsSite {S : Type 0} (x : SiteParts S) : Type 0 where
   pub ready : is_ready x.spare ≡ true
   pub room : 1 ≤ x.ledger.segment.capacity
 
--- The present segment is taken out, and the ledger goes on in the spare one, from the state to which the present one
--- leads. The sink is handed what was taken out, and gives the next spare one, as its own relation says.
-pub record HandsOn {S : Type 0} (keeps : S → Segment → Segment → S → Type 0) (old new : SiteParts S) : Type 0 where
-  pub ledger : new.ledger ≡ going_on old.ledger old.spare
-  pub handed : keeps old.sink old.ledger.segment new.spare new.sink
-  pub segment : (o s : State) → IsSegment old.ledger o s → IsSegment new.ledger s s
-
 -- Whether one segment more can be taken out: fewer than 2^64 - 1 were.
 abbrev pub can_hand_on : {S : Type 0} → SiteParts S → Bool
 can_hand_on x = can_go_on x.ledger x.spare
+
+-- The present segment is taken out, and the ledger goes on in the spare one, from the state to which the present one
+-- leads. The sink is handed what was taken out, and gives the next spare one, as its own relation says.
+pub record HandsOn {S : Type 0} (keeps : S → Segment → Segment → S → Type 0) (old new : SiteParts S) : Type 0 where
+  pub can : can_hand_on old ≡ true
+  pub ledger : new.ledger ≡ going_on old.ledger old.spare
+  pub handed : keeps old.sink old.ledger.segment new.spare new.sink
+  pub segment : (o s : State) → IsSegment old.ledger o s → IsSegment new.ledger s s
 
 -- Whether no event can be noted any more: the present segment is full, and can't be taken out.
 abbrev pub is_stuck : {S : Type 0} → SiteParts S → Bool

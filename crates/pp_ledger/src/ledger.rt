@@ -36,6 +36,8 @@ use std::mem;
 /// What a call does is said of all such states. So segments that are taken out one after the other are one true
 /// journal of the life.
 ///
+/// It isn't renewed: the flushes of its settings are for its whole life.
+///
 /// No call but [`Ledger::new`] takes memory. Where the segment is full, no event is added and nothing is done,
 /// until its host takes it out ([`Ledger::take_segment`]).
 pub struct Ledger {

@@ -7,7 +7,7 @@ ghost use Rattle.pp_vault.specs.declared.refusal.Refusal.TheVariants.{NotNow};
 ghost use Rattle.pp_pool.specs.declared.response.BookAnswer.TheVariants.{No};
 ghost use Rattle.pp_ledger.specs.Segments.{is_ready};
 ghost use Rattle.pp_ledger.specs.Calls.{Prepares};
-ghost use Rattle.pp_ledger.specs.Sites.{HandsOn, MakesRoom, Submits, RefusesSubmit, can_hand_on, is_stuck};
+ghost use Rattle.pp_ledger.specs.Sites.{IsSite, HandsOn, MakesRoom, Submits, RefusesSubmit, can_hand_on, is_stuck};
 
 use crate::error::LedgerError;
 use crate::ledger::Ledger;
@@ -35,8 +35,12 @@ use std::marker::Model;
 ///     let mut worker = Worker::new(alloc, site, device, hand, &settings);
 ///     while let Some(mut query) = next_query() {                   // yours
 ///         worker.site.submit(search)?;
-///         for _ in 0..=worker.site.ledger().most() {
-///             if worker.turn(&mut query) != Turned::Done { break; }
+///         loop {
+///             match worker.turn(&mut query) {
+///                 Turned::Done => {}
+///                 Turned::Ended => break,                      // the query is done
+///                 stopped => return Err(stopped.into()),       // yours: `Turned` says what each means
+///             }
 ///         }
 ///         worker.log.clear();
 ///     }
@@ -82,6 +86,14 @@ impl<S> LedgerSite<S> {
             spare,
             sink,
         }
+    }
+
+    /// Does nothing. It tells what holds of every site: its ledger can go on in the spare segment by what that is, and the
+    /// present one has memory for an event.
+    pub fn known(&self)
+        ensures { IsSite self.now }
+    {
+        let _ = &self.ledger;
     }
 
     /// The ledger, by the calls that change nothing.

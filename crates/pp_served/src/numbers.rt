@@ -43,20 +43,11 @@ fn is_wide(_number: u64)
 {}
 
 /// The numbers of a segment have as many bits as their types.
-fn has_all_numbers(segment: &Segment)
+pub(crate) fn has_all_numbers(segment: &Segment)
     ensures { HasAllNumbers segment.now }
 {
     is_wide(segment.number());
     is_wide(segment.plans_before());
     are_places(segment.prepared());
     have_numbers(segment.events());
-}
-
-/// The same of all these segments.
-pub(crate) fn have_all_numbers(segments: &[Segment])
-    ensures { AllByRecursion HasAllNumbers segments.now }
-{
-    for segment in segments {
-        has_all_numbers(segment);
-    }
 }
