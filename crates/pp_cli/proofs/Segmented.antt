@@ -1,6 +1,8 @@
 -- Files of segments, each of which is audited before the next is read.
-use Rattle.std.proofs.Common.{◌≡◌, ◌⊎◌, ◌<◌, ◌≤◌, ◌+◌, ◌-◌, ◌==◌, ℕ, zero, Bool, true, false, List, [], ◌∷◌, ◌++◌, length, drop, get_or, map, suc, take}
-use Rattle.std.proofs.Common.{Option, Some, None, Result, Ok, Err, IfSome, IsErrAnd, MatchResult, is_ok, sym, ap, subst, ◌∙◌}
+use Rattle.std.proofs.Common.{◌≡◌, ◌⊎◌, ◌<◌, ◌≤◌, ◌+◌, ◌-◌, ◌==◌, ℕ, zero, suc, Bool, true, false}
+use Rattle.std.proofs.Common.{List, [], ◌∷◌, ◌++◌, length, drop, get_or, map, take}
+use Rattle.std.proofs.Common.{Option, Some, None, Result, Ok, Err, IfSome, IsErrAnd, MatchResult, is_ok}
+use Rattle.std.proofs.Common.{sym, ap, subst, ◌∙◌}
 use Rattle.std.proofs.Common.{arith, drop-cons, if◌then◌else◌, inl, inr, length-append, length-drop}
 use Rattle.std.proofs.lemmas.List.{get_or-map, length-map, length-take-le, map-append, take-append-drop}
 use Rattle.std.proofs.lemmas.List.Elements.{Contains-append_cases, Contains-append_left, Contains-append_right}
@@ -201,4 +203,8 @@ pub explained_few : (settings : Text) (plans files : List Text) (why : Option (L
     → IfSome why (IsAbout ((settings ∷ []) ++ plans)) → IfSome why (IsAbout ((settings ∷ plans) ++ files))
 explained_few settings plans files None h = tt
 explained_few settings plans files (Some bytes) h =
-    record { path = h.path; given = Contains-append_left (settings ∷ plans) files h.path h.given; paragraph = h.paragraph }
+    record {
+      path = h.path;
+      given = Contains-append_left (settings ∷ plans) files h.path h.given;
+      paragraph = h.paragraph;
+    }

@@ -92,9 +92,10 @@ abbrev pub MayRunTraced : Asked → Result (Configuration × List Acceptance) Ju
 MayRunTraced command (Ok w) answer = MayEndTraced command w answer
 MayRunTraced command (Err refusal) answer = answer ≡ refused refusal
 
--- the file of segments whose turn it is can't be read, or memory ran out: those before it are, with some bytes, segments of a true
--- journal with settings and plans of these bytes
-pub record IsUnreadBehind (settings : List ℕ) (plans : List (List ℕ)) (files : List Text) (answer : Answer) : Type 0 where
+-- the file of segments whose turn it is can't be read, or memory ran out: those before it are, with some bytes, segments
+-- of a true journal with settings and plans of these bytes; what the files before it hold in fact isn't said here
+pub record IsUnreadBehind (settings : List ℕ) (plans : List (List ℕ)) (files : List Text) (answer : Answer)
+    : Type 0 where
   pub before : List Text
   pub path : Text
   pub behind : List Text
@@ -104,10 +105,10 @@ pub record IsUnreadBehind (settings : List ℕ) (plans : List (List ℕ)) (files
   pub right : IsOk (segments_audited_in false settings plans bytes)
   pub stops : IsStopped (path ∷ []) answer
 
--- what `audit --segments` may come to with settings and plans of these bytes: a file of segments can't be read in its turn, or
--- it is what some bytes come to as the contents of these files
-abbrev pub ComesOfSegments : (ended : Bool) → (settings : List ℕ) → (plans : List (List ℕ)) → (files : List Text) → Answer
-    → Type 0
+-- what `audit --segments` may come to with settings and plans of these bytes: a file of segments can't be read in its
+-- turn, or it is what some bytes come to as the contents of these files
+abbrev pub ComesOfSegments : (ended : Bool) → (settings : List ℕ) → (plans : List (List ℕ)) → (files : List Text)
+    → Answer → Type 0
 ComesOfSegments ended settings plans files answer = IsUnreadBehind settings plans files answer
     ⊎ ((bytes : List (List ℕ)) × (length bytes ≡ length files) × (answer ≡ segments_answer ended settings plans bytes))
 
@@ -134,8 +135,8 @@ ComesOf (Asked.draw output settings journal plans) answer = IsStopped (settings 
     ⊎ ((s j : List ℕ) × (ps : List (List ℕ)) × (drawing : Answer) × (length ps ≡ length plans) × MayDraw s j ps drawing
     × IsPut output drawing answer)
 
--- the files that a command reads texts from: the settings, then the certificate, the script or the journal, then the plans, then
--- the files of segments
+-- the files that a command reads texts from: the settings, then the certificate, the script or the journal, then the
+-- plans, then the files of segments
 abbrev pub files_of : Asked → List Text
 files_of (Asked.check settings plan certificate) = settings ∷ certificate ∷ plan ∷ []
 files_of (Asked.annotate output settings plan) = settings ∷ plan ∷ []

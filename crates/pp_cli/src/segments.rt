@@ -17,8 +17,8 @@ use pp_words::SegmentsPaths;
 use std::alloc::Global;
 use std::rt::Files;
 
-/// What the files of `audit --segments` come to. The settings and the plans are read before any of them is refused. Then the
-/// files of segments are read, each when those before it were audited.
+/// What the files of `audit --segments` come to. The settings and the plans are read before any of them is refused.
+/// Then the files of segments are read, each when those before it were audited.
 pub fn audit_segments<'a, R: Files + AllocGlobal>(
     rt: &R,
     paths: SegmentsPaths<'a>,
@@ -64,8 +64,8 @@ struct Place<'a> {
     lines_before: u64,
 }
 
-/// What the files of segments come to, with an auditor that has passed none, and where that is found: at one of them, or at the
-/// settings where there are none.
+/// What the files of segments come to, with an auditor that has passed none, and where that is found: at one of them,
+/// or at the settings where there are none.
 fn audit_files<'a, R: Files + AllocGlobal>(
     rt: &R,
     auditor: &mut SegmentAuditor,
@@ -113,8 +113,8 @@ fn last_of<'a>(settings: &'a str, files: &[&'a str]) -> &'a str
 }
 
 impl Place<'_> {
-    /// What explains the exit, where it is a refusal of the file; else a warning of a key that stands twice in one of the
-    /// plans. Nothing where memory runs out for it.
+    /// What explains the exit, where it is a refusal of the file; else a warning of a key that stands twice in one of
+    /// the plans. Nothing where memory runs out for it.
     fn explained(
         &self,
         alloc: Global,

@@ -7,8 +7,8 @@ use Rattle.pp_settings.specs.Spans.{is_bounded}
 use Rattle.pp_cert.specs.Accepted.{Acceptance}
 use Rattle.pp_report.specs.Journals.{journal_lines}
 use Rattle.pp_report.specs.declared.error.AuditError.TheVariants.{Unfinished}
-use Rattle.pp_segments.specs.Auditing.{Progress, auditing, begin_fault, counts_of, is_over, no_fault, outset, pass_lines}
-use Rattle.pp_segments.specs.Auditing.{pass_text, see_end, told_count}
+use Rattle.pp_segments.specs.Auditing.{Progress, auditing, begin_fault, counts_of, is_over, no_fault, outset}
+use Rattle.pp_segments.specs.Auditing.{pass_lines, pass_text, see_end, told_count}
 use Rattle.pp_segments.specs.Auditors.{IsAt, PassesAll}
 use Rattle.pp_segments.specs.declared.auditor.SegmentAuditor.{SegmentAuditor}
 use Rattle.pp_segments.specs.declared.error.SegmentError.{SegmentError}
@@ -122,7 +122,8 @@ behind prepared p q files more passed =
     ∙ ap (λ r. r >>= λ r. pass_lines prepared r (flat_map journal_lines more)) passed
 
 -- The verdict where the first of the files left has this fault.
-pub stops : (settings : List ℕ) (plans files : List (List ℕ)) (text : List ℕ) (old new : SegmentAuditor) (e : SegmentError)
+pub stops : (settings : List ℕ) (plans files : List (List ℕ)) (text : List ℕ) (old new : SegmentAuditor)
+    (e : SegmentError)
     → ((prepared : List Acceptance) (p : Progress) → IsAt prepared old p
     → PassesAll prepared new (pass_lines prepared p (journal_lines text)) (Err e))
     → HasPassed settings plans files old → (ended : Bool) (more : List (List ℕ))
@@ -159,7 +160,8 @@ comes_to ended settings plans files w p read begins passed =
 
 -- What was passed.
 pub has_passed : (settings : List ℕ) (plans files : List (List ℕ)) (auditor : SegmentAuditor)
-    (w : Configuration × List Acceptance) (p : Progress) → prepared_in settings plans ≡ Ok w → begin_fault w.0 w.1 ≡ None
+    (w : Configuration × List Acceptance) (p : Progress) → prepared_in settings plans ≡ Ok w
+    → begin_fault w.0 w.1 ≡ None
     → pass_lines w.1 (outset w.0) (flat_map journal_lines files) ≡ Ok p → IsAt w.1 auditor p
     → HasPassed settings plans files auditor
 has_passed settings plans files auditor w p read begins passed stands = record {
@@ -189,7 +191,8 @@ one_more settings plans files text old new lines passes h =
         there.0
     by (Err e) is there = absurd there
 
-pub unfinished : (ended : Bool) (settings : List ℕ) (plans files : List (List ℕ)) (auditor : SegmentAuditor) (over : Bool)
+pub unfinished : (ended : Bool) (settings : List ℕ) (plans files : List (List ℕ)) (auditor : SegmentAuditor)
+    (over : Bool)
     → ((prepared : List Acceptance) (p : Progress) → IsAt prepared auditor p → over ≡ is_over p)
     → ended ≡ true → over ≡ false → HasPassed settings plans files auditor
     → segments_audited_in ended settings plans files ≡ Err (Segments (segment_error.Audit Unfinished))
@@ -199,7 +202,8 @@ unfinished ended settings plans files auditor over told wanted left h =
     ∙ by (is_over h.progress) (sym (told h.pool.1 h.progress h.stands) ∙ left)
   where
     by : (b : Bool) → b ≡ false
-        → refusing Segments ((must b (segment_error.Audit Unfinished) >>= λ passed. Ok h.progress) >>= λ p. Ok (counts_of p))
+        → refusing Segments ((must b (segment_error.Audit Unfinished) >>= λ passed. Ok h.progress)
+        >>= λ p. Ok (counts_of p))
         ≡ Err (Segments (segment_error.Audit Unfinished))
     by true is = absurd cc
     by false is = refl

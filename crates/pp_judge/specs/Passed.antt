@@ -8,7 +8,8 @@ use Rattle.pp_segments.specs.Auditors.{IsAt}
 use Rattle.pp_segments.specs.declared.auditor.SegmentAuditor.{SegmentAuditor}
 use Rattle.pp_judge.specs.Judgement.{prepared_in, segments_audited_in}
 
--- The auditor has passed the files of these bytes, with the settings and the prepared plans of those: so far there is no fault.
+-- The auditor has passed the files of these bytes, with the settings and the prepared plans of those: so far there is
+-- no fault.
 pub record HasPassed (settings : List ℕ) (plans files : List (List ℕ)) (auditor : SegmentAuditor) : Type 0 where
   pub pool : Configuration × List Acceptance
   pub progress : Progress

@@ -29,13 +29,13 @@ pub struct SegmentsFiles<'a> {
     pub ended: bool,
 }
 
-/// Reads the settings and the plans, in this order, makes each plan's certificate and checks it before the next plan, and
-/// says whether the files, one behind the other, are the segments of a true journal with these prepared plans.
+/// Reads the settings and the plans, in this order, makes each plan's certificate and checks it before the next plan,
+/// and says whether the files, one behind the other, are the segments of a true journal with these prepared plans.
 ///
 /// # Errors
 ///
-/// Those of [`segment_auditor`]. Then file by file the first fault; lines are counted from 1 through all files. At the end, if
-/// `ended`, that something is left to do.
+/// Those of [`segment_auditor`]. Then file by file the first fault; lines are counted from 1 through all files. At the
+/// end, if `ended`, that something is left to do.
 pub fn audit_segments(
     alloc: Global,
     files: SegmentsFiles<'_>,
@@ -51,13 +51,13 @@ pub fn audit_segments(
     audited_segments(&auditor, files.ended)
 }
 
-/// The settings of an endless pool and its prepared plans, read in this order: the auditor of its segments, which has passed
-/// no file yet.
+/// The settings of an endless pool and its prepared plans, read in this order: the auditor of its segments, which has
+/// passed no file yet.
 ///
 /// # Errors
 ///
-/// The first refusal in that order. Settings of a bounded life are [`SegmentError::OtherLife`], before any plan. A plan beside
-/// which a pool keeps no more is [`SegmentError::Prepare`], behind all else of the plans.
+/// The first refusal in that order. Settings of a bounded life are [`SegmentError::OtherLife`], before any plan. A plan
+/// that a pool doesn't keep beside the earlier ones is [`SegmentError::Prepare`], behind all else of the plans.
 pub fn segment_auditor(
     alloc: Global,
     settings: &[u8],
@@ -105,7 +105,8 @@ pub fn segments_exit<'a>(auditor: &SegmentAuditor, ended: bool) -> Exit<'a>
     }
 }
 
-/// How many lines and segments were passed, where no file is left. If `ended`, an end that leaves something to do is refused.
+/// How many lines and segments were passed, where no file is left. If `ended`, an end that leaves something to do is
+/// refused.
 fn audited_segments(auditor: &SegmentAuditor, ended: bool) -> Result<AuditedSegments, JudgeError>
     ensures { (settings : List ℕ) (plans files : List (List ℕ)) → HasPassed settings plans files auditor.now
         → Gives is_want_of_memory counts result (segments_audited_in ended settings plans files) }

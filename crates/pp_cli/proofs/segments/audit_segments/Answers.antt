@@ -52,7 +52,8 @@ returns-in-Ok-clause-explained g c =
     let file = c.in_ok-exit-in-Ok.place.path.now in
     let why = option_map (λ text. text.items) c.explained.result in
     explained_more settings file (texts c.args.paths.plans.items) (texts c.args.paths.files.items) why
-    (subst (λ files. Contains (settings ∷ texts files) file) c.deref-in-Ok.ensures.value c.in_ok-exit-in-Ok.ensures.place)
+    (subst (λ files. Contains (settings ∷ texts files) file) c.deref-in-Ok.ensures.value
+    c.in_ok-exit-in-Ok.ensures.place)
     (subst (λ plans. IfSome why (IsAbout ((settings ∷ file ∷ []) ++ texts plans))) c.deref-3.ensures.value
     (subst (λ path. IfSome why (IsAbout ((path ∷ file ∷ []) ++ texts c.deref-3.result.now))) c.source.ensures
     c.explained.ensures))
