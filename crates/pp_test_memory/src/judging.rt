@@ -2,13 +2,13 @@
 
 use crate::answer::Answer;
 use crate::printing::twice;
-use crate::samples::{LIVES, PIN, PIN_NOTES, SCRIPT};
+use crate::samples::{LIVES, PIN, PIN_NOTES, SCRIPT, SEGMENTS, endless_text};
 use crate::tried::{Told, Tried};
 use pp_judge::{
-    AnnotateFiles, AuditFiles, CheckFiles, Contents, DrawFiles, Exit, JudgeError, SimulateFiles,
-    Workload, device_size, exit_of,
+    AnnotateFiles, AuditFiles, CheckFiles, Contents, DrawFiles, Exit, JudgeError, SegmentsFiles,
+    SimulateFiles, Workload, device_size, exit_of,
 };
-use pp_test_plain::samples::{SETTINGS, TOUCH, TOUCHED, WRITE};
+use pp_test_plain::samples::{NOTHING, SETTINGS, TOUCH, TOUCHED, WRITE};
 use std::alloc::Global;
 use std::fmt;
 
@@ -17,7 +17,14 @@ pub fn case<R: AllocGlobal + Print>(rt: &R, call: &str, row: &str) -> anyhow::Re
     let alloc = rt.alloc();
     let plans = bytes_of(alloc, texts_of(call, row))?;
     match call {
-        "exit_of" => twice(rt, &mut Judging { alloc, row, plans }),
+        "exit_of" => {
+            let files = Files {
+                plans,
+                endless: endless_text(alloc)?,
+                segments: bytes_of(alloc, &SEGMENTS)?,
+            };
+            twice(rt, &mut Judging { alloc, row, files })
+        }
         _ => twice(rt, &mut Loading { alloc, call, plans }),
     }
 }
@@ -28,6 +35,7 @@ fn texts_of(call: &str, row: &str) -> &'static [&'static str] {
         ("Workload::read", _) => &[TOUCH, WRITE],
         (_, "audit" | "draw") => &[TOUCH],
         (_, "audit_lives") => &[TOUCH, TOUCH],
+        (_, "audit_segments") => &[NOTHING, TOUCH],
         _ => &[WRITE],
     }
 }
@@ -43,9 +51,19 @@ pub fn bytes_of(alloc: Global, texts: &[&str]) -> anyhow::Result<Vec<Vec<u8>>> {
     Ok(all)
 }
 
+/// The files of a case that are no constants.
+#[derive(Drop)]
+struct Files {
+    plans: Vec<Vec<u8>>,
+    /// Settings of an endless pool.
+    endless: String,
+    segments: Vec<Vec<u8>>,
+}
+
 /// The contents of the files of a command.
-fn contents<'a>(row: &str, plans: &'a [Vec<u8>]) -> Contents<'a> {
+fn contents<'a>(row: &str, files: &'a Files) -> Contents<'a> {
     let settings = SETTINGS.as_bytes();
+    let plans = files.plans.as_slice();
     match row {
         "check" => Contents::Check(CheckFiles {
             settings,
@@ -66,6 +84,12 @@ fn contents<'a>(row: &str, plans: &'a [Vec<u8>]) -> Contents<'a> {
             journal: LIVES.as_bytes(),
             plans,
         }),
+        "audit_segments" => Contents::AuditSegments(SegmentsFiles {
+            settings: files.endless.as_bytes(),
+            plans,
+            files: files.segments.as_slice(),
+            ended: true,
+        }),
         "draw" => Contents::Draw(DrawFiles {
             settings,
             journal: TOUCHED.as_bytes(),
@@ -85,7 +109,7 @@ fn contents<'a>(row: &str, plans: &'a [Vec<u8>]) -> Contents<'a> {
 struct Judging<'a> {
     alloc: Global,
     row: &'a str,
-    plans: Vec<Vec<u8>>,
+    files: Files,
 }
 
 impl Tried for Judging<'_> {
@@ -93,7 +117,7 @@ impl Tried for Judging<'_> {
 
     fn call(&mut self) -> Ended {
         Ended {
-            exit: exit_of(self.alloc, contents(self.row, &self.plans)),
+            exit: exit_of(self.alloc, contents(self.row, &self.files)),
         }
     }
 }

@@ -150,8 +150,12 @@ pub fn settings_of(alloc: Global, row: &str) -> anyhow::Result<Settings> {
     if row != "endless" {
         return Ok(Settings::from_text(alloc, SETTINGS)?);
     }
-    let text = format!(in alloc;
+    Ok(Settings::from_text(alloc, &endless_text(alloc)?)?)
+}
+
+/// The text of these settings of version 2.
+pub fn endless_text(alloc: Global) -> anyhow::Result<String> {
+    Ok(format!(in alloc;
         "version = 2\nframes = 3\npage_bytes = 512\nworkers = 2\nwaiting = 3\nflushes = 4\n{REGIONS}"
-    )?;
-    Ok(Settings::from_text(alloc, &text)?)
+    )?)
 }
