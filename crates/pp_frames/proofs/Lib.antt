@@ -8,4 +8,5 @@ mod Opening
 mod Search
 mod Spelling
 mod Steps
+mod Tables
 mod Whole

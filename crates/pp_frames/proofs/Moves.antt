@@ -1,26 +1,19 @@
 -- What a page without pins does to the map, and to what the code keeps of it, when it goes into another frame or into
 -- none.
 use Rattle.std.proofs.Common.{◌≡◌, ◌≢◌, ℕ, ◌<◌, Bool, true, false, List, length, set, Option, Some, None, refl, ap, sym}
-use Rattle.std.proofs.Common.{◌∙◌, arith, inl, inr, ◌↔◌, ◌⊎◌}
+use Rattle.std.proofs.Common.{◌∙◌, arith, inl, inr, ◌↔◌, subst}
 use Rattle.std.proofs.lemmas.Bool.{cases_eq, false≢true}
-use Rattle.std.proofs.lemmas.List.{get_or-set_same, get_or-set_other, length-set, map-set}
+use Rattle.std.proofs.lemmas.List.{get_or-set_same, get_or-set_other, length-set}
 use Rattle.std.specs.Prelude.{IsSome, IfSome}
-use Rattle.pp_frames.specs.declared.page.Page.{Page}
 use Rattle.pp_frames.specs.Numbers.{is_member}
+use Rattle.pp_frames.specs.Marks.{Latches, Shared, Exclusive}
 use Rattle.pp_frames.specs.Marks.{latch_count, PageMarks, PageMap, page_count, marks_of, frame_of, pins_of, latches_of}
-use Rattle.pp_frames.specs.Marks.{all_pins, is_flushable, with_marks, with_frame, IsFree, IsSound}
-use Rattle.pp_frames.specs.Kept.{marks_at, Parts, IsKept, page_map, put}
-use Rattle.pp_frames.proofs.Steps.{count_is, marks_here, marks_there, all_pins_with, flushable_with, Says, kept_by}
+use Rattle.pp_frames.specs.Marks.{all_pins, is_flushable, with_frame, IsFree, IsSound}
+use Rattle.pp_frames.specs.Kept.{Parts, IsKept, put}
+use Rattle.pp_frames.proofs.Tables.{cases_some}
+use Rattle.pp_frames.proofs.Steps.{marks_here, marks_there, all_pins_with, all_dirty_with, flushable_with, flushes}
 
 -- ---- a number put into a set or out of it
-
-cases_some : (o : Option ℕ) (f : ℕ) → (o ≡ Some f) ⊎ (o ≡ Some f → ⊥)
-cases_some None f = inr (λ e. absurd (grind (arith, e)))
-cases_some (Some g) f =
-    elim (cases_eq g f) [
-      | inl same ↦ inl (ap (λ (k : ℕ). Some k) same)
-      | inr away ↦ inr (λ e. away (grind (arith, e)))
-    ]
 
 pub length-put : (s : List Bool) (o : Option ℕ) (b : Bool) → length (put s o b) ≡ length s
 length-put s None b = refl
@@ -153,47 +146,64 @@ module _ (m : PageMap) (page : ℕ) (frame : Option ℕ) (lt : page < page_count
 
 -- ---- what is kept
 
-abbrev pub moved : Parts → ℕ → Page → List Bool → List Bool → Parts
-moved p page to free flushable =
-    record { pages = set p.pages page to; pins = p.pins; free = free; flushable = flushable }
-
-module _ (p : Parts) (page : ℕ) (to : Page) (frame : Option ℕ) (free flushable : List Bool) (kept : IsKept p)
-    (lt : page < page_count (page_map p))
-    (unpinned : pins_of (page_map p) page ≡ 0)
-    (into : IfSome frame (λ f. (f < length p.free) × IsFree (page_map p) f))
-    (to_is : marks_at to ≡ record (marks_of (page_map p) page) { frame = frame })
-    (free_is : free ≡ put (put p.free (frame_of (page_map p) page) true) frame false)
-    (set_is : flushable ≡ set p.flushable page (is_flushable (marks_at to))) where
+module _ (p : Parts) (page : ℕ) (frame : Option ℕ) (new : PageMap) (free flushable : List Bool) (kept : IsKept p)
+    (lt : page < page_count p.marks)
+    (unpinned : pins_of p.marks page ≡ 0)
+    (into : IfSome frame (λ f. (f < p.marks.frames) × IsFree p.marks f))
+    (new_is : new ≡ with_frame p.marks page frame)
+    (free_is : free ≡ put (put p.free (frame_of p.marks page) true) frame false)
+    (set_is : flushable ≡ set p.flushable page (is_flushable (marks_of new page))) where
   same_frames : length free ≡ length p.free
   same_frames =
       ap length free_is
-      ∙ length-put (put p.free (frame_of (page_map p) page) true) frame false
-      ∙ length-put p.free (frame_of (page_map p) page) true
+      ∙ length-put (put p.free (frame_of p.marks page) true) frame false
+      ∙ length-put p.free (frame_of p.marks page) true
 
-  pub map_moved : page_map (moved p page to free flushable) ≡ with_frame (page_map p) page frame
-  map_moved =
-      ap (λ ps. record { frames = length free; pages = ps }) (map-set marks_at p.pages page to)
-      ∙ ap (λ n. record { frames = n; pages = set (page_map p).pages page (marks_at to) }) same_frames
-      ∙ ap (with_marks (page_map p) page) to_is
+  put_so : flushable ≡ set p.flushable page (is_flushable (record (marks_of p.marks page) { frame = frame }))
+  put_so =
+      set_is
+      ∙ ap (set p.flushable page)
+      (flushes p.marks new page (record (marks_of p.marks page) { frame = frame }) lt new_is)
 
-  pub says_moved : Says (moved p page to free flushable) (with_frame (page_map p) page frame)
-  says_moved =
-      let m : PageMap = page_map p in
+  kept_plainly : IsKept
+      (record {
+        marks = with_frame p.marks page frame;
+        pins = p.pins;
+        dirty = p.dirty;
+        free = free;
+        flushable =
+            flushable;
+      })
+  kept_plainly =
+      let m : PageMap = p.marks in
+      let marks : PageMarks = record (marks_of m page) { frame = frame } in
       record {
-        map = map_moved;
         sound = sound_moved m page frame lt kept.sound unpinned into;
         pins = kept.pins ∙ sym (all_pins_moved m page frame lt kept.sound unpinned into);
+        dirty = omega (arith, kept.dirty, all_dirty_with m page marks lt);
+        frames = same_frames ∙ kept.frames;
         free = λ f below.
             let under : f < length p.free = omega (arith, same_frames) in
             rw free_is (free_moved m page frame lt kept.sound unpinned into p.free f under (kept.free f under));
-        pages = ap length set_is ∙ length-set p.flushable page (is_flushable (marks_at to)) ∙ kept.pages
-            ∙ sym (length-set p.pages page to);
+        pages = ap length put_so ∙ length-set p.flushable page (is_flushable marks) ∙ kept.pages
+            ∙ sym (length-set m.pages page marks);
         flushable = λ k.
-            ap (λ s. is_member s k) set_is
-            ∙ flushable_with m page (marks_at to) lt p.flushable (kept.pages ∙ sym (count_is p)) kept.flushable k
-            ∙ ap (λ a. is_flushable (marks_of (with_marks m page a) k)) to_is;
+            ap (λ s. is_member s k) put_so ∙ flushable_with m page marks lt p.flushable kept.pages kept.flushable k;
         frames_fit = omega (arith, kept.frames_fit, same_frames);
+        pages_fit = omega (arith, kept.pages_fit, ap length put_so, length-set p.flushable page (is_flushable marks));
       }
 
-  pub kept_moved : IsKept (moved p page to free flushable)
-  kept_moved = kept_by (moved p page to free flushable) (with_frame (page_map p) page frame) says_moved
+  pub kept_moved : IsKept (record { marks = new; pins = p.pins; dirty = p.dirty; free = free; flushable = flushable })
+  kept_moved =
+      subst (λ m. IsKept (record { marks = m; pins = p.pins; dirty = p.dirty; free = free; flushable = flushable }))
+      (sym new_is)
+      kept_plainly
+
+-- ---- a page without pins has no latch
+
+no_latch : (l : Latches) → latch_count l ≡ 0 → l ≡ Shared 0
+no_latch (Shared n) none = ap (λ k. Shared k) none
+no_latch Exclusive none = absurd (omega (arith, none))
+
+pub unlatched : (m : PageMap) (page : ℕ) → IsSound m → pins_of m page ≡ 0 → latches_of m page ≡ Shared 0
+unlatched m page sound none = no_latch (latches_of m page) (omega (arith, sound.latched_is_pinned page, none))

@@ -1,15 +1,14 @@
 -- What is kept of a pool in which nothing was done yet.
-use Rattle.std.proofs.Common.{◌≡◌, ℕ, zero, suc, ◌<◌, ◌^◌, Bool, true, false, List, ◌∷◌, length, map, replicate}
+use Rattle.std.proofs.Common.{◌≡◌, ℕ, zero, suc, ◌<◌, ◌^◌, Bool, true, false, List, length, replicate}
 use Rattle.std.proofs.Common.{Some, None, refl, ap, sym, ◌∙◌, arith}
 use Rattle.std.proofs.lemmas.List.{length-replicate}
 use Rattle.std.proofs.lemmas.List.FromFn.{fill_by_all}
-use Rattle.std.specs.List.{sum_by}
+use Rattle.std.specs.List.{sum_by, count_by}
 use Rattle.pp_frames.specs.Numbers.{is_member}
 use Rattle.pp_frames.specs.Marks.{latch_count, PageMarks, untouched_marks, opening, marks_of, frame_of, pins_of}
 use Rattle.pp_frames.specs.Marks.{is_flushable, IsSound}
-use Rattle.pp_frames.specs.Kept.{marks_at, untouched_page, Parts, IsKept, page_map}
+use Rattle.pp_frames.specs.Kept.{Parts, IsKept}
 use Rattle.pp_frames.proofs.Spelling.{at_replicate}
-use Rattle.pp_frames.proofs.Steps.{kept_by}
 
 -- a list in which each number below n is a member
 pub all_members : (s : List Bool) (n : ℕ) → length s ≡ n → ((k : ℕ) → k < n → is_member s k ≡ true)
@@ -24,13 +23,13 @@ member_of_all zero k lt = absurd (omega arith)
 member_of_all (suc n) zero lt = refl
 member_of_all (suc n) (suc k) lt = member_of_all n k (omega arith)
 
-all_untouched : (n : ℕ) → map marks_at (replicate n untouched_page) ≡ replicate n untouched_marks
-all_untouched zero = refl
-all_untouched (suc n) = ap (λ ms. untouched_marks ∷ ms) (all_untouched n)
-
 no_pins : (n : ℕ) → sum_by (λ (marks : PageMarks). marks.pins) (replicate n untouched_marks) ≡ 0
 no_pins zero = refl
 no_pins (suc n) = omega (arith, no_pins n)
+
+none_dirty : (n : ℕ) → count_by (λ (marks : PageMarks). marks.dirty) (replicate n untouched_marks) ≡ 0
+none_dirty zero = refl
+none_dirty (suc n) = omega (arith, none_dirty n)
 
 untouched : (frames pages k : ℕ) → marks_of (opening frames pages) k ≡ untouched_marks
 untouched frames pages k = at_replicate pages k untouched_marks
@@ -56,30 +55,26 @@ sound_opening frames pages =
 abbrev pub opened : ℕ → ℕ → Parts
 opened frames pages =
     record {
-      pages = replicate pages untouched_page;
+      marks = opening frames pages;
       pins = 0;
+      dirty = 0;
       free = replicate frames true;
       flushable = replicate pages false;
     }
 
-pub map_opened : (frames pages : ℕ) → page_map (opened frames pages) ≡ opening frames pages
-map_opened frames pages =
-    ap (λ n. record { frames = n; pages = map marks_at (replicate pages untouched_page) })
-    (length-replicate frames true)
-    ∙ ap (λ ps. record { frames = frames; pages = ps }) (all_untouched pages)
-
-pub kept_opened : (frames pages : ℕ) → frames < 2 ^ 32 → IsKept (opened frames pages)
-kept_opened frames pages fits =
-    kept_by (opened frames pages) (opening frames pages)
-    (record {
-      map = map_opened frames pages;
+pub kept_opened : (frames pages : ℕ) → frames < 2 ^ 32 → pages < 2 ^ 32 → IsKept (opened frames pages)
+kept_opened frames pages fits pages_few =
+    record {
       sound = sound_opening frames pages;
       pins = sym (no_pins pages);
+      dirty = sym (none_dirty pages);
+      frames = length-replicate frames true;
       free = λ frame below. (
         λ is k there. nowhere frames pages k frame there,
         λ free. member_of_all frames frame (omega (arith, length-replicate frames true)),
       );
-      pages = length-replicate pages false ∙ sym (length-replicate pages untouched_page);
+      pages = length-replicate pages false ∙ sym (length-replicate pages untouched_marks);
       flushable = λ k. at_replicate pages k false ∙ ap is_flushable (sym (untouched frames pages k));
       frames_fit = omega (arith, length-replicate frames true);
-    })
+      pages_fit = omega (arith, pages_few, length-replicate pages false);
+    }

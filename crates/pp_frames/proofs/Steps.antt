@@ -1,30 +1,17 @@
 -- What new marks of one page do to the map, and to what the code keeps of it.
-use Rattle.std.proofs.Common.{◌≡◌, ◌≢◌, ℕ, ◌+◌, ◌-◌, ◌<◌, ◌≤◌, ◌^◌, Bool, true, false, List, length, get_or, set, None}
-use Rattle.std.proofs.Common.{ap, sym, subst, ◌∙◌, arith, inl, inr, ◌↔◌}
-use Rattle.std.proofs.Math.ListN.{get_or-map}
+use Rattle.std.proofs.Common.{◌≡◌, ◌≢◌, ℕ, ◌+◌, ◌-◌, ◌<◌, ◌≤◌, Bool, true, false, List, length, set, None}
+use Rattle.std.proofs.Common.{ap, sym, subst, ◌∙◌, arith, inl, inr}
 use Rattle.std.proofs.lemmas.Bool.{cases_lt, cases_eq, false≢true}
-use Rattle.std.proofs.lemmas.List.{get_or_past, get_or_read, get_or-set_same, get_or-set_other, length-map, length-set}
-use Rattle.std.proofs.lemmas.List.{map-set}
-use Rattle.std.proofs.lemmas.List.Sums.{sum_by-set, get_or-le-sum_by}
+use Rattle.std.proofs.lemmas.List.{get_or_past, get_or-set_same, get_or-set_other, length-set}
+use Rattle.std.proofs.lemmas.List.Sums.{sum_by-set, get_or-le-sum_by, count_by-le-length}
 use Rattle.std.specs.Prelude.{IsSome}
-use Rattle.pp_frames.specs.declared.page.Page.{Page}
 use Rattle.pp_frames.specs.Numbers.{is_member}
 use Rattle.pp_frames.specs.Marks.{latch_count, PageMarks, PageMap, untouched_marks, page_count, marks_of, frame_of}
-use Rattle.pp_frames.specs.Marks.{pins_of, latches_of, all_pins, is_flushable, with_marks, IsFree, IsSound}
-use Rattle.pp_frames.specs.Kept.{marks_at, untouched_page, Parts, IsKept, page_map, Fits}
+use Rattle.pp_frames.specs.Marks.{pins_of, latches_of, all_pins, all_dirty, is_dirty, is_flushable, with_marks}
+use Rattle.pp_frames.specs.Marks.{IsFree, IsSound}
+use Rattle.pp_frames.specs.Kept.{Parts, IsKept, Fits, bit}
 
--- ---- what is kept of a page, and what the map says of it
-
-pub count_is : (p : Parts) → page_count (page_map p) ≡ length p.pages
-count_is p = length-map p.pages marks_at
-
-pub marks_are : (p : Parts) (k : ℕ) → marks_of (page_map p) k ≡ marks_at (get_or p.pages k untouched_page)
-marks_are p k = get_or-map marks_at p.pages k untouched_page
-
--- the same of a record that is read
-pub marks_read : (p : Parts) (k : ℕ) (page : Page) → k < length p.pages → page ≡ get_or p.pages k page
-    → marks_at page ≡ marks_of (page_map p) k
-marks_read p k page lt read = ap marks_at (get_or_read p.pages k page lt read untouched_page) ∙ sym (marks_are p k)
+-- ---- pages of the pool
 
 -- a page with a frame, or with a pin, is one of the pool's
 pub placed_below : (m : PageMap) (k : ℕ) → IsSome (frame_of m k) → k < page_count m
@@ -76,6 +63,30 @@ module _ (m : PageMap) (page : ℕ) (marks : PageMarks) (lt : page < page_count 
             ∙ says k
             ∙ ap is_flushable (sym (marks_there k away))
       ]
+
+  -- ---- dirty pages
+
+  pub all_dirty_with : all_dirty (with_marks m page marks) + bit (is_dirty m page) ≡ all_dirty m + bit marks.dirty
+  all_dirty_with = sum_by-set (λ (a : PageMarks). bit a.dirty) m.pages page marks untouched_marks lt
+
+dirty_counts : (m : PageMap) (page : ℕ) → page < page_count m → bit (is_dirty m page) ≤ all_dirty m
+dirty_counts m page lt = get_or-le-sum_by (λ (a : PageMarks). bit a.dirty) m.pages page untouched_marks lt
+
+pub some_dirty : (m : PageMap) (page : ℕ) → page < page_count m → is_dirty m page ≡ true → 0 < all_dirty m
+some_dirty m page lt is = omega (arith, dirty_counts m page lt, ap bit is)
+
+-- where a page is clean, not all are dirty
+pub room_for_dirty : (m : PageMap) (page : ℕ) → page < page_count m → is_dirty m page ≡ false
+    → all_dirty m < page_count m
+room_for_dirty m page lt is =
+    let then : PageMarks = record (marks_of m page) { dirty = true } in
+    omega (
+      arith,
+      all_dirty_with m page then lt,
+      ap bit is,
+      count_by-le-length (λ (a : PageMarks). a.dirty) (with_marks m page then).pages,
+      length-set m.pages page then,
+    )
 
 -- ---- in the same frame
 
@@ -146,61 +157,52 @@ module _ (m : PageMap) (page : ℕ) (marks : PageMarks) (lt : page < page_count 
         pins_fit = omega (arith, all_pins_with m page marks lt, fits.room);
       }
 
--- ---- what is kept, by the map that it stands for
+-- ---- what is kept, once a page has other marks in the frame that it is in
 
--- The number and the sets say what this map says.
-pub record Says (q : Parts) (n : PageMap) : Type 0 where
-  pub map : page_map q ≡ n
-  pub sound : IsSound n
-  pub pins : q.pins ≡ all_pins n
-  pub free : (frame : ℕ) → frame < length q.free → (is_member q.free frame ≡ true) ↔ IsFree n frame
-  pub pages : length q.flushable ≡ length q.pages
-  pub flushable : (page : ℕ) → is_member q.flushable page ≡ is_flushable (marks_of n page)
-  pub frames_fit : length q.free < 2 ^ 32
-
-pub kept_by : (q : Parts) (n : PageMap) → Says q n → IsKept q
-kept_by q n says =
-    record {
-      sound = subst IsSound (sym says.map) says.sound;
-      pins = says.pins ∙ ap all_pins (sym says.map);
-      free = λ frame lt.
-          subst (λ (k : PageMap). (is_member q.free frame ≡ true) ↔ IsFree k frame) (sym says.map) (says.free frame lt);
-      pages = says.pages;
-      flushable = λ page. says.flushable page ∙ ap (λ (k : PageMap). is_flushable (marks_of k page)) (sym says.map);
-      frames_fit = says.frames_fit;
-    }
-
--- the parts once a page's record is written, in the frame that it was in
-abbrev pub written : Parts → ℕ → Page → ℕ → List Bool → Parts
-written p page to pins flushable =
-    record { pages = set p.pages page to; pins = pins; free = p.free; flushable = flushable }
-
-module _ (p : Parts) (page : ℕ) (to : Page) (pins : ℕ) (flushable : List Bool) (kept : IsKept p)
-    (lt : page < page_count (page_map p))
-    (fits : Fits (page_map p) page (marks_at to))
-    (sum : pins ≡ p.pins - pins_of (page_map p) page + to.pins)
-    (set_is : flushable ≡ set p.flushable page (is_flushable (marks_at to))) where
-  pub map_written : page_map (written p page to pins flushable) ≡ with_marks (page_map p) page (marks_at to)
-  map_written = ap (λ ps. record { frames = length p.free; pages = ps }) (map-set marks_at p.pages page to)
-
-  pub says_written : Says (written p page to pins flushable) (with_marks (page_map p) page (marks_at to))
-  says_written =
-      let m : PageMap = page_map p in
+module _ (p : Parts) (page : ℕ) (marks : PageMarks) (new : PageMap) (pins dirty : ℕ) (flushable : List Bool)
+    (kept : IsKept p)
+    (lt : page < page_count p.marks)
+    (fits : Fits p.marks page marks)
+    (dirty_is : dirty + bit (is_dirty p.marks page) ≡ p.dirty + bit marks.dirty)
+    (sum : pins ≡ p.pins - pins_of p.marks page + marks.pins)
+    (new_is : new ≡ with_marks p.marks page marks)
+    (set_is : flushable ≡ set p.flushable page (is_flushable marks)) where
+  kept_plainly : IsKept
+      (record {
+        marks = with_marks p.marks page marks;
+        pins = pins;
+        dirty = dirty;
+        free = p.free;
+        flushable =
+            flushable;
+      })
+  kept_plainly =
+      let m : PageMap = p.marks in
       record {
-        map = map_written;
-        sound = sound_with m page (marks_at to) lt kept.sound fits;
-        pins = omega (arith, sum, kept.pins, pins-le-all_pins m page, all_pins_with m page (marks_at to) lt);
+        sound = sound_with m page marks lt kept.sound fits;
+        pins = omega (arith, sum, kept.pins, pins-le-all_pins m page, all_pins_with m page marks lt);
+        dirty = omega (arith, dirty_is, kept.dirty, all_dirty_with m page marks lt);
+        frames = kept.frames;
         free = λ frame below. (
-          λ is. free_kept m page (marks_at to) lt kept.sound fits frame ((kept.free frame below).0 is),
-          λ free. (kept.free frame below).1 (free_before m page (marks_at to) lt kept.sound fits frame free),
+          λ is. free_kept m page marks lt kept.sound fits frame ((kept.free frame below).0 is),
+          λ free. (kept.free frame below).1 (free_before m page marks lt kept.sound fits frame free),
         );
-        pages = ap length set_is ∙ length-set p.flushable page (is_flushable (marks_at to)) ∙ kept.pages
-            ∙ sym (length-set p.pages page to);
+        pages = ap length set_is ∙ length-set p.flushable page (is_flushable marks) ∙ kept.pages
+            ∙ sym (length-set m.pages page marks);
         flushable = λ k.
-            ap (λ s. is_member s k) set_is
-            ∙ flushable_with m page (marks_at to) lt p.flushable (kept.pages ∙ sym (count_is p)) kept.flushable k;
+            ap (λ s. is_member s k) set_is ∙ flushable_with m page marks lt p.flushable kept.pages kept.flushable k;
         frames_fit = kept.frames_fit;
+        pages_fit = omega (arith, kept.pages_fit, ap length set_is, length-set p.flushable page (is_flushable marks));
       }
 
-  pub kept_written : IsKept (written p page to pins flushable)
-  kept_written = kept_by (written p page to pins flushable) (with_marks (page_map p) page (marks_at to)) says_written
+  pub kept_written : IsKept (record { marks = new; pins = pins; dirty = dirty; free = p.free; flushable = flushable })
+  kept_written =
+      subst (λ m. IsKept (record { marks = m; pins = pins; dirty = dirty; free = p.free; flushable = flushable }))
+      (sym new_is)
+      kept_plainly
+
+-- whether it lets a flush begin then
+pub flushes : (m new : PageMap) (page : ℕ) (marks : PageMarks) → page < page_count m → new ≡ with_marks m page marks
+    → is_flushable (marks_of new page) ≡ is_flushable marks
+flushes m new page marks lt new_is =
+    ap (λ (n : PageMap). is_flushable (marks_of n page)) new_is ∙ ap is_flushable (marks_here m page marks lt)

@@ -9,12 +9,12 @@ use Rattle.std.proofs.lemmas.List.Folds.{Any-from_list_any, list_any_at}
 use Rattle.std.specs.Prelude.{IsNone, is_some, nat_le, nat_eq, IfSome}
 use Rattle.std.specs.Option.{option_or, option_eq}
 use Rattle.std.specs.List.{list_any}
-use Rattle.pp_frames.specs.Least.{IsLeast, FirstBelow, first, nowhere}
+use Rattle.pp_frames.specs.Least.{least_below, IsLeast, FirstBelow, first, nowhere}
 use Rattle.pp_frames.specs.Numbers.{is_member, least_from}
 use Rattle.pp_frames.specs.Marks.{is_exclusive, PageMarks, PageMap, page_count, untouched_marks, marks_of, frame_of}
 use Rattle.pp_frames.specs.Marks.{latches_of, is_dirty, is_in, is_free, is_flushable, least_free, least_flushable}
 use Rattle.pp_frames.specs.Marks.{dirty_from, IsFree, IsFlushable}
-use Rattle.pp_frames.specs.Kept.{Parts, IsKept, page_map}
+use Rattle.pp_frames.specs.Kept.{Parts, IsKept}
 use Rattle.pp_frames.proofs.Firsts.{least_first, same_first, retest}
 
 -- ---- free frames
@@ -56,17 +56,18 @@ module _ (m : PageMap) (frame : ℕ) where
       ]
 
 -- the least member of the set of free frames
-pub least_free_is : (p : Parts) → IsKept p → least_from p.free 0 ≡ least_free (page_map p)
+pub least_free_is : (p : Parts) → IsKept p → least_from p.free 0 ≡ least_free p.marks
 least_free_is p kept =
-    same_first (is_free (page_map p)) (length p.free) (least_from p.free 0) (least_free (page_map p))
-    (retest (λ k. nat_le 0 k && is_member p.free k) (is_free (page_map p)) (length p.free) (least_from p.free 0)
+    same_first (is_free p.marks) (length p.free) (least_from p.free 0) (least_below (is_free p.marks) (length p.free))
+    (retest (λ k. nat_le 0 k && is_member p.free k) (is_free p.marks) (length p.free) (least_from p.free 0)
     (λ k lt.
-    same_Bool (nat_le 0 k && is_member p.free k) (is_free (page_map p) k)
-    (λ e. is_free_if (page_map p) k ((kept.free k lt).0 (and_parts (leb 0 k) (is_member p.free k) e).1))
+    same_Bool (nat_le 0 k && is_member p.free k) (is_free p.marks k)
+    (λ e. is_free_if p.marks k ((kept.free k lt).0 (and_parts (leb 0 k) (is_member p.free k) e).1))
     (λ e.
-    and_from (leb 0 k) (is_member p.free k) (le-leb 0 k (omega arith)) ((kept.free k lt).1 (free_if (page_map p) k e))))
+    and_from (leb 0 k) (is_member p.free k) (le-leb 0 k (omega arith)) ((kept.free k lt).1 (free_if p.marks k e))))
     (least_first (λ k. nat_le 0 k && is_member p.free k) (length p.free)))
-    (least_first (is_free (page_map p)) (length p.free))
+    (least_first (is_free p.marks) (length p.free))
+    ∙ ap (least_below (is_free p.marks)) kept.frames
 
 module _ (m : PageMap) (answer : Option ℕ) (exact : answer ≡ least_free m) where
   found_free : FirstBelow (is_free m) m.frames answer

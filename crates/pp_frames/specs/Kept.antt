@@ -1,66 +1,31 @@
--- How what the code keeps stands for the map of the pages.
-use Rattle.std.specs.Prelude.{◌≡◌, ℕ, ◌<◌, ◌≤◌, ◌^◌, ◌+◌, ◌↔◌, Bool, true, false, if◌then◌else◌, Option, None, Some}
-use Rattle.std.specs.Prelude.{IsSome, List, map, length, slice_set}
-use Rattle.pp_frames.specs.declared.page.Page.{Page}
+-- What is kept beside the marks of each page, so that questions about all of them are answered at once.
+use Rattle.std.specs.Prelude.{◌≡◌, ℕ, ◌<◌, ◌≤◌, ◌^◌, ◌+◌, ◌↔◌, Bool, true, Option, None, Some, IsSome, List, length}
+use Rattle.std.specs.Prelude.{slice_set, if◌then◌else◌}
 use Rattle.pp_frames.specs.Numbers.{is_member}
-use Rattle.pp_frames.specs.Marks.{Latches, Shared, Exclusive, latch_count, PageMarks, PageMap, marks_of, frame_of}
-use Rattle.pp_frames.specs.Marks.{pins_of, all_pins, is_flushable, IsFree, IsSound}
+use Rattle.pp_frames.specs.Marks.{latch_count, PageMarks, PageMap, page_count, marks_of, frame_of, pins_of, all_pins}
+use Rattle.pp_frames.specs.Marks.{all_dirty, is_flushable, IsFree, IsSound}
 
--- The frame, the latches and the stamp that a page's record stands for.
-abbrev pub frame_at : Page → Option ℕ
-frame_at page = if page.is_placed then Some page.frame else None
-
-abbrev pub latches_at : Page → Latches
-latches_at page = if page.has_writer then Exclusive else Shared page.readers
-
-abbrev pub stamp_at : Page → Option ℕ
-stamp_at page = if page.is_stamped then Some page.stamp else None
-
--- All the marks that it stands for.
-abbrev pub marks_at : Page → PageMarks
-marks_at page =
-    record {
-      frame = frame_at page;
-      pins = page.pins;
-      latches = latches_at page;
-      dirty = page.is_dirty;
-      stamp = stamp_at page;
-    }
-
--- The record of a page with which nothing was done.
-abbrev pub untouched_page : Page
-untouched_page =
-    record {
-      stamp = 0;
-      frame = 0;
-      pins = 0;
-      readers = 0;
-      is_placed = false;
-      has_writer = false;
-      is_dirty = false;
-      is_stamped = false;
-    }
-
--- What the code keeps: a record for each page, the number of all pins, the set of the free frames, and the set of the
--- pages that let a flush begin.
+-- What the code keeps: the marks of all pages, the number of all pins, the number of the dirty pages, the set of the
+-- free frames, and the set of the pages that let a flush begin.
 pub record Parts : Type 0 where
-  pub pages : List Page
+  pub marks : PageMap
   pub pins : ℕ
+  pub dirty : ℕ
   pub free : List Bool
   pub flushable : List Bool
 
--- The map that they stand for.
-abbrev pub page_map : Parts → PageMap
-page_map p = record { frames = length p.free; pages = map marks_at p.pages }
-
--- What holds of them whenever no call is under way: the map is sound, and the number and the two sets say what it says.
+-- What holds of them whenever no call is under way: the map is sound, and the numbers and the two sets say what it
+-- says.
 pub record IsKept (p : Parts) : Type 0 where
-  pub sound : IsSound (page_map p)
-  pub pins : p.pins ≡ all_pins (page_map p)
-  pub free : (frame : ℕ) → frame < length p.free → (is_member p.free frame ≡ true) ↔ IsFree (page_map p) frame
-  pub pages : length p.flushable ≡ length p.pages
-  pub flushable : (page : ℕ) → is_member p.flushable page ≡ is_flushable (marks_of (page_map p) page)
+  pub sound : IsSound p.marks
+  pub pins : p.pins ≡ all_pins p.marks
+  pub dirty : p.dirty ≡ all_dirty p.marks
+  pub frames : length p.free ≡ p.marks.frames
+  pub free : (frame : ℕ) → frame < length p.free → (is_member p.free frame ≡ true) ↔ IsFree p.marks frame
+  pub pages : length p.flushable ≡ page_count p.marks
+  pub flushable : (page : ℕ) → is_member p.flushable page ≡ is_flushable (marks_of p.marks page)
   pub frames_fit : length p.free < 2 ^ 32
+  pub pages_fit : length p.flushable < 2 ^ 32
 
 -- The marks that a page may get in place of its own: the same frame, no pins without one, no more latches than pins,
 -- and no more pins in all than frames.
@@ -69,6 +34,10 @@ pub record Fits (m : PageMap) (page : ℕ) (marks : PageMarks) : Type 0 where
   pub placed : 0 < marks.pins → IsSome marks.frame
   pub pinned : latch_count marks.latches ≤ marks.pins
   pub room : all_pins m + marks.pins ≤ m.frames + pins_of m page
+
+-- What one page counts for: 1 where it is so.
+abbrev pub bit : Bool → ℕ
+bit is = if is then 1 else 0
 
 -- The set in which this number, if there is one, is a member or none.
 abbrev pub put : List Bool → Option ℕ → Bool → List Bool

@@ -1,4 +1,6 @@
 -- What the contracts of this crate cite.
+pub mod Arrays
+pub mod ArraysInside
 pub mod Kept
 pub mod KeptInside
 pub mod Least

@@ -1,7 +1,7 @@
 -- The marks of the pages: a plain finite map from pages to what is noted of each one.
 use Rattle.std.specs.Prelude.{◌≡◌, ℕ, ◌+◌, ◌-◌, ◌<◌, ◌≤◌, ◌==◌, ◌&&◌, nat_eq, nat_lt, nat_le, not, Bool, true, false}
 use Rattle.std.specs.Prelude.{Option, None, Some, is_some, IsSome, List, length, replicate, slice_index_or, slice_set}
-use Rattle.std.specs.Prelude.{sum_by}
+use Rattle.std.specs.Prelude.{sum_by, count_by}
 use Rattle.std.specs.List.{list_any}
 use Rattle.std.specs.Option.{option_or, option_eq}
 use Rattle.pp_frames.specs.declared.mode.Mode.{Mode}
@@ -120,6 +120,10 @@ with_stamp m page stamp = with_marks m page (record (marks_of m page) { stamp = 
 -- The pins of all pages together.
 abbrev pub all_pins : PageMap → ℕ
 all_pins m = sum_by (λ marks. marks.pins) m.pages
+
+-- How many pages are dirty.
+abbrev pub all_dirty : PageMap → ℕ
+all_dirty m = count_by (λ marks. marks.dirty) m.pages
 
 -- Whether the page stands in this frame.
 abbrev pub is_in : ℕ → PageMarks → Bool

@@ -3,15 +3,16 @@
 //!
 //! To a caller [`Marks`] is a plain map from pages to these five, and each call is an equation over that map, as
 //! `specs/Marks.antt` defines it. A page is placed before it is pinned, and pinned before it is latched; S latches go
-//! with
-//! S latches, and an X latch with none.
+//! with S latches, and an X latch with none.
 #![tactic(auto)]
 
 pub use marks::Marks;
 pub use mode::Mode;
 
+mod held;
+mod home;
 mod marks;
 mod mode;
 mod number_set;
-mod page;
+mod records;
 mod word;

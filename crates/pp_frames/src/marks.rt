@@ -2,26 +2,29 @@
 
 ghost use Rattle.std.specs.Prelude.{true, false, ◌≡◌, ℕ, ◌+◌, ◌-◌, ◌^◌, ◌<◌, ◌≤◌, IsTrue, IfOk, IfSome, IsNone, ◌↔◌};
 ghost use Rattle.std.specs.Prelude.{None, Some, IsSome, length, slice_set};
-ghost use Rattle.pp_frames.specs.Numbers.{is_member};
-ghost use Rattle.pp_frames.specs.Kept.{put};
+ghost use Rattle.pp_frames.specs.Kept.{put, bit};
 
+use crate::held::Held;
 use crate::mode::Mode;
 use crate::number_set::NumberSet;
-use crate::page::{self, Page};
+use crate::records::Records;
 use std::alloc::{AllocError, Global};
 use std::fmt;
 use std::marker::Model;
 
 /// What a pool notes of its pages, as a map from pages to frame, pins, latches, dirty mark and stamp.
 ///
-/// All its memory is got by [`Marks::new`]; no other call takes any. A page is placed before it is pinned, and pinned
+/// All its memory is got by [`Marks::new`]: 12 bytes and three bits for each page number, and 12 bytes for each frame.
+/// No other call takes any. A page is placed before it is pinned, and pinned
 /// before it is latched.
 #[derive(Drop)]
 pub struct Marks {
-    /// A record for each page.
-    pages: Vec<Page>,
+    /// What is kept of each page and of each frame.
+    records: Records,
     /// The pins of all pages together.
     pins: u32,
+    /// How many pages are dirty.
+    dirty: u32,
     /// The frames in which no page stands.
     free: NumberSet,
     /// The pages that let a flush begin.
@@ -34,21 +37,35 @@ impl Model for Marks {
     ghost Value = { PageMap };
 
     ghost use Rattle.pp_frames.specs.KeptInside.{parts_of};
-    ghost use Rattle.pp_frames.specs.Kept.{page_map, IsKept};
+    ghost use Rattle.pp_frames.specs.Kept.{IsKept};
 
-    ghost view = { λ m. page_map (parts_of m) };
+    ghost view = { λ m. m.records };
 
     ghost invariant = { λ m. IsKept (parts_of m) };
 }
 
 /// Puts the number into the set or out of it, where that is a change.
-fn keep(set: &mut NumberSet, number: u32, was: bool, is: bool)
-    requires below { number < length set.old }
-    requires was { was ≡ is_member set.old number }
+fn keep(set: &mut NumberSet, number: u32, is: bool)
+    requires { number < length set.old }
     ensures { set.new ≡ slice_set set.old number is }
 {
-    if was != is {
+    if set.contains(number) != is {
         set.put(number, is);
+    }
+}
+
+/// How many there are, once one that counted or didn't does count or doesn't.
+fn recount(count: u32, was: bool, is: bool) -> u32
+    requires more { was ≡ false → count + 1 < 2 ^ 32 }
+    requires less { was ≡ true → 0 < count }
+    ensures { result + bit was ≡ count + bit is }
+{
+    if is {
+        if was { count } else { count + 1 }
+    } else if was {
+        count - 1
+    } else {
+        count
     }
 }
 
@@ -70,10 +87,11 @@ impl Marks {
     ghost use Rattle.pp_frames.specs.Marks.{IsFree, IsFlushable, IsSound, opening, page_count, marks_of, frame_of};
     ghost use Rattle.pp_frames.specs.Marks.{pins_of, latches_of, latch_count, is_dirty, is_flushable, stamp_of};
     ghost use Rattle.pp_frames.specs.Marks.{with_marks, with_frame, with_pins, with_latches, with_dirty, with_stamp};
-    ghost use Rattle.pp_frames.specs.Marks.{all_pins, is_compatible, with_latch, has_latch, without_latch, least_free};
+    ghost use Rattle.pp_frames.specs.Marks.{all_pins, all_dirty, is_compatible, with_latch, has_latch, without_latch};
+    ghost use Rattle.pp_frames.specs.Marks.{least_free};
     ghost use Rattle.pp_frames.specs.Marks.{least_flushable, dirty_from, has_reached, first_stamped};
     ghost use Rattle.pp_frames.specs.Least.{IsLeast};
-    ghost use Rattle.pp_frames.specs.Kept.{marks_at, Fits};
+    ghost use Rattle.pp_frames.specs.Arrays.{latches_at};
 
     /// The marks of a pool with this many frames and pages, in which nothing was done yet.
     pub fn new(alloc: Global, frames: u32, pages: u32) -> Result<Marks, AllocError>
@@ -81,8 +99,9 @@ impl Marks {
         ensures sound { IfOk result IsSound }
     {
         Ok(Marks {
-            pages: page::untouched_pages(alloc, pages)?,
+            records: Records::new(alloc, frames, pages)?,
             pins: 0,
+            dirty: 0,
             free: NumberSet::full(alloc, frames)?,
             flushable: NumberSet::new(alloc, pages)?,
         })
@@ -106,49 +125,17 @@ impl Marks {
 
     // ---- what is kept of one page
 
-    /// What is kept of the page. A page past the last one is untouched.
-    fn page(&self, page: u32) -> Page
-        ensures marks { marks_at result ≡ marks_of self.now page }
-        ensures pins { pins_of self.now page ≤ all_pins self.now }
-        ensures frames { self.now.frames < 2 ^ 32 }
-        ensures sound { IsSound self.now }
-    {
-        if page < self.pages() {
-            self.pages[page as usize]
-        } else {
-            Page::untouched()
-        }
-    }
-
-    /// What is kept of a page that there is.
+    /// Gives a page in a frame these latches. It has the pins that it had.
     #[inline(always)]
-    fn kept(&self, page: u32) -> Page
-        requires { page < page_count self.now }
-        ensures marks { marks_at result ≡ marks_of self.now page }
-        ensures pins { pins_of self.now page ≤ all_pins self.now }
-        ensures frames { self.now.frames < 2 ^ 32 }
-        ensures sound { IsSound self.now }
-    {
-        self.pages[page as usize]
-    }
-
-    /// Gives the page these marks, in the frame that it is in, with the pins that it has.
-    #[inline(always)]
-    fn write(&mut self, page: u32, to: Page)
-        requires page { page < page_count self.old }
+    fn latch(&mut self, page: u32, to: Held)
+        requires placed { IsSome (frame_of self.old page) }
         requires pins { to.pins ≡ pins_of self.old page }
-        requires fits { Fits self.old page (marks_at to) }
-        ensures exact { self.new ≡ with_marks self.old page (marks_at to) }
+        requires pinned { latch_count (latches_at to) ≤ to.pins }
+        ensures exact { self.new ≡ with_latches self.old page (latches_at to) }
         ensures sound { IsSound self.new }
     {
-        let now = self.pages[page as usize];
-        self.pages[page as usize] = to;
-        keep(
-            &mut self.flushable,
-            page,
-            now.is_flushable(),
-            to.is_flushable(),
-        );
+        self.records.hold(page, to);
+        keep(&mut self.flushable, page, self.records.is_flushable(page));
     }
 
     /// Puts a page without pins into a free frame, or into none.
@@ -159,16 +146,10 @@ impl Marks {
         ensures exact { self.new ≡ with_frame self.old page frame }
         ensures sound { IsSound self.new }
     {
-        let now = self.pages[page as usize];
-        let to = now.in_frame(frame);
-        self.pages[page as usize] = to;
-        exchange(&mut self.free, now.frame(), frame);
-        keep(
-            &mut self.flushable,
-            page,
-            now.is_flushable(),
-            to.is_flushable(),
-        );
+        let left = self.records.frame(page);
+        self.records.set_frame(page, frame);
+        exchange(&mut self.free, left, frame);
+        keep(&mut self.flushable, page, self.records.is_flushable(page));
     }
 
     // ---- frames
@@ -178,7 +159,7 @@ impl Marks {
         ensures value { result ≡ frame_of self.now page }
         ensures sound { IsSound self.now }
     {
-        self.page(page).frame()
+        self.records.frame(page)
     }
 
     /// Whether no page stands in the frame.
@@ -225,7 +206,8 @@ impl Marks {
         }
     }
 
-    /// Gives the frame of a page to another page, and tells which it is: the first page stands in none then. Neither has pins.
+    /// Gives the frame of a page to another page, and tells which it is: the first page stands in none then. Neither
+    /// has pins.
     ///
     /// The frame is free at no time, so the set of the free frames stays as it is where the second page was in none.
     #[inline(always)]
@@ -238,25 +220,14 @@ impl Marks {
         ensures exact { self.new ≡ with_frame (with_frame self.old from None) to (frame_of self.old from) }
         ensures sound { IsSound self.new }
     {
-        let left = self.pages[from as usize];
-        self.pages[from as usize].is_placed = false;
-        let was = self.pages[to as usize];
-        let now = &mut self.pages[to as usize];
-        now.frame = left.frame;
-        now.is_placed = true;
-        exchange(&mut self.free, was.frame(), None);
-        keep(&mut self.flushable, from, left.is_flushable(), false);
-        let placed = Page {
-            is_placed: true,
-            ..was
-        };
-        keep(
-            &mut self.flushable,
-            to,
-            was.is_flushable(),
-            placed.is_flushable(),
-        );
-        left.frame
+        let frame = self.records.frame(from).unwrap_or(0);
+        self.records.set_frame(from, None);
+        let left = self.records.frame(to);
+        self.records.set_frame(to, Some(frame));
+        exchange(&mut self.free, left, None);
+        keep(&mut self.flushable, from, false);
+        keep(&mut self.flushable, to, self.records.is_flushable(to));
+        frame
     }
 
     // ---- pins
@@ -266,7 +237,7 @@ impl Marks {
         ensures value { result ≡ pins_of self.now page }
         ensures sound { IsSound self.now }
     {
-        self.page(page).pins
+        self.records.held(page).pins
     }
 
     /// How many pins stand on all pages together.
@@ -277,15 +248,17 @@ impl Marks {
         self.pins
     }
 
-    /// Sets one more pin on a page that is in a frame. There are never more pins in all than frames. The sets stay as they
-    /// are: no pin changes which frames are free, and which pages let a flush begin.
+    /// Sets one more pin on a page that is in a frame. There are never more pins in all than frames. The sets stay as
+    /// they are: no pin changes which frames are free, and which pages let a flush begin.
     pub fn pin(&mut self, page: u32)
         requires placed { IsSome (frame_of self.old page) }
         requires room { all_pins self.old < self.old.frames }
         ensures exact { self.new ≡ with_pins self.old page (pins_of self.old page + 1) }
         ensures sound { IsSound self.new }
     {
-        self.pages[page as usize].pins += 1;
+        let now = self.records.held_placed(page);
+        let pins = now.pins + 1;
+        self.records.hold(page, Held { pins, ..now });
         self.pins += 1;
     }
 
@@ -295,7 +268,9 @@ impl Marks {
         ensures exact { self.new ≡ with_pins self.old page (pins_of self.old page - 1) }
         ensures sound { IsSound self.new }
     {
-        self.pages[page as usize].pins -= 1;
+        let now = self.records.held_placed(page);
+        let pins = now.pins - 1;
+        self.records.hold(page, Held { pins, ..now });
         self.pins -= 1;
     }
 
@@ -306,7 +281,7 @@ impl Marks {
         ensures value { result ≡ latch_count (latches_of self.now page) }
         ensures sound { IsSound self.now }
     {
-        self.page(page).latches()
+        self.records.held(page).latches()
     }
 
     /// Whether a latch of this mode stands on the page.
@@ -314,7 +289,7 @@ impl Marks {
         ensures value { result ≡ has_latch mode (latches_of self.now page) }
         ensures sound { IsSound self.now }
     {
-        self.page(page).has_latch(mode)
+        self.records.held(page).has_latch(mode)
     }
 
     /// Whether a latch of this mode goes with those that stand on the page: S with S, X with none.
@@ -322,10 +297,11 @@ impl Marks {
         ensures value { result ≡ is_compatible mode (latches_of self.now page) }
         ensures sound { IsSound self.now }
     {
-        self.page(page).goes(mode)
+        self.records.held(page).goes(mode)
     }
 
-    /// One reader more latches the page, which has no writer. The sets stay as they are: readers keep no flush from beginning.
+    /// One reader more latches the page, which has no writer. The sets stay as they are: readers keep no flush from
+    /// beginning.
     #[inline(always)]
     fn share(&mut self, page: u32)
         requires goes { is_compatible Mode.S (latches_of self.old page) ≡ true }
@@ -333,7 +309,9 @@ impl Marks {
         ensures exact { self.new ≡ with_latches self.old page (with_latch Mode.S (latches_of self.old page)) }
         ensures sound { IsSound self.new }
     {
-        self.pages[page as usize].readers += 1;
+        let now = self.records.held_placed(page);
+        let readers = now.readers + 1;
+        self.records.hold(page, Held { readers, ..now });
     }
 
     /// One reader's latch goes off the page.
@@ -343,7 +321,9 @@ impl Marks {
         ensures exact { self.new ≡ with_latches self.old page (without_latch (latches_of self.old page)) }
         ensures sound { IsSound self.new }
     {
-        self.pages[page as usize].readers -= 1;
+        let now = self.records.held_placed(page);
+        let readers = now.readers - 1;
+        self.records.hold(page, Held { readers, ..now });
     }
 
     /// Latches the page where this mode goes with the latches that stand on it. The page has fewer latches than pins.
@@ -356,13 +336,13 @@ impl Marks {
         ensures refused { result ≡ false → self.new ≡ self.old }
         ensures sound { IsSound self.new }
     {
-        let now = self.kept(page);
+        let now = self.records.held_placed(page);
         if !now.goes(mode) {
             return false;
         }
         match mode {
             Mode::S => self.share(page),
-            Mode::X => self.write(page, now.with_writer()),
+            Mode::X => self.latch(page, now.with_writer()),
         }
         true
     }
@@ -377,8 +357,8 @@ impl Marks {
         match mode {
             Mode::S => self.unshare(page),
             Mode::X => {
-                let now = self.kept(page);
-                self.write(page, now.without_writer());
+                let now = self.records.held_placed(page);
+                self.latch(page, now.without_writer());
             }
         }
     }
@@ -390,7 +370,26 @@ impl Marks {
         ensures value { result ≡ is_dirty self.now page }
         ensures sound { IsSound self.now }
     {
-        self.page(page).is_dirty
+        self.records.is_dirty(page)
+    }
+
+    /// How many pages are dirty.
+    pub fn all_dirty(&self) -> u32
+        ensures value { result ≡ all_dirty self.now }
+        ensures sound { IsSound self.now }
+    {
+        self.dirty
+    }
+
+    /// Marks the page dirty, or clean.
+    fn put_dirty(&mut self, page: u32, is: bool)
+        requires page { page < page_count self.old }
+        ensures exact { self.new ≡ with_dirty self.old page is }
+        ensures sound { IsSound self.new }
+    {
+        self.dirty = recount(self.dirty, self.records.is_dirty(page), is);
+        self.records.set_dirty(page, is);
+        keep(&mut self.flushable, page, self.records.is_flushable(page));
     }
 
     /// Marks the page dirty.
@@ -399,14 +398,7 @@ impl Marks {
         ensures exact { self.new ≡ with_dirty self.old page true }
         ensures sound { IsSound self.new }
     {
-        let now = self.kept(page);
-        self.write(
-            page,
-            Page {
-                is_dirty: true,
-                ..now
-            },
-        );
+        self.put_dirty(page, true);
     }
 
     /// Marks the page clean.
@@ -415,14 +407,7 @@ impl Marks {
         ensures exact { self.new ≡ with_dirty self.old page false }
         ensures sound { IsSound self.new }
     {
-        let now = self.kept(page);
-        self.write(
-            page,
-            Page {
-                is_dirty: false,
-                ..now
-            },
-        );
+        self.put_dirty(page, false);
     }
 
     /// The page's stamp, where it is known. That of a page past the last one is unknown.
@@ -430,7 +415,7 @@ impl Marks {
         ensures value { result ≡ stamp_of self.now page }
         ensures sound { IsSound self.now }
     {
-        self.page(page).stamp()
+        self.records.stamp(page)
     }
 
     /// Notes the page's stamp.
@@ -439,15 +424,7 @@ impl Marks {
         ensures exact { self.new ≡ with_stamp self.old page (Some stamp) }
         ensures sound { IsSound self.new }
     {
-        let now = self.kept(page);
-        self.write(
-            page,
-            Page {
-                stamp,
-                is_stamped: true,
-                ..now
-            },
-        );
+        self.records.set_stamp(page, stamp);
     }
 
     /// Whether the page's stamp is known, and is this one or a later one.
@@ -460,11 +437,15 @@ impl Marks {
         }
     }
 
-    /// The least page whose stamp is known, and is this one or a later one. It looks at every page.
+    /// The least page whose stamp is known, and is this one or a later one. It looks at the pages only where there
+    /// was a stamp as late as this.
     pub fn first_stamped(&self, limit: u64) -> Option<u32>
         ensures exact { result ≡ first_stamped self.now limit }
         ensures sound { IsSound self.now }
     {
+        if !self.records.may_have_reached(limit) {
+            return None;
+        }
         let pages = self.pages();
         for page in 0..pages {
             if self.has_reached(page, limit) {

@@ -12,7 +12,7 @@ use Rattle.pp_settings.proofs.layout.Layout.TheSendSync as layout
 use Rattle.pp_arc.proofs.directory.Directory.TheSendSync as directory
 use Rattle.pp_arc.proofs.search.Search.TheSendSync as searching
 use Rattle.pp_bundles.proofs.bundles.Bundles.TheSendSync as bundles
-use Rattle.pp_frames.proofs.page.Page.TheSendSync as page
+use Rattle.pp_frames.proofs.held.Held.TheSendSync as held
 use Rattle.pp_frames.proofs.number_set.NumberSet.TheLaws.TheKnot as numbers
 use Rattle.pp_plan.proofs.stmt.Body.TheLaws.TheKnot as body
 use Rattle.pp_core.proofs.seat.Seat.TheSendSync as seat
@@ -20,6 +20,7 @@ use Rattle.pp_outset.proofs.outset.Outset.TheSendSync as outset
 use Rattle.pp_vault.proofs.hands.Hands.TheSendSync as hands
 use Rattle.pp_core.proofs.table.Flush.TheSendSync as flush
 use Rattle.pp_journal.proofs.journal.Journal.TheSendSync as journal
+use Rattle.pp_frames.specs.contracts.records.Records.{the_row as records_row}
 use Rattle.pp_frames.specs.contracts.marks.Marks.{the_row as marks_row}
 use Rattle.pp_plan.specs.contracts.flat.FlatStep.{the_row as step_row}
 use Rattle.pp_plan.specs.contracts.plan.Plan.{the_row as plan_row}
@@ -41,8 +42,11 @@ move_send = search sendable depth 40 fits 50000
 pub reply_send : IsSend reply_row
 reply_send = search sendable depth 40 fits 50000
 
+pub records_send : IsSend records_row
+records_send = search (held.the_send, numbers.send-NumberSet, sendable, crosses) depth 24 fits 5000
+
 pub marks_send : IsSend marks_row
-marks_send = search (page.the_send, numbers.send-NumberSet, sendable, crosses) depth 24 fits 5000
+marks_send = search (records_send, numbers.send-NumberSet, sendable, crosses) depth 24 fits 5000
 
 pub step_send : IsSend step_row
 step_send = search sendable depth 40 fits 50000

@@ -1,19 +1,26 @@
+-- What the check leaves to show of Marks::unpin.
+use Rattle.std.proofs.Common.{◌≡◌, ◌-◌, ap}
+use Rattle.pp_frames.specs.Marks.{pins_of, latches_of, with_pins}
+use Rattle.pp_frames.proofs.Narrow.{with_held, one_pin_less}
+use Rattle.pp_frames.specs.Kept.{Parts}
 use Rattle.pp_frames.specs.KeptInside.{parts_of}
-use Rattle.pp_frames.proofs.Narrow.{one_pin_less}
 use Rattle.pp_frames.proofs.marks.Marks.unpin.Goals as goal
 
 pub invariant_of-self : goal.invariant_of-self
 invariant_of-self c =
-    (one_pin_less (parts_of c.self.inside) c.args.page c.index_mut.result.now c.self.invariant c.index_mut.ensures.value
-    (rw (← c.self.view_is) at c.requires.spare_pin)).kept
-
-pub returns-clause-exact : goal.returns-clause-exact
-returns-clause-exact c =
-    rw (← c.self.view_is)
-    (one_pin_less (parts_of c.self.inside) c.args.page c.index_mut.result.now c.self.invariant c.index_mut.ensures.value
-    (rw (← c.self.view_is) at c.requires.spare_pin)).map
+    let p : Parts = parts_of c.self.inside in
+    let pins : c.held_placed-now.result.pins - 1 ≡ pins_of p.marks c.args.page - 1 = ap (λ n. n - 1) c.held_placed-now.ensures.pins in
+    let new_is : c.hold.new.self ≡ with_pins p.marks c.args.page (pins_of p.marks c.args.page - 1) =
+    with_held p.marks c.hold.new.self c.args.page (record c.held_placed-now.result { pins = c.held_placed-now.result.pins - 1 })
+    (pins_of p.marks c.args.page - 1) (latches_of p.marks c.args.page) c.hold.ensures pins c.held_placed-now.ensures.latches in
+    one_pin_less p c.args.page c.hold.new.self c.self.invariant (rw (← c.self.view_is) at c.requires.spare_pin) new_is
 
 pub returns-clause-sound : goal.returns-clause-sound
 returns-clause-sound c =
-    (one_pin_less (parts_of c.self.inside) c.args.page c.index_mut.result.now c.self.invariant c.index_mut.ensures.value
-    (rw (← c.self.view_is) at c.requires.spare_pin)).kept.sound
+    let p : Parts = parts_of c.self.inside in
+    let pins : c.held_placed-now.result.pins - 1 ≡ pins_of p.marks c.args.page - 1 = ap (λ n. n - 1) c.held_placed-now.ensures.pins in
+    let new_is : c.hold.new.self ≡ with_pins p.marks c.args.page (pins_of p.marks c.args.page - 1) =
+    with_held p.marks c.hold.new.self c.args.page (record c.held_placed-now.result { pins = c.held_placed-now.result.pins - 1 })
+    (pins_of p.marks c.args.page - 1) (latches_of p.marks c.args.page) c.hold.ensures pins c.held_placed-now.ensures.latches in
+    (one_pin_less p c.args.page c.hold.new.self c.self.invariant (rw (← c.self.view_is) at c.requires.spare_pin)
+    new_is).sound
