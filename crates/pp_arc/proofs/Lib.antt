@@ -20,3 +20,7 @@ pub mod SearchLemmas
 pub mod BeforeLemmas
 pub mod PassedLemmas
 pub mod TournamentLemmas
+pub mod NameLemmas
+pub mod NamingLemmas
+pub mod MoveLemmas
+pub mod SlotLemmas

@@ -60,8 +60,8 @@ list_of-with_front_other s k l x ne = refl
 
 -- the sizes stay
 pub sizes-with_front : (s : FourLists) (pages : ℕ) (l : ListName) (x : ℕ)
-    → s ≡ record s { c = 0; pages = pages; target = 0 }
-    → with_front s l x ≡ record (with_front s l x) { c = 0; pages = pages; target = 0 }
+    → s ≡ record s { c = pages; pages = pages; target = 0 }
+    → with_front s l x ≡ record (with_front s l x) { c = pages; pages = pages; target = 0 }
 sizes-with_front s pages T1 x e = ap (λ (w : FourLists). record w { t1 = x ∷ w.t1 }) e
 sizes-with_front s pages T2 x e = ap (λ (w : FourLists). record w { t2 = x ∷ w.t2 }) e
 sizes-with_front s pages B1 x e = ap (λ (w : FourLists). record w { b1 = x ∷ w.b1 }) e

@@ -160,6 +160,12 @@ pages-with_front s T2 p = refl
 pages-with_front s B1 p = refl
 pages-with_front s B2 p = refl
 
+pub c-with_front : (s : FourLists) (l : ListName) (p : ℕ) → (with_front s l p).c ≡ s.c
+c-with_front s T1 p = refl
+c-with_front s T2 p = refl
+c-with_front s B1 p = refl
+c-with_front s B2 p = refl
+
 pub times_named-without_last_of : (s : FourLists) (l : ListName) (p x : ℕ) → last_page (list_of s l) ≡ Some p
     → times_named (without_last_of s l) x + times_in (p ∷ []) x ≡ times_named s x
 times_named-without_last_of s T1 p x e = omega (arith, times_in-last s.t1 p x e)
@@ -225,18 +231,6 @@ pub into_step : (s s0 t : FourLists) (l : ListName) (p : ℕ) → s ≡ with_lis
 into_step s s0 t l p e f =
     f ∙ ap (λ (w : FourLists). with_front w l p) e ∙ with_front-with_list s0 l (list_of s l) p
     ∙ ap (with_list s0 l) (sym (ap (λ (w : FourLists). list_of w l) f ∙ list_of-with_front s l p))
-
--- a table whose lists are empty is as a new one
-pub is_new : (s : FourLists) (pages : ℕ) → s ≡ record s { c = 0; pages = pages; target = 0 }
-    → ((l : ListName) → list_of s l ≡ []) → s ≡ empty_lists 0 s.pages
-is_new s pages sizes none =
-    let p : s.pages ≡ pages = ap (λ (w : FourLists). w.pages) sizes in
-    sizes
-    ∙ ap (λ n. record s { c = 0; pages = n; target = 0 }) (sym p)
-    ∙ ap (λ (xs : List ℕ). record s { c = 0; target = 0; t1 = xs }) (none T1)
-    ∙ ap (λ (xs : List ℕ). record s { c = 0; target = 0; t1 = []; t2 = xs }) (none T2)
-    ∙ ap (λ (xs : List ℕ). record s { c = 0; target = 0; t1 = []; t2 = []; b1 = xs }) (none B1)
-    ∙ ap (λ (xs : List ℕ). record s { c = 0; target = 0; t1 = []; t2 = []; b1 = []; b2 = xs }) (none B2)
 
 -- ---- a page is given up
 

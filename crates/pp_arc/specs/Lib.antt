@@ -1,4 +1,4 @@
--- What contracts cite, lowest first. Table and Fields say how the values are kept.
+-- What contracts cite, lowest first. Table, Fields and Names say how the values are kept.
 pub mod Pages
 pub mod FourLists
 pub mod Bounds
@@ -11,3 +11,5 @@ pub mod Tournament
 pub mod Passed
 pub mod Table
 pub mod Fields
+pub mod Names
+pub mod Slots

@@ -1,9 +1,9 @@
 -- What the steps of a table of links do to the four lists.
-use Rattle.std.specs.Prelude.{ℕ, List, ◌∷◌, take, nat_lt, Option, None, Some, if◌then◌else◌}
+use Rattle.std.specs.Prelude.{ℕ, ◌+◌, ◌^◌, ◌<◌, ◌≤◌, ◌⊎◌, List, ◌∷◌, take, nat_lt, Option, None, Some, if◌then◌else◌}
 use Rattle.pp_arc.specs.declared.list.List.{List as ListName}
 use Rattle.pp_arc.specs.declared.list.List.TheVariants.{T1, T2, B1, B2}
 use Rattle.pp_arc.specs.Pages.{without_last}
-use Rattle.pp_arc.specs.FourLists.{FourLists, list_of}
+use Rattle.pp_arc.specs.FourLists.{FourLists, list_of, times_named, total_count}
 
 -- the number of a list among the four
 abbrev pub code : ListName → ℕ
@@ -40,3 +40,14 @@ with_first s list n = with_list s list (take n (list_of s list))
 -- the page of a node, which is the node's number; a node from `pages` on is a head's, and has none
 abbrev pub page_at : ℕ → ℕ → Option ℕ
 page_at pages node = if nat_lt node pages then Some node else None
+
+-- the lists of s, where t has its own
+abbrev pub with_lists_of : FourLists → FourLists → FourLists
+with_lists_of t s = record t { t1 = s.t1; t2 = s.t2; b1 = s.b1; b2 = s.b2 }
+
+-- The pages of s may go into the lists of t: they are below its page numbers, stand nowhere there, and there is room for them.
+pub record FitsInto (s t : FourLists) : Type 0 where
+  pub below : (x : ℕ) → 0 < times_named s x → x < t.pages
+  pub apart : (x : ℕ) → times_named s x + times_named t x ≤ 1
+  pub short : total_count s + total_count t < 2 ^ 63
+  pub room : (total_count s + total_count t ≤ t.c) ⊎ (t.pages ≤ t.c)

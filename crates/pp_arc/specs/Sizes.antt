@@ -27,6 +27,12 @@ abbrev pub after_giving_up : FourLists → Option ℕ → FourLists
 after_giving_up s None = s
 after_giving_up s (Some v) = with_remembered s v
 
+-- B1 and then B2 keep their first names, so many as a cache of c pages has room for.
+abbrev pub with_names : FourLists → ℕ → FourLists
+with_names s c =
+    let b1 = take (c - length s.t1) s.b1 in
+    record s { b1 = b1; b2 = take (2 * c - (length s.t1 + length s.t2 + length b1)) s.b2 }
+
 -- The room for more pages keeps all; with less, the target falls to c at most, and B1 and then B2 lose their last
 -- names until the bounds of a cache of c pages hold. The cached pages stay: there are c of them at most.
 abbrev pub resized : FourLists → ℕ → FourLists

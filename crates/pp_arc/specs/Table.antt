@@ -45,8 +45,8 @@ StandsOnce t s list x =
 
 -- a table shows four lists
 pub record Shows (t : Table) (s : FourLists) : Type 0 where
-  -- it knows neither how many pages the cache holds nor the target: both are 0 here
-  pub sizes : s ≡ record s { c = 0; pages = t.pages; target = 0 }
+  -- there is room for each page number; it knows no target, which is 0 here
+  pub sizes : s ≡ record s { c = t.pages; pages = t.pages; target = 0 }
   -- each head is tagged by its list
   pub heads : (list : ListName) → t.tag (head_at t.pages list) ≡ Some list
   -- each list is a ring
@@ -83,10 +83,10 @@ count_in d list = slice_index d.counts (code list)
 abbrev pub pages_in : Content → ListName → List ℕ
 pages_in d list = follow (table_of d.pages d.records).after (count_in d list) (head_at d.pages list)
 
--- the four lists, of a cache of no pages whose target is 0
+-- the four lists, of a cache of as many pages as there are page numbers, whose target is 0
 abbrev pub lists_in : Content → FourLists
 lists_in d = record {
-  c = 0;
+  c = d.pages;
   pages = d.pages;
   target = 0;
   t1 = pages_in d T1;

@@ -15,10 +15,10 @@ ghost use Rattle.pp_arc.specs.Figure.{forget, with_front_of_t1, with_front_of_t2
 ghost use Rattle.pp_arc.specs.Figure.{lowered_target, victim, replacement, after_replace, replace_in_t1, room_for_new};
 ghost use Rattle.pp_arc.specs.Figure.{without_last_of_b1, without_last_of_b2, is_all_busy, request, bring_back};
 ghost use Rattle.pp_arc.specs.Search.{KnowsBusy, FoundIn, without_victim};
-ghost use Rattle.pp_arc.specs.Sizes.{dropped_name, given_up, after_giving_up, renamed, resized, with_pages};
+ghost use Rattle.pp_arc.specs.Sizes.{dropped_name, given_up, after_giving_up, renamed, resized, with_names, with_pages};
 
-use crate::links::Links;
-use crate::{Answer, Busy, List, Search};
+use crate::lists::{Lists, cut, move_into, rename};
+use crate::{Answer, Busy, Links, List, Names, Search};
 use std::alloc::{AllocError, Global};
 use std::marker::Model;
 
@@ -27,7 +27,7 @@ use std::marker::Model;
 /// Contracts see it as the record `FourLists`: the four lists, the most recent page first, and the target.
 /// It holds page numbers alone; where the pages themselves lie is the caller's affair.
 ///
-/// All its memory is got by [`Directory::new`]. The bounds `IsWithinBounds` hold at all times, and each
+/// All its memory is got as it is made. The bounds `IsWithinBounds` hold at all times, and each
 /// call tells them.
 ///
 /// But for [`Directory::resize`] and [`Directory::move_into`], each call looks at a fixed number of records, and where a page that
@@ -35,28 +35,49 @@ use std::marker::Model;
 /// [`Directory::give_up`] look at a busy page once after it last came to the front of its list, or was named by
 /// [`Directory::freed`].
 #[derive(Debug, Drop)]
-pub struct Directory {
+pub struct Directory<L: Lists = Names> {
     c: u32,
     target: u32,
-    links: Links,
+    links: L,
 }
 
-impl Model for Directory {
+impl<L: Lists> Model for Directory<L> {
     ghost use Rattle.pp_arc.specs.FourLists.{FourLists};
 
     ghost Value = { FourLists };
 
-    ghost use Rattle.pp_arc.specs.Fields.{lists_of, IsSound};
+    ghost use Rattle.pp_arc.specs.Fields.{lists_with, IsSound};
 
-    ghost view = { lists_of };
+    ghost view = { λ d. lists_with (L.lists d.links) d.c d.target };
 
-    ghost invariant = { IsSound };
+    ghost invariant = { λ d. IsSound (L.lists d.links) d.c d.target };
 }
 
-impl Directory {
+/// How many nodes a directory has: two for each page of the cache, and no more than there are page numbers.
+fn nodes_for(c: u32, pages: u32) -> u32
+    ensures room { (2 * c ≤ result) ⊎ (pages ≤ result) }
+    ensures most { result ≤ pages }
+{
+    if c <= pages / 2 { 2 * c } else { pages }
+}
+
+/// The first names of `B1` and then of `B2` stay, so many as the bounds of a cache of `c` pages leave.
+fn keep_first<L: Lists>(links: &mut L, c: u32)
+    requires cached { cached_count (L.lists links.old) ≤ c }
+    ensures lists { L.lists links.new ≡ with_names (L.lists links.old) c }
+{
+    let size = c as usize;
+    let t1 = links.len(List::T1);
+    let cached = t1 + links.len(List::T2);
+    cut(links, List::B1, size - t1);
+    let named = cached + links.len(List::B1);
+    cut(links, List::B2, 2 * size - named);
+}
+
+impl Directory<Names> {
     /// A directory for a cache of `c` pages, of page numbers below `pages`. Nothing is cached yet.
     ///
-    /// It takes 12 bytes for each page number, whatever `c` is, and 48 bytes more.
+    /// It takes 4 bytes for each page number, 40 for each page that the cache holds, and 48 more.
     ///
     /// # Errors
     ///
@@ -70,10 +91,66 @@ impl Directory {
         Ok(Directory {
             c,
             target: 0,
+            links: Names::new(alloc, nodes_for(c, pages), pages)?,
+        })
+    }
+
+    /// Makes the cache one of `c` pages, which are fewer: so many are cached at most.
+    ///
+    /// The target falls to `c` at most, and `B1` and then `B2` lose their last names until the bounds hold. A larger
+    /// cache wants a larger directory, into which this one can move ([`Directory::move_into`]).
+    pub fn resize(&mut self, c: u32)
+        requires holds_a_page { 1 ≤ c }
+        requires fewer { c ≤ self.old.c }
+        requires cached { cached_count self.old ≤ c }
+        ensures lists { self.new ≡ resized self.old c }
+        ensures bounds { IsWithinBounds self.new }
+    {
+        keep_first(&mut self.links, c);
+        self.target = self.target.min(c);
+        self.c = c;
+    }
+}
+
+impl Directory<Links> {
+    /// A directory that [`resize`](Directory::<Links>::resize) may make larger: it has a record for each page number.
+    ///
+    /// It takes 12 bytes for each page number, whatever `c` is, and 48 bytes more.
+    ///
+    /// # Errors
+    ///
+    /// Only where that memory can't be had.
+    pub fn growing(alloc: Global, c: u32, pages: u32) -> Result<Self, AllocError>
+        requires holds_a_page { 1 ≤ c }
+        requires fits { pages + 4 ≤ 2 ^ 32 }
+        ensures empty { IfOk result (λ directory. directory ≡ empty_lists c pages) }
+        ensures bounds { IfOk result IsWithinBounds }
+    {
+        Ok(Directory {
+            c,
+            target: 0,
             links: Links::new(alloc, pages)?,
         })
     }
 
+    /// Makes the cache one of `c` pages: so many are cached at most.
+    ///
+    /// The target falls to `c` at most, and `B1` and then `B2` lose their last names until the bounds hold. More room
+    /// keeps all.
+    pub fn resize(&mut self, c: u32)
+        requires holds_a_page { 1 ≤ c }
+        requires cached { cached_count self.old ≤ c }
+        ensures lists { self.new ≡ resized self.old c }
+        ensures bounds { IsWithinBounds self.new }
+    {
+        let _pages = self.links.pages();
+        keep_first(&mut self.links, c);
+        self.target = c.min(self.target);
+        self.c = c;
+    }
+}
+
+impl<L: Lists> Directory<L> {
     /// How many pages the cache holds at most.
     pub fn size(&self) -> u32
         ensures size { result ≡ self.now.c }
@@ -305,32 +382,15 @@ impl Directory {
         ensures knows { (busy other : ℕ → Bool) → KnowsBusy self.old search.old busy
             → ((x : ℕ) → x ≢ old → x ≢ new → IsTrue (busy x) → IsTrue (other x)) → KnowsBusy self.new search.new other }
     {
-        self.links.rename(old, new, search);
+        rename(&mut self.links, old, new, search);
     }
 
-    /// Makes the cache one of `c` pages: so many are cached at most.
+    /// Moves the lists into a larger directory, which is empty. This takes no memory: whoever made that one got it.
     ///
-    /// The target falls to `c` at most, and `B1` and then `B2` lose their last names until the bounds hold. More room
-    /// keeps all.
-    pub fn resize(&mut self, c: u32)
-        requires holds_a_page { 1 ≤ c }
-        requires cached { cached_count self.old ≤ c }
-        ensures lists { self.new ≡ resized self.old c }
-        ensures bounds { IsWithinBounds self.new }
-    {
-        let size = c as usize;
-        let t1 = self.links.len(List::T1);
-        let cached = t1 + self.links.len(List::T2);
-        self.links.cut(List::B1, size - t1);
-        let named = cached + self.links.len(List::B1);
-        self.links.cut(List::B2, 2 * size - named);
-        self.target = self.target.min(c);
-        self.c = c;
-    }
-
-    /// Moves the lists into a larger directory, which is empty. This takes no memory: [`Directory::new`] got it.
-    pub fn move_into(&mut self, larger: Directory)
+    /// The cache has as many pages as before.
+    pub fn move_into(&mut self, larger: Directory<L>)
         requires more { self.old.pages ≤ larger.pages }
+        requires larger { self.old.c ≤ larger.c }
         requires empty { larger ≡ empty_lists larger.c larger.pages }
         ensures lists { self.new ≡ with_pages self.old larger.pages }
         ensures bounds { IsWithinBounds self.new }
@@ -340,7 +400,7 @@ impl Directory {
             target: _,
             links,
         } = larger;
-        self.links.move_into(links);
+        move_into(&mut self.links, links);
     }
 
     /// Takes the page out of its list. A page that stands nowhere changes nothing.

@@ -12,7 +12,9 @@
 pub use answer::Answer;
 pub use busy::Busy;
 pub use directory::Directory;
+pub use links::Links;
 pub use list::List;
+pub use names::Names;
 pub use search::Search;
 
 mod answer;
@@ -21,5 +23,9 @@ mod directory;
 pub mod laws;
 mod links;
 mod list;
+mod lists;
+mod named;
+mod names;
+mod numbers;
 mod search;
 mod tournament;

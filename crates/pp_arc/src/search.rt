@@ -9,8 +9,8 @@ ghost use Rattle.pp_arc.specs.Search.{SearchMarks, KnowsBusy, NoneFreed, IsLastF
 ghost use Rattle.pp_arc.specs.Search.{without_number, with_mark, with_freed, passed};
 ghost use Rattle.pp_arc.specs.declared.list.List.{List as ListName};
 
-use crate::links::Links;
-use crate::tournament::Tournament;
+use crate::lists::Lists;
+use crate::numbers::Numbers;
 use crate::{Busy, List};
 use std::alloc::{AllocError, Global};
 use std::marker::Model;
@@ -24,19 +24,15 @@ use std::marker::Model;
 /// A search takes the least recent of the freed pages, which two tournaments tell, one for `T1` and one for `T2`. Where there
 /// is none it goes on from the mark, the page that the last search passed over, and moves the mark over the busy pages that it
 /// meets. So each page is passed over once after it last came to the front of its list, or was freed. A freed page costs up to three
-/// steps for each time that the number of page numbers can be halved.
+/// steps for each time that the size of the cache can be halved.
 #[derive(Debug, Drop)]
 pub struct Search {
     t1: Option<u32>,
     t2: Option<u32>,
     /// How many pages have a number.
     passed: u32,
-    /// For each page the number that it got as a search passed over it, from `u32::MAX` down, or 0.
-    numbers: Vec<u32>,
-    /// The freed pages of `T1`, by their numbers.
-    freed_t1: Tournament,
-    /// The freed pages of `T2`, by their numbers.
-    freed_t2: Tournament,
+    /// The number that each page got as a search passed over it, from `u32::MAX` down, and which of these pages were freed.
+    numbers: Numbers,
 }
 
 impl Model for Search {
@@ -44,22 +40,25 @@ impl Model for Search {
 
     ghost Value = { SearchMarks };
 
-    ghost view = { λ s. record { t1 = s.t1; t2 = s.t2; numbers = s.numbers.items; freed_t1 = s.freed_t1; freed_t2 = s.freed_t2 } };
+    ghost use Rattle.pp_arc.specs.Slots.{marks_of, numbers_of};
+
+    ghost view = { λ s. marks_of s.t1 s.t2 s.numbers };
 
     ghost use Rattle.pp_arc.specs.Passed.{IsCounted};
 
-    ghost invariant = { λ s. IsCounted s.passed s.numbers.items };
+    ghost invariant = { λ s. IsCounted s.passed (numbers_of s.numbers) };
 }
 
 impl Search {
-    /// A search that has passed over no page, for page numbers below `pages`.
+    /// A search that has passed over no page, for a cache of `c` pages, of page numbers below `pages`.
     ///
-    /// It takes 20 bytes for each page number.
+    /// It takes 4 bytes for each page number, and 28 for each page that the cache holds. A larger cache gets the same victims from
+    /// it; but once `c` busy pages were passed over, a search walks over the others that it meets each time.
     ///
     /// # Errors
     ///
     /// Only where that memory can't be had.
-    pub fn new(alloc: Global, pages: u32) -> Result<Self, AllocError>
+    pub fn new(alloc: Global, c: u32, pages: u32) -> Result<Self, AllocError>
         ensures knows { IfOk result (λ search. (s : FourLists) (busy : ℕ → Bool) → s.pages ≤ pages
             → KnowsBusy s search busy) }
     {
@@ -67,9 +66,7 @@ impl Search {
             t1: None,
             t2: None,
             passed: 0,
-            numbers: vec![in alloc; 0; pages as usize]?,
-            freed_t1: Tournament::new(alloc, pages)?,
-            freed_t2: Tournament::new(alloc, pages)?,
+            numbers: Numbers::new(alloc, c.min(pages).min(u32::MAX - 1), pages)?,
         })
     }
 
@@ -78,7 +75,7 @@ impl Search {
     fn number(&self, page: u32) -> u32
         ensures { result ≡ number_of self.now page }
     {
-        self.numbers.get(page as usize).copied().unwrap_or(0)
+        self.numbers.number(page)
     }
 
     /// Whether no page has a number: then there is no mark, and no page was freed.
@@ -112,11 +109,12 @@ impl Search {
 
     /// The page of `T1` or `T2` was freed and has this number, or with 0 it isn't among the freed ones any more.
     fn set_freed(&mut self, list: List, page: u32, number: u32)
+        requires { (number ≡ 0) ⊎ (0 < number_of self.old page) }
         ensures { self.new ≡ with_freed self.old list page number }
     {
         match list {
-            List::T1 => self.freed_t1.set(page, number),
-            _ => self.freed_t2.set(page, number),
+            List::T1 => self.numbers.set_freed_t1(page, number),
+            _ => self.numbers.set_freed_t2(page, number),
         }
     }
 
@@ -126,17 +124,17 @@ impl Search {
         ensures none { result ≡ None → NoneFreed self.now list }
     {
         match list {
-            List::T1 => self.freed_t1.greatest(),
-            _ => self.freed_t2.greatest(),
+            List::T1 => self.numbers.last_freed_t1(),
+            _ => self.numbers.last_freed_t2(),
         }
     }
 
     /// The page stopped being busy.
     #[inline(always)]
-    pub(crate) fn freed(&mut self, links: &Links, page: u32)
-        requires once { (x : ℕ) → times_named links.now x ≤ 1 }
-        ensures knows { (busy other : ℕ → Bool) → KnowsBusy links.now self.old busy
-            → ((x : ℕ) → x ≢ page → IsTrue (busy x) → IsTrue (other x)) → KnowsBusy links.now self.new other }
+    pub(crate) fn freed<L: Lists>(&mut self, links: &L, page: u32)
+        requires once { (x : ℕ) → times_named (L.lists links.now) x ≤ 1 }
+        ensures knows { (busy other : ℕ → Bool) → KnowsBusy (L.lists links.now) self.old busy
+            → ((x : ℕ) → x ≢ page → IsTrue (busy x) → IsTrue (other x)) → KnowsBusy (L.lists links.now) self.new other }
     {
         if !self.is_blank() {
             self.freed_among_passed(links, page);
@@ -145,10 +143,10 @@ impl Search {
 
     /// The same, where a search passed over some pages.
     #[inline(never)]
-    fn freed_among_passed(&mut self, links: &Links, page: u32)
-        requires once { (x : ℕ) → times_named links.now x ≤ 1 }
-        ensures knows { (busy other : ℕ → Bool) → KnowsBusy links.now self.old busy
-            → ((x : ℕ) → x ≢ page → IsTrue (busy x) → IsTrue (other x)) → KnowsBusy links.now self.new other }
+    fn freed_among_passed<L: Lists>(&mut self, links: &L, page: u32)
+        requires once { (x : ℕ) → times_named (L.lists links.now) x ≤ 1 }
+        ensures knows { (busy other : ℕ → Bool) → KnowsBusy (L.lists links.now) self.old busy
+            → ((x : ℕ) → x ≢ page → IsTrue (busy x) → IsTrue (other x)) → KnowsBusy (L.lists links.now) self.new other }
     {
         let number = self.number(page);
         if number > 0 {
@@ -157,12 +155,12 @@ impl Search {
     }
 
     /// A page that was passed over stopped being busy: it is among the freed pages of its list.
-    fn put_among_freed(&mut self, links: &Links, page: u32, number: u32)
-        requires once { (x : ℕ) → times_named links.now x ≤ 1 }
+    fn put_among_freed<L: Lists>(&mut self, links: &L, page: u32, number: u32)
+        requires once { (x : ℕ) → times_named (L.lists links.now) x ≤ 1 }
         requires number { number ≡ number_of self.old page }
         requires passed { 0 < number }
-        ensures knows { (busy other : ℕ → Bool) → KnowsBusy links.now self.old busy
-            → ((x : ℕ) → x ≢ page → IsTrue (busy x) → IsTrue (other x)) → KnowsBusy links.now self.new other }
+        ensures knows { (busy other : ℕ → Bool) → KnowsBusy (L.lists links.now) self.old busy
+            → ((x : ℕ) → x ≢ page → IsTrue (busy x) → IsTrue (other x)) → KnowsBusy (L.lists links.now) self.new other }
     {
         if let Some(list) = links.place(page) {
             self.set_freed(list, page, number);
@@ -171,10 +169,11 @@ impl Search {
 
     /// The page is about to leave its list. It has no number from now on.
     #[inline(always)]
-    pub(crate) fn leave(&mut self, links: &Links, page: u32)
-        requires once { (x : ℕ) → times_named links.now x ≤ 1 }
-        ensures knows { (busy other : ℕ → Bool) → KnowsBusy links.now self.old busy
-            → ((x : ℕ) → x ≢ page → IsTrue (busy x) → IsTrue (other x)) → KnowsBusy (forget links.now page) self.new other }
+    pub(crate) fn leave<L: Lists>(&mut self, links: &L, page: u32)
+        requires once { (x : ℕ) → times_named (L.lists links.now) x ≤ 1 }
+        ensures knows { (busy other : ℕ → Bool) → KnowsBusy (L.lists links.now) self.old busy
+            → ((x : ℕ) → x ≢ page → IsTrue (busy x) → IsTrue (other x))
+            → KnowsBusy (forget (L.lists links.now) page) self.new other }
     {
         if !self.is_blank() {
             self.leave_among_passed(links, page);
@@ -183,10 +182,11 @@ impl Search {
 
     /// The same, where a search passed over some pages.
     #[inline(never)]
-    fn leave_among_passed(&mut self, links: &Links, page: u32)
-        requires once { (x : ℕ) → times_named links.now x ≤ 1 }
-        ensures knows { (busy other : ℕ → Bool) → KnowsBusy links.now self.old busy
-            → ((x : ℕ) → x ≢ page → IsTrue (busy x) → IsTrue (other x)) → KnowsBusy (forget links.now page) self.new other }
+    fn leave_among_passed<L: Lists>(&mut self, links: &L, page: u32)
+        requires once { (x : ℕ) → times_named (L.lists links.now) x ≤ 1 }
+        ensures knows { (busy other : ℕ → Bool) → KnowsBusy (L.lists links.now) self.old busy
+            → ((x : ℕ) → x ≢ page → IsTrue (busy x) → IsTrue (other x))
+            → KnowsBusy (forget (L.lists links.now) page) self.new other }
     {
         if self.number(page) > 0 {
             self.step_off(links, page);
@@ -194,10 +194,11 @@ impl Search {
     }
 
     /// A page that was passed over is about to leave its list.
-    fn step_off(&mut self, links: &Links, page: u32)
-        requires once { (x : ℕ) → times_named links.now x ≤ 1 }
-        ensures knows { (busy other : ℕ → Bool) → KnowsBusy links.now self.old busy
-            → ((x : ℕ) → x ≢ page → IsTrue (busy x) → IsTrue (other x)) → KnowsBusy (forget links.now page) self.new other }
+    fn step_off<L: Lists>(&mut self, links: &L, page: u32)
+        requires once { (x : ℕ) → times_named (L.lists links.now) x ≤ 1 }
+        ensures knows { (busy other : ℕ → Bool) → KnowsBusy (L.lists links.now) self.old busy
+            → ((x : ℕ) → x ≢ page → IsTrue (busy x) → IsTrue (other x))
+            → KnowsBusy (forget (L.lists links.now) page) self.new other }
     {
         self.step_off_t1(links, page);
         self.step_off_t2(links, page);
@@ -205,9 +206,10 @@ impl Search {
     }
 
     /// Where the page is the mark of `T1`, the next less recent page becomes the mark: a search passed over that one too.
-    fn step_off_t1(&mut self, links: &Links, page: u32)
-        requires once { (x : ℕ) → times_named links.now x ≤ 1 }
-        ensures knows { (busy : ℕ → Bool) → KnowsBusy links.now self.old busy → KnowsBusy links.now self.new busy }
+    fn step_off_t1<L: Lists>(&mut self, links: &L, page: u32)
+        requires once { (x : ℕ) → times_named (L.lists links.now) x ≤ 1 }
+        ensures knows { (busy : ℕ → Bool) → KnowsBusy (L.lists links.now) self.old busy
+            → KnowsBusy (L.lists links.now) self.new busy }
         ensures mark { self.new.t1 ≢ Some page }
         ensures rest { self.new ≡ record self.old { t1 = self.new.t1 } }
     {
@@ -217,9 +219,10 @@ impl Search {
     }
 
     /// Where the page is the mark of `T2`, the next less recent page becomes the mark: a search passed over that one too.
-    fn step_off_t2(&mut self, links: &Links, page: u32)
-        requires once { (x : ℕ) → times_named links.now x ≤ 1 }
-        ensures knows { (busy : ℕ → Bool) → KnowsBusy links.now self.old busy → KnowsBusy links.now self.new busy }
+    fn step_off_t2<L: Lists>(&mut self, links: &L, page: u32)
+        requires once { (x : ℕ) → times_named (L.lists links.now) x ≤ 1 }
+        ensures knows { (busy : ℕ → Bool) → KnowsBusy (L.lists links.now) self.old busy
+            → KnowsBusy (L.lists links.now) self.new busy }
         ensures mark { self.new.t2 ≢ Some page }
         ensures rest { self.new ≡ record self.old { t2 = self.new.t2 } }
     {
@@ -244,27 +247,25 @@ impl Search {
         ensures { self.new ≡ without_number self.old page }
     {
         if self.number(page) > 0 {
-            self.numbers[page as usize] = 0;
             self.passed -= 1;
-            self.freed_t1.set(page, 0);
-            self.freed_t2.set(page, 0);
+            self.numbers.clear(page);
         }
     }
 
     /// The last page of `T1` or `T2` that isn't busy. No mark is at that page.
     #[inline(always)]
-    pub(crate) fn last_not_busy<B: Busy>(
+    pub(crate) fn last_not_busy<L: Lists, B: Busy>(
         &mut self,
-        links: &Links,
+        links: &L,
         list: List,
         busy: &B,
     ) -> Option<u32>
         requires cached { (list ≡ ListName.T1) ⊎ (list ≡ ListName.T2) }
-        requires once { (x : ℕ) → times_named links.now x ≤ 1 }
-        requires below { (x : ℕ) → 0 < times_named links.now x → x < links.now.pages }
-        requires knows { KnowsBusy links.now self.old (B.busy busy.now) }
-        ensures last { result ≡ last_not_busy (list_of links.now list) (B.busy busy.now) }
-        ensures knows { KnowsBusy links.now self.new (B.busy busy.now) }
+        requires once { (x : ℕ) → times_named (L.lists links.now) x ≤ 1 }
+        requires below { (x : ℕ) → 0 < times_named (L.lists links.now) x → x < (L.lists links.now).pages }
+        requires knows { KnowsBusy (L.lists links.now) self.old (B.busy busy.now) }
+        ensures last { result ≡ last_not_busy (list_of (L.lists links.now) list) (B.busy busy.now) }
+        ensures knows { KnowsBusy (L.lists links.now) self.new (B.busy busy.now) }
         ensures marks { IfSome result (λ page. (self.new.t1 ≢ Some page) × (self.new.t2 ≢ Some page)) }
     {
         if self.is_blank() {
@@ -276,13 +277,18 @@ impl Search {
 
     /// The same, where a search passed over some pages: a freed page, or one from the mark on.
     #[inline(never)]
-    fn last_among_passed<B: Busy>(&mut self, links: &Links, list: List, busy: &B) -> Option<u32>
+    fn last_among_passed<L: Lists, B: Busy>(
+        &mut self,
+        links: &L,
+        list: List,
+        busy: &B,
+    ) -> Option<u32>
         requires cached { (list ≡ ListName.T1) ⊎ (list ≡ ListName.T2) }
-        requires once { (x : ℕ) → times_named links.now x ≤ 1 }
-        requires below { (x : ℕ) → 0 < times_named links.now x → x < links.now.pages }
-        requires knows { KnowsBusy links.now self.old (B.busy busy.now) }
-        ensures last { result ≡ last_not_busy (list_of links.now list) (B.busy busy.now) }
-        ensures knows { KnowsBusy links.now self.new (B.busy busy.now) }
+        requires once { (x : ℕ) → times_named (L.lists links.now) x ≤ 1 }
+        requires below { (x : ℕ) → 0 < times_named (L.lists links.now) x → x < (L.lists links.now).pages }
+        requires knows { KnowsBusy (L.lists links.now) self.old (B.busy busy.now) }
+        ensures last { result ≡ last_not_busy (list_of (L.lists links.now) list) (B.busy busy.now) }
+        ensures knows { KnowsBusy (L.lists links.now) self.new (B.busy busy.now) }
         ensures marks { IfSome result (λ page. (self.new.t1 ≢ Some page) × (self.new.t2 ≢ Some page)) }
     {
         if let Some(page) = self.last_freed_not_busy(list, busy) {
@@ -311,14 +317,14 @@ impl Search {
     }
 
     /// The last page of `T1` or `T2` that isn't busy, where no page of it was freed.
-    fn last_from_mark<B: Busy>(&mut self, links: &Links, list: List, busy: &B) -> Option<u32>
+    fn last_from_mark<L: Lists, B: Busy>(&mut self, links: &L, list: List, busy: &B) -> Option<u32>
         requires cached { (list ≡ ListName.T1) ⊎ (list ≡ ListName.T2) }
-        requires once { (x : ℕ) → times_named links.now x ≤ 1 }
-        requires below { (x : ℕ) → 0 < times_named links.now x → x < links.now.pages }
-        requires knows { KnowsBusy links.now self.old (B.busy busy.now) }
+        requires once { (x : ℕ) → times_named (L.lists links.now) x ≤ 1 }
+        requires below { (x : ℕ) → 0 < times_named (L.lists links.now) x → x < (L.lists links.now).pages }
+        requires knows { KnowsBusy (L.lists links.now) self.old (B.busy busy.now) }
         requires none_freed { NoneFreed self.old list }
-        ensures last { result ≡ last_not_busy (list_of links.now list) (B.busy busy.now) }
-        ensures knows { KnowsBusy links.now self.new (B.busy busy.now) }
+        ensures last { result ≡ last_not_busy (list_of (L.lists links.now) list) (B.busy busy.now) }
+        ensures knows { KnowsBusy (L.lists links.now) self.new (B.busy busy.now) }
         ensures marks { IfSome result (λ page. (self.new.t1 ≢ Some page) × (self.new.t2 ≢ Some page)) }
     {
         match self.mark(list) {
@@ -329,15 +335,15 @@ impl Search {
 
     /// The same, from the last page of the list on.
     #[inline(always)]
-    fn last_of_all<B: Busy>(&mut self, links: &Links, list: List, busy: &B) -> Option<u32>
+    fn last_of_all<L: Lists, B: Busy>(&mut self, links: &L, list: List, busy: &B) -> Option<u32>
         requires cached { (list ≡ ListName.T1) ⊎ (list ≡ ListName.T2) }
-        requires once { (x : ℕ) → times_named links.now x ≤ 1 }
-        requires below { (x : ℕ) → 0 < times_named links.now x → x < links.now.pages }
-        requires knows { KnowsBusy links.now self.old (B.busy busy.now) }
+        requires once { (x : ℕ) → times_named (L.lists links.now) x ≤ 1 }
+        requires below { (x : ℕ) → 0 < times_named (L.lists links.now) x → x < (L.lists links.now).pages }
+        requires knows { KnowsBusy (L.lists links.now) self.old (B.busy busy.now) }
         requires no_mark { mark_of self.old list ≡ None }
         requires none_freed { NoneFreed self.old list }
-        ensures last { result ≡ last_not_busy (list_of links.now list) (B.busy busy.now) }
-        ensures knows { KnowsBusy links.now self.new (B.busy busy.now) }
+        ensures last { result ≡ last_not_busy (list_of (L.lists links.now) list) (B.busy busy.now) }
+        ensures knows { KnowsBusy (L.lists links.now) self.new (B.busy busy.now) }
         ensures mark { IfSome result (λ page. mark_of self.new list ≢ Some page) }
     {
         let last = links.last(list)?;
@@ -347,47 +353,66 @@ impl Search {
         self.last_before_last(links, list, last, busy)
     }
 
+    /// The same, by a walk from the last page of the list on, where there is no number for a page. No mark stays.
+    fn last_without_mark<L: Lists, B: Busy>(
+        &mut self,
+        links: &L,
+        list: List,
+        busy: &B,
+    ) -> Option<u32>
+        requires knows { KnowsBusy (L.lists links.now) self.old (B.busy busy.now) }
+        ensures last { result ≡ last_not_busy (list_of (L.lists links.now) list) (B.busy busy.now) }
+        ensures knows { KnowsBusy (L.lists links.now) self.new (B.busy busy.now) }
+        ensures mark { IfSome result (λ page. mark_of self.new list ≢ Some page) }
+    {
+        self.set_mark(list, None);
+        links.last_not_busy(list, busy)
+    }
+
     /// The same, where the last page is busy: the search passes over it.
     #[inline(never)]
-    fn last_before_last<B: Busy>(
+    fn last_before_last<L: Lists, B: Busy>(
         &mut self,
-        links: &Links,
+        links: &L,
         list: List,
         last: u32,
         busy: &B,
     ) -> Option<u32>
         requires cached { (list ≡ ListName.T1) ⊎ (list ≡ ListName.T2) }
-        requires once { (x : ℕ) → times_named links.now x ≤ 1 }
-        requires below { (x : ℕ) → 0 < times_named links.now x → x < links.now.pages }
-        requires knows { KnowsBusy links.now self.old (B.busy busy.now) }
+        requires once { (x : ℕ) → times_named (L.lists links.now) x ≤ 1 }
+        requires below { (x : ℕ) → 0 < times_named (L.lists links.now) x → x < (L.lists links.now).pages }
+        requires knows { KnowsBusy (L.lists links.now) self.old (B.busy busy.now) }
         requires none_freed { NoneFreed self.old list }
-        requires last { last_page (list_of links.now list) ≡ Some last }
+        requires last { last_page (list_of (L.lists links.now) list) ≡ Some last }
         requires busy { IsTrue (B.busy busy.now last) }
-        ensures last { result ≡ last_not_busy (list_of links.now list) (B.busy busy.now) }
-        ensures knows { KnowsBusy links.now self.new (B.busy busy.now) }
+        ensures last { result ≡ last_not_busy (list_of (L.lists links.now) list) (B.busy busy.now) }
+        ensures knows { KnowsBusy (L.lists links.now) self.new (B.busy busy.now) }
         ensures mark { IfSome result (λ page. mark_of self.new list ≢ Some page) }
     {
-        self.pass(list, last, u32::MAX);
-        self.last_before(links, list, last, busy)
+        if self.pass(list, last, u32::MAX) {
+            self.last_before(links, list, last, busy)
+        } else {
+            self.last_without_mark(links, list, busy)
+        }
     }
 
     /// The same, from the page before the mark on. The mark moves over each one that is passed over.
     #[inline(never)]
-    fn last_before<B: Busy>(
+    fn last_before<L: Lists, B: Busy>(
         &mut self,
-        links: &Links,
+        links: &L,
         list: List,
         start: u32,
         busy: &B,
     ) -> Option<u32>
         requires cached { (list ≡ ListName.T1) ⊎ (list ≡ ListName.T2) }
-        requires once { (x : ℕ) → times_named links.now x ≤ 1 }
-        requires below { (x : ℕ) → 0 < times_named links.now x → x < links.now.pages }
-        requires knows { KnowsBusy links.now self.old (B.busy busy.now) }
+        requires once { (x : ℕ) → times_named (L.lists links.now) x ≤ 1 }
+        requires below { (x : ℕ) → 0 < times_named (L.lists links.now) x → x < (L.lists links.now).pages }
+        requires knows { KnowsBusy (L.lists links.now) self.old (B.busy busy.now) }
         requires mark { mark_of self.old list ≡ Some start }
         requires none_freed { NoneFreed self.old list }
-        ensures last { result ≡ last_not_busy (list_of links.now list) (B.busy busy.now) }
-        ensures knows { KnowsBusy links.now self.new (B.busy busy.now) }
+        ensures last { result ≡ last_not_busy (list_of (L.lists links.now) list) (B.busy busy.now) }
+        ensures knows { KnowsBusy (L.lists links.now) self.new (B.busy busy.now) }
         ensures mark { IfSome result (λ page. mark_of self.new list ≢ Some page) }
     {
         let mut mark = start;
@@ -398,27 +423,33 @@ impl Search {
             let number = self.number(mark);
             if number <= 1 {
                 // The numbers are used up: this search walks from the end, and the next one gives numbers anew.
-                self.set_mark(list, None);
-                return links.last_not_busy(list, busy);
+                return self.last_without_mark(links, list, busy);
             }
-            self.pass(list, page, number - 1);
+            if !self.pass(list, page, number - 1) {
+                return self.last_without_mark(links, list, busy);
+            }
             mark = page;
         }
         None
     }
 
-    /// A search passes over the page: it gets this number, and the mark stands at it.
-    fn pass(&mut self, list: List, page: u32, number: u32)
+    /// A search passes over the page: it gets this number, and the mark stands at it. Where there is no room for its number nothing
+    /// changes, and the result is false.
+    fn pass(&mut self, list: List, page: u32, number: u32) -> bool
         requires below { page < length self.old.numbers }
         requires number { 0 < number }
-        ensures exact { self.new ≡ passed self.old list page number }
+        ensures exact { IsTrue result → self.new ≡ passed self.old list page number }
+        ensures refused { IsFalse result → self.new ≡ self.old }
         ensures low { number_of self.old page < 2 ^ 32 }
     {
         let old = self.number(page);
+        if !self.numbers.set(page, number) {
+            return false;
+        }
         if old == 0 {
             self.passed += 1;
         }
-        self.numbers[page as usize] = number;
         self.set_mark(list, Some(page));
+        true
     }
 }

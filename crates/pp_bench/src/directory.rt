@@ -25,7 +25,7 @@ impl Busy for NoneBusy {
 pub fn play(rt: &HostRuntime, words: &[String]) -> Result<(), Trouble> {
     let (kind, ops, frames) = asked(words).ok_or(Trouble::Words)?;
     let mut directory = Directory::new(rt.alloc(), frames.max(1), PAGES)?;
-    let mut search = Search::new(rt.alloc(), PAGES)?;
+    let mut search = Search::new(rt.alloc(), frames.max(1), PAGES)?;
     let watch = Watch::start(rt);
     let misses = misses(&mut directory, &mut search, Trace::new(kind, frames), ops);
     let nanos = watch.nanos(rt);

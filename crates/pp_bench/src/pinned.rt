@@ -43,7 +43,7 @@ pub fn play(rt: &HostRuntime, words: &[String]) -> Result<(), Trouble> {
 /// The same with so many pages held.
 fn play_held(rt: &HostRuntime, ops: u64, held: u32) -> Result<(), Trouble> {
     let mut directory = Directory::new(rt.alloc(), FRAMES, PAGES)?;
-    let mut search = Search::new(rt.alloc(), PAGES)?;
+    let mut search = Search::new(rt.alloc(), FRAMES, PAGES)?;
     let _ = misses(&mut directory, &mut search, held, 0, u64::from(held));
     let watch = Watch::start(rt);
     let missed = misses(&mut directory, &mut search, held, FIRST, ops);

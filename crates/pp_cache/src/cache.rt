@@ -14,7 +14,7 @@ ghost use Rattle.pp_cache.specs.Cache.{keys_for, without_victim, left_of};
 use crate::frames::Frames;
 use crate::leaving::Leaving;
 use crate::{Create, Fetched, Left};
-use pp_arc::{Answer, Busy, Directory, List, Search};
+use pp_arc::{Answer, Busy, Directory, Links, List, Search};
 use std::alloc::{AllocError, Global};
 use std::marker::Model;
 
@@ -38,14 +38,14 @@ impl Busy for Pinned<'_> {
 /// A page cache: which page is in which frame, which pages are pinned, and which page leaves for another.
 ///
 /// It keeps no bytes: frames are numbers, from 0 on, and there is one more of them at most than pages stood in frames at
-/// one time. Its memory grows with the greatest key and is never given back: 44 bytes for each key up to that one, or up
+/// one time. Its memory grows with the greatest key and is never given back: 56 bytes for each key up to that one, or up
 /// to twice as many. So where keys lie far apart, it is the inner cache of one that gives them small names (`pp_keyed`).
 /// No call blocks, and a cache belongs to one thread at a time.
 ///
 /// A cache whose pages are all pinned gives none away, whatever its size is: so a host keeps what may not be lost.
 #[derive(Drop)]
 pub struct Cache {
-    directory: Directory,
+    directory: Directory<Links>,
     /// Where the searches for a page that isn't pinned stand.
     search: Search,
     frames: Frames,
@@ -107,8 +107,8 @@ impl Cache {
         ensures sound { IfOk result IsSound }
     {
         Ok(Cache {
-            directory: Directory::new(alloc, size, 0)?,
-            search: Search::new(alloc, 0)?,
+            directory: Directory::growing(alloc, size, 0)?,
+            search: Search::new(alloc, 0, 0)?,
             frames: Frames::new(alloc),
         })
     }
@@ -451,8 +451,8 @@ impl Cache {
         ensures same_pages { SamePages self.old self.new }
         ensures sound { IsSound self.new }
     {
-        let larger = Directory::new(alloc, self.directory.size(), keys)?;
-        let search = Search::new(alloc, keys)?;
+        let larger = Directory::growing(alloc, self.directory.size(), keys)?;
+        let search = Search::new(alloc, keys, keys)?;
         self.frames.grow(keys)?;
         self.directory.move_into(larger);
         self.search = search;

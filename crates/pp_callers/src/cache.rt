@@ -44,7 +44,7 @@ impl Cache {
     {
         Ok(Cache {
             directory: Directory::new(alloc, FRAMES, PAGES)?,
-            search: Search::new(alloc, PAGES)?,
+            search: Search::new(alloc, FRAMES, PAGES)?,
             marks: Marks::new(alloc, FRAMES, PAGES)?,
         })
     }

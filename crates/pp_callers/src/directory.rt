@@ -28,7 +28,7 @@ pub fn misses(alloc: Global, requests: &[u32]) -> Result<usize, AllocError>
     ensures { IfOk result (λ misses. misses ≤ length requests.now) }
 {
     let mut directory = Directory::new(alloc, CACHED, PAGES)?;
-    let mut search = Search::new(alloc, PAGES)?;
+    let mut search = Search::new(alloc, CACHED, PAGES)?;
     let mut misses = 0;
     for page in requests {
         // Where the answer isn't `Hit`, a real cache reads the page here: into a free frame, or into the victim's.

@@ -39,7 +39,7 @@ impl Table {
         let waiting = HeapCircularBuffer::with_capacity(alloc, plan_limit(span) as usize)?;
         let seats = idle_seats(alloc, settings.workers())?;
         let directory = Directory::new(alloc, layout.frames(), pages)?;
-        let search = Search::new(alloc, pages)?;
+        let search = Search::new(alloc, layout.frames(), pages)?;
         let marks = Marks::new(alloc, layout.frames(), pages)?;
         let bundles = Bundles::new(alloc, 32 * settings.workers(), layout.frames())?;
         let in_flight = vec![in alloc; false; pages as usize]?;

@@ -10,6 +10,7 @@ use Rattle.pp_model.specs.contracts.moves.Move.{the_row as move_row}
 use Rattle.pp_model.specs.contracts.reply.Reply.{the_row as reply_row}
 use Rattle.pp_settings.proofs.layout.Layout.TheSendSync as layout
 use Rattle.pp_arc.proofs.directory.Directory.TheSendSync as directory
+use Rattle.pp_arc.proofs.names.Names.TheSendSync as listed
 use Rattle.pp_arc.proofs.search.Search.TheSendSync as searching
 use Rattle.pp_bundles.proofs.bundles.Bundles.TheSendSync as bundles
 use Rattle.pp_frames.proofs.held.Held.TheSendSync as held
@@ -58,7 +59,7 @@ pub accepted_send : IsSend accepted_row
 accepted_send = search (plan_send, sendable, crosses) depth 24 fits 5000
 
 pub core_inside_send : IsSend core_inside
-core_inside_send = search (ring.the_send, marks_send, accepted_send, layout.the_send, directory.the_send, searching.the_send, bundles.the_send, seat.the_send, flush.the_send, sendable, crosses) depth 24 fits 5000
+core_inside_send = search (ring.the_send, marks_send, accepted_send, layout.the_send, directory.the_send, listed.the_send, searching.the_send, bundles.the_send, seat.the_send, flush.the_send, sendable, crosses) depth 24 fits 5000
 
 pub core_send : IsSend core_row
 core_send = search (core_inside_send, sendable)

@@ -1,5 +1,5 @@
-//! The calls that make a directory, a search, marks, stacks of pages, names, two caches, a core, an outset, a device and a vault, and
-//! a run of a core.
+//! The calls that make two directories, a search, marks, stacks of pages, names, two caches, a core, an outset, a device and a
+//! vault, and a run of a core.
 
 use crate::answer::Answer;
 use crate::printing::twice;
@@ -27,6 +27,7 @@ pub fn case<R: AllocGlobal + Print>(rt: &R, call: &str, row: &str) -> anyhow::Re
     let settings = settings_of(alloc, row)?;
     match call {
         "Directory::new"
+        | "Directory::growing"
         | "Search::new"
         | "Marks::new"
         | "Bundles::new"
@@ -60,6 +61,7 @@ impl Tried for Plain<'_> {
     fn call(&mut self) -> Answer {
         match self.call {
             "Directory::new" => directory(self.alloc),
+            "Directory::growing" => growing(self.alloc),
             "Search::new" => search(self.alloc),
             "Marks::new" => marks(self.alloc),
             "Bundles::new" => bundles(self.alloc),
@@ -83,8 +85,20 @@ fn directory(alloc: Global) -> Answer {
     }
 }
 
+fn growing(alloc: Global) -> Answer {
+    match Directory::growing(alloc, 2, 5) {
+        Ok(made) => Answer::Two(
+            "target",
+            u64::from(made.target()),
+            "pages",
+            made.len(List::T1) as u64,
+        ),
+        Err(error) => Answer::Lacking(error),
+    }
+}
+
 fn search(alloc: Global) -> Answer {
-    match Search::new(alloc, 5) {
+    match Search::new(alloc, 2, 5) {
         Ok(_made) => Answer::One("searches", 1),
         Err(error) => Answer::Lacking(error),
     }

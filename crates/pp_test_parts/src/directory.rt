@@ -60,7 +60,7 @@ fn follow<R: Abort + AllocGlobal>(
 {
     for row in rows {
         let page = row.0;
-        let mut search = Search::new(rt.alloc(), 64)?;
+        let mut search = Search::new(rt.alloc(), directory.size(), 64)?;
         let answer = directory.request(page % 64, &mut search, &Among(row.1));
         assert!(rt;
             answer == row.2 && has(directory, row.3, row.4),
@@ -115,7 +115,7 @@ static ONE_PAGE: [Row; 3] = [
 fn a_victim_is_brought_back(rt: HostRuntime) -> Result<(), Fail> {
     let mut directory = Directory::new(rt.alloc(), 1, 64)?;
     follow(&rt, &mut directory, &ONE_PAGE)?;
-    let mut search = Search::new(rt.alloc(), 64)?;
+    let mut search = Search::new(rt.alloc(), 1, 64)?;
     assert!(rt; bring_back(&mut directory, &mut search, 6, 5));
     assert!(rt; has(&directory, [&[], &[5], &[], &[]], 0));
     Ok(())
@@ -269,14 +269,14 @@ impl Pair {
 
     /// Asks both for the page, and says what they answer if it is the same.
     fn ask(&mut self, page: u32, busy: &[u32]) -> Result<Option<Answer>, AllocError> {
-        let mut search = Search::new(self.alloc, 16)?;
+        let mut search = Search::new(self.alloc, self.directory.size(), 16)?;
         let answer = self.directory.request(page % 16, &mut search, &Among(busy));
         let other = self.plain.request(page % 16, busy)?;
         Ok(if answer == other { Some(answer) } else { None })
     }
 
     fn forget(&mut self, page: u32) -> Result<(), AllocError> {
-        let mut search = Search::new(self.alloc, 16)?;
+        let mut search = Search::new(self.alloc, self.directory.size(), 16)?;
         self.directory.forget(page, &mut search);
         self.plain.forget(page);
         Ok(())
@@ -284,7 +284,7 @@ impl Pair {
 
     fn bring_back(&mut self, page: u32, victim: u32) -> Result<bool, AllocError> {
         self.plain.bring_back(page, victim)?;
-        let mut search = Search::new(self.alloc, 16)?;
+        let mut search = Search::new(self.alloc, self.directory.size(), 16)?;
         Ok(bring_back(&mut self.directory, &mut search, page, victim))
     }
 
@@ -366,7 +366,7 @@ fn most_pages_are_busy_and_some_come_back(rt: HostRuntime) -> Result<(), Fail> {
 #[test]
 fn memory_is_there(rt: HostRuntime) -> Result<(), Fail> {
     let mut directory = Directory::new(rt.alloc(), 4096, 65536)?;
-    let mut search = Search::new(rt.alloc(), 65536)?;
+    let mut search = Search::new(rt.alloc(), 4096, 65536)?;
     assert!(rt; directory.request(65535, &mut search, &Among(&[])) == Answer::Free);
     directory.forget(65535, &mut search);
     assert!(rt; directory.place(65535).is_none() && directory.after(65536).is_none());
@@ -408,7 +408,7 @@ fn victims(directory: &mut Directory, search: &mut Search, busy: &Counted, twice
 /// How many victims there are where 64 pages are cached, and how often a page is looked at for them.
 fn looks(alloc: Global, twice: bool) -> Result<(u32, u64), AllocError> {
     let mut directory = Directory::new(alloc, 64, 2048)?;
-    let mut search = Search::new(alloc, 2048)?;
+    let mut search = Search::new(alloc, 64, 2048)?;
     let busy = Counted {
         looks: AtomicU64::new(0),
     };

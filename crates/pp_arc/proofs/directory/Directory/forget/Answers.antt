@@ -9,21 +9,21 @@ use Rattle.pp_arc.proofs.SearchLemmas.{Keeps}
 use Rattle.pp_arc.proofs.directory.Directory.forget.Goals as goal
 
 pub returns-clause-room : goal.returns-clause-room
-returns-clause-room c = λ here.
+returns-clause-room g c = λ here.
     rw c.take_out.ensures.lists (room-forget c.args.self.now c.args.page c.take_out.ensures.were_bounds here)
 
 pub returns-clause-gone : goal.returns-clause-gone
-returns-clause-gone c = rw c.take_out.ensures.lists (place-forget c.args.self.now c.args.page)
+returns-clause-gone g c = rw c.take_out.ensures.lists (place-forget c.args.self.now c.args.page)
 
 pub returns-clause-cache : goal.returns-clause-cache
-returns-clause-cache c = rw c.take_out.ensures.lists (CachesWithout-forget c.args.self.now c.args.page)
+returns-clause-cache g c = rw c.take_out.ensures.lists (CachesWithout-forget c.args.self.now c.args.page)
 
 pub returns-clause-fewer : goal.returns-clause-fewer
-returns-clause-fewer c = λ here.
+returns-clause-fewer g c = λ here.
     rw c.take_out.ensures.lists (fewer-forget c.args.self.now c.args.page c.take_out.ensures.were_bounds here)
 
 pub returns-clause-knows : goal.returns-clause-knows
-returns-clause-knows c =
+returns-clause-knows g c =
     subst (λ (w : FourLists). Keeps c.args.self.now w c.args.search.now c.leave.new.self c.args.page)
     (sym c.take_out.ensures.lists)
     (subst (λ (w : FourLists). Keeps w (forget w c.args.page) c.args.search.now c.leave.new.self c.args.page)

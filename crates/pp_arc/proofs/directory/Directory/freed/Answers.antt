@@ -5,6 +5,6 @@ use Rattle.pp_arc.proofs.SearchLemmas.{Keeps}
 use Rattle.pp_arc.proofs.directory.Directory.freed.Goals as goal
 
 pub returns-clause-knows : goal.returns-clause-knows
-returns-clause-knows c =
+returns-clause-knows g c =
     subst (λ (w : FourLists). Keeps w w c.args.search.now c.freed.new.self c.args.page) c.self.view_is
     c.freed.ensures.knows

@@ -26,9 +26,11 @@ returns-clause-cache g c =
 pub returns-clause-knows : goal.returns-clause-knows
 returns-clause-knows g c =
     subst (λ (w : FourLists). KnowsBusy w c.clear.new.self (g.B.Busy.busy c.args.busy.now)) (sym c.demote.ensures)
-    (subst (λ (k : SearchMarks). KnowsBusy (with_remembered c.args.self.now c.in_ok-page.page) k (g.B.Busy.busy c.args.busy.now)) (sym c.clear.ensures)
+    (subst (λ (k : SearchMarks). KnowsBusy (with_remembered c.args.self.now c.in_ok-page.page) k (g.B.Busy.busy
+    c.args.busy.now)) (sym c.clear.ensures)
     (KnowsBusy-remembered c.args.self.now c.in_ok-page.page c.page_to_give_up.new.search
     (without_number c.page_to_give_up.new.search c.in_ok-page.page) (g.B.Busy.busy c.args.busy.now)
-    c.page_to_give_up.ensures.bounds.once (Drops-without_number c.args.self.now c.page_to_give_up.new.search (g.B.Busy.busy c.args.busy.now)
+    c.page_to_give_up.ensures.bounds.once (Drops-without_number c.args.self.now c.page_to_give_up.new.search
+    (g.B.Busy.busy c.args.busy.now)
     c.in_ok-page.page c.page_to_give_up.ensures.knows)
     c.in_ok-page.ensures.marks.0 c.in_ok-page.ensures.marks.1 c.page_to_give_up.ensures.knows))

@@ -9,15 +9,17 @@ use Rattle.pp_arc.proofs.SearchLemmas.{Keeps, KnowsBusy-moved}
 use Rattle.pp_arc.proofs.directory.Directory.hit.Goals as goal
 
 pub move_to_t2-requires-clause-cached_room : goal.move_to_t2-requires-clause-cached_room
-move_to_t2-requires-clause-cached_room c =
-    (room-forget c.args.self.now c.args.page (subst IsWithinBounds c.self.view_is c.self.invariant) c.requires.cached).0
+move_to_t2-requires-clause-cached_room g c =
+    (room-forget c.args.self.now c.args.page (subst IsWithinBounds c.self.view_is c.self.invariant.bounds)
+    c.requires.cached).0
 
 pub move_to_t2-requires-clause-total_room : goal.move_to_t2-requires-clause-total_room
-move_to_t2-requires-clause-total_room c =
-    (room-forget c.args.self.now c.args.page (subst IsWithinBounds c.self.view_is c.self.invariant) c.requires.cached).1
+move_to_t2-requires-clause-total_room g c =
+    (room-forget c.args.self.now c.args.page (subst IsWithinBounds c.self.view_is c.self.invariant.bounds)
+    c.requires.cached).1
 
 pub returns-clause-knows : goal.returns-clause-knows
-returns-clause-knows c busy h =
+returns-clause-knows g c busy h =
     let keeps : Keeps c.args.self.now (forget c.args.self.now c.args.page) c.args.search.now c.leave.new.self
     c.args.page = subst (λ (w : FourLists). Keeps w (forget w c.args.page) c.args.search.now c.leave.new.self
     c.args.page) c.self.view_is c.leave.ensures.knows in

@@ -6,15 +6,15 @@ use Rattle.pp_arc.proofs.SizeLemmas.{contains-last, last-none, list_of-sized}
 use Rattle.pp_arc.proofs.directory.Directory.last.Goals as goal
 
 pub returns-clause-stands : goal.returns-clause-stands
-returns-clause-stands c = λ page e.
-    let same : list_of c.args.self.now c.args.list ≡ list_of c.self.inside.links c.args.list =
+returns-clause-stands g c = λ page e.
+    let same : list_of c.args.self.now c.args.list ≡ list_of (g.L.Lists.lists c.self.inside.links) c.args.list =
     sym (ap (λ (w : FourLists). list_of w c.args.list) c.self.view_is)
-    ∙ list_of-sized c.self.inside.links c.self.inside.c c.self.inside.target c.args.list in
+    ∙ list_of-sized (g.L.Lists.lists c.self.inside.links) c.self.inside.c c.self.inside.target c.args.list in
     contains-last (list_of c.args.self.now c.args.list) page (ap last_page same ∙ sym c.last.ensures ∙ e)
 
 pub returns-clause-empty : goal.returns-clause-empty
-returns-clause-empty c = λ e.
-    let same : list_of c.args.self.now c.args.list ≡ list_of c.self.inside.links c.args.list =
+returns-clause-empty g c = λ e.
+    let same : list_of c.args.self.now c.args.list ≡ list_of (g.L.Lists.lists c.self.inside.links) c.args.list =
     sym (ap (λ (w : FourLists). list_of w c.args.list) c.self.view_is)
-    ∙ list_of-sized c.self.inside.links c.self.inside.c c.self.inside.target c.args.list in
+    ∙ list_of-sized (g.L.Lists.lists c.self.inside.links) c.self.inside.c c.self.inside.target c.args.list in
     ap length (last-none (list_of c.args.self.now c.args.list) (ap last_page same ∙ sym c.last.ensures ∙ e))

@@ -1,19 +1,40 @@
--- What is left to show of Directory::move_into: the larger directory's lists are empty.
-use Rattle.std.proofs.Common.{◌≡◌, ℕ, [], ap, ◌∙◌}
-use Rattle.pp_arc.specs.declared.list.List.{List as ListName}
-use Rattle.pp_arc.specs.declared.list.List.TheVariants.{T1, T2, B1, B2}
-use Rattle.pp_arc.specs.FourLists.{FourLists, empty_lists, list_of}
+-- What is left to show of Directory::move_into: the larger directory is empty, and has room for the lists.
+use Rattle.std.proofs.Common.{arith}
+use Rattle.pp_arc.proofs.MoveLemmas.{MovesIn, moves_in, moved_lists}
 use Rattle.pp_arc.proofs.directory.Directory.move_into.Goals as goal
 
--- the lists of a directory with these links
-empty_links : (s t : FourLists) (c target : ℕ) → record s { c = c; target = target } ≡ t → t ≡ empty_lists t.c t.pages
-    → (l : ListName) → list_of s l ≡ []
-empty_links s t c target e f T1 = ap (λ (w : FourLists). w.t1) e ∙ ap (λ (w : FourLists). w.t1) f
-empty_links s t c target e f T2 = ap (λ (w : FourLists). w.t2) e ∙ ap (λ (w : FourLists). w.t2) f
-empty_links s t c target e f B1 = ap (λ (w : FourLists). w.b1) e ∙ ap (λ (w : FourLists). w.b1) f
-empty_links s t c target e f B2 = ap (λ (w : FourLists). w.b2) e ∙ ap (λ (w : FourLists). w.b2) f
+pub move_into-requires : goal.move_into-requires
+move_into-requires g c =
+    let m : MovesIn (g.L.Lists.lists c.self.inside.links) c.self.inside.c c.self.inside.target
+    (g.L.Lists.lists c.larger.inside.links) =
+    moves_in (g.L.Lists.lists c.self.inside.links) c.args.self.now (g.L.Lists.lists c.larger.inside.links) c.args.larger
+    c.self.inside.c c.self.inside.target c.larger.inside.c c.larger.inside.target c.self.invariant c.larger.invariant
+    c.self.view_is c.larger.view_is c.requires.more c.requires.larger c.requires.empty
+    (omega (arith, c.self.ranges.0.1)) in
+    record { empty = m.empty; fits = m.fits }
 
-pub move_into-requires-clause-empty : goal.move_into-requires-clause-empty
-move_into-requires-clause-empty c =
-    empty_links c.larger.inside.links c.args.larger c.larger.inside.c c.larger.inside.target
-    c.larger.view_is c.requires.empty
+pub invariant_of-self : goal.invariant_of-self
+invariant_of-self g c =
+    let m : MovesIn (g.L.Lists.lists c.self.inside.links) c.self.inside.c c.self.inside.target
+    (g.L.Lists.lists c.larger.inside.links) =
+    moves_in (g.L.Lists.lists c.self.inside.links) c.args.self.now (g.L.Lists.lists c.larger.inside.links) c.args.larger
+    c.self.inside.c c.self.inside.target c.larger.inside.c c.larger.inside.target c.self.invariant c.larger.invariant
+    c.self.view_is c.larger.view_is c.requires.more c.requires.larger c.requires.empty
+    (omega (arith, c.self.ranges.0.1)) in
+    rw c.move_into.ensures.lists m.sound
+
+pub returns-clause-lists : goal.returns-clause-lists
+returns-clause-lists g c =
+    moved_lists (g.L.Lists.lists c.self.inside.links) (g.L.Lists.lists c.larger.inside.links)
+    (g.L.Lists.lists c.move_into.new.links) c.args.self.now c.args.larger c.self.inside.c c.self.inside.target
+    c.larger.inside.c c.larger.inside.target c.move_into.ensures.lists c.self.view_is c.larger.view_is
+
+pub returns-clause-bounds : goal.returns-clause-bounds
+returns-clause-bounds g c =
+    let m : MovesIn (g.L.Lists.lists c.self.inside.links) c.self.inside.c c.self.inside.target
+    (g.L.Lists.lists c.larger.inside.links) =
+    moves_in (g.L.Lists.lists c.self.inside.links) c.args.self.now (g.L.Lists.lists c.larger.inside.links) c.args.larger
+    c.self.inside.c c.self.inside.target c.larger.inside.c c.larger.inside.target c.self.invariant c.larger.invariant
+    c.self.view_is c.larger.view_is c.requires.more c.requires.larger c.requires.empty
+    (omega (arith, c.self.ranges.0.1)) in
+    rw c.move_into.ensures.lists m.sound.bounds

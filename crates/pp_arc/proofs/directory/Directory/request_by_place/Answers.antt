@@ -12,7 +12,8 @@ request_remembered-requires-clause-remembered g c =
     let h : StandsIn (Some B1) c.args.self.now c.args.page = rw e at (StandsIn-place c.args.self.now c.args.page) in
     omega (arith, h.1)
 
-pub request_remembered-requires-in-Some-B2-clause-remembered : goal.request_remembered-requires-in-Some-B2-clause-remembered
+pub request_remembered-requires-in-Some-B2-clause-remembered :
+    goal.request_remembered-requires-in-Some-B2-clause-remembered
 request_remembered-requires-in-Some-B2-clause-remembered g c =
     let e : place c.args.self.now c.args.page ≡ Some B2 = cc in
     let h : StandsIn (Some B2) c.args.self.now c.args.page = rw e at (StandsIn-place c.args.self.now c.args.page) in

@@ -46,7 +46,8 @@ returns-clause-knows g c =
     (sym c.move_to_t2.ensures.lists)
     (subst (λ (w : FourLists). KnowsBusy (with_front_of_t2 w c.args.page) c.replace.new.search
     (g.B.Busy.busy c.args.busy.now)) (sym e)
-    (subst (λ (k : SearchMarks). KnowsBusy (with_front_of_t2 (after_replace s c.replacement-answer.result) c.args.page) k
+    (subst (λ (k : SearchMarks). KnowsBusy (with_front_of_t2 (after_replace s c.replacement-answer.result)
+    c.args.page) k
     (g.B.Busy.busy c.args.busy.now)) (sym c.replace.ensures.numbers)
     (KnowsBusy-remembered_page s c.args.page c.replacement-answer.new.search (g.B.Busy.busy c.args.busy.now)
     c.replacement-answer.result c.replacement-answer.ensures.bounds.once c.requires.remembered f)))

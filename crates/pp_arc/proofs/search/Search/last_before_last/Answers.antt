@@ -8,17 +8,20 @@ use Rattle.pp_arc.proofs.search.Search.last_before_last.Goals as goal
 
 pub pass-requires-clause-below : goal.pass-requires-clause-below
 pass-requires-clause-below g c =
-    room_for c.args.links.now c.args.list c.args.last c.args.self.now (g.B.Busy.busy c.args.busy.now)
-    c.requires.below (contains-last (list_of c.args.links.now c.args.list) c.args.last c.requires.last) c.requires.knows
+    room_for (g.L.Lists.lists c.args.links.now) c.args.list c.args.last c.args.self.now (g.B.Busy.busy c.args.busy.now)
+    c.requires.below (contains-last (list_of (g.L.Lists.lists c.args.links.now) c.args.list) c.args.last
+    c.requires.last) c.requires.knows
 
 pub last_before-requires-clause-knows : goal.last_before-requires-clause-knows
 last_before-requires-clause-knows g c =
-    subst (λ (w : SearchMarks). KnowsBusy c.args.links.now w (g.B.Busy.busy c.args.busy.now)) (sym c.pass.ensures.exact)
-    (KnowsBusy-start c.args.links.now c.args.list c.args.last c.args.self.now (g.B.Busy.busy c.args.busy.now)
+    subst (λ (w : SearchMarks). KnowsBusy (g.L.Lists.lists c.args.links.now) w (g.B.Busy.busy c.args.busy.now)) (sym
+    (c.pass.ensures.exact c.if-pass.true))
+    (KnowsBusy-start (g.L.Lists.lists c.args.links.now) c.args.list c.args.last c.args.self.now (g.B.Busy.busy
+    c.args.busy.now)
     c.requires.once c.requires.below c.requires.cached c.requires.none_freed c.requires.busy c.pass.ensures.low
     c.requires.last c.requires.knows)
 
 pub last_before-requires-clause-none_freed : goal.last_before-requires-clause-none_freed
 last_before-requires-clause-none_freed g c =
-    subst (λ (w : SearchMarks). NoneFreed w c.args.list) (sym c.pass.ensures.exact)
+    subst (λ (w : SearchMarks). NoneFreed w c.args.list) (sym (c.pass.ensures.exact c.if-pass.true))
     (none_passed c.args.self.now c.args.list c.args.last 4294967295 c.requires.none_freed)

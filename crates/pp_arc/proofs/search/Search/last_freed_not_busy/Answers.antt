@@ -1,8 +1,11 @@
 -- What is left to show of Search::last_freed_not_busy: a page that is busy again isn't among the freed ones any more.
-use Rattle.std.proofs.Common.{sym, subst, ◌∙◌}
+use Rattle.std.proofs.Common.{sym, subst, ◌∙◌, inl, refl}
 use Rattle.pp_arc.specs.Search.{SearchMarks, KnowsBusy}
 use Rattle.pp_arc.proofs.SearchLemmas.{KnowsBusy-popped, fewer_freed}
 use Rattle.pp_arc.proofs.search.Search.last_freed_not_busy.Goals as goal
+
+pub set_freed-requires : goal.set_freed-requires
+set_freed-requires g c = inl refl
 
 pub loop-page-smaller : goal.loop-page-smaller
 loop-page-smaller g c =

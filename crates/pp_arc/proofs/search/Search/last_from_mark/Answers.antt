@@ -4,10 +4,12 @@ use Rattle.pp_arc.proofs.search.Search.last_from_mark.Goals as goal
 
 pub returns-in-Some-clause-marks : goal.returns-in-Some-clause-marks
 returns-in-Some-clause-marks g c =
-    unmarked c.args.links.now c.args.list c.last_before.new.self (g.B.Busy.busy c.args.busy.now) c.last_before.result
+    unmarked (g.L.Lists.lists c.args.links.now) c.args.list c.last_before.new.self (g.B.Busy.busy c.args.busy.now)
+    c.last_before.result
     c.requires.once c.requires.cached c.last_before.ensures.last c.last_before.ensures.mark c.last_before.ensures.knows
 
 pub returns-in-None-clause-marks : goal.returns-in-None-clause-marks
 returns-in-None-clause-marks g c =
-    unmarked c.args.links.now c.args.list c.last_of_all.new.self (g.B.Busy.busy c.args.busy.now) c.last_of_all.result
+    unmarked (g.L.Lists.lists c.args.links.now) c.args.list c.last_of_all.new.self (g.B.Busy.busy c.args.busy.now)
+    c.last_of_all.result
     c.requires.once c.requires.cached c.last_of_all.ensures.last c.last_of_all.ensures.mark c.last_of_all.ensures.knows

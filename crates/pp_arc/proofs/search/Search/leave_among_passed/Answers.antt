@@ -5,8 +5,8 @@ use Rattle.pp_arc.proofs.SearchLemmas.{KnowsBusy-gone}
 use Rattle.pp_arc.proofs.search.Search.leave_among_passed.Goals as goal
 
 pub returns-else-number-gt0 : goal.returns-else-number-gt0
-returns-else-number-gt0 c = record {
+returns-else-number-gt0 g c = record {
   knows = λ busy other h more.
       let zero : number_of c.args.self.now c.args.page ≡ 0 = omega (arith, c.number.ensures, c.if-number-gt0.false) in
-      KnowsBusy-gone c.args.links.now c.args.page c.args.self.now busy other zero more h;
+      KnowsBusy-gone (g.L.Lists.lists c.args.links.now) c.args.page c.args.self.now busy other zero more h;
 }

@@ -1,33 +1,29 @@
 -- What is left to show of Search::new: nothing was passed over yet.
-use Rattle.std.proofs.Common.{◌≡◌, ℕ, List, length, get_or, refl, arith, sym, inl, inr, ap, ◌∙◌}
-use Rattle.std.specs.Prelude.{replicate, None}
-use Rattle.std.proofs.lemmas.List.{get_or-replicate, length-replicate, get_or_past}
-use Rattle.std.proofs.lemmas.Bool.{cases_lt}
-use Rattle.pp_arc.specs.Search.{SearchMarks}
+use Rattle.std.proofs.Common.{◌≡◌, ℕ, length, get_or, refl, arith, sym, ◌∙◌}
+use Rattle.std.specs.Prelude.{None}
+use Rattle.pp_arc.specs.Slots.{numbers_of, freed_t1_of, freed_t2_of, marks_of}
 use Rattle.pp_arc.proofs.SearchLemmas.{KnowsBusy-new}
+use Rattle.pp_arc.proofs.SlotLemmas.{long, no_slot, none_counted}
 use Rattle.pp_arc.proofs.search.Search.new.Goals as goal
 
-zeros : (n : ℕ) (xs : List ℕ) → xs ≡ replicate n 0 → (x : ℕ) → get_or xs x 0 ≡ 0
-zeros n xs e x = elim (cases_lt x (length xs)) [
-  | inl low ↦ ap (λ (l : List ℕ). get_or l x 0) e
-      ∙ get_or-replicate {A = ℕ} n x 0 0 (omega (arith, ap (length {A = ℕ}) e, length-replicate {A = ℕ} n 0))
-  | inr past ↦ get_or_past xs x 0 past
-]
+pub invariant_of-result : goal.invariant_of-result
+invariant_of-result c =
+    let n = c.in_ok-new.field-0 in
+    record {
+      count = sym (none_counted (numbers_of n) (λ x. no_slot n n.numbers x c.in_ok-new.ensures.slotted.numbers
+          (c.in_ok-new.ensures.blank x)));
+      fits = omega (arith, long n.slots n.numbers, c.in_ok-new.ensures.pages, c.ranges.pages);
+    }
 
 pub returns : goal.returns
 returns c =
-    let e : c.in_ok-vec.field-0.items ≡ replicate c.args.pages 0 = c.in_ok-vec.ensures.items_if_clones_equal (λ y e. e) in
-    let k : SearchMarks = record {
-      t1 = None;
-      t2 = None;
-      numbers = c.in_ok-vec.field-0.items;
-      freed_t1 = c.in_ok-new.field-0;
-      freed_t2 = c.in_ok-new-2.field-0;
-    } in
-    let long : length c.in_ok-vec.field-0.items ≡ c.args.pages =
-    ap (length {A = ℕ}) e ∙ length-replicate {A = ℕ} c.args.pages 0 in
+    let n = c.in_ok-new.field-0 in
     record {
-      knows = λ s busy le. KnowsBusy-new s k busy refl refl
-          (zeros c.args.pages c.in_ok-vec.field-0.items e) c.in_ok-new.ensures.empty c.in_ok-new-2.ensures.empty
-          (c.in_ok-new.ensures.length ∙ sym long) (c.in_ok-new-2.ensures.length ∙ sym long) (omega arith);
+      knows = λ s busy le. KnowsBusy-new s (marks_of None None n) busy refl refl
+          (λ x. no_slot n n.numbers x c.in_ok-new.ensures.slotted.numbers (c.in_ok-new.ensures.blank x))
+          (λ x. no_slot n n.freed_t1 x c.in_ok-new.ensures.slotted.freed_t1 (c.in_ok-new.ensures.blank x))
+          (λ x. no_slot n n.freed_t2 x c.in_ok-new.ensures.slotted.freed_t2 (c.in_ok-new.ensures.blank x))
+          (long n.slots n.freed_t1 ∙ sym (long n.slots n.numbers))
+          (long n.slots n.freed_t2 ∙ sym (long n.slots n.numbers))
+          (omega (arith, le, long n.slots n.numbers, c.in_ok-new.ensures.pages));
     }

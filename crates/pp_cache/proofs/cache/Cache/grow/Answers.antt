@@ -26,6 +26,11 @@ same_grown s lists table keys e f = record {
   pages = λ k. ap (λ (w : FrameMap). page_of w k) f ∙ page-keys s.table keys k;
 }
 
+-- the larger directory is for a cache of the same size
+pub move_into-requires-clause-larger : goal.move_into-requires-clause-larger
+move_into-requires-clause-larger c =
+    omega (arith, ap (λ (w : FourLists). w.c) c.in_ok-larger.ensures.empty, c.size.ensures.size)
+
 pub returns-clause-same_pages : goal.returns-clause-same_pages
 returns-clause-same_pages c =
     let pages : c.in_ok-larger.larger.pages ≡ c.args.keys = ap (λ (w : FourLists). w.pages) c.in_ok-larger.ensures.empty

@@ -10,10 +10,10 @@ use Rattle.pp_cache.proofs.cache.Cache.new.Goals as goal
 pub invariant_of-result : goal.invariant_of-result
 invariant_of-result c = record {
   sound =
-      subst (λ (l : FourLists). IsSound (record { lists = l; table = c.new-3.result })) (sym c.in_ok-new.ensures.empty)
-      (subst (λ (m : FrameMap). IsSound (record { lists = empty_lists c.args.size 0; table = m })) (sym c.new-3.ensures)
-      (sound-empty c.args.size (subst IsWithinBounds c.in_ok-new.ensures.empty c.in_ok-new.ensures.bounds)));
+      subst (λ (l : FourLists). IsSound (record { lists = l; table = c.new-2.result })) (sym c.in_ok-growing.ensures.empty)
+      (subst (λ (m : FrameMap). IsSound (record { lists = empty_lists c.args.size 0; table = m })) (sym c.new-2.ensures)
+      (sound-empty c.args.size (subst IsWithinBounds c.in_ok-growing.ensures.empty c.in_ok-growing.ensures.bounds)));
   knows =
-      c.in_ok-new-2.ensures.knows c.in_ok-new.field-0 (is_pinned c.new-3.result)
-      (omega (arith, ap (λ (w : FourLists). w.pages) c.in_ok-new.ensures.empty));
+      c.in_ok-new.ensures.knows c.in_ok-growing.field-0 (is_pinned c.new-2.result)
+      (omega (arith, ap (λ (w : FourLists). w.pages) c.in_ok-growing.ensures.empty));
 }
