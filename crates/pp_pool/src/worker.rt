@@ -298,6 +298,57 @@ impl<S: Site, D: Device> Worker<S, D> {
     }
 }
 
+impl<S, D> Worker<S, D> {
+    /// The site where it asked, and the same worker over another site: with its device, its tokens, its log and its room. So a
+    /// worker can be kept between two plans without a site, and be given one for each.
+    pub fn over_site<T>(self, site: T) -> (S, Worker<T, D>)
+        ensures before { result.0 ≡ self.site }
+        ensures site { result.1.site ≡ site }
+        ensures device { result.1.device ≡ self.device }
+        ensures hand { result.1.hand ≡ self.hand }
+        ensures log { result.1.log ≡ self.log }
+        ensures layout { result.1.layout ≡ self.layout }
+        ensures page_bytes { result.1.page_bytes ≡ self.page_bytes }
+        ensures room { room_of result.1 ≡ room_of self }
+        ensures reach { reach_of result.1 ≡ None }
+        ensures end { end_of result.1 ≡ end_of self }
+    {
+        let Worker {
+            site: before,
+            device,
+            hand,
+            log,
+            layout,
+            page_bytes,
+            seen,
+            kept,
+            alloc,
+        } = self;
+        let Kept {
+            reach: _,
+            room,
+            end,
+        } = kept;
+        let kept = Kept {
+            reach: None,
+            room,
+            end,
+        };
+        let worker = Worker {
+            site,
+            device,
+            hand,
+            log,
+            layout,
+            page_bytes,
+            seen,
+            kept,
+            alloc,
+        };
+        (before, worker)
+    }
+}
+
 /// Whether the log has room for an event. A full one gets room first, where there is memory.
 fn has_room(log: &mut Journal) -> bool
     ensures items { log.new.items ≡ log.old.items }
