@@ -337,6 +337,13 @@ impl Book {
         self.workers
     }
 
+    /// The vault, to be asked what it would refuse ([`Vault::refusal`]), and for what its queries tell.
+    pub fn vault(&self) -> &Vault
+        ensures { result.now ≡ self.now.vault }
+    {
+        &self.vault
+    }
+
     /// Copies the image of a page that is latched S into the slice.
     ///
     /// # Errors
