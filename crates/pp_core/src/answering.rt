@@ -83,7 +83,7 @@ impl Table {
     {
         let frame = self.frame_at(page);
         self.marks.set_clean(victim);
-        self.in_flight[victim as usize] = false;
+        self.in_flight.remove(victim);
         self.budget -= 1;
         self.set_phase(worker, Phase::Reading { slot, page });
         Reply::MustRead { frame }
@@ -100,8 +100,8 @@ impl Table {
         self.displace(page);
         self.marks.place(victim, frame);
         self.directory.bring_back(page, victim, &mut self.search);
-        self.in_flight[page as usize] = false;
-        self.in_flight[victim as usize] = false;
+        self.in_flight.remove(page);
+        self.in_flight.remove(victim);
     }
 
     /// The worker leaves its plan, and the bound falls to what leaving takes.
@@ -171,7 +171,7 @@ impl Table {
         self.lose(worker, 31);
         self.displace(page);
         self.directory.forget(page, &mut self.search);
-        self.in_flight[page as usize] = false;
+        self.in_flight.remove(page);
     }
 
     /// The page is fixed, and the stamp is its mark.
@@ -183,7 +183,7 @@ impl Table {
         self.set_phase(worker, Phase::Acting);
         self.put_in(worker, ask, slot, page);
         self.marks.set_stamp(page, stamp);
-        self.in_flight[page as usize] = false;
+        self.in_flight.remove(page);
         self.budget -= 1;
     }
 }

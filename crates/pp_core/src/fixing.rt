@@ -48,7 +48,7 @@ impl Table {
     pub(crate) fn is_flying(&self, page: u32) -> bool
         ensures { result ≡ is_flying (parts_of self.now) page }
     {
-        self.in_flight.get(page as usize).copied().unwrap_or(false)
+        self.in_flight.contains(page)
     }
 
     /// The page that is being flushed.
@@ -165,7 +165,7 @@ impl Table {
             None => unreachable!(),
         };
         self.place(page, frame);
-        self.in_flight[page as usize] = true;
+        self.in_flight.insert(page);
         self.budget -= 2;
         self.set_phase(worker, Phase::Reading { slot, page });
         Reply::MustRead { frame }
@@ -179,7 +179,7 @@ impl Table {
         ensures reply { result ≡ Reply.MustRead (frame_at self.old.marks victim) }
     {
         let frame = self.take_over(page, victim);
-        self.in_flight[page as usize] = true;
+        self.in_flight.insert(page);
         self.budget -= 2;
         self.set_phase(worker, Phase::Reading { slot, page });
         Reply::MustRead { frame }
@@ -193,8 +193,8 @@ impl Table {
         ensures reply { result ≡ Reply.MustWrite (frame_at self.old.marks victim) victim }
     {
         let frame = self.take_over(page, victim);
-        self.in_flight[page as usize] = true;
-        self.in_flight[victim as usize] = true;
+        self.in_flight.insert(page);
+        self.in_flight.insert(victim);
         self.budget -= 1;
         let phase = Phase::Writing { slot, page, victim };
         self.set_phase(worker, phase);

@@ -4,7 +4,7 @@ ghost use Rattle.std.specs.Prelude.{◌≡◌, ◌↔◌, ◌+◌, ◌≤◌, So
 ghost use Rattle.std.specs.Prelude.{if◌then◌else◌};
 ghost use Rattle.pp_frames.specs.Marks.{dirty_from};
 ghost use Rattle.pp_model.specs.Pool.{State, opening, frame_of, known_mark, dirty_pages};
-ghost use Rattle.pp_model.specs.Budget.{bound};
+ghost use Rattle.pp_model.specs.Budget.{bound, running_peaks};
 ghost use Rattle.pp_model.specs.Marks.{marks};
 ghost use Rattle.pp_model.specs.Renewing.{renew_error};
 ghost use Rattle.pp_model.specs.Moves.{is_refusal};
@@ -243,8 +243,8 @@ impl Core {
     /// the prepared plans stay. Plans are numbered from 0 again, and all flushes of its settings may begin again. All else
     /// stays as it is: what is cached, ARC's lists and target, which pages are newer than the device's, and every known mark.
     ///
-    /// It takes no memory, copies nothing, and reads each page's mark one time. The journal of the next life begins in the
-    /// state that the core stands for now.
+    /// It takes no memory, copies nothing, and reads each page's mark one time at most. The journal of the next life
+    /// begins in the state that the core stands for now.
     ///
     /// # Errors
     ///
@@ -377,6 +377,13 @@ impl Core {
         self.table.budget
     }
 
+    /// The sum of the peaks of the plans that run: at most the frames.
+    pub fn running_peaks(&self) -> u64
+        ensures { (s : State) → StandsFor self.now s → result ≡ running_peaks s }
+    {
+        self.table.running
+    }
+
     /// How many plans were submitted in this life, those that were ended among them.
     pub fn plans(&self) -> u64
         ensures { (s : State) → StandsFor self.now s → result ≡ plan_count s }
@@ -464,7 +471,7 @@ impl Core {
         self.table.marks.stamp(page)
     }
 
-    /// How many pages are newer than the device's. It looks at every page.
+    /// How many pages are newer than the device's. The number is kept: one look.
     pub fn dirty(&self) -> u32
         ensures { (s : State) → StandsFor self.now s → result ≡ dirty_pages s }
     {

@@ -11,7 +11,7 @@ use crate::table::Table;
 use circular_buffer::HeapCircularBuffer;
 use pp_arc::{Directory, Search};
 use pp_bundles::Bundles;
-use pp_frames::Marks;
+use pp_frames::{Marks, NumberSet};
 use pp_settings::Settings;
 use std::alloc::{AllocError, Global};
 
@@ -42,7 +42,7 @@ impl Table {
         let search = Search::new(alloc, layout.frames(), pages)?;
         let marks = Marks::new(alloc, layout.frames(), pages)?;
         let bundles = Bundles::new(alloc, 32 * settings.workers(), layout.frames())?;
-        let in_flight = vec![in alloc; false; pages as usize]?;
+        let in_flight = NumberSet::new(alloc, pages)?;
         let flushes = settings.flushes();
         // Each flush has a begin and an end.
         let moves = 2 * flushes;

@@ -81,12 +81,6 @@ impl Table {
     pub(crate) fn dirty(&self) -> u32
         ensures { result ≡ count_by (λ m. m.dirty) self.now.marks.pages }
     {
-        let mut count = 0;
-        for page in 0..self.marks.pages() {
-            if self.marks.is_dirty(page) {
-                count += 1;
-            }
-        }
-        count
+        self.marks.all_dirty()
     }
 }

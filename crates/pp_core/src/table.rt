@@ -17,7 +17,7 @@ use circular_buffer::HeapCircularBuffer;
 use pp_arc::{Answer, Directory, Search};
 use pp_bundles::Bundles;
 use pp_cert::{Accepted, Held};
-use pp_frames::{Marks, Mode};
+use pp_frames::{Marks, Mode, NumberSet};
 use pp_model::{Cause, Delay, Move, Reply};
 use pp_plan::{Action, Ask};
 use pp_settings::{Layout, Settings, Span};
@@ -55,8 +55,8 @@ pub struct Table {
     pub(crate) marks: Marks,
     /// The pages of bundles, a stack for each slot of each worker.
     pub(crate) bundles: Bundles,
-    /// At place p whether page p is loaded for a worker or written back as a victim.
-    pub(crate) in_flight: Vec<bool>,
+    /// The pages that are loaded for a worker or written back as victims.
+    pub(crate) in_flight: NumberSet,
     /// The flush in flight.
     pub(crate) flush: Option<Flush>,
     /// The peaks of all plans that run, together.

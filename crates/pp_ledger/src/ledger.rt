@@ -294,7 +294,7 @@ impl Ledger {
         self.most
     }
 
-    /// How many pages are newer than the device's. It looks at every page.
+    /// How many pages are newer than the device's. The number is kept: one look.
     pub fn dirty(&self) -> u32
         ensures { (s : State) → StandsFor self.now.vault s → result ≡ dirty_pages s }
     {

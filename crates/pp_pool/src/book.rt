@@ -299,7 +299,7 @@ impl Book {
         self.vault.next_possible()
     }
 
-    /// How many pages are newer than the device's. It looks at every page.
+    /// How many pages are newer than the device's. The number is kept: one look.
     pub fn dirty(&self) -> u32
         ensures { result ≡ dirty_pages (state_of self.now) }
     {

@@ -331,7 +331,7 @@ impl Vault {
         self.store.core.budget()
     }
 
-    /// How many pages are newer than the device's. It looks at every page.
+    /// How many pages are newer than the device's. The number is kept: one look.
     pub fn dirty(&self) -> u32
         ensures { (s : State) → StandsFor self.now s → result ≡ dirty_pages s }
     {

@@ -36,11 +36,11 @@ bring_back-requires-clause-below c =
     subst (λ (l : FourLists). c.args.victim < l.pages)
     (sym (ap (λ (p : Parts). p.lists) c.displace.ensures.parts ∙ ap (λ (p : Parts). p.lists) e)) r.below
 
-pub index_mut-requires : goal.index_mut-requires
-index_mut-requires c =
+pub remove-requires : goal.remove-requires
+remove-requires c =
     let r = c.requires in
     let e = c.lose.ensures r.lose.seat r.lose.accepted r.lose.runs in
-    let low : c.args.page < length c.displace.new.self.in_flight.items = subst (λ (l : List Bool). c.args.page < length l)
+    let low : c.args.page < length c.displace.new.self.in_flight = subst (λ (l : List Bool). c.args.page < length l)
     (sym (ap (λ (p : Parts). p.in_flight) c.displace.ensures.parts ∙ ap (λ (p : Parts). p.in_flight) e)) r.flight in
     omega (arith, low)
 
@@ -57,7 +57,7 @@ returns c = λ x a runs.
     (λ i. record (parts_of c.displace.new.self) {
       lists = c.bring_back.ensures.lists i;
       marks = c.place.ensures.exact i;
-      in_flight = slice_set (slice_set c.displace.new.self.in_flight.items page false) v false;
+      in_flight = (c.remove-2.ensures ∙ ap (λ l. slice_set l v false) c.remove.ensures) i;
     })
     ∙ ap (λ (p : Parts). record p {
       lists = bring_back p.lists page v;

@@ -64,7 +64,7 @@ returns c =
       rest =
           (λ i. record g {
             marks = c.set_stamp.ensures.exact i;
-            in_flight = slice_set g.in_flight c.args.page false;
+            in_flight = c.remove.ensures i;
             budget = g.budget - 1;
           })
           ∙ ap (λ (p : Parts). record p {
