@@ -9,17 +9,19 @@ use std::io;
 use std::io::{Seek, SeekFrom};
 use std::os::unix::fs::FileExt;
 use std::rt::Files;
-use std::sync::{RwLock, Wait};
 
 /// The pages of a file: the images one behind the other, that of page p at byte p times the bytes of a page.
 ///
 /// It has the pages that the file had in whole when it was opened, and never makes the file longer.
+///
+/// A call names the place where it reads or writes, and there is no lock: calls of several threads go to the system at
+/// once. So calls of one page must not meet. Where a reading meets a writing of its page, it may give a part of that;
+/// where two writings meet, a part of each may stay.
 #[derive(Drop)]
 pub struct PageFile {
     pages: u64,
     page_bytes: usize,
-    /// Readings share it, a writing has it alone. So no reading gives a part of a writing.
-    file: RwLock<File>,
+    file: File,
     ghost in_reach: { pages * page_bytes < 2 ^ 64 },
 }
 
@@ -60,7 +62,7 @@ impl PageFile {
         PageFile {
             pages: bytes / page_bytes as u64,
             page_bytes,
-            file: RwLock::new(file),
+            file,
         }
     }
 
@@ -91,13 +93,13 @@ impl PageFile {
     /// # Errors
     ///
     /// [`Fault::Read`] where the file doesn't give all of its bytes. The slice may hold some of them then.
-    pub fn read<R: Wait>(&self, rt: &R, page: u32, image: &mut [u8]) -> Result<(), Fault>
+    pub fn read(&self, page: u32, image: &mut [u8]) -> Result<(), Fault>
         requires { page < self.now.pages }
         ensures length { length image.new ≡ length image.old }
         ensures fault { IfErr result (λ fault. fault ≡ Fault.Read) }
     {
-        let file = self.file.read(rt);
-        file.read_exact_at(image, self.place(page))
+        self.file
+            .read_exact_at(image, self.place(page))
             .map_err(|_| Fault::Read)
     }
 
@@ -106,12 +108,12 @@ impl PageFile {
     /// # Errors
     ///
     /// [`Fault::Write`] where the file doesn't take all of its bytes. It may hold some of them then.
-    pub fn write<R: Wait>(&self, rt: &R, page: u32, image: &[u8]) -> Result<(), Fault>
+    pub fn write(&self, page: u32, image: &[u8]) -> Result<(), Fault>
         requires { page < self.now.pages }
         ensures { IfErr result (λ fault. fault ≡ Fault.Write) }
     {
-        let file = self.file.write(rt);
-        file.write_all_at(image, self.place(page))
+        self.file
+            .write_all_at(image, self.place(page))
             .map_err(|_| Fault::Write)
     }
 }

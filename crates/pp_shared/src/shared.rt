@@ -16,8 +16,8 @@ use std::sync::{Arc, Wait};
 
 /// One of several ends of pages in memory or in a file.
 ///
-/// Each end counts its own calls. What one end writes, every end reads. A call may wait for those of other ends, for a
-/// copy or a system call, and takes no other lock.
+/// Each end counts its own calls. What one end writes, every end reads afterwards. A call of an end in memory may wait
+/// for calls of the same page, as long as a copy takes, and takes no other lock. One of an end of a file takes none.
 #[derive(Drop)]
 pub struct SharedDevice<R: Wait> {
     rt: R,
@@ -70,6 +70,11 @@ impl<R: Wait> SharedDevice<R> {
 
     /// So many ends of the file, which has the images of its pages one behind the other, each of `page_bytes` bytes. It
     /// has as many pages as stand there in whole now, and a call never makes it longer or shorter.
+    ///
+    /// These ends have no lock among them: a writing that waits for the medium stops no call of another page. So calls
+    /// of one page must not meet. Where a reading meets a writing of its page, it may give a part of that; where two
+    /// writings meet, a part of each may stay. In a pool they never meet, since no page has two errands out. Whoever
+    /// uses such ends outside a pool has to see to that.
     ///
     /// # Errors
     ///

@@ -44,7 +44,7 @@ impl Store {
                 memory.read(rt, page, image);
                 Ok(())
             }
-            Store::File(file) => file.read(rt, page, image),
+            Store::File(file) => file.read(page, image),
         }
     }
 
@@ -63,7 +63,7 @@ impl Store {
                 memory.write(rt, page, image);
                 Ok(())
             }
-            Store::File(file) => file.write(rt, page, image),
+            Store::File(file) => file.write(page, image),
         }
     }
 }

@@ -31,6 +31,8 @@ mod rows;
 #[cfg(test)]
 mod running;
 #[cfg(test)]
+mod slow;
+#[cfg(test)]
 mod stopping;
 #[cfg(test)]
 mod stress;

@@ -78,7 +78,7 @@ fn a_run_uses_its_devices(rt: HostRuntime) {
 }
 
 /// All pages, one behind the other: as a new device has them, but one that was changed once.
-fn pages(rt: &impl Abort, alloc: Global, changed: u32) -> Vec<u8> {
+pub fn pages(rt: &impl Abort, alloc: Global, changed: u32) -> Vec<u8> {
     let mut bytes = Vec::new(alloc);
     for page in 0..24 {
         let mut one = [0; 64];

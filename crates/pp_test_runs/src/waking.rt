@@ -26,7 +26,7 @@ const FIX_BOTH: &str =
 {\"unfix\":\"b\"},{\"unfix\":\"a\"}],\"version\":1}";
 
 /// Writes a leaf, and fixes two roots afterwards.
-const WRITE_THEN_TOUCH_TWO: &str =
+pub const WRITE_THEN_TOUCH_TWO: &str =
     "{\"body\":[{\"fix\":\"a\",\"region\":\"leaf\"},{\"latch\":\"a\",\"mode\":\"X\"},\
 {\"unlatch\":\"a\"},{\"unfix\":\"a\"},{\"fix\":\"b\",\"region\":\"root\"},{\"unfix\":\"b\"},\
 {\"fix\":\"c\",\"region\":\"root\"},{\"unfix\":\"c\"}],\"version\":1}";
