@@ -1,0 +1,5 @@
+-- Lemmas, lowest first.
+pub mod Masks
+pub mod Places
+pub mod Settling
+pub mod Lawful

@@ -1,0 +1,24 @@
+use Rattle.std.proofs.Common.{◌+◌, ◌∙◌, Some, set, sym}
+use Rattle.pp_wants.specs.Sleepers.{told}
+use Rattle.pp_wants.proofs.Settling.{settled_as, settled_told, settled_more}
+use Rattle.pp_wants.proofs.sleepers.Sleepers.tell_all.Goals as goal
+use Rattle.pp_wants.proofs.sleepers.Sleepers.tell_all.Goals.{in-Some, in_default}
+
+pub loop-worker-preserved : goal.loop-worker-preserved
+loop-worker-preserved c =
+    elim c.match-forgotten.branch [
+      | in-Some w ↦
+          settled_as c.args.vault.now c.args.self.now
+          (set c.loop-worker.self c.loop-worker.worker (Some (told w.in-Some.want))) c.match-forgotten.self
+          w.with_worker-now_told.result c.match-forgotten.now_told (c.loop-worker.worker + 1)
+          (sym w.tell.ensures ∙ sym w.self-is) (sym w.now_told-is)
+          (settled_told c.args.vault.now c.args.self.now c.loop-worker.self c.loop-worker.now_told
+          w.with_worker-now_told.result c.loop-worker.worker w.in-Some.want c.loop-worker.invariant
+          w.in-Some.ensures.untold w.in-Some.ensures.some w.with_worker-now_told.ensures.here
+          w.with_worker-now_told.ensures.others)
+      | in_default w ↦
+          settled_as c.args.vault.now c.args.self.now c.loop-worker.self c.match-forgotten.self c.loop-worker.now_told
+          c.match-forgotten.now_told (c.loop-worker.worker + 1) (sym w.self-is) (sym w.now_told-is)
+          (settled_more c.args.vault.now c.args.self.now c.loop-worker.self c.loop-worker.now_told c.loop-worker.worker
+          c.loop-worker.invariant w.in_default.ensures.none)
+    ]
