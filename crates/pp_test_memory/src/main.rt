@@ -22,6 +22,7 @@ mod shared;
 mod texts;
 mod tried;
 mod turns;
+mod waiting;
 mod words;
 
 use std::env;
@@ -76,6 +77,7 @@ fn case<
         "pp_play" | "pp_simulate" => playing::case(rt, call, row),
         "pp_journal" | "pp_report" => journals::case(rt, call),
         "pp_ledger" | "pp_segments" => segments::case(rt, call),
+        "pp_admission" | "pp_wants" => waiting::case(rt, call),
         "pp_judge" => judging::case(rt, call, row),
         "pp_words" => words::case(rt, row),
         "pp_pool" => books::case(rt, call),

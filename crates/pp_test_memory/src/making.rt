@@ -1,5 +1,5 @@
-//! The calls that make two directories, a search, marks, stacks of pages, names, two caches, a core, an outset, a device and a
-//! vault, and a run of a core.
+//! The calls that make two directories, a search, marks, sets of numbers, stacks of pages, names, two caches, a core, an outset, a
+//! device and a vault, and a run of a core.
 
 use crate::answer::Answer;
 use crate::printing::twice;
@@ -10,7 +10,7 @@ use pp_bundles::Bundles;
 use pp_cache::Cache;
 use pp_core::{Accepted, Core};
 use pp_device::{Device, SoloDevice};
-use pp_frames::Marks;
+use pp_frames::{Marks, NumberSet};
 use pp_keyed::KeyedCache;
 use pp_model::Reply;
 use pp_names::Names;
@@ -19,7 +19,7 @@ use pp_settings::Settings;
 use pp_test_plain::accepted;
 use pp_test_plain::samples::TOUCH;
 use pp_vault::Vault;
-use std::alloc::Global;
+use std::alloc::{AllocError, Global};
 
 /// Does the case of this call and this row.
 pub fn case<R: AllocGlobal + Print>(rt: &R, call: &str, row: &str) -> anyhow::Result<()> {
@@ -30,6 +30,8 @@ pub fn case<R: AllocGlobal + Print>(rt: &R, call: &str, row: &str) -> anyhow::Re
         | "Directory::growing"
         | "Search::new"
         | "Marks::new"
+        | "NumberSet::new"
+        | "NumberSet::full"
         | "Bundles::new"
         | "SoloDevice::new"
         | "Names::new"
@@ -64,6 +66,8 @@ impl Tried for Plain<'_> {
             "Directory::growing" => growing(self.alloc),
             "Search::new" => search(self.alloc),
             "Marks::new" => marks(self.alloc),
+            "NumberSet::new" => set(NumberSet::new(self.alloc, 5_000)),
+            "NumberSet::full" => set(NumberSet::full(self.alloc, 100)),
             "Bundles::new" => bundles(self.alloc),
             "Cache::new" => cache(self.alloc),
             "Names::new" => names(self.alloc),
@@ -107,6 +111,18 @@ fn search(alloc: Global) -> Answer {
 fn marks(alloc: Global) -> Answer {
     match Marks::new(alloc, 3, 24) {
         Ok(made) => first("free", made.least_free()),
+        Err(error) => Answer::Lacking(error),
+    }
+}
+
+fn set(made: Result<NumberSet, AllocError>) -> Answer {
+    match made {
+        Ok(made) => Answer::Two(
+            "limit",
+            u64::from(made.limit()),
+            "has 7",
+            u64::from(made.contains(7)),
+        ),
         Err(error) => Answer::Lacking(error),
     }
 }
