@@ -5,10 +5,11 @@ use Rattle.pp_vault.specs.Holding.{placed}
 use Rattle.pp_wants.specs.declared.want.Want.{Want}
 use Rattle.pp_wants.specs.declared.sleepers.Sleeper.{Sleeper}
 
--- One that sleeps with this want, and wasn't told; one that was.
+-- One that sleeps with this want, and wasn't told.
 abbrev pub untold : Want → Sleeper
 untold want = record { want = want; is_told = false }
 
+-- One that does, and was told.
 abbrev pub told : Want → Sleeper
 told want = record { want = want; is_told = true }
 
@@ -16,11 +17,12 @@ told want = record { want = want; is_told = true }
 abbrev pub want_in : Option Sleeper → Option Want
 want_in place = option_map (λ x. x.want) place
 
--- Whether one sleeps there that was told; whether one does that wasn't.
+-- Whether one sleeps there that was told.
 abbrev pub is_told : Option Sleeper → Bool
 is_told None = false
 is_told (Some x) = x.is_told
 
+-- Whether one sleeps there that wasn't told.
 abbrev pub is_untold : Option Sleeper → Bool
 is_untold None = false
 is_untold (Some x) = not x.is_told
