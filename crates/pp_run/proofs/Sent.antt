@@ -59,7 +59,7 @@ pub accepted_send : IsSend accepted_row
 accepted_send = search (plan_send, sendable, crosses) depth 24 fits 5000
 
 pub core_inside_send : IsSend core_inside
-core_inside_send = search (ring.the_send, marks_send, accepted_send, layout.the_send, directory.the_send, listed.the_send, searching.the_send, bundles.the_send, seat.the_send, flush.the_send, sendable, crosses) depth 24 fits 5000
+core_inside_send = search (ring.the_send, numbers.send-NumberSet, marks_send, accepted_send, layout.the_send, directory.the_send, listed.the_send, searching.the_send, bundles.the_send, seat.the_send, flush.the_send, sendable, crosses) depth 24 fits 5000
 
 pub core_send : IsSend core_row
 core_send = search (core_inside_send, sendable)
