@@ -92,16 +92,16 @@ pub entered_next_by : (now new : Parts) (peak n : ℕ) → new ≡ entered now p
     → next_in new room ≡ Some t → (next_in now room ≡ Some t) ⊎ ((next_in now room ≡ None) × (t ≡ n))
 entered_next_by now new peak n e s room t h =
     elim (entered_next now peak room t (ap (λ q. next_in q room) (sym e) ∙ h)) [
-  | inl old ↦ inl old
-  | inr one ↦ inr (one.0, one.1 ∙ sym s)
-]
+      | inl old ↦ inl old
+      | inr one ↦ inr (one.0, one.1 ∙ sym s)
+    ]
 
 pub entered_awake : (q : Parts) (peak room : ℕ) → IsSound q → NextIsAwake q room → NextIsAwake (entered q peak) room
 entered_awake q peak room s h = λ t e.
     asleep_push t q.waiting (newcomer q.next peak) refl ∙ elim (entered_next q peak room t e) [
-  | inl old ↦ h t old
-  | inr new ↦ ap is_asleep (holder_past t 0 q.next q.waiting s.rising (omega (arith, new.1)))
-]
+      | inl old ↦ h t old
+      | inr new ↦ ap is_asleep (holder_past t 0 q.next q.waiting s.rising (omega (arith, new.1)))
+    ]
 
 -- ---- one is asleep or awake
 

@@ -38,7 +38,7 @@ holder_above t from below [] w h e = absurd (none_one w e)
 holder_above t from below (x ∷ ws) w h e = elim (cases_eq x.ticket t) [
   | inl s ↦ (omega (arith, h.0, s), omega (arith, s, rising_le (x.ticket + 1) below ws h.1))
   | inr d ↦ (let a = holder_above t (x.ticket + 1) below ws w h.1 (sym (holder_later t x ws d) ∙ e) in
-    (omega (arith, h.0, a.0), a.1))
+      (omega (arith, h.0, a.0), a.1))
 ]
 
 is_next : (b r t from below : ℕ) (ws : List Waiting) → AreRising from below ws → next_among b r ws ≡ Some t
@@ -52,21 +52,21 @@ is_next b r t from below (w ∷ ws) h e = elim (next_cases b r t w ws e) [
     before = λ u other k lt. absurd (elim (cases_eq w.ticket u) [
       | inl s ↦ omega (arith, s, lt, x.1)
       | inr d ↦ (let a = holder_above u (w.ticket + 1) below ws other h.1 (sym (holder_later u w ws d) ∙ k) in
-        omega (arith, a.0, lt, x.1))
+          omega (arith, a.0, lt, x.1))
     ]);
   }
   | inr x ↦ (let rest = is_next b r t (w.ticket + 1) below ws h.1 x.2 in
-    let above = next_above b r t (w.ticket + 1) below ws h.1 x.2 in record {
-      one = rest.one;
-      waits = holder_later t w ws (λ s. absurd (omega (arith, s, above))) ∙ rest.waits;
-      fits = rest.fits;
-      before = λ u other k lt. elim (cases_eq w.ticket u) [
-        | inl s ↦ (let same : w ≡ other = one_same w other
-            (sym (subst (λ (v : ℕ). holder v (w ∷ ws) ≡ Some w) s (holder_first w ws)) ∙ k) in
-          subst (λ (v : Waiting). (r < v.peak) × (v.overtaken < b)) same (x.0, x.1))
-        | inr d ↦ rest.before u other (sym (holder_later u w ws d) ∙ k) lt
-      ];
-    })
+      let above = next_above b r t (w.ticket + 1) below ws h.1 x.2 in record {
+        one = rest.one;
+        waits = holder_later t w ws (λ s. absurd (omega (arith, s, above))) ∙ rest.waits;
+        fits = rest.fits;
+        before = λ u other k lt. elim (cases_eq w.ticket u) [
+          | inl s ↦ (let same : w ≡ other = one_same w other
+              (sym (subst (λ (v : ℕ). holder v (w ∷ ws) ≡ Some w) s (holder_first w ws)) ∙ k) in
+              subst (λ (v : Waiting). (r < v.peak) × (v.overtaken < b)) same (x.0, x.1))
+          | inr d ↦ rest.before u other (sym (holder_later u w ws d) ∙ k) lt
+        ];
+      })
 ]
 
 next_is : (b r t from below : ℕ) (ws : List Waiting) → AreRising from below ws → IsNextOf b r t ws
@@ -74,7 +74,7 @@ next_is : (b r t from below : ℕ) (ws : List Waiting) → AreRising from below 
 next_is b r t from below [] h n = absurd (none_one n.one n.waits)
 next_is b r t from below (w ∷ ws) h n = elim (cases_eq w.ticket t) [
   | inl s ↦ (let same : w ≡ n.one = one_same w n.one
-        (sym (subst (λ (v : ℕ). holder v (w ∷ ws) ≡ Some w) s (holder_first w ws)) ∙ n.waits) in
+      (sym (subst (λ (v : ℕ). holder v (w ∷ ws) ≡ Some w) s (holder_first w ws)) ∙ n.waits) in
       next_fits b r w ws (subst (λ (v : Waiting). v.peak ≤ r) (sym same) n.fits) ∙ ap Some s)
   | inr d ↦ (let waits = sym (holder_later t w ws d) ∙ n.waits in
       let above = holder_above t (w.ticket + 1) below ws n.one h.1 waits in
@@ -84,17 +84,17 @@ next_is b r t from below (w ∷ ws) h n = elim (cases_eq w.ticket t) [
         waits = waits;
         fits = n.fits;
         before = λ u other k lt. n.before u other
-          (holder_later u w ws (λ s. absurd (omega (arith, s, (holder_above u (w.ticket + 1) below ws other h.1 k).0))) ∙ k) lt;
+            (holder_later u w ws (λ s. absurd (omega (arith, s, (holder_above u (w.ticket + 1) below ws other h.1 k).0))) ∙ k) lt;
       }))
 ]
 
 pub who_is_next : (q : Parts) (room ticket : ℕ) → IsSound q → (next_in q room ≡ Some ticket) ↔ IsNext q room ticket
 who_is_next q room ticket s = (
-    λ e. (let n = is_next q.bypass room ticket 0 q.next q.waiting s.rising e in
+  λ e. (let n = is_next q.bypass room ticket 0 q.next q.waiting s.rising e in
       record { one = n.one; waits = n.waits; fits = n.fits; before = n.before }),
-    λ n. next_is q.bypass room ticket 0 q.next q.waiting s.rising
+  λ n. next_is q.bypass room ticket 0 q.next q.waiting s.rising
       (record { one = n.one; waits = n.waits; fits = n.fits; before = n.before }),
-  )
+)
 
 -- ---- the first
 
@@ -129,7 +129,7 @@ pub least : (q : Parts) (room ticket other : ℕ) → IsSound q → q.bypass ≡
     → is_waiting q other ≡ true → ticket ≤ other
 least q room ticket other s z e w = elim (cases_lt other ticket) [
   | inl lt ↦ (let one = some_of (waiting_at q other) w in
-    absurd (omega (arith, z, ((is_next q.bypass room ticket 0 q.next q.waiting s.rising e).before other one.0 one.1 lt).1)))
+      absurd (omega (arith, z, ((is_next q.bypass room ticket 0 q.next q.waiting s.rising e).before other one.0 one.1 lt).1)))
   | inr ge ↦ ge
 ]
 
@@ -173,14 +173,14 @@ map_none f same t ws e = holder_map f same t ws ∙ ap (option_map f) e
 gone_after : (q : Parts) (c : Call) (t : ℕ) → waiting_at q t ≡ None → t < q.next
     → (waiting_at (after q c) t ≡ None) × (t < (after q c).next)
 gone_after q (Enters peak) t e lt = (
-    push_none t q.waiting (newcomer q.next peak) (λ s. absurd (omega (arith, s, lt))) e,
-    omega (arith, lt),
-  )
+  push_none t q.waiting (newcomer q.next peak) (λ s. absurd (omega (arith, s, lt))) e,
+  omega (arith, lt),
+)
 gone_after q (Starts ticket room) t e lt = (
-    map_none (overtaken_by ticket) (overtaken_ticket ticket) t (without ticket q.waiting)
-    (without_gone t ticket q.waiting e),
-    lt,
-  )
+  map_none (overtaken_by ticket) (overtaken_ticket ticket) t (without ticket q.waiting)
+      (without_gone t ticket q.waiting e),
+  lt,
+)
 gone_after q (Leaves ticket) t e lt = (without_gone t ticket q.waiting e, lt)
 gone_after q (Marks ticket asleep) t e lt =
     (map_none (marked ticket asleep) (marked_ticket ticket asleep) t q.waiting e, lt)

@@ -78,7 +78,7 @@ pub rising_without : (t from below : ℕ) (ws : List Waiting) → AreRising from
 rising_without t from below [] h = h
 rising_without t from below (w ∷ ws) h = elim (cases_Bool (eqb w.ticket t)) [
   | inl e ↦ rw e (rising_from from (w.ticket + 1) below (without t ws) (omega (arith, h.0))
-    (rising_without t (w.ticket + 1) below ws h.1))
+      (rising_without t (w.ticket + 1) below ws h.1))
   | inr e ↦ rw e (h.0, rising_without t (w.ticket + 1) below ws h.1)
 ]
 
@@ -104,7 +104,7 @@ without_none t [] h = refl
 without_none t (w ∷ ws) h = elim (cases_Bool (eqb w.ticket t)) [
   | inl e ↦ absurd (none_one w (sym h ∙ (let s : holder t (w ∷ ws) ≡ Some w = rw e refl in s)))
   | inr e ↦ rw e (ap (λ xs. w ∷ xs) (without_none t ws
-    ((let s : holder t ws ≡ holder t (w ∷ ws) = rw e refl in s) ∙ h)))
+      ((let s : holder t ws ≡ holder t (w ∷ ws) = rw e refl in s) ∙ h)))
 ]
 
 pub above_at : (from below : ℕ) (ws : List Waiting) (k : ℕ) (w : Waiting) → AreRising from below ws
@@ -160,8 +160,10 @@ pub passed : (b r t from below : ℕ) (ws : List Waiting) → AreRising from bel
     → AreOvertakenBelow b t ws
 passed b r t from below [] h e = absurd (none_some t e)
 passed b r t from below (w ∷ ws) h e = elim (next_cases b r t w ws e) [
-  | inl x ↦ (λ lt. absurd (omega (arith, x.1, lt)),
-    none_before b t (w.ticket + 1) below ws h.1 (omega (arith, x.1)))
+  | inl x ↦ (
+    λ lt. absurd (omega (arith, x.1, lt)),
+    none_before b t (w.ticket + 1) below ws h.1 (omega (arith, x.1)),
+  )
   | inr x ↦ (λ lt. x.1, passed b r t (w.ticket + 1) below ws h.1 x.2)
 ]
 
@@ -240,7 +242,7 @@ pub holder_ticket : (t : ℕ) (ws : List Waiting) (w : Waiting) → holder t ws 
 holder_ticket t [] w h = absurd (none_one w h)
 holder_ticket t (x ∷ ws) w h = elim (cases_Bool (eqb x.ticket t)) [
   | inl e ↦ sym (ap (λ (v : Waiting). v.ticket)
-    (one_same x w ((let s : Some x ≡ holder t (x ∷ ws) = rw e refl in s) ∙ h))) ∙ eqb-true x.ticket t e
+      (one_same x w ((let s : Some x ≡ holder t (x ∷ ws) = rw e refl in s) ∙ h))) ∙ eqb-true x.ticket t e
   | inr e ↦ holder_ticket t ws w ((let s : holder t ws ≡ holder t (x ∷ ws) = rw e refl in s) ∙ h)
 ]
 
@@ -250,7 +252,7 @@ holder_map f same t [] = refl
 holder_map f same t (w ∷ ws) = elim (cases_Bool (eqb w.ticket t)) [
   | inl e ↦ (let a : eqb (f w).ticket t ≡ true = ap (λ n. eqb n t) (same w) ∙ e in rw (a, e) refl)
   | inr e ↦ (let a : eqb (f w).ticket t ≡ false = ap (λ n. eqb n t) (same w) ∙ e in
-    rw (a, e) (holder_map f same t ws))
+      rw (a, e) (holder_map f same t ws))
 ]
 
 pub holder_gone : (t : ℕ) (ws : List Waiting) → holder t (without t ws) ≡ None
@@ -264,7 +266,7 @@ pub holder_other : (t u : ℕ) (ws : List Waiting) → u ≢ t → holder u (wit
 holder_other t u [] d = refl
 holder_other t u (w ∷ ws) d = elim (cases_Bool (eqb w.ticket t)) [
   | inl e ↦ (let ne : eqb w.ticket u ≡ false = ne_eqb w.ticket u (λ s. d (sym s ∙ eqb-true w.ticket t e)) in
-    rw (e, ne) (holder_other t u ws d))
+      rw (e, ne) (holder_other t u ws d))
   | inr e ↦ rw e (ap (λ o. cond (eqb w.ticket u) (Some w) o) (holder_other t u ws d))
 ]
 
@@ -301,7 +303,7 @@ pub asleep_other : (t u : ℕ) (b : Bool) (ws : List Waiting) → u ≢ t
 asleep_other t u b [] d = refl
 asleep_other t u b (w ∷ ws) d = elim (cases_Bool (eqb w.ticket t)) [
   | inl e ↦ (let ne : eqb w.ticket u ≡ false = ne_eqb w.ticket u (λ s. d (sym s ∙ eqb-true w.ticket t e)) in
-    rw (e, ne) (asleep_other t u b ws d))
+      rw (e, ne) (asleep_other t u b ws d))
   | inr e ↦ elim (cases_Bool (eqb w.ticket u)) [
     | inl c ↦ rw (e, c) refl
     | inr c ↦ rw (e, c) (asleep_other t u b ws d)
@@ -352,7 +354,7 @@ found_at t ws i d lt goes same = record {
   one = get_or ws i d;
   there = slice_get-get_or ws i d lt;
   holds = sym goes ∙ at_drop_more (holder t) ws i d lt
-    ∙ (let s : holder t (get_or ws i d ∷ drop (i + 1) ws) ≡ Some (get_or ws i d) =
+      ∙ (let s : holder t (get_or ws i d ∷ drop (i + 1) ws) ≡ Some (get_or ws i d) =
       rw (eq-eqb (get_or ws i d).ticket t same) refl in s);
 }
 
@@ -360,7 +362,7 @@ pub not_at : (t : ℕ) (ws : List Waiting) (i : ℕ) (d : Waiting) → i < lengt
     → ((get_or ws i d).ticket ≡ t → ⊥) → holder t (drop (i + 1) ws) ≡ holder t ws
 not_at t ws i d lt goes other =
     (let s : holder t (drop (i + 1) ws) ≡ holder t (get_or ws i d ∷ drop (i + 1) ws) =
-      rw (ne_eqb (get_or ws i d).ticket t other) refl in s)
+    rw (ne_eqb (get_or ws i d).ticket t other) refl in s)
     ∙ sym (at_drop_more (holder t) ws i d lt) ∙ goes
 
 pub nobody_holds : (t : ℕ) (ws : List Waiting) (i : ℕ) → length ws ≤ i → holder t (drop i ws) ≡ holder t ws
@@ -381,7 +383,7 @@ one_more f ws vs i new d lt goes is =
     let long : length vs ≡ length ws = ap length goes ∙ as_long f ws i in
     ap (set vs i) is
     ∙ map_over_more f ws vs i (get_or vs i d) lt goes
-      (get_or_default vs i d (get_or vs i d) (omega (arith, long, lt)))
+    (get_or_default vs i d (get_or vs i d) (omega (arith, long, lt)))
 
 -- one that was not passed is as it was
 pub as_it_was : (f : Waiting → Waiting) (ws vs : List Waiting) (i : ℕ) (d : Waiting) → i < length ws

@@ -17,11 +17,11 @@ invariant_of-self c =
     (arith, c.overtake.auto.line, ap (length {A = Waiting}) c.deref_mut.ensures.value, c.self.inside.waiting.ok.0) in
     record {
       sound = sound_as (parts_of c.self.inside) (map (overtaken_by c.args.ticket) c.self.inside.waiting.items) _
-        (sound_overtaken (parts_of c.self.inside) c.args.ticket c.self.invariant.sound
-        (subst (λ (q : Parts). AreOvertakenBelow q.bypass c.args.ticket q.waiting) (sym c.self.view_is) c.requires))
-        (with_items_is c.self.inside.waiting c.overtake.new.line long
-        ∙ mapped_by overtaken_by c.number.result c.args.ticket c.deref_mut.result.now c.self.inside.waiting.items
-        c.overtake.new.line c.number.ensures c.deref_mut.ensures.value c.overtake.ensures);
+          (sound_overtaken (parts_of c.self.inside) c.args.ticket c.self.invariant.sound
+          (subst (λ (q : Parts). AreOvertakenBelow q.bypass c.args.ticket q.waiting) (sym c.self.view_is) c.requires))
+          (with_items_is c.self.inside.waiting c.overtake.new.line long
+          ∙ mapped_by overtaken_by c.number.result c.args.ticket c.deref_mut.result.now c.self.inside.waiting.items
+          c.overtake.new.line c.number.ensures c.deref_mut.ensures.value c.overtake.ensures);
       room = c.self.invariant.room;
       most_fits = c.self.invariant.most_fits;
       bypass_fits = c.self.invariant.bypass_fits;

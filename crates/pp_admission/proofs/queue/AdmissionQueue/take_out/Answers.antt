@@ -7,10 +7,10 @@ use Rattle.pp_admission.proofs.queue.AdmissionQueue.take_out.Goals as goal
 pub invariant_of-self : goal.invariant_of-self
 invariant_of-self c = record {
   sound = sound_as (parts_of c.self.inside) (without c.args.ticket c.self.inside.waiting.items) _
-    (sound_left (parts_of c.self.inside) c.args.ticket c.self.invariant.sound)
-    (removed_by (parts_of c.self.inside) c.number.result c.args.ticket c.in-Some.place c.deref.result.now
-    c.remove.new.self.items c.self.invariant.sound c.number.ensures c.deref.ensures.value c.in-Some.ensures.some
-    c.remove.ensures.items);
+      (sound_left (parts_of c.self.inside) c.args.ticket c.self.invariant.sound)
+      (removed_by (parts_of c.self.inside) c.number.result c.args.ticket c.in-Some.place c.deref.result.now
+      c.remove.new.self.items c.self.invariant.sound c.number.ensures c.deref.ensures.value c.in-Some.ensures.some
+      c.remove.ensures.items);
   room = omega (arith, c.remove.ensures.capacity, c.self.invariant.room);
   most_fits = c.self.invariant.most_fits;
   bypass_fits = c.self.invariant.bypass_fits;

@@ -12,9 +12,9 @@ invariant_of-self c =
     (arith, c.wake.auto.line, ap (length {A = Waiting}) c.deref_mut.ensures.value, c.self.inside.waiting.ok.0) in
     record {
       sound = sound_as (parts_of c.self.inside) (map awakened c.self.inside.waiting.items) _
-        (sound_all_woken (parts_of c.self.inside) c.self.invariant.sound)
-        (with_items_is c.self.inside.waiting c.wake.new.line long ∙ c.wake.ensures.woken
-        ∙ ap (map awakened) c.deref_mut.ensures.value);
+          (sound_all_woken (parts_of c.self.inside) c.self.invariant.sound)
+          (with_items_is c.self.inside.waiting c.wake.new.line long ∙ c.wake.ensures.woken
+          ∙ ap (map awakened) c.deref_mut.ensures.value);
       room = c.self.invariant.room;
       most_fits = c.self.invariant.most_fits;
       bypass_fits = c.self.invariant.bypass_fits;
