@@ -1,8 +1,20 @@
-use Rattle.std.proofs.Common.{subst}
+use Rattle.std.proofs.Common.{◌≡◌, ◌∙◌, subst}
 use Rattle.pp_run.specs.Rested.{opening_of, IsEnd}
-use Rattle.pp_run.proofs.Ran.{opened_as}
+use Rattle.pp_run.proofs.Ran.{opened_as, ran}
 use Rattle.pp_run.proofs.RunsOn.{over_of, kept_verdict}
 use Rattle.pp_run.proofs.pool.Pool.run_on_watched.Goals as goal
+
+pub returns-in-Ok-renewed-clause-journal : goal.returns-in-Ok-renewed-clause-journal
+returns-in-Ok-renewed-clause-journal g c =
+    let p = c.args.pool in
+    let plans = c.args.plans.items in
+    let b = c.in-Ok-ran.ended.stalled.book in
+    let dirty = c.in-Ok-ran.ended.dirty in
+    let end : IsEnd (opening_of p) plans b dirty
+    = subst (λ o. IsEnd o plans b dirty)
+    (opened_as p.settings p.began c.in-Ok.ready.book c.in-Ok.ensures.settings c.in-Ok.ensures.outset) c.in-Ok-ran.ensures.end in
+    ran (opening_of p) plans b dirty c.in-Ok-renewed.kept.0 end c.known.ensures.kept c.in-Ok-renewed.ensures.events
+    (c.in-Ok-renewed.ensures.plans ∙ c.in-Ok-ran.ensures.count) c.in-Ok-renewed.ensures.dirty
 
 pub returns-in-Ok-renewed-clause-over : goal.returns-in-Ok-renewed-clause-over
 returns-in-Ok-renewed-clause-over g c =
