@@ -1,23 +1,21 @@
 -- What each call leaves, of a whole queue.
-use Rattle.std.proofs.Common.{◌≡◌, ◌≢◌, ℕ, ◌+◌, ◌^◌, ◌<◌, ◌≤◌, Bool, true, false, List, [], ◌∷◌, ◌++◌, length, map}
+use Rattle.std.proofs.Common.{◌≡◌, ◌≢◌, ℕ, ◌+◌, ◌^◌, ◌<◌, Bool, true, false, List, [], ◌∷◌, ◌++◌, length, map}
 use Rattle.std.proofs.Common.{refl, sym, ap, subst, ◌∙◌, inl, inr, arith}
+use Rattle.std.specs.Prelude.{◌⊎◌, Option, Some, None, option_map}
 use Rattle.std.specs.List.{remove}
-use Rattle.pp_admission.specs.declared.waiting.Waiting.{Waiting}
-use Rattle.pp_admission.specs.Queues.{holder, next_among}
-use Rattle.pp_admission.specs.Places.{IsPlaceOf}
-use Rattle.pp_admission.proofs.Lines.{removed, holder_ticket, below_wider, next_waits}
-use Rattle.std.specs.Prelude.{◌⊎◌, Option, Some, None, is_some, option_map}
 use Rattle.std.proofs.lemmas.List.{length-map, length_push}
-use Rattle.pp_admission.specs.Queues.{Parts, next_in, waiting_at, is_waiting, is_asleep, is_asleep_at, NextIsAwake}
-use Rattle.pp_admission.specs.Queues.{IsSound, empty_queue, entered, newcomer, left, overtaken, started, without}
-use Rattle.pp_admission.specs.Queues.{set_asleep, put_to_sleep, woken, all_woken, overtaken_by, marked, awakened}
-use Rattle.pp_admission.specs.Queues.{with_waiting}
-use Rattle.pp_admission.specs.Places.{AreOvertakenBelow}
-use Rattle.pp_admission.proofs.Lines.{some_same, rising_push, rising_map, rising_without, fewer, within_push, within_map}
-use Rattle.pp_admission.proofs.Lines.{within_without, within_overtaken, passed, below_without, next_map, next_stays, next_new}
-use Rattle.pp_admission.proofs.Lines.{overtaken_ticket, marked_ticket, marked_peak, marked_overtaken, holder_map, holder_gone}
-use Rattle.pp_admission.proofs.Lines.{holder_other, holder_past, without_none, is_none, asleep_push, asleep_other}
-use Rattle.pp_admission.proofs.Lines.{awake_same, awake_all}
+use Rattle.pp_admission.specs.declared.waiting.Waiting.{Waiting}
+use Rattle.pp_admission.specs.Queues.{Parts, holder, next_among, next_in, waiting_at, is_waiting, is_asleep}
+use Rattle.pp_admission.specs.Queues.{is_asleep_at, NextIsAwake, IsSound, with_waiting, empty_queue, entered, newcomer}
+use Rattle.pp_admission.specs.Queues.{left, overtaken, started, without, set_asleep, put_to_sleep, woken, all_woken}
+use Rattle.pp_admission.specs.Queues.{overtaken_by, marked, awakened}
+use Rattle.pp_admission.specs.Places.{IsPlaceOf, AreOvertakenBelow}
+use Rattle.pp_admission.proofs.Lines.{some_same, rising_push, rising_map, rising_without, fewer, removed, holder_ticket}
+use Rattle.pp_admission.proofs.Lines.{within_push, within_map, within_without, within_overtaken, passed, below_without}
+use Rattle.pp_admission.proofs.Lines.{below_wider, next_map, next_stays, next_new, overtaken_ticket, marked_ticket}
+use Rattle.pp_admission.proofs.Lines.{marked_peak, marked_overtaken, marked_others, holder_map, holder_gone}
+use Rattle.pp_admission.proofs.Lines.{holder_other, holder_past, push_same, push_other, without_none, is_none}
+use Rattle.pp_admission.proofs.Lines.{asleep_push, asleep_same, awake_same, awake_all}
 
 -- ---- from what a call did to the fields
 
@@ -52,12 +50,10 @@ none_by q now n t ws e s w is =
     let h : holder t q.waiting ≡ None = ap (λ m. holder m q.waiting) (sym s) ∙ ap (holder n) (sym w) ∙ is in
     subst (λ (x : Parts). x ≡ left x t) e (sym (ap (with_waiting q) (without_none t q.waiting h)))
 
-pub waits_by : (q now : Parts) (room t n : ℕ) (ws : List Waiting) (o : Option ℕ) → q ≡ now → ws ≡ q.waiting
-    → o ≡ next_among q.bypass room ws → o ≡ Some t → n ≡ t → is_waiting now n ≡ true
-waits_by q now room t n ws o e w is was s =
-    let next : next_among q.bypass room q.waiting ≡ Some t = ap (next_among q.bypass room) (sym w) ∙ sym is ∙ was in
-    subst (λ (x : Parts). is_waiting x n ≡ true) e
-    (subst (λ (m : ℕ). is_waiting q m ≡ true) (sym s) (next_waits q.bypass room t q.waiting next))
+pub next_by : (q now : Parts) (room t n : ℕ) (ws : List Waiting) (o : Option ℕ) → q ≡ now → ws ≡ q.waiting
+    → o ≡ next_among q.bypass room ws → o ≡ Some t → n ≡ t → next_in now room ≡ Some n
+next_by q now room t n ws o e w is was s =
+    ap (λ x. next_in x room) (sym e) ∙ ap (next_among q.bypass room) (sym w) ∙ sym is ∙ was ∙ ap Some (sym s)
 
 -- one came
 abbrev pub with_one_more : Parts → List Waiting → Parts
@@ -96,6 +92,14 @@ entered_next_by now new peak n e s room t h =
       | inr one ↦ inr (one.0, one.1 ∙ sym s)
     ]
 
+pub entered_waits : (q : Parts) (peak : ℕ) → IsSound q
+    → waiting_at (entered q peak) q.next ≡ Some (newcomer q.next peak)
+entered_waits q peak s =
+    push_same q.waiting (newcomer q.next peak) (holder_past q.next 0 q.next q.waiting s.rising (omega arith))
+
+pub entered_others : (q : Parts) (peak t : ℕ) → t ≢ q.next → waiting_at (entered q peak) t ≡ waiting_at q t
+entered_others q peak t d = push_other t q.waiting (newcomer q.next peak) (λ e. d (sym e))
+
 pub entered_awake : (q : Parts) (peak room : ℕ) → IsSound q → NextIsAwake q room → NextIsAwake (entered q peak) room
 entered_awake q peak room s h = λ t e.
     asleep_push t q.waiting (newcomer q.next peak) refl ∙ elim (entered_next q peak room t e) [
@@ -113,15 +117,22 @@ sound_marked q t b s = record {
 }
 
 pub marked_next : (q : Parts) (t : ℕ) (b : Bool) (room : ℕ) → next_in (set_asleep q t b) room ≡ next_in q room
-marked_next q t b room = next_map (marked t b) (marked_ticket t b) (marked_peak t b) (marked_overtaken t b) q.bypass room
+marked_next q t b room =
+    next_map (marked t b) (marked_ticket t b) (marked_peak t b) (marked_overtaken t b) q.bypass room
     q.waiting
+
+pub marked_rest : (q : Parts) (t : ℕ) (b : Bool) (u : ℕ) → u ≢ t → waiting_at (set_asleep q t b) u ≡ waiting_at q u
+marked_rest q t b u d = marked_others t u b q.waiting d
+
+pub slept_same : (q : Parts) (t : ℕ) → is_asleep_at (put_to_sleep q t) t ≡ is_waiting q t
+slept_same q t = asleep_same t q.waiting
 
 -- one that may not start is put to sleep, and whoever may start is not
 pub slept_awake : (q : Parts) (t room : ℕ) → (next_in q room ≡ Some t → ⊥) → NextIsAwake q room
     → NextIsAwake (put_to_sleep q t) room
 slept_awake q t room refused h = λ u e.
     let e' : next_in q room ≡ Some u = sym (marked_next q t true room) ∙ e in
-    asleep_other t u true q.waiting (λ s. refused (e' ∙ ap Some s)) ∙ h u e'
+    ap is_asleep (marked_rest q t true u (λ s. refused (e' ∙ ap Some s))) ∙ h u e'
 
 pub woken_awake : (q : Parts) (t room : ℕ) → next_in q room ≡ Some t → NextIsAwake (woken q t) room
 woken_awake q t room is = λ u e.

@@ -1,20 +1,21 @@
 -- The laws of the queue.
-use Rattle.std.proofs.Common.{◌≡◌, ◌≢◌, ℕ, ◌+◌, ◌<◌, ◌≤◌, Bool, true, false, cond, eqb, ltb, List, [], ◌∷◌, ◌++◌, length, map}
+use Rattle.std.proofs.Common.{◌≡◌, ℕ, ◌+◌, ◌<◌, ◌≤◌, true, false, cond, eqb, ltb, List, [], ◌∷◌, ◌++◌, map}
 use Rattle.std.proofs.Common.{refl, sym, ap, subst, ◌∙◌, inl, inr, arith}
-use Rattle.std.specs.Prelude.{◌⊎◌, ◌↔◌, Option, Some, None, IsSome, is_some, option_map, count_by}
-use Rattle.std.proofs.lemmas.Bool.{cases_Bool, cases_eq, cases_lt, cases_order, ne_eqb, eq-eqb, lt-ltb, le-ltb, false≢true}
+use Rattle.std.specs.Prelude.{◌⊎◌, ◌↔◌, Option, Some, None, IsSome, IsSomeAnd, is_some, option_map}
+use Rattle.std.proofs.lemmas.Bool.{cases_Bool, cases_eq, cases_lt, cases_order, ne_eqb, eq-eqb, lt-ltb, le-ltb}
+use Rattle.std.proofs.lemmas.Bool.{false≢true}
 use Rattle.std.proofs.lemmas.List.Sums.{sum_by-cons}
 use Rattle.pp_admission.specs.declared.waiting.Waiting.{Waiting}
-use Rattle.pp_admission.specs.Queues.{Parts, next_in, next_among, waiting_at, is_waiting, holder, first_ticket, AllFit}
-use Rattle.pp_admission.specs.Queues.{IsFull, IsSound, AreRising, AreWithin, newcomer, entered, started, left, set_asleep}
-use Rattle.pp_admission.specs.Queues.{all_woken, without, overtaken_by, marked, awakened}
+use Rattle.pp_admission.specs.Queues.{Parts, next_in, next_among, waiting_at, is_waiting, holder, first_ticket, Fits}
+use Rattle.pp_admission.specs.Queues.{AllFit, IsSound, AreRising, AreWithin, newcomer, started, left}
+use Rattle.pp_admission.specs.Queues.{without, overtaken_by, marked, awakened}
 use Rattle.pp_admission.specs.Histories.{IsNext, Call, Enters, Starts, Leaves, Marks, WakesAll, after, IsPossible}
 use Rattle.pp_admission.specs.Histories.{after_all, ArePossible, overtakes, overtakings}
-use Rattle.pp_admission.proofs.Lines.{none_some, some_same, none_one, one_same, is_none, next_fits, next_passes, next_cases}
-use Rattle.pp_admission.proofs.Lines.{next_above, rising_le, rising_from, holder_ticket, holder_map, holder_gone, holder_other}
-use Rattle.pp_admission.proofs.Lines.{holder_past, marked_ticket, marked_overtaken, overtaken_ticket, passed}
-use Rattle.pp_admission.proofs.Calls.{sound_entered, sound_marked, sound_all_woken, sound_left, sound_overtaken, may_overtake}
-use Rattle.pp_admission.proofs.Calls.{started_gone}
+use Rattle.pp_admission.proofs.Lines.{none_some, none_one, one_same, next_fits, next_passes, next_cases, next_above}
+use Rattle.pp_admission.proofs.Lines.{rising_le, holder_ticket, holder_map, holder_gone, holder_other, holder_past}
+use Rattle.pp_admission.proofs.Lines.{push_other, marked_ticket, marked_overtaken, overtaken_ticket}
+use Rattle.pp_admission.proofs.Calls.{sound_entered, sound_marked, sound_all_woken, sound_left, sound_overtaken}
+use Rattle.pp_admission.proofs.Calls.{may_overtake, started_gone}
 
 -- ---- who is next
 
@@ -84,7 +85,11 @@ next_is b r t from below (w ∷ ws) h n = elim (cases_eq w.ticket t) [
         waits = waits;
         fits = n.fits;
         before = λ u other k lt. n.before u other
-            (holder_later u w ws (λ s. absurd (omega (arith, s, (holder_above u (w.ticket + 1) below ws other h.1 k).0))) ∙ k) lt;
+            (holder_later u w ws (λ s. absurd (omega (
+              arith,
+              s,
+              (holder_above u (w.ticket + 1) below ws other h.1 k).0,
+            ))) ∙ k) lt;
       }))
 ]
 
@@ -95,6 +100,11 @@ who_is_next q room ticket s = (
   λ n. next_is q.bypass room ticket 0 q.next q.waiting s.rising
       (record { one = n.one; waits = n.waits; fits = n.fits; before = n.before }),
 )
+
+pub fits_of : (q : Parts) (room t : ℕ) → IsSound q → next_in q room ≡ Some t → Fits q t room
+fits_of q room t s e =
+    let n = is_next q.bypass room t 0 q.next q.waiting s.rising e in
+    subst (λ (o : Option Waiting). IsSomeAnd (option_map (λ w. w.peak) o) (λ peak. peak ≤ room)) (sym n.waits) n.fits
 
 -- ---- the first
 
@@ -129,7 +139,8 @@ pub least : (q : Parts) (room ticket other : ℕ) → IsSound q → q.bypass ≡
     → is_waiting q other ≡ true → ticket ≤ other
 least q room ticket other s z e w = elim (cases_lt other ticket) [
   | inl lt ↦ (let one = some_of (waiting_at q other) w in
-      absurd (omega (arith, z, ((is_next q.bypass room ticket 0 q.next q.waiting s.rising e).before other one.0 one.1 lt).1)))
+      let n = is_next q.bypass room ticket 0 q.next q.waiting s.rising e in
+      absurd (omega (arith, z, (n.before other one.0 one.1 lt).1)))
   | inr ge ↦ ge
 ]
 
@@ -152,14 +163,6 @@ same_bypass q WakesAll = refl
 
 -- ---- one that is gone doesn't come back
 
-push_none : (t : ℕ) (ws : List Waiting) (x : Waiting) → (x.ticket ≡ t → ⊥) → holder t ws ≡ None
-    → holder t (ws ++ x ∷ []) ≡ None
-push_none t [] x d e = holder_later t x [] d
-push_none t (w ∷ ws) x d e = elim (cases_eq w.ticket t) [
-  | inl s ↦ absurd (none_one w (sym e ∙ subst (λ (u : ℕ). holder u (w ∷ ws) ≡ Some w) s (holder_first w ws)))
-  | inr n ↦ holder_later t w (ws ++ x ∷ []) n ∙ push_none t ws x d (sym (holder_later t w ws n) ∙ e)
-]
-
 without_gone : (t u : ℕ) (ws : List Waiting) → holder t ws ≡ None → holder t (without u ws) ≡ None
 without_gone t u ws e = elim (cases_eq t u) [
   | inl s ↦ subst (λ (v : ℕ). holder t (without v ws) ≡ None) s (holder_gone t ws)
@@ -173,7 +176,7 @@ map_none f same t ws e = holder_map f same t ws ∙ ap (option_map f) e
 gone_after : (q : Parts) (c : Call) (t : ℕ) → waiting_at q t ≡ None → t < q.next
     → (waiting_at (after q c) t ≡ None) × (t < (after q c).next)
 gone_after q (Enters peak) t e lt = (
-  push_none t q.waiting (newcomer q.next peak) (λ s. absurd (omega (arith, s, lt))) e,
+  push_other t q.waiting (newcomer q.next peak) (λ s. absurd (omega (arith, s, lt))) ∙ e,
   omega (arith, lt),
 )
 gone_after q (Starts ticket room) t e lt = (
@@ -254,7 +257,8 @@ Counts q c t = ((waiting_at (after q c) t ≡ None) × (t < (after q c).next))
 
 starts_later : (q : Parts) (u room t : ℕ) → IsSound q → next_in q room ≡ Some u → t < u → (o : Option Waiting)
     → waiting_at q t ≡ o → Counts q (Starts u room) t
-starts_later q u room t s p lt None e = inl (gone_after q (Starts u room) t e (omega (arith, lt, next_low q room u s p)))
+starts_later q u room t s p lt None e =
+    inl (gone_after q (Starts u room) t e (omega (arith, lt, next_low q room u s p)))
 starts_later q u room t s p lt (Some w) e =
     let now : times (waiting_at (started q u) t) ≡ w.overtaken + 1 =
     ap times (started_holder q t u (λ d. absurd (omega (arith, d, lt))) ∙ ap (option_map (overtaken_by u)) e)

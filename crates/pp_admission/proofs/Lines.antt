@@ -1,16 +1,17 @@
 -- Lemmas on those that wait, as a list.
-use Rattle.std.proofs.Common.{◌≡◌, ◌≢◌, ℕ, zero, suc, ◌+◌, ◌-◌, ◌<◌, ◌≤◌, Bool, true, false, not, cond, eqb, leb, ltb}
-use Rattle.std.proofs.Common.{List, [], ◌∷◌, ◌++◌, length, get_or, take, drop, set, map, refl, sym, ap, ◌∙◌, inl, inr, arith, append-nil}
+use Rattle.std.proofs.Common.{◌≡◌, ◌≢◌, ℕ, zero, suc, ◌+◌, ◌-◌, ◌<◌, ◌≤◌, Bool, true, false, cond, eqb, leb, ltb}
+use Rattle.std.proofs.Common.{List, [], ◌∷◌, ◌++◌, length, get_or, take, drop, set, map, append-nil}
+use Rattle.std.proofs.Common.{refl, sym, ap, ◌∙◌, inl, inr, arith}
 use Rattle.std.specs.Prelude.{◌⊎◌, Option, Some, None, is_some, option_map, slice_get}
-use Rattle.std.specs.List.{remove, filter}
-use Rattle.std.proofs.lemmas.Bool.{cases_lt, cases_Bool, le-leb, lt-leb, lt-ltb, le-ltb, ne_eqb, eq-eqb, eqb-true, eqb-false}
+use Rattle.std.specs.List.{remove}
+use Rattle.std.proofs.lemmas.Bool.{cases_lt, cases_Bool, le-leb, lt-leb, lt-ltb, le-ltb, ne_eqb, eq-eqb, eqb-true}
 use Rattle.std.proofs.lemmas.Option.{slice_get-get_or, get_or_from_slice_get}
 use Rattle.std.proofs.lemmas.List.{at_drop_more, at_drop_all, get_or-append_right, get_or-drop, get_or_default}
 use Rattle.std.proofs.lemmas.List.{length-map, length-append, length-take-le, take-append-drop, take_all, drop_all}
 use Rattle.std.proofs.lemmas.List.Edits.{map_over_more}
 use Rattle.pp_admission.specs.declared.waiting.Waiting.{Waiting}
 use Rattle.pp_admission.specs.Queues.{next_among, holder, is_asleep, without, overtaken_by, marked, awakened}
-use Rattle.pp_admission.specs.Queues.{AreRising, AreWithin, newcomer}
+use Rattle.pp_admission.specs.Queues.{AreRising, AreWithin}
 use Rattle.pp_admission.specs.Places.{IsPlaceOf, AreOvertakenBelow}
 
 -- one that was never in a line
@@ -278,15 +279,33 @@ holder_past t from below (w ∷ ws) h le =
     let ne : eqb w.ticket t ≡ false = ne_eqb w.ticket t (λ e. absurd (omega (arith, low, le, e))) in
     rw ne (holder_past t (w.ticket + 1) below ws h.1 le)
 
-pub next_waits : (b r t : ℕ) (ws : List Waiting) → next_among b r ws ≡ Some t → is_some (holder t ws) ≡ true
-next_waits b r t [] e = absurd (none_some t e)
-next_waits b r t (w ∷ ws) e = elim (cases_Bool (eqb w.ticket t)) [
-  | inl c ↦ rw c refl
-  | inr c ↦ rw c (elim (next_cases b r t w ws e) [
-    | inl x ↦ absurd (eqb-false w.ticket t c x.1)
-    | inr x ↦ next_waits b r t ws x.2
-  ])
+-- one more behind the others
+pub push_other : (t : ℕ) (ws : List Waiting) (x : Waiting) → (x.ticket ≡ t → ⊥)
+    → holder t (ws ++ x ∷ []) ≡ holder t ws
+push_other t [] x d = rw (ne_eqb x.ticket t d) refl
+push_other t (w ∷ ws) x d = elim (cases_Bool (eqb w.ticket t)) [
+  | inl e ↦ rw e refl
+  | inr e ↦ rw e (push_other t ws x d)
 ]
+
+pub push_same : (ws : List Waiting) (x : Waiting) → holder x.ticket ws ≡ None → holder x.ticket (ws ++ x ∷ []) ≡ Some x
+push_same [] x h = rw (eq-eqb x.ticket x.ticket refl) refl
+push_same (w ∷ ws) x h = elim (cases_Bool (eqb w.ticket x.ticket)) [
+  | inl e ↦ absurd (none_one w (sym h ∙ (let s : holder x.ticket (w ∷ ws) ≡ Some w = rw e refl in s)))
+  | inr e ↦ rw e (push_same ws x ((let s : holder x.ticket ws ≡ holder x.ticket (w ∷ ws) = rw e refl in s) ∙ h))
+]
+
+-- a mark of one leaves the others as they are
+marked_not : (t u : ℕ) (b : Bool) (ws : List Waiting) (o : Option Waiting) → (u ≡ t → ⊥) → holder u ws ≡ o
+    → option_map (marked t b) o ≡ o
+marked_not t u b ws None d e = refl
+marked_not t u b ws (Some w) d e =
+    let ne : eqb w.ticket t ≡ false = ne_eqb w.ticket t (λ s. d (sym (holder_ticket u ws w e) ∙ s)) in rw ne refl
+
+pub marked_others : (t u : ℕ) (b : Bool) (ws : List Waiting) → (u ≡ t → ⊥)
+    → holder u (map (marked t b) ws) ≡ holder u ws
+marked_others t u b ws d =
+    holder_map (marked t b) (marked_ticket t b) u ws ∙ marked_not t u b ws (holder u ws) d refl
 
 -- ---- who is asleep
 
@@ -298,16 +317,12 @@ asleep_push t (w ∷ ws) x a = elim (cases_Bool (eqb w.ticket t)) [
   | inr e ↦ rw e (asleep_push t ws x a)
 ]
 
-pub asleep_other : (t u : ℕ) (b : Bool) (ws : List Waiting) → u ≢ t
-    → is_asleep (holder u (map (marked t b) ws)) ≡ is_asleep (holder u ws)
-asleep_other t u b [] d = refl
-asleep_other t u b (w ∷ ws) d = elim (cases_Bool (eqb w.ticket t)) [
-  | inl e ↦ (let ne : eqb w.ticket u ≡ false = ne_eqb w.ticket u (λ s. d (sym s ∙ eqb-true w.ticket t e)) in
-      rw (e, ne) (asleep_other t u b ws d))
-  | inr e ↦ elim (cases_Bool (eqb w.ticket u)) [
-    | inl c ↦ rw (e, c) refl
-    | inr c ↦ rw (e, c) (asleep_other t u b ws d)
-  ]
+pub asleep_same : (t : ℕ) (ws : List Waiting)
+    → is_asleep (holder t (map (marked t true) ws)) ≡ is_some (holder t ws)
+asleep_same t [] = refl
+asleep_same t (w ∷ ws) = elim (cases_Bool (eqb w.ticket t)) [
+  | inl e ↦ rw (e, e) refl
+  | inr e ↦ rw (e, e) (asleep_same t ws)
 ]
 
 pub awake_same : (t : ℕ) (ws : List Waiting) → is_asleep (holder t (map (marked t false) ws)) ≡ false

@@ -1,7 +1,8 @@
 -- What calls make of a queue, one behind the other, and how often one that waits is overtaken by them.
 use Rattle.std.specs.Prelude.{◌≡◌, ℕ, ◌<◌, ◌≤◌, Bool, false, nat_lt, Some, List, [], ◌∷◌, count_by}
 use Rattle.pp_admission.specs.declared.waiting.Waiting.{Waiting}
-use Rattle.pp_admission.specs.Queues.{Parts, waiting_at, next_in, IsFull, entered, started, left, set_asleep, all_woken}
+use Rattle.pp_admission.specs.Queues.{Parts, waiting_at, next_in, IsFull}
+use Rattle.pp_admission.specs.Queues.{entered, started, left, set_asleep, all_woken}
 
 -- ---- who may start, in other words
 
@@ -15,8 +16,8 @@ pub record IsNext (q : Parts) (room ticket : ℕ) : Type 0 where
 
 -- ---- calls, one behind the other
 
--- What a call does: one comes; one starts while so many pages are free; one leaves; one falls asleep or is woken; everybody
--- is woken.
+-- What a call does: one comes; one starts while so many pages are free; one leaves; one falls asleep or is woken;
+-- everybody is woken.
 pub data Call : Type 0 where
   Enters : (peak : ℕ) → Call
   Starts : (ticket room : ℕ) → Call

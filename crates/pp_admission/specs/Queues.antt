@@ -1,11 +1,13 @@
 -- A queue of those that wait to start, in the order in which they came: who may start, and what each call leaves.
-use Rattle.std.specs.Prelude.{◌≡◌, ℕ, ◌+◌, ◌-◌, ◌^◌, ◌≤◌, ◌⊎◌, Bool, true, false, not, nat_lt, nat_le, ◌==◌, if◌then◌else◌}
-use Rattle.std.specs.Prelude.{Option, None, Some, is_some, option_map, List, [], ◌∷◌, ◌++◌, length, map, filter}
+use Rattle.std.specs.Prelude.{◌≡◌, ℕ, ◌+◌, ◌-◌, ◌^◌, ◌≤◌, ◌⊎◌}
+use Rattle.std.specs.Prelude.{◌==◌, nat_lt, nat_le, Bool, true, false, not, if◌then◌else◌}
+use Rattle.std.specs.Prelude.{Option, None, Some, IsSomeAnd, is_some, option_map}
+use Rattle.std.specs.Prelude.{List, [], ◌∷◌, ◌++◌, length, map, filter}
 use Rattle.std.specs.List.{list_any}
 use Rattle.pp_admission.specs.declared.waiting.Waiting.{Waiting}
 
--- Who waits, in the order in which they came; the ticket of the next that comes; how many may wait at once; and how often
--- one that waits may be overtaken.
+-- Who waits, in the order in which they came; the ticket of the next that comes; how many may wait at once; and how
+-- often one that waits may be overtaken.
 pub record Parts : Type 0 where
   pub waiting : List Waiting
   pub next : ℕ
@@ -31,7 +33,7 @@ is_waiting q ticket = is_some (waiting_at q ticket)
 abbrev pub peak_at : Parts → (ticket : ℕ) → Option ℕ
 peak_at q ticket = option_map (λ w. w.peak) (waiting_at q ticket)
 
--- Whether it is asleep. Nobody is not.
+-- Whether this one is asleep, if there is one.
 abbrev pub is_asleep : Option Waiting → Bool
 is_asleep None = false
 is_asleep (Some w) = w.is_asleep
@@ -61,6 +63,10 @@ next_among bypass room (w ∷ ws) =
 -- The ticket of the one that may start while so many pages are free.
 abbrev pub next_in : Parts → (room : ℕ) → Option ℕ
 next_in q room = next_among q.bypass room q.waiting
+
+-- One waits with this ticket, and its peak fits the room.
+abbrev pub Fits : Parts → (ticket room : ℕ) → Type 0
+Fits q ticket room = IsSomeAnd (peak_at q ticket) (λ peak. peak ≤ room)
 
 -- Each of these fits the room.
 abbrev pub AllFit : (room : ℕ) → List Waiting → Type 0

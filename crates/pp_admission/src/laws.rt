@@ -26,8 +26,8 @@ pub fn first_come_first_served()
         → is_waiting q other ≡ true → ticket ≤ other }
 {}
 
-/// Whatever calls do, one that waits is overtaken at most `bypass` times while it waits: so many that came after it start
-/// before it, and no more.
+/// Whatever calls do, one that waits is overtaken at most `bypass` times: so many that came after it start before it,
+/// and no more.
 pub fn nobody_is_overtaken_too_often()
     ensures { (q : Parts) (ticket : ℕ) (calls : List Call) → IsSound q → ArePossible q calls
         → is_waiting (after_all q calls) ticket ≡ true → overtakings ticket calls ≤ q.bypass }

@@ -2,8 +2,9 @@
 
 ghost use Rattle.std.specs.Prelude.{◌≡◌, ◌≢◌, ℕ, ◌↔◌, ◌⊎◌, ◌==◌, true, false, IsTrue, length};
 ghost use Rattle.std.specs.Prelude.{None, Some, IfSome, IsErr, IfOk, OnErr};
-ghost use Rattle.pp_admission.specs.Queues.{next_in, waiting_at, is_waiting, peak_at, is_asleep_at, IsFull};
-ghost use Rattle.pp_admission.specs.Queues.{NextIsAwake, IsSound, empty_queue, entered, left, overtaken, started};
+ghost use Rattle.pp_admission.specs.Queues.{next_in, waiting_at, is_waiting, peak_at, is_asleep_at, IsFull, Fits};
+ghost use Rattle.pp_admission.specs.Queues.{NextIsAwake, IsSound, empty_queue, newcomer, entered, left};
+ghost use Rattle.pp_admission.specs.Queues.{overtaken, started};
 ghost use Rattle.pp_admission.specs.Queues.{set_asleep, put_to_sleep, woken, all_woken, some_asleep};
 ghost use Rattle.pp_admission.specs.Places.{AreOvertakenBelow};
 
@@ -19,8 +20,8 @@ use std::marker::Model;
 /// [`AdmissionQueue::wake_next`] or [`AdmissionQueue::wake_all`] has told that it is to be woken. So that no wake-up is
 /// lost, call `wake_next` after each start and leave, and whenever more pages are free.
 ///
-/// Contracts see it as the record `Parts`. `next_in` says who may start. All memory is got by [`AdmissionQueue::new`], 24
-/// bytes for each one that may wait; no other call takes any. A call takes a step for each one that waits.
+/// Contracts see it as the record `Parts`. `next_in` says who may start. All memory is got by [`AdmissionQueue::new`],
+/// 24 bytes for each one that may wait; no other call takes any. A call takes a step for each one that waits.
 #[derive(Drop)]
 pub struct AdmissionQueue {
     waiting: Vec<Waiting>,
@@ -42,8 +43,8 @@ impl Model for AdmissionQueue {
 }
 
 impl AdmissionQueue {
-    /// A queue in which nobody waits. At most `most` may wait at once, and each that waits is overtaken at most `bypass`
-    /// times.
+    /// A queue in which nobody waits. At most `most` may wait at once, and each that waits is overtaken at most
+    /// `bypass` times.
     ///
     /// # Errors
     ///
@@ -112,11 +113,11 @@ impl AdmissionQueue {
         }
     }
 
-    /// Who may start while so many pages are free: the first whose peak fits them, unless one before it was overtaken as
-    /// often as may be.
+    /// Who may start while so many pages are free: the first whose peak fits them, unless one before it was overtaken
+    /// as often as may be.
     pub fn next(&self, room: u64) -> Option<Ticket>
         ensures next { result ≡ next_in self.now room }
-        ensures waits { IfSome result (λ ticket. is_waiting self.now ticket ≡ true) }
+        ensures fits { IfSome result (λ ticket. Fits self.now ticket room) }
         ensures sound { IsSound self.now }
     {
         let ticket = next_of(&self.waiting, self.bypass, room)?;
@@ -133,6 +134,9 @@ impl AdmissionQueue {
         ensures unchanged { OnErr result (self.new ≡ self.old) }
         ensures ticket { IfOk result (λ ticket. ticket ≡ self.old.next) }
         ensures entered { IfOk result (λ _. self.new ≡ entered self.old peak) }
+        ensures waits { IfOk result (λ ticket. waiting_at self.new ticket ≡ Some (newcomer ticket peak)) }
+        ensures others { IfOk result (λ ticket. (t : ℕ) → t ≢ ticket
+            → waiting_at self.new t ≡ waiting_at self.old t) }
         // It is behind all others: it may start only where nobody could. It and whoever may start are awake.
         ensures next { IfOk result (λ ticket. (room t : ℕ) → next_in self.new room ≡ Some t
             → (next_in self.old room ≡ Some t) ⊎ ((next_in self.old room ≡ None) × (t ≡ ticket))) }
@@ -161,8 +165,12 @@ impl AdmissionQueue {
     pub fn start(&mut self, ticket: Ticket, room: u64) -> bool
         ensures may { IsTrue result ↔ (next_in self.old room ≡ Some ticket) }
         ensures started { result ≡ true → self.new ≡ started self.old ticket }
+        ensures fits { result ≡ true → Fits self.old ticket room }
         ensures gone { result ≡ true → waiting_at self.new ticket ≡ None }
         ensures refused { result ≡ false → self.new ≡ put_to_sleep self.old ticket }
+        ensures asleep { result ≡ false → is_asleep_at self.new ticket ≡ is_waiting self.old ticket }
+        ensures others { result ≡ false → (t : ℕ) → t ≢ ticket
+            → waiting_at self.new t ≡ waiting_at self.old t }
         ensures next { result ≡ false → (r : ℕ) → next_in self.new r ≡ next_in self.old r }
         ensures awake { result ≡ false → NextIsAwake self.old room → NextIsAwake self.new room }
         ensures sound { IsSound self.new }
@@ -193,6 +201,8 @@ impl AdmissionQueue {
         ensures told { (t : ℕ) → (result ≡ Some t)
             ↔ ((next_in self.old room ≡ Some t) × (is_asleep_at self.old t ≡ true)) }
         ensures woken { IfSome result (λ ticket. self.new ≡ woken self.old ticket) }
+        ensures others { IfSome result (λ ticket. (t : ℕ) → t ≢ ticket
+            → waiting_at self.new t ≡ waiting_at self.old t) }
         ensures unchanged { result ≡ None → self.new ≡ self.old }
         ensures next { (r : ℕ) → next_in self.new r ≡ next_in self.old r }
         ensures awake { NextIsAwake self.new room }

@@ -6,7 +6,7 @@ use std::marker::Model;
 
 /// The ticket of one that waits: how many came to the queue before it.
 ///
-/// It is of the queue that gave it. Another queue takes it for the ticket that it gave by the same number, if there is one.
+/// It is of the queue that gave it. Another queue takes it for its own ticket of the same number.
 #[derive(Clone, Copy, Debug, PartialEq, Eq)]
 pub struct Ticket(u64);
 

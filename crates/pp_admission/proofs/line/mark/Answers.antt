@@ -8,5 +8,6 @@ loop-one-preserved c = one_more (marked c.args.ticket c.args.is_asleep) c.args.l
     c.loop-one.one-index c.marked.result blank c.loop-one-test.true c.loop-one.invariant c.marked.ensures
 
 pub returns : goal.returns
-returns c = all_changed (marked c.args.ticket c.args.is_asleep) c.args.line.now c.loop-one.one-items c.loop-one.one-index
+returns c =
+    all_changed (marked c.args.ticket c.args.is_asleep) c.args.line.now c.loop-one.one-items c.loop-one.one-index
     (omega arith) c.loop-one.invariant

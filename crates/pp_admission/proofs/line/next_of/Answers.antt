@@ -15,4 +15,5 @@ loop-one-preserved c = passes_at c.args.bypass c.args.room c.args.line.now c.loo
     c.loop-one.invariant (omega arith) (omega arith)
 
 pub returns : goal.returns
-returns c = nobody_next c.args.bypass c.args.room c.args.line.now c.loop-one.one-index (omega arith) c.loop-one.invariant
+returns c =
+    nobody_next c.args.bypass c.args.room c.args.line.now c.loop-one.one-index (omega arith) c.loop-one.invariant

@@ -13,7 +13,8 @@ loop-one-preserved c =
     let same : get_or c.loop-one.one-items i blank ≡ get_or c.args.line.now i blank =
     as_it_was awakened c.args.line.now c.loop-one.one-items i blank (omega arith) c.loop-one.invariant.items in
     record {
-      items = one_more awakened c.args.line.now c.loop-one.one-items i _ blank c.loop-one-test.true c.loop-one.invariant.items refl;
+      items = one_more awakened c.args.line.now c.loop-one.one-items i _ blank c.loop-one-test.true
+          c.loop-one.invariant.items refl;
       some = ap (λ b. b || (get_or c.loop-one.one-items i blank).is_asleep) c.loop-one.invariant.some
           ∙ ap (λ (w : Waiting). any_asleep (take i c.args.line.now) || w.is_asleep) same
           ∙ sym (list_any_more (λ (w : Waiting). w.is_asleep) c.args.line.now i blank (omega arith));

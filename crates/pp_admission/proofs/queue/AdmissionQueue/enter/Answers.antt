@@ -1,7 +1,8 @@
-use Rattle.std.proofs.Common.{◌≡◌, ◌≢◌, true, length, subst, sym, ap, ◌∙◌, inl, arith}
-use Rattle.pp_admission.specs.Queues.{Parts, IsSound, NextIsAwake, next_in}
+use Rattle.std.proofs.Common.{◌≡◌, ◌≢◌, ℕ, true, Some, length, subst, sym, ap, ◌∙◌, inl, arith}
+use Rattle.pp_admission.specs.Queues.{Parts, IsSound, NextIsAwake, next_in, waiting_at, newcomer}
 use Rattle.pp_admission.specs.Kept.{parts_of}
-use Rattle.pp_admission.proofs.Calls.{sound_entered, entered_by, entered_next_by, entered_stays, entered_awake}
+use Rattle.pp_admission.proofs.Calls.{sound_entered, with_one_more, entered_by, entered_next_by, entered_stays}
+use Rattle.pp_admission.proofs.Calls.{entered_waits, entered_others, entered_awake}
 use Rattle.pp_admission.proofs.queue.AdmissionQueue.enter.Goals as goal
 
 pub invariant_of-self : goal.invariant_of-self
@@ -23,6 +24,23 @@ returns-clause-next c =
     c.self.view_is c.push_reserved.ensures.items in
     entered_next_by c.args.self.now _ c.args.peak c.new.result exact
     (c.new.ensures ∙ ap (λ (q : Parts). q.next) c.self.view_is)
+
+pub returns-clause-waits : goal.returns-clause-waits
+returns-clause-waits c =
+    let exact = entered_by (parts_of c.self.inside) c.args.self.now c.args.peak c.push_reserved.new.self.items
+    c.self.view_is c.push_reserved.ensures.items in
+    let given : c.new.result ≡ c.args.self.now.next = c.new.ensures ∙ ap (λ (q : Parts). q.next) c.self.view_is in
+    subst (λ (n : ℕ). waiting_at (with_one_more (parts_of c.self.inside) c.push_reserved.new.self.items) n
+    ≡ Some (newcomer n c.args.peak)) (sym given)
+    (ap (λ q. waiting_at q c.args.self.now.next) exact
+    ∙ entered_waits c.args.self.now c.args.peak c.is_full.ensures.sound)
+
+pub returns-clause-others : goal.returns-clause-others
+returns-clause-others c = λ t d.
+    let exact = entered_by (parts_of c.self.inside) c.args.self.now c.args.peak c.push_reserved.new.self.items
+    c.self.view_is c.push_reserved.ensures.items in
+    let given : c.new.result ≡ c.args.self.now.next = c.new.ensures ∙ ap (λ (q : Parts). q.next) c.self.view_is in
+    ap (λ q. waiting_at q t) exact ∙ entered_others c.args.self.now c.args.peak t (λ e. d (e ∙ sym given))
 
 pub returns-clause-stays : goal.returns-clause-stays
 returns-clause-stays c = λ room t e.

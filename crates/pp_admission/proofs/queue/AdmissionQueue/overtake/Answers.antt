@@ -1,4 +1,4 @@
-use Rattle.std.proofs.Common.{◌≡◌, List, length, map, subst, sym, ap, ◌∙◌, arith}
+use Rattle.std.proofs.Common.{◌≡◌, length, map, subst, sym, ap, ◌∙◌, arith}
 use Rattle.std.proofs.lemmas.List.{with_items_is}
 use Rattle.pp_admission.specs.declared.waiting.Waiting.{Waiting}
 use Rattle.pp_admission.specs.Queues.{Parts, overtaken_by}
@@ -8,7 +8,8 @@ use Rattle.pp_admission.proofs.Calls.{sound_as, sound_overtaken, mapped_by, may_
 use Rattle.pp_admission.proofs.queue.AdmissionQueue.overtake.Goals as goal
 
 pub overtake-requires : goal.overtake-requires
-overtake-requires c = may_by (parts_of c.self.inside) c.args.self.now c.number.result c.args.ticket c.deref_mut.result.now
+overtake-requires c =
+    may_by (parts_of c.self.inside) c.args.self.now c.number.result c.args.ticket c.deref_mut.result.now
     c.self.view_is c.number.ensures c.deref_mut.ensures.value c.self.invariant.bypass_fits c.requires
 
 pub invariant_of-self : goal.invariant_of-self

@@ -1,4 +1,4 @@
-use Rattle.std.proofs.Common.{◌≡◌, List, length, map, ap, ◌∙◌, arith}
+use Rattle.std.proofs.Common.{◌≡◌, length, map, ap, ◌∙◌, arith}
 use Rattle.std.proofs.lemmas.List.{with_items_is}
 use Rattle.pp_admission.specs.declared.waiting.Waiting.{Waiting}
 use Rattle.pp_admission.specs.Queues.{marked}
@@ -11,7 +11,8 @@ invariant_of-self c =
     let long : length c.mark.new.line ≡ c.self.inside.waiting.len = omega
     (arith, c.mark.auto.line, ap (length {A = Waiting}) c.deref_mut.ensures.value, c.self.inside.waiting.ok.0) in
     record {
-      sound = sound_as (parts_of c.self.inside) (map (marked c.args.ticket c.args.is_asleep) c.self.inside.waiting.items) _
+      sound = sound_as (parts_of c.self.inside)
+          (map (marked c.args.ticket c.args.is_asleep) c.self.inside.waiting.items) _
           (sound_marked (parts_of c.self.inside) c.args.ticket c.args.is_asleep c.self.invariant.sound)
           (with_items_is c.self.inside.waiting c.mark.new.line long
           ∙ mapped_by (λ n. marked n c.args.is_asleep) c.number.result c.args.ticket c.deref_mut.result.now

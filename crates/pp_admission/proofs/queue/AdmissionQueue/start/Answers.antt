@@ -1,7 +1,8 @@
-use Rattle.std.proofs.Common.{◌≡◌, true, false, subst, sym, ap, ◌∙◌, rules}
-use Rattle.pp_admission.specs.Queues.{Parts, next_in, waiting_at, overtaken, NextIsAwake}
+use Rattle.std.proofs.Common.{◌≡◌, true, subst, sym, ap, ◌∙◌, rules}
+use Rattle.pp_admission.specs.Queues.{Parts, next_in, waiting_at, is_asleep_at, overtaken, NextIsAwake}
 use Rattle.pp_admission.specs.Places.{AreOvertakenBelow}
-use Rattle.pp_admission.proofs.Calls.{marked_next, slept_awake, may_overtake, started_gone}
+use Rattle.pp_admission.proofs.Calls.{marked_next, marked_rest, slept_same, slept_awake, may_overtake, started_gone}
+use Rattle.pp_admission.proofs.LawLemmas.{fits_of}
 use Rattle.pp_admission.proofs.queue.AdmissionQueue.start.Goals as goal
 
 pub returns-then-not-may_start-clause-next : goal.returns-then-not-may_start-clause-next
@@ -13,6 +14,19 @@ returns-then-not-may_start-clause-awake c = λ _ h.
     subst (λ (q : Parts). NextIsAwake q c.args.room) (sym c.set_asleep.ensures.exact)
     (slept_awake c.args.self.now c.args.ticket c.args.room
     (λ e. let may : c.may_start.result ≡ true = c.may_start.ensures.may.1 e in absurd cc) h)
+
+pub returns-then-not-may_start-clause-asleep : goal.returns-then-not-may_start-clause-asleep
+returns-then-not-may_start-clause-asleep c = λ _.
+    ap (λ q. is_asleep_at q c.args.ticket) c.set_asleep.ensures.exact ∙ slept_same c.args.self.now c.args.ticket
+
+pub returns-then-not-may_start-clause-others : goal.returns-then-not-may_start-clause-others
+returns-then-not-may_start-clause-others c = λ _ t d.
+    ap (λ q. waiting_at q t) c.set_asleep.ensures.exact ∙ marked_rest c.args.self.now c.args.ticket true t d
+
+pub returns-clause-fits : goal.returns-clause-fits
+returns-clause-fits c = λ _.
+    let may : c.may_start.result ≡ true = search rules in
+    fits_of c.args.self.now c.args.room c.args.ticket c.may_start.ensures.sound (c.may_start.ensures.may.0 may)
 
 pub overtake-requires : goal.overtake-requires
 overtake-requires c =

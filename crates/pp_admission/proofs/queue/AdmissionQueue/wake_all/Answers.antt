@@ -1,7 +1,7 @@
-use Rattle.std.proofs.Common.{◌≡◌, List, length, map, ap, ◌∙◌, arith}
+use Rattle.std.proofs.Common.{◌≡◌, length, map, ap, ◌∙◌, arith}
 use Rattle.std.proofs.lemmas.List.{with_items_is}
 use Rattle.pp_admission.specs.declared.waiting.Waiting.{Waiting}
-use Rattle.pp_admission.specs.Queues.{awakened, all_woken, with_waiting, next_in, is_asleep_at}
+use Rattle.pp_admission.specs.Queues.{awakened, with_waiting, next_in, is_asleep_at}
 use Rattle.pp_admission.specs.Kept.{parts_of}
 use Rattle.pp_admission.proofs.Calls.{sound_as, sound_all_woken, all_woken_next, all_woken_awake}
 use Rattle.pp_admission.proofs.queue.AdmissionQueue.wake_all.Goals as goal

@@ -1,4 +1,4 @@
-use Rattle.std.proofs.Common.{◌≡◌, ◌∙◌, subst}
+use Rattle.std.proofs.Common.{◌≡◌, length, subst, rules}
 use Rattle.pp_run.specs.Rested.{opening_of, IsEnd}
 use Rattle.pp_run.proofs.Ran.{opened_as, ran}
 use Rattle.pp_run.proofs.RunsOn.{over_of, kept_verdict}
@@ -13,8 +13,9 @@ returns-in-Ok-renewed-clause-journal g c =
     let end : IsEnd (opening_of p) plans b dirty
     = subst (λ o. IsEnd o plans b dirty)
     (opened_as p.settings p.began c.in-Ok.ready.book c.in-Ok.ensures.settings c.in-Ok.ensures.outset) c.in-Ok-ran.ensures.end in
-    ran (opening_of p) plans b dirty c.in-Ok-renewed.kept.0 end c.known.ensures.kept c.in-Ok-renewed.ensures.events
-    (c.in-Ok-renewed.ensures.plans ∙ c.in-Ok-ran.ensures.count) c.in-Ok-renewed.ensures.dirty
+    let count : c.in-Ok-renewed.kept.0.plans ≡ length plans = search rules in
+    ran (opening_of p) plans b dirty c.in-Ok-renewed.kept.0 end c.known.ensures.kept c.in-Ok-renewed.ensures.events count
+    c.in-Ok-renewed.ensures.dirty
 
 pub returns-in-Ok-renewed-clause-over : goal.returns-in-Ok-renewed-clause-over
 returns-in-Ok-renewed-clause-over g c =
