@@ -9,7 +9,7 @@ use Rattle.pp_wants.specs.declared.sleepers.Sleeper.{Sleeper}
 abbrev pub untold : Want → Sleeper
 untold want = record { want = want; is_told = false }
 
--- One that sleeps with this want, and was told.
+-- One that does, and was told.
 abbrev pub told : Want → Sleeper
 told want = record { want = want; is_told = true }
 

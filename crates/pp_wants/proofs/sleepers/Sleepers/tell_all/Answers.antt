@@ -1,6 +1,8 @@
-use Rattle.std.proofs.Common.{◌+◌, ◌∙◌, Some, set, sym}
+use Rattle.std.proofs.Common.{◌≡◌, ◌+◌, ◌≤◌, ◌∙◌, Some, List, length, set, ap, sym, arith}
+use Rattle.std.specs.Prelude.{Option}
+use Rattle.pp_wants.specs.declared.sleepers.Sleeper.{Sleeper}
 use Rattle.pp_wants.specs.Sleepers.{told}
-use Rattle.pp_wants.proofs.Settling.{settled_as, settled_told, settled_more}
+use Rattle.pp_wants.proofs.Settling.{settled_as, settled_told, settled_more, settled_all}
 use Rattle.pp_wants.proofs.sleepers.Sleepers.tell_all.Goals as goal
 use Rattle.pp_wants.proofs.sleepers.Sleepers.tell_all.Goals.{in-Some, in_default}
 
@@ -22,3 +24,11 @@ loop-worker-preserved c =
           (settled_more c.args.vault.now c.args.self.now c.loop-worker.self c.loop-worker.now_told c.loop-worker.worker
           c.loop-worker.invariant w.in_default.ensures.none)
     ]
+
+pub returns-clause-settled : goal.returns-clause-settled
+returns-clause-settled c =
+    let same : c.self.inside.places.items ≡ c.args.self.now = cc in
+    let all : length c.args.self.now ≤ c.loop-worker.worker =
+    omega (arith, ap (λ (xs : List (Option Sleeper)). length xs) same) in
+    settled_all c.args.vault.now c.args.self.now c.loop-worker.self c.loop-worker.now_told c.loop-worker.worker
+    c.loop-worker.invariant all
