@@ -15,13 +15,13 @@
 ** that breaks it. Different caches can be used by different threads at once.
 **
 ** Memory: a cache has a name for each key whose page is in a frame or is remembered by ARC. These are twice `size` at most, and one
-** more for each page beyond the size. It takes 60 bytes for each name that there is room for, 4 to 8 for each frame, and some 700
+** more for each page beyond the size. It takes 72 bytes for each name that there is room for, 4 to 8 for each frame, and some 700
 ** more. Room for names is made where all are used and one more is wanted: for 16 at first, and then for twice as many. So memory goes
 ** with the greatest number of pages that were in frames or remembered at one time, whatever their keys are. It is given back by
 ** pinpool_cache_free alone. pinpool_cache_counts tells it, and pinpool_cache_memory says where it comes from. Only new, fetch and
 ** reserve take memory, and where there is room for one more name and one more frame (pinpool_cache_reserve) fetch takes none. As
 ** room for names grows, the tables are copied: that takes a step for each name, and for that time half as much more memory. Where
-** memory is refused in the midst of that, 44 bytes a name more may be kept, which the next growth doesn't ask for again.
+** memory is refused in the midst of that, 56 bytes a name more may be kept, which the next growth doesn't ask for again.
 **
 ** Steps: each call says how many it takes. A key's name is found by a hash with linear probing, over two places a name: a step or two,
 ** which is told as a fixed number below. The hash is the same in all programs, so who chooses the keys can choose them such that it

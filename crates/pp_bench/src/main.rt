@@ -4,9 +4,13 @@
 //! OPS` the same of so many misses with no page held, with 1,000, 4,000 and all of 4,096. `pp_bench marks OPS
 //! [FRAMES]` prints how many pages were brought in, each in place of another. `pp_bench moves hit|skew|loop|mixed OPS`
 //! plays fixes, latches, unlatches and unfixes to the core, and `pp_bench pool` the same to a vault over pages in
-//! memory; both print how many pages were read. `pp_bench large` is `pp_bench pool` with 65,536 frames and 1,048,576
-//! pages of 512 bytes, and `pp_bench open` opens such a vault. `pp_bench lives` plays the trace twice, in two lives of
-//! one vault, and prints how many pages each of them read.
+//! memory; both print how many pages were read. `pp_bench lives` plays the trace twice, in two lives of one vault, and
+//! prints how many pages each of them read.
+//!
+//! `pp_bench large hit|skew|loop|mixed OPS [FRAMES PAGES BYTES]` is `pp_bench pool` with a vault of this size, 65,536
+//! frames and 1,048,576 pages of 512 bytes where none is told, and over a device that keeps no page: it makes each when
+//! it is read. The pages of the trace lie evenly among all page numbers. `pp_bench open [FRAMES PAGES BYTES]` opens such
+//! a vault, and `pp_bench memory [FRAMES PAGES BYTES]` prints how many bytes a page number takes there.
 //!
 //! `pp_bench journal LINES` writes a journal of at least so many lines, and `pp_bench audit LINES` audits it from
 //! standard input; it prints how many lines there were. `pp_bench segments LINES` makes segments of the journal of an
@@ -22,6 +26,8 @@ mod directory;
 mod journal;
 mod marks;
 mod moves;
+mod numbered;
+mod opening;
 mod pinned;
 mod pool;
 mod segments;
@@ -57,7 +63,8 @@ fn play(rt: &HostRuntime) -> Result<(), Trouble> {
         "moves" => moves::play(rt, &words[2..]),
         "pool" => pool::play(rt, &words[2..]),
         "large" => pool::play_large(rt, &words[2..]),
-        "open" => pool::open_large(rt),
+        "open" => opening::play(rt, &words[2..]),
+        "memory" => opening::weigh(rt, &words[2..]),
         "lives" => pool::play_lives(rt, &words[2..]),
         "journal" => journal::write(rt, &words[2..]),
         "audit" => journal::audit(rt, &words[2..]),

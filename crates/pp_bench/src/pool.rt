@@ -4,11 +4,12 @@
 ghost use Rattle.std.specs.Prelude.{◌≡◌, ◌≤◌, true, IfOk};
 ghost use Rattle.pp_vault.specs.Stages.{is_idle_hand, AllIdle};
 
+use crate::numbered::{self, Numbered};
 use crate::trouble::Trouble;
 use crate::watch::{self, Counted, Watch};
 use crate::words;
-use pp_bench_traces::{FRAMES, Kind, LARGE_FRAMES, Trace};
-use pp_device::{Device, SoloDevice, image};
+use pp_bench_traces::{FRAMES, Kind, PAGES, Trace};
+use pp_device::{Device, SoloDevice};
 use pp_settings::Settings;
 use pp_vault::{
     Accepted, Answered, Chair, Errand, Fixed, Guard, Hand, Hands, PinGuard, ReadGuard, Session,
@@ -16,51 +17,45 @@ use pp_vault::{
 };
 use std::alloc::Global;
 
-/// How many bytes each operation looks at: the page's number, which stands at the front of its body.
-const LOOKED_AT: usize = 8;
-
-/// A vault, and the device of its pages.
+/// A vault, the device of its pages, and how many page numbers lie between two that follow each other in a trace.
 #[derive(Drop)]
-struct Pool {
+struct Pool<D> {
     vault: Vault,
-    device: SoloDevice,
+    device: D,
+    apart: u32,
 }
 
 /// Plays the trace of the kind that the first word names, as many operations long as the second says, to a pool of
 /// 4,096 frames. Prints how many pages had to be read, and on standard error how many nanoseconds an operation took.
 pub fn play(rt: &HostRuntime, words: &[String]) -> Result<(), Trouble> {
     let (kind, ops) = words::kind_and_ops(words)?;
-    let settings = pp_bench_traces::settings(rt.alloc(), 1)?;
-    let (misses, nanos) = run(rt, &settings, Trace::new(kind, FRAMES), ops)?;
+    let alloc = rt.alloc();
+    let settings = pp_bench_traces::settings(alloc, 1)?;
+    let device = device_of(alloc, &settings)?;
+    let (pool, hands) = pool_of(alloc, &settings, device)?;
+    let (misses, nanos) = run(rt, pool, hands, &settings, Trace::new(kind, FRAMES), ops)?;
     watch::tell(rt, Counted::One(misses), nanos, ops, "an operation")
 }
 
-/// The same with a large pool, of 65,536 frames and 1,048,576 pages of 512 bytes.
+/// The same with a vault of the size that the other words say, over a device that keeps no page. The pages of the trace lie evenly
+/// among all page numbers.
 pub fn play_large(rt: &HostRuntime, words: &[String]) -> Result<(), Trouble> {
-    let (kind, ops) = words::kind_and_ops(words)?;
-    let settings = pp_bench_traces::large_settings(rt.alloc())?;
-    let (misses, nanos) = run(rt, &settings, Trace::new(kind, LARGE_FRAMES), ops)?;
-    watch::tell(rt, Counted::One(misses), nanos, ops, "an operation")
-}
-
-/// Opens the vault of a large pool and gives it up. Prints how many frames it has, and on standard error how many nanoseconds
-/// the opening took.
-pub fn open_large(rt: &HostRuntime) -> Result<(), Trouble> {
-    let settings = pp_bench_traces::large_settings(rt.alloc())?;
-    let watch = Watch::start(rt);
-    let opened = Vault::new(rt.alloc(), &settings);
-    let nanos = watch.nanos(rt);
-    let Ok((vault, hands)) = opened else {
-        return Err(Trouble::Memory);
-    };
-    vault.scrap(hands);
-    watch::tell(
+    let played = words.len().min(2);
+    let (kind, ops) = words::kind_and_ops(&words[..played])?;
+    let size = words::size(&words[played..])?;
+    let alloc = rt.alloc();
+    let settings = pp_bench_traces::settings_of(alloc, size)?;
+    let (pool, hands) = pool_of(alloc, &settings, Numbered::new())?;
+    let pool = pool.spread((size.pages / PAGES).max(1));
+    let (misses, nanos) = run(
         rt,
-        Counted::One(u64::from(settings.frames())),
-        nanos,
-        1,
-        "the opening",
-    )
+        pool,
+        hands,
+        &settings,
+        Trace::new(kind, size.frames),
+        ops,
+    )?;
+    watch::tell(rt, Counted::One(misses), nanos, ops, "an operation")
 }
 
 /// Plays the trace in one life, and then again in the next. Prints how many pages had to be read in each, and on standard
@@ -80,15 +75,24 @@ struct Lives {
 }
 
 /// How many pages are read in so many operations of the trace, and how many nanoseconds the operations took.
-fn run(
+fn run<D: Device + Drop>(
     rt: &HostRuntime,
+    pool: Pool<D>,
+    hands: Hands,
     settings: &Settings,
     trace: Trace,
     ops: u64,
-) -> Result<(u64, Option<u128>), Trouble> {
-    let alloc = rt.alloc();
-    let accepted = pp_bench_traces::accepted(alloc, settings, ops)?;
-    let (mut pool, mut hands) = pool_of(alloc, settings)?;
+) -> Result<(u64, Option<u128>), Trouble>
+    requires { AllIdle settings.now.workers hands.workers }
+{
+    let (mut pool, mut hands) = (pool, hands);
+    let accepted = match pp_bench_traces::accepted(rt.alloc(), settings, ops) {
+        Ok(accepted) => accepted,
+        Err(error) => {
+            let _unplayed = pool.end::<()>(hands, Err(Stopped::with_nothing()));
+            return Err(Trouble::from(error));
+        }
+    };
     let watch = Watch::start(rt);
     let played = match hands.part(0) {
         Some(hand) => pool.play(chair_of(hand), accepted, trace, ops),
@@ -105,7 +109,8 @@ fn run_lives(rt: &HostRuntime, kind: Kind, ops: u64) -> Result<Lives, Trouble> {
     let settings = pp_bench_traces::settings(alloc, 1)?;
     let first = pp_bench_traces::accepted(alloc, &settings, ops)?;
     let second = pp_bench_traces::accepted(alloc, &settings, ops)?;
-    let (mut pool, mut hands) = pool_of(alloc, &settings)?;
+    let device = device_of(alloc, &settings)?;
+    let (mut pool, mut hands) = pool_of(alloc, &settings, device)?;
     let played = match hands.part(0) {
         Some(hand) => pool.play_twice(rt, chair_of(hand), (first, second), kind, ops),
         None => Err(Stopped::with_nothing()),
@@ -113,13 +118,23 @@ fn run_lives(rt: &HostRuntime, kind: Kind, ops: u64) -> Result<Lives, Trouble> {
     pool.end(hands, played)
 }
 
-/// A pool of these settings over a device of all pages, and its hands.
-fn pool_of(alloc: Global, settings: &Settings) -> Result<(Pool, Hands), Trouble>
+/// A pool of these settings over this device, and its hands.
+fn pool_of<D: Drop>(
+    alloc: Global,
+    settings: &Settings,
+    device: D,
+) -> Result<(Pool<D>, Hands), Trouble>
     ensures { IfOk result (λ made. AllIdle settings.now.workers made.1.workers) }
 {
-    let device = numbered(alloc, settings.pages(), settings.page_bytes() as usize)?;
     match Vault::new(alloc, settings) {
-        Ok((vault, hands)) => Ok((Pool { vault, device }, hands)),
+        Ok((vault, hands)) => Ok((
+            Pool {
+                vault,
+                device,
+                apart: 1,
+            },
+            hands,
+        )),
         Err(_) => Err(Trouble::Memory),
     }
 }
@@ -134,6 +149,11 @@ fn chair_of(hand: Hand) -> Chair
     }
 }
 
+/// A device of all pages of these settings, in memory.
+fn device_of(alloc: Global, settings: &Settings) -> Result<SoloDevice, Trouble> {
+    numbered(alloc, settings.pages(), settings.page_bytes() as usize)
+}
+
 /// A device of so many pages, each of so many bytes, with the number of each page at the front of its body.
 fn numbered(alloc: Global, pages: u32, page_bytes: usize) -> Result<SoloDevice, Trouble>
     requires { 64 ≤ page_bytes }
@@ -141,27 +161,33 @@ fn numbered(alloc: Global, pages: u32, page_bytes: usize) -> Result<SoloDevice, 
     let mut device = SoloDevice::new(alloc, pages, page_bytes)?;
     let mut bytes = vec![in alloc; 0; page_bytes]?;
     for page in 0..pages {
-        image::make(&mut bytes, page, 0);
-        bytes[image::HEAD..image::HEAD + LOOKED_AT].copy_from_slice(&u64::from(page).to_le_bytes());
+        numbered::make(&mut bytes, page);
         device.write(page, &bytes).map_err(|_| Trouble::Refused)?;
     }
     Ok(device)
 }
 
-/// Whether the number stands at the front of the body.
-fn is_at_front(body: &[u8], number: u64) -> bool {
-    let &[a, b, c, d, e, f, g, h, ..] = body else {
-        return false;
-    };
-    u64::from_le_bytes([a, b, c, d, e, f, g, h]) == number
-}
+impl<D: Device + Drop> Pool<D> {
+    /// The same, for which the pages of a trace lie so far apart.
+    fn spread(self, apart: u32) -> Pool<D> {
+        let Pool {
+            vault,
+            device,
+            apart: _,
+        } = self;
+        Pool {
+            vault,
+            device,
+            apart,
+        }
+    }
 
-impl Pool {
     /// Gives the vault up with what the worker has, and tells what was played.
     fn end<T: Drop>(self, hands: Hands, played: Result<(Chair, T), Stopped>) -> Result<T, Trouble> {
         let Pool {
             vault,
             device: _device,
+            apart: _,
         } = self;
         match played {
             Ok((chair, told)) => {
@@ -228,7 +254,7 @@ impl Pool {
         let mut session = session;
         let mut count: u64 = 0;
         for _ in 0..ops {
-            let page = trace.next_page();
+            let page = trace.next_page().wrapping_mul(self.apart);
             let (now, guard, was_cached) = self.fix(session, page)?;
             if !was_cached {
                 count = count.wrapping_add(1);
@@ -304,7 +330,7 @@ impl Pool {
     /// Whether the page has its number at the front of its body.
     fn is_numbered(&self, guard: &ReadGuard) -> bool {
         match self.vault.see(guard) {
-            Some(body) => is_at_front(body, u64::from(guard.page())),
+            Some(body) => numbered::is_at_front(body, u64::from(guard.page())),
             None => false,
         }
     }

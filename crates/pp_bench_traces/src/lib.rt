@@ -3,8 +3,7 @@
 
 pub use error::PlanError;
 pub use plans::{
-    FRAMES, LARGE_FRAMES, LARGE_PAGES, MOST_OPS, accepted, accepted_while_held, large_settings,
-    settings,
+    FRAMES, LARGE, MOST_OPS, Size, accepted, accepted_while_held, settings, settings_of,
 };
 pub use trace::{Kind, PAGES, Trace};
 pub use trouble::Trouble;

@@ -16,11 +16,23 @@ pub const MOST_OPS: u64 = 250_000;
 /// How many frames the pools have.
 pub const FRAMES: u32 = 4096;
 
-/// How many frames the large pools have.
-pub const LARGE_FRAMES: u32 = 65_536;
+/// How large a pool is.
+#[derive(Clone, Copy, Debug, PartialEq, Eq)]
+pub struct Size {
+    /// How many frames it has.
+    pub frames: u32,
+    /// How many page numbers it has, from 0 on.
+    pub pages: u32,
+    /// How many bytes a page has.
+    pub page_bytes: u32,
+}
 
-/// How many page numbers the large pools have.
-pub const LARGE_PAGES: u32 = 1 << 20;
+/// A large pool, beside the others of this crate.
+pub const LARGE: Size = Size {
+    frames: 65_536,
+    pages: 1 << 20,
+    page_bytes: 512,
+};
 
 /// The most turns that a loop has.
 const LONGEST: u64 = 65_535;
@@ -62,24 +74,29 @@ class = 0
     }
 }
 
-/// Those of a large pool, which are of version 2: 65,536 frames, a region of 1,048,576 pages, pages of 512 bytes, no flush, and one
-/// worker. Its lives are bounded.
+/// Settings of version 2 for a pool of this size: one region of all its pages, no flush, and one worker. Its lives are bounded.
 ///
 /// # Errors
 ///
-/// Memory may run out.
-pub fn large_settings(alloc: Global) -> Result<Settings, PlanError> {
+/// [`PlanError::Refused`] where no pool has this size: frames are 1 to 2^24, page numbers 1 to 2^32 - 4, and bytes 512 to 2^20, in
+/// steps as the settings' text has them. Memory may run out.
+pub fn settings_of(alloc: Global, size: Size) -> Result<Settings, PlanError> {
+    let Size {
+        frames,
+        pages,
+        page_bytes,
+    } = size;
     let text = format!(in alloc;
         "version = 2
-frames = {LARGE_FRAMES}
-page_bytes = 512
+frames = {frames}
+page_bytes = {page_bytes}
 workers = 1
 waiting = 0
 flushes = 0
 [[region]]
 name = \"all\"
 first = 0
-count = {LARGE_PAGES}
+count = {pages}
 class = 0
 "
     )?;

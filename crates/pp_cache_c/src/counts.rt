@@ -12,7 +12,7 @@ pub struct Counts {
     pub pinned: u32,
     /// How many frames there are: their numbers are below this one.
     pub frames: u32,
-    /// For how many keys there is room, at 60 bytes for each: those of pages in frames, and of pages that are remembered.
+    /// For how many keys there is room, at 72 bytes for each: those of pages in frames, and of pages that are remembered.
     pub names: u32,
     /// How many keys there are of such pages.
     pub used: u32,

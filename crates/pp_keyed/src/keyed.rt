@@ -24,7 +24,7 @@ const FIRST_ROOM: u32 = 15;
 ///
 /// It keeps no bytes: frames are numbers, from 0 on, and there is one more of them, at most, than pages stood in frames at one
 /// time. Its keys may lie far apart: each page that stands in a frame, or is remembered, needs room for one key, whatever that
-/// is. Room for a key takes 60 bytes, and a frame 8 at most. Where all room is used, room is made for twice as many keys, for 16 at
+/// is. Room for a key takes 72 bytes, and a frame 8 at most. Where all room is used, room is made for twice as many keys, for 16 at
 /// first; meanwhile it takes half as much again. Memory is never given back.
 ///
 /// A call looks the key up, which takes a step for each slot that is looked at: 1.5 on average, and at worst one for each key
@@ -113,7 +113,7 @@ impl KeyedCache {
         self.cache.size()
     }
 
-    /// For how many keys there is room. Their memory is 60 bytes for each; where more room was refused, the 44 for each key of
+    /// For how many keys there is room. Their memory is 72 bytes for each; where more room was refused, the 56 for each key of
     /// that room may have been had already.
     pub fn room(&self) -> u32
         ensures value { result ≡ self.now.room }

@@ -1,0 +1,67 @@
+//! A device that keeps no page.
+
+use pp_device::{Count, Device, Fault, image};
+
+/// How many bytes each operation looks at: the page's number, which stands at the front of its body.
+pub const LOOKED_AT: usize = 8;
+
+/// A device that keeps no page, so that it may have any number of them: it makes the image of a page when that is read. The head has
+/// the page's number and the stamp 0, and so stands the number at the front of the body. It can't be written.
+#[derive(Drop)]
+pub struct Numbered {
+    calls: Count,
+    failures: Count,
+}
+
+impl Numbered {
+    /// A device that wasn't called yet.
+    pub fn new() -> Numbered {
+        Numbered {
+            calls: Count::new(),
+            failures: Count::new(),
+        }
+    }
+}
+
+impl Device for Numbered {
+    ghost calls = { λ d. d.calls.number };
+
+    ghost failures = { λ d. d.failures.number };
+
+    ghost read_gives = { λ d page old answer new e. Unit {0} };
+
+    ghost write_leaves = { λ d page image answer e. Unit {0} };
+
+    fn read(&mut self, page: u32, image: &mut [u8]) -> Result<(), Fault> {
+        self.calls.raise();
+        if image.len() < image::HEAD + LOOKED_AT {
+            self.failures.raise();
+            return Err(Fault::Read);
+        }
+        make(image, page);
+        Ok(())
+    }
+
+    fn write(&mut self, _page: u32, _image: &[u8]) -> Result<(), Fault> {
+        self.calls.raise();
+        self.failures.raise();
+        Err(Fault::Write)
+    }
+}
+
+/// Makes the slice an image of the page, with its number at the front of the body, and what the body had behind it.
+pub fn make(image: &mut [u8], page: u32)
+    requires { image::HEAD + LOOKED_AT ≤ length image.old }
+    ensures { length image.new ≡ length image.old }
+{
+    image::make(image, page, 0);
+    image[image::HEAD..image::HEAD + LOOKED_AT].copy_from_slice(&u64::from(page).to_le_bytes());
+}
+
+/// Whether the number stands at the front of the body.
+pub fn is_at_front(body: &[u8], number: u64) -> bool {
+    let &[a, b, c, d, e, f, g, h, ..] = body else {
+        return false;
+    };
+    u64::from_le_bytes([a, b, c, d, e, f, g, h]) == number
+}
