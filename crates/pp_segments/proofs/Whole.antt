@@ -230,6 +230,16 @@ stops_with c prepared ended texts e begins fails =
     >>= λ p. Ok (counts_of p)) begins
     ∙ ap (λ r. r >>= see_end ended >>= λ p. Ok (counts_of p)) fails
 
+pub left_over : (c : Configuration) (prepared : List Acceptance) (ended : Bool) (texts : List (List ℕ)) (p : Progress)
+    → begin_fault c prepared ≡ None → pass_lines prepared (outset c) (flat_map journal_lines texts) ≡ Ok p
+    → ended ≡ true → is_over p ≡ false → auditing c prepared ended texts ≡ Err (Audit Unfinished)
+left_over c prepared ended texts p begins passes wanted left =
+    ap (λ o. no_fault o >>= λ begun. pass_lines prepared (outset c) (flat_map journal_lines texts) >>= see_end ended
+    >>= λ p. Ok (counts_of p)) begins
+    ∙ ap (λ r. r >>= see_end ended >>= λ p. Ok (counts_of p)) passes
+    ∙ ap (λ b. see_end b p >>= λ p. Ok (counts_of p)) wanted
+    ∙ ap (λ b. (must b (Audit Unfinished) >>= λ passed. Ok p) >>= λ p. Ok (counts_of p)) left
+
 pub begins_with : (c : Configuration) (prepared : List Acceptance) (ended : Bool) (texts : List (List ℕ))
     (e : SegmentError)
     → Refuses (is_segment_memory e) e (no_fault (begin_fault c prepared))

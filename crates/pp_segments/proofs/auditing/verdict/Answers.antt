@@ -3,7 +3,7 @@ use Rattle.pp_segments.specs.Auditing.{pass_lines, is_over}
 use Rattle.pp_segments.specs.Auditors.{PassesAll}
 use Rattle.pp_segments.specs.Audits.{counts}
 use Rattle.pp_segments.proofs.Passing.{text_on, text_stops, text_at, texts_end}
-use Rattle.pp_segments.proofs.Whole.{comes_to, stops_with, gives_err}
+use Rattle.pp_segments.proofs.Whole.{comes_to, stops_with, left_over, gives_err}
 use Rattle.pp_segments.proofs.auditing.verdict.Goals as goal
 use Rattle.pp_segments.proofs.auditing.verdict.Goals.{else-ended-via-then-ended+else-not-is_over}
 use Rattle.pp_segments.proofs.auditing.verdict.Goals.{else-ended-via-else-ended}
@@ -33,6 +33,19 @@ loop-text-preserved c =
     let (r, there, f) = text_on prepared c.pass_segment.new.self q texts i c.in_ok-pass_segment.field-0 _
     (text_at c.args.texts.now i _ c.loop-text-test.true) done in
     (begins, r, there, e ∙ f)
+
+pub returns-then-not-is_over : goal.returns-then-not-is_over
+returns-then-not-is_over c =
+    let (begins, q, at, e) = c.loop-text.invariant in
+    let prepared = c.args.prepared.items in
+    let texts = map (λ text. text.now) c.args.texts.now in
+    let i = c.loop-text.text-index in
+    let past : length c.args.texts.now ≤ i = omega (arith, c.loop-text-test.false) in
+    let passes = e ∙ ap (pass_lines prepared q) (texts_end c.args.texts.now i past) in
+    let wanted : c.args.ended ≡ true = search rules in
+    let not_over : c.is_over.result ≡ false = search rules in
+    let left : is_over q ≡ false = sym (c.is_over.ensures prepared q at) ∙ not_over in
+    left_over c.args.settings.now prepared c.args.ended texts q begins passes wanted left
 
 pub returns : goal.returns
 returns c =
