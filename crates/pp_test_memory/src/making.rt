@@ -66,8 +66,8 @@ impl Tried for Plain<'_> {
             "Directory::growing" => growing(self.alloc),
             "Search::new" => search(self.alloc),
             "Marks::new" => marks(self.alloc),
-            "NumberSet::new" => set(NumberSet::new(self.alloc, 5_000)),
-            "NumberSet::full" => set(NumberSet::full(self.alloc, 100)),
+            "NumberSet::new" => members(NumberSet::new(self.alloc, 5_000)),
+            "NumberSet::full" => members(NumberSet::full(self.alloc, 100)),
             "Bundles::new" => bundles(self.alloc),
             "Cache::new" => cache(self.alloc),
             "Names::new" => names(self.alloc),
@@ -115,7 +115,7 @@ fn marks(alloc: Global) -> Answer {
     }
 }
 
-fn set(made: Result<NumberSet, AllocError>) -> Answer {
+fn members(made: Result<NumberSet, AllocError>) -> Answer {
     match made {
         Ok(made) => Answer::Two(
             "limit",
