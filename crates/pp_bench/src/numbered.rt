@@ -1,5 +1,7 @@
 //! A device that keeps no page.
 
+ghost use Rattle.std.specs.Prelude.{◌≡◌, length};
+
 use pp_device::{Count, Device, Fault, image};
 
 /// How many bytes each operation looks at: the page's number, which stands at the front of its body.
@@ -34,12 +36,11 @@ impl Device for Numbered {
 
     fn read(&mut self, page: u32, image: &mut [u8]) -> Result<(), Fault> {
         self.calls.raise();
-        if image.len() < image::HEAD + LOOKED_AT {
-            self.failures.raise();
-            return Err(Fault::Read);
+        if make(image, page) {
+            return Ok(());
         }
-        make(image, page);
-        Ok(())
+        self.failures.raise();
+        Err(Fault::Read)
     }
 
     fn write(&mut self, _page: u32, _image: &[u8]) -> Result<(), Fault> {
@@ -49,13 +50,18 @@ impl Device for Numbered {
     }
 }
 
-/// Makes the slice an image of the page, with its number at the front of the body, and what the body had behind it.
-pub fn make(image: &mut [u8], page: u32)
-    requires { image::HEAD + LOOKED_AT ≤ length image.old }
+/// Makes the slice an image of the page, with its number at the front of the body, and what the body had behind it. Nothing changes
+/// where there is no room for that; tells whether there was.
+pub fn make(image: &mut [u8], page: u32) -> bool
     ensures { length image.new ≡ length image.old }
 {
+    let front = image::HEAD + LOOKED_AT;
+    if image.len() < front {
+        return false;
+    }
     image::make(image, page, 0);
-    image[image::HEAD..image::HEAD + LOOKED_AT].copy_from_slice(&u64::from(page).to_le_bytes());
+    image[image::HEAD..front].copy_from_slice(&u64::from(page).to_le_bytes());
+    true
 }
 
 /// Whether the number stands at the front of the body.

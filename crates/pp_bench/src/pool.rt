@@ -32,8 +32,7 @@ pub fn play(rt: &HostRuntime, words: &[String]) -> Result<(), Trouble> {
     let alloc = rt.alloc();
     let settings = pp_bench_traces::settings(alloc, 1)?;
     let device = device_of(alloc, &settings)?;
-    let (pool, hands) = pool_of(alloc, &settings, device)?;
-    let (misses, nanos) = run(rt, pool, hands, &settings, Trace::new(kind, FRAMES), ops)?;
+    let (misses, nanos) = run(rt, &settings, device, 1, Trace::new(kind, FRAMES), ops)?;
     watch::tell(rt, Counted::One(misses), nanos, ops, "an operation")
 }
 
@@ -43,18 +42,10 @@ pub fn play_large(rt: &HostRuntime, words: &[String]) -> Result<(), Trouble> {
     let played = words.len().min(2);
     let (kind, ops) = words::kind_and_ops(&words[..played])?;
     let size = words::size(&words[played..])?;
-    let alloc = rt.alloc();
-    let settings = pp_bench_traces::settings_of(alloc, size)?;
-    let (pool, hands) = pool_of(alloc, &settings, Numbered::new())?;
-    let pool = pool.spread((size.pages / PAGES).max(1));
-    let (misses, nanos) = run(
-        rt,
-        pool,
-        hands,
-        &settings,
-        Trace::new(kind, size.frames),
-        ops,
-    )?;
+    let settings = pp_bench_traces::settings_of(rt.alloc(), size)?;
+    let apart = (size.pages / PAGES).max(1);
+    let trace = Trace::new(kind, size.frames);
+    let (misses, nanos) = run(rt, &settings, Numbered::new(), apart, trace, ops)?;
     watch::tell(rt, Counted::One(misses), nanos, ops, "an operation")
 }
 
@@ -77,22 +68,15 @@ struct Lives {
 /// How many pages are read in so many operations of the trace, and how many nanoseconds the operations took.
 fn run<D: Device + Drop>(
     rt: &HostRuntime,
-    pool: Pool<D>,
-    hands: Hands,
     settings: &Settings,
+    device: D,
+    apart: u32,
     trace: Trace,
     ops: u64,
-) -> Result<(u64, Option<u128>), Trouble>
-    requires { AllIdle settings.now.workers hands.workers }
-{
-    let (mut pool, mut hands) = (pool, hands);
-    let accepted = match pp_bench_traces::accepted(rt.alloc(), settings, ops) {
-        Ok(accepted) => accepted,
-        Err(error) => {
-            let _unplayed = pool.end::<()>(hands, Err(Stopped::with_nothing()));
-            return Err(Trouble::from(error));
-        }
-    };
+) -> Result<(u64, Option<u128>), Trouble> {
+    let alloc = rt.alloc();
+    let accepted = pp_bench_traces::accepted(alloc, settings, ops)?;
+    let (mut pool, mut hands) = pool_of(alloc, settings, device, apart)?;
     let watch = Watch::start(rt);
     let played = match hands.part(0) {
         Some(hand) => pool.play(chair_of(hand), accepted, trace, ops),
@@ -110,7 +94,7 @@ fn run_lives(rt: &HostRuntime, kind: Kind, ops: u64) -> Result<Lives, Trouble> {
     let first = pp_bench_traces::accepted(alloc, &settings, ops)?;
     let second = pp_bench_traces::accepted(alloc, &settings, ops)?;
     let device = device_of(alloc, &settings)?;
-    let (mut pool, mut hands) = pool_of(alloc, &settings, device)?;
+    let (mut pool, mut hands) = pool_of(alloc, &settings, device, 1)?;
     let played = match hands.part(0) {
         Some(hand) => pool.play_twice(rt, chair_of(hand), (first, second), kind, ops),
         None => Err(Stopped::with_nothing()),
@@ -118,11 +102,12 @@ fn run_lives(rt: &HostRuntime, kind: Kind, ops: u64) -> Result<Lives, Trouble> {
     pool.end(hands, played)
 }
 
-/// A pool of these settings over this device, and its hands.
+/// A pool of these settings over this device, for which pages of a trace lie so far apart, and its hands.
 fn pool_of<D: Drop>(
     alloc: Global,
     settings: &Settings,
     device: D,
+    apart: u32,
 ) -> Result<(Pool<D>, Hands), Trouble>
     ensures { IfOk result (λ made. AllIdle settings.now.workers made.1.workers) }
 {
@@ -131,7 +116,7 @@ fn pool_of<D: Drop>(
             Pool {
                 vault,
                 device,
-                apart: 1,
+                apart,
             },
             hands,
         )),
@@ -161,27 +146,13 @@ fn numbered(alloc: Global, pages: u32, page_bytes: usize) -> Result<SoloDevice, 
     let mut device = SoloDevice::new(alloc, pages, page_bytes)?;
     let mut bytes = vec![in alloc; 0; page_bytes]?;
     for page in 0..pages {
-        numbered::make(&mut bytes, page);
+        let _is_made = numbered::make(&mut bytes, page);
         device.write(page, &bytes).map_err(|_| Trouble::Refused)?;
     }
     Ok(device)
 }
 
 impl<D: Device + Drop> Pool<D> {
-    /// The same, for which the pages of a trace lie so far apart.
-    fn spread(self, apart: u32) -> Pool<D> {
-        let Pool {
-            vault,
-            device,
-            apart: _,
-        } = self;
-        Pool {
-            vault,
-            device,
-            apart,
-        }
-    }
-
     /// Gives the vault up with what the worker has, and tells what was played.
     fn end<T: Drop>(self, hands: Hands, played: Result<(Chair, T), Stopped>) -> Result<T, Trouble> {
         let Pool {
