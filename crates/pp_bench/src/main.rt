@@ -23,10 +23,10 @@
 #![tactic(auto)]
 
 mod directory;
+mod disk;
 mod journal;
 mod marks;
 mod moves;
-mod numbered;
 mod opening;
 mod pinned;
 mod pool;

@@ -4,7 +4,7 @@
 ghost use Rattle.std.specs.Prelude.{◌≡◌, ◌≤◌, true, IfOk};
 ghost use Rattle.pp_vault.specs.Stages.{is_idle_hand, AllIdle};
 
-use crate::numbered::{self, Numbered};
+use crate::disk::{self, Disk};
 use crate::trouble::Trouble;
 use crate::watch::{self, Counted, Watch};
 use crate::words;
@@ -19,9 +19,9 @@ use std::alloc::Global;
 
 /// A vault, the device of its pages, and how many page numbers lie between two that follow each other in a trace.
 #[derive(Drop)]
-struct Pool<D> {
+struct Pool {
     vault: Vault,
-    device: D,
+    device: Disk,
     apart: u32,
 }
 
@@ -45,7 +45,7 @@ pub fn play_large(rt: &HostRuntime, words: &[String]) -> Result<(), Trouble> {
     let settings = pp_bench_traces::settings_of(rt.alloc(), size)?;
     let apart = (size.pages / PAGES).max(1);
     let trace = Trace::new(kind, size.frames);
-    let (misses, nanos) = run(rt, &settings, Numbered::new(), apart, trace, ops)?;
+    let (misses, nanos) = run(rt, &settings, Disk::numbered(), apart, trace, ops)?;
     watch::tell(rt, Counted::One(misses), nanos, ops, "an operation")
 }
 
@@ -66,10 +66,10 @@ struct Lives {
 }
 
 /// How many pages are read in so many operations of the trace, and how many nanoseconds the operations took.
-fn run<D: Device + Drop>(
+fn run(
     rt: &HostRuntime,
     settings: &Settings,
-    device: D,
+    device: Disk,
     apart: u32,
     trace: Trace,
     ops: u64,
@@ -103,12 +103,12 @@ fn run_lives(rt: &HostRuntime, kind: Kind, ops: u64) -> Result<Lives, Trouble> {
 }
 
 /// A pool of these settings over this device, for which pages of a trace lie so far apart, and its hands.
-fn pool_of<D: Drop>(
+fn pool_of(
     alloc: Global,
     settings: &Settings,
-    device: D,
+    device: Disk,
     apart: u32,
-) -> Result<(Pool<D>, Hands), Trouble>
+) -> Result<(Pool, Hands), Trouble>
     ensures { IfOk result (λ made. AllIdle settings.now.workers made.1.workers) }
 {
     match Vault::new(alloc, settings) {
@@ -135,8 +135,9 @@ fn chair_of(hand: Hand) -> Chair
 }
 
 /// A device of all pages of these settings, in memory.
-fn device_of(alloc: Global, settings: &Settings) -> Result<SoloDevice, Trouble> {
-    numbered(alloc, settings.pages(), settings.page_bytes() as usize)
+fn device_of(alloc: Global, settings: &Settings) -> Result<Disk, Trouble> {
+    let pages = numbered(alloc, settings.pages(), settings.page_bytes() as usize)?;
+    Ok(Disk::over(pages))
 }
 
 /// A device of so many pages, each of so many bytes, with the number of each page at the front of its body.
@@ -146,13 +147,13 @@ fn numbered(alloc: Global, pages: u32, page_bytes: usize) -> Result<SoloDevice, 
     let mut device = SoloDevice::new(alloc, pages, page_bytes)?;
     let mut bytes = vec![in alloc; 0; page_bytes]?;
     for page in 0..pages {
-        let _is_made = numbered::make(&mut bytes, page);
+        let _is_made = disk::make(&mut bytes, page);
         device.write(page, &bytes).map_err(|_| Trouble::Refused)?;
     }
     Ok(device)
 }
 
-impl<D: Device + Drop> Pool<D> {
+impl Pool {
     /// Gives the vault up with what the worker has, and tells what was played.
     fn end<T: Drop>(self, hands: Hands, played: Result<(Chair, T), Stopped>) -> Result<T, Trouble> {
         let Pool {
@@ -301,7 +302,7 @@ impl<D: Device + Drop> Pool<D> {
     /// Whether the page has its number at the front of its body.
     fn is_numbered(&self, guard: &ReadGuard) -> bool {
         match self.vault.see(guard) {
-            Some(body) => numbered::is_at_front(body, u64::from(guard.page())),
+            Some(body) => disk::is_at_front(body, u64::from(guard.page())),
             None => false,
         }
     }

@@ -1,31 +1,45 @@
-//! A device that keeps no page.
+//! The device of a pool that is measured.
 
 ghost use Rattle.std.specs.Prelude.{◌≡◌, length};
 
-use pp_device::{Count, Device, Fault, image};
+use pp_device::{Count, Device, Fault, SoloDevice, image};
 
 /// How many bytes each operation looks at: the page's number, which stands at the front of its body.
 pub const LOOKED_AT: usize = 8;
 
-/// A device that keeps no page, so that it may have any number of them: it makes the image of a page when that is read. The head has
-/// the page's number and the stamp 0, and so stands the number at the front of the body. It can't be written.
+/// A device that has its pages in memory, or keeps none, so that it may have any number of them: then it makes the image of a page when
+/// that is read, and can't be written. The head has the page's number and the stamp 0, and so stands the number at the front of the
+/// body.
+///
+/// It is one type for both, so that a pool's calls stand once in the program, as a host has them.
 #[derive(Drop)]
-pub struct Numbered {
+pub struct Disk {
+    pages: Option<SoloDevice>,
     calls: Count,
     failures: Count,
 }
 
-impl Numbered {
-    /// A device that wasn't called yet.
-    pub fn new() -> Numbered {
-        Numbered {
+impl Disk {
+    /// One that keeps no page.
+    pub fn numbered() -> Disk {
+        Disk {
+            pages: None,
+            calls: Count::new(),
+            failures: Count::new(),
+        }
+    }
+
+    /// One with these pages.
+    pub fn over(pages: SoloDevice) -> Disk {
+        Disk {
+            pages: Some(pages),
             calls: Count::new(),
             failures: Count::new(),
         }
     }
 }
 
-impl Device for Numbered {
+impl Device for Disk {
     ghost calls = { λ d. d.calls.number };
 
     ghost failures = { λ d. d.failures.number };
@@ -36,15 +50,26 @@ impl Device for Numbered {
 
     fn read(&mut self, page: u32, image: &mut [u8]) -> Result<(), Fault> {
         self.calls.raise();
-        if make(image, page) {
+        let is_read = match &mut self.pages {
+            Some(pages) => pages.read(page, image).is_ok(),
+            None => make(image, page),
+        };
+        if is_read {
             return Ok(());
         }
         self.failures.raise();
         Err(Fault::Read)
     }
 
-    fn write(&mut self, _page: u32, _image: &[u8]) -> Result<(), Fault> {
+    fn write(&mut self, page: u32, image: &[u8]) -> Result<(), Fault> {
         self.calls.raise();
+        let is_written = match &mut self.pages {
+            Some(pages) => pages.write(page, image).is_ok(),
+            None => false,
+        };
+        if is_written {
+            return Ok(());
+        }
         self.failures.raise();
         Err(Fault::Write)
     }
