@@ -71,12 +71,12 @@ static void *get_second(size_t bytes) { return blocks_of[1]++, malloc(bytes); }
 static void *resize_second(void *at, size_t bytes) { return realloc(at, bytes); }
 static void give_second(void *at) { blocks_of[1]--, free(at); }
 
-/* A cache has 72 bytes for each name that there is room for, 4 to 8 for each frame, and some 700 more. */
+/* A cache has 72 bytes for each name that there is room for, 4 to 8 for each frame, and some 800 more. */
 static void see_bytes(pinpool_cache *of) {
     pinpool_counts counts;
     SEE(pinpool_cache_counts(of, &counts) == PINPOOL_OK);
     SEE(counts.used <= counts.names && counts.bytes >= 72ull * counts.names + 4ull * counts.frames);
-    SEE(counts.bytes < 72ull * counts.names + 8ull * counts.frames + 700);
+    SEE(counts.bytes < 72ull * counts.names + 8ull * counts.frames + 800);
 }
 
 /* A source that knows how many bytes it has given, and how many at most. What it resizes it copies. */

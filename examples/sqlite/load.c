@@ -487,7 +487,7 @@ static void run_all(outcome *into) {
 }
 
 /* Prints what came of the caches from `first` to `last`, side by side, and answers how many loads went wrong: those with
-** other answers, and those after which SQLite has more memory than 0.9 MB beside one and a half times what it has over its own
+** other answers, and those after which SQLite has more memory than 1 MB beside one and a half times what it has over its own
 ** cache. (A transaction of 40 MB has 10,000 pages, with names for which the proved side takes 1.05 MB.) */
 static int tell(int first, int last) {
     int others = 0, large = 0;
@@ -499,7 +499,7 @@ static int tell(int first, int last) {
     printf("\n");
     for (int at = 0; at < loads; at++) {
         const outcome *one = &done[first][at], *two = &done[last][at];
-        int is_same = one->answers == two->answers, is_large = two->bytes > one->bytes + one->bytes / 2 + 900000;
+        int is_same = one->answers == two->answers, is_large = two->bytes > one->bytes + one->bytes / 2 + 1000000;
         others += !is_same;
         large += is_large;
         printf("%-20s %016llx", one->name, (unsigned long long)one->answers);

@@ -15,7 +15,7 @@
 ** that breaks it. Different caches can be used by different threads at once.
 **
 ** Memory: a cache has a name for each key whose page is in a frame or is remembered by ARC. These are twice `size` at most, and one
-** more for each page beyond the size. It takes 72 bytes for each name that there is room for, 4 to 8 for each frame, and some 700
+** more for each page beyond the size. It takes 72 bytes for each name that there is room for, 4 to 8 for each frame, and some 800
 ** more. Room for names is made where all are used and one more is wanted: for 16 at first, and then for twice as many. So memory goes
 ** with the greatest number of pages that were in frames or remembered at one time, whatever their keys are. It is given back by
 ** pinpool_cache_free alone. pinpool_cache_counts tells it, and pinpool_cache_memory says where it comes from. Only new, fetch and
