@@ -10,12 +10,12 @@ use Rattle.pp_arc.specs.Figure.{forget}
 use Rattle.pp_arc.specs.Links.{with_front, without_last_of, with_list, with_lists_of, FitsInto}
 use Rattle.pp_arc.specs.Bounds.{IsWithinBounds}
 use Rattle.pp_arc.specs.Fields.{IsSound, lists_with}
-use Rattle.pp_arc.specs.Sizes.{renamed, renamed_in, resized, with_names, with_pages}
+use Rattle.pp_arc.specs.Sizes.{renamed, renamed_in, resized, with_names, moved_into}
 use Rattle.pp_arc.proofs.BoundLemmas.{total_count-forget}
 use Rattle.pp_arc.proofs.NameLemmas.{length-list_of, append-none}
 use Rattle.pp_arc.proofs.NamingLemmas.{total-with_front, placed-node}
 use Rattle.pp_arc.proofs.SizeLemmas.{IsApart, Moves, moves, length-last, c-with_front, pages-with_front}
-use Rattle.pp_arc.proofs.SizeLemmas.{bounds-resized, bounds-with_pages}
+use Rattle.pp_arc.proofs.SizeLemmas.{bounds-resized, bounds-moved_into}
 
 total-without_last_of : (s : FourLists) (l : ListName) (p : ℕ) → last_page (list_of s l) ≡ Some p
     → total_count (without_last_of s l) + 1 ≡ total_count s
@@ -170,15 +170,15 @@ room_renamed s t c old new e room =
       | inr all ↦ inr (omega (arith, all, size, pages))
     ]
 
--- the lists of a directory go into those of a larger one
-pub record MovesIn (s : FourLists) (c target : ℕ) (t : FourLists) : Type 0 where
+-- the lists of a directory go into those of a larger one, which is for a cache of d pages
+pub record MovesIn (s : FourLists) (target : ℕ) (t : FourLists) (d : ℕ) : Type 0 where
   pub empty : (l : ListName) → list_of t l ≡ []
   pub fits : FitsInto s t
-  pub sound : IsSound (with_lists_of t s) c target
+  pub sound : IsSound (with_lists_of t s) d target
 
 pub moves_in : (s v t larger : FourLists) (c target d aim : ℕ) → IsSound s c target → IsSound t d aim
     → lists_with s c target ≡ v → lists_with t d aim ≡ larger → v.pages ≤ larger.pages → v.c ≤ larger.c
-    → larger ≡ empty_lists larger.c larger.pages → c < 2 ^ 32 → MovesIn s c target t
+    → larger ≡ empty_lists larger.c larger.pages → c < 2 ^ 32 → MovesIn s target t d
 moves_in s v t larger c target d aim h k e f more wider none low = record {
   empty = empty;
   fits = record {
@@ -191,11 +191,8 @@ moves_in s v t larger c target d aim h k e f more wider none low = record {
     ];
   };
   sound = record {
-    bounds = bounds-with_pages (lists_with s c target) t.pages h.bounds pages;
-    room = elim k.room [
-      | inl le ↦ inl (omega (arith, le, size))
-      | inr all ↦ inr all
-    ];
+    bounds = bounds-moved_into (lists_with s c target) (lists_with t d aim) h.bounds pages size;
+    room = k.room;
   };
 }
   where
@@ -263,8 +260,8 @@ resized_lists s t v c target n aim e least view =
 
 -- the lists of a directory that moved into a larger one
 pub moved_lists : (s t u v larger : FourLists) (c target d aim : ℕ) → u ≡ with_lists_of t s
-    → lists_with s c target ≡ v → lists_with t d aim ≡ larger → lists_with u c target ≡ with_pages v larger.pages
+    → lists_with s c target ≡ v → lists_with t d aim ≡ larger → lists_with u d target ≡ moved_into v larger
 moved_lists s t u v larger c target d aim e view more =
-    ap (λ (w : FourLists). lists_with w c target) e
-    ∙ ap (λ (w : FourLists). with_pages w t.pages) view
-    ∙ ap (λ (n : ℕ). with_pages v n) (ap (λ (w : FourLists). w.pages) more)
+    ap (λ (w : FourLists). lists_with w d target) e
+    ∙ ap (λ (w : FourLists). moved_into w (lists_with t d aim)) view
+    ∙ ap (λ (w : FourLists). moved_into v w) more

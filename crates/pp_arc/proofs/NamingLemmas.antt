@@ -14,8 +14,7 @@ use Rattle.pp_arc.specs.declared.list.List.TheVariants.{T1, T2, B1, B2}
 use Rattle.pp_arc.specs.Pages.{contains, times_in, last_page, last_not_busy, without_last, next_after, behind}
 use Rattle.pp_arc.specs.FourLists.{FourLists, empty_lists, list_of, place, after, times_named, total_count}
 use Rattle.pp_arc.specs.Figure.{forget}
-use Rattle.pp_arc.specs.Links.{with_front, without_last_of}
-use Rattle.pp_arc.specs.Names.{SomeAhead, NoneAhead}
+use Rattle.pp_arc.specs.Links.{with_front, without_last_of, SomeAhead, NoneAhead}
 use Rattle.pp_arc.specs.Names.{pages_at, Naming, HasNode, AreFree, IsNaming, lists_named, lists_at}
 use Rattle.pp_arc.proofs.PageLemmas.{times_in-without_other, times_in-contains}
 use Rattle.pp_arc.proofs.BoundLemmas.{total_count-forget, times_named-forget, times_named-forget_same}

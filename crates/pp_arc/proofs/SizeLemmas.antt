@@ -14,7 +14,7 @@ use Rattle.pp_arc.specs.Bounds.{IsWithinBounds}
 use Rattle.pp_arc.specs.Links.{with_front, without_last_of, with_list, with_first}
 use Rattle.pp_arc.specs.Laws.{AllCachedAreBusy}
 use Rattle.pp_arc.specs.Figure.{forget}
-use Rattle.pp_arc.specs.Sizes.{given_up, renamed, renamed_in, resized, with_pages}
+use Rattle.pp_arc.specs.Sizes.{given_up, renamed, renamed_in, resized, moved_into}
 use Rattle.pp_arc.proofs.PageLemmas.{times_in-take, length-without_last, length-without, once_with_front}
 use Rattle.pp_arc.proofs.PageLemmas.{below_with_front, times_in-contains, times_in-contains_not}
 use Rattle.pp_arc.proofs.BoundLemmas.{bounds-forget, bounds-put_in_t2, bounds-with_front_of_t1, times_named-forget_same}
@@ -284,16 +284,16 @@ bounds-resized s c h one fits =
       aimed = omega arith;
     }
 
-pub bounds-with_pages : (s : FourLists) (pages : ℕ) → IsWithinBounds s → s.pages ≤ pages
-    → IsWithinBounds (with_pages s pages)
-bounds-with_pages s pages h more = record {
-  holds_a_page = h.holds_a_page;
-  cached = h.cached;
-  recent = h.recent;
-  total = h.total;
+pub bounds-moved_into : (s t : FourLists) → IsWithinBounds s → s.pages ≤ t.pages → s.c ≤ t.c
+    → IsWithinBounds (moved_into s t)
+bounds-moved_into s t h more wider = record {
+  holds_a_page = omega (arith, h.holds_a_page, wider);
+  cached = omega (arith, h.cached, wider);
+  recent = omega (arith, h.recent, wider);
+  total = omega (arith, h.total, wider);
   once = h.once;
-  below = λ x stands. omega (arith, h.below x stands);
-  aimed = h.aimed;
+  below = λ x stands. omega (arith, h.below x stands, more);
+  aimed = omega (arith, h.aimed, wider);
 }
 
 -- ---- a page is renamed

@@ -143,14 +143,27 @@ sets_t2 d v x s n h same e some =
     subst (λ (w : Slotted). s ≡ get_or w.slots x 0 → Sets d w d.freed_t2 w.freed_t2 x s n) same
     (λ e. sets d d.freed_t2 x s n h h.freed_t2 e some) e
 
-pub IsSlotted-numbers : (d : Slotted) (xs : List ℕ) → IsSlotted d → IsKept d xs → IsSlotted (with_numbers d xs)
-IsSlotted-numbers d xs h k = record {
+-- a page with a slot still has a number where that of one slot is another one
+numbered-set : (d : Slotted) (s n : ℕ) → IsSlotted d → 0 < n → s < length d.numbers
+    → (x : ℕ) → 0 < get_or d.slots x 0 → 0 < get_or (set d.numbers s n) (get_or d.slots x 0) 0
+numbered-set d s n h pos low x lt = elim (eqb_tells (get_or d.slots x 0) s) [
+  | inl p ↦
+      let is : get_or (set d.numbers s n) (get_or d.slots x 0) 0 ≡ n =
+      ap (λ (t : ℕ). get_or (set d.numbers s n) t 0) p.1 ∙ get_or-set_same d.numbers s n 0 low in
+      subst (λ (m : ℕ). 0 < m) (sym is) pos
+  | inr p ↦ subst (λ (m : ℕ). 0 < m) (sym (get_or-set_other d.numbers s (get_or d.slots x 0) n 0 p.1)) (h.numbered x lt)
+]
+
+pub IsSlotted-number : (d : Slotted) (s n : ℕ) → IsSlotted d → 0 < n → s < length d.numbers
+    → IsKept d (set d.numbers s n) → IsSlotted (with_numbers d (set d.numbers s n))
+IsSlotted-number d s n h pos low k = record {
   size = h.size;
   numbers = k;
   freed_t1 = h.freed_t1;
   freed_t2 = h.freed_t2;
   below = h.below;
   known = h.known;
+  numbered = numbered-set d s n h pos low;
   free = h.free;
   nobodys = h.nobodys;
   differ = h.differ;
@@ -165,6 +178,7 @@ IsSlotted-t1 d xs h k = record {
   freed_t2 = h.freed_t2;
   below = h.below;
   known = h.known;
+  numbered = h.numbered;
   free = h.free;
   nobodys = h.nobodys;
   differ = h.differ;
@@ -179,6 +193,7 @@ IsSlotted-t2 d xs h k = record {
   freed_t2 = k;
   below = h.below;
   known = h.known;
+  numbered = h.numbered;
   free = h.free;
   nobodys = h.nobodys;
   differ = h.differ;
@@ -248,8 +263,8 @@ kept-put d xs ys x s h k f low none size same = record {
         ))
 
 IsSlotted-put : (d : Slotted) (x s n : ℕ) → IsSlotted d → 0 < d.spare → s ≡ get_or d.free (d.spare - 1) 0
-    → x < length d.slots → get_or d.slots x 0 ≡ 0 → IsSlotted (put d x s n)
-IsSlotted-put d x s n h room e low none = record {
+    → x < length d.slots → get_or d.slots x 0 ≡ 0 → 0 < n → IsSlotted (put d x s n)
+IsSlotted-put d x s n h room e low none pos = record {
   size = length-set d.pages s x ∙ h.size;
   numbers = kept-put d d.numbers (set d.numbers s n) x s h h.numbers f low none (length-set d.numbers s n)
       (λ t ne. get_or-set_other d.numbers s t n 0 ne);
@@ -265,6 +280,11 @@ IsSlotted-put d x s n h room e low none = record {
     | inr p ↦ ap (λ (t : ℕ). get_or (set d.pages s x) t 0) (get_or-set_other d.slots x y s 0 p.1)
         ∙ get_or-set_other d.pages s (get_or d.slots y 0) x 0 (f.nobodys y)
         ∙ h.known y (omega (arith, lt, get_or-set_other d.slots x y s 0 p.1))
+  ];
+  numbered = λ y lt. elim (eqb_tells y x) [
+    | inl p ↦ subst (λ (m : ℕ). 0 < m) (sym (own y p.1)) pos
+    | inr p ↦ subst (λ (m : ℕ). 0 < m) (sym (others y p.1))
+        (h.numbered y (omega (arith, lt, get_or-set_other d.slots x y s 0 p.1)))
   ];
   free = λ k lt. (
     (h.free k (omega (arith, lt))).0,
@@ -284,6 +304,15 @@ IsSlotted-put d x s n h room e low none = record {
     here : (y : ℕ) → y ≡ x → get_or (set d.slots x s) y 0 ≡ s
     here y w = ap (λ (z : ℕ). get_or (set d.slots x s) z 0) w ∙ get_or-set_same d.slots x s 0 low
 
+    own : (y : ℕ) → y ≡ x → get_or (set d.numbers s n) (get_or (set d.slots x s) y 0) 0 ≡ n
+    own y w = ap (λ (t : ℕ). get_or (set d.numbers s n) t 0) (here y w)
+        ∙ get_or-set_same d.numbers s n 0 (omega (arith, f.below, h.numbers.size))
+
+    others : (y : ℕ) → y ≢ x
+        → get_or (set d.numbers s n) (get_or (set d.slots x s) y 0) 0 ≡ get_or d.numbers (get_or d.slots y 0) 0
+    others y ne = ap (λ (t : ℕ). get_or (set d.numbers s n) t 0) (get_or-set_other d.slots x y s 0 ne)
+        ∙ get_or-set_other d.numbers s (get_or d.slots y 0) n 0 (f.nobodys y)
+
     more : sum_by counts (set d.slots x s) ≡ sum_by counts d.slots + 1
     more = subst (λ (t : ℕ). sum_by counts (set d.slots x t) ≡ sum_by counts d.slots + 1) (sym (one_more s f.some))
         (named_more d.slots x (s - 1) low none)
@@ -297,10 +326,10 @@ pub record Puts (d v : Slotted) (x s n : ℕ) : Type 0 where
   pub t2 : freed_t2_of (put d x s n) ≡ freed_t2_of v
 
 puts-in : (d : Slotted) (x s n : ℕ) → IsSlotted d → 0 < d.spare → s ≡ get_or d.free (d.spare - 1) 0
-    → x < length d.slots → get_or d.slots x 0 ≡ 0 → Puts d d x s n
-puts-in d x s n h room e low none = record {
+    → x < length d.slots → get_or d.slots x 0 ≡ 0 → 0 < n → Puts d d x s n
+puts-in d x s n h room e low none pos = record {
   below = f.below;
-  slotted = IsSlotted-put d x s n h room e low none;
+  slotted = IsSlotted-put d x s n h room e low none pos;
   numbers = written d.slots (set d.slots x s) d.numbers (set d.numbers s n) x n h.numbers.none
       (get_or-set_other d.numbers s 0 n 0 (λ w. absurd (omega (arith, w, f.some))) ∙ h.numbers.none)
       (length-set d.slots x s) low
@@ -328,9 +357,9 @@ puts-in d x s n h room e low none = record {
     ]
 
 pub puts : (d v : Slotted) (x s n : ℕ) → IsSlotted d → d ≡ v → 0 < d.spare → s ≡ get_or d.free (d.spare - 1) s
-    → x < length v.slots → get_or v.slots x 0 ≡ 0 → Puts d v x s n
+    → x < length v.slots → get_or v.slots x 0 ≡ 0 → 0 < n → Puts d v x s n
 puts d v x s n h same room e =
-    subst (λ (w : Slotted). x < length w.slots → get_or w.slots x 0 ≡ 0 → Puts d w x s n) same
+    subst (λ (w : Slotted). x < length w.slots → get_or w.slots x 0 ≡ 0 → 0 < n → Puts d w x s n) same
     (puts-in d x s n h room (e ∙ got))
   where
     got : get_or d.free (d.spare - 1) s ≡ get_or d.free (d.spare - 1) 0
@@ -401,6 +430,11 @@ IsSlotted-let_go d x s h e some room = record {
     | inr p ↦ ap (λ (t : ℕ). get_or d.pages t 0) (get_or-set_other d.slots x y 0 0 p.1)
         ∙ h.known y (omega (arith, lt, get_or-set_other d.slots x y 0 0 p.1))
   ];
+  numbered = λ y lt. elim (eqb_tells y x) [
+    | inl p ↦ absurd (omega (arith, lt, gone y p.1))
+    | inr p ↦ subst (λ (m : ℕ). 0 < m) (sym (stays y p.1))
+        (h.numbered y (omega (arith, lt, get_or-set_other d.slots x y 0 0 p.1)))
+  ];
   free = λ k lt. elim (eqb_tells k d.spare) [
     | inl p ↦ (omega (arith, top k p.1, some), omega (arith, top k p.1, e, h.below x))
     | inr p ↦ (
@@ -437,6 +471,11 @@ IsSlotted-let_go d x s h e some room = record {
 
     older : (k : ℕ) → k ≢ d.spare → get_or (set d.free d.spare s) k 0 ≡ get_or d.free k 0
     older k ne = get_or-set_other d.free d.spare k s 0 ne
+
+    stays : (y : ℕ) → y ≢ x
+        → get_or (set d.numbers s 0) (get_or (set d.slots x 0) y 0) 0 ≡ get_or d.numbers (get_or d.slots y 0) 0
+    stays y ne = ap (λ (t : ℕ). get_or (set d.numbers s 0) t 0) (get_or-set_other d.slots x y 0 0 ne)
+        ∙ get_or-set_other d.numbers s (get_or d.slots y 0) 0 0 (apart d x y s h e some ne)
 
     left : (y : ℕ) → get_or (set d.slots x 0) y 0 ≢ s
     left y w = elim (eqb_tells y x) [
@@ -532,6 +571,7 @@ IsSlotted-new d most pages slots on numbers l1 z1 l2 z2 free spare filled = reco
   freed_t2 = empty d.freed_t2 l2 z2;
   below = λ x. omega (arith, none x, size);
   known = λ x lt. absurd (omega (arith, lt, none x));
+  numbered = λ x lt. absurd (omega (arith, lt, none x));
   free = λ k lt. (
     omega (arith, filled k (omega (arith, lt, spare))),
     omega (arith, filled k (omega (arith, lt, spare)), lt, spare, size),

@@ -1,12 +1,12 @@
 -- ARC's figure: what a request does, over four plain lists.
 --
 -- It restates figure 4 of Megiddo and Modha, "ARC: A Self-Tuning, Low Overhead Replacement Cache", FAST 2003,
--- case by case, with these choices; the restatement is the definition here:
--- the quotients by which the target moves are whole numbers, rounded down;
--- REPLACE runs only where the cache is full, since a frame can stand free while names are remembered;
--- a busy page is passed over in the search for a victim, and where the chosen list has none but busy pages,
--- the other list gives the victim;
--- where each page that might leave is busy, the answer is AllBusy, and nothing has changed.
+-- case by case, with these choices. The restatement is the definition here.
+-- The quotients by which the target moves are whole numbers, rounded down.
+-- REPLACE runs only where the cache is full, since a frame can stand free while names are remembered.
+-- A busy page is passed over in the search for a victim, and where the chosen list has none but busy pages,
+-- the other list gives the victim.
+-- Where each page that might leave is busy, the answer is AllBusy, and nothing has changed.
 -- `forget` and `bring_back` are no part of that figure.
 use Rattle.std.specs.Prelude.{ℕ, ◌+◌, ◌-◌, ◌*◌, ◌/◌, min, Bool, true, false, ◌&&◌, ◌||◌, ◌==◌, nat_lt, nat_le, ◌∷◌}
 use Rattle.std.specs.Prelude.{length, Option, None, Some, if◌then◌else◌}

@@ -1,9 +1,10 @@
 -- What the steps of a table of links do to the four lists.
-use Rattle.std.specs.Prelude.{ℕ, ◌+◌, ◌^◌, ◌<◌, ◌≤◌, ◌⊎◌, List, ◌∷◌, take, nat_lt, Option, None, Some, if◌then◌else◌}
+use Rattle.std.specs.Prelude.{◌≡◌, ℕ, ◌+◌, ◌^◌, ◌<◌, ◌≤◌, ◌⊎◌, List, ◌∷◌, take, nat_lt, Option, None, Some, IsTrue}
+use Rattle.std.specs.Prelude.{if◌then◌else◌}
 use Rattle.pp_arc.specs.declared.list.List.{List as ListName}
 use Rattle.pp_arc.specs.declared.list.List.TheVariants.{T1, T2, B1, B2}
-use Rattle.pp_arc.specs.Pages.{without_last}
-use Rattle.pp_arc.specs.FourLists.{FourLists, list_of, times_named, total_count}
+use Rattle.pp_arc.specs.Pages.{contains, behind, without_last}
+use Rattle.pp_arc.specs.FourLists.{FourLists, list_of, place, times_named, total_count}
 
 -- the number of a list among the four
 abbrev pub code : ListName → ℕ
@@ -45,9 +46,22 @@ page_at pages node = if nat_lt node pages then Some node else None
 abbrev pub with_lists_of : FourLists → FourLists → FourLists
 with_lists_of t s = record t { t1 = s.t1; t2 = s.t2; b1 = s.b1; b2 = s.b2 }
 
--- The pages of s may go into the lists of t: they are below its page numbers, stand nowhere there, and there is room for them.
+-- Where o is one, it stands in the list of n, next before it.
+abbrev pub SomeAhead : FourLists → ℕ → Option ℕ → Type 0
+SomeAhead s n o = (l : ListName) (m : ℕ) → place s n ≡ Some l → o ≡ Some m
+    → (IsTrue (contains (list_of s l) m)) × (behind (list_of s l) m ≡ n ∷ behind (list_of s l) n)
+
+-- Where o is none, n stands at the front of its list.
+abbrev pub NoneAhead : FourLists → ℕ → Option ℕ → Type 0
+NoneAhead s n o = (l : ListName) → place s n ≡ Some l → o ≡ None → list_of s l ≡ n ∷ behind (list_of s l) n
+
+-- The pages of s may go into the lists of t.
 pub record FitsInto (s t : FourLists) : Type 0 where
+  -- they are below its page numbers
   pub below : (x : ℕ) → 0 < times_named s x → x < t.pages
+  -- each stands once at most, in both together
   pub apart : (x : ℕ) → times_named s x + times_named t x ≤ 1
+  -- so few stand in both that 64 bits count them
   pub short : total_count s + total_count t < 2 ^ 63
+  -- there is room for all of them, or for as many as there are page numbers
   pub room : (total_count s + total_count t ≤ t.c) ⊎ (t.pages ≤ t.c)

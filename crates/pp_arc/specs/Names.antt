@@ -1,10 +1,7 @@
 -- How pages get nodes of the links: a page has a node only while it stands in a list.
-use Rattle.std.specs.Prelude.{◌≡◌, ◌≢◌, ℕ, ◌+◌, ◌^◌, ◌<◌, ◌≤◌, List, ◌∷◌, map, length, slice_index, sum_by}
-use Rattle.std.specs.Prelude.{Option, Some, None, IsTrue}
-use Rattle.pp_arc.specs.declared.list.List.{List as ListName}
-use Rattle.pp_arc.specs.Pages.{contains, behind}
+use Rattle.std.specs.Prelude.{◌≡◌, ◌≢◌, ℕ, ◌+◌, ◌^◌, ◌<◌, ◌≤◌, List, map, length, slice_index, sum_by}
 use Rattle.pp_arc.specs.declared.named.NamedLinks.TheInside.{Inside}
-use Rattle.pp_arc.specs.FourLists.{FourLists, list_of, place, times_named, total_count}
+use Rattle.pp_arc.specs.FourLists.{FourLists, times_named, total_count}
 use Rattle.pp_arc.specs.Passed.{counts}
 
 -- what is kept of pages, of nodes, and of the nodes that no page has
@@ -78,12 +75,3 @@ naming_of d = record {
   spare = d.spare;
   links = d.links;
 }
-
--- Where o is one, it stands in the list of n, next before it.
-abbrev pub SomeAhead : FourLists → ℕ → Option ℕ → Type 0
-SomeAhead s n o = (l : ListName) (m : ℕ) → place s n ≡ Some l → o ≡ Some m
-    → (IsTrue (contains (list_of s l) m)) × (behind (list_of s l) m ≡ n ∷ behind (list_of s l) n)
-
--- Where o is none, n stands at the front of its list.
-abbrev pub NoneAhead : FourLists → ℕ → Option ℕ → Type 0
-NoneAhead s n o = (l : ListName) → place s n ≡ Some l → o ≡ None → list_of s l ≡ n ∷ behind (list_of s l) n

@@ -8,7 +8,7 @@ use Rattle.pp_arc.specs.declared.list.List.{List as ListName}
 use Rattle.pp_arc.specs.Figure.{forget, victim, with_remembered}
 use Rattle.pp_arc.specs.Links.{with_front}
 
--- The remembered name that the request for x drops, if it drops one: a page that stands in no list takes the place of
+-- The remembered name that the request for x drops, if it drops one. A page that stands in no list takes the place of
 -- the last name of B1 where T1 and B1 have c pages together, else that of B2 where the four lists have 2c.
 abbrev pub dropped_name : FourLists → ℕ → Option ℕ
 dropped_name s x =
@@ -36,18 +36,15 @@ with_names s c =
 -- The room for more pages keeps all; with less, the target falls to c at most, and B1 and then B2 lose their last
 -- names until the bounds of a cache of c pages hold. The cached pages stay: there are c of them at most.
 abbrev pub resized : FourLists → ℕ → FourLists
-resized s c =
-    let b1 = take (c - length s.t1) s.b1 in
-    record s {
-      c = c;
-      target = min s.target c;
-      b1 = b1;
-      b2 = take (2 * c - (length s.t1 + length s.t2 + length b1)) s.b2;
-    }
+resized s c = record (with_names s c) { c = c; target = min s.target c }
 
 -- The same lists, of page numbers below `pages`.
 abbrev pub with_pages : FourLists → ℕ → FourLists
 with_pages s pages = record s { pages = pages }
+
+-- The same lists in a larger directory: the cache has the size of that one, and there are as many page numbers.
+abbrev pub moved_into : FourLists → FourLists → FourLists
+moved_into s larger = record s { c = larger.c; pages = larger.pages }
 
 -- The page stays in the list in which it stood, at its front and under its new name.
 abbrev pub renamed_in : Option ListName → FourLists → ℕ → FourLists

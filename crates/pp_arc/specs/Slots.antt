@@ -62,6 +62,8 @@ pub record IsSlotted (d : Slotted) : Type 0 where
   -- a page's slot is there, and is that page's alone
   pub below : (x : ℕ) → slice_index d.slots x < length d.pages
   pub known : (x : ℕ) → 0 < slice_index d.slots x → slice_index d.pages (slice_index d.slots x) ≡ x
+  -- a page has a slot only while it has a number
+  pub numbered : (x : ℕ) → 0 < slice_index d.slots x → 0 < slice_index d.numbers (slice_index d.slots x)
   -- the free slots differ, and are no page's
   pub free : (k : ℕ) → k < d.spare → (0 < slice_index d.free k) × (slice_index d.free k < length d.pages)
   pub nobodys : (k x : ℕ) → k < d.spare → slice_index d.slots x ≢ slice_index d.free k

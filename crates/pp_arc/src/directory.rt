@@ -15,7 +15,7 @@ ghost use Rattle.pp_arc.specs.Figure.{forget, with_front_of_t1, with_front_of_t2
 ghost use Rattle.pp_arc.specs.Figure.{lowered_target, victim, replacement, after_replace, replace_in_t1, room_for_new};
 ghost use Rattle.pp_arc.specs.Figure.{without_last_of_b1, without_last_of_b2, is_all_busy, request, bring_back};
 ghost use Rattle.pp_arc.specs.Search.{KnowsBusy, FoundIn, without_victim};
-ghost use Rattle.pp_arc.specs.Sizes.{dropped_name, given_up, after_giving_up, renamed, resized, with_names, with_pages};
+ghost use Rattle.pp_arc.specs.Sizes.{dropped_name, given_up, after_giving_up, renamed, resized, with_names, moved_into};
 
 use crate::lists::{Lists, cut, move_into, rename};
 use crate::{Answer, Busy, Links, List, Names, Search};
@@ -30,10 +30,10 @@ use std::marker::Model;
 /// All its memory is got as it is made. The bounds `IsWithinBounds` hold at all times, and each
 /// call tells them.
 ///
-/// But for [`Directory::resize`] and [`Directory::move_into`], each call looks at a fixed number of records, and where a page that
-/// had been freed leaves its place, at some more for each halving of the page numbers. [`Directory::request`] and
-/// [`Directory::give_up`] look at a busy page once after it last came to the front of its list, or was named by
-/// [`Directory::freed`].
+/// But for [`Directory::resize`] and [`Directory::move_into`], each call looks at a fixed number of records, and at
+/// those of the busy pages that a search passes over. Where a page that was passed over is freed or leaves its place,
+/// it looks at some more for each halving of the size of the cache. A busy page is passed over once after it last came
+/// to the front of its list, or was named by [`Directory::freed`]; [`Search`] says when a search begins anew.
 #[derive(Debug, Drop)]
 pub struct Directory<L: Lists = Names> {
     c: u32,
@@ -143,6 +143,7 @@ impl Directory<Links> {
         ensures lists { self.new ≡ resized self.old c }
         ensures bounds { IsWithinBounds self.new }
     {
+        // Only for the proof: by its clause `room` there is a record for each page number, so any size fits.
         let _pages = self.links.pages();
         keep_first(&mut self.links, c);
         self.target = c.min(self.target);
@@ -387,20 +388,21 @@ impl<L: Lists> Directory<L> {
 
     /// Moves the lists into a larger directory, which is empty. This takes no memory: whoever made that one got it.
     ///
-    /// The cache has as many pages as before.
+    /// The cache may hold as many pages as the larger directory was made for. The lists and the target stay.
     pub fn move_into(&mut self, larger: Directory<L>)
         requires more { self.old.pages ≤ larger.pages }
         requires larger { self.old.c ≤ larger.c }
         requires empty { larger ≡ empty_lists larger.c larger.pages }
-        ensures lists { self.new ≡ with_pages self.old larger.pages }
+        ensures lists { self.new ≡ moved_into self.old larger }
         ensures bounds { IsWithinBounds self.new }
     {
         let Directory {
-            c: _,
+            c: size,
             target: _,
             links,
         } = larger;
         move_into(&mut self.links, links);
+        self.c = size;
     }
 
     /// Takes the page out of its list. A page that stands nowhere changes nothing.

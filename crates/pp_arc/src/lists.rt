@@ -1,12 +1,13 @@
 //! ARC's four lists, whoever keeps them.
 
 ghost use Rattle.std.specs.Prelude.{◌≡◌, ◌≢◌, ℕ, ◌+◌, ◌^◌, ◌<◌, ◌≤◌, ◌⊎◌, Bool, IsTrue, IfSome, IsSome, Some, None};
-ghost use Rattle.std.specs.Prelude.{length, slice_get, ◌∷◌, ◌++◌, []};
+ghost use Rattle.std.specs.Prelude.{length, slice_get, ◌++◌, []};
 ghost use Rattle.pp_arc.specs.declared.list.List.{List as ListName};
-ghost use Rattle.pp_arc.specs.Pages.{last_not_busy, last_page, behind, contains};
+ghost use Rattle.pp_arc.specs.Pages.{last_not_busy, last_page};
 ghost use Rattle.pp_arc.specs.FourLists.{FourLists, list_of, place, after, times_named, total_count};
 ghost use Rattle.pp_arc.specs.Figure.{forget};
-ghost use Rattle.pp_arc.specs.Links.{with_front, without_last_of, with_list, with_first, with_lists_of, FitsInto};
+ghost use Rattle.pp_arc.specs.Links.{with_front, without_last_of, with_list, with_first, with_lists_of};
+ghost use Rattle.pp_arc.specs.Links.{SomeAhead, NoneAhead, FitsInto};
 ghost use Rattle.pp_arc.specs.Search.{KnowsBusy};
 ghost use Rattle.pp_arc.specs.Sizes.{renamed};
 
@@ -48,11 +49,8 @@ pub trait Lists: Drop {
     /// The next more recent page of the list in which this page stands.
     fn before(&self, page: u32) -> Option<u32>
         requires { IsSome (place (lists self.now) page) }
-        ensures some { (list : ListName) (ahead : ℕ) → place (lists self.now) page ≡ Some list → result ≡ Some ahead
-            → IsTrue (contains (list_of (lists self.now) list) ahead)
-            × (behind (list_of (lists self.now) list) ahead ≡ page ∷ behind (list_of (lists self.now) list) page) }
-        ensures none { (list : ListName) → place (lists self.now) page ≡ Some list → result ≡ None
-            → list_of (lists self.now) list ≡ page ∷ behind (list_of (lists self.now) list) page };
+        ensures some { SomeAhead (lists self.now) page result }
+        ensures none { NoneAhead (lists self.now) page result };
 
     /// The last page of the list that isn't busy.
     fn last_not_busy<B: Busy>(&self, list: List, busy: &B) -> Option<u32>

@@ -1,14 +1,12 @@
 //! Four lists of pages by name: a page has a node of the links only while it stands in a list.
 
-ghost use Rattle.std.specs.Prelude.{◌≡◌, ℕ, ◌+◌, ◌^◌, ◌<◌, ◌≤◌, ◌⊎◌, IsTrue, IfOk, IfSome, Some, None};
-ghost use Rattle.std.specs.Prelude.{slice_get, slice_index, option_map, length, IsSome, ◌∷◌};
-ghost use Rattle.pp_arc.specs.declared.list.List.{List as ListName};
-ghost use Rattle.pp_arc.specs.Pages.{last_not_busy, last_page, behind, contains};
+ghost use Rattle.std.specs.Prelude.{◌≡◌, ℕ, ◌+◌, ◌^◌, ◌<◌, ◌≤◌, ◌⊎◌, IfOk, IfSome, Some, None};
+ghost use Rattle.std.specs.Prelude.{slice_get, slice_index, option_map, length, IsSome};
+ghost use Rattle.pp_arc.specs.Pages.{last_not_busy, last_page};
 ghost use Rattle.pp_arc.specs.FourLists.{empty_lists, list_of, place, after, times_named, total_count};
 ghost use Rattle.pp_arc.specs.Figure.{forget};
-ghost use Rattle.pp_arc.specs.Links.{with_front, without_last_of};
+ghost use Rattle.pp_arc.specs.Links.{with_front, without_last_of, SomeAhead, NoneAhead};
 ghost use Rattle.pp_arc.specs.Names.{lists_named, HasNode, IsNaming};
-ghost use Rattle.pp_arc.specs.Names.{SomeAhead, NoneAhead};
 
 use crate::links::Links;
 use crate::lists::Lists;
@@ -164,12 +162,8 @@ impl NamedLinks {
     /// The next more recent page of the list in which this page stands.
     pub(crate) fn before(&self, page: u32) -> Option<u32>
         requires { IsSome (place (lists_named self.now) page) }
-        ensures some { (list : ListName) (ahead : ℕ) → place (lists_named self.now) page ≡ Some list
-            → result ≡ Some ahead → IsTrue (contains (list_of (lists_named self.now) list) ahead)
-            × (behind (list_of (lists_named self.now) list) ahead
-            ≡ page ∷ behind (list_of (lists_named self.now) list) page) }
-        ensures none { (list : ListName) → place (lists_named self.now) page ≡ Some list → result ≡ None
-            → list_of (lists_named self.now) list ≡ page ∷ behind (list_of (lists_named self.now) list) page }
+        ensures some { SomeAhead (lists_named self.now) page result }
+        ensures none { NoneAhead (lists_named self.now) page result }
     {
         match self.node(page) {
             Some(node) => self.page_before(node),
@@ -216,6 +210,7 @@ impl NamedLinks {
     }
 
     /// Takes the page out of its list, if it stands in one, and puts it at the front of the list.
+    #[inline(always)]
     pub(crate) fn move_first(&mut self, list: List, page: u32)
         requires below { page < length self.old.names }
         requires room { (total_count (forget (lists_named self.old) page) < length self.old.pages)
@@ -230,6 +225,7 @@ impl NamedLinks {
     }
 
     /// The page of the node goes to the front of the list, with its node.
+    #[inline(always)]
     fn move_node(&mut self, list: List, node: u32)
         requires stands { 1 ≤ times_named self.old.links node }
         ensures lists { lists_named self.new ≡ with_front

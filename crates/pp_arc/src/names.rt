@@ -81,6 +81,7 @@ impl Lists for Names {
         self.named.put_first(list, page);
     }
 
+    #[inline(always)]
     fn move_first(&mut self, list: List, page: u32) {
         self.named.move_first(list, page);
     }

@@ -10,7 +10,7 @@ use std::marker::Model;
 
 /// The numbers that searches gave to the pages that they passed over, and which of these pages were freed.
 ///
-/// A page has a slot while it has a number. It takes 4 bytes for each page number, and 28 for each slot.
+/// A page has a slot exactly while it has a number. It takes 4 bytes for each page number, and 28 for each slot.
 ///
 /// Contracts see it as the record `Slotted`, and what it tells of each page as `numbers_of`, `freed_t1_of` and `freed_t2_of`.
 #[derive(Debug, Drop)]
@@ -50,6 +50,7 @@ impl Numbers {
         ensures pages { IfOk result (λ numbers. length numbers.slots ≡ pages) }
         ensures blank { IfOk result (λ numbers. (x : ℕ) → slice_index numbers.slots x ≡ 0) }
         ensures slotted { IfOk result IsSlotted }
+        ensures spare { IfOk result (λ numbers. numbers.spare ≡ most) }
     {
         let mut free = vec![in alloc; 0; most as usize]?;
         for slot in 0..most {
@@ -90,11 +91,14 @@ impl Numbers {
         self.number_in(self.slot(page))
     }
 
-    /// The page has this number from now on. Where no slot is free for it nothing changes, and the result is false.
+    /// The page has this number from now on. Where it has no slot and none is free, nothing changes, and the result is
+    /// false.
     pub(crate) fn set(&mut self, page: u32, number: u32) -> bool
         requires below { page < length self.old.slots }
+        requires number { 0 < number }
         ensures set { IsTrue result → numbers_of self.new ≡ slice_set (numbers_of self.old) page number }
         ensures refused { IsFalse result → numbers_of self.new ≡ numbers_of self.old }
+        ensures full { IsFalse result → (self.old.spare ≡ 0) × (slice_index self.old.slots page ≡ 0) }
         ensures freed { (freed_t1_of self.new ≡ freed_t1_of self.old) × (freed_t2_of self.new ≡ freed_t2_of self.old) }
     {
         let slot = self.slot(page);
@@ -109,6 +113,7 @@ impl Numbers {
     fn renumber(&mut self, page: u32, slot: u32, number: u32)
         requires slot { slot ≡ slice_index self.old.slots page }
         requires some { 0 < slot }
+        requires number { 0 < number }
         ensures numbers { numbers_of self.new ≡ slice_set (numbers_of self.old) page number }
         ensures freed { (freed_t1_of self.new ≡ freed_t1_of self.old) × (freed_t2_of self.new ≡ freed_t2_of self.old) }
     {
@@ -119,8 +124,10 @@ impl Numbers {
     fn put_in(&mut self, page: u32, number: u32) -> bool
         requires below { page < length self.old.slots }
         requires none { slice_index self.old.slots page ≡ 0 }
+        requires number { 0 < number }
         ensures set { IsTrue result → numbers_of self.new ≡ slice_set (numbers_of self.old) page number }
         ensures refused { IsFalse result → numbers_of self.new ≡ numbers_of self.old }
+        ensures full { IsFalse result → (self.old.spare ≡ 0) × (slice_index self.old.slots page ≡ 0) }
         ensures freed { (freed_t1_of self.new ≡ freed_t1_of self.old) × (freed_t2_of self.new ≡ freed_t2_of self.old) }
     {
         if self.spare == 0 {
@@ -181,6 +188,7 @@ impl Numbers {
         ensures freed { freed_t1_of self.new ≡ slice_set (freed_t1_of self.old) page number }
         ensures rest { (numbers_of self.new ≡ numbers_of self.old) × (freed_t2_of self.new ≡ freed_t2_of self.old) }
     {
+        // This changes nothing: with a look at a field, the proof may use what holds of all of them.
         let _ = &self.slots;
         self.freed_t1.set(slot, number);
     }
@@ -204,6 +212,7 @@ impl Numbers {
         ensures freed { freed_t2_of self.new ≡ slice_set (freed_t2_of self.old) page number }
         ensures rest { (numbers_of self.new ≡ numbers_of self.old) × (freed_t1_of self.new ≡ freed_t1_of self.old) }
     {
+        // As in `free_in_t1`, for the proof.
         let _ = &self.slots;
         self.freed_t2.set(slot, number);
     }

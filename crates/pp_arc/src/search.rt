@@ -15,7 +15,7 @@ use crate::{Busy, List};
 use std::alloc::{AllocError, Global};
 use std::marker::Model;
 
-/// Where the searches for a page that isn't busy stand, so that none walks over the same busy pages again.
+/// Where the searches for a page that isn't busy stand, so that they need not walk over the same busy pages again.
 ///
 /// Its owner keeps it beside a directory and its busy pages, hands it to each call that moves pages of the directory, and
 /// tells [`Directory::freed`](crate::Directory::freed) of each page that stops being busy. Then `KnowsBusy` holds: a page that a
@@ -25,6 +25,10 @@ use std::marker::Model;
 /// is none it goes on from the mark, the page that the last search passed over, and moves the mark over the busy pages that it
 /// meets. So each page is passed over once after it last came to the front of its list, or was freed. A freed page costs up to three
 /// steps for each time that the size of the cache can be halved.
+///
+/// A search begins anew at the last page of its list in two cases. The numbers of the pages that were passed over fall
+/// from `u32::MAX` on, and may be used up. Or more pages are busy than [`Search::new`] made room for: then each search
+/// that comes to the first page without room walks over all busy pages from the end of the list.
 #[derive(Debug, Drop)]
 pub struct Search {
     t1: Option<u32>,
@@ -53,7 +57,7 @@ impl Search {
     /// A search that has passed over no page, for a cache of `c` pages, of page numbers below `pages`.
     ///
     /// It takes 4 bytes for each page number, and 28 for each page that the cache holds. A larger cache gets the same victims from
-    /// it; but once `c` busy pages were passed over, a search walks over the others that it meets each time.
+    /// it; but once `c` busy pages were passed over, each search that meets another one walks over all of them.
     ///
     /// # Errors
     ///

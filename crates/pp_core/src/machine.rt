@@ -379,7 +379,8 @@ impl Core {
 
     /// The sum of the peaks of the plans that run: at most the frames.
     pub fn running_peaks(&self) -> u64
-        ensures { (s : State) → StandsFor self.now s → result ≡ running_peaks s }
+        ensures value { (s : State) → StandsFor self.now s → result ≡ running_peaks s }
+        ensures fits { result ≤ self.now.layout.frames }
     {
         self.table.running
     }

@@ -1,6 +1,7 @@
 //! What the table tells.
 
-ghost use Rattle.std.specs.Prelude.{◌≡◌, ◌+◌, ◌^◌, ◌≤◌, length, slice_get, count_by};
+ghost use Rattle.std.specs.Prelude.{◌≡◌, ◌+◌, ◌^◌, ◌≤◌, length, slice_get};
+ghost use Rattle.pp_frames.specs.Marks.{all_dirty};
 ghost use Rattle.pp_core.specs.Queries.{idle_seat, held_seat, ask_holding_seat, gathered_in, errand_seat};
 
 use crate::seat::Phase;
@@ -79,7 +80,7 @@ impl Table {
 
     /// How many pages are newer than the device's.
     pub(crate) fn dirty(&self) -> u32
-        ensures { result ≡ count_by (λ m. m.dirty) self.now.marks.pages }
+        ensures { result ≡ all_dirty self.now.marks }
     {
         self.marks.all_dirty()
     }

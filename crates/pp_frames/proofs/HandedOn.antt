@@ -1,4 +1,4 @@
--- What it does to the map, and to what the code keeps of it, that a page gets the frame of another one, which then
+-- What it does to the map, and to what the code keeps of it, that a page gets the frame of another one. That one then
 -- stands in none: two moves, of which the set of the free frames shows the second alone.
 use Rattle.std.proofs.Common.{◌≡◌, ℕ, ◌<◌, Bool, true, false, List, length, set, Option, Some, None, refl, ap, sym}
 use Rattle.std.proofs.Common.{◌∙◌, arith}

@@ -56,15 +56,19 @@ marks_in a page =
 abbrev pub map_of : Arrays → PageMap
 map_of a = record { frames = length a.held; pages = map (marks_in a) (range_with_len 0 (length a.homes)) }
 
--- What holds of them whenever no call is under way: there is as much of each for each page; a page stands in one of the
--- frames, and no other page stands there; a frame in which no page stands is not held; and no stamp exceeds the top.
+-- What holds of them whenever no call is under way.
 pub record IsTidy (a : Arrays) : Type 0 where
+  -- there is as much of each for each page
   pub stamps : length a.stamps ≡ length a.homes
   pub known : length a.known ≡ length a.homes
   pub dirty : length a.dirty ≡ length a.homes
+  -- a page stands in one of the frames, and no other page stands there
   pub in_range : (page frame : ℕ) → home_in a page ≡ Some frame → frame < length a.held
   pub no_frame_twice : (p q frame : ℕ) → home_in a p ≡ Some frame → home_in a q ≡ Some frame → p ≡ q
+  -- a frame in which no page stands is not held
   pub at_rest : (frame : ℕ) → ((page : ℕ) → home_in a page ≡ Some frame → ⊥)
       → slice_index_or a.held frame not_held ≡ not_held
+  -- no stamp exceeds the top
   pub top : (page : ℕ) → slice_index_or a.stamps page 0 ≤ a.top
+  -- a frame's number has 32 bits
   pub frames_fit : length a.held < 2 ^ 32

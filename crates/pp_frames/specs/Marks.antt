@@ -170,12 +170,16 @@ pub record IsFlushable (m : PageMap) (page : ℕ) : Type 0 where
   pub placed : IsSome (frame_of m page)
   pub no_writer : is_exclusive (latches_of m page) ≡ false
 
--- Whatever calls were made: a page's frame is one of the pool's, no frame has two pages, a page with pins stands in a
--- frame, a page has no more latches than pins, and there are no more pins in all than frames. That the latches of a
--- page are all shared or a single exclusive one lies in the type Latches.
+-- What holds whatever calls were made. That the latches of a page are all shared or a single exclusive one lies in the
+-- type Latches.
 pub record IsSound (m : PageMap) : Type 0 where
+  -- a page's frame is one of the pool's
   pub in_range : (page frame : ℕ) → frame_of m page ≡ Some frame → frame < m.frames
+  -- no frame has two pages
   pub no_frame_twice : (p q frame : ℕ) → frame_of m p ≡ Some frame → frame_of m q ≡ Some frame → p ≡ q
+  -- a page with pins stands in a frame
   pub pinned_is_placed : (page : ℕ) → 0 < pins_of m page → IsSome (frame_of m page)
+  -- a page has no more latches than pins
   pub latched_is_pinned : (page : ℕ) → latch_count (latches_of m page) ≤ pins_of m page
+  -- there are no more pins in all than frames
   pub pins_fit : all_pins m ≤ m.frames

@@ -407,6 +407,7 @@ impl Vault {
     ///
     /// [`Refusal::Stranger`] where the session's worker doesn't act, or the session tells another slot than the plan; else
     /// what the core refuses. The session comes back, and nothing has changed.
+    #[inline(always)]
     pub fn fix(&mut self, session: Session, page: u32) -> Result<(Fixed, Done), (Session, Refusal)>
         ensures ok { IfOk result (λ now. FixAnswers self.old session page now.0 self.new) }
         ensures done { IfOk result (λ now. Tells self.old (fix_call session.worker (fix_slot session.ask) page) now.1) }
@@ -442,6 +443,7 @@ impl Vault {
     ///
     /// [`Refusal::Stranger`] where a token isn't one of this state, and [`Refusal::OffPlan`] where the plan asks
     /// something else. The tokens come back, and nothing changes.
+    #[inline(always)]
     pub fn unfix(
         &mut self,
         session: Session,
@@ -490,6 +492,7 @@ impl Vault {
     /// # Errors
     ///
     /// [`Refusal::NotNow`] where the page is latched X, and else as in [`Vault::unfix`].
+    #[inline(always)]
     pub fn latch_shared(
         &mut self,
         session: Session,
@@ -560,6 +563,7 @@ impl Vault {
     /// # Errors
     ///
     /// As in [`Vault::unfix`].
+    #[inline(always)]
     pub fn unlatch_shared(
         &mut self,
         session: Session,

@@ -5,8 +5,8 @@ use Rattle.pp_arc.proofs.directory.Directory.move_into.Goals as goal
 
 pub move_into-requires : goal.move_into-requires
 move_into-requires g c =
-    let m : MovesIn (g.L.Lists.lists c.self.inside.links) c.self.inside.c c.self.inside.target
-    (g.L.Lists.lists c.larger.inside.links) =
+    let m : MovesIn (g.L.Lists.lists c.self.inside.links) c.self.inside.target
+    (g.L.Lists.lists c.larger.inside.links) c.larger.inside.c =
     moves_in (g.L.Lists.lists c.self.inside.links) c.args.self.now (g.L.Lists.lists c.larger.inside.links) c.args.larger
     c.self.inside.c c.self.inside.target c.larger.inside.c c.larger.inside.target c.self.invariant c.larger.invariant
     c.self.view_is c.larger.view_is c.requires.more c.requires.larger c.requires.empty
@@ -15,8 +15,8 @@ move_into-requires g c =
 
 pub invariant_of-self : goal.invariant_of-self
 invariant_of-self g c =
-    let m : MovesIn (g.L.Lists.lists c.self.inside.links) c.self.inside.c c.self.inside.target
-    (g.L.Lists.lists c.larger.inside.links) =
+    let m : MovesIn (g.L.Lists.lists c.self.inside.links) c.self.inside.target
+    (g.L.Lists.lists c.larger.inside.links) c.larger.inside.c =
     moves_in (g.L.Lists.lists c.self.inside.links) c.args.self.now (g.L.Lists.lists c.larger.inside.links) c.args.larger
     c.self.inside.c c.self.inside.target c.larger.inside.c c.larger.inside.target c.self.invariant c.larger.invariant
     c.self.view_is c.larger.view_is c.requires.more c.requires.larger c.requires.empty
@@ -31,8 +31,8 @@ returns-clause-lists g c =
 
 pub returns-clause-bounds : goal.returns-clause-bounds
 returns-clause-bounds g c =
-    let m : MovesIn (g.L.Lists.lists c.self.inside.links) c.self.inside.c c.self.inside.target
-    (g.L.Lists.lists c.larger.inside.links) =
+    let m : MovesIn (g.L.Lists.lists c.self.inside.links) c.self.inside.target
+    (g.L.Lists.lists c.larger.inside.links) c.larger.inside.c =
     moves_in (g.L.Lists.lists c.self.inside.links) c.args.self.now (g.L.Lists.lists c.larger.inside.links) c.args.larger
     c.self.inside.c c.self.inside.target c.larger.inside.c c.larger.inside.target c.self.invariant c.larger.invariant
     c.self.view_is c.larger.view_is c.requires.more c.requires.larger c.requires.empty

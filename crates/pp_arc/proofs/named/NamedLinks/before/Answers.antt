@@ -1,6 +1,7 @@
 -- What is left to show of NamedLinks::before.
 use Rattle.std.proofs.Common.{refl, subst, ℕ}
-use Rattle.pp_arc.specs.Names.{SomeAhead, NoneAhead, lists_named}
+use Rattle.pp_arc.specs.Links.{SomeAhead, NoneAhead}
+use Rattle.pp_arc.specs.Names.{lists_named}
 use Rattle.pp_arc.proofs.NamingLemmas.{placed-node}
 use Rattle.pp_arc.proofs.named.NamedLinks.before.Goals as goal
 
@@ -14,6 +15,10 @@ returns-in-Some c = record {
   none = subst (λ (y : ℕ). NoneAhead (lists_named c.args.self.now) y c.page_before.result)
       (c.in-Some.ensures.some c.in-Some.node refl).page c.page_before.ensures.none;
 }
+
+pub returns-in-None-clause-some : goal.returns-in-None-clause-some
+returns-in-None-clause-some c = λ list ahead at e.
+    absurd (placed-node (lists_named c.args.self.now) c.args.page c.requires (c.in-None.ensures.none refl))
 
 pub returns-in-None-clause-none : goal.returns-in-None-clause-none
 returns-in-None-clause-none c = λ list at e.

@@ -2,7 +2,8 @@
 use Rattle.std.proofs.Common.{◌≡◌, ap, sym, subst, ℕ, ◌∙◌, ◌≤◌, get_or}
 use Rattle.std.specs.Prelude.{Option, Some, None}
 use Rattle.pp_arc.specs.FourLists.{times_named}
-use Rattle.pp_arc.specs.Names.{Naming, naming_of, SomeAhead, NoneAhead, lists_named}
+use Rattle.pp_arc.specs.Links.{SomeAhead, NoneAhead}
+use Rattle.pp_arc.specs.Names.{Naming, naming_of, lists_named}
 use Rattle.pp_arc.proofs.NameLemmas.{page_in}
 use Rattle.pp_arc.proofs.NamingLemmas.{aheads, placed}
 use Rattle.pp_arc.proofs.named.NamedLinks.page_before.Goals as goal

@@ -9,7 +9,10 @@ use Rattle.pp_arc.proofs.search.Search.pass.Goals as goal
 pub set-requires : goal.set-requires
 set-requires c =
     let low : c.args.page < length (numbers_of c.self.inside.numbers) = rw (← c.self.view_is) at c.requires.below in
-    record { below = omega (arith, low, long c.self.inside.numbers.slots c.self.inside.numbers.numbers) }
+    record {
+      below = omega (arith, low, long c.self.inside.numbers.slots c.self.inside.numbers.numbers);
+      number = c.requires.number;
+    }
 
 pub overflow_add-self : goal.overflow_add-self
 overflow_add-self c =
