@@ -114,6 +114,38 @@ impl<S: Site, D: Device> Flusher<S, D> {
     }
 }
 
+impl<S, D> Flusher<S, D> {
+    /// The site where it asked, and the same flusher over another site: with its device, the flush in hand and its
+    /// counts. So a flusher can be kept between two turns without a site, and be given one for each.
+    pub fn over_site<T>(self, site: T) -> (S, Flusher<T, D>)
+        ensures before { result.0 ≡ self.site }
+        ensures site { result.1.site ≡ site }
+        ensures device { result.1.device ≡ self.device }
+        ensures flushing { result.1.flushing ≡ self.flushing }
+        ensures ended { result.1.ended ≡ self.ended }
+        ensures failed { result.1.failed ≡ self.failed }
+        ensures from { result.1.from ≡ self.from }
+    {
+        let Flusher {
+            site: before,
+            device,
+            flushing,
+            ended,
+            failed,
+            from,
+        } = self;
+        let over = Flusher {
+            site,
+            device,
+            flushing,
+            ended,
+            failed,
+            from,
+        };
+        (before, over)
+    }
+}
+
 /// What the flusher asks. With an errand in hand the device is called.
 #[tactic(auto, using(crate::proofs::Flushed::failed_by))]
 fn next_request<D: Device>(flushing: Option<Flushing>, from: u32, device: &mut D) -> Request
