@@ -10,6 +10,7 @@ use Rattle.pp_model.specs.declared.moves.Move.TheVariants as move
 use Rattle.pp_model.specs.declared.reply.Reply.{Reply}
 use Rattle.pp_model.specs.declared.reply.Reply.TheVariants as reply
 use Rattle.pp_model.specs.declared.refusals.Delay.{Delay}
+use Rattle.pp_model.specs.declared.refusals.Delay.TheVariants.{NoRoom}
 use Rattle.pp_model.specs.declared.refusals.Cause.{Cause}
 use Rattle.pp_model.specs.declared.refusals.Cause.TheVariants.{NotAsked}
 use Rattle.pp_model.specs.Pool.{State, frame_of}
@@ -19,7 +20,7 @@ use Rattle.pp_vault.specs.declared.refusal.Refusal.TheVariants.{NotNow, OffPlan,
 use Rattle.pp_vault.specs.Calls.{Call, stranger, asks, refusal_in, refusal_of}
 use Rattle.pp_cert.specs.declared.note.Held.TheVariants.{Free}
 use Rattle.pp_plan.specs.declared.mode.Mode.TheVariants as mode
-use Rattle.pp_core.specs.Queries.{ask_of}
+use Rattle.pp_core.specs.Queries.{ask_of, is_idle}
 use Rattle.pp_vault.specs.Fits.{guard_call, names_slot, fix_slot, fix_call, fits_both, asks_latch}
 use Rattle.pp_vault.specs.Holding.{placed}
 use Rattle.pp_pool.specs.declared.request.Request.{Request}
@@ -27,11 +28,11 @@ use Rattle.pp_pool.specs.declared.request.Request.TheVariants as request
 use Rattle.pp_pool.specs.Requests.{can_join, bundle_asked}
 use Rattle.pp_pool.specs.Replies.{IsMoveOf}
 use Rattle.pp_wants.specs.declared.want.Want.{Want}
-use Rattle.pp_wants.specs.declared.want.Want.TheVariants.{Fix, Latch}
+use Rattle.pp_wants.specs.declared.want.Want.TheVariants.{Take, Fix, Latch}
 use Rattle.pp_wants.specs.declared.sleepers.Sleeper.{Sleeper}
 use Rattle.pp_wants.specs.Wants.{asked}
 use Rattle.pp_wants.specs.Sleepers.{untold, is_told}
-use Rattle.pp_wants.specs.WakeUps.{may_go, is_alike, IsOnItsWay, SleepsRightly}
+use Rattle.pp_wants.specs.WakeUps.{lacks_room, may_go, is_alike, IsOnItsWay, SleepsRightly}
 use Rattle.pp_wants.specs.Laws.{LetsTheSameGo, NoneLostWhereNobodyWaits, LostByStatesAlone, SleepingLosesNone}
 use Rattle.pp_wants.specs.Laws.{RisingLosesNone, IsWaitedFor, RefusedRequestsWait}
 use Rattle.pp_wants.proofs.Places.{told_there, same_untold, away, put_or_there}
@@ -48,7 +49,12 @@ alike_same : (s t : State) → LetsTheSameGo s t → (want other : Want) → is_
 alike_same s t same (Fix page) (Fix other) =
     ap (λ f. is_none f && is_none (frame_of t other)) (same.frames page)
     ∙ ap (λ f. is_none (frame_of s page) && is_none f) (same.frames other)
+alike_same s t same Take Take = refl
+alike_same s t same Take (Fix other) = refl
+alike_same s t same Take (Latch other mode) = refl
+alike_same s t same (Fix page) Take = refl
 alike_same s t same (Fix page) (Latch other mode) = refl
+alike_same s t same (Latch page exclusive) Take = refl
 alike_same s t same (Latch page exclusive) (Fix other) = refl
 alike_same s t same (Latch page exclusive) (Latch other mode) = refl
 
@@ -147,27 +153,36 @@ guarded s true true call delay e = e
 guarded s true false call delay e = absurd (unasked_now NotAsked delay e)
 guarded s false asked call delay e = absurd (stranger_now delay e)
 
-waits : (s : State) (request : Request) (worker : ℕ) (there want : Want) (why : Refusal)
+waits : (s : State) (request : Request) (worker : ℕ) (there want : Want)
     → ◌≡◌ {A = Option Want} (Some there) (Some want) → IsMoveOf request (asked there worker)
-    → refusal_of s (asks (asked there worker)) ≡ Some why → IsWaitedFor s request want
-waits s request worker there want why is asks_it e =
+    → may_go s worker there ≡ false → IsWaitedFor s request want
+waits s request worker there want is asks_it refused =
     subst (λ (w : Want). IsWaitedFor s request w) (same_Some there want is)
-    (record { worker = worker; asks = asks_it; refused = refused_move s (asked there worker) why e })
+    (record { worker = worker; asks = asks_it; refused = refused })
 
 pub refused_waits : RefusedRequestsWait
+refused_waits v s (request.Take chair) want NoRoom is e =
+    let now : refusal_of s (asks (move.Take chair.worker)) ≡ Some (NotNow NoRoom)
+    = fitting s (is_idle s chair.worker) (asks (move.Take chair.worker)) NoRoom e in
+    waits s (request.Take chair) chair.worker Take want is refl (ap (λ r. not (lacks_room r)) now)
+refused_waits v s (request.Take chair) want _ is e = absurd (none-some want is)
 refused_waits v s (request.Fix x page) want delay is e =
-    waits s (request.Fix x page) x.worker (Fix page) want (NotNow delay) is refl
-    (fitting s (names_slot (fix_slot x.ask) (ask_of s x.worker)) (asks (move.Fix x.worker page)) delay e)
+    waits s (request.Fix x page) x.worker (Fix page) want is refl
+    (refused_move s (move.Fix x.worker page) (NotNow delay)
+    (fitting s (names_slot (fix_slot x.ask) (ask_of s x.worker)) (asks (move.Fix x.worker page)) delay e))
 refused_waits v s (request.Join x page) want delay is e =
-    waits s (request.Join x page) x.worker (Fix page) want (NotNow delay) is refl
+    waits s (request.Join x page) x.worker (Fix page) want is refl
+    (refused_move s (move.Fix x.worker page) (NotNow delay)
     (fitting s (names_slot (fix_slot x.ask) (ask_of s x.worker)) (asks (move.Fix x.worker page)) delay
-    (fitting s (can_join s (bundle_asked x.worker x.ask)) (fix_call x.worker (fix_slot x.ask) page s) delay e))
+    (fitting s (can_join s (bundle_asked x.worker x.ask)) (fix_call x.worker (fix_slot x.ask) page s) delay e)))
 refused_waits v s (request.LatchShared x g) want delay is e =
-    waits s (request.LatchShared x g) x.worker (Latch g.page false) want (NotNow delay) is refl
+    waits s (request.LatchShared x g) x.worker (Latch g.page false) want is refl
+    (refused_move s (move.Latch x.worker) (NotNow delay)
     (guarded s (fits_both s x.worker g.worker g.slot g.page Free) (asks_latch g.slot mode.S (ask_of s x.worker))
-    (asks (move.Latch x.worker)) delay e)
+    (asks (move.Latch x.worker)) delay e))
 refused_waits v s (request.LatchExclusive x g) want delay is e =
-    waits s (request.LatchExclusive x g) x.worker (Latch g.page true) want (NotNow delay) is refl
+    waits s (request.LatchExclusive x g) x.worker (Latch g.page true) want is refl
+    (refused_move s (move.Latch x.worker) (NotNow delay)
     (guarded s (fits_both s x.worker g.worker g.slot g.page Free) (asks_latch g.slot mode.X (ask_of s x.worker))
-    (asks (move.Latch x.worker)) delay e)
+    (asks (move.Latch x.worker)) delay e))
 refused_waits v s _ want delay is e = absurd (none-some want is)

@@ -1,13 +1,15 @@
 -- What a place says of its worker, and lists of places of which one changes.
-use Rattle.std.proofs.Common.{◌≡◌, ℕ, ◌<◌, ◌⊎◌, Bool, true, false, None, Some, List, length, set, refl, ap, sym}
-use Rattle.std.proofs.Common.{◌∙◌, inl, inr}
+use Rattle.std.proofs.Common.{◌≡◌, ℕ, zero, suc, ◌+◌, ◌-◌, ◌<◌, ◌≤◌, ◌^◌, ◌⊎◌, Bool, true, false, None, Some, List, length, set}
+use Rattle.std.proofs.Common.{refl, ap, sym, ◌∙◌, inl, inr, arith, cond, count_by, replicate}
 use Rattle.std.specs.Prelude.{Option}
 use Rattle.std.proofs.lemmas.Bool.{cases_eq, cases_lt, both_ways}
-use Rattle.std.proofs.lemmas.List.{get_or_past, get_or-set_same, get_or-set_other, length-set, set_past}
+use Rattle.std.proofs.lemmas.List.{get_or_past, get_or-set_same, get_or-set_other, length-set, set_past, length-replicate}
+use Rattle.std.proofs.lemmas.List.Sums.{sum_by-set, get_or-le-sum_by, count_by-le-length}
 use Rattle.std.proofs.lemmas.Option.{none-some, same_Some}
 use Rattle.pp_vault.specs.Holding.{placed}
 use Rattle.pp_wants.specs.declared.want.Want.{Want}
 use Rattle.pp_wants.specs.declared.sleepers.Sleeper.{Sleeper}
+use Rattle.pp_wants.specs.Inside.{IsCounted, counts_in}
 use Rattle.pp_wants.specs.Sleepers.{untold, told, want_in, is_told, is_untold, Keeps}
 
 -- ---- one place
@@ -118,3 +120,47 @@ module _ (xs : List (Option Sleeper)) (worker : ℕ) (want : Want) (there : plac
               | inl is ↦ ap (λ k. is_told (placed (set xs worker (Some (told want))) k)) is ∙ ap is_told here
             ];
       }
+
+-- ---- how many weren't told
+
+-- One place changes.
+pub counted_on : (xs : List (Option Sleeper)) (n worker : ℕ) (p before : Option Sleeper) → IsCounted xs n
+    → worker < length xs → placed xs worker ≡ before → IsCounted (set xs worker p) (n + counts_in p - counts_in before)
+counted_on xs n worker p before counted lt there =
+    let steps : count_by is_untold (set xs worker p) + counts_in (placed xs worker) ≡ count_by is_untold xs + counts_in p
+    = sum_by-set counts_in xs worker p None lt in
+    let same : counts_in (placed xs worker) ≡ counts_in before = ap counts_in there in
+    record {
+      few = omega (arith, counted.few, length-set xs worker p);
+      same = omega (arith, steps, same, counted.same);
+    }
+
+pub counted_few : (xs : List (Option Sleeper)) (n : ℕ) → IsCounted xs n → n < 2 ^ 32
+counted_few xs n counted = omega (arith, counted.few, counted.same, count_by-le-length is_untold xs)
+
+abbrev none_asleep : Option Sleeper
+none_asleep = None
+
+counted_nobody : (n : ℕ) → count_by is_untold (replicate n none_asleep) ≡ 0
+counted_nobody zero = refl
+counted_nobody (suc n) = counted_nobody n
+
+pub counted_none : (n : ℕ) → n < 2 ^ 32 → IsCounted (replicate n None) 0
+counted_none n few = record {
+  few = omega (arith, few, length-replicate n none_asleep);
+  same = counted_nobody n;
+}
+
+one_where : (b : Bool) → ◌≡◌ {A = ℕ} (cond b 1 0) 0 → b ≡ false
+one_where true e = absurd (omega (arith, e))
+one_where false e = refl
+
+-- Where it is nobody, no place has one.
+pub counted_nowhere : (xs : List (Option Sleeper)) → count_by is_untold xs ≡ 0 → (w : ℕ) → is_untold (placed xs w) ≡ false
+counted_nowhere xs none w =
+    elim (cases_lt w (length xs)) [
+      | inl lt ↦
+          let low : cond (is_untold (placed xs w)) 1 0 ≤ count_by is_untold xs = get_or-le-sum_by counts_in xs w None lt in
+          one_where (is_untold (placed xs w)) (omega (arith, low, none))
+      | inr le ↦ ap is_untold (get_or_past xs w None le)
+    ]

@@ -1,9 +1,9 @@
 -- Settling: one worker after the other.
 use Rattle.std.proofs.Common.{◌≡◌, ℕ, ◌+◌, ◌<◌, ◌≤◌, Bool, true, false, not, ◌&&◌, None, Some, List, length, set}
-use Rattle.std.proofs.Common.{replicate, subst, refl, ap, sym, ◌∙◌, inl, inr, eqb, arith}
+use Rattle.std.proofs.Common.{subst, refl, ap, sym, ◌∙◌, inl, inr, eqb, arith}
 use Rattle.std.specs.Prelude.{Option}
 use Rattle.std.proofs.lemmas.Bool.{cases_eq, cases_lt, both_ways, and_parts, and_from}
-use Rattle.std.proofs.lemmas.List.{get_or_past, get_or-set_same, get_or-replicate, length-set, length-replicate}
+use Rattle.std.proofs.lemmas.List.{get_or_past}
 use Rattle.std.proofs.lemmas.Nat.Bits.{bit_at-zero}
 use Rattle.std.proofs.lemmas.Option.{none-some}
 use Rattle.pp_model.specs.Pool.{State}
@@ -12,12 +12,12 @@ use Rattle.pp_vault.specs.Parts as vault
 use Rattle.pp_vault.specs.StandsFor.{StandsFor}
 use Rattle.pp_wants.specs.declared.want.Want.{Want}
 use Rattle.pp_wants.specs.declared.sleepers.Sleeper.{Sleeper}
-use Rattle.pp_wants.specs.Masks.{has_worker}
+use Rattle.pp_wants.specs.Masks.{has_bell, bell_of}
 use Rattle.pp_wants.specs.Sleepers.{untold, told, is_told, is_untold, is_told_anew, Keeps}
-use Rattle.pp_wants.specs.WakeUps.{is_alike, IsOnItsWay, SleepsRightly, NoWakeUpIsLost, IsForgotten}
-use Rattle.pp_wants.specs.Inside.{is_told_alike, IsMasked}
+use Rattle.pp_wants.specs.WakeUps.{is_alike, IsOnItsWay, SleepsRightly, NoWakeUpIsLost, IsForgotten, IsRungFor}
+use Rattle.pp_wants.specs.Inside.{is_told_alike, IsCounted}
 use Rattle.pp_wants.proofs.Places.{told_there, untold_there, waits_there, told_or_not, away, within}
-use Rattle.pp_wants.proofs.Places.{keeps_same, keeps_on, untold_before, told_still, here, telling_keeps}
+use Rattle.pp_wants.proofs.Places.{keeps_same, keeps_on, untold_before, told_still, here, telling_keeps, counted_nowhere}
 
 -- ---- one that was told
 
@@ -70,29 +70,31 @@ module _ (s : State) (old new : List (Option Sleeper)) (k : Keeps old new) where
 
 -- ---- the loop
 
--- The first n workers are settled, and the mask has those that were told by that.
+-- The first n workers are settled, and the mask has the bells of those that were told by that.
 pub record IsSettledTo (v : vault.Parts) (old now : List (Option Sleeper)) (mask n : ℕ) : Type 0 where
   pub rest : Keeps old now
-  pub told : (w : ℕ) → has_worker mask w ≡ is_told_anew old now w
-  pub needed : (w : ℕ) → has_worker mask w ≡ true → (s : State) → StandsFor v s → IsForgotten s old w
+  pub told : (w : ℕ) → is_told_anew old now w ≡ true → has_bell mask (bell_of w) ≡ true
+  pub only : (b : ℕ) → has_bell mask b ≡ true → IsRungFor old now b
+  pub needed : (w : ℕ) → is_told_anew old now w ≡ true → (s : State) → StandsFor v s → IsForgotten s old w
   pub rightly : (s : State) → StandsFor v s → (w : ℕ) → w < n → SleepsRightly s now w
 
-abbrev none_asleep : Option Sleeper
-none_asleep = None
+no_bell : (b : ℕ) → has_bell 0 b ≡ false
+no_bell b = ap (λ n. eqb n 1) (bit_at-zero b)
 
-nobody : (w : ℕ) → has_worker 0 w ≡ false
-nobody w = ap (λ n. eqb n 1) (bit_at-zero w)
-
-not_anew : (b : Bool) → false ≡ (b && not b)
+not_anew : (b : Bool) → (b && not b) ≡ false
 not_anew true = refl
 not_anew false = refl
+
+nobody_anew : (xs : List (Option Sleeper)) (w : ℕ) → is_told_anew xs xs w ≡ true → ⊥
+nobody_anew xs w h = both_ways (is_told_anew xs xs w) (not_anew (is_told (placed xs w))) h
 
 pub settled_none : (v : vault.Parts) (xs : List (Option Sleeper)) → IsSettledTo v xs xs 0 0
 settled_none v xs =
     record {
       rest = keeps_same xs;
-      told = λ w. nobody w ∙ not_anew (is_told (placed xs w));
-      needed = λ w h. absurd (both_ways (has_worker 0 w) (nobody w) h);
+      told = λ w h. absurd (nobody_anew xs w h);
+      only = λ b h. absurd (both_ways (has_bell 0 b) (no_bell b) h);
+      needed = λ w h. absurd (nobody_anew xs w h);
       rightly = λ s stands w lt. absurd (omega arith);
     }
 
@@ -103,6 +105,7 @@ settled_more v old now mask n x right =
     record {
       rest = x.rest;
       told = x.told;
+      only = x.only;
       needed = x.needed;
       rightly =
           λ s stands w lt. elim (cases_lt w n) [
@@ -116,8 +119,8 @@ settled_more v old now mask n x right =
 -- the next one is told
 module _ (v : vault.Parts) (old now : List (Option Sleeper)) (mask more n : ℕ) (want : Want)
     (x : IsSettledTo v old now mask n) (there : placed now n ≡ Some (untold want))
-    (forgotten : (s : State) → StandsFor v s → IsForgotten s now n) (more_here : has_worker more n ≡ true)
-    (more_others : (w : ℕ) → (w ≡ n → ⊥) → has_worker more w ≡ has_worker mask w) where
+    (forgotten : (s : State) → StandsFor v s → IsForgotten s now n) (more_here : has_bell more (bell_of n) ≡ true)
+    (more_others : (b : ℕ) → (b ≡ bell_of n → ⊥) → has_bell more b ≡ has_bell mask b) where
   abbrev new : List (Option Sleeper)
   new = set now n (Some (told want))
 
@@ -131,24 +134,48 @@ module _ (v : vault.Parts) (old now : List (Option Sleeper)) (mask more n : ℕ)
       and_from (is_told (placed new n)) (not (is_told (placed old n)))
       (told_there (placed new n) want (here now n want there)) (ap not (untold_there (placed old n) want was))
 
-  told_all : (w : ℕ) → has_worker more w ≡ is_told_anew old new w
-  told_all w =
-      elim (cases_eq w n) [
-        | inl is ↦
-            subst (λ (k : ℕ). has_worker more k ≡ is_told_anew old new k) (sym is)
-            (more_here ∙ sym told_here)
-        | inr ne ↦
-            more_others w ne ∙ x.told w
-            ∙ ap (λ p. is_told p && not (is_told (placed old w))) (sym (away now n (Some (told want)) w ne))
+  -- of the others the same were told
+  told_besides : (w : ℕ) → (w ≡ n → ⊥) → is_told_anew old new w ≡ is_told_anew old now w
+  told_besides w ne = ap (λ p. is_told p && not (is_told (placed old w))) (away now n (Some (told want)) w ne)
+
+  rung : (b : ℕ) → has_bell mask b ≡ true → has_bell more b ≡ true
+  rung b h =
+      elim (cases_eq b (bell_of n)) [
+        | inl is ↦ ap (λ k. has_bell more k) is ∙ more_here
+        | inr ne ↦ more_others b ne ∙ h
       ]
 
-  needed_all : (w : ℕ) → has_worker more w ≡ true → (s : State) → StandsFor v s → IsForgotten s old w
+  told_all : (w : ℕ) → is_told_anew old new w ≡ true → has_bell more (bell_of w) ≡ true
+  told_all w h =
+      elim (cases_eq w n) [
+        | inl is ↦ ap (λ k. has_bell more (bell_of k)) is ∙ more_here
+        | inr ne ↦ rung (bell_of w) (x.told w (sym (told_besides w ne) ∙ h))
+      ]
+
+  -- who was told before is told anew still
+  told_on : (w : ℕ) → is_told_anew old now w ≡ true → is_told_anew old new w ≡ true
+  told_on w h =
+      elim (cases_eq w n) [
+        | inl is ↦ ap (λ k. is_told_anew old new k) is ∙ told_here
+        | inr ne ↦ told_besides w ne ∙ h
+      ]
+
+  only_all : (b : ℕ) → has_bell more b ≡ true → IsRungFor old new b
+  only_all b h =
+      elim (cases_eq b (bell_of n)) [
+        | inl is ↦ record { worker = n; its = sym is; told = told_here }
+        | inr ne ↦
+            let before = x.only b (sym (more_others b ne) ∙ h) in
+            record { worker = before.worker; its = before.its; told = told_on before.worker before.told }
+      ]
+
+  needed_all : (w : ℕ) → is_told_anew old new w ≡ true → (s : State) → StandsFor v s → IsForgotten s old w
   needed_all w h =
       elim (cases_eq w n) [
         | inl is ↦
             λ s stands. subst (λ (k : ℕ). IsForgotten s old k) (sym is)
             (forgotten_before s old now x.rest n (forgotten s stands))
-        | inr ne ↦ x.needed w (sym (more_others w ne) ∙ h)
+        | inr ne ↦ x.needed w (sym (told_besides w ne) ∙ h)
       ]
 
   rightly_all : (s : State) → StandsFor v s → (w : ℕ) → w < n + 1 → SleepsRightly s new w
@@ -166,6 +193,7 @@ module _ (v : vault.Parts) (old now : List (Option Sleeper)) (mask more n : ℕ)
       record {
         rest = keeps_on old now new x.rest keeps;
         told = told_all;
+        only = only_all;
         needed = needed_all;
         rightly = rightly_all;
       }
@@ -193,39 +221,8 @@ pub none_lost : (v : vault.Parts) (xs : List (Option Sleeper)) → ((w : ℕ) �
 none_lost v xs none = λ s stands w want there.
     absurd (both_ways (is_untold (placed xs w)) (none w) (waits_there (placed xs w) want there))
 
--- as where the mask is empty
-pub none_waits_in : (xs ys : List (Option Sleeper)) (mask : ℕ) → IsMasked xs mask → mask ≡ 0 → xs ≡ ys → (w : ℕ)
+-- as where they count as none
+pub none_waits_in : (xs ys : List (Option Sleeper)) (n : ℕ) → IsCounted xs n → n ≡ 0 → xs ≡ ys → (w : ℕ)
     → is_untold (placed ys w) ≡ false
-none_waits_in xs ys mask masked empty same w =
-    ap (λ zs. is_untold (placed zs w)) (sym same) ∙ sym (masked.same w) ∙ ap (λ m. has_worker m w) empty ∙ nobody w
-
--- ---- the mask of those who sleep untold, where one place changes
-
-module _ (xs : List (Option Sleeper)) (mask more worker : ℕ) (p : Option Sleeper) (masked : IsMasked xs mask)
-    (lt : worker < length xs) (more_here : has_worker more worker ≡ is_untold p)
-    (more_others : (w : ℕ) → (w ≡ worker → ⊥) → has_worker more w ≡ has_worker mask w) where
-  pub masked_on : IsMasked (set xs worker p) more
-  masked_on =
-      record {
-        few = omega (arith, masked.few, length-set xs worker p);
-        same =
-            λ w. elim (cases_eq w worker) [
-              | inr ne ↦ more_others w ne ∙ masked.same w ∙ ap is_untold (sym (away xs worker p w ne))
-              | inl is ↦
-                  subst (λ (k : ℕ). has_worker more k ≡ is_untold (placed (set xs worker p) k)) (sym is)
-                  (more_here ∙ ap is_untold (sym (get_or-set_same xs worker p None lt)))
-            ];
-      }
-
-pub masked_none : (n : ℕ) → n ≤ 32 → IsMasked (replicate n None) 0
-masked_none n few =
-    record {
-      few = omega (arith, few, length-replicate n none_asleep);
-      same =
-          λ w. elim (cases_lt w n) [
-            | inl lt ↦ nobody w ∙ ap is_untold (sym (get_or-replicate n w none_asleep None lt))
-            | inr le ↦
-                let past : length (replicate n none_asleep) ≤ w = omega (arith, length-replicate n none_asleep) in
-                nobody w ∙ ap is_untold (sym (get_or_past (replicate n none_asleep) w None past))
-          ];
-    }
+none_waits_in xs ys n counted empty same w =
+    ap (λ zs. is_untold (placed zs w)) (sym same) ∙ counted_nowhere xs (counted.same ∙ empty) w

@@ -12,7 +12,7 @@ use Rattle.pp_pool.specs.Requests.{call_of}
 use Rattle.pp_pool.specs.Replies.{IsMoveOf}
 use Rattle.pp_wants.specs.declared.want.Want.{Want}
 use Rattle.pp_wants.specs.declared.sleepers.Sleeper.{Sleeper}
-use Rattle.pp_wants.specs.Wants.{want_of, asked}
+use Rattle.pp_wants.specs.Wants.{want_when, asked}
 use Rattle.pp_wants.specs.Sleepers.{untold, is_told, is_untold}
 use Rattle.pp_wants.specs.WakeUps.{may_go, NoWakeUpIsLost}
 
@@ -41,7 +41,7 @@ LostByStatesAlone =
     (old new : vault.Parts) (sleepers : List (Option Sleeper)) → StandsForTheSame old new
     → NoWakeUpIsLost old sleepers → NoWakeUpIsLost new sleepers
 
--- No wake-up is lost by a worker that falls asleep on what isn't possible, where it doesn't sleep told already.
+-- No wake-up is lost by a worker that falls asleep where it may not go, and doesn't sleep told already.
 abbrev pub SleepingLosesNone : Type 0
 SleepingLosesNone =
     (v : vault.Parts) (sleepers : List (Option Sleeper)) (worker : ℕ) (want : Want)
@@ -55,15 +55,15 @@ RisingLosesNone =
     → is_told (placed sleepers worker) ≡ false → NoWakeUpIsLost v sleepers
     → NoWakeUpIsLost v (slice_set sleepers worker None)
 
--- The want's move is the request's, and it isn't possible.
+-- The want's move is the request's, and its worker may not go.
 pub record IsWaitedFor (s : State) (request : Request) (want : Want) : Type 0 where
   pub worker : ℕ
   pub asks : IsMoveOf request (asked want worker)
   pub refused : may_go s worker want ≡ false
 
--- So it is where a request with a want is refused for now.
+-- So it is where a request is refused with a delay that has it wait.
 abbrev pub RefusedRequestsWait : Type 0
 RefusedRequestsWait =
     (v : vault.Parts) (s : State) (request : Request) (want : Want) (delay : Delay)
-    → want_of request ≡ Some want → refusal_of s (call_of v request s) ≡ Some (NotNow delay)
+    → want_when request delay ≡ Some want → refusal_of s (call_of v request s) ≡ Some (NotNow delay)
     → IsWaitedFor s request want

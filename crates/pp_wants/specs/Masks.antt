@@ -1,7 +1,11 @@
--- Sets of workers, as numbers.
-use Rattle.std.specs.Prelude.{ℕ, ◌==◌, Bool}
+-- Sets of bells, as numbers, and which bell is a worker's.
+use Rattle.std.specs.Prelude.{ℕ, ◌%◌, ◌==◌, Bool}
 use Rattle.std.specs.Int.{bit_at}
 
--- Whether the set has the worker: its bit is 1.
-abbrev pub has_worker : (mask worker : ℕ) → Bool
-has_worker mask worker = bit_at mask worker == 1
+-- Whether the set has the bell: its bit is 1.
+abbrev pub has_bell : (mask bell : ℕ) → Bool
+has_bell mask bell = bit_at mask bell == 1
+
+-- The worker's bell. There are 32, so workers whose numbers are 32 apart share one.
+abbrev pub bell_of : (worker : ℕ) → ℕ
+bell_of worker = worker % 32

@@ -2,10 +2,11 @@
 //!
 //! A worker whose request is refused for now sleeps with a [`Want`], and is told when it may go. [`Sleepers::settle`]
 //! asks the vault about each one that wasn't told yet. It leaves no lost wake-up: nobody sleeps untold on what is
-//! possible, unless another that was told of the same thing is on its way. Whom it told comes out of it as [`Wakes`], a
-//! value that must be spent.
+//! possible, unless another that was told of the same thing is on its way. The bells of those whom it told come out of it as
+//! [`Wakes`], a value that must be spent.
 #![tactic(auto)]
 
+pub use mask::{BELLS, bell_of};
 pub use sleepers::{Sleeper, Sleepers};
 pub use wakes::Wakes;
 pub use want::Want;

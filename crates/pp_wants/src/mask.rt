@@ -1,25 +1,25 @@
-//! Sets of workers, each a bit of one word.
+//! Sets of bells, each a bit of one word.
 
-ghost use Rattle.std.specs.Prelude.{◌≡◌, ℕ, ◌<◌, true, false};
-ghost use Rattle.pp_wants.specs.Masks.{has_worker};
+ghost use Rattle.std.specs.Prelude.{◌≡◌, ℕ, ◌<◌, true};
+ghost use Rattle.pp_wants.specs.Masks.{has_bell, bell_of};
 
-/// How many workers there are at most.
-pub(crate) const WORKERS: u32 = 32;
+/// How many bells there are.
+pub const BELLS: u32 = 32;
 
-/// The set with this worker.
-pub(crate) fn with_worker(mask: u32, worker: u32) -> u32
-    requires { worker < WORKERS }
-    ensures here { has_worker result worker ≡ true }
-    ensures others { (w : ℕ) → ¬ (w ≡ worker) → has_worker result w ≡ has_worker mask w }
+/// The worker's bell. Workers whose numbers are 32 apart share one: a bell that is rung for nothing does no harm, since who
+/// wakes asks again.
+pub fn bell_of(worker: u32) -> u32
+    ensures is { result ≡ bell_of worker }
+    ensures low { result < BELLS }
 {
-    mask | (1 << worker)
+    worker % BELLS
 }
 
-/// The set without this worker.
-pub(crate) fn without_worker(mask: u32, worker: u32) -> u32
-    requires { worker < WORKERS }
-    ensures here { has_worker result worker ≡ false }
-    ensures others { (w : ℕ) → ¬ (w ≡ worker) → has_worker result w ≡ has_worker mask w }
+/// The set with this bell.
+pub(crate) fn with_bell(mask: u32, bell: u32) -> u32
+    requires { bell < BELLS }
+    ensures here { has_bell result bell ≡ true }
+    ensures others { (b : ℕ) → ¬ (b ≡ bell) → has_bell result b ≡ has_bell mask b }
 {
-    mask & !(1 << worker)
+    mask | (1 << bell)
 }

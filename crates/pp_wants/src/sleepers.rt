@@ -1,14 +1,14 @@
 //! Who sleeps, for what, and who of them was told.
 
-ghost use Rattle.std.specs.Prelude.{◌≡◌, ℕ, ◌≤◌, true, false, None, Some, IfOk, IfSome, IfNone};
-ghost use Rattle.std.specs.Prelude.{replicate, slice_set};
+ghost use Rattle.std.specs.Prelude.{◌≡◌, ℕ, ◌≤◌, ◌<◌, true, false, None, Some, IfOk, IfSome, IfNone};
+ghost use Rattle.std.specs.Prelude.{length, replicate, slice_set};
 ghost use Rattle.pp_model.specs.Pool.{State};
 ghost use Rattle.pp_vault.specs.Holding.{placed};
 ghost use Rattle.pp_vault.specs.StandsFor.{StandsFor};
-ghost use Rattle.pp_wants.specs.Masks.{has_worker};
+ghost use Rattle.pp_wants.specs.Masks.{has_bell, bell_of};
 ghost use Rattle.pp_wants.specs.Sleepers.{untold, told, is_told_anew, Keeps};
-ghost use Rattle.pp_wants.specs.Inside.{is_told_alike};
-ghost use Rattle.pp_wants.specs.WakeUps.{IsOnItsWay, IsForgotten, SleepsRightly, NoWakeUpIsLost};
+ghost use Rattle.pp_wants.specs.Inside.{counts_in, is_told_alike};
+ghost use Rattle.pp_wants.specs.WakeUps.{IsOnItsWay, IsForgotten, IsRungFor, SleepsRightly, NoWakeUpIsLost};
 
 use crate::wakes::Wakes;
 use crate::want::Want;
@@ -28,24 +28,23 @@ pub struct Sleeper {
 
 /// The workers whose threads sleep. Contracts see them as a list: at place w worker w, if it sleeps.
 ///
-/// Beside the places it keeps the set of those who weren't told, so that with nobody of them [`Sleepers::settle`] asks
-/// nothing.
+/// Beside the places it keeps how many of them weren't told, so that with nobody of these [`Sleepers::settle`] asks nothing.
 #[derive(Drop)]
 pub struct Sleepers {
     places: Vec<Option<Sleeper>>,
-    untold: u32,
+    untold: usize,
 }
 
 impl Model for Sleepers {
     ghost use Rattle.std.specs.Prelude.{List, Option};
     ghost use Rattle.pp_wants.specs.declared.sleepers.Sleeper.{Sleeper};
-    ghost use Rattle.pp_wants.specs.Inside.{IsMasked};
+    ghost use Rattle.pp_wants.specs.Inside.{IsCounted};
 
     ghost Value = { List (Option Sleeper) };
 
     ghost view = { λ a. a.places.items };
 
-    ghost invariant = { λ a. IsMasked a.places.items a.untold };
+    ghost invariant = { λ a. IsCounted a.places.items a.untold };
 }
 
 impl Sleepers {
@@ -54,12 +53,19 @@ impl Sleepers {
     /// # Errors
     ///
     /// Only where the memory can't be had.
+    #[tactic(auto, using(crate::proofs::Places::counted_none))]
     pub fn new(alloc: Global, workers: u32) -> Result<Sleepers, AllocError>
-        requires { workers ≤ 32 }
         ensures { IfOk result (λ made. made ≡ replicate workers None) }
     {
         let places = vec![in alloc; None; workers as usize]?;
         Ok(Sleepers { places, untold: 0 })
+    }
+
+    /// For how many workers there are places.
+    pub fn workers(&self) -> u32
+        ensures { result ≡ length self.now }
+    {
+        self.places.len() as u32
     }
 
     /// The worker, where it sleeps.
@@ -80,13 +86,11 @@ impl Sleepers {
     pub fn sleep(&mut self, worker: u32, want: Want)
         ensures { self.new ≡ slice_set self.old worker (Some (untold want)) }
     {
-        if (worker as usize) < self.places.len() {
-            self.places[worker as usize] = Some(Sleeper {
-                want,
-                is_told: false,
-            });
-            self.untold = mask::with_worker(self.untold, worker);
-        }
+        let sleeper = Sleeper {
+            want,
+            is_told: false,
+        };
+        self.put(worker, Some(sleeper));
     }
 
     /// The worker doesn't sleep any more: it is about to ask again, or gives up. Nothing changes where it has no place.
@@ -96,21 +100,19 @@ impl Sleepers {
     pub fn rise(&mut self, worker: u32)
         ensures { self.new ≡ slice_set self.old worker None }
     {
-        if (worker as usize) < self.places.len() {
-            self.places[worker as usize] = None;
-            self.untold = mask::without_worker(self.untold, worker);
-        }
+        self.put(worker, None);
     }
 
-    /// Tells each worker whose wake-up would be lost, in the order of the workers, and answers those that it told. From
-    /// then on no wake-up is lost.
+    /// Tells each worker whose wake-up would be lost, in the order of the workers, and answers the bells of those that it
+    /// told. From then on no wake-up is lost.
     ///
     /// It asks the vault about each one that wasn't told, and where it may go, looks for one that was told of the same
     /// thing. Where all were told, or nobody sleeps, it compares one word.
     pub fn settle(&mut self, vault: &Vault) -> Wakes
         ensures settled { NoWakeUpIsLost vault.now self.new }
-        ensures told { (w : ℕ) → has_worker result w ≡ is_told_anew self.old self.new w }
-        ensures needed { (w : ℕ) → has_worker result w ≡ true
+        ensures told { (w : ℕ) → is_told_anew self.old self.new w ≡ true → has_bell result (bell_of w) ≡ true }
+        ensures only { (b : ℕ) → has_bell result b ≡ true → IsRungFor self.old self.new b }
+        ensures needed { (w : ℕ) → is_told_anew self.old self.new w ≡ true
             → (s : State) → StandsFor vault.now s → IsForgotten s self.old w }
         ensures rest { Keeps self.old self.new }
     {
@@ -123,8 +125,9 @@ impl Sleepers {
     /// Tells each worker whose wake-up would be lost.
     fn tell_all(&mut self, vault: &Vault) -> Wakes
         ensures settled { NoWakeUpIsLost vault.now self.new }
-        ensures told { (w : ℕ) → has_worker result w ≡ is_told_anew self.old self.new w }
-        ensures needed { (w : ℕ) → has_worker result w ≡ true
+        ensures told { (w : ℕ) → is_told_anew self.old self.new w ≡ true → has_bell result (bell_of w) ≡ true }
+        ensures only { (b : ℕ) → has_bell result b ≡ true → IsRungFor self.old self.new b }
+        ensures needed { (w : ℕ) → is_told_anew self.old self.new w ≡ true
             → (s : State) → StandsFor vault.now s → IsForgotten s self.old w }
         ensures rest { Keeps self.old self.new }
     {
@@ -133,7 +136,8 @@ impl Sleepers {
         for worker in 0..workers {
             if let Some(want) = self.forgotten(vault, worker) {
                 self.tell(worker, want);
-                now_told = mask::with_worker(now_told, worker);
+                let bell = mask::bell_of(worker);
+                now_told = mask::with_bell(now_told, bell);
             }
         }
         Wakes::of(now_told)
@@ -171,13 +175,43 @@ impl Sleepers {
         requires { placed self.old worker ≡ Some (untold want) }
         ensures { self.new ≡ slice_set self.old worker (Some (told want)) }
     {
+        let sleeper = Sleeper {
+            want,
+            is_told: true,
+        };
+        self.put(worker, Some(sleeper));
+    }
+
+    /// So it is in the worker's place from now on. Nothing changes where it has none.
+    fn put(&mut self, worker: u32, place: Option<Sleeper>)
+        ensures { self.new ≡ slice_set self.old worker place }
+    {
         if (worker as usize) < self.places.len() {
-            self.places[worker as usize] = Some(Sleeper {
-                want,
-                is_told: true,
-            });
-            self.untold = mask::without_worker(self.untold, worker);
+            self.put_at(worker as usize, place);
         }
+    }
+
+    /// The same of a worker that has a place.
+    #[tactic(auto, using(crate::proofs::Places::counted_on, crate::proofs::Places::counted_few))]
+    fn put_at(&mut self, worker: usize, place: Option<Sleeper>)
+        requires { worker < length self.old }
+        ensures { self.new ≡ slice_set self.old worker place }
+    {
+        let before = counts_in(self.places[worker]);
+        let now = counts_in(place);
+        self.untold = (self.untold + now).saturating_sub(before);
+        self.places[worker] = place;
+    }
+}
+
+/// 1 where one sleeps in the place that wasn't told, else 0.
+fn counts_in(place: Option<Sleeper>) -> usize
+    ensures is { result ≡ counts_in place }
+    ensures low { result ≤ 1 }
+{
+    match place {
+        Some(sleeper) => { if sleeper.is_told { 0 } else { 1 } }
+        None => 0,
     }
 }
 

@@ -1,12 +1,12 @@
 //! Whose bells have to be rung.
 
 ghost use Rattle.std.specs.Prelude.{◌≡◌, ℕ, ◌||◌};
-ghost use Rattle.pp_wants.specs.Masks.{has_worker};
+ghost use Rattle.pp_wants.specs.Masks.{has_bell};
 
 use std::marker::Model;
 
-/// The workers that were told to go on, and whose bells have to be rung. Contracts see the set as a number: worker w is
-/// in it where bit w is 1.
+/// The bells that have to be rung, since workers were told to go on whose bells they are ([`bell_of`](crate::bell_of)).
+/// Contracts see the set as a number: bell b is in it where bit b is 1. Of 32 workers or fewer each has a bell of its own.
 ///
 /// The compiler refuses code that lets it fall: only [`Wakes::into_mask`] spends it.
 #[derive(Debug)]
@@ -25,14 +25,14 @@ impl Model for Wakes {
 }
 
 impl Wakes {
-    /// Nobody has to be woken.
+    /// No bell has to be rung.
     pub fn none() -> Wakes
         ensures { result ≡ 0 }
     {
         Wakes { mask: 0 }
     }
 
-    /// The workers of this set.
+    /// The bells of this set.
     pub(crate) fn of(mask: u32) -> Wakes
         ensures { result ≡ mask }
     {
@@ -41,14 +41,14 @@ impl Wakes {
 
     /// Those of both.
     pub fn and(self, other: Wakes) -> Wakes
-        ensures { (w : ℕ) → has_worker result w ≡ (has_worker self w || has_worker other w) }
+        ensures { (b : ℕ) → has_bell result b ≡ (has_bell self b || has_bell other b) }
     {
         Wakes {
             mask: self.into_mask() | other.into_mask(),
         }
     }
 
-    /// Takes it apart: the workers whose bells the caller now has to ring. Worker w is one of them where bit w is 1.
+    /// Takes it apart: the bells that the caller now has to ring. Bell b is one of them where bit b is 1.
     pub fn into_mask(self) -> u32
         ensures { result ≡ self }
     {
