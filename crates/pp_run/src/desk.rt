@@ -6,6 +6,7 @@ ghost use Rattle.std.specs.List.{list_all};
 ghost use Rattle.pp_cert.specs.Accepted.{coded_acceptance};
 ghost use Rattle.pp_device.specs.Image.{head_of};
 ghost use Rattle.pp_outset.specs.Coding.{coded_outset};
+ghost use Rattle.pp_vault.specs.Parts as vaults;
 ghost use Rattle.pp_vault.specs.Stages.{stage_worker};
 ghost use Rattle.pp_pool.specs.Parts.{settings_of, plans_of};
 ghost use Rattle.pp_report.specs.Reports.{is_move};
@@ -14,14 +15,20 @@ ghost use Rattle.pp_run.specs.Runs.{submits, coded_events};
 use pp_model::{Event, Reply};
 use pp_pool::{Book, OwnSite, Request, Response, Site};
 use pp_settings::Layout;
-use pp_vault::{Flushing, Hand, Hands, ReadGuard, Session};
+use pp_vault::{Flushing, Hand, Hands, ReadGuard, Session, Vault};
 use std::marker::{Brand, PhantomData};
 use std::sync::atomic::{AtomicU64, Ordering};
 
 /// A book with the tokens that nobody has in hand.
 ///
-/// Threads know the book that they share by these calls alone.
+/// Threads know the book that they share by these calls alone. Each desk says of what vault it tells, by `lends`.
 pub trait Desk: Site {
+    ghost lends: { Self → vaults.Parts };
+
+    /// The vault of the book, to be asked who of those that wait may go.
+    fn vault(&self) -> &Vault
+        ensures { result.now ≡ lends self.now };
+
     /// What each worker wants of the settings: where the regions lie, and how many bytes a page has.
     fn pages(&self) -> (Layout, u32);
 
@@ -169,6 +176,13 @@ impl<'a, N: Naming> Site for RunDesk<'a, N> {
 }
 
 impl<'a, N: Naming> Desk for RunDesk<'a, N> {
+    ghost lends = { λ s. s.site.book.vault };
+
+    #[inline(always)]
+    fn vault(&self) -> &Vault {
+        self.site.book.vault()
+    }
+
     fn pages(&self) -> (Layout, u32) {
         self.pages
     }

@@ -1,6 +1,7 @@
 //! A pool that runs plans on threads: one book under a lock, a thread for each worker, and one for the flusher.
 #![tactic(auto)]
 
+pub use bells::Bells;
 pub use desk::Desk;
 pub use error::RunError;
 pub use judging::{Left, judge};
@@ -15,6 +16,7 @@ pub use stop::{Flushed, Stop, Worked};
 pub use threads::{ThreadRoom, run_all};
 pub use unrun::{Unbegun, Unrun};
 
+mod bells;
 mod comparing;
 mod counting;
 mod desk;

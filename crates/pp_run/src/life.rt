@@ -19,6 +19,7 @@ ghost use Rattle.pp_run.specs.Unrun.{IsNotBegun, IsStopped, IsUnready, MayNotBeg
 ghost use Rattle.pp_run.specs.Verdicts.{IsVerdict};
 ghost use Rattle.pp_run.specs.declared.error.RunError.TheVariants as run_errors;
 
+use crate::bells::Bells;
 use crate::desk::{Naming, RunDesk};
 use crate::error::RunError;
 use crate::judging::{Left, judge};
@@ -36,9 +37,10 @@ use pp_pool::{Book, Journal, Work};
 use pp_report::RunRecord;
 use pp_settings::Layout;
 use pp_vault::Hands;
+use pp_wants::Sleepers;
 use std::alloc::Global;
 use std::sync::atomic::AtomicU64;
-use std::sync::{Condvar, Mutex, Wait};
+use std::sync::{Mutex, Wait};
 use std::thread::Threads;
 
 /// A pool at the end of a life whose threads are joined and fit its journal, with the devices in their order.
@@ -86,8 +88,10 @@ pub(crate) struct Ready<D: Device + Drop> {
     pub(crate) from: u32,
     // The journal of the next life.
     pub(crate) spare: Journal,
-    // Room for the handles of this life's threads.
+    // Room for the handles of this life's threads, places for those of its workers that sleep, and what they sleep on.
     pub(crate) threads: ThreadRoom<D>,
+    pub(crate) sleepers: Sleepers,
+    pub(crate) bells: Bells,
 }
 
 /// Looks at the plans, and gets room for them in the pool's journal, for its next life, and for the threads of this one.
@@ -155,6 +159,12 @@ pub(crate) fn ready_with<D: Device + Drop>(
     let Ok(threads) = ThreadRoom::new(alloc, pool.workers() as usize) else {
         return Err((RunError::OutOfMemory, pool));
     };
+    let Ok(sleepers) = Sleepers::new(alloc, pool.workers()) else {
+        return Err((RunError::OutOfMemory, pool));
+    };
+    let Ok(bells) = Bells::new(alloc) else {
+        return Err((RunError::OutOfMemory, pool));
+    };
     let RestedPool {
         mut book,
         hands,
@@ -170,6 +180,8 @@ pub(crate) fn ready_with<D: Device + Drop>(
             from,
             spare,
             threads,
+            sleepers,
+            bells,
         }),
         Err(error) => {
             let pool = RestedPool {
@@ -265,6 +277,8 @@ pub(crate) fn live<
         from,
         spare,
         threads,
+        sleepers,
+        bells,
     } = ready;
     let count = submit_all(&mut book, plans);
     let mut devices = devices;
@@ -272,13 +286,11 @@ pub(crate) fn live<
         unreachable!();
     };
     let desk = RunDesk::<N>::new(book, hands, &pages, finished);
-    let lock = Mutex::new(Locked::new(desk));
-    let (moved, changed) = (Condvar::new(), Condvar::new());
+    let lock = Mutex::new(Locked::new(desk, sleepers));
     let site = LockedSite {
         rt,
         lock: &lock,
-        moved: &moved,
-        changed: &changed,
+        bells: &bells,
     };
     let joined = run_all(site, alloc, threads, devices, last, from, works);
     let (book, hands) = lock.into_inner().into_desk().into_parts();

@@ -5,6 +5,7 @@ ghost use Rattle.pp_device.specs.Image.{head_of};
 ghost use Rattle.pp_vault.specs.Stages.{stage_worker};
 ghost use Rattle.pp_run.specs.Shared.{IsGiven};
 
+use crate::bells::Bells;
 use crate::desk::Desk;
 use crate::locked::{Locked, WaitsFor};
 use crate::owed::Owed;
@@ -13,7 +14,7 @@ use pp_pool::{BookAnswer, Request, Response, Site};
 use pp_settings::Layout;
 use pp_vault::{Flushing, Guard, Hand, ReadGuard};
 use std::hint::spin_loop;
-use std::sync::{Condvar, Mutex, MutexGuard, Wait};
+use std::sync::{Mutex, MutexGuard, Wait};
 
 /// How often the lock is tried before a thread sleeps until it is let go: for some ten microseconds, with the pauses. Half
 /// as many tries made runs of four workers at least a tenth slower, and endless ones would waste a processor where the
@@ -24,20 +25,18 @@ const TRIES: u32 = 100;
 /// nanoseconds.
 const PAUSES: u32 = 20;
 
-/// A site that threads share: a book under a lock, with what they wait on.
+/// A site that threads share: a book under a lock, with the bells that they sleep on.
 ///
 /// Each call takes the lock, and gives it back before it returns. A request that isn't possible yet waits, for which it
-/// lets the lock go, and is tried again when something was done; nobody is woken where nobody waits. Contracts see of what the site
-/// gives, shows and tells that a desk of this type can do so, not that it is the one under the lock.
+/// lets the lock go, and is tried again when a bell is rung for it; a worker's is rung when it may go. Contracts see of what the
+/// site gives, shows and tells that a desk of this type can do so, not that it is the one under the lock.
 #[derive(Drop)]
 pub struct LockedSite<'a, B: Desk, R: Wait> {
     pub rt: &'a R,
     /// The book with the tokens that no thread has in hand, and who waits.
     pub lock: &'a Mutex<Locked<B>>,
-    /// Waited on for a move to be done.
-    pub moved: &'a Condvar,
-    /// Waited on for a page to be changed, or the run to be closing.
-    pub changed: &'a Condvar,
+    /// What the threads sleep on.
+    pub bells: &'a Bells,
 }
 
 impl<'a, B: Desk, R: Wait> Site for LockedSite<'a, B, R> {
@@ -73,8 +72,8 @@ impl<'a, B: Desk, R: Wait> LockedSite<'a, B, R> {
         response
     }
 
-    /// The same under a hold of the lock, which comes back, with what is owed to those who wait. Whom something is owed is
-    /// woken before it waits itself, for which it lets the lock go.
+    /// The same under a hold of the lock, which comes back, with what is owed to those who wait. Whoever may go by what was done
+    /// under it is told before it waits itself, for which it lets the lock go.
     pub(crate) fn perform_under(
         &self,
         request: Request,
@@ -90,25 +89,30 @@ impl<'a, B: Desk, R: Wait> LockedSite<'a, B, R> {
             let takes_writer_off = takes_writer_off(&request);
             let Response { event, answer } = locked.desk.perform(request);
             match answer {
-                BookAnswer::No(back, refusal) => match locked.waits_for(refusal) {
+                BookAnswer::No(back, refusal) => match locked.waits_for(&back, refusal) {
                     WaitsFor::Nothing => {
                         let answer = BookAnswer::No(back, refusal);
                         return (Response { event, answer }, locked, owed);
                     }
+                    WaitsFor::Bell(worker, want) => {
+                        request = back;
+                        self.bells.ring(locked.fall_asleep(worker, want, owed));
+                        owed = Owed::nothing();
+                        locked = self.bells.sleep_as_worker(self.rt, locked, worker);
+                        locked.rise(worker);
+                    }
                     WaitsFor::Move => {
                         request = back;
-                        self.wake(locked.waiters(), owed);
+                        self.bells.ring(locked.wait_for_move(owed));
                         owed = Owed::nothing();
-                        locked.wait_for_move();
-                        locked = self.moved.wait(self.rt, locked);
+                        locked = self.bells.sleep_for_move(self.rt, locked);
                         locked.moved();
                     }
                     WaitsFor::Change => {
                         request = back;
-                        self.wake(locked.waiters(), owed);
+                        self.bells.ring(locked.wait_for_change(owed));
                         owed = Owed::nothing();
-                        locked.wait_for_change();
-                        locked = self.changed.wait(self.rt, locked);
+                        locked = self.bells.sleep_for_change(self.rt, locked);
                         locked.changed();
                     }
                 },
@@ -122,12 +126,13 @@ impl<'a, B: Desk, R: Wait> LockedSite<'a, B, R> {
         unreachable!()
     }
 
-    /// Gives the lock back, and then wakes whom something is owed.
+    /// Tells whoever may go, gives the lock back, and wakes them.
     #[inline(always)]
     pub(crate) fn give_back(&self, locked: MutexGuard<'a, Locked<B>>, owed: Owed) {
-        let waiters = locked.waiters();
+        let mut locked = locked;
+        let told = locked.settle(owed);
         drop(locked);
-        self.wake(waiters, owed);
+        self.bells.ring(told);
     }
 
     /// Takes the lock. Who has it mostly lets go sooner than a thread could fall asleep and be woken, so it is tried for a
@@ -154,19 +159,6 @@ impl<'a, B: Desk, R: Wait> LockedSite<'a, B, R> {
         self.lock.lock(self.rt)
     }
 
-    /// Wakes those that wait for a move, where one was done, and those that wait for a page to be changed where a move lets
-    /// one be flushed.
-    #[inline(always)]
-    fn wake(&self, waiters: (u64, u64), owed: Owed) {
-        let (waiting, idle) = waiters;
-        if waiting > 0 && owed.is_moved {
-            self.moved.notify_all();
-        }
-        if idle > 0 && owed.lets_flush {
-            self.changed.notify_all();
-        }
-    }
-
     /// Where the regions of the plans lie, and how many bytes a page has.
     pub(crate) fn pages(&self) -> (Layout, u32) {
         self.hold().desk.pages()
@@ -190,12 +182,12 @@ impl<'a, B: Desk, R: Wait> LockedSite<'a, B, R> {
         for _ in self.rt.forever() {
             match locked.desk.join(hand) {
                 Ok(()) => {
-                    self.wake_all();
+                    self.bells.ring_all();
                     return;
                 }
                 Err(back) => {
                     hand = back;
-                    locked = self.moved.wait(self.rt, locked);
+                    locked = self.bells.sleep_for_move(self.rt, locked);
                 }
             }
         }
@@ -209,12 +201,12 @@ impl<'a, B: Desk, R: Wait> LockedSite<'a, B, R> {
         for _ in self.rt.forever() {
             match locked.desk.join_flush(flushing) {
                 Ok(()) => {
-                    self.wake_all();
+                    self.bells.ring_all();
                     return;
                 }
                 Err(back) => {
                     flushing = back;
-                    locked = self.moved.wait(self.rt, locked);
+                    locked = self.bells.sleep_for_move(self.rt, locked);
                 }
             }
         }
@@ -224,12 +216,7 @@ impl<'a, B: Desk, R: Wait> LockedSite<'a, B, R> {
     /// From now on a request that finds nothing to flush goes back. Wakes all that wait.
     pub(crate) fn close(&self) {
         self.hold().close();
-        self.wake_all();
-    }
-
-    fn wake_all(&self) {
-        self.moved.notify_all();
-        self.changed.notify_all();
+        self.bells.ring_all();
     }
 }
 

@@ -100,7 +100,7 @@ fn run_workers<
     ensures workers { IfOk result (λ v. AllWorkedFrom D.calls D.failures devices.items v.items) }
     ensures error { IfErr result (IsUnstarted (vec_len devices)) }
 {
-    let (rt, lock, moved, changed) = (site.rt, site.lock, site.moved, site.changed);
+    let (rt, lock, bells) = (site.rt, site.lock, site.bells);
     let ThreadRoom { mut handles } = room;
     let mut works = works.into_iter();
     let mut worker = 0u32;
@@ -111,12 +111,7 @@ fn run_workers<
         let promise = WorkPromise(Snapshot::of(&device));
         let number = worker;
         let job = move || {
-            let site = LockedSite {
-                rt,
-                lock,
-                moved,
-                changed,
-            };
+            let site = LockedSite { rt, lock, bells };
             work_on(site, alloc, number, device, work)
         };
         match scope.spawn_with(promise, job) {
@@ -177,7 +172,7 @@ pub fn run_all<
     ensures flusher { IfOk result (λ v. FlushedFrom D.calls D.failures last v.1) }
     ensures error { IfErr result (IsUnstarted (vec_len devices + 1)) }
 {
-    let (rt, lock, moved, changed) = (site.rt, site.lock, site.moved, site.changed);
+    let (rt, lock, bells) = (site.rt, site.lock, site.bells);
     thread::scope(
         thread::scope_env(),
         rt,
@@ -192,21 +187,11 @@ pub fn run_all<
             let flusher = devices.len() as u32;
             let promise = FlushPromise(Snapshot::of(&last));
             let job = move || {
-                let site = LockedSite {
-                    rt,
-                    lock,
-                    moved,
-                    changed,
-                };
+                let site = LockedSite { rt, lock, bells };
                 flush_on(site, last, from)
             };
             let started = scope.spawn_with(promise, job);
-            let site = LockedSite {
-                rt,
-                lock,
-                moved,
-                changed,
-            };
+            let site = LockedSite { rt, lock, bells };
             let worked = run_workers(scope, &site, alloc, room, devices, works);
             site.close();
             match started {

@@ -4,7 +4,7 @@ use crate::case::Case;
 use pp_pool::{Book, BookAnswer, Journal, OwnSite, Request, Response, Site};
 use pp_run::{Desk, Left};
 use pp_settings::{Layout, Settings};
-use pp_vault::{Cause, Delay, Flushing, Hand, Hands, ReadGuard, Refusal, Stage};
+use pp_vault::{Cause, Delay, Flushing, Hand, Hands, ReadGuard, Refusal, Stage, Vault};
 use std::process::Abort;
 use std::sync::atomic::{AtomicU64, Ordering};
 
@@ -18,6 +18,8 @@ pub enum Habit {
     Hand,
     /// The worker that doesn't ask first waits for the flush, whose end is refused.
     Flush,
+    /// Nothing but what its book refuses.
+    None,
 }
 
 /// What a request is told that waits.
@@ -43,6 +45,8 @@ pub struct Odd {
     is_back: bool,
     /// How often it was asked for the greatest cost.
     costs: AtomicU64,
+    /// How often its book has refused a request for now.
+    vain: u64,
 }
 
 /// What is left on a desk.
@@ -53,6 +57,8 @@ pub struct Closed {
     /// Whether what a worker waited for came back.
     pub is_back: bool,
     pub is_flushing: bool,
+    /// How often a request was refused for now.
+    pub vain: u64,
 }
 
 impl Odd {
@@ -76,6 +82,7 @@ impl Odd {
             first: 0,
             is_back: false,
             costs: AtomicU64::new(0),
+            vain: 0,
         }
     }
 
@@ -92,6 +99,7 @@ impl Odd {
             first: _,
             is_back,
             costs: _,
+            vain,
         } = self;
         for worker in 0..case.workers {
             if !has_chair(rt, &mut hands, worker) {
@@ -109,6 +117,7 @@ impl Odd {
             events: book.close(hands),
             is_back,
             is_flushing,
+            vain,
         }
     }
 
@@ -136,7 +145,7 @@ impl Odd {
     /// How a worker is refused a plan.
     fn plan_refusal(&self, is_first: bool) -> Option<Refusal> {
         let waits = match self.habit {
-            Habit::Room => false,
+            Habit::Room | Habit::None => false,
             Habit::Hand => is_first && !self.is_back,
             Habit::Flush => !is_first && !self.is_back,
         };
@@ -156,6 +165,11 @@ impl Odd {
             _ => None,
         }
     }
+}
+
+/// Whether a request is refused for now.
+fn is_delayed(answer: &BookAnswer) -> bool {
+    matches!(answer, BookAnswer::No(_, Refusal::NotNow(_)))
 }
 
 /// Whether the worker's hand is there, and idle.
@@ -185,7 +199,13 @@ impl Site for Odd {
                 event: None,
                 answer: BookAnswer::No(request, refusal),
             },
-            None => self.site.perform(request),
+            None => {
+                let response = self.site.perform(request);
+                if is_delayed(&response.answer) {
+                    self.vain = self.vain.saturating_add(1);
+                }
+                response
+            }
         }
     }
 
@@ -202,6 +222,12 @@ impl Site for Odd {
 }
 
 impl Desk for Odd {
+    ghost lends = { λ s. s.site.book.vault };
+
+    fn vault(&self) -> &Vault {
+        self.site.book.vault()
+    }
+
     fn pages(&self) -> (Layout, u32) {
         self.pages
     }

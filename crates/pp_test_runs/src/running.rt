@@ -46,7 +46,7 @@ pub fn settings_of(rt: &impl Abort, alloc: Global, case: &Case) -> Settings
         panic!(rt; "{}: no settings", case.name)
     };
     let Ok(()) = settings.see_bounded() else {
-        panic!(rt; "{}: lives without end", case.name)
+        panic!(rt; "{}: endless lives", case.name)
     };
     settings
 }

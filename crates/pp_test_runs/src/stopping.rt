@@ -12,14 +12,15 @@ use pp_cert::Accepted;
 use pp_device::Device;
 use pp_pool::{Book, Work};
 use pp_run::{
-    Desk, Flushed, Locked, LockedSite, RunError, Stop, ThreadRoom, Worked, judge, run_all,
+    Bells, Desk, Flushed, Locked, LockedSite, RunError, Stop, ThreadRoom, Worked, judge, run_all,
 };
 use pp_settings::Settings;
-use pp_test_plain::samples::{READ, WRITE};
+use pp_test_plain::samples::{READ, TOUCH, WRITE};
+use pp_wants::Sleepers;
 use std::alloc::Global;
 use std::process::Abort;
 use std::sync::atomic::{AtomicBool, Ordering};
-use std::sync::{Condvar, Mutex, Wait};
+use std::sync::{Mutex, Wait};
 use std::test::*;
 use std::thread;
 use std::thread::Threads;
@@ -63,7 +64,7 @@ fn threads_over<
 ) -> Result<Ends<D>, RunError> {
     let alloc = rt.alloc();
     assert!(rt; devices.len() < 64 && works.len() == devices.len());
-    let (moved, changed) = (Condvar::new(), Condvar::new());
+    let bells = Bells::new(alloc)?;
     let over = AtomicBool::new(false);
     let (_watched, ran) = thread::join(
         rt,
@@ -75,8 +76,7 @@ fn threads_over<
             let site = LockedSite {
                 rt,
                 lock,
-                moved: &moved,
-                changed: &changed,
+                bells: &bells,
             };
             let room = ThreadRoom::new(alloc, devices.len())?;
             let ran = run_all(site, alloc, room, devices, last, 0, works);
@@ -161,6 +161,11 @@ fn is_right(rt: &impl Abort, row: &Row, stops: &Stops, closed: &Closed) {
         count(&closed.events, Thing::Done),
         row.done,
     );
+    assert!(rt;
+        closed.vain <= row.vain,
+        "{name}: refused for now: {}",
+        closed.vain
+    );
     if let Some(events) = row.events {
         same(rt, name, "events", closed.events.len() as u64, events);
     }
@@ -181,8 +186,9 @@ fn run_desk<R: Abort + Threads + Wait + Clock + AllocGlobal + Copy + Drop + Sync
     let Some(last) = devices.pop() else {
         panic!(rt; "no end")
     };
+    let sleepers = Sleepers::new(alloc, row.case.workers).expect(rt, "memory");
     let desk = desk_of(rt, alloc, &settings, plans, row);
-    let lock = Mutex::new(Locked::new(desk));
+    let lock = Mutex::new(Locked::new(desk, sleepers));
     let ends = threads_over(rt, &lock, devices, last, works);
     let closed = lock.into_inner().into_desk().close(rt, &row.case);
     match ends {
@@ -212,6 +218,8 @@ struct Row {
     done: u64,
     /// How many events there are, where that is always the same.
     events: Option<u64>,
+    /// How often a request may have been refused for now.
+    vain: u64,
     /// What is told of the run.
     judged: Result<(), RunError>,
 }
@@ -226,6 +234,27 @@ const SLOW_FLUSH: Cue = Cue {
     at: Call::Flush,
     page: ANY,
     until: Until::Nothing,
+};
+
+/// Keeps a root, and reads a leaf eight times.
+const LONG: &str =
+    "{\"body\":[{\"fix\":\"b\",\"region\":\"root\"},{\"body\":[{\"fix\":\"a\",\"region\":\"leaf\"},\
+{\"latch\":\"a\",\"mode\":\"S\"},{\"unlatch\":\"a\"},{\"unfix\":\"a\"}],\"loop\":8},{\"unfix\":\"b\"}],\"version\":1}";
+
+/// Each time a page is seen.
+const SLOW_LOOK: Cue = Cue {
+    at: Call::See,
+    page: ANY,
+    until: Until::Nothing,
+};
+
+/// A slow plan that has all frames, and another one.
+const FULL: Case = Case {
+    name: "a slow plan that has all frames",
+    frames: 2,
+    plans: &[LONG, TOUCH],
+    cues: &[SLOW_READ, SLOW_LOOK],
+    ..SAMPLE
 };
 
 /// No plan.
@@ -263,6 +292,7 @@ const HAND: Row = Row {
     is_flushing: false,
     done: 0,
     events: Some(0),
+    vain: u64::MAX,
     judged: Ok(()),
 };
 
@@ -306,6 +336,7 @@ static ROWS: &[Row] = &[
         is_flushing: false,
         done: 3,
         events: None,
+        vain: u64::MAX,
         judged: Ok(()),
     },
     // Where every worker is refused room the plans are left, and that is what is told of the run.
@@ -322,7 +353,26 @@ static ROWS: &[Row] = &[
         is_flushing: false,
         done: 0,
         events: Some(3),
+        vain: u64::MAX,
         judged: Err(RunError::OutOfMemory),
+    },
+    // One worker waits for room while the other's plan makes its moves, each of which gives the lock back. It is told once, as that
+    // plan has ended: it asks twice, and both ask again as the last plan is taken, and where none waits.
+    Row {
+        name: "who_waits_for_room_is_woken_by_no_other_move",
+        case: FULL,
+        habit: Habit::None,
+        told: Told::Move,
+        refusals: 0,
+        ended: 2,
+        starved: 0,
+        flusher: Stop::Ended,
+        is_back: false,
+        is_flushing: false,
+        done: 2,
+        events: None,
+        vain: 8,
+        judged: Ok(()),
     },
 ];
 

@@ -497,6 +497,32 @@ static WAKES: &[Case] = &[
         counts: &[(Thing::Dirty, 0), (Thing::Done, 2)],
         ..SAMPLE
     },
+    // One plan has both frames, and the other worker waits for room. It is woken as that plan ends: the worker that was at it takes
+    // the next one, and asks for its root only when the other has begun the last one.
+    Case {
+        name: "the_end_of_a_plan_wakes_who_waits_for_room",
+        frames: 2,
+        flushes: 0,
+        plans: &[FIX_BOTH, TOUCH, TOUCH],
+        parts: &[Part {
+            region: 1,
+            steps: &[
+                FIRST,
+                FIRST,
+                Step {
+                    behind: 0,
+                    until: Until::Come(Thing::Begun, 2),
+                },
+            ],
+        }],
+        cues: &[Cue {
+            at: Call::Read,
+            page: ANY,
+            until: Until::Nothing,
+        }],
+        counts: &[(Thing::Dirty, 0), (Thing::Done, 3)],
+        ..SAMPLE
+    },
     // The first worker has the second page, the other the first, and waits for the second. The first lets that go, and at once
     // waits for the other's page. It has to wake the other before, since nobody else does.
     Case {

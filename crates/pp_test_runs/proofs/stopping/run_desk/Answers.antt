@@ -25,7 +25,7 @@ odd_send =
             search sendable depth 9,
             (
               search sendable,
-              (search sendable, (search sendable, (search sendable, (search sendable, (search (sendable, crosses), tt))))),
+              (search sendable, (search sendable, (search sendable, (search sendable, (search (sendable, crosses), (search sendable, tt)))))),
             ),
           ),
         ),
