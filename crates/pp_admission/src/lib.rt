@@ -1,4 +1,4 @@
-//! An admission queue: in what order queries that wait for memory start, so that none starves.
+//! An admission queue: in what order queries that wait for memory start, so that none is overtaken without bound.
 //!
 //! Each has a peak, the most pages that it holds at once, and waits until that many are free. One whose peak fits may
 //! overtake those before it that don't fit, so that a large one holds up nobody needlessly. But each is overtaken only

@@ -1,0 +1,9 @@
+pub mod Requests
+pub mod Noting
+pub mod Rounds
+pub mod Within
+pub mod Taking
+pub mod Reading
+pub mod Halls
+pub mod Execution
+pub mod Sent

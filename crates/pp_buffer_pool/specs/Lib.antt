@@ -1,0 +1,4 @@
+pub mod Sites
+pub mod Executing
+pub mod Running
+pub mod Halls

@@ -1,0 +1,40 @@
+//! Why a plan wasn't run.
+
+ghost use Rattle.std.specs.Prelude.{◌≡◌};
+ghost use Rattle.pp_buffer_pool.specs.Executing.{refused_entry};
+
+use pp_hall::EnterError;
+
+/// Why a plan wasn't run.
+#[derive(Clone, Copy, Debug, PartialEq, Eq, thiserror::Error)]
+pub enum ExecuteError {
+    /// The pool is stopped: it lets no plan in any more. The plan didn't start.
+    #[error("the pool is stopped")]
+    Stopped,
+    /// As many plans wait to start as may ([`Policy::queue`](crate::Policy)). It can be tried again later.
+    #[error("the queue is full")]
+    QueueFull,
+    /// The plan's peak is greater than the pool: another pool has prepared it.
+    #[error("the plan needs more frames than the pool has")]
+    TooLarge,
+    /// Memory ran out for the events of the plan, before it was taken.
+    #[error("out of memory")]
+    NoMemory,
+    /// A token didn't fit, the plan asked something else, the log of its events couldn't grow, or the plan was prepared
+    /// by another pool: a slip. The work may have been called. A chair whose plan was begun stays out, and then the pool
+    /// can only be abandoned ([`BufferPool::abandon`](crate::BufferPool::abandon)).
+    #[error("the call met a slip")]
+    Broken,
+}
+
+impl From<EnterError> for ExecuteError {
+    ghost from_gives = { λ error e. e ≡ refused_entry error };
+
+    fn from(error: EnterError) -> ExecuteError {
+        match error {
+            EnterError::Stopped => ExecuteError::Stopped,
+            EnterError::Full => ExecuteError::QueueFull,
+            EnterError::TooLarge => ExecuteError::TooLarge,
+        }
+    }
+}

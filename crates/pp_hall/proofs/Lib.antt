@@ -1,0 +1,11 @@
+pub mod Sums
+pub mod Steps
+pub mod Taking
+pub mod Keeping
+pub mod Queues
+pub mod Places
+pub mod Filling
+pub mod Listing
+pub mod Settling
+pub mod Kept
+pub mod Ending
