@@ -1,5 +1,5 @@
 """What crates.txt, docs/architecture.md and the folders of edits say of the crates, for the scripts of the gate."""
-import glob, os, re, shutil
+import glob, os, re, shutil, subprocess
 
 TOP = os.path.dirname(os.path.dirname(os.path.realpath(__file__)))
 # What a check of a crate reads.
@@ -119,6 +119,13 @@ def kit():
         f"contracts, each proved. This is built with the kit whose `rt version` is `{wanted[1]} logic {wanted[2]}`, or another "
         "of the same logic. Its folder bin, where rt stands, has to be on the PATH."
     )
+
+
+def ci_keeps():
+    """Whether the kit's `rt ci` keeps what it has proved. Then it takes names of crates too, and --anew. Older kits, of which
+    some have the same logic, prove all that there is each time."""
+    said = subprocess.run(["rt", "help"], stdin=subprocess.DEVNULL, stdout=subprocess.PIPE, stderr=subprocess.STDOUT, text=True).stdout
+    return not re.search(r"^ *rt ci {2,}", said, re.M)
 
 
 # ---- edits
