@@ -18,6 +18,7 @@ mod queries;
 mod runs;
 mod samples;
 mod segments;
+mod serving;
 mod shared;
 mod texts;
 mod tried;
@@ -78,6 +79,7 @@ fn case<
         "pp_journal" | "pp_report" => journals::case(rt, call),
         "pp_ledger" | "pp_segments" => segments::case(rt, call),
         "pp_admission" | "pp_wants" => waiting::case(rt, call),
+        "pp_hall" | "pp_buffer_pool" => serving::case(rt, call),
         "pp_judge" => judging::case(rt, call, row),
         "pp_words" => words::case(rt, row),
         "pp_pool" => books::case(rt, call),
