@@ -26,7 +26,7 @@ use Rattle.pp_annotate.proofs.Once.{step_bound}
 use Rattle.pp_annotate.proofs.Rises.{first_bundle, first_plain}
 use Rattle.pp_annotate.proofs.Grows.{or_false, times_zero, turn_more, plain_statement, plain_sequence}
 
--- ---- bounds without end
+-- ---- bounds without a limit
 
 abbrev pub step_to : Step → ℕ → ℕ → ℕ
 step_to (fix s r) t y = y

@@ -26,7 +26,7 @@ impl Pool {
     ///
     /// # Errors
     ///
-    /// Where the settings are of lives without end, which a book doesn't serve, and where memory runs out.
+    /// Where the settings are of endless lives, which a book doesn't serve, and where memory runs out.
     pub fn new(alloc: Global, settings: &Settings, device: SoloDevice) -> anyhow::Result<Pool> {
         settings.see_bounded()?;
         let (book, mut hands) = Book::new(alloc, settings)?;

@@ -40,7 +40,7 @@ pub struct Sources<'a> {
 pub enum Refused<'a> {
     /// The settings' file gives no settings.
     Settings(SettingsError),
-    /// The settings are of lives without end, which the command doesn't serve.
+    /// The settings are of endless lives, which the command doesn't serve.
     OtherLife,
     /// The settings are of a bounded life, and the command audits segments.
     BoundedLife,

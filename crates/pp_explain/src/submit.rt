@@ -10,13 +10,13 @@ use std::alloc::{AllocError, Global};
 /// How many plans a pool takes in at most in a bounded life.
 const MOST_PLANS: usize = 256;
 
-/// How many plans a pool keeps at most in a life without end.
+/// How many plans a pool keeps at most in an endless life.
 const MOST_KEPT: usize = 4_096;
 
 /// How many events the journal of a bounded life has at most.
 const MOST_EVENTS: u64 = 4_000_000;
 
-/// How many events a life without end has at most: 2^61.
+/// How many events an endless life has at most: 2^61.
 const MOST_ENDLESS_EVENTS: u64 = 2_305_843_009_213_693_952;
 
 /// How many events a journal has at most for a step of a plan, and for a plan besides.
@@ -42,7 +42,7 @@ pub(crate) fn submit_said(
 /// The number of the plan that a new pool doesn't keep beside the earlier ones, where its life has no end, and what is said of it.
 pub(crate) fn unkept_said(alloc: Global) -> Result<(usize, Said), AllocError> {
     let text = format!(in alloc;
-        "it is plan {MOST_KEPT}, counted from 0: in a life without end a pool keeps at most {MOST_KEPT} plans"
+        "it is plan {MOST_KEPT}, counted from 0: in an endless life a pool keeps at most {MOST_KEPT} plans"
     )?;
     Ok((MOST_KEPT, Said::of(text)))
 }

@@ -37,7 +37,7 @@ use Rattle.pp_judge.specs.Steps.{refusing}
 unfoldable pub settings_in : List ℕ → Result Configuration JudgeError
 settings_in bytes = refusing Settings (if is_utf8 bytes then read_settings bytes else Err NotToml)
 
--- The same for what serves bounded lives alone: settings of a life without end are refused, behind all else of them.
+-- The same for what serves bounded lives alone: settings of an endless life are refused, behind all else of them.
 unfoldable pub bounded_in : List ℕ → Result Configuration JudgeError
 bounded_in bytes = do
   s ← settings_in bytes

@@ -16,7 +16,7 @@ use std::alloc::Global;
 ///
 /// # Errors
 ///
-/// The first refusal in that order. Settings of a life without end are [`JudgeError::OtherLife`], before any plan.
+/// The first refusal in that order. Settings of an endless life are [`JudgeError::OtherLife`], before any plan.
 /// Then the first fault of the journal. A line of it that is not UTF-8 is no line of a journal.
 pub fn audit(alloc: Global, files: AuditFiles<'_>) -> Result<Audited, JudgeError>
     // What is answered is the verdict on the journal, unless memory ran out.

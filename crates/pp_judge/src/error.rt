@@ -25,7 +25,7 @@ use std::fmt;
 pub enum JudgeError {
     /// The first file gives no settings.
     Settings(SettingsError),
-    /// The settings are of a life without end, and what was asked serves bounded lives alone.
+    /// The settings are of an endless life, and what was asked serves bounded lives alone: 8 OtherLife.
     OtherLife,
     /// The script's file gives no script.
     Script(ScriptError),

@@ -27,7 +27,7 @@ impl Workload {
     ///
     /// # Errors
     ///
-    /// The first refusal in that order. Settings of a life without end are [`JudgeError::OtherLife`], before any plan.
+    /// The first refusal in that order. Settings of an endless life are [`JudgeError::OtherLife`], before any plan.
     /// A file whose bytes are not UTF-8 is refused in its turn, as one that is no TOML or no JSON.
     pub fn read(alloc: Global, settings: &[u8], plans: &[Vec<u8>]) -> Result<Workload, JudgeError>
         // Exactly what the definition gives of these bytes, unless memory ran out.

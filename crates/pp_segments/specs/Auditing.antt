@@ -60,11 +60,12 @@ abbrev pub prepared_unless : Option PrepareError → Option SegmentError
 prepared_unless None = None
 prepared_unless (Some error) = Some (Prepare error)
 
--- Why there is no audit: the life is bounded, or a plan can't be prepared.
+-- Why no auditor is made, by the layout and the span of the settings: the life is bounded, or a plan can't be prepared.
 abbrev pub span_fault : Geometry → Span → List Acceptance → Option SegmentError
 span_fault g Bounded prepared = Some OtherLife
 span_fault g (Endless waiting) prepared = prepared_unless (prepare_fault g (Endless waiting) 0 prepared)
 
+-- The same, by the settings.
 abbrev pub begin_fault : Configuration → List Acceptance → Option SegmentError
 begin_fault c prepared = span_fault (kept_of c).layout c.span prepared
 
@@ -140,7 +141,7 @@ abbrev pub see_end : (ended : Bool) → Progress → Result Progress SegmentErro
 see_end true p = must (is_over p) (Audit Unfinished) >>= λ passed. Ok p
 see_end false p = Ok p
 
--- It begins where there is no fault.
+-- A fault as an answer: it is the error, and where there is none nothing is wrong.
 abbrev pub no_fault : Option SegmentError → Result (Unit {0}) SegmentError
 no_fault None = Ok tt
 no_fault (Some error) = Err error

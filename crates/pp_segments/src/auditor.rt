@@ -26,6 +26,9 @@ use std::alloc::Global;
 
 /// An audit of segments that is under way: a core to which the lines so far were done. It keeps no line, so a pool's
 /// journal can be audited beside it, segment by segment, for as long as the pool lasts.
+///
+/// Once a fault was found, [`SegmentAuditor::pass_segment`] answers it at each call. Of what the other calls answer
+/// then, the clauses say nothing.
 #[derive(Drop)]
 pub struct SegmentAuditor {
     core: Core,
@@ -47,9 +50,9 @@ impl SegmentAuditor {
     ///
     /// # Errors
     ///
-    /// `OtherLife` where the life of the settings is bounded. Then the first of the plans that can't be prepared:
-    /// `OtherSettings` where it was accepted under another layout, else `TooManyPrepared` where 4,096 stand before
-    /// it. `OutOfMemory` at any time.
+    /// `OtherLife` (8) where the life of the settings is bounded. Then the first of the plans that can't be prepared:
+    /// `OtherSettings` (53) where it was accepted under another layout, else `TooManyPrepared` (57) where 4,096 stand
+    /// before it. `OutOfMemory` (19) at any time.
     pub fn new(
         alloc: Global,
         settings: &Settings,
@@ -254,14 +257,16 @@ impl SegmentAuditor {
         Ok(self.lines)
     }
 
-    /// How many lines were passed, or 2^64 - 1 where there were more. The line of a fault isn't among them.
+    /// How many lines were passed, or 2^64 - 1 where there were more. Behind a fault these are the lines before it; no
+    /// clause says so.
     pub fn lines(&self) -> u64
         ensures { (prepared : List Acceptance) (p : Progress) → IsAt prepared self.now p → result ≡ told_count p.lines }
     {
         self.lines
     }
 
-    /// How many heads were passed, or 2^64 - 1 where there were more.
+    /// How many heads were passed, or 2^64 - 1 where there were more. Behind a fault these are the heads before it; no
+    /// clause says so.
     pub fn segments(&self) -> u64
         ensures { (prepared : List Acceptance) (p : Progress) → IsAt prepared self.now p
             → result ≡ told_count p.segments }
@@ -269,8 +274,8 @@ impl SegmentAuditor {
         self.next.unwrap_or(u64::MAX)
     }
 
-    /// The core after the lines that were passed. Where the fault is `ReplyDiffers`, the move of that line was done
-    /// too.
+    /// The core after the lines that were passed. Behind a fault it is the core after the lines before it, and where
+    /// that fault is `ReplyDiffers`, the move of its line was done too; no clause says so.
     pub fn core(&self) -> &Core
         ensures { (prepared : List Acceptance) (p : Progress) → IsAt prepared self.now p
             → StandsFor result.now p.state }
@@ -278,8 +283,8 @@ impl SegmentAuditor {
         &self.core
     }
 
-    /// Whether nothing is left to do: no plan waits or is with a worker, and no flush is in flight. It is asked of the
-    /// core, also behind a fault.
+    /// Whether nothing is left to do: no plan waits or is with a worker, and no flush is in flight. Behind a fault it
+    /// is asked of the core as that stands; no clause says so.
     pub fn is_over(&self) -> bool
         ensures { (prepared : List Acceptance) (p : Progress) → IsAt prepared self.now p → result ≡ is_over p }
     {

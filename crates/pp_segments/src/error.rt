@@ -29,7 +29,7 @@ pub enum SegmentError {
     /// The line with this number names a prepared plan that there isn't.
     #[error("line {0} names a prepared plan that there is not")]
     NotPrepared(u64),
-    /// The life of the settings is bounded. Only an endless one has segments.
+    /// The life of the settings is bounded, and only an endless one has segments: 8 OtherLife.
     #[error("the life of these settings is bounded")]
     OtherLife,
     /// A plan can't be prepared.

@@ -16,11 +16,11 @@ most_page_bytes = 2 ^ 20
 abbrev pub most_workers : ℕ
 most_workers = 1024
 
--- How many submitted plans may wait at a time, in a life without end.
+-- How many submitted plans may wait at a time, in an endless life.
 abbrev pub most_waiting : ℕ
 most_waiting = 2 ^ 20
 
--- How many flushes a bounded life may begin, and how many a life without end.
+-- How many flushes a bounded life may begin, and how many an endless life.
 abbrev pub most_flushes : ℕ
 most_flushes = 100000
 

@@ -25,7 +25,7 @@ settings_error_row (Overlap i) = row 5 (codes "Overlap") (region i)
 settings_error_row (SameName i) = row 6 (codes "SameName") (region i)
 settings_error_row OutOfMemory = row 7 (codes "OutOfMemory") nothing
 
--- That of what serves bounded lives alone, under settings of a life without end.
+-- That of what serves bounded lives alone, under settings of an endless life.
 abbrev pub other_life_row : Row
 other_life_row = row 8 (codes "OtherLife") nothing
 

@@ -90,9 +90,9 @@ impl<T: Drop> From<AllocFailed<T>> for SettingsError {
 }
 
 /// Why settings aren't served: their lives have no end, and what was asked serves bounded ones alone, of which a journal has
-/// everything that was done.
+/// everything that was done. Its number is 8, and its name OtherLife.
 #[derive(Clone, Copy, Debug, PartialEq, Eq, Error)]
-#[error("the settings are of a life without end, and only a bounded one is served here")]
+#[error("the settings are of an endless life, and only a bounded one is served here")]
 pub struct OtherLife;
 
 impl OtherLife {

@@ -12,13 +12,13 @@ pub const MOST_PAGE_BYTES: u32 = 1_048_576;
 /// The most workers that a pool has.
 pub const MOST_WORKERS: u32 = 1_024;
 
-/// The most submitted plans that wait at a time, in a life without end.
+/// The most submitted plans that wait at a time, in an endless life.
 pub const MOST_WAITING: u32 = 1_048_576;
 
 /// The most flushes that one bounded life may begin.
 pub const MOST_FLUSHES: u64 = 100_000;
 
-/// The most flushes that a life without end may begin.
+/// The most flushes that an endless life may begin.
 pub const MOST_ENDLESS_FLUSHES: u64 = 576_460_752_303_423_488;
 
 /// The most regions. A layout has a place for each, so that it is copied without taking memory.

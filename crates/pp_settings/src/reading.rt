@@ -253,7 +253,7 @@ fn second_of(alloc: Global, table: &Table) -> Result<Draft, SettingsError>
     )?;
     let workers = number_at(table, Spot::Top(TopKey::Workers), 1, MOST_WORKERS)?;
     let waiting = number_at(table, Spot::Top(TopKey::Waiting), 0, MOST_WAITING)?;
-    let span = Span::waiting(waiting);
+    let span = Span::of_waiting(waiting);
     let flushes = long_at(table, Spot::Top(TopKey::Flushes), 0, span.most_flushes())?;
     let tables = tables_at(table, Spot::Top(TopKey::Region))?;
     let regions = regions_of(alloc, TextVersion::Two, tables)?;

@@ -26,7 +26,7 @@ use std::marker::Model;
 /// The settings of a pool, within their limits.
 ///
 /// A pool has 1 to 16,777,216 frames and 1 to 1,024 workers. A page has 64 to 1,048,576 bytes. A bounded life begins at
-/// most 100,000 flushes, and one without end at most 2^59. There are 1 to 64 regions. No two have the same name, and no
+/// most 100,000 flushes, and an endless one at most 2^59. There are 1 to 64 regions. No two have the same name, and no
 /// two share a page. A region's number is its place in the text, from 0.
 ///
 /// A text of version 1 has narrower limits: at most 4,096 frames, 32 workers, 65,536 bytes of a page, and pages below 65,536;
@@ -150,7 +150,7 @@ impl Settings {
     ///
     /// # Errors
     ///
-    /// [`OtherLife`] where it has no end.
+    /// [`OtherLife`], printed as `8 OtherLife`, where it has no end.
     pub fn see_bounded(&self) -> Result<(), OtherLife>
         ensures bounded { IfOk result (λ seen. self.now.span ≡ Bounded) }
         ensures exact { is_ok result ≡ is_bounded self.now.span }
@@ -161,7 +161,7 @@ impl Settings {
         }
     }
 
-    /// How many flushes one life may begin: at most 100,000 in a bounded life, and 2^59 in one without end.
+    /// How many flushes one life may begin: at most 100,000 in a bounded life, and 2^59 in an endless one.
     pub fn flushes(&self) -> u64
         ensures is { result ≡ self.now.flushes }
         ensures within { result ≤ flush_limit self.now.span }

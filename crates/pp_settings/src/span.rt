@@ -17,7 +17,7 @@ pub enum Span {
 
 impl Span {
     /// That of a text that lets so many plans wait at a time: a bounded one where it is 0.
-    pub(crate) fn waiting(waiting: u32) -> Span
+    pub(crate) fn of_waiting(waiting: u32) -> Span
         ensures { result ≡ span_of waiting }
     {
         if waiting == 0 {
@@ -27,7 +27,7 @@ impl Span {
         }
     }
 
-    /// The most flushes that one life may begin: 100,000 in a bounded life, and 2^59 in one without end.
+    /// The most flushes that one life may begin: 100,000 in a bounded life, and 2^59 in an endless one.
     pub fn most_flushes(self) -> u64
         ensures is { result ≡ flush_limit self }
         ensures within { result ≤ 576460752303423488 }

@@ -14,7 +14,7 @@ pub enum TextVersion {
     /// Any other text than one of version 2. Where it gives settings it has no key `version`, its pools are small, and their
     /// lives bounded.
     One,
-    /// A text whose key `version` holds the whole number 2. Its pools may be large, and their lives without end.
+    /// A text whose key `version` holds the whole number 2. Its pools may be large, and their lives endless.
     Two,
 }
 

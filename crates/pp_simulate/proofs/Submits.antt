@@ -114,7 +114,7 @@ pub record AreKept (s : State) (plans kept : List Acceptance) (now : State) (lef
   pub few : length kept ≤ most_kept s.settings.span
   pub taken : after_submits s kept ≡ Ok now
 
--- So far the plans before those that are left were taken in. In a life without end they are those that are kept.
+-- So far the plans before those that are left were taken in. In an endless life they are those that are kept.
 pub record SoFar (s : State) (plans : List Acceptance) (v : Parts) (left : List Acceptance) : Type 0 where
   pub now : State
   pub stands : StandsFor v now

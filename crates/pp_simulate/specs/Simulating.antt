@@ -30,7 +30,7 @@ pub record TakesAll (s : State) (plans : List Acceptance) (v : Parts) : Type 0 w
   pub taken_in : after_submits s plans ≡ Ok after
   pub stands : StandsFor v after
 
--- In a life without end the pool keeps no plan more: the first plans are taken in, as many as it keeps. Behind them
+-- In an endless life the pool keeps no plan more: the first plans are taken in, as many as it keeps. Behind them
 -- stands one more, which is of the pool's layout.
 pub record KeepsNoMore (s : State) (plans : List Acceptance) : Type 0 where
   pub endless : s.settings.span ≢ Bounded
@@ -47,13 +47,13 @@ IsSimulateError s plans (Submit error) = after_submits s plans ≡ Err error
 IsSimulateError s plans TooManyPrepared = KeepsNoMore s plans
 IsSimulateError s plans OutOfMemory = ⊤
 
--- In a life without end one plan more was kept, behind the others, which were fewer than may be kept.
+-- In an endless life one plan more was kept, behind the others, which were fewer than may be kept.
 abbrev pub Keeps : (old : Parts) → Acceptance → (new : Parts) → Type 0
 Keeps old a new =
     old.core.span ≢ Bounded
     → (length old.core.plans < most_kept old.core.span) × (new.core.plans ≡ old.core.plans ++ a ∷ [])
 
--- Why a plan isn't taken in: the model refuses it so. Or it is of the pool's layout, but the life is without end, and
+-- Why a plan isn't taken in: the model refuses it so. Or it is of the pool's layout, but the life is endless, and
 -- as many plans are kept as may be.
 abbrev pub TakeFails : Parts → Acceptance → SimulateError → Type 0
 TakeFails v a (Submit error) = (s : State) → StandsFor v s → submit_error s a ≡ Some error

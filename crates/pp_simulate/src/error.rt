@@ -15,7 +15,7 @@ pub enum SimulateError {
     /// The pool does not take a plan in.
     #[error("a plan is not taken in: {0}")]
     Submit(SubmitError),
-    /// The pool's life is without end, and it has taken in 4,096 plans: it keeps no plan more.
+    /// The pool's life is endless, and it has taken in 4,096 plans: it keeps no plan more.
     #[error("a plan is not taken in: the pool keeps no more than the 4,096 before it")]
     TooManyPrepared,
     /// Memory ran out. It says nothing of the plans and the script.

@@ -25,7 +25,7 @@ use std::alloc::Global;
 /// the lines, each ended by a line feed: `submit 0 = queued` for each plan with its number, then one for each cue, then
 /// `next TURN budget N`. Cues that are refused have lines too.
 ///
-/// In a bounded life the plans are submitted. In one without end each plan is prepared and then submitted once, before
+/// In a bounded life the plans are submitted. In an endless one each plan is prepared and then submitted once, before
 /// the next; the lines are the same.
 ///
 /// # Errors
@@ -33,7 +33,7 @@ use std::alloc::Global;
 /// Where the pool does not take a plan in, nothing is played. For the first such plan the errors come in this order:
 ///
 /// - `Submit(OtherSettings)`: the plan was accepted under another layout.
-/// - `TooManyPrepared`: the life is without end, and 4,096 plans were taken in before.
+/// - `TooManyPrepared`: the life is endless, and 4,096 plans were taken in before.
 /// - `Submit` with any other refusal of the plan.
 ///
 /// `OutOfMemory` may come at any time.
@@ -100,8 +100,8 @@ fn take_all_in(vault: &mut Vault, plans: Vec<Accepted>) -> Result<(), SimulateEr
     Ok(())
 }
 
-/// Takes a plan in, as the vault's life wants it, and answers its number: in a bounded life it is submitted, and in one
-/// without end it is prepared and then submitted.
+/// Takes a plan in, as the vault's life wants it, and answers its number: in a bounded life it is submitted, and in an
+/// endless one it is prepared and then submitted.
 fn take_in(vault: &mut Vault, plan: Accepted) -> Result<PlanId, SimulateError>
     ensures ok { IfOk result (λ id. TakesIn vault.old plan id vault.new) }
     ensures keeps { OnOk result (Keeps vault.old plan vault.new) }

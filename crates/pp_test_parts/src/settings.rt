@@ -73,7 +73,7 @@ fn settings_of_two_regions(rt: HostRuntime) -> Result<(), Fail> {
 
 /// Lives of settings of version 1 are bounded, and others may have no end; what serves bounded lives alone tells these apart.
 #[test]
-fn lives_are_bounded_or_without_end(rt: HostRuntime) -> Result<(), Fail> {
+fn lives_are_bounded_or_endless(rt: HostRuntime) -> Result<(), Fail> {
     let (first, second) = (
         two_regions(rt.alloc(), 3)?,
         endless_settings(rt.alloc(), 3, 5)?,
@@ -92,7 +92,7 @@ fn lives_are_bounded_or_without_end(rt: HostRuntime) -> Result<(), Fail> {
         &rt,
         rt.alloc(),
         OtherLife,
-        "the settings are of a life without end, and only a bounded one is served here",
+        "the settings are of an endless life, and only a bounded one is served here",
     )
 }
 

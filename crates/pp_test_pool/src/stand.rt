@@ -40,7 +40,7 @@ pub fn settings_of(rt: &impl Abort, alloc: Global, text: &str) -> Settings
         panic!(rt; "no settings: {text}")
     };
     let Ok(()) = settings.see_bounded() else {
-        panic!(rt; "lives without end: {text}")
+        panic!(rt; "endless lives: {text}")
     };
     settings
 }

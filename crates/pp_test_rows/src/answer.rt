@@ -67,7 +67,7 @@ fn settings_in(alloc: Global, bytes: &[u8]) -> Result<Settings, SettingsError> {
     }
 }
 
-/// The figures of the settings. How many plans may wait stands in those of a life without end alone.
+/// The figures of the settings. How many plans may wait stands in those of an endless life alone.
 fn figures(alloc: Global, settings: &Settings) -> Result<String, AllocError> {
     let (frames, page_bytes) = (settings.frames(), settings.page_bytes());
     let (workers, flushes) = (settings.workers(), settings.flushes());

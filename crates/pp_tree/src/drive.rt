@@ -43,7 +43,7 @@ impl<D: Drop> Stand<D> {
     ///
     /// # Errors
     ///
-    /// Where the settings are of lives without end, which a run doesn't serve, and where memory runs out.
+    /// Where the settings are of endless lives, which a run doesn't serve, and where memory runs out.
     pub fn open(alloc: Global, settings: &Settings, devices: Vec<D>) -> anyhow::Result<Stand<D>> {
         settings.see_bounded()?;
         Ok(Stand {

@@ -1,10 +1,10 @@
-//! A B+ tree on pages, and a hash join, whose queries are run by the workers of a pool: each query is a work of its own, which goes
-//! from plan to plan.
+//! A B+ tree on pages, and a hash join, whose queries are run by the workers of a pool: each query is a work of its own,
+//! which goes from plan to plan.
 //!
-//! `pp_tree KEYS FRAMES EVERY` adds so many keys, finds, changes and scans them by eight workers in so many frames, 8 or more: first over a
-//! device that never fails, and then over one of which each call of each end fails whose number is a multiple of EVERY. It prints how many answers are those of a plain map,
-//! and whether the tree is well-formed and has what the map has. Then it joins two tables. What depends on the schedule goes to standard
-//! error.
+//! `pp_tree KEYS FRAMES EVERY` adds so many keys, finds, changes and scans them by eight workers in so many frames, 8 or
+//! more. It does so over a device that never fails, and then over one of which each call of each end fails whose number
+//! is a multiple of EVERY. It prints how many answers are those of a plain map, and whether the tree is well-formed and
+//! has what the map has. Then it joins two tables. What depends on the schedule goes to standard error.
 //!
 //! It is written to be copied; docs/embedding.md goes through it.
 #![tactic(auto)]

@@ -17,8 +17,9 @@ pub struct Shape {
     pub height: u64,
     /// How many nodes there are, the root too.
     pub nodes: u64,
-    /// How many things are amiss: a page that can't be read, a node of another height than its place has, keys that don't rise or
-    /// that its parent doesn't tell of, a leaf that names another one as the next, or a map that counts more or fewer nodes.
+    /// How many things are amiss. Each is a page that can't be read, a node of another height than its place has, or
+    /// keys that don't rise or that its parent doesn't tell of. Or it is a leaf that names another one as the next, or
+    /// a map that counts more or fewer nodes.
     pub amiss: u64,
     /// The entries of the leaves in their order.
     pub entries: Vec<Entry>,

@@ -108,8 +108,8 @@ fn tell_tree<D: Drop, E: Device>(
     Ok(())
 }
 
-/// Adds each key, and looks at the tree: first each is asked once, and those whose plan was left are given up; then these are asked again,
-/// until all are there.
+/// Adds each key, and looks at the tree: first each is asked once, and those whose plan was left are given up; then
+/// these are asked again, until all are there.
 fn insert_all<D: Device + Drop + Send, E: Device, R: Print + Eprint + Threads + Wait + Sync>(
     rt: &R,
     alloc: Global,
@@ -137,8 +137,9 @@ const PASSES: [(&str, Pass); 3] = [
     ("scans", Pass::Scan),
 ];
 
-/// Adds so many keys to a new tree, finds them, changes them and scans them, and tells how each pass went. The pool has so many frames. The
-/// calls of each end of the device fail whose number is a multiple of `every`; none where there is none.
+/// Adds so many keys to a new tree, finds them, changes them and scans them, and tells how each pass went. The pool has
+/// so many frames. The calls of each end of the device fail whose number is a multiple of `every`; none where there is
+/// none.
 pub fn try_tree<R: AllocGlobal + Print + Eprint + Threads + Wait + Sync>(
     rt: &R,
     keys: u64,

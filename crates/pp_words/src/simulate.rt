@@ -32,7 +32,7 @@ impl<'a> SimulatePaths<'a> {
                 \n\
                 Status: 0 played, also where cues are refused, 1 refused, 2 a bad command line, 3 a file that can't be read, 4 out of memory.\n\
                 A refusal is one line on standard output; standard error says where and why.\n\
-                Limits: 256 plans, and 4,000,000 moves by their costs; in a life without end 4,096 plans, and\n\
+                Limits: 256 plans, and 4,000,000 moves by their costs; in an endless life 4,096 plans, and\n\
                 2^61 moves.\n\
                 Read on: docs/formats.md, Scripts.",
             )
