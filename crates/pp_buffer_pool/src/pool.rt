@@ -25,8 +25,8 @@ use std::sync::{Mutex, MutexGuard, Wait};
 ///
 /// | Call | Waits for | Takes memory |
 /// |---|---|---|
-/// | [`BufferPool::open`] | nothing | all that the pool ever needs, but for plans, and for a chair's log and pages |
-/// | [`BufferPool::prepare`] | the lock | for the plan that is kept |
+/// | [`BufferPool::open`] | nothing | all that the pool ever needs, but for a chair's log and pages |
+/// | [`BufferPool::prepare`] | the lock | none: the plan has its own |
 /// | [`BufferPool::execute`] | the lock; its turn, with room and a chair; a page, a frame or a latch; the device and the work | with the lock held, for what its chair lacks: an image, room for the plan's events, and for pages that the work is lent |
 /// | [`BufferPool::flush_once`] | the lock; the device | none |
 /// | [`BufferPool::run_flusher`] | the lock; the device; that pages are changed, or that the pool is stopped | none |

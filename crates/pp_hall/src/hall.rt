@@ -73,8 +73,8 @@ pub struct Closed<D> {
 ///
 /// That the state of its vault is reached, and the headline of it, is the vault's own fact ([`Hall::known`]).
 ///
-/// No call but [`Hall::open`] and [`Hall::prepare`] takes memory. The compiler refuses code that lets a hall fall:
-/// [`Hall::close`] gives it up, or [`Hall::abandon`], which writes nothing.
+/// No call but [`Hall::open`] takes memory; a plan that is prepared has its own. The compiler refuses code that lets a
+/// hall fall: [`Hall::close`] gives it up, or [`Hall::abandon`], which writes nothing.
 pub struct Hall<D> {
     pub(crate) seating: Seating,
     pub(crate) waiters: Waiters,
@@ -105,8 +105,8 @@ impl<D> Model for Hall<D> {
 
 impl<D: Device + Drop> Hall<D> {
     /// A hall with these settings, in which nothing was done yet: each chair is home, with a worker over one of the
-    /// devices, and so is the flusher, over the last one. It gets all memory that the pool ever needs, but for the
-    /// plans that are prepared, and for what a worker gets when it takes its first plan, or a dearer one.
+    /// devices, and so is the flusher, over the last one. It gets all memory that the pool ever needs, but for what a
+    /// worker gets when it takes its first plan, or a dearer one.
     ///
     /// # Errors
     ///
