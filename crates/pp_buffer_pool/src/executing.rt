@@ -41,9 +41,9 @@ impl<D: Device + Drop> BufferPool<D> {
     /// last hold. [`Work::ended`] comes after it, when others may run.
     ///
     /// What the clause `ok` says: the plan was submitted and taken in one step, by this call's chair, and that is the
-    /// first event of this call's log; the last is the plan's end, as the outcome tells it; and between them lie just
-    /// the turns that the plan asks, with what the work answered and was shown in each, and what the device was called
-    /// for.
+    /// first event of this call's log; the last is the plan's end, as the outcome tells it. Between them lie turns that
+    /// were all done, each with what the work answered and was shown in it, and what the device was called for. That
+    /// they are those that the plan asks, and in which pool, no clause says: what lies under a lock is in no contract.
     ///
     /// # Errors
     ///
