@@ -42,7 +42,7 @@ pub fn case<R: Files<File = File> + AllocGlobal + Print + Wait + Copy + Drop>(
         "Hall::open" | "BufferPool::open" => {
             let mut opening = Opening {
                 alloc: rt.alloc(),
-                call,
+                has_lock: call == "BufferPool::open",
                 settings,
                 ends: Some(ends),
             };
@@ -52,25 +52,26 @@ pub fn case<R: Files<File = File> + AllocGlobal + Print + Wait + Copy + Drop>(
     }
 }
 
-/// What a pool is opened with.
+/// What a pool is opened with, or a hall, which is one without its lock.
 #[derive(Drop)]
-struct Opening<'a, R: Wait> {
+struct Opening<R: Wait> {
     alloc: Global,
-    call: &'a str,
+    has_lock: bool,
     settings: Settings,
     ends: Option<Vec<SharedDevice<R>>>,
 }
 
-impl<R: Wait + Drop> Tried for Opening<'_, R> {
+impl<R: Wait + Drop> Tried for Opening<R> {
     type Told = Answer;
 
     fn call(&mut self) -> Answer {
         let Some(ends) = self.ends.take() else {
             return Answer::Nothing;
         };
-        let opened = match self.call {
-            "Hall::open" => hall(self.alloc, &self.settings, ends),
-            _ => pool(self.alloc, &self.settings, ends),
+        let opened = if self.has_lock {
+            pool(self.alloc, &self.settings, ends)
+        } else {
+            hall(self.alloc, &self.settings, ends)
         };
         match opened {
             Ok(answer) => answer,
