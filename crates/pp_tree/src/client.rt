@@ -115,6 +115,10 @@ impl Client {
     }
 
     /// Counts the keys of a leaf, and goes on to the next one where there may be more of them. At the last it is answered.
+    ///
+    /// The next plan descends to the first key that wasn't come to. So where a plan's leaves have no such key, all further
+    /// ones see the same leaves: a tree from which whole ranges are taken out wants leaves to be merged, and this one
+    /// doesn't.
     fn scan_leaf(&mut self, body: &[u8], to: u64) {
         self.path.see_leaf(body);
         if !self.counting.add(body, to) {

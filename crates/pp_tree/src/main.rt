@@ -1,16 +1,17 @@
-//! A B+ tree on pages, and a hash join, whose queries are run by the workers of a pool: each query is a work of its own,
-//! which goes from plan to plan.
+//! A B+ tree on pages, which four threads of the program use at once, and a hash join in a batch. Each query is a work
+//! of its own, which goes from plan to plan.
 //!
-//! `pp_tree KEYS FRAMES EVERY` adds so many keys, finds, changes and scans them by eight workers in so many frames, 8 or
+//! `pp_tree KEYS FRAMES EVERY` adds so many keys, finds, changes and scans them on one pool of so many frames, 8 or
 //! more. It does so over a device that never fails, and then over one of which each call of each end fails whose number
-//! is a multiple of EVERY. It prints how many answers are those of a plain map, and whether the tree is well-formed and
-//! has what the map has. Then it joins two tables. What depends on the schedule goes to standard error.
+//! is a multiple of EVERY, up to 499 calls of an end. It prints how many answers aren't those of a plain map, and whether
+//! the tree is well-formed and has what the map has. Then it joins two tables. What depends on the schedule goes to
+//! standard error.
 //!
 //! It is written to be copied; docs/embedding.md goes through it.
 #![tactic(auto)]
 
+mod batch;
 mod client;
-mod drive;
 mod hash_join;
 mod node;
 mod passes;
@@ -18,13 +19,14 @@ mod path;
 mod plans;
 mod query;
 mod regions;
+mod serve;
 mod shape;
 mod space;
 mod splits;
 mod tables;
 mod trial;
 
-use crate::drive::Stand;
+use crate::batch::Stand;
 use crate::hash_join::HashJoin;
 use crate::plans::accepted;
 use crate::regions::PAGE_BYTES;

@@ -39,6 +39,7 @@ const HALVINGS: u32 = 9;
 /// An entry of a node.
 #[derive(Clone, Copy, Debug, PartialEq, Eq)]
 pub struct Entry {
+    /// In a leaf the key, in another node the least that the child may have.
     pub key: u64,
     /// In a leaf the value of the key, in another node the page of the child.
     pub value: u64,

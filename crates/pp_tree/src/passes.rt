@@ -63,7 +63,8 @@ pub fn clients_of(alloc: Global, pass: Pass, keys: u64) -> Result<Vec<Client>, A
     Ok(clients)
 }
 
-/// How many of these answers are those of the plain map, in which each query is done as well.
+/// How many of these answers are those of the plain map, in which each query is done as well. They are of one pass: no
+/// two of these queries change one key, so their order doesn't matter.
 pub fn like_the_map(clients: &[Client], map: &mut BTreeMap<u64, u64>) -> Result<usize, AllocError> {
     let mut same = 0usize;
     for client in clients {

@@ -23,12 +23,20 @@ pub enum Job {
 }
 
 /// A plan for the job.
+///
+/// # Errors
+///
+/// Where the checker refuses it under these settings, and where memory runs out.
 pub fn plan_for(alloc: Global, settings: &Settings, job: Job) -> anyhow::Result<Accepted> {
     let text = text_of(alloc, job)?;
     accepted(alloc, settings, &text)
 }
 
 /// The plan of this text, accepted by the checker.
+///
+/// # Errors
+///
+/// Where the text is no plan for these settings, the checker refuses it, or memory runs out.
 pub fn accepted(alloc: Global, settings: &Settings, text: &str) -> anyhow::Result<Accepted> {
     let plan = Plan::from_text(alloc, settings, text)?;
     let certificate = annotate(alloc, settings, &plan)?;

@@ -5,11 +5,13 @@ use crate::plans::Job;
 /// What is asked of the tree.
 #[derive(Clone, Copy, Debug, PartialEq, Eq)]
 pub enum Query {
+    /// Finds the value of the key.
     Find { key: u64 },
     /// Adds the key, or gives it another value.
     Insert { key: u64, value: u64 },
     /// Gives a key that is there another value.
     Update { key: u64, value: u64 },
+    /// Takes a key out.
     Delete { key: u64 },
     /// Counts the keys from one on and below another, and adds them up.
     Scan { from: u64, to: u64 },
@@ -40,6 +42,7 @@ impl Query {
 /// What a query came to.
 #[derive(Clone, Copy, Debug, PartialEq, Eq)]
 pub enum Answer {
+    /// The key is there, with this value.
     Found { value: u64 },
     /// The tree doesn't have the key.
     Missing,

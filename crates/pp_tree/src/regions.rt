@@ -21,8 +21,8 @@ pub const PAGES: u32 = 1_792;
 /// How many bytes a page has.
 pub const PAGE_BYTES: usize = 4_096;
 
-/// How many workers there are.
-pub const WORKERS: usize = 8;
+/// How many plans run at once: there is a chair for each thread.
+pub const CHAIRS: usize = 4;
 
 /// The most levels below the root.
 pub const LEVELS: u64 = 3;
@@ -30,11 +30,14 @@ pub const LEVELS: u64 = 3;
 /// The first region that nodes below the root lie in. The map of free pages counts its groups from this one on.
 pub const FIRST_OF_NODES: u8 = 2;
 
-/// The region of a page: its name, its first page, and how many pages it has. Its class is its number and one.
+/// The region of a page. Its class is its number and one.
 #[derive(Clone, Copy)]
 pub struct Region {
+    /// The name by which a plan names it.
     pub name: &'static str,
+    /// Its first page.
     pub first: u32,
+    /// How many pages it has.
     pub count: u32,
 }
 
@@ -103,13 +106,18 @@ pub fn region_of(page: u32) -> u8 {
     0
 }
 
-/// The settings of a pool for the tree with so many frames.
+/// The settings of a pool for the tree with so many frames, whose life is endless.
+///
+/// # Errors
+///
+/// Where no pool has so many frames, and where memory runs out.
 pub fn settings_of(alloc: Global, frames: u32) -> anyhow::Result<Settings> {
     let mut text = String::new(alloc);
     write!(
         text,
-        "frames = {frames}\npage_bytes = {PAGE_BYTES}\nworkers = {WORKERS}\nflushes = 400\n"
+        "version = 2\nframes = {frames}\npage_bytes = {PAGE_BYTES}\nworkers = {CHAIRS}\n"
     )?;
+    text.push_str("waiting = 1\nflushes = 1000000000\n")?;
     let mut class = 1u32;
     for region in REGIONS.iter() {
         let (name, first, count) = (region.name, region.first, region.count);

@@ -31,6 +31,10 @@ fn line_of(number: u64) -> Entry {
 }
 
 /// Writes both tables: the buckets of the smaller one, and behind them the pages of the larger one.
+///
+/// # Errors
+///
+/// Where the device fails.
 pub fn write<D: Device>(device: &mut D) -> anyhow::Result<()> {
     for bucket in 0..BUCKETS {
         write_bucket(device, bucket)?;

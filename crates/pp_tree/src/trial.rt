@@ -1,12 +1,13 @@
 //! A tree on a device, and a plain map that it is compared with, through all passes.
 
 use crate::client::Client;
-use crate::drive::{OnceLeft, Stand, answer_all};
 use crate::node::Entry;
 use crate::passes::{Pass, clients_of, like_the_map};
-use crate::regions::{FIRST_LEAF, MAP, PAGE_BYTES, PAGES, ROOT, WORKERS, settings_of};
+use crate::regions::{CHAIRS, FIRST_LEAF, MAP, PAGE_BYTES, PAGES, ROOT, settings_of};
+use crate::serve::{OnceLeft, Plans, answer_all};
 use crate::shape::shape_of;
 use crate::{node, space};
+use pp_buffer_pool::{BufferPool, Policy};
 use pp_device::image::HEAD;
 use pp_device::{Device, Failing, Trouble, image};
 use pp_settings::Settings;
@@ -16,13 +17,14 @@ use std::collections::BTreeMap;
 use std::sync::Wait;
 use std::thread::Threads;
 
-/// How many calls of an end fail at most.
+/// Fewer calls of an end than so many fail.
 const TROUBLES: u32 = 500;
 
 /// Writes the map, in which the first leaf isn't free.
 fn write_map<D: Device>(device: &mut D) -> anyhow::Result<()> {
     let mut bytes = [0; PAGE_BYTES];
     image::make(&mut bytes, MAP, 0);
+    // The even leaves are the map's group 4.
     space::take(&mut bytes[HEAD..], 4, 0);
     Ok(device.write(MAP, &bytes)?)
 }
@@ -70,41 +72,49 @@ fn failing<D: Drop>(
     Ok(devices)
 }
 
-/// Runs the queries of a pass, and tells how many came to something else than by the map. Gives back those that were given up.
+/// A pool that stands, and the plans that it keeps.
+#[derive(Drop)]
+struct Served<'a, D: Device + Drop> {
+    pool: &'a BufferPool<D>,
+    plans: Plans,
+}
+
+/// Has the queries of a pass answered, and tells how many came to something else than by the map. Gives back those that
+/// were given up.
 fn run_pass<D: Device + Drop + Send, R: Print + Threads + Wait + Sync>(
     rt: &R,
     alloc: Global,
-    settings: &Settings,
-    stand: Stand<D>,
+    served: &Served<'_, D>,
     map: &mut BTreeMap<u64, u64>,
     name: &str,
     clients: Vec<Client>,
     once_left: OnceLeft,
-) -> anyhow::Result<(Stand<D>, Vec<Client>)> {
+) -> anyhow::Result<Vec<Client>> {
     let asked = clients.len();
-    let (stand, desk) = answer_all(rt, alloc, settings, stand, clients, once_left)?;
+    let desk = answer_all(rt, alloc, served.pool, &served.plans, clients, once_left)?;
     let same = like_the_map(desk.answered.as_slice(), map)?;
     let other = asked
         .saturating_sub(desk.given_up.len())
         .saturating_sub(same);
     println!(rt; "  {name}: {other} otherwise than by the map")?;
-    Ok((stand, desk.given_up))
+    Ok(desk.given_up)
 }
 
 /// Tells whether the tree on the device is well-formed, and has exactly what the map has.
-fn tell_tree<D: Drop, E: Device>(
-    rt: &(impl Print + Eprint),
+fn tell_tree<D: Device + Drop, E: Device, R: Print + Eprint + Wait>(
+    rt: &R,
     alloc: Global,
-    stand: &Stand<D>,
+    served: &Served<'_, D>,
     eye: &mut E,
     map: &BTreeMap<u64, u64>,
 ) -> anyhow::Result<()> {
     let shape = shape_of(alloc, eye)?;
-    let (runs, dirty, height) = (stand.runs(), stand.dirty(), shape.height);
-    let (keys, nodes) = (shape.entries.len(), shape.nodes);
-    let is_like = dirty == 0 && shape.is_like(map);
+    let stats = served.pool.stats(rt);
+    let (keys, nodes, height) = (shape.entries.len(), shape.nodes, shape.height);
+    let is_like = stats.dirty == 0 && shape.is_like(map);
     println!(rt; "  the tree is well-formed and has what the map has: {is_like}")?;
-    eprintln!(rt; "  {keys} keys, {nodes} nodes, height {height}, {runs} runs")?;
+    let (done, gone) = (stats.counts.done, stats.counts.gone);
+    eprintln!(rt; "  {keys} keys, {nodes} nodes, height {height}, {done} plans done, {gone} left")?;
     Ok(())
 }
 
@@ -113,21 +123,19 @@ fn tell_tree<D: Drop, E: Device>(
 fn insert_all<D: Device + Drop + Send, E: Device, R: Print + Eprint + Threads + Wait + Sync>(
     rt: &R,
     alloc: Global,
-    settings: &Settings,
-    stand: Stand<D>,
+    served: &Served<'_, D>,
     eye: &mut E,
     map: &mut BTreeMap<u64, u64>,
     keys: u64,
-) -> anyhow::Result<Stand<D>> {
+) -> anyhow::Result<()> {
     let clients = clients_of(alloc, Pass::Insert, keys)?;
     let (name, once) = ("inserts that are done", OnceLeft::GiveUp);
-    let (stand, left) = run_pass(rt, alloc, settings, stand, map, name, clients, once)?;
-    tell_tree(rt, alloc, &stand, eye, map)?;
+    let left = run_pass(rt, alloc, served, map, name, clients, once)?;
+    tell_tree(rt, alloc, served, eye, map)?;
     println!(rt; "  some were left: {}", !left.is_empty())?;
     let (name, once) = ("inserts that were left, again", OnceLeft::AskAgain);
-    let (stand, _none) = run_pass(rt, alloc, settings, stand, map, name, left, once)?;
-    tell_tree(rt, alloc, &stand, eye, map)?;
-    Ok(stand)
+    run_pass(rt, alloc, served, map, name, left, once)?;
+    tell_tree(rt, alloc, served, eye, map)
 }
 
 /// The other passes, with their names.
@@ -137,9 +145,41 @@ const PASSES: [(&str, Pass); 3] = [
     ("scans", Pass::Scan),
 ];
 
-/// Adds so many keys to a new tree, finds them, changes them and scans them, and tells how each pass went. The pool has
-/// so many frames. The calls of each end of the device fail whose number is a multiple of `every`; none where there is
-/// none.
+/// Adds so many keys to a new tree, finds them, changes them and scans them, and tells how each pass went.
+fn run_passes<D: Device + Drop + Send, E: Device, R: Print + Eprint + Threads + Wait + Sync>(
+    rt: &R,
+    alloc: Global,
+    settings: &Settings,
+    pool: &BufferPool<D>,
+    eye: &mut E,
+    keys: u64,
+) -> anyhow::Result<()> {
+    let plans = Plans::prepare(rt, alloc, settings, pool)?;
+    let served = Served { pool, plans };
+    let mut map = BTreeMap::new(alloc);
+    insert_all(rt, alloc, &served, eye, &mut map, keys)?;
+    for (name, pass) in PASSES {
+        let clients = clients_of(alloc, pass, keys)?;
+        let again = OnceLeft::AskAgain;
+        run_pass(rt, alloc, &served, &mut map, name, clients, again)?;
+    }
+    tell_tree(rt, alloc, &served, eye, &map)
+}
+
+/// Who waits to start, and when a flusher would begin: this program writes after each pass.
+const POLICY: Policy = Policy {
+    queue: 16,
+    bypass: 8,
+    flush_from: 2,
+    flush_to: 1,
+};
+
+/// All passes over a new tree, by a pool of so many frames. The calls of each end of the device fail whose number is a
+/// multiple of `every`, up to 499 calls of an end; none where there is none.
+///
+/// # Errors
+///
+/// Where the pool isn't opened or closed, a pass isn't done, or memory runs out.
 pub fn try_tree<R: AllocGlobal + Print + Eprint + Threads + Wait + Sync>(
     rt: &R,
     keys: u64,
@@ -148,9 +188,9 @@ pub fn try_tree<R: AllocGlobal + Print + Eprint + Threads + Wait + Sync>(
 ) -> anyhow::Result<()> {
     let alloc: Global = rt.alloc();
     let settings = settings_of(alloc, frames)?;
-    let mut ends = SharedDevice::over_memory(rt, alloc, PAGES, PAGE_BYTES, WORKERS + 2)?;
+    let mut ends = SharedDevice::over_memory(rt, alloc, PAGES, PAGE_BYTES, CHAIRS + 2)?;
     let Some(mut eye) = ends.pop() else {
-        anyhow::bail!("no end");
+        anyhow::bail!("the device has no end");
     };
     write_map(&mut eye)?;
     write_root(&mut eye)?;
@@ -159,14 +199,17 @@ pub fn try_tree<R: AllocGlobal + Print + Eprint + Threads + Wait + Sync>(
         None => println!(rt; "{keys} keys; no call of a device fails")?,
     }
     let devices = failing(alloc, ends, every)?;
-    let mut stand = Stand::open(alloc, &settings, devices)?;
-    let mut map = BTreeMap::new(alloc);
-    stand = insert_all(rt, alloc, &settings, stand, &mut eye, &mut map, keys)?;
-    for (name, pass) in PASSES {
-        let clients = clients_of(alloc, pass, keys)?;
-        let again = OnceLeft::AskAgain;
-        let (now, _none) = run_pass(rt, alloc, &settings, stand, &mut map, name, clients, again)?;
-        stand = now;
+    let pool = match BufferPool::open(alloc, &settings, POLICY, devices) {
+        Ok(pool) => pool,
+        Err((error, _devices)) => return Err(anyhow::Error::from(error)),
+    };
+    let ran = run_passes(rt, alloc, &settings, &pool, &mut eye, keys);
+    match pool.close() {
+        Ok(_closed) => ran,
+        Err((error, pool)) => {
+            pool.abandon();
+            ran?;
+            Err(anyhow::Error::from(error))
+        }
     }
-    tell_tree(rt, alloc, &stand, &mut eye, &map)
 }
