@@ -5,7 +5,7 @@ use pp_bench_traces::Kind;
 
 /// What the words of the command line are.
 pub const USAGE: &str =
-    "usage: pp_bench_pool THREADS hit|skew|loop|mixed|hot PLANS PAGES, with 1 to 32 threads";
+    "usage: pp_bench_pool THREADS hit|skew|loop|mixed|hot PLANS PAGES [copies], with 1 to 32 threads";
 
 /// How much may be asked.
 pub const LIMITS: &str = "PLANS is at most 10000000, and PAGES is 1 to 65535";
@@ -21,6 +21,8 @@ const MOST_PAGES: u32 = 65_535;
 pub enum Load {
     /// Those of traces, to look at them.
     Trace(Kind),
+    /// The same, to look at copies of them.
+    Copies(Kind),
     /// One page, to change it.
     Hot,
 }
@@ -47,6 +49,10 @@ impl Asked {
     /// [`Trouble::Words`] where they are others than [`USAGE`] says, and [`Trouble::TooMany`] where more is asked than
     /// [`LIMITS`] says.
     pub fn of(words: &[String]) -> Result<Asked, Trouble> {
+        let (words, are_copies) = match words {
+            [words @ .., last] if last.as_str() == "copies" => (words, true),
+            words => (words, false),
+        };
         let [_, threads, load, plans, pages] = words else {
             return Err(Trouble::Words);
         };
@@ -61,20 +67,19 @@ impl Asked {
         }
         Ok(Asked {
             threads,
-            load: load_named(load.as_str())?,
+            load: load_named(load.as_str(), are_copies)?,
             plans: plans / u64::from(threads),
             pages,
         })
     }
 }
 
-/// The load of this name.
-fn load_named(name: &str) -> Result<Load, Trouble> {
-    if name == "hot" {
-        return Ok(Load::Hot);
-    }
+/// The load of this name, on copies or not. No copy is changed.
+fn load_named(name: &str, are_copies: bool) -> Result<Load, Trouble> {
     match Kind::named(name) {
+        Some(kind) if are_copies => Ok(Load::Copies(kind)),
         Some(kind) => Ok(Load::Trace(kind)),
+        None if name == "hot" && !are_copies => Ok(Load::Hot),
         None => Err(Trouble::Words),
     }
 }

@@ -5,7 +5,7 @@ ghost use Rattle.std.specs.Prelude.{◌≡◌, ◌+◌};
 use crate::asked::Load;
 use crate::times::Times;
 use pp_bench_traces::{FRAMES, Trace};
-use pp_buffer_pool::{BufferPool, Outcome, PreparedPlan};
+use pp_buffer_pool::{BufferPool, ExecuteError, OnCopies, Outcome, PreparedPlan};
 use pp_device::Device;
 use pp_device::image::HEAD;
 use pp_pool::Work;
@@ -15,6 +15,9 @@ use std::time::{Clock, Instant};
 
 /// How many bytes of a body a work looks at, from its first one on.
 const LOOKED_AT: usize = 8;
+
+/// How many bytes of a page are copied for a work that sees copies.
+const SEEN: u32 = 64;
 
 /// A work that asks for the pages of a trace, or for the first one each time.
 #[derive(Drop)]
@@ -28,7 +31,7 @@ impl Asking {
     /// What this thread of several asks for.
     fn of_thread(load: Load, thread: u32) -> Asking {
         let trace = match load {
-            Load::Trace(kind) => Some(Trace::of_worker(kind, FRAMES, thread)),
+            Load::Trace(kind) | Load::Copies(kind) => Some(Trace::of_worker(kind, FRAMES, thread)),
             Load::Hot => None,
         };
         Asking { trace, sum: 0 }
@@ -65,6 +68,40 @@ impl Work for Asking {
     }
 }
 
+/// The work of a thread, and what it looks at.
+#[derive(Drop)]
+enum Looking {
+    Pages(Asking),
+    Copies(OnCopies<Asking>),
+}
+
+impl Looking {
+    /// What this thread of several looks at.
+    fn of_thread(alloc: Global, load: Load, thread: u32) -> Result<Looking, AllocError> {
+        let work = Asking::of_thread(load, thread);
+        match load {
+            Load::Trace(_) | Load::Hot => Ok(Looking::Pages(work)),
+            Load::Copies(_) => match OnCopies::new(alloc, work, SEEN) {
+                Ok(work) => Ok(Looking::Copies(work)),
+                Err((error, _work)) => Err(error),
+            },
+        }
+    }
+
+    /// Runs the plan.
+    fn execute<D: Device + Drop, R: Wait>(
+        &mut self,
+        rt: &R,
+        pool: &BufferPool<D>,
+        plan: &PreparedPlan,
+    ) -> Result<Outcome, ExecuteError> {
+        match self {
+            Looking::Pages(work) => pool.execute(rt, plan, work),
+            Looking::Copies(work) => pool.execute_on_copies(rt, plan, work),
+        }
+    }
+}
+
 /// What a thread has done.
 #[derive(Drop)]
 pub struct Client {
@@ -89,11 +126,11 @@ pub fn run<D: Device + Drop, R: Wait + Clock>(
     plans: u64,
 ) -> Result<Client, AllocError> {
     let mut times = Times::with_room(alloc, plans as usize)?;
-    let mut work = Asking::of_thread(load, thread);
+    let mut work = Looking::of_thread(alloc, load, thread)?;
     let mut done = 0u64;
     for _ in 0..plans {
         let began = Instant::now(rt);
-        if let Ok(Outcome::Done) = pool.execute(rt, &plan, &mut work) {
+        if let Ok(Outcome::Done) = work.execute(rt, pool, &plan) {
             if let Ok(began) = began {
                 times.note(rt, began);
             }

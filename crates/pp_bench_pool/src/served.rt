@@ -100,7 +100,7 @@ class = 0
 /// The plan that all threads run.
 fn accepted(alloc: Global, settings: &Settings, asked: Asked) -> Result<Accepted, Trouble> {
     let mode = match asked.load {
-        Load::Trace(_) => "S",
+        Load::Trace(_) | Load::Copies(_) => "S",
         Load::Hot => "X",
     };
     let turns = asked.pages;

@@ -7,3 +7,4 @@ pub mod Reading
 pub mod Halls
 pub mod Execution
 pub mod Sent
+pub mod Copied

@@ -1,6 +1,6 @@
 -- A turn of a work with a note is a turn of the work. The note is what the work was told of its plan's end.
 use Rattle.std.proofs.Common.{◌≡◌, ◌∙◌, ◌++◌, ℕ, Bool, true, false, inl, inr, Option, Some, None, List, [], ◌∷◌, refl, sym, ap, subst}
-use Rattle.std.specs.Prelude.{◌⊎◌, ◌||◌, MatchOption, if◌then◌else◌}
+use Rattle.std.specs.Prelude.{◌⊎◌, ◌||◌, MatchOption}
 use Rattle.std.specs.List.{list_any}
 use Rattle.std.specs.Option.{option_map}
 use Rattle.pp_settings.specs.Layout.{Geometry}
@@ -32,7 +32,7 @@ use Rattle.pp_pool.specs.declared.turned.Turned.{Turned}
 use Rattle.pp_pool.specs.declared.worker.Worker.{Worker}
 use Rattle.pp_pool.specs.Lent.{LentPage, lent_in, off_next}
 use Rattle.pp_pool.specs.Requests.{events_in}
-use Rattle.pp_pool.specs.Turns.{Consults, ConsultsPage, Reworks, ReworksIf, Uses, Changes, LooksAt, is_shown, kind_of}
+use Rattle.pp_pool.specs.Turns.{Consults, ConsultsPage, Reworks, ReworksIf, Uses, LooksAt, is_shown, kind_of}
 use Rattle.pp_pool.specs.Turns.{Tells, TellsStep, page_called, end_of, Makes}
 use Rattle.pp_buffer_pool.specs.declared.ending.Ending.{Ending}
 use Rattle.pp_buffer_pool.specs.Running.{noted_calls}

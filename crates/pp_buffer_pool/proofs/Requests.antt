@@ -1,21 +1,16 @@
 -- Turns of a worker in one plan.
-use Rattle.std.proofs.Common.{◌≡◌, ◌≢◌, ◌∙◌, ◌++◌, ℕ, Bool, true, false, inl, inr, Option, Some, None, List, [], ◌∷◌, refl, sym, ap, subst}
+use Rattle.std.proofs.Common.{◌≡◌, ◌≢◌, ◌∙◌, ℕ, Bool, true, false, inl, inr, Option, Some, None, List, refl, sym, ap, subst}
 use Rattle.std.proofs.Common.{arith}
-use Rattle.std.specs.Prelude.{◌⊎◌, ◌==◌, ◌&&◌, not, if◌then◌else◌, is_ok, IfSome, IfNone}
+use Rattle.std.specs.Prelude.{◌==◌, not, if◌then◌else◌, is_ok, IfSome}
 use Rattle.std.specs.Option.{is_some}
-use Rattle.std.specs.List.{list_all}
 use Rattle.std.proofs.lemmas.Bool.{false≢true}
 use Rattle.std.proofs.lemmas.Bool.Decides.{nat_tests}
-use Rattle.std.proofs.lemmas.List.Folds.{list_all-append}
 use Rattle.pp_settings.specs.Layout.{Geometry}
-use Rattle.pp_device.specs.declared.device.Device as Device
 use Rattle.pp_device.specs.Answers.{Answer as DeviceAnswer}
 use Rattle.pp_model.specs.declared.refusals.Delay.TheVariants as delay
 use Rattle.pp_model.specs.declared.moves.Move.{Move}
 use Rattle.pp_model.specs.declared.moves.Move.TheVariants as move
 use Rattle.pp_model.specs.declared.reply.Reply.{Reply}
-use Rattle.pp_model.specs.declared.reply.Reply.TheVariants as reply
-use Rattle.pp_model.specs.declared.reply.Ending.TheVariants as ending
 use Rattle.pp_model.specs.declared.event.Event.{Event}
 use Rattle.pp_model.specs.declared.event.Event.TheVariants.{Submit, Step}
 use Rattle.pp_vault.specs.declared.refusal.Refusal.{Refusal}
@@ -26,11 +21,9 @@ use Rattle.pp_vault.specs.declared.tokens.Leaver.{Leaver}
 use Rattle.pp_vault.specs.declared.tokens.Returned.{Returned}
 use Rattle.pp_vault.specs.declared.tokens.Duty.{Duty}
 use Rattle.pp_vault.specs.declared.tokens.Duty.TheVariants as duty
-use Rattle.pp_vault.specs.declared.guards.Guard.{Guard}
 use Rattle.pp_vault.specs.declared.stage.Stage.{Stage}
 use Rattle.pp_vault.specs.declared.stage.Stage.TheVariants as stage
 use Rattle.pp_vault.specs.Duties.{duty_worker}
-use Rattle.pp_vault.specs.Holding.{slot_by}
 use Rattle.pp_vault.specs.Stages.{is_chair, stage_worker}
 use Rattle.pp_pool.specs.declared.request.Request.{Request}
 use Rattle.pp_pool.specs.declared.request.Request.TheVariants as request
@@ -40,7 +33,7 @@ use Rattle.pp_pool.specs.declared.response.Response.{Response}
 use Rattle.pp_pool.specs.declared.site.Site as Site
 use Rattle.pp_pool.specs.declared.work.Work as Work
 use Rattle.pp_pool.specs.declared.turned.Turned.{Turned}
-use Rattle.pp_pool.specs.declared.turned.Turned.TheVariants.{Done, Ended, NoMemory, Broken}
+use Rattle.pp_pool.specs.declared.turned.Turned.TheVariants.{Done, NoMemory, Broken}
 use Rattle.pp_pool.specs.Performing.{is_no}
 use Rattle.pp_pool.specs.Replies.{Replies, TokensFit, IsMoveOf, IsEventOf, duty_move}
 use Rattle.pp_pool.specs.Turns.{Asks, IsStep, IsWayOut, IsTold, Uses, stage_in, turned_by}

@@ -1,5 +1,5 @@
 -- One round of turns more.
-use Rattle.std.proofs.Common.{◌≡◌, ◌++◌, false, List, [], ◌∷◌, refl, sym, subst}
+use Rattle.std.proofs.Common.{◌≡◌, ◌++◌, false, List, [], ◌∷◌, refl, subst}
 use Rattle.pp_device.specs.declared.device.Device as Device
 use Rattle.pp_vault.specs.Stages.{is_chair}
 use Rattle.pp_pool.specs.declared.site.Site as Site

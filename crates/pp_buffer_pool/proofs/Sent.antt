@@ -1,8 +1,12 @@
 -- Threads can share a pool by reference, if its devices can be handed to another thread. (A search for this gives up where so
 -- many types stand in one another.)
+use mathlib.Core.List.{List, [], ◌∷◌}
+use mir.Syntax.{Sym}
 use denote.RattleType.{RattleType}
-use denote.Param.Send.{IsSend, IsSync, sendable}
-use denote.Param.SendFields.{declared_send, declared_sync}
+use denote.Struct.Field.{row_field}
+use denote.Struct.Tuple.{parts, type_at, TupleAt}
+use denote.Param.Send.{IsSend, IsSync, AllSync, sendable}
+use denote.Param.SendFields.{FieldsHave, as_row_sync, declared_send, declared_sync}
 use Rattle.std.proofs.Crossing.{crosses}
 use Rattle.std.proofs.MapsCrossing.{crosses as maps}
 use Rattle.circular_buffer.proofs.heap.HeapCircularBuffer.TheSendSync as ring
@@ -87,3 +91,13 @@ pub pool_sync : (D : RattleType) → IsSend D → IsSync (pool_row D)
 pool_sync D s =
     let hall = hall_send D s in
     declared_sync (pool_type D) (search (hall, sendable, crosses) depth 24 fits 5000, (search (bells.the_sync, sendable), tt))
+
+-- ---- a closure
+
+parts_sync : (Ts : List RattleType) → AllSync Ts → FieldsHave IsSync (parts Ts)
+parts_sync [] s = tt
+parts_sync (T ∷ Ts) s = (as_row_sync (row_field T) s.0, parts_sync Ts s.1)
+
+-- A closure that has captured what threads can share can be shared.
+pub closure_sync : (closure : Sym) (Ts : List RattleType) → AllSync Ts → IsSync (TupleAt closure Ts)
+closure_sync closure Ts s = declared_sync (type_at closure Ts) (parts_sync Ts s)

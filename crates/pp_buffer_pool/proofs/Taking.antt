@@ -1,5 +1,5 @@
 -- A plan that a hall submits and has taken in one step gets the number that it waited under.
-use Rattle.std.proofs.Common.{◌≡◌, ◌∙◌, ◌++◌, ◌<◌, ◌≤◌, ◌+◌, ◌-◌, ℕ, zero, suc, Bool, true, false, inl, inr, Option, Some, None, List, [], ◌∷◌, length, drop}
+use Rattle.std.proofs.Common.{◌≡◌, ◌∙◌, ◌++◌, ◌<◌, ◌≤◌, ℕ, zero, suc, Bool, true, false, inl, inr, Option, Some, None, List, [], ◌∷◌, length, drop}
 use Rattle.std.proofs.Common.{refl, sym, ap, subst, arith, length-append, length-drop}
 use Rattle.std.specs.Prelude.{not, if◌then◌else◌, slice_get, option_map}
 use Rattle.std.specs.Option.{is_some}
@@ -14,11 +14,10 @@ use Rattle.pp_model.specs.declared.event.Event.TheVariants.{Step}
 use Rattle.pp_model.specs.Pool.{State, Running, waiting}
 use Rattle.pp_model.specs.Taking.{take_by, take_where, has_room}
 use Rattle.pp_model.specs.Moves.{is_refusal}
-use Rattle.pp_model.specs.Submitting.{submit_error, submitted, submitted_unless, after_submit}
+use Rattle.pp_model.specs.Submitting.{submitted, submitted_unless, after_submit}
 use Rattle.pp_vault.specs.declared.tokens.Chair.{Chair}
-use Rattle.pp_vault.specs.StandsFor.{StandsFor}
 use Rattle.pp_vault.specs.Headline.{Holds}
-use Rattle.pp_vault.specs.Calls.{Call, asks, stranger}
+use Rattle.pp_vault.specs.Calls.{asks, stranger}
 use Rattle.pp_vault.specs.Fits.{take_call}
 use Rattle.pp_pool.specs.declared.request.Request.{Request}
 use Rattle.pp_pool.specs.declared.request.Request.TheVariants as request

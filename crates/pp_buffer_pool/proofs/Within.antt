@@ -1,11 +1,10 @@
 -- From the take of a plan to its end.
-use Rattle.std.proofs.Common.{◌≡◌, ◌≢◌, ◌∙◌, ◌++◌, ◌≤◌, ◌<◌, ◌+◌, ℕ, Bool, true, false, inl, inr, Option, Some, None, List, [], ◌∷◌, length}
-use Rattle.std.proofs.Common.{refl, sym, ap, subst, arith, append_assoc, append-nil, length-append}
+use Rattle.std.proofs.Common.{◌≡◌, ◌∙◌, ◌++◌, ◌≤◌, ◌<◌, ℕ, Bool, true, false, inl, inr, Option, Some, None, List, [], ◌∷◌, length}
+use Rattle.std.proofs.Common.{refl, sym, ap, subst, arith, length-append}
 use Rattle.std.specs.Prelude.{◌⊎◌, ◌&&◌, not, IfSome, MatchOption}
 use Rattle.std.specs.Option.{is_some}
 use Rattle.std.specs.List.{list_all}
 use Rattle.std.proofs.lemmas.Bool.{false≢true}
-use Rattle.std.proofs.lemmas.List.Folds.{list_all-append}
 use Rattle.pp_device.specs.declared.device.Device as Device
 use Rattle.pp_model.specs.declared.moves.Move.{Move}
 use Rattle.pp_model.specs.declared.moves.Move.TheVariants as move
@@ -13,32 +12,26 @@ use Rattle.pp_model.specs.declared.reply.Reply.{Reply}
 use Rattle.pp_model.specs.declared.reply.Reply.TheVariants as reply
 use Rattle.pp_model.specs.declared.reply.Ending.TheVariants as ending
 use Rattle.pp_model.specs.declared.event.Event.{Event}
-use Rattle.pp_model.specs.declared.event.Event.TheVariants.{Submit, Step}
+use Rattle.pp_model.specs.declared.event.Event.TheVariants.{Step}
 use Rattle.pp_vault.specs.declared.tokens.Chair.{Chair}
-use Rattle.pp_vault.specs.declared.guards.Guard.{Guard}
 use Rattle.pp_vault.specs.declared.stage.Stage.{Stage}
 use Rattle.pp_vault.specs.declared.stage.Stage.TheVariants as stage
 use Rattle.pp_vault.specs.Stages.{is_chair, stage_worker}
 use Rattle.pp_pool.specs.declared.request.Request.{Request}
 use Rattle.pp_pool.specs.declared.request.Request.TheVariants as request
-use Rattle.pp_pool.specs.declared.response.BookAnswer.{BookAnswer}
-use Rattle.pp_pool.specs.declared.response.BookAnswer.TheVariants as answer
 use Rattle.pp_pool.specs.declared.response.Response.{Response}
-use Rattle.pp_pool.specs.declared.site.Site as Site
 use Rattle.pp_pool.specs.declared.work.Work as Work
 use Rattle.pp_pool.specs.declared.work.End.{End}
 use Rattle.pp_pool.specs.declared.work.End.TheVariants as end
-use Rattle.pp_pool.specs.declared.turned.Turned.{Turned}
-use Rattle.pp_pool.specs.declared.turned.Turned.TheVariants.{Done, NoMemory, Broken}
+use Rattle.pp_pool.specs.declared.turned.Turned.TheVariants.{Done, NoMemory}
 use Rattle.pp_pool.specs.declared.worker.Worker.{Worker}
 use Rattle.pp_pool.specs.Performing.{is_no}
-use Rattle.pp_pool.specs.Replies.{Replies}
 use Rattle.pp_pool.specs.Requests.{events_in}
 use Rattle.pp_pool.specs.Turns.{Turns, TurnIs, TurnsOver, Waits, end_of, page_called}
 use Rattle.pp_buffer_pool.specs.declared.ending.Ending.{Ending}
 use Rattle.pp_buffer_pool.specs.Sites.{call_site, GivesCall, GivesTake, TakesAtOnce}
 use Rattle.pp_buffer_pool.specs.Executing.{is_within, AreOfOnePlan, IsCause, ending_of, TurnsDone, RunsPlan}
-use Rattle.pp_buffer_pool.proofs.Requests.{asker, is_end, is_take, is_idle, asker_is, no_take, take_is, within_of, finish_of, Does, does}
+use Rattle.pp_buffer_pool.proofs.Requests.{asker, is_end, is_take, asker_is, no_take, take_is, within_of, finish_of, Does, does}
 use Rattle.pp_buffer_pool.proofs.Requests.{done_is_yes, never_no_memory, chair_is, worker_is, tokens_of, end_idles}
 use Rattle.pp_buffer_pool.specs.Running.{noted_calls, Rounds, Looped}
 use Rattle.pp_buffer_pool.proofs.Noting.{IsNoting, noted, IsLeft, cause_more, Noted, Own, makes_own}

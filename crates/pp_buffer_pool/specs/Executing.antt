@@ -1,8 +1,8 @@
 -- What one call of `execute` does.
-use Rattle.std.specs.Prelude.{◌≡◌, ℕ, Bool, true, false, List, [], ◌∷◌, ◌++◌, Option, None, Some}
+use Rattle.std.specs.Prelude.{◌≡◌, ℕ, Bool, true, false, List, [], ◌∷◌, ◌++◌, Option, Some}
 use Rattle.std.specs.List.{list_all, list_any}
 use Rattle.pp_model.specs.declared.event.Event.{Event}
-use Rattle.pp_model.specs.declared.event.Event.TheVariants.{Submit, Step}
+use Rattle.pp_model.specs.declared.event.Event.TheVariants.{Step}
 use Rattle.pp_model.specs.declared.moves.Move.TheVariants as move
 use Rattle.pp_model.specs.declared.reply.Reply.TheVariants as reply
 use Rattle.pp_model.specs.declared.reply.Ending.{Ending}
@@ -109,8 +109,16 @@ pub record RunsPlan {D W : Type 0} (d : Device.Ghosts D) (k : Work.Ghosts W) (pl
   pub cause : IsCause how last.log.items
   pub home : is_chair last.hand.stage ≡ true
 
+-- A plan was run so on some worker.
+pub record RunsOnSome {D W : Type 0} (d : Device.Ghosts D) (k : Work.Ghosts W) (place : ℕ) (before : W) (how : End)
+    (left : W) : Type 0 where
+  pub first : Worker (Option ℕ) D
+  pub last : Worker (Option ℕ) D
+  pub runs : RunsPlan d k place first before how last left
+
 -- A call runs the plan that is prepared at this place, for this work, on a worker that a hall gave it. In the end the
--- work is told how the plan ended, and so is the caller.
+-- caller is told how the plan ended. The work is then what its own call for that leaves, or as it was before: which of
+-- the two isn't said.
 pub record Executes {D W : Type 0} (d : Device.Ghosts D) (k : Work.Ghosts W) (place : ℕ) (before : W) (out : Outcome)
     (after : W) : Type 0 where
   pub how : End

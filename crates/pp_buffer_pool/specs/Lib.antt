@@ -2,3 +2,4 @@ pub mod Sites
 pub mod Executing
 pub mod Running
 pub mod Halls
+pub mod Copies

@@ -1,5 +1,5 @@
 -- What a worker's turns come to while it runs one plan.
-use Rattle.std.specs.Prelude.{◌≡◌, ◌⊎◌, ℕ, true, false, List, [], ◌∷◌, length, Option, None, Some}
+use Rattle.std.specs.Prelude.{◌≡◌, ◌⊎◌, true, false, List, [], ◌∷◌, length, Option, None, Some}
 use Rattle.pp_device.specs.declared.device.Device as Device
 use Rattle.pp_vault.specs.Stages.{is_chair}
 use Rattle.pp_pool.specs.declared.site.Site as Site

@@ -1,14 +1,14 @@
 -- What the site of one call gives.
-use Rattle.std.specs.Prelude.{◌≡◌, ◌⊎◌, ℕ, Bool, List, Option, None, Some}
+use Rattle.std.specs.Prelude.{◌≡◌, ◌⊎◌, if◌then◌else◌, ℕ, Bool, List, Option, None, Some, is_some}
 use Rattle.pp_cert.specs.Accepted.{Acceptance}
-use Rattle.pp_model.specs.declared.event.Event.{Event}
 use Rattle.pp_model.specs.declared.event.Event.TheVariants.{Step}
 use Rattle.pp_model.specs.declared.moves.Move.TheVariants as move
 use Rattle.pp_model.specs.declared.reply.Reply.TheVariants as reply
 use Rattle.pp_model.specs.declared.refusals.Delay.TheVariants.{NothingWaiting}
 use Rattle.pp_vault.specs.declared.guards.ReadGuard.{ReadGuard}
 use Rattle.pp_vault.specs.declared.tokens.Chair.{Chair}
-use Rattle.pp_vault.specs.declared.refusal.Refusal.TheVariants.{NotNow}
+use Rattle.pp_vault.specs.declared.refusal.Refusal.{Refusal}
+use Rattle.pp_vault.specs.declared.refusal.Refusal.TheVariants.{NotNow, OffPlan, Stranger}
 use Rattle.pp_vault.specs.Parts as vault
 use Rattle.pp_vault.specs.Headline.{Holds}
 use Rattle.pp_vault.specs.Submits.{TakesPrepared}
@@ -19,6 +19,8 @@ use Rattle.pp_pool.specs.declared.response.Response.{Response}
 use Rattle.pp_pool.specs.declared.site.Site as Site
 use Rattle.pp_pool.specs.Replies.{Replies}
 use Rattle.pp_ledger.specs.Sites.{Answers, ShowsPage}
+use Rattle.pp_wants.specs.Wants.{want_of}
+use Rattle.pp_hall.specs.Askers.{asker}
 use Rattle.pp_hall.specs.Seatings.{NoPlanWaits}
 
 -- The response fits the request, and a vault of which the headline holds gives it to this request. Which vault, and what
@@ -56,6 +58,13 @@ GivesTake (Some place) chair response =
 abbrev pub GivesCall : Option ℕ → Request → Response → Option ℕ → Type 0
 GivesCall plan (request.Take chair) response after = GivesTake plan chair response × (after ≡ None)
 GivesCall plan asked response after = IsGiven asked response × (after ≡ plan)
+
+-- The chair whose thread sleeps where a request is refused so: that of the worker which asked for a page or a latch that it
+-- can't have now.
+abbrev pub sleeper_of : Request → Refusal → Option ℕ
+sleeper_of asked (NotNow why) = if is_some (want_of asked) then asker asked else None
+sleeper_of asked (OffPlan why) = None
+sleeper_of asked Stranger = None
 
 -- A vault of which the headline holds shows so the front of a page.
 abbrev pub ShowsSome : ReadGuard → (before : List ℕ) → (shown : Bool) → (after : List ℕ) → Type 0

@@ -2,18 +2,20 @@
 
 ghost use Rattle.std.specs.Prelude.{◌≡◌, ◌≢◌, true, false, None, Some, [], IfOk, IfErr};
 ghost use Rattle.pp_buffer_pool.specs.declared.error.ExecuteError.TheVariants.{Broken};
-ghost use Rattle.pp_buffer_pool.specs.Executing.{Executes};
+ghost use Rattle.pp_buffer_pool.specs.Copies.{late_calls};
+ghost use Rattle.pp_buffer_pool.specs.Executing.{Executes, RunsOnSome};
 
+use crate::copies::OnCopies;
 use crate::error::ExecuteError;
 use crate::outcome::{Outcome, as_outcome};
 use crate::plan::PreparedPlan;
 use crate::pool::BufferPool;
-use crate::site::ExecuteSite;
+use crate::site::{ExecuteSite, Shows};
 use crate::turning::{Stop, run};
 use pp_admission::Ticket;
 use pp_device::Device;
 use pp_hall::{Hall, Post, Started, Told};
-use pp_pool::Work;
+use pp_pool::{End, Work};
 use std::sync::{MutexGuard, Wait};
 
 /// A chair that was taken, with the lock still held, and whom the hall has told by then.
@@ -51,6 +53,7 @@ impl<D: Device + Drop> BufferPool<D> {
     /// again `Stopped` where the pool is stopped before the plan has started, and [`ExecuteError::NoMemory`]. Then
     /// nothing was done to a page, the work wasn't called, the plan doesn't wait any more, and the chair, if there was
     /// one, is home. [`ExecuteError::Broken`] is a slip, which no test has met.
+    #[tactic(auto, using(crate::proofs::Execution::executes))]
     pub fn execute<'p, W: Work, R: Wait>(
         &'p self,
         rt: &'p R,
@@ -60,18 +63,70 @@ impl<D: Device + Drop> BufferPool<D> {
         ensures ok { IfOk result (λ out. Executes D.Device W.Work plan.now.prepared work.old out work.new) }
         ensures untouched { IfErr result (λ error. error ≢ Broken → work.new ≡ work.old) }
     {
+        let end = self.run_plan(rt, plan, work, Shows::Pages)?;
+        work.ended(end);
+        Ok(as_outcome(end))
+    }
+
+    /// Runs a prepared plan as [`BufferPool::execute`] does, but for when the work sees its pages: each is copied for it
+    /// while it is latched S, and the work sees the copy later ([`OnCopies`]).
+    ///
+    /// So a page that is cached is fixed, latched, copied, unlatched and unfixed under one hold of the lock. For n such
+    /// pages, each given back before the next one is fixed, it takes the lock n + 1 times, where nobody has to wait; and
+    /// none of them is latched any more while the work looks at it. Where two pages are latched S and shown one after
+    /// the other, and the work isn't asked for a page between, the second takes a hold of its own.
+    ///
+    /// The same clauses hold, of the work with its copy. The caller's own work does what its calls say, and has seen
+    /// each page that was shown before it names the next one, chooses, changes a page or is told of its end. In the end
+    /// it has nothing still to see (`late`).
+    ///
+    /// # Errors
+    ///
+    /// As [`BufferPool::execute`]'s.
+    pub fn execute_on_copies<'p, W: Work, R: Wait>(
+        &'p self,
+        rt: &'p R,
+        plan: &PreparedPlan,
+        work: &mut OnCopies<W>,
+    ) -> Result<Outcome, ExecuteError>
+        ensures ok { IfOk result
+            (λ out. Executes D.Device (late_calls W.Work) plan.now.prepared work.old out work.new) }
+        ensures late { IfOk result (λ _. work.new.late ≡ None) }
+        ensures untouched { IfErr result (λ error. error ≢ Broken → work.new ≡ work.old) }
+    {
+        match self.run_plan(rt, plan, work, Shows::Copies) {
+            Ok(end) => {
+                work.tell_end(end);
+                Ok(as_outcome(end))
+            }
+            Err(ExecuteError::Broken) => {
+                work.catch_up();
+                Err(ExecuteError::Broken)
+            }
+            Err(error) => Err(error),
+        }
+    }
+
+    /// Runs a prepared plan, and answers how it ended. The work isn't told that.
+    fn run_plan<'p, W: Work, R: Wait>(
+        &'p self,
+        rt: &'p R,
+        plan: &PreparedPlan,
+        work: &mut W,
+        shows: Shows,
+    ) -> Result<End, ExecuteError>
+        ensures ok { IfOk result (λ how. RunsOnSome D.Device W.Work plan.now.prepared work.old how work.new) }
+        ensures untouched { IfErr result (λ error. error ≢ Broken → work.new ≡ work.old) }
+    {
         let admitted = self.admit(rt, plan.peak)?;
         let Admitted { post, hall, told } = admitted;
-        let site = ExecuteSite::over(rt, self, *plan, hall, told);
+        let site = ExecuteSite::over(rt, self, *plan, shows, hall, told);
         let (_, worker) = post.over_site(site);
         let (worker, stop, end) = run(rt, worker, work);
         let (site, post) = worker.over_site(());
         site.end(post);
         match (stop, end) {
-            (Stop::Ended, Some(end)) => {
-                work.ended(end);
-                Ok(as_outcome(end))
-            }
+            (Stop::Ended, Some(end)) => Ok(end),
             (Stop::NoMemory, None) => Err(ExecuteError::NoMemory),
             _ => Err(ExecuteError::Broken),
         }

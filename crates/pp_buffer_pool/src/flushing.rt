@@ -1,6 +1,7 @@
 //! Pages that are written back before somebody needs their frames.
 
 ghost use Rattle.std.specs.Prelude.{◌≡◌};
+ghost use Rattle.pp_buffer_pool.specs.Halls.{FlushTells};
 
 use crate::pool::BufferPool;
 use crate::site::ExecuteSite;
@@ -16,11 +17,26 @@ pub enum Flush {
     Written,
     /// A page couldn't be written. It stays in its frame, changed, and the next flush is of a page behind it.
     WriteFault,
-    /// No page can be flushed now, or no flush of the settings is left.
+    /// No page that is changed can be flushed now.
     Nothing,
+    /// No flush of the settings is left, though a page could be flushed.
+    Spent,
     /// Another thread has the flusher.
     Busy,
     /// A slip, which no test has met.
+    Broken,
+}
+
+/// What two turns of the flusher came to.
+#[derive(Clone, Copy, Debug, PartialEq, Eq)]
+enum Written {
+    /// A page was written.
+    Page,
+    /// A page couldn't be written.
+    Fault,
+    /// No flush could begin.
+    NotBegun,
+    /// A slip.
     Broken,
 }
 
@@ -45,14 +61,25 @@ impl<D: Device + Drop> BufferPool<D> {
     /// last, by the pages' numbers. For engines with no thread to spare for [`BufferPool::run_flusher`].
     ///
     /// It takes the lock three times at most, and calls the device once at most, with no lock held.
-    pub fn flush_once<R: Wait>(&self, rt: &R) -> Flush {
+    #[tactic(auto, using(crate::proofs::Halls::rests_some, crate::proofs::Halls::can_flush_some, crate::proofs::Halls::is_away_some))]
+    pub fn flush_once<R: Wait>(&self, rt: &R) -> Flush
+        ensures { FlushTells result }
+    {
         let mut hall = self.hold(rt);
+        hall.known();
+        let can_flush = hall.can_flush();
         let Some(flusher) = hall.take_flusher() else {
             return Flush::Busy;
         };
         let (flusher, flush, hall) = self.flush(rt, flusher, hall);
         self.park_flusher(rt, hall, flusher);
-        flush
+        match flush {
+            Written::Page => Flush::Written,
+            Written::Fault => Flush::WriteFault,
+            Written::NotBegun if can_flush => Flush::Spent,
+            Written::NotBegun => Flush::Nothing,
+            Written::Broken => Flush::Broken,
+        }
     }
 
     /// Writes pages back on the calling thread until the pool is stopped ([`BufferPool::stop`]): it sleeps until as
@@ -90,14 +117,14 @@ impl<D: Device + Drop> BufferPool<D> {
             if is_on {
                 let (after, flush, held) = self.flush(rt, flusher, hall);
                 match flush {
-                    Flush::Written => {
+                    Written::Page => {
                         flusher = after;
                         hall = held;
                     }
-                    Flush::WriteFault => return (after, FlusherEnd::WriteFault, held),
+                    Written::Fault => return (after, FlusherEnd::WriteFault, held),
                     // It was wanted, so in the same hold there was a page to flush, and no flush in flight.
-                    Flush::Nothing => return (after, FlusherEnd::Spent, held),
-                    Flush::Busy | Flush::Broken => return (after, FlusherEnd::Broken, held),
+                    Written::NotBegun => return (after, FlusherEnd::Spent, held),
+                    Written::Broken => return (after, FlusherEnd::Broken, held),
                 }
             } else if hall.sleep_flusher() {
                 hall = self.bells.sleep_as_flusher(rt, hall);
@@ -112,12 +139,11 @@ impl<D: Device + Drop> BufferPool<D> {
         rt: &'p R,
         flusher: Flusher<(), D>,
         hall: MutexGuard<'p, Hall<D>>,
-    ) -> (Flusher<(), D>, Flush, MutexGuard<'p, Hall<D>>) {
+    ) -> (Flusher<(), D>, Written, MutexGuard<'p, Hall<D>>) {
         let site = ExecuteSite::of_flush(rt, self, hall);
-        let (_, flusher) = over_site(flusher, site);
-        let mut flusher = flusher;
+        let (_, mut flusher) = flusher.over_site(site);
         let flush = turns(&mut flusher);
-        let (site, flusher) = over_site(flusher, ());
+        let (site, flusher) = flusher.over_site(());
         let (hall, owed) = site.into_hold();
         self.bells.ring(owed);
         (flusher, flush, hall)
@@ -145,48 +171,19 @@ impl<D: Device + Drop> BufferPool<D> {
     }
 }
 
-/// The flusher's site, and the same flusher over another one.
-fn over_site<S, T, D>(flusher: Flusher<S, D>, site: T) -> (S, Flusher<T, D>)
-    ensures before { result.0 ≡ flusher.site }
-    ensures site { result.1.site ≡ site }
-    ensures device { result.1.device ≡ flusher.device }
-    ensures flushing { result.1.flushing ≡ flusher.flushing }
-    ensures ended { result.1.ended ≡ flusher.ended }
-    ensures failed { result.1.failed ≡ flusher.failed }
-    ensures from { result.1.from ≡ flusher.from }
-{
-    let Flusher {
-        site: before,
-        device,
-        flushing,
-        ended,
-        failed,
-        from,
-    } = flusher;
-    let flusher = Flusher {
-        site,
-        device,
-        flushing,
-        ended,
-        failed,
-        from,
-    };
-    (before, flusher)
-}
-
 /// Begins a flush, if none is in hand, and ends it.
-fn turns<S: Site, D: Device>(flusher: &mut Flusher<S, D>) -> Flush {
+fn turns<S: Site, D: Device>(flusher: &mut Flusher<S, D>) -> Written {
     if flusher.flushing.is_none() {
         match flusher.turn() {
             Turned::Done => {}
-            Turned::Ended | Turned::NotNow => return Flush::Nothing,
-            Turned::NoMemory | Turned::Broken => return Flush::Broken,
+            Turned::Ended | Turned::NotNow => return Written::NotBegun,
+            Turned::NoMemory | Turned::Broken => return Written::Broken,
         }
     }
     let failed = flusher.failed;
     match flusher.turn() {
-        Turned::Done if flusher.failed == failed => Flush::Written,
-        Turned::Done => Flush::WriteFault,
-        _ => Flush::Broken,
+        Turned::Done if flusher.failed == failed => Written::Page,
+        Turned::Done => Written::Fault,
+        _ => Written::Broken,
     }
 }

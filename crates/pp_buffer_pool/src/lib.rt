@@ -4,6 +4,7 @@
 //! thread.
 #![tactic(auto)]
 
+pub use copies::OnCopies;
 pub use error::ExecuteError;
 pub use flushing::{Flush, FlusherEnd};
 pub use outcome::Outcome;
@@ -12,11 +13,11 @@ pub use pool::BufferPool;
 pub use pp_hall::{CloseError, Closed, Counts, OpenError, Policy, Stats};
 
 mod bells;
+mod copies;
 mod ending;
 mod error;
 mod executing;
 mod flushing;
-mod lock;
 mod outcome;
 mod plan;
 mod pool;

@@ -17,6 +17,7 @@ pub enum Outcome {
         /// The page of that call. After [`Failure::WriteFault`] it is the victim, a page that the plan may never have
         /// asked for; it stays in its frame, changed.
         page: u32,
+        /// What came of the call.
         why: Failure,
     },
 }

@@ -4,16 +4,16 @@ ghost use Rattle.std.specs.Prelude.{◌≡◌, ◌⊎◌, ◌+◌, ◌*◌, ◌�
 ghost use Rattle.pp_cert.specs.Limits.{step_events, plan_events};
 ghost use Rattle.pp_hall.specs.declared.error.OpenError.TheVariants.{OutOfMemory};
 ghost use Rattle.pp_hall.specs.Calls.{OpenFails};
-ghost use Rattle.pp_buffer_pool.specs.Halls.{StatsOfSome, DirtyInSome, ClosesSome, KeepsSome, AbandonsSome};
+ghost use Rattle.pp_buffer_pool.specs.Halls.{StatsOfSome, DirtyInSome, RefusesSome, ClosesSome, KeepsSome, AbandonsSome};
 
 use crate::bells::Bells;
-use crate::lock::hold;
 use crate::plan::PreparedPlan;
 use pp_cert::Accepted;
 use pp_core::PrepareError;
 use pp_device::Device;
 use pp_hall::{CloseError, Closed, Hall, OpenError, Policy, Post, Stats, Told};
 use pp_settings::Settings;
+use pp_wants::hold;
 use std::alloc::Global;
 use std::sync::{Mutex, MutexGuard, Wait};
 
@@ -89,6 +89,7 @@ impl<D: Device + Drop> BufferPool<D> {
     ///
     /// [`PrepareError::OtherSettings`] where the plan was accepted under another layout than the pool's, else
     /// [`PrepareError::TooManyPrepared`]. The plan comes back.
+    #[tactic(auto, using(crate::proofs::Halls::refuses_some))]
     pub fn prepare<R: Wait>(
         &self,
         rt: &R,
@@ -96,11 +97,13 @@ impl<D: Device + Drop> BufferPool<D> {
     ) -> Result<PreparedPlan, (Accepted, PrepareError)>
         ensures peak { IfOk result (λ plan. plan.peak ≡ accepted.peak) }
         ensures cost { IfOk result (λ plan. plan.cost ≡ step_events * accepted.steps + plan_events) }
+        ensures error { IfErr result (λ e. RefusesSome accepted e.1) }
         ensures back { IfErr result (λ e. e.0 ≡ accepted) }
     {
         let peak = accepted.peak();
         let cost = accepted.cost();
         let mut hall = self.hold(rt);
+        hall.known();
         match hall.prepare(accepted) {
             Ok((prepared, told)) => {
                 self.give_back(hall, told);

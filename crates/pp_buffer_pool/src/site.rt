@@ -3,7 +3,7 @@
 ghost use Rattle.std.specs.Prelude.{◌≡◌, Some, None, false};
 ghost use Rattle.pp_pool.specs.declared.request.Request.TheVariants.{Take};
 ghost use Rattle.pp_pool.specs.Replies.{Replies};
-ghost use Rattle.pp_buffer_pool.specs.Sites.{IsGiven, GivesTake, GivesCall, ShowsSome};
+ghost use Rattle.pp_buffer_pool.specs.Sites.{IsGiven, GivesTake, GivesCall, ShowsSome, sleeper_of};
 
 use crate::plan::PreparedPlan;
 use crate::pool::BufferPool;
@@ -17,12 +17,25 @@ use pp_wants::Want;
 use std::marker::Model;
 use std::sync::{MutexGuard, Wait};
 
+/// What a work is shown.
+#[derive(Clone, Copy, Debug, PartialEq, Eq)]
+pub(crate) enum Shows {
+    /// A page, while it is latched and the lock is free.
+    Pages,
+    /// The same to copy, for which the lock is kept: it is an [`OnCopies`](crate::OnCopies).
+    Copies,
+}
+
 /// The site of one call of a pool: of a plan, which it takes once, or of a flush, which takes none.
 ///
 /// It keeps the lock after a call, for the next one, until it is let go ([`Site::let_go`]). Before the plan is taken
 /// and after it has ended it isn't let go, since no work is called then: so a start and a take, and an end and the way
-/// home, are one hold. While it has the lock it takes no other, and calls neither a work nor a device. Whom a hall has
+/// home, are one hold. While it has the lock it takes no other, and calls neither a device nor a caller's work. Whom a hall has
 /// told is woken when the lock is let go, and before the site sleeps itself.
+///
+/// Where the work only copies what it is shown ([`OnCopies`](crate::OnCopies)), the lock is kept while it does: a page is
+/// fixed, latched, copied, unlatched and unfixed in one hold. But where two pages are shown one after the other, and the
+/// work wasn't asked for a page between, it sees the first of them as it is shown the second. So then the site is let go.
 ///
 /// A page that is cached is fixed and latched S by one call of the hall, and unlatched and unfixed by one
 /// ([`Site::read`], [`Site::end_read`]). A request of a worker that has to wait for a page, a frame or a latch sleeps
@@ -41,6 +54,11 @@ pub(crate) struct ExecuteSite<'a, D, R> {
     cost: u64,
     // Whether the plan has ended.
     is_over: bool,
+    shows: Shows,
+    // Whether the work was asked for a page since one was shown to it last, so that it has none still to see.
+    is_caught_up: bool,
+    // Whether a page was shown just now which the work copies.
+    is_copying: bool,
     held: Option<MutexGuard<'a, Hall<D>>>,
     // Whom the hall has told since somebody was woken last.
     owed: Told,
@@ -60,6 +78,7 @@ impl<'a, D: Device + Drop, R: Wait> ExecuteSite<'a, D, R> {
         rt: &'a R,
         pool: &'a BufferPool<D>,
         plan: PreparedPlan,
+        shows: Shows,
         hall: MutexGuard<'a, Hall<D>>,
         told: Told,
     ) -> ExecuteSite<'a, D, R>
@@ -71,6 +90,9 @@ impl<'a, D: Device + Drop, R: Wait> ExecuteSite<'a, D, R> {
             plan: Some(plan.prepared),
             cost: plan.cost,
             is_over: false,
+            shows,
+            is_caught_up: false,
+            is_copying: false,
             held: Some(hall),
             owed: told,
         }
@@ -90,6 +112,9 @@ impl<'a, D: Device + Drop, R: Wait> ExecuteSite<'a, D, R> {
             plan: None,
             cost: 0,
             is_over: false,
+            shows: Shows::Pages,
+            is_caught_up: false,
+            is_copying: false,
             held: Some(hall),
             owed: Told::nobody(),
         }
@@ -111,6 +136,9 @@ impl<'a, D: Device + Drop, R: Wait> ExecuteSite<'a, D, R> {
             plan: _,
             cost: _,
             is_over: _,
+            shows: _,
+            is_caught_up: _,
+            is_copying: _,
             held,
             owed,
         } = self;
@@ -176,6 +204,7 @@ impl<'a, D: Device + Drop, R: Wait> ExecuteSite<'a, D, R> {
         ensures given { IsGiven request result }
         ensures plan { self.new ≡ self.old }
     {
+        self.is_caught_up = self.is_caught_up || is_fix(&request);
         let hall = self.hold();
         let owed = self.owed();
         let (response, hall, owed) = self.pool.perform_under(self.rt, request, hall, owed);
@@ -213,6 +242,8 @@ impl<'a, D: Device + Drop, R: Wait> Site for ExecuteSite<'a, D, R> {
         hall.known();
         let is_shown = hall.look(guard, bytes);
         self.held = Some(hall);
+        self.is_copying = is_shown && self.shows == Shows::Copies && self.is_caught_up;
+        self.is_caught_up = false;
         is_shown
     }
 
@@ -223,6 +254,10 @@ impl<'a, D: Device + Drop, R: Wait> Site for ExecuteSite<'a, D, R> {
     #[inline(always)]
     fn let_go(&mut self) {
         if self.plan.is_some() || self.is_over {
+            return;
+        }
+        if self.is_copying {
+            self.is_copying = false;
             return;
         }
         if let Some(hall) = self.held.take() {
@@ -240,6 +275,7 @@ impl<'a, D: Device + Drop, R: Wait> Site for ExecuteSite<'a, D, R> {
             Ok((session, guard, frame, told)) => {
                 self.owe(told);
                 self.held = Some(hall);
+                self.is_caught_up = true;
                 Ok((session, guard, frame))
             }
             Err(session) => {
@@ -314,7 +350,9 @@ impl<D: Device + Drop> BufferPool<D> {
 
 /// The chair whose thread sleeps, where a request was refused so; none where nobody does. A hall notes the same ones as
 /// asleep.
-fn sleeper(request: &Request, refusal: Refusal) -> Option<u32> {
+fn sleeper(request: &Request, refusal: Refusal) -> Option<u32>
+    ensures { result ≡ sleeper_of request.now refusal }
+{
     match refusal {
         Refusal::NotNow(_) => {}
         _ => return None,
@@ -327,6 +365,11 @@ fn sleeper(request: &Request, refusal: Refusal) -> Option<u32> {
         Request::LatchExclusive(session, _) => Some(session.worker()),
         _ => None,
     }
+}
+
+/// Whether the request is of a page that the work has named for it.
+fn is_fix(request: &Request) -> bool {
+    matches!(request, Request::Fix(_, _) | Request::Join(_, _))
 }
 
 /// Whether the event is a plan's end.

@@ -383,6 +383,14 @@ impl<D: Device + Drop> Hall<D> {
             .is_flush_wanted(self.policy.flush_to.saturating_add(1))
     }
 
+    /// Whether a page is newer than the device's and lets a flush begin. It doesn't ask whether the settings' flushes are
+    /// spent.
+    pub fn can_flush(&self) -> bool
+        ensures { (s : State) → StandsFor self.now.seating.vault s → result ≡ is_wanted 0 s }
+    {
+        self.seating.is_flush_wanted(0)
+    }
+
     /// Takes the flusher out, if it is home.
     pub fn take_flusher(&mut self) -> Option<Flusher<(), D>>
         ensures some { is_some result ≡ self.old.posts.is_flusher_home }

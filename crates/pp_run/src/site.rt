@@ -13,17 +13,8 @@ use pp_model::{Event, Failure, Reply};
 use pp_pool::{BookAnswer, Request, Response, Site};
 use pp_settings::Layout;
 use pp_vault::{Flushing, Guard, Hand, ReadGuard};
-use std::hint::spin_loop;
+use pp_wants::hold;
 use std::sync::{Mutex, MutexGuard, Wait};
-
-/// How often the lock is tried before a thread sleeps until it is let go: for some ten microseconds, with the pauses. Half
-/// as many tries made runs of four workers at least a tenth slower, and endless ones would waste a processor where the
-/// thread that has the lock isn't running.
-const TRIES: u32 = 100;
-
-/// How many times a thread pauses after each try that failed: for about as long as the lock is mostly held, some hundred
-/// nanoseconds.
-const PAUSES: u32 = 20;
 
 /// A site that threads share: a book under a lock, with the bells that they sleep on.
 ///
@@ -135,28 +126,10 @@ impl<'a, B: Desk, R: Wait> LockedSite<'a, B, R> {
         self.bells.ring(told);
     }
 
-    /// Takes the lock. Who has it mostly lets go sooner than a thread could fall asleep and be woken, so it is tried for a
-    /// while first.
+    /// Takes the lock.
     #[inline(always)]
     pub(crate) fn hold(&self) -> MutexGuard<'a, Locked<B>> {
-        match self.lock.try_lock() {
-            Some(locked) => locked,
-            None => self.hold_later(),
-        }
-    }
-
-    /// The same, where the first try has failed.
-    #[inline(never)]
-    fn hold_later(&self) -> MutexGuard<'a, Locked<B>> {
-        for _ in 1..TRIES {
-            for _ in 0..PAUSES {
-                spin_loop();
-            }
-            if let Some(locked) = self.lock.try_lock() {
-                return locked;
-            }
-        }
-        self.lock.lock(self.rt)
+        hold(self.rt, self.lock)
     }
 
     /// Where the regions of the plans lie, and how many bytes a page has.

@@ -4,7 +4,7 @@ use crate::answer::Answer;
 use crate::printing::twice;
 use crate::samples::settings_of;
 use crate::tried::Tried;
-use pp_buffer_pool::{BufferPool, OpenError, Outcome, Policy, PreparedPlan};
+use pp_buffer_pool::{BufferPool, OnCopies, OpenError, Outcome, Policy, PreparedPlan};
 use pp_hall::{Closed, Hall};
 use pp_run_command::Rounds;
 use pp_settings::Settings;
@@ -24,6 +24,9 @@ const POLICY: Policy = Policy {
     flush_to: 0,
 };
 
+/// How many bytes of a page are copied for a work.
+const COPIED: u32 = 512;
+
 /// Does the case of this call.
 pub fn case<R: Files<File = File> + AllocGlobal + Print + Wait + Copy + Drop>(
     rt: &R,
@@ -39,6 +42,13 @@ pub fn case<R: Files<File = File> + AllocGlobal + Print + Wait + Copy + Drop>(
     )?;
     match call {
         "BufferPool::execute" => executes(rt, &settings, ends),
+        "OnCopies::new" => {
+            let mut copying = Copying {
+                alloc: rt.alloc(),
+                work: Some(Rounds::new(0, 0)),
+            };
+            twice(rt, &mut copying)
+        }
         "Hall::open" | "BufferPool::open" => {
             let mut opening = Opening {
                 alloc: rt.alloc(),
@@ -124,6 +134,33 @@ fn of_closed<R: Wait + Drop>(closed: Closed<SharedDevice<R>>) -> Answer {
         "chairs",
         stats.chairs as u64,
     )
+}
+
+/// A work that is to see copies.
+#[derive(Drop)]
+struct Copying {
+    alloc: Global,
+    work: Option<Rounds>,
+}
+
+impl Tried for Copying {
+    type Told = Answer;
+
+    fn call(&mut self) -> Answer {
+        let Some(work) = self.work.take() else {
+            return Answer::Nothing;
+        };
+        match OnCopies::new(self.alloc, work, COPIED) {
+            Ok(copies) => {
+                self.work = Some(copies.into_work());
+                Answer::One("bytes", u64::from(COPIED))
+            }
+            Err((error, work)) => {
+                self.work = Some(work);
+                Answer::Lacking(error)
+            }
+        }
+    }
 }
 
 /// A pool, a plan that it keeps, and the work of that plan.

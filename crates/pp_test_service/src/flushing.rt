@@ -115,7 +115,7 @@ static FLUSHES: &[Scene] = &[
         threads: &[
             &[
                 (AT_ONCE, Act::FlushSpent),
-                (AT_ONCE, Act::Flush(Flush::Nothing)),
+                (AT_ONCE, Act::Flush(Flush::Spent)),
                 (AT_ONCE, Act::FlushSpent),
                 (AT_ONCE, Act::Sign),
                 (Until(Thing::Written, 1), Act::FlushOn),

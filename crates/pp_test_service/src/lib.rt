@@ -16,6 +16,8 @@ mod board;
 #[cfg(test)]
 mod closing;
 #[cfg(test)]
+mod copying;
+#[cfg(test)]
 mod flushing;
 #[cfg(test)]
 mod many;

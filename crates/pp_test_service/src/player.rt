@@ -20,6 +20,8 @@ pub struct Player<'a, R> {
     next: usize,
     /// What the next number is made from that looks like chance, where it tells pages so.
     chance: Option<u32>,
+    /// Whether it sees copies, whose pages may have been changed since.
+    sees_copies: bool,
     /// The plan that was taken, and how it ended.
     pub plan: Option<u64>,
     end: Option<End>,
@@ -59,6 +61,7 @@ impl<'a, R: Abort + Clock> Player<'a, R> {
             steps,
             next: 0,
             chance: None,
+            sees_copies: false,
             plan: None,
             end: None,
         }
@@ -68,6 +71,13 @@ impl<'a, R: Abort + Clock> Player<'a, R> {
     pub fn by_chance(rt: &'a R, board: &'a Board, number: usize) -> Player<'a, R> {
         let mut player = Player::new(rt, board, &[]);
         player.chance = Some((number % 65_536) as u32);
+        player
+    }
+
+    /// The same work, which sees copies.
+    pub fn on_copies(self) -> Player<'a, R> {
+        let mut player = self;
+        player.sees_copies = true;
         player
     }
 
@@ -166,8 +176,10 @@ impl<'a, R: Abort + Clock> Work for Player<'a, R> {
 
     fn see(&mut self, page: u32, mark: u64, image: &[u8]) {
         let changes = changes_in(self.rt, self.board.scene.name, &image[image::HEAD..]);
-        self.note(page, "the image", changes);
-        self.note(page, "the mark", mark);
+        same(self.rt, self.board.scene.name, "the mark", mark, changes);
+        if !self.sees_copies || self.board.changes(page) < changes {
+            self.note(page, "the image", changes);
+        }
         self.board.tell(Thing::Seen);
         self.board.meet(self.rt, Call::See, page);
     }

@@ -66,6 +66,9 @@ pub enum Act {
     RunAs(u64, &'static str, &'static [Step]),
     /// Runs this plan so many times, with a work that tells pages by chance. It is done, or a device was at fault.
     Many(u32, &'static str),
+    /// The same as `Run` and as `Many`, with a work that sees copies.
+    RunOnCopies(&'static str, &'static [Step], Answer),
+    ManyOnCopies(u32, &'static str),
     /// Flushes a page, and is answered so.
     Flush(Flush),
     /// Flushes until the pool is stopped, and goes on where a writing fails.

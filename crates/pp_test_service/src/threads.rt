@@ -2,9 +2,9 @@
 
 use crate::board::{Board, rest, same};
 use crate::player::Player;
-use crate::scene::{Act, Answer, DONE, Deed, PAGES, Step, Thing, Until};
+use crate::scene::{Act, Answer, DONE, Deed, PAGE_BYTES, PAGES, Step, Thing, Until};
 use crate::watched::Pool;
-use pp_buffer_pool::{Flush, FlusherEnd, Outcome, PreparedPlan};
+use pp_buffer_pool::{Flush, FlusherEnd, OnCopies, Outcome, PreparedPlan};
 use pp_settings::Settings;
 use pp_test_plain::accepted;
 use std::alloc::Global;
@@ -160,6 +160,8 @@ impl<'a, R: Abort + Clock + Wait + Drop> Stage<'a, R> {
                 is_number(rt, self.board.scene.name, plan, place);
             }
             Act::Many(times, plan) => self.run_many(rt, number, plan, times),
+            Act::RunOnCopies(plan, steps, answer) => self.run_on_copies(rt, plan, steps, answer),
+            Act::ManyOnCopies(times, plan) => self.run_many_on_copies(rt, number, plan, times),
             Act::Flush(flush) => self.flush(rt, flush),
             Act::FlushOn => self.flush_on(rt, FlusherEnd::Stopped),
             Act::FlushSpent => self.flush_on(rt, FlusherEnd::Spent),
@@ -186,6 +188,25 @@ impl<'a, R: Abort + Clock + Wait + Drop> Stage<'a, R> {
     fn execute(&self, rt: &R, plan: &PreparedPlan, player: &mut Player<'_, R>) -> Answer {
         player.restart();
         let answer = self.pool.execute(rt, plan, player);
+        self.count(player, answer);
+        answer
+    }
+
+    /// The same on copies.
+    fn execute_on_copies(
+        &self,
+        rt: &R,
+        plan: &PreparedPlan,
+        work: &mut OnCopies<Player<'_, R>>,
+    ) -> Answer {
+        work.work.restart();
+        let answer = self.pool.execute_on_copies(rt, plan, work);
+        self.count(&work.work, answer);
+        answer
+    }
+
+    /// Counts how a plan ended, as its work was told.
+    fn count(&self, player: &Player<'_, R>, answer: Answer) {
         player.ended_as(answer);
         self.board.tell(match answer {
             Ok(Outcome::Done) => Thing::Done,
@@ -193,20 +214,50 @@ impl<'a, R: Abort + Clock + Wait + Drop> Stage<'a, R> {
             Err(_) => Thing::Refused,
         });
         self.board.tell(Thing::Ended);
-        answer
     }
 
-    /// Runs the plan, which is answered so, and tells the number that it was taken with.
-    fn run(&self, rt: &R, text: &str, steps: &'static [Step], want: Answer) -> Option<u64> {
+    /// A work that sees copies of whole pages.
+    fn on_copies<'p>(&self, rt: &R, player: Player<'p, R>) -> OnCopies<Player<'p, R>> {
+        match OnCopies::new(self.alloc, player.on_copies(), PAGE_BYTES as u32) {
+            Ok(work) => work,
+            Err(_) => panic!(rt; "{}: no memory", self.board.scene.name),
+        }
+    }
+
+    /// Runs the plan on copies, which is answered so.
+    fn run_on_copies(&self, rt: &R, text: &str, steps: &'static [Step], want: Answer) {
         let plan = self.prepared(rt, text);
-        let mut player = Player::new(rt, self.board, steps);
-        let answer = self.execute(rt, &plan, &mut player);
+        let mut work = self.on_copies(rt, Player::new(rt, self.board, steps));
+        self.answers(rt, text, self.execute_on_copies(rt, &plan, &mut work), want);
+    }
+
+    /// Runs the plan so many times on copies, with pages by chance.
+    fn run_many_on_copies(&self, rt: &R, number: usize, text: &str, times: u32) {
+        let plan = self.prepared(rt, text);
+        let mut work = self.on_copies(rt, Player::by_chance(rt, self.board, number));
+        for _time in 0..times.saturating_mul(self.board.scale) {
+            let answer = self.execute_on_copies(rt, &plan, &mut work);
+            if answer.is_err() {
+                panic!(rt; "{}: {answer:?}", self.board.scene.name);
+            }
+        }
+    }
+
+    /// The plan of this text was answered so.
+    fn answers(&self, rt: &R, text: &str, answer: Answer, want: Answer) {
         if answer != want {
             panic!(rt;
                 "{}: {text}: {answer:?}, and not {want:?}",
                 self.board.scene.name
             );
         }
+    }
+
+    /// Runs the plan, which is answered so, and tells the number that it was taken with.
+    fn run(&self, rt: &R, text: &str, steps: &'static [Step], want: Answer) -> Option<u64> {
+        let plan = self.prepared(rt, text);
+        let mut player = Player::new(rt, self.board, steps);
+        self.answers(rt, text, self.execute(rt, &plan, &mut player), want);
         player.plan
     }
 

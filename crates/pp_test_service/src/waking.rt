@@ -672,6 +672,20 @@ static CALLS: &[Scene] = &[
         counts: &[(Thing::Done, 2)],
         ..SAMPLE
     },
+    Scene {
+        name: "no_work_sees_under_the_lock",
+        threads: &[
+            &[(AT_ONCE, Act::Run(READ, &[], DONE))],
+            &[(Until(Thing::Begun, 1), Act::Run(TOUCH, &[], DONE))],
+        ],
+        cues: &[Cue {
+            at: Call::See,
+            page: ANY,
+            until: Until(Thing::Done, 1),
+        }],
+        counts: &[(Thing::Done, 2)],
+        ..SAMPLE
+    },
     // Its chair, the only one, is home by then.
     Scene {
         name: "a_work_is_told_of_its_end_once_its_chair_is_home",

@@ -190,8 +190,8 @@ fn write_all<D: Device + Drop, R: Wait>(rt: &R, pool: &BufferPool<D>) -> anyhow:
     for _ in 0..WRITINGS {
         match pool.flush_once(rt) {
             Flush::Written | Flush::WriteFault => {}
-            Flush::Nothing if pool.stats(rt).dirty == 0 => return Ok(()),
-            Flush::Nothing => anyhow::bail!("no flush is left, and pages are still changed"),
+            Flush::Nothing => return Ok(()),
+            Flush::Spent => anyhow::bail!("no flush is left, and pages are still changed"),
             Flush::Busy => anyhow::bail!("another thread flushes"),
             Flush::Broken => anyhow::bail!("a flush met a slip"),
         }

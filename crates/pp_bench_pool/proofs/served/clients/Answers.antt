@@ -3,25 +3,16 @@ use mir.Syntax.{Sym, named, w64}
 use denote.RattleType.{RattleType}
 use denote.Ref.{ShrRef}
 use denote.Param.{param}
-use denote.Struct.Field.{row_field}
-use denote.Struct.Tuple.{parts, type_at, TupleAt}
-use denote.Param.Send.{IsSync, AllSync, shr_sync, sendable}
-use denote.Param.SendFields.{FieldsHave, as_row_sync, declared_sync}
+use denote.Struct.Tuple.{TupleAt}
+use denote.Param.Send.{IsSync, shr_sync, sendable}
 use Rattle.std.proofs.Crossing.{crosses}
 use Rattle.pp_buffer_pool.specs.contracts.pool.BufferPool.{the_row as pool_row}
-use Rattle.pp_buffer_pool.proofs.Sent.{pool_sync}
+use Rattle.pp_buffer_pool.proofs.Sent.{pool_sync, closure_sync}
 use denote.Plain.{UInt}
 use Rattle.std.specs.contracts.alloc.Global.{the_row as heap_row}
 use Rattle.pp_buffer_pool.specs.contracts.plan.PreparedPlan.{the_row as plan_row}
 use Rattle.pp_bench_pool.specs.contracts.asked.Load.{the_row as load_row}
 use Rattle.pp_bench_pool.proofs.served.clients.Goals as goal
-
-parts_sync : (Ts : List RattleType) → AllSync Ts → FieldsHave IsSync (parts Ts)
-parts_sync [] s = tt
-parts_sync (T ∷ Ts) s = (as_row_sync (row_field T) s.0, parts_sync Ts s.1)
-
-closure_sync : (ν : Sym) (Ts : List RattleType) → AllSync Ts → IsSync (TupleAt ν Ts)
-closure_sync ν Ts s = declared_sync (type_at ν Ts) (parts_sync Ts s)
 
 -- the closure's name
 called : Sym

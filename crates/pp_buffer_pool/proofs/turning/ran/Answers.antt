@@ -1,4 +1,4 @@
-use Rattle.std.proofs.Common.{◌≡◌, refl, subst}
+use Rattle.std.proofs.Common.{refl, subst}
 use Rattle.pp_buffer_pool.specs.declared.ending.Ending.{Ending}
 use Rattle.pp_buffer_pool.specs.Running.{LoopStops, noted_calls}
 use Rattle.pp_buffer_pool.proofs.turning.ran.Goals as goal

@@ -1,4 +1,4 @@
-use Rattle.std.proofs.Common.{rules, ◌≡◌, ◌++◌, ℕ, true, false, Option, List, [], ◌∷◌, length, refl, sym, subst}
+use Rattle.std.proofs.Common.{rules, ◌≡◌, ◌++◌, ℕ, true, false, Option, [], ◌∷◌, length, refl, sym, subst}
 use Rattle.std.proofs.lemmas.Bool.Decides.{nat_tests}
 use Rattle.pp_vault.specs.Stages.{is_chair}
 use Rattle.pp_pool.specs.Turns.{IsReach}

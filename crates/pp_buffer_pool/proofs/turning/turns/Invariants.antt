@@ -1,5 +1,4 @@
 use Rattle.std.specs.Prelude.{List}
-use Rattle.pp_pool.specs.declared.worker.Worker.{Worker}
 use Rattle.pp_pool.specs.Turns.{IsReach, reach_of}
 use Rattle.pp_buffer_pool.specs.Running.{Rounds, noted_calls}
 use Rattle.pp_buffer_pool.proofs.turning.turns.Given as goal

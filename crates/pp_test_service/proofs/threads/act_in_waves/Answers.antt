@@ -3,29 +3,19 @@ use mir.Syntax.{Sym, named}
 use denote.RattleType.{RattleType}
 use denote.Ref.{ShrRef}
 use denote.Param.{param}
-use denote.Struct.Field.{row_field}
-use denote.Struct.Tuple.{parts, type_at, TupleAt}
-use denote.Param.Send.{IsSend, IsSync, AllSync, shr_sync, sendable}
-use denote.Param.SendFields.{FieldsHave, as_row_sync, declared_sync}
+use denote.Struct.Tuple.{TupleAt}
+use denote.Param.Send.{IsSend, IsSync, shr_sync, sendable}
 use Rattle.std.proofs.Crossing.{crosses}
 use Rattle.std.specs.contracts.alloc.Global.{the_row as heap_row}
 use Rattle.pp_settings.specs.contracts.settings.Settings.{the_row as settings_row}
 use Rattle.pp_settings.proofs.settings.Settings.TheSendSync as settings
 use Rattle.pp_buffer_pool.specs.contracts.pool.BufferPool.{the_row as pool_row}
-use Rattle.pp_buffer_pool.proofs.Sent.{pool_sync}
+use Rattle.pp_buffer_pool.proofs.Sent.{pool_sync, closure_sync}
 use Rattle.pp_test_service.specs.contracts.watched.Watched.{the_row as watched_row}
 use Rattle.pp_test_service.specs.contracts.board.Board.{the_row as board_row}
 use Rattle.pp_test_service.proofs.board.Board.TheSendSync as board
 use Rattle.pp_test_service.proofs.watched.Watched.TheSendSync as watched
 use Rattle.pp_test_service.proofs.threads.act_in_waves.Goals as goal
-
--- A closure that has captured what threads may share may itself be shared.
-parts_sync : (Ts : List RattleType) → AllSync Ts → FieldsHave IsSync (parts Ts)
-parts_sync [] s = tt
-parts_sync (T ∷ Ts) s = (as_row_sync (row_field T) s.0, parts_sync Ts s.1)
-
-closure_sync : (ν : Sym) (Ts : List RattleType) → AllSync Ts → IsSync (TupleAt ν Ts)
-closure_sync ν Ts s = declared_sync (type_at ν Ts) (parts_sync Ts s)
 
 -- Threads can share the pool of a scene.
 shared_pool : (T : RattleType) → IsSend T → IsSync (pool_row (watched_row T))
