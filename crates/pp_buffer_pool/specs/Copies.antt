@@ -41,8 +41,7 @@ CopiesLate own old page mark image new =
     × (take len new.copy.items ≡ take len image)
     × (length new.copy.items ≡ length old.copy.items)
 
--- The work has caught up, and was told that its plan ended so: then it is what its own call for that leaves, or as it was, where
--- it has none.
+-- The work has caught up. Then it is what its own call for such an end leaves, or as it was: which of the two isn't said.
 abbrev pub Ends : {W : Type 0} → Work.Ghosts W → OnCopies W → End → OnCopies W → Type 0
 Ends own old how new =
     (between : _) × CatchesUpIn own old between new × (own.ended_leaves between how new.work ⊎ (new.work ≡ between))

@@ -21,13 +21,15 @@ use std::sync::{Mutex, MutexGuard, Wait};
 ///
 /// All that it has lies under one lock, a [`Hall`]: the images of the pages with all that is known of them, the chairs
 /// that nobody has taken, who waits to start, and who sleeps for what. Each call takes the lock for a short time. With
-/// it held no call sleeps, calls a device or a work, or takes memory but where that is said.
+/// it held no call sleeps, calls a device or a caller's work, or takes memory but where that is said. Only the type of a
+/// work may be asked then whether it wants to rework pages.
 ///
 /// | Call | Waits for | Takes memory |
 /// |---|---|---|
 /// | [`BufferPool::open`] | nothing | all that the pool ever needs, but for a chair's log and pages |
 /// | [`BufferPool::prepare`] | the lock | none: the plan has its own |
 /// | [`BufferPool::execute`] | the lock; its turn, with room and a chair; a page, a frame or a latch; the device and the work | with the lock held, for what its chair lacks: an image, room for the plan's events, and for pages that the work is lent |
+/// | [`BufferPool::execute_on_copies`] | the same | the same |
 /// | [`BufferPool::flush_once`] | the lock; the device | none |
 /// | [`BufferPool::run_flusher`] | the lock; the device; that pages are changed, or that the pool is stopped | none |
 /// | [`BufferPool::stop`], [`BufferPool::stats`], [`BufferPool::dirty_pages`] | the lock | none |
