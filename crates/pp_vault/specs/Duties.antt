@@ -1,5 +1,5 @@
 -- Whom a duty of a device is for.
-use Rattle.std.specs.Prelude.{ℕ, Option, None, Some}
+use Rattle.std.specs.Prelude.{ℕ, Bool, true, false, Option, None, Some}
 use Rattle.pp_vault.specs.declared.tokens.Duty.{Duty}
 use Rattle.pp_vault.specs.declared.tokens.Duty.TheVariants.{Read, Write, Flush}
 
@@ -20,3 +20,9 @@ abbrev pub duty_page : Duty → ℕ
 duty_page (Read w slot page) = page
 duty_page (Write w slot page victim) = victim
 duty_page (Flush page) = page
+
+-- Whether the device is to read the page; else it is to write it.
+abbrev pub is_reading : Duty → Bool
+is_reading (Read w slot page) = true
+is_reading (Write w slot page victim) = false
+is_reading (Flush page) = false

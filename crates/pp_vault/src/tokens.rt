@@ -1,7 +1,7 @@
 //! Tokens of workers and of the flusher.
 
 ghost use Rattle.std.specs.Prelude.{◌≡◌};
-ghost use Rattle.pp_vault.specs.Duties.{duty_worker, duty_slot, duty_page};
+ghost use Rattle.pp_vault.specs.Duties.{duty_worker, duty_slot, duty_page, is_reading};
 
 use crate::image::Image;
 use pp_device::Fault;
@@ -142,6 +142,29 @@ impl Errand {
         ensures { result ≡ duty_slot self.now.duty }
     {
         self.duty.slot()
+    }
+
+    /// The page that the device is to be called with: where a victim is to be written back, the victim.
+    pub fn page(&self) -> u32
+        ensures { result ≡ duty_page self.now.duty }
+    {
+        self.duty.page()
+    }
+
+    /// Whether the device is to read the page. Else it is to write it.
+    pub fn is_reading(&self) -> bool
+        ensures { result ≡ is_reading self.now.duty }
+    {
+        matches!(self.duty, Duty::Read { .. })
+    }
+
+    /// The image that is to be written, or the buffer into which the device is to read.
+    ///
+    /// It is for a host whose device can't be called by [`Errand::carry_out`], and which writes the bytes in its own time.
+    pub fn bytes(&self) -> &[u8]
+        ensures { result.now ≡ self.now.image }
+    {
+        self.image.bytes()
     }
 }
 
