@@ -1,0 +1,2 @@
+mod AheadLemmas
+mod SumLemmas

@@ -1,0 +1,5 @@
+-- What the contracts of this crate cite.
+pub mod Ahead
+pub mod Checked
+pub mod Sum
+pub mod Syncing
