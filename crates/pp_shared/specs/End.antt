@@ -4,20 +4,23 @@ use Rattle.std.specs.Prelude.{if◌then◌else◌}
 use Rattle.pp_device.specs.declared.fault.Fault.{Fault}
 use Rattle.pp_device.specs.declared.fault.Fault.TheVariants.{Read, Write}
 use Rattle.pp_device.specs.Answers.{Answer}
+use Rattle.pp_durable.specs.Syncing.{SyncAnswer, SyncCounts, no_syncs, counted_sync}
+use Rattle.std.proofs.Common.{ap}
 
 -- Whether the pages are in memory, or else in a file; how many there are; how long an image is; how many calls of this
--- end were made, and how many of these failed.
+-- end were made, and how many of these failed; and its syncs.
 pub record End : Type 0 where
   pub in_memory : Bool
   pub pages : ℕ
   pub page_bytes : ℕ
   pub calls : ℕ
   pub failures : ℕ
+  pub syncs : SyncCounts
 
 -- An end that was not called yet.
 abbrev pub new_end : Bool → ℕ → ℕ → End
 new_end in_memory pages page_bytes =
-    record { in_memory = in_memory; pages = pages; page_bytes = page_bytes; calls = 0; failures = 0 }
+    record { in_memory = in_memory; pages = pages; page_bytes = page_bytes; calls = 0; failures = 0; syncs = no_syncs }
 
 -- Of so many pages of so many bytes: whether the page is one, and so many bytes are as many as its image has.
 abbrev pub has_image : (pages page_bytes page len : ℕ) → Bool
@@ -50,3 +53,19 @@ pub record EndReads (d : End) (page : ℕ) (slice : List ℕ) (answer : Answer) 
 pub record EndWrites (d : End) (page : ℕ) (slice : List ℕ) (answer : Answer) (e : End) : Type 0 where
   pub answers : AnswersSo d page (length slice) Write answer
   pub after : e ≡ counted d answer
+
+-- What a sync leaves of the end: one more of them. Where the pages are in memory and none failed, it is done. Of a file it
+-- says the system's answer alone.
+pub record EndSyncs (d : End) (answer : SyncAnswer) (e : End) : Type 0 where
+  pub memory : d.in_memory ≡ true → d.syncs.failed ≡ 0 → answer ≡ Ok tt
+  pub after : e ≡ record d { syncs = counted_sync d.syncs answer }
+
+-- ---- a reading or a writing is no sync
+
+pub reads-keep : (d e : End) (page : ℕ) (slice given : List ℕ) (answer : Answer) → EndReads d page slice answer given e
+    → (e.syncs.asked ≡ d.syncs.asked) × (e.syncs.failed ≡ d.syncs.failed)
+reads-keep d e page slice given answer r = (ap (λ x. x.syncs.asked) r.after, ap (λ x. x.syncs.failed) r.after)
+
+pub writes-keep : (d e : End) (page : ℕ) (image : List ℕ) (answer : Answer) → EndWrites d page image answer e
+    → (e.syncs.asked ≡ d.syncs.asked) × (e.syncs.failed ≡ d.syncs.failed)
+writes-keep d e page image answer r = (ap (λ x. x.syncs.asked) r.after, ap (λ x. x.syncs.failed) r.after)

@@ -4,11 +4,13 @@ ghost use Rattle.std.specs.Prelude.{◌≡◌, ◌*◌, ◌/◌, ◌^◌, ◌<�
 
 use pp_device::Fault;
 use pp_device::image::HEAD;
+use pp_durable::SyncFault;
 use std::fs::{File, OpenOptions};
 use std::io;
 use std::io::{Seek, SeekFrom};
 use std::os::unix::fs::FileExt;
 use std::rt::Files;
+use std::sync::{Mutex, Wait};
 
 /// The pages of a file: the images one behind the other, that of page p at byte p times the bytes of a page.
 ///
@@ -17,11 +19,15 @@ use std::rt::Files;
 /// A call names the place where it reads or writes, and there is no lock: calls of several threads go to the system at
 /// once. So calls of one page must not meet. Where a reading meets a writing of its page, it may give a part of that;
 /// where two writings meet, a part of each may stay.
+///
+/// Syncs alone wait for one another, so that all learn of the first that failed: the system may tell of an error once.
 #[derive(Drop)]
 pub struct PageFile {
     pages: u64,
     page_bytes: usize,
     file: File,
+    /// Whether a sync failed, and with it what was written before.
+    is_lost: Mutex<bool>,
     ghost in_reach: { pages * page_bytes < 2 ^ 64 },
 }
 
@@ -63,6 +69,7 @@ impl PageFile {
             pages: bytes / page_bytes as u64,
             page_bytes,
             file,
+            is_lost: Mutex::new(false),
         }
     }
 
@@ -115,5 +122,25 @@ impl PageFile {
         self.file
             .write_all_at(image, self.place(page))
             .map_err(|_| Fault::Write)
+    }
+
+    /// Has on the medium all that was written before. The file's length never changes, so its bytes are enough.
+    ///
+    /// # Errors
+    ///
+    /// [`SyncFault`] where the system doesn't say that they are there, or didn't at an earlier call. Then it isn't asked
+    /// again, whichever end asks.
+    pub fn sync<R: Wait>(&self, rt: &R) -> Result<(), SyncFault> {
+        let mut is_lost = self.is_lost.lock(rt);
+        if *is_lost {
+            return Err(SyncFault);
+        }
+        match self.file.sync_data() {
+            Ok(()) => Ok(()),
+            Err(_) => {
+                *is_lost = true;
+                Err(SyncFault)
+            }
+        }
     }
 }

@@ -8,6 +8,7 @@ use crate::memory::Memory;
 use crate::store::Store;
 use pp_device::image::HEAD;
 use pp_device::{Count, Device, Fault};
+use pp_durable::{Durable, SyncFault, Syncs};
 use std::alloc::{AllocError, Global};
 use std::fs::File;
 use std::marker::Model;
@@ -17,13 +18,15 @@ use std::sync::{Arc, Wait};
 /// One of several ends of pages in memory or in a file.
 ///
 /// Each end counts its own calls. What one end writes, every end reads afterwards. A call of an end in memory may wait
-/// for calls of the same page, as long as a copy takes, and takes no other lock. One of an end of a file takes none.
+/// for calls of the same page, as long as a copy takes, and takes no other lock. One of an end of a file takes none, but
+/// that its syncs wait for one another.
 #[derive(Drop)]
 pub struct SharedDevice<R: Wait> {
     rt: R,
     store: Arc<Store>,
     calls: Count,
     failures: Count,
+    syncs: Syncs,
 }
 
 impl<R: Wait> Model for SharedDevice<R> {
@@ -39,6 +42,7 @@ impl<R: Wait> Model for SharedDevice<R> {
       page_bytes = page_bytes_of (arc_value d.store);
       calls = d.calls.number;
       failures = d.failures.number;
+      syncs = d.syncs;
     } };
 }
 
@@ -117,6 +121,7 @@ impl<R: Wait> SharedDevice<R> {
                 store: Arc::try_clone(&store)?,
                 calls: Count::new(),
                 failures: Count::new(),
+                syncs: Syncs::new(),
             })?;
         }
         Ok(devices)
@@ -168,6 +173,32 @@ impl<R: Wait> Device for SharedDevice<R> {
             Err(Fault::Write)
         };
         self.count(answer);
+        answer
+    }
+}
+
+impl<R: Wait> Durable for SharedDevice<R> {
+    ghost use Rattle.pp_shared.specs.End.{EndSyncs, reads-keep, writes-keep};
+
+    ghost syncs = { λ d. d.syncs.asked };
+
+    ghost failed_syncs = { λ d. d.syncs.failed };
+
+    ghost sync_leaves = { EndSyncs };
+
+    ghost read_keeps = { reads-keep };
+
+    ghost write_keeps = { writes-keep };
+
+    /// Has on the medium all that was written before, by whichever end. Memory is its own medium. Of a file no sync is
+    /// tried again once one has failed, whichever end asked for it.
+    fn sync(&mut self) -> Result<(), SyncFault> {
+        let answer = if self.syncs.has_failed() {
+            Err(SyncFault)
+        } else {
+            self.store.sync(&self.rt)
+        };
+        self.syncs.count(answer);
         answer
     }
 }

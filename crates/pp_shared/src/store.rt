@@ -7,6 +7,7 @@ ghost use Rattle.pp_shared.specs.End.{has_image};
 use crate::file::PageFile;
 use crate::memory::Memory;
 use pp_device::Fault;
+use pp_durable::SyncFault;
 use std::sync::Wait;
 
 /// Pages in memory or in a file.
@@ -64,6 +65,20 @@ impl Store {
                 Ok(())
             }
             Store::File(file) => file.write(page, image),
+        }
+    }
+
+    /// Has on the medium all that was written before. Memory is its own medium.
+    ///
+    /// # Errors
+    ///
+    /// [`SyncFault`] where a file's bytes may not be there.
+    pub fn sync<R: Wait>(&self, rt: &R) -> Result<(), SyncFault>
+        ensures { is_memory self.now ≡ true → IsOk result }
+    {
+        match self {
+            Store::Memory(_) => Ok(()),
+            Store::File(file) => file.sync(rt),
         }
     }
 }
