@@ -1,2 +1,4 @@
 mod AheadLemmas
+mod HonestLemmas
+mod NoticedLemmas
 mod SumLemmas

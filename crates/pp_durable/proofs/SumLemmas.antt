@@ -32,7 +32,7 @@ after_bit-xor a b =
     ∙ ap (λ x. bit_xor (bit_xor (a / 2) (b / 2)) x) (digit-xor (a % 2) (b % 2) (omega arith) (omega arith))
     ∙ xor_swap (a / 2) (b / 2) (a % 2 * polynomial) (b % 2 * polynomial)
 
-after_bits-xor : (n a b : ℕ) → after_bits n (bit_xor a b) ≡ bit_xor (after_bits n a) (after_bits n b)
+pub after_bits-xor : (n a b : ℕ) → after_bits n (bit_xor a b) ≡ bit_xor (after_bits n a) (after_bits n b)
 unfolding after_bits
 after_bits-xor zero a b = refl
 after_bits-xor (suc n) a b = ap (after_bits n) (after_bit-xor a b) ∙ after_bits-xor n (after_bit a) (after_bit b)

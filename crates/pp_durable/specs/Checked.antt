@@ -1,6 +1,6 @@
 -- A device with a check sum behind each page.
 use Rattle.std.specs.Prelude.{◌≡◌, ℕ, ◌+◌, ◌==◌, Bool, true, false, Ok, Err, is_err, List, ◌++◌, length, take, drop}
-use Rattle.std.specs.Prelude.{if◌then◌else◌}
+use Rattle.std.specs.Prelude.{if◌then◌else◌, ◌⊎◌}
 use Rattle.std.specs.Int.{w32, to_be_bytes}
 use Rattle.std.proofs.Common.{ap, refl}
 use Rattle.pp_device.specs.declared.fault.Fault.TheVariants.{Read, Write}
@@ -40,8 +40,8 @@ HasSum len image = drop len image ≡ sum_bytes (take len image)
 abbrev pub TakenAs : Answer → (image slice : List ℕ) → Answer → (given : List ℕ) → Type 0
 TakenAs (Err fault) image slice answer given = (answer ≡ Err fault) × (given ≡ slice)
 TakenAs (Ok _) image slice answer given =
-    (HasSum (length slice) image → (answer ≡ Ok tt) × (given ≡ take (length slice) image))
-    × ((HasSum (length slice) image → ⊥) → (answer ≡ Err Read) × (given ≡ slice))
+    (HasSum (length slice) image × (answer ≡ Ok tt) × (given ≡ take (length slice) image))
+    ⊎ ((HasSum (length slice) image → ⊥) × (answer ≡ Err Read) × (given ≡ slice))
 
 -- A reading through a buffer that held these bytes.
 pub record ChecksInside {D : Type 0} (reads : D → ℕ → List ℕ → Answer → List ℕ → D → Type 0) (d : D) (page : ℕ)

@@ -17,6 +17,7 @@ mod ahead;
 mod checksummed;
 mod durable;
 mod fault;
+pub mod laws;
 mod log;
 mod sum;
 mod syncs;
