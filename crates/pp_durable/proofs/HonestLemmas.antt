@@ -66,7 +66,7 @@ ahead-honest number_in durable forces reads writes = λ are kept honest.
 -- ---- with check sums
 
 -- A slice that is as long as a page, or not.
-by_length : {A : Type 0} (b : Bool) → (b ≡ true → A) → (b ≡ false → A) → A
+pub by_length : {A : Type 0} (b : Bool) → (b ≡ true → A) → (b ≡ false → A) → A
 by_length true long short = long refl
 by_length false long short = short refl
 
@@ -77,11 +77,11 @@ taken-front (Ok _) image slice given (inl r) = (refl, r.2)
 taken-front (Ok _) image slice given (inr r) = let refused = r.1 in cc
 taken-front (Err fault) image slice given r = let refused = r.0 in cc
 
-as-long : (len page_bytes : ℕ) → (len == page_bytes) ≡ true → len ≡ page_bytes
+pub as-long : (len page_bytes : ℕ) → (len == page_bytes) ≡ true → len ≡ page_bytes
 as-long len page_bytes is = search rules
 
 -- The front of what is kept is that of what was kept.
-front-same : (n m : ℕ) (xs ys : List ℕ) → n ≡ m → xs ≡ ys → take n xs ≡ take m ys
+pub front-same : (n m : ℕ) (xs ys : List ℕ) → n ≡ m → xs ≡ ys → take n xs ≡ take m ys
 front-same n m xs ys same are = ap (λ k. take k xs) same ∙ ap (take m) are
 
 -- The front of bytes with their sum are the bytes.
@@ -89,7 +89,7 @@ take-with_sum : (n : ℕ) (image kept : List ℕ) → n ≡ length image → kep
 take-with_sum n image kept long are = ap (λ k. take k kept) long ∙ ap (take (length image)) are ∙ take-append_seam image (sum_bytes image)
 
 -- What the device inside keeps of a page, whether it was read or not.
-read-inside : {D : Type 0} {reads : D → ℕ → List ℕ → Answer → List ℕ → D → Type 0} (P : D → Type 0) (c e : Checked D)
+pub read-inside : {D : Type 0} {reads : D → ℕ → List ℕ → Answer → List ℕ → D → Type 0} (P : D → Type 0) (c e : Checked D)
     (page : ℕ) (slice given : List ℕ) (answer : Answer) → CheckedReads reads c page slice answer given e → P c.device
     → ((buffer image : List ℕ) (told : Answer) → reads c.device page buffer told image e.device → P e.device)
     → P e.device
@@ -100,7 +100,7 @@ read-inside P c e page slice given answer r before after =
     (r.served long).reads_so.device_reads)
     (λ short. subst P (sym (r.refused short).2) before)
 
-write-inside : {D : Type 0} {writes : D → ℕ → List ℕ → Answer → D → Type 0} (P : D → Type 0) (c e : Checked D) (page : ℕ)
+pub write-inside : {D : Type 0} {writes : D → ℕ → List ℕ → Answer → D → Type 0} (P : D → Type 0) (c e : Checked D) (page : ℕ)
     (image : List ℕ) (answer : Answer) → CheckedWrites writes c page image answer e → P c.device
     → (writes c.device page (with_sum image) answer e.device → P e.device) → P e.device
 write-inside P c e page image answer r before after =

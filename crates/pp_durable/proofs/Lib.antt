@@ -1,4 +1,5 @@
 mod AheadLemmas
+mod CrashLemmas
 mod HonestLemmas
 mod NoticedLemmas
 mod SumLemmas

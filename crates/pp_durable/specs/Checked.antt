@@ -85,6 +85,11 @@ pub record CheckedSyncs {D : Type 0} (syncs : D → SyncAnswer → D → Type 0)
   pub device_syncs : syncs c.device answer e.device
   pub others_are : e ≡ record c { device = e.device }
 
+-- What a crash may leave of a page: of an image that it may leave inside, the bytes before the sum.
+abbrev pub LeavesFront : {D : Type 0} → (D → ℕ → List ℕ → Type 0) → Checked D → ℕ → List ℕ → Type 0
+LeavesFront may_leave c page bytes =
+    (image : List ℕ) × may_leave c.device page image × (bytes ≡ take c.page_bytes image)
+
 -- ---- what the device inside keeps of its syncs, it keeps behind check sums
 
 pub reads-keep : {D : Type 0} (reads : D → ℕ → List ℕ → Answer → List ℕ → D → Type 0) (syncs failed : D → ℕ)

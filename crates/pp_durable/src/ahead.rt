@@ -143,6 +143,8 @@ impl<D: Durable, L: Log> Durable for WriteAhead<D, L> {
 
     ghost sync_leaves = { AheadSyncs D.sync_leaves };
 
+    ghost may_leave = { λ w page image. D.may_leave w.device page image };
+
     ghost read_keeps = { reads-keep D.read_gives D.syncs D.failed_syncs D.read_keeps };
 
     ghost write_keeps = { writes-keep L.number_in L.durable L.force_leaves D.write_leaves D.syncs D.failed_syncs D.write_keeps };

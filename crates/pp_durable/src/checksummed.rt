@@ -167,13 +167,15 @@ impl<D: Device> Device for Checksummed<D> {
 }
 
 impl<D: Durable> Durable for Checksummed<D> {
-    ghost use Rattle.pp_durable.specs.Checked.{CheckedSyncs, reads-keep, writes-keep};
+    ghost use Rattle.pp_durable.specs.Checked.{CheckedSyncs, LeavesFront, reads-keep, writes-keep};
 
     ghost syncs = { λ c. D.syncs c.device };
 
     ghost failed_syncs = { λ c. D.failed_syncs c.device };
 
     ghost sync_leaves = { CheckedSyncs D.sync_leaves };
+
+    ghost may_leave = { LeavesFront D.may_leave };
 
     ghost read_keeps = { reads-keep D.read_gives D.syncs D.failed_syncs D.read_keeps };
 

@@ -10,9 +10,10 @@ use pp_device::Device;
 /// A device that can have all on the medium that was written to it.
 ///
 /// Contracts see of it how many syncs were asked, `syncs`, and how many of these failed, `failed_syncs`. Both are ghost
-/// members, so they have no upper end; a device holds a [`crate::Syncs`] for them. One more, `sync_leaves`, says what a
-/// sync can answer and what it leaves of the device. What a crash may leave is for each device to say there, as far as
-/// it knows: of a file it knows the system's answer alone.
+/// members, so they have no upper end; a device holds a [`crate::Syncs`] for them. Two more say what a sync does:
+/// `sync_leaves`, what it can answer and what it leaves of the device, and `may_leave`, which images of a page a crash
+/// may leave now. A device in a test knows that exactly ([`crate::laws`]). Of a file no clause can: there `may_leave`
+/// allows every image, and that a sync which was done is kept is the system's word.
 ///
 /// A reading or a writing is no sync, and undoes none that failed (`read_keeps`, `write_keeps`).
 pub trait Durable: Device {
@@ -21,6 +22,8 @@ pub trait Durable: Device {
     ghost failed_syncs: { Self → ℕ };
 
     ghost sync_leaves: { Self → SyncAnswer → Self → Type 0 };
+
+    ghost may_leave: { Self → ℕ → List ℕ → Type 0 };
 
     /// Has on the medium all that was written before.
     ///

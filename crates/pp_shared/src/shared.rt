@@ -186,6 +186,9 @@ impl<R: Wait> Durable for SharedDevice<R> {
 
     ghost sync_leaves = { EndSyncs };
 
+    // Memory is lost, and of a file the system's word is all there is.
+    ghost may_leave = { λ _ _ _. Unit {0} };
+
     ghost read_keeps = { reads-keep };
 
     ghost write_keeps = { writes-keep };
