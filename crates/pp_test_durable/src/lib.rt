@@ -3,7 +3,12 @@
 
 pub use crashing::Crashing;
 pub use leaf::Leaf;
+pub use page_log::{Handle, PageLog};
+pub use record::Record;
 
 mod crashing;
+mod engine;
 pub mod laws;
 mod leaf;
+mod page_log;
+mod record;
