@@ -1,5 +1,7 @@
 //! An engine with a log and three pages, whose power fails at each of its calls in turn.
 
+ghost use Rattle.std.specs.Prelude.{◌^◌, ◌<◌, ◌≤◌};
+
 use crate::crashing::Crashing;
 use crate::page_log::{Handle, PageLog, record_at};
 use crate::record::{BYTES, Record};
@@ -39,7 +41,10 @@ fn over(rt: &impl Abort, alloc: Global, device: Crashing) -> Medium {
 }
 
 /// Which page change number n is of, and what it makes of it.
-fn change(number: u32) -> (u32, u64) {
+fn change(number: u32) -> (u32, u64)
+    requires { number ≤ CHANGES }
+    ensures { result.0 < PAGES }
+{
     (number * 5 % 7 % PAGES, u64::from(number) * 11 + 3)
 }
 
@@ -64,7 +69,7 @@ fn work<R: Wait, D: Device + Durable>(
         let Some(record) = log.lock(rt).append(page, value) else {
             return answered;
         };
-        pages[(page % PAGES) as usize] = record;
+        pages[page as usize] = record;
         if number % 3 == 2 {
             if log.lock(rt).force(record.number).is_err() {
                 return answered;
@@ -97,7 +102,7 @@ fn records(rt: &impl Abort, log: &mut Medium) -> u64 {
             return count;
         };
         assert_eq!(rt; (record.page, record.value), change(number));
-        count += 1;
+        count = u64::from(number);
     }
     count
 }
@@ -164,6 +169,7 @@ fn recovers(rt: &impl Abort, mut log: Medium, mut pages: Medium, answered: u64) 
 fn run<R: Abort + Wait>(rt: &R, alloc: Global, powers: (u64, u64), seed: u64) -> u64
 where
     R: Copy,
+    requires { seed < 2 ^ 32 }
 {
     let log = PageLog::new(medium(rt, alloc, CHANGES + 1, powers.0));
     let log = Arc::new(alloc, Mutex::new(log)).expect(rt, "memory");
@@ -182,23 +188,18 @@ where
     answered
 }
 
-#[cfg(test)]
-mod tests {
-    use super::*;
-
-    #[test]
-    fn each_call_is_cut_off_in_turn(rt: HostRuntime) {
-        let alloc = rt.alloc();
-        for seed in 0..CRASHES {
-            for power in 0..CALLS {
-                let _ = run(&rt, alloc, (power, u64::MAX), seed * 100 + power);
-                let _ = run(&rt, alloc, (u64::MAX, power), seed * 100 + power);
-            }
+#[test]
+fn each_call_is_cut_off_in_turn(rt: HostRuntime) {
+    let alloc = rt.alloc();
+    for seed in 0..CRASHES {
+        for power in 0..CALLS {
+            let _ = run(&rt, alloc, (power, u64::MAX), seed * 100 + power);
+            let _ = run(&rt, alloc, (u64::MAX, power), seed * 100 + power);
         }
     }
+}
 
-    #[test]
-    fn a_run_that_nothing_cuts_off_answers_all(rt: HostRuntime) {
-        assert_eq!(rt; run(&rt, rt.alloc(), (CALLS, CALLS), 0), 14);
-    }
+#[test]
+fn a_run_that_nothing_cuts_off_answers_all(rt: HostRuntime) {
+    assert_eq!(rt; run(&rt, rt.alloc(), (CALLS, CALLS), 0), 14);
 }

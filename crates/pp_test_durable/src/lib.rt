@@ -7,6 +7,9 @@ pub use page_log::{Handle, PageLog};
 pub use record::Record;
 
 mod crashing;
+#[cfg(test)]
+mod devices;
+#[cfg(test)]
 mod engine;
 pub mod laws;
 mod leaf;
