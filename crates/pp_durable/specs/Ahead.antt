@@ -59,6 +59,7 @@ pub record AheadSyncs {D L : Type 0} (syncs : D → SyncAnswer → D → Type 0)
 
 -- ---- what the device keeps of its syncs, it keeps behind the log
 
+-- A reading is no sync: the law of a durable device.
 pub reads-keep : {D L : Type 0} (reads : D → ℕ → List ℕ → Answer → List ℕ → D → Type 0) (syncs failed : D → ℕ)
     → ((d e : D) (page : ℕ) (slice given : List ℕ) (answer : Answer) → reads d page slice answer given e
     → (syncs e ≡ syncs d) × (failed e ≡ failed d))
@@ -75,6 +76,7 @@ once-keeps : {D : Type 0} (writes : D → ℕ → List ℕ → Answer → D → 
 once-keeps writes syncs failed keeps (Ok _) number newest d e page image answer after r = keeps d e page image answer r.0
 once-keeps writes syncs failed keeps (Err _) number newest d e page image answer after r = (ap syncs r.1, ap failed r.1)
 
+-- A writing is no sync: the law of a durable device.
 pub writes-keep : {D L : Type 0} (number_in : List ℕ → ℕ) (durable : L → ℕ) (forces : L → ℕ → SyncAnswer → L → Type 0)
     (writes : D → ℕ → List ℕ → Answer → D → Type 0) (syncs failed : D → ℕ)
     → ((d e : D) (page : ℕ) (image : List ℕ) (answer : Answer) → writes d page image answer e

@@ -92,6 +92,7 @@ LeavesFront may_leave c page bytes =
 
 -- ---- what the device inside keeps of its syncs, it keeps behind check sums
 
+-- A reading is no sync: the law of a durable device.
 pub reads-keep : {D : Type 0} (reads : D → ℕ → List ℕ → Answer → List ℕ → D → Type 0) (syncs failed : D → ℕ)
     → ((d e : D) (page : ℕ) (slice given : List ℕ) (answer : Answer) → reads d page slice answer given e
     → (syncs e ≡ syncs d) × (failed e ≡ failed d))
@@ -106,6 +107,7 @@ reads-keep reads syncs failed keeps c e page slice given answer r =
           let so = (served refl).reads_so in keeps c.device e.device page (served refl).buffer so.image so.told so.device_reads
       split false served refused = (ap syncs (refused refl).2, ap failed (refused refl).2)
 
+-- A writing is no sync: the law of a durable device.
 pub writes-keep : {D : Type 0} (writes : D → ℕ → List ℕ → Answer → D → Type 0) (syncs failed : D → ℕ)
     → ((d e : D) (page : ℕ) (image : List ℕ) (answer : Answer) → writes d page image answer e
     → (syncs e ≡ syncs d) × (failed e ≡ failed d))

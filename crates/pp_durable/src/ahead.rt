@@ -43,14 +43,9 @@ impl<D, L: Log> Model for WriteAhead<D, L> {
 }
 
 /// Hands the image to the device. Its records are on the medium.
-fn hand_on<D: Device, L: Log>(
-    device: &mut D,
-    _log: &L,
-    page: u32,
-    image: &[u8],
-) -> Result<(), Fault>
+fn hand_on<D: Device, L: Log>(device: &mut D, log: &L, page: u32, image: &[u8]) -> Result<(), Fault>
     requires head { HEAD ≤ length image.now }
-    requires on_medium { L.number_in image.now ≤ L.durable _log.now }
+    requires on_medium { L.number_in image.now ≤ L.durable log.now }
     ensures left { D.write_leaves device.old page image.now result device.new }
     ensures fault { IfErr result (λ fault. fault ≡ Fault.Write) }
 {

@@ -62,10 +62,12 @@ pub record EndSyncs (d : End) (answer : SyncAnswer) (e : End) : Type 0 where
 
 -- ---- a reading or a writing is no sync
 
+-- A reading is no sync: the law of a durable device.
 pub reads-keep : (d e : End) (page : ℕ) (slice given : List ℕ) (answer : Answer) → EndReads d page slice answer given e
     → (e.syncs.asked ≡ d.syncs.asked) × (e.syncs.failed ≡ d.syncs.failed)
 reads-keep d e page slice given answer r = (ap (λ x. x.syncs.asked) r.after, ap (λ x. x.syncs.failed) r.after)
 
+-- A writing is no sync: the law of a durable device.
 pub writes-keep : (d e : End) (page : ℕ) (image : List ℕ) (answer : Answer) → EndWrites d page image answer e
     → (e.syncs.asked ≡ d.syncs.asked) × (e.syncs.failed ≡ d.syncs.failed)
 writes-keep d e page image answer r = (ap (λ x. x.syncs.asked) r.after, ap (λ x. x.syncs.failed) r.after)

@@ -113,6 +113,7 @@ pub record AllCrashed (before after : List Image) : Type 0 where
 
 -- ---- a reading or a writing is no sync
 
+-- A reading is no sync: the law of a durable device.
 pub reads-keep : (d e : Powered) (page : ℕ) (slice given : List ℕ) (answer : Answer) → PowerReads d page slice answer given e
     → (e.syncs.asked ≡ d.syncs.asked) × (e.syncs.failed ≡ d.syncs.failed)
 reads-keep d e page slice given answer r = (ap (λ x. x.syncs.asked) r.after, ap (λ x. x.syncs.failed) r.after)
@@ -121,6 +122,7 @@ same-syncs : (b : Bool) (d x y : Powered) → x.syncs ≡ d.syncs → y.syncs �
 same-syncs true d x y left right = left
 same-syncs false d x y left right = right
 
+-- A writing is no sync: the law of a durable device.
 pub writes-keep : (d e : Powered) (page : ℕ) (image : List ℕ) (answer : Answer) → PowerWrites d page image answer e
     → (e.syncs.asked ≡ d.syncs.asked) × (e.syncs.failed ≡ d.syncs.failed)
 writes-keep d e page image answer r =

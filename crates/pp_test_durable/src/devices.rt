@@ -68,8 +68,10 @@ fn sum_stands_behind_the_page(rt: HostRuntime) {
     assert_eq!(rt; device.write(1, &page), Ok(()));
     let mut bytes = [0; 36];
     assert_eq!(rt; device.into_inner().read(1, &mut bytes), Ok(()));
-    assert_eq!(rt; &bytes[..32], page.as_slice());
-    assert_eq!(rt; &bytes[32..], sum_of(&page).to_be_bytes().as_slice());
+    let mut want = [0; 36];
+    want[..BYTES].copy_from_slice(&page);
+    want[BYTES..].copy_from_slice(&sum_of(&page).to_be_bytes());
+    assert_eq!(rt; bytes, want);
 }
 
 /// The sums of vectors that others tell: of nothing, of the nine digits, and of 32 bytes of zeros and of ones.
