@@ -73,6 +73,7 @@ fn case<
         | "pp_core"
         | "pp_outset"
         | "pp_device"
+        | "pp_durable"
         | "pp_vault" => making::case(rt, call, row),
         "pp_shared" => shared::case(rt, call),
         "pp_play" | "pp_simulate" => playing::case(rt, call, row),

@@ -1,5 +1,5 @@
-//! The calls that make two directories, a search, marks, sets of numbers, stacks of pages, names, two caches, a core, an outset, a
-//! device and a vault, and a run of a core.
+//! The calls that make two directories, a search, marks, sets of numbers, stacks of pages, names, two caches, a core, an outset, two
+//! devices and a vault, and a run of a core.
 
 use crate::answer::Answer;
 use crate::printing::twice;
@@ -10,6 +10,7 @@ use pp_bundles::Bundles;
 use pp_cache::Cache;
 use pp_core::{Accepted, Core};
 use pp_device::{Device, SoloDevice};
+use pp_durable::Checksummed;
 use pp_frames::{Marks, NumberSet};
 use pp_keyed::KeyedCache;
 use pp_model::Reply;
@@ -34,6 +35,7 @@ pub fn case<R: AllocGlobal + Print>(rt: &R, call: &str, row: &str) -> anyhow::Re
         | "NumberSet::full"
         | "Bundles::new"
         | "SoloDevice::new"
+        | "Checksummed::new"
         | "Names::new"
         | "KeyedCache::new"
         | "Cache::new" => twice(rt, &mut Plain { alloc, call }),
@@ -72,6 +74,7 @@ impl Tried for Plain<'_> {
             "Cache::new" => cache(self.alloc),
             "Names::new" => names(self.alloc),
             "KeyedCache::new" => keyed(self.alloc),
+            "Checksummed::new" => checksummed(self.alloc),
             _ => solo(self.alloc),
         }
     }
@@ -186,6 +189,27 @@ fn solo(alloc: Global) -> Answer {
             Answer::Two("read", u64::from(read.is_ok()), "page", u64::from(image[3]))
         }
         Err(error) => Answer::Lacking(error),
+    }
+}
+
+fn checksummed(alloc: Global) -> Answer {
+    let device = match SoloDevice::new(alloc, 24, 68) {
+        Ok(device) => device,
+        Err(error) => return Answer::Lacking(error),
+    };
+    match Checksummed::new(alloc, device, 64) {
+        Ok(mut made) => {
+            let mut image = [1; 64];
+            let wrote = made.write(16, &image);
+            let read = made.read(16, &mut image);
+            Answer::Two(
+                "wrote",
+                u64::from(wrote.is_ok()),
+                "read",
+                u64::from(read.is_ok()),
+            )
+        }
+        Err((error, _device)) => Answer::Lacking(error),
     }
 }
 
