@@ -1,12 +1,10 @@
 -- What a crash leaves of a device whose power may fail.
-use Rattle.std.proofs.Common.{◌≡◌, ◌≢◌, ℕ, suc, zero, ◌<◌, ◌&&◌, Bool, true, false, List, [], ◌∷◌, length, map, slice_index_or, slice_set, refl, sym, ◌∙◌, ap, subst, ◌⊎◌, inl, inr, rules, get_or-set_same, get_or-set_other}
-use Rattle.std.specs.Prelude.{Ok, Some, None, slice_get, if◌then◌else◌}
+use Rattle.std.proofs.Common.{◌≡◌, ℕ, suc, ◌<◌, ◌&&◌, Bool, true, false, List, [], ◌∷◌, length, map, slice_index_or, refl, sym, ◌∙◌, ap, subst, inl, inr, rules, get_or-set_same, get_or-set_other}
+use Rattle.std.specs.Prelude.{Some, slice_get, if◌then◌else◌}
 use Rattle.std.proofs.Math.ListN.{get_or-map}
-use Rattle.pp_device.specs.Answers.{Answer}
-use Rattle.pp_durable.specs.Syncing.{SyncAnswer}
 use Rattle.pp_durable.specs.Crash.{IsTorn}
 use Rattle.pp_test_durable.specs.Leaves.{Image, settled}
-use Rattle.pp_test_durable.specs.Power.{Powered, PowerReads, PowerWrites, PowerSyncs, PowerLeaves, PowerIsDurable, image_at, no_leaf, is_served, is_begun, is_done, is_synced, counted, shown_so}
+use Rattle.pp_test_durable.specs.Power.{Powered, PowerLeaves, PowerIsDurable, image_at, no_leaf, is_served, is_begun, is_done, is_synced, counted, shown_so}
 use Rattle.pp_test_durable.proofs.Steps.{torn-none}
 
 -- Lists that are the same at each place are the same.

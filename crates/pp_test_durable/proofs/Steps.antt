@@ -1,14 +1,14 @@
 -- One step of a loop over bytes or pages.
-use Rattle.std.proofs.Common.{◌≡◌, ◌≢◌, ℕ, zero, suc, ◌+◌, ◌<◌, ◌≤◌, List, [], ◌∷◌, ◌++◌, length, map, take, drop, slice_index_or, slice_set, All, refl, sym, ◌∙◌, ap, subst, zero-add, arith, ◌⊎◌, inl, inr, get_or-set_same, get_or-set_other, add-one}
+use Rattle.std.proofs.Common.{◌≡◌, ℕ, zero, suc, ◌+◌, ◌<◌, ◌≤◌, List, [], ◌∷◌, ◌++◌, length, map, take, drop, slice_index_or, slice_set, All, refl, sym, ◌∙◌, ap, subst, zero-add, arith, inl, inr, get_or-set_same, get_or-set_other, add-one}
 use Rattle.std.specs.Prelude.{Some, slice_get}
 use Rattle.std.specs.List.{range_with_len}
-use Rattle.std.proofs.lemmas.Bool.{cases_eq, cases_lt}
+use Rattle.std.proofs.lemmas.Bool.{cases_eq}
 use Rattle.std.proofs.lemmas.List.Elements.{All-append, All-cons, All-nil}
 use Rattle.std.proofs.lemmas.List.FromFn.{map-range_with_len_more}
 use Rattle.std.proofs.Math.ListN.{length-set}
 use Rattle.pp_durable.specs.Crash.{IsTorn}
 use Rattle.pp_test_durable.specs.Leaves.{Image, settled, IsCrashed}
-use Rattle.pp_test_durable.specs.Power.{no_leaf, AllCrashed}
+use Rattle.pp_test_durable.specs.Power.{no_leaf}
 
 -- ---- bytes
 

@@ -1,5 +1,4 @@
-use Rattle.std.proofs.Common.{◌<◌, length, arith, sym, subst, ◌∙◌, slice_index_or}
-use Rattle.std.proofs.Common.{◌≡◌}
+use Rattle.std.proofs.Common.{◌<◌, length, arith, subst, ◌∙◌}
 use Rattle.pp_test_durable.specs.Leaves.{IsCrashed}
 use Rattle.pp_test_durable.specs.Power.{no_leaf}
 use Rattle.pp_test_durable.proofs.Steps.{crashed-more, within}

@@ -1,6 +1,3 @@
-use Rattle.std.proofs.Common.{◌≡◌, ℕ, ◌<◌, ◌≤◌, length, slice_index_or}
-use Rattle.pp_test_durable.specs.Leaves.{IsCrashed}
-use Rattle.pp_test_durable.specs.Power.{no_leaf}
 use Rattle.pp_test_durable.proofs.Steps.{CrashedTo}
 use Rattle.pp_test_durable.proofs.crashing.crash_all.Given as goal
 
