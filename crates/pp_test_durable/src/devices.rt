@@ -1,6 +1,7 @@
 //! A page that a crash tears, and syncs that fail.
 
 use crate::crashing::Crashing;
+use crate::ends::CrashingEnd;
 use crate::page_log::{Handle, PageLog};
 use crate::record::BYTES;
 use pp_device::{Device, Fault, SoloDevice, image};
@@ -120,4 +121,23 @@ fn page_waits_for_its_record(rt: HostRuntime) {
     assert_eq!(rt; store.read(1, &mut bytes), Ok(()));
     assert_eq!(rt; bytes, first.to_image(1));
     assert_eq!(rt; store.log().number_in(&bytes), 1);
+}
+
+/// What one end writes, another reads, and what one has synced is kept for all.
+#[test]
+fn ends_have_one_device(rt: HostRuntime) {
+    let alloc = rt.alloc();
+    let device = Crashing::new(alloc, 2, BYTES, 100).expect(&rt, "memory");
+    let mut ends = CrashingEnd::ends_of(rt, alloc, device, 2).expect(&rt, "ends");
+    let mut second = ends.pop().expect(&rt, "an end");
+    let mut first = ends.pop().expect(&rt, "an end");
+    let mut bytes = [0; BYTES];
+    assert_eq!(rt; first.write(1, &filled(1, 3)), Ok(()));
+    assert_eq!(rt; second.read(1, &mut bytes), Ok(()));
+    assert_eq!(rt; bytes, filled(1, 3));
+    assert_eq!(rt; second.sync(), Ok(()));
+    assert!(rt; first.into_device().is_none());
+    let mut after = second.into_device().expect(&rt, "a device").crash(7);
+    assert_eq!(rt; after.read(1, &mut bytes), Ok(()));
+    assert_eq!(rt; bytes, filled(1, 3));
 }

@@ -2,6 +2,7 @@
 #![tactic(auto)]
 
 pub use crashing::Crashing;
+pub use ends::CrashingEnd;
 pub use leaf::Leaf;
 pub use page_log::{Handle, PageLog};
 pub use record::Record;
@@ -9,6 +10,7 @@ pub use record::Record;
 mod crashing;
 #[cfg(test)]
 mod devices;
+mod ends;
 #[cfg(test)]
 mod engine;
 pub mod laws;
