@@ -17,3 +17,5 @@ pub mod laws;
 mod leaf;
 mod page_log;
 mod record;
+#[cfg(test)]
+mod syncing;
