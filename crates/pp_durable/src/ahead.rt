@@ -1,6 +1,6 @@
 //! A device that has the log on the medium before it writes a page.
 
-ghost use Rattle.std.specs.Prelude.{◌≡◌, ◌+◌, ◌≤◌, ℕ, OnOk, OnErr, IfErr, length};
+ghost use Rattle.std.specs.Prelude.{◌≡◌, ◌≤◌, IfErr, length};
 
 use crate::durable::Durable;
 use crate::fault::SyncFault;

@@ -1,7 +1,6 @@
 //! A device that notices a torn or changed page.
 
 ghost use Rattle.std.specs.Prelude.{◌≡◌, ◌+◌, ◌^◌, ◌<◌, ◌≤◌, IfErr, IfOk, length};
-ghost use Rattle.pp_device.specs.Answers.{Answer};
 ghost use Rattle.pp_durable.specs.Checked.{ChecksInside, with_sum};
 
 use crate::durable::Durable;

@@ -1,6 +1,6 @@
 //! A log over pages: a record a page.
 
-ghost use Rattle.std.specs.Prelude.{◌≡◌, ◌≤◌, IfOk};
+ghost use Rattle.std.specs.Prelude.{◌≤◌, IfOk};
 
 use crate::record::{BYTES, Record, number_of};
 use pp_durable::{Durable, Log, SyncFault};

@@ -1,6 +1,6 @@
 //! What a record of the test engine's log says, and where a page has its number.
 
-ghost use Rattle.std.specs.Prelude.{◌≡◌, ◌≤◌, length};
+ghost use Rattle.std.specs.Prelude.{◌≡◌, ◌≤◌};
 ghost use Rattle.pp_test_durable.specs.Numbers.{number_of};
 
 use pp_device::image;
