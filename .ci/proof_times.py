@@ -1,5 +1,5 @@
 """What the provers of a run use, by crate and kind of work, for .ci/times and for the gate."""
-import collections, os, textwrap, time
+import collections, os, re, textwrap, time
 
 import crates
 
@@ -65,6 +65,15 @@ def table(costs):
         yield f"| {crate} | " + " | ".join(used) + " |"
 
 
+def costs_in(table):
+    """What a table's rows tell, by crate and kind."""
+    costs = collections.Counter()
+    for crate, row in re.findall(r"^\| *(pp_\w+) *\|([^\n]*)\|$", table, re.M):
+        for kind, cell in zip(crates.KINDS, row.split("|")):
+            costs[crate, kind] = int(re.match(r" *(\d*)", cell)[1] or 0)
+    return costs
+
+
 def longest_chain(costs):
     """The longest chain of proofs, each of which waits for the one before: its seconds, and its crates."""
     uses, chains = crates.uses_of(), {}
@@ -76,7 +85,7 @@ def longest_chain(costs):
     return max([*chains.values(), *ends])
 
 
-def totals(costs, commit, minutes):
+def totals(costs, commit, minutes, runs):
     """The totals, a sentence each."""
     product, kinds = crates.of_product(), collections.Counter()
     for (crate, kind), used in costs.items():
@@ -84,7 +93,8 @@ def totals(costs, commit, minutes):
     seconds, chain = longest_chain(costs)
     processors = len(os.sched_getaffinity(0))
     said = [
-        f"- Commit {commit}, on {processors} processors: {minutes:.0f} minutes by the clock, and {sum(kinds.values()):.0f} of a processor.",
+        f"- Commit {commit}, on {processors} processors{f', in {runs} runs' if runs > 1 else ''}: {minutes:.0f} minutes by the clock, and "
+        f"{sum(kinds.values()):.0f} of a processor.",
         f"- The product takes {kinds['product']:.0f} of these; tests, callers and measurements {kinds['tests']:.0f}; wrong bodies "
         f"{kinds['wrong bodies']:.0f}.",
         f"- The longest chain of proofs takes {seconds:.0f} seconds: {', '.join(chain)}.",
@@ -93,6 +103,6 @@ def totals(costs, commit, minutes):
         yield from textwrap.wrap(it, 127, subsequent_indent="  ", break_long_words=False, break_on_hyphens=False)
 
 
-def told(costs, commit, minutes):
+def told(costs, commit, minutes, runs=1):
     """The lines of docs/architecture.md, *The gate*: the table, and the totals."""
-    return [*table(costs), "", *totals(costs, commit, minutes)]
+    return [*table(costs), "", *totals(costs, commit, minutes, runs)]
