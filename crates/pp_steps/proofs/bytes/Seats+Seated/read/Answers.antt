@@ -1,0 +1,34 @@
+use Rattle.std.proofs.Common.{length}
+use Rattle.std.specs.Prelude.{◌≡◌, None}
+use Rattle.pp_steps.specs.Seats.{seated_at}
+use Rattle.pp_steps.proofs.Bodies.{seat_read}
+use Rattle.pp_steps.proofs.Places.{Stands, is_some_of, seated_here}
+use Rattle.pp_steps.proofs.bytes.Seats+Seated.read.Goals as goal
+use Rattle.pp_steps.proofs.bytes.Seats+Seated.read.Goals.{in-Some, in-None}
+
+pub returns-clause-some : goal.returns-clause-some
+returns-clause-some c =
+    let k : Stands c.self.inside.places.items c.args.self.now c.args.pass c.in_ok-get.field-0.now c.index_mut-place.result.now =
+    record { view = c.self.view_is; there = c.in_ok-get.ensures.some; at = c.index_mut-place.ensures.value } in
+    elim c.match-place.branch [
+      | in-Some w ↦
+          seat_read c.args.hall.now.value.seating.vault c.self.inside.places.items c.args.self.now c.args.pass c.args.slot
+          c.args.from (length c.args.bytes.now) w.read_slot.new.bytes c.match-place.bytes c.in_ok-get.field-0.now
+          w.in-Some.seated c.index_mut-place.result.now w.read_slot.result c.match-place.result k w.in-Some.is
+          w.read_slot.ensures.ok w.read_slot.ensures.why w.bytes-is w.result-is
+      | in-None w ↦
+          absurd (seated_here c.self.inside.places.items c.args.self.now c.args.pass c.in_ok-get.field-0.now
+          c.index_mut-place.result.now k w.in-None.is)
+    ]
+
+pub returns-clause-none : goal.returns-clause-none
+returns-clause-none c =
+    let k : Stands c.self.inside.places.items c.args.self.now c.args.pass c.in_ok-get.field-0.now c.index_mut-place.result.now =
+    record { view = c.self.view_is; there = c.in_ok-get.ensures.some; at = c.index_mut-place.ensures.value } in
+    elim c.match-place.branch [
+      | in-Some w ↦
+          is_some_of c.match-place.result w.read_slot.result (seated_at c.args.self.now c.args.pass ≡ None) w.result-is
+      | in-None w ↦
+          absurd (seated_here c.self.inside.places.items c.args.self.now c.args.pass c.in_ok-get.field-0.now
+          c.index_mut-place.result.now k w.in-None.is)
+    ]

@@ -1,0 +1,14 @@
+pub mod Bytes
+pub mod Calls
+pub mod Devices
+pub mod Ending
+pub mod Lines
+pub mod Opening
+pub mod Parts
+pub mod Passes
+pub mod Ringing
+pub mod Seats
+pub mod Sites
+pub mod StepsOf
+pub mod Turning
+pub mod Works
