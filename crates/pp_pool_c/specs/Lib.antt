@@ -1,0 +1,6 @@
+pub mod Answers
+pub mod Asks
+pub mod Calls
+pub mod Figures
+pub mod Held
+pub mod Texts
