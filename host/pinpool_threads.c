@@ -1,0 +1,444 @@
+/* SPDX-License-Identifier: Apache-2.0 */
+/* The lock, the bells and the loop over pinpool.h. There are two locks: `flushing` guards the flusher's ticket, and `lock` the pool. Who
+** takes both takes `flushing` first. Neither is held while a work or a device is called, but `flushing` while a flush is written. */
+#define _POSIX_C_SOURCE 200809L
+#include "pinpool_threads.h"
+#include <pthread.h>
+#include <stdlib.h>
+#include <string.h>
+#include <time.h>
+
+/* An image is a head and a body; a plan has so many slots at most. */
+enum { HEAD = 12, SLOTS = 32 };
+
+/* What a chair's thread has of its own. */
+typedef struct chair {
+    uint8_t *image;          /* what a device reads into or writes from */
+    uint8_t *bodies;         /* room for `room` bodies */
+    uint32_t room, used;     /* bit k of `used`: body k is a slot's */
+    uint8_t *body[SLOTS];    /* each slot's, while its page is latched and was copied */
+    uint8_t is_mine[SLOTS];  /* 1: it is latched X, and what is in the body becomes the page */
+} chair;
+
+struct pinpool_threads {
+    pthread_mutex_t lock, flushing;
+    pthread_cond_t *bells;
+    pinpool pool;
+    pinpool_sizes sizes;
+    pinpool_device device;
+    chair *chairs;
+    uint64_t ticket; /* the flusher's */
+    pinpool_ask ask; /* its next step */
+    uint8_t *image;  /* what it writes from */
+    pthread_t flusher;
+    int has_flusher;
+};
+
+/* A plan that runs. */
+typedef struct job {
+    pinpool_threads *pool;
+    const pinpool_work *work;
+    chair *chair;
+    uint64_t ticket;
+    pinpool_ask ask; /* the next step */
+    int given_up;
+} job;
+
+/* ---- bells */
+
+static void ring(pinpool_threads *pool, const pinpool_told *told) {
+    uint32_t bell;
+    for (bell = 0; bell < 32 && told->running >> bell; bell++)
+        if (told->running >> bell & 1) pthread_cond_signal(&pool->bells[bell]);
+    if (told->next != PINPOOL_NOBODY) pthread_cond_signal(&pool->bells[told->next]);
+    if (told->all)
+        for (bell = pool->sizes.workers; bell < pool->sizes.bells - 1; bell++) pthread_cond_signal(&pool->bells[bell]);
+    if (told->flusher) pthread_cond_signal(&pool->bells[pool->sizes.bells - 1]);
+}
+
+/* Sleeps until the ticket's bell rings. It may wake for nothing. */
+static void sleep_at(pinpool_threads *pool, uint64_t ticket) { pthread_cond_wait(&pool->bells[pinpool_bell(ticket)], &pool->lock); }
+
+/* The same, but for a second at most. */
+static void nap_at(pinpool_threads *pool, uint64_t ticket) {
+    struct timespec until;
+    clock_gettime(CLOCK_REALTIME, &until);
+    until.tv_sec++;
+    pthread_cond_timedwait(&pool->bells[pinpool_bell(ticket)], &pool->lock, &until);
+}
+
+/* ---- bodies */
+
+static size_t body_bytes(const pinpool_threads *pool) { return pool->sizes.page_bytes - HEAD; }
+
+/* What a body takes in a block, so that the next one is fit for any type too. */
+static size_t body_stride(const pinpool_threads *pool) { return (body_bytes(pool) + 63) / 64 * 64; }
+
+/* Makes room for the bodies of a plan with this peak: it latches no more slots at once than it holds pages. */
+static int make_room(pinpool_threads *pool, chair *chair, uint64_t peak) {
+    uint32_t room = peak < SLOTS ? (uint32_t)peak : SLOTS;
+    uint8_t *bodies;
+    if (room <= chair->room) return 1;
+    if (!(bodies = malloc(room * body_stride(pool)))) return 0;
+    free(chair->bodies);
+    chair->bodies = bodies;
+    chair->room = room;
+    return 1;
+}
+
+/* Copies the page that was just latched into a body of its slot. */
+static uint8_t *copied(job *job, uint32_t slot, int is_mine) {
+    pinpool_threads *pool = job->pool;
+    chair *chair = job->chair;
+    uint32_t at = 0;
+    uint8_t *body;
+    while (at < chair->room && chair->used >> at & 1) at++;
+    if (at == chair->room || slot >= SLOTS) return NULL;
+    body = chair->bodies + at * body_stride(pool);
+    if (pinpool_read(&pool->pool, job->ticket, slot, 0, body, body_bytes(pool)) != PINPOOL_DONE) return NULL;
+    chair->used |= (uint32_t)1 << at;
+    chair->body[slot] = body;
+    chair->is_mine[slot] = (uint8_t)is_mine;
+    return body;
+}
+
+/* The slot is about to be unlatched: what is in its body becomes the page, unless the work has given up. */
+static void put_back(job *job, uint32_t slot) {
+    pinpool_threads *pool = job->pool;
+    chair *chair = job->chair;
+    uint8_t *body = slot < SLOTS ? chair->body[slot] : NULL;
+    if (!body) return;
+    if (chair->is_mine[slot] && !job->given_up &&
+        pinpool_write(&pool->pool, job->ticket, slot, 0, body, body_bytes(pool)) != PINPOOL_DONE)
+        job->given_up = 1;
+    chair->used &= ~((uint32_t)1 << (size_t)(body - chair->bodies) / body_stride(pool));
+    chair->body[slot] = NULL;
+}
+
+/* ---- a plan's steps. The lock is held, and given back while a work or a device is called. */
+
+/* The page that the work names, or the branch; where it gives up, the first page and the last branch. */
+static uint32_t named(job *job, uint32_t (*names)(void *of, const pinpool_ask *ask), uint32_t first, uint32_t otherwise) {
+    uint32_t answer;
+    if (job->given_up) return otherwise;
+    pthread_mutex_unlock(&job->pool->lock);
+    answer = names ? names(job->work->of, &job->ask) : PINPOOL_NOBODY;
+    pthread_mutex_lock(&job->pool->lock);
+    if (answer - first < job->ask.count) return answer;
+    job->given_up = 1;
+    return otherwise;
+}
+
+/* Has the device read the page, and hands in what came. 1 where it did. */
+static uint32_t read_page(job *job) {
+    pinpool_threads *pool = job->pool;
+    uint8_t *image = job->chair->image;
+    int came;
+    pthread_mutex_unlock(&pool->lock);
+    came = pool->device.read(pool->device.of, job->ask.page, image, pool->sizes.page_bytes);
+    pthread_mutex_lock(&pool->lock);
+    return came && pinpool_came(&pool->pool, job->ticket, image, pool->sizes.page_bytes) == PINPOOL_DONE;
+}
+
+/* Has the device write what this ticket is to write. 1 where it did. */
+static uint32_t write_page(pinpool_threads *pool, uint64_t ticket, uint32_t page, uint8_t *image) {
+    int is_written;
+    if (pinpool_image(&pool->pool, ticket, image, pool->sizes.page_bytes) != PINPOOL_DONE) return 0;
+    pthread_mutex_unlock(&pool->lock);
+    is_written = pool->device.write(pool->device.of, page, image, pool->sizes.page_bytes);
+    pthread_mutex_lock(&pool->lock);
+    return is_written != 0;
+}
+
+/* Does what the next step wants of the host, and gives its argument. */
+static uint32_t argument_of(job *job) {
+    const pinpool_ask *ask = &job->ask;
+    switch (ask->step) {
+    case PINPOOL_FIX:
+    case PINPOOL_GATHER: return named(job, job->work->page, ask->first, ask->first);
+    case PINPOOL_CHOOSE: return named(job, job->work->branch, 0, ask->count - 1);
+    case PINPOOL_READ: return !job->given_up && read_page(job);
+    case PINPOOL_WRITE: return !job->given_up && write_page(job->pool, job->ticket, ask->page, job->chair->image);
+    case PINPOOL_UNLATCH: put_back(job, ask->slot); return 0;
+    default: return 0;
+    }
+}
+
+/* The step was a latch, and is made: the work sees the page, or changes it. */
+static void show(job *job, const pinpool_ask *latched) {
+    const pinpool_work *work = job->work;
+    int is_mine = latched->step == PINPOOL_LATCH_X;
+    int goes_on = 0;
+    uint8_t *body;
+    if (job->given_up || !(is_mine ? work->change != NULL : work->see != NULL)) return;
+    if ((body = copied(job, latched->slot, is_mine))) {
+        pthread_mutex_unlock(&job->pool->lock);
+        goes_on = is_mine ? work->change(work->of, latched, body) : work->see(work->of, latched, body);
+        pthread_mutex_lock(&job->pool->lock);
+    }
+    job->given_up = !goes_on;
+}
+
+/* Makes the next step, once it is possible. */
+static pinpool_answer go(job *job, uint32_t argument) {
+    pinpool_threads *pool = job->pool;
+    pinpool_told told;
+    pinpool_answer answer;
+    for (;;) {
+        answer = pinpool_go(&pool->pool, job->ticket, argument, &job->ask, &told);
+        ring(pool, &told);
+        if (answer != PINPOOL_NOT_NOW) return answer;
+        sleep_at(pool, job->ticket);
+    }
+}
+
+/* The plan has a chair: runs it to its end. */
+static pinpool_answer run(job *job) {
+    pinpool_ask step;
+    pinpool_answer answer;
+    while (job->ask.step != PINPOOL_OVER && job->ask.step != PINPOOL_GONE) {
+        uint32_t argument = argument_of(job);
+        step = job->ask;
+        if ((answer = go(job, argument)) != PINPOOL_DONE) return answer;
+        if (step.step == PINPOOL_LATCH_S || step.step == PINPOOL_LATCH_X) show(job, &step);
+    }
+    return PINPOOL_DONE;
+}
+
+/* Gives back the chair of a plan that wasn't taken. */
+static void leave(job *job) {
+    pinpool_told told;
+    if (pinpool_leave(&job->pool->pool, job->ticket, &told) == PINPOOL_DONE) ring(job->pool, &told);
+}
+
+/* Waits for a chair, and for room for the plan's pages. */
+static pinpool_answer sit(job *job, const pinpool_plan *plan) {
+    pinpool_threads *pool = job->pool;
+    pinpool_told told;
+    pinpool_answer answer = pinpool_enter(&pool->pool, plan->plan, &job->ticket);
+    if (answer != PINPOOL_DONE) return answer;
+    for (;;) {
+        answer = pinpool_start(&pool->pool, &job->ticket, &job->ask, &told);
+        ring(pool, &told);
+        if (answer == PINPOOL_DONE) break;
+        if (answer != PINPOOL_NOT_NOW) return answer;
+        sleep_at(pool, job->ticket);
+    }
+    job->chair = &pool->chairs[pinpool_bell(job->ticket)];
+    job->chair->used = 0;
+    memset(job->chair->body, 0, sizeof job->chair->body);
+    if (make_room(pool, job->chair, plan->peak)) return PINPOOL_DONE;
+    leave(job);
+    return PINPOOL_OUT_OF_MEMORY;
+}
+
+pinpool_answer pinpool_threads_execute(
+    pinpool_threads *pool, const pinpool_plan *plan, const pinpool_work *work, pinpool_end *end) {
+    job job = {.pool = pool, .work = work};
+    pinpool_answer answer;
+    memset(end, 0, sizeof *end);
+    pthread_mutex_lock(&pool->lock);
+    answer = sit(&job, plan);
+    if (answer == PINPOOL_DONE) {
+        answer = run(&job);
+        if (answer == PINPOOL_OUT_OF_MEMORY) leave(&job);
+    }
+    pthread_mutex_unlock(&pool->lock);
+    if (answer != PINPOOL_DONE) return answer;
+    end->given_up = job.given_up != 0;
+    if (end->given_up || job.ask.step != PINPOOL_GONE) return answer;
+    end->is_gone = 1;
+    end->page = job.ask.page;
+    end->why = job.ask.why;
+    return answer;
+}
+
+/* ---- the flusher. Both locks are held, and `lock` is given back while the device is called. */
+
+/* Makes the flusher's next step. */
+static pinpool_answer flusher_goes(pinpool_threads *pool, uint32_t argument) {
+    pinpool_told told;
+    pinpool_answer answer = pinpool_go(&pool->pool, pool->ticket, argument, &pool->ask, &told);
+    ring(pool, &told);
+    return answer;
+}
+
+/* Writes one changed page back. DONE; STILL_DIRTY where the device failed; NONE_TO_FLUSH; FLUSHES_SPENT. */
+static pinpool_answer flush_one(pinpool_threads *pool) {
+    uint32_t is_written;
+    pinpool_answer answer = flusher_goes(pool, 0);
+    if (answer != PINPOOL_DONE) return answer == PINPOOL_NOT_NOW ? PINPOOL_NONE_TO_FLUSH : answer;
+    is_written = write_page(pool, pool->ticket, pool->ask.page, pool->image);
+    answer = flusher_goes(pool, is_written);
+    return answer == PINPOOL_DONE && !is_written ? PINPOOL_STILL_DIRTY : answer;
+}
+
+static void take_both(pinpool_threads *pool) {
+    pthread_mutex_lock(&pool->flushing);
+    pthread_mutex_lock(&pool->lock);
+}
+
+/* The flusher's thread: flushes while the policy wants it, and sleeps else. Where a flush fails it waits for a second. */
+static void *flush_by_policy(void *of) {
+    pinpool_threads *pool = of;
+    uint32_t is_on = 0;
+    for (;;) {
+        pinpool_answer wanted, flushed = PINPOOL_NOT_NOW;
+        take_both(pool);
+        wanted = pinpool_flush_wanted(&pool->pool, pool->ticket, is_on);
+        if (wanted == PINPOOL_DONE) flushed = flush_one(pool);
+        pthread_mutex_unlock(&pool->flushing);
+        is_on = flushed == PINPOOL_DONE;
+        if (wanted == PINPOOL_NOT_NOW) sleep_at(pool, pool->ticket);
+        else if (wanted == PINPOOL_DONE && !is_on) nap_at(pool, pool->ticket);
+        pthread_mutex_unlock(&pool->lock);
+        if (wanted != PINPOOL_NOT_NOW && wanted != PINPOOL_DONE) return NULL;
+    }
+}
+
+pinpool_answer pinpool_threads_flush(pinpool_threads *pool) {
+    pinpool_stats stats;
+    pinpool_answer answer = PINPOOL_DONE;
+    while (answer == PINPOOL_DONE) {
+        take_both(pool);
+        answer = flush_one(pool);
+        if (answer == PINPOOL_NONE_TO_FLUSH && pinpool_stats_of(&pool->pool, &stats) == PINPOOL_DONE && stats.dirty)
+            answer = PINPOOL_STILL_DIRTY;
+        pthread_mutex_unlock(&pool->lock);
+        pthread_mutex_unlock(&pool->flushing);
+    }
+    if (answer != PINPOOL_NONE_TO_FLUSH) return answer;
+    return !pool->device.sync || pool->device.sync(pool->device.of) ? PINPOOL_DONE : PINPOOL_STILL_DIRTY;
+}
+
+/* ---- the whole */
+
+/* Frees what there is of a pool whose handle holds none. */
+static void set_free(pinpool_threads *pool) {
+    uint32_t at;
+    for (at = 0; pool->chairs && at < pool->sizes.workers; at++) {
+        free(pool->chairs[at].image);
+        free(pool->chairs[at].bodies);
+    }
+    for (at = 0; pool->bells && at < pool->sizes.bells; at++) pthread_cond_destroy(&pool->bells[at]);
+    pthread_mutex_destroy(&pool->lock);
+    pthread_mutex_destroy(&pool->flushing);
+    free(pool->bells);
+    free(pool->chairs);
+    free(pool->image);
+    free(pool);
+}
+
+/* Gets the memory of bells and chairs, whose numbers are known. */
+static int furnish(pinpool_threads *pool) {
+    uint32_t at;
+    if (!(pool->bells = calloc(pool->sizes.bells, sizeof *pool->bells))) return 0;
+    for (at = 0; at < pool->sizes.bells; at++) pthread_cond_init(&pool->bells[at], NULL);
+    if (!(pool->chairs = calloc(pool->sizes.workers, sizeof *pool->chairs))) return 0;
+    for (at = 0; at < pool->sizes.workers; at++)
+        if (!(pool->chairs[at].image = malloc(pool->sizes.page_bytes))) return 0;
+    return (pool->image = malloc(pool->sizes.page_bytes)) != NULL;
+}
+
+/* Takes the flusher's ticket, and starts its thread. */
+static int start_flusher(pinpool_threads *pool) {
+    if (pinpool_flusher(&pool->pool, &pool->ticket, &pool->ask) != PINPOOL_DONE) return 0;
+    pool->has_flusher = !pthread_create(&pool->flusher, NULL, flush_by_policy, pool);
+    return pool->has_flusher;
+}
+
+pinpool_answer pinpool_threads_open(const char *settings, size_t length, const pinpool_policy *policy,
+    const pinpool_device *device, pinpool_threads **made, pinpool_fault *fault) {
+    pinpool_threads *pool = calloc(1, sizeof *pool);
+    pinpool_answer answer;
+    uint32_t lost;
+    *made = NULL;
+    if (!pool) return PINPOOL_OUT_OF_MEMORY;
+    pool->device = *device;
+    pthread_mutex_init(&pool->lock, NULL);
+    pthread_mutex_init(&pool->flushing, NULL);
+    answer = pinpool_open(&pool->pool, (const uint8_t *)settings, length, policy, fault);
+    if (answer == PINPOOL_DONE) {
+        answer = pinpool_sizes_of(&pool->pool, &pool->sizes);
+        if (answer == PINPOOL_DONE && furnish(pool) && start_flusher(pool)) {
+            *made = pool;
+            return answer;
+        }
+        if (pinpool_abandon(&pool->pool, &lost) == PINPOOL_DONE) answer = PINPOOL_OUT_OF_MEMORY;
+    }
+    set_free(pool);
+    return answer;
+}
+
+pinpool_answer pinpool_threads_prepare(
+    pinpool_threads *pool, const char *text, size_t length, pinpool_plan *plan, pinpool_fault *fault) {
+    pinpool_told told;
+    pinpool_answer answer;
+    pthread_mutex_lock(&pool->lock);
+    answer = pinpool_prepare_alone(&pool->pool, (const uint8_t *)text, length, plan, fault, &told);
+    ring(pool, &told);
+    pthread_mutex_unlock(&pool->lock);
+    return answer;
+}
+
+void pinpool_threads_stop(pinpool_threads *pool) {
+    pinpool_told told;
+    pthread_mutex_lock(&pool->lock);
+    if (pinpool_stop(&pool->pool, &told) == PINPOOL_DONE) ring(pool, &told);
+    pthread_mutex_unlock(&pool->lock);
+}
+
+pinpool_sizes pinpool_threads_sizes(pinpool_threads *pool) { return pool->sizes; }
+
+pinpool_stats pinpool_threads_stats(pinpool_threads *pool) {
+    pinpool_stats stats;
+    pthread_mutex_lock(&pool->lock);
+    if (pinpool_stats_of(&pool->pool, &stats) != PINPOOL_DONE) memset(&stats, 0, sizeof stats);
+    pthread_mutex_unlock(&pool->lock);
+    return stats;
+}
+
+/* Stops the pool, and waits for the flusher's thread. */
+static void stop_flusher(pinpool_threads *pool) {
+    pinpool_threads_stop(pool);
+    if (pool->has_flusher) pthread_join(pool->flusher, NULL);
+    pool->has_flusher = 0;
+}
+
+/* Gives the flusher's ticket back, and ends the pool. Where that can't be, the ticket is taken again. */
+static pinpool_answer end_pool(pinpool_threads *pool) {
+    pinpool_told told;
+    pinpool_answer answer = pinpool_leave(&pool->pool, pool->ticket, &told);
+    if (answer != PINPOOL_DONE) return answer;
+    answer = pinpool_close(&pool->pool);
+    if (answer != PINPOOL_DONE && pinpool_flusher(&pool->pool, &pool->ticket, &pool->ask) != PINPOOL_DONE) return PINPOOL_BROKEN;
+    return answer;
+}
+
+pinpool_answer pinpool_threads_close(pinpool_threads **of) {
+    pinpool_threads *pool = *of;
+    pinpool_answer answer;
+    if (!pool) return PINPOOL_DONE;
+    stop_flusher(pool);
+    answer = pinpool_threads_flush(pool);
+    if (answer != PINPOOL_DONE) return answer;
+    take_both(pool);
+    answer = end_pool(pool);
+    pthread_mutex_unlock(&pool->lock);
+    pthread_mutex_unlock(&pool->flushing);
+    if (answer != PINPOOL_DONE) return answer;
+    set_free(pool);
+    *of = NULL;
+    return answer;
+}
+
+uint32_t pinpool_threads_abandon(pinpool_threads **of) {
+    pinpool_threads *pool = *of;
+    uint32_t lost = 0;
+    if (!pool) return 0;
+    stop_flusher(pool);
+    if (pinpool_abandon(&pool->pool, &lost) != PINPOOL_DONE) lost = 0;
+    set_free(pool);
+    *of = NULL;
+    return lost;
+}
