@@ -14,7 +14,7 @@ const char *pinpool_version(void) { return PINPOOL_VERSION " " PINPOOL_IS; }
 const char *pinpool_answer_name(uint32_t answer) {
     static const char *const names[] = {"done", "not now", "none to flush", "flushes spent", "refused", "out of memory",
         "wrong argument", "no pool", "wrong step", "bad ticket", "in use", "queue full", "stopped", "still dirty",
-        "other settings", "too many plans", "broken"};
+        "other settings", "too many plans", "broken", "not at once"};
     return answer < sizeof names / sizeof *names ? names[answer] : "unknown";
 }
 

@@ -86,20 +86,31 @@ static int make_room(pinpool_threads *pool, chair *chair, uint64_t peak) {
     return 1;
 }
 
+/* A body of the chair's for a slot that has none; NULL where there is none left. */
+static uint8_t *body_for(job *job, uint32_t slot, int is_mine) {
+    chair *chair = job->chair;
+    uint32_t at = 0;
+    while (at < chair->room && chair->used >> at & 1) at++;
+    if (at == chair->room || slot >= SLOTS) return NULL;
+    chair->used |= (uint32_t)1 << at;
+    chair->is_mine[slot] = (uint8_t)is_mine;
+    return chair->body[slot] = chair->bodies + at * body_stride(job->pool);
+}
+
+/* The slot has no body any more. */
+static void let_go(job *job, uint32_t slot) {
+    chair *chair = job->chair;
+    chair->used &= ~((uint32_t)1 << (size_t)(chair->body[slot] - chair->bodies) / body_stride(job->pool));
+    chair->body[slot] = NULL;
+}
+
 /* Copies the page that was just latched into a body of its slot. */
 static uint8_t *copied(job *job, uint32_t slot, int is_mine) {
     pinpool_threads *pool = job->pool;
-    chair *chair = job->chair;
-    uint32_t at = 0;
-    uint8_t *body;
-    while (at < chair->room && chair->used >> at & 1) at++;
-    if (at == chair->room || slot >= SLOTS) return NULL;
-    body = chair->bodies + at * body_stride(pool);
-    if (pinpool_read(&pool->pool, job->ticket, slot, 0, body, body_bytes(pool)) != PINPOOL_DONE) return NULL;
-    chair->used |= (uint32_t)1 << at;
-    chair->body[slot] = body;
-    chair->is_mine[slot] = (uint8_t)is_mine;
-    return body;
+    uint8_t *body = body_for(job, slot, is_mine);
+    if (!body || pinpool_read(&pool->pool, job->ticket, slot, 0, body, body_bytes(pool)) == PINPOOL_DONE) return body;
+    let_go(job, slot);
+    return NULL;
 }
 
 /* The slot is about to be unlatched: what is in its body becomes the page, unless the work has given up. */
@@ -111,8 +122,7 @@ static void put_back(job *job, uint32_t slot) {
     if (chair->is_mine[slot] && !job->given_up &&
         pinpool_write(&pool->pool, job->ticket, slot, 0, body, body_bytes(pool)) != PINPOOL_DONE)
         job->given_up = 1;
-    chair->used &= ~((uint32_t)1 << (size_t)(body - chair->bodies) / body_stride(pool));
-    chair->body[slot] = NULL;
+    let_go(job, slot);
 }
 
 /* ---- a plan's steps. The lock is held, and given back while a work or a device is called. */
@@ -164,19 +174,53 @@ static uint32_t argument_of(job *job) {
     }
 }
 
-/* The step was a latch, and is made: the work sees the page, or changes it. */
-static void show(job *job, const pinpool_ask *latched) {
+/* Whether the work is for pages that are latched by this step. */
+static int wants(const job *job, uint32_t step) {
+    if (job->given_up) return 0;
+    return step == PINPOOL_LATCH_X ? job->work->change != NULL : step == PINPOOL_LATCH_S && job->work->see != NULL;
+}
+
+/* The latch is made, and the page copied, if it could be: the work sees it, or changes it. */
+static void show(job *job, const pinpool_ask *latched, uint8_t *body) {
     const pinpool_work *work = job->work;
-    int is_mine = latched->step == PINPOOL_LATCH_X;
     int goes_on = 0;
-    uint8_t *body;
-    if (job->given_up || !(is_mine ? work->change != NULL : work->see != NULL)) return;
-    if ((body = copied(job, latched->slot, is_mine))) {
+    if (body) {
         pthread_mutex_unlock(&job->pool->lock);
-        goes_on = is_mine ? work->change(work->of, latched, body) : work->see(work->of, latched, body);
+        goes_on = latched->step == PINPOOL_LATCH_X ? work->change(work->of, latched, body) : work->see(work->of, latched, body);
         pthread_mutex_lock(&job->pool->lock);
     }
     job->given_up = !goes_on;
+}
+
+/* Fixes the page, latches it S and copies it by one call, where that goes, and shows it to the work. Else it tells why not. */
+static pinpool_answer get(job *job, uint32_t page) {
+    pinpool_threads *pool = job->pool;
+    pinpool_ask latched = {.step = PINPOOL_LATCH_S, .slot = job->ask.slot, .page = page};
+    pinpool_told told;
+    pinpool_answer answer;
+    uint8_t *body = body_for(job, latched.slot, 0);
+    if (!body) return PINPOOL_NOT_AT_ONCE;
+    answer = pinpool_get(&pool->pool, job->ticket, page, 0, body, body_bytes(pool), &job->ask, &told);
+    ring(pool, &told);
+    if (answer == PINPOOL_DONE) show(job, &latched, body);
+    else let_go(job, latched.slot);
+    return answer;
+}
+
+/* Takes a latch S off and unfixes the page by one call, where that goes. Else it tells why not. */
+static pinpool_answer put(job *job) {
+    pinpool_told told;
+    pinpool_answer answer = pinpool_put(&job->pool->pool, job->ticket, &job->ask, &told);
+    ring(job->pool, &told);
+    return answer;
+}
+
+/* Makes two steps by one call, where the next one begins a reading for the work, or ends one. NOT_AT_ONCE: it doesn't go. */
+static pinpool_answer at_once(job *job, uint32_t argument) {
+    const pinpool_ask *ask = &job->ask;
+    if (ask->step == PINPOOL_FIX && wants(job, PINPOOL_LATCH_S)) return get(job, argument);
+    if (ask->step == PINPOOL_UNLATCH && ask->slot < SLOTS && !job->chair->is_mine[ask->slot]) return put(job);
+    return PINPOOL_NOT_AT_ONCE;
 }
 
 /* Makes the next step, once it is possible. */
@@ -199,8 +243,10 @@ static pinpool_answer run(job *job) {
     while (job->ask.step != PINPOOL_OVER && job->ask.step != PINPOOL_GONE) {
         uint32_t argument = argument_of(job);
         step = job->ask;
-        if ((answer = go(job, argument)) != PINPOOL_DONE) return answer;
-        if (step.step == PINPOOL_LATCH_S || step.step == PINPOOL_LATCH_X) show(job, &step);
+        if ((answer = at_once(job, argument)) == PINPOOL_DONE) continue;
+        if (answer == PINPOOL_NOT_AT_ONCE) answer = go(job, argument);
+        if (answer != PINPOOL_DONE) return answer;
+        if (wants(job, step.step)) show(job, &step, copied(job, step.slot, step.step == PINPOOL_LATCH_X));
     }
     return PINPOOL_DONE;
 }

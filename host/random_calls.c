@@ -7,7 +7,7 @@
 #include <stdlib.h>
 #include <string.h>
 
-enum { HEAD = 12, MOST_BYTES = 1000, MOST_PAGES = 50, SEATS = 12, SLOTS = 32, POOLS = 2, ANSWERS = 17, PLANS = 3, REGIONS = 2 };
+enum { HEAD = 12, MOST_BYTES = 1000, MOST_PAGES = 50, SEATS = 12, SLOTS = 32, POOLS = 2, ANSWERS = 18, PLANS = 3, REGIONS = 2 };
 
 /* A pool that is tried: what its settings say once more, and plans that it takes. Of each plan and slot, the region of its pages. */
 typedef struct kind {
@@ -77,7 +77,7 @@ typedef struct tried {
 
 static tried all[POOLS];
 static uint64_t seed;
-enum { OPEN, PREPARE, ENTER, START, NEXT, GO, IMAGE, CAME, READ, WRITE, LEAVE, FLUSHER, WANTED, STATS, CLOSE, ABANDON, STOP, CALLS };
+enum { OPEN, PREPARE, ENTER, START, NEXT, GO, GET, PUT, IMAGE, CAME, READ, WRITE, LEAVE, FLUSHER, WANTED, STATS, CLOSE, ABANDON, STOP, CALLS };
 static long answered[CALLS][ANSWERS];
 
 static uint32_t below(uint32_t n) {
@@ -93,7 +93,7 @@ static void wrong(const char *what) {
 
 /* Keeps how a call was answered. */
 static pinpool_answer told_of(int call, pinpool_answer answer) {
-    SEE((unsigned)answer < PINPOOL_BROKEN);
+    SEE((unsigned)answer < ANSWERS && answer != PINPOOL_BROKEN);
     answered[call][answer]++;
     return answer;
 }
@@ -253,6 +253,47 @@ static void try_go(tried *t, uint64_t ticket, uint32_t argument) {
     stepped(t, s, &step, argument);
 }
 
+/* Two steps by one call, as they go one by one. Tells whether they were made. */
+static int try_get(tried *t, uint64_t ticket, uint32_t page, uint32_t from, size_t length) {
+    static uint8_t bytes[2 * MOST_BYTES], before[2 * MOST_BYTES];
+    seat *s = seat_of(t, ticket);
+    pinpool_ask step, ask;
+    pinpool_told told;
+    memcpy(before, bytes, sizeof bytes);
+    pinpool_answer answer = told_of(GET, pinpool_get(&t->pool, ticket, page, from, bytes, length, &ask, &told));
+    rung(t, &told);
+    SEE(answer != PINPOOL_NOT_NOW && ask.step <= PINPOOL_FLUSH);
+    if (answer != PINPOOL_DONE) SEE(!memcmp(bytes, before, sizeof bytes));
+    if (s && answer != PINPOOL_DONE) SEE(s->waits || !memcmp(&ask, &s->ask, sizeof ask));
+    if (is_refused(t, s, answer)) return 0;
+    step = s->ask;
+    SEE(step.step == PINPOOL_FIX && page - step.first < step.count && from + length <= body_of(t));
+    SEE(!memcmp(bytes, t->body[page] + from, length));
+    s->sleeps = 0;
+    s->ask.step = PINPOOL_LATCH_S, s->ask.page = page;
+    stepped(t, s, &step, page);
+    step = s->ask;
+    s->ask = ask;
+    stepped(t, s, &step, 0);
+    return 1;
+}
+
+static int try_put(tried *t, uint64_t ticket) {
+    seat *s = seat_of(t, ticket);
+    pinpool_ask step, ask;
+    pinpool_told told;
+    pinpool_answer answer = told_of(PUT, pinpool_put(&t->pool, ticket, &ask, &told));
+    rung(t, &told);
+    SEE(answer != PINPOOL_NOT_NOW && ask.step <= PINPOOL_FLUSH);
+    if (s && answer != PINPOOL_DONE) SEE(s->waits || !memcmp(&ask, &s->ask, sizeof ask));
+    if (is_refused(t, s, answer)) return 0;
+    step = s->ask;
+    SEE(step.step == PINPOOL_UNLATCH && s->latch[step.slot] == 'S');
+    s->ask = ask;
+    stepped(t, s, &step, 0);
+    return 1;
+}
+
 static void try_image(tried *t, uint64_t ticket, size_t length) {
     static uint8_t image[2 * MOST_BYTES];
     seat *s = seat_of(t, ticket);
@@ -395,6 +436,8 @@ static void go_on(tried *t, seat *s, int is_good) {
         break;
     default: break;
     }
+    if (s->ask.step == PINPOOL_FIX && below(2) && try_get(t, ticket, argument, below(half), below(half - HEAD))) return;
+    if (s->ask.step == PINPOOL_UNLATCH && below(2) && try_put(t, ticket)) return;
     try_go(t, ticket, argument);
 }
 
@@ -426,6 +469,8 @@ static void any_call(tried *t) {
     case START: try_start(t, ticket); break;
     case NEXT: try_next(t, ticket); break;
     case GO: if (!seat_of(t, ticket) || seat_of(t, ticket)->ask.step != PINPOOL_WRITE) try_go(t, ticket, some_number()); break;
+    case GET: (void)try_get(t, ticket, some_number(), below(2) ? below(page_bytes) : some_number(), length); break;
+    case PUT: (void)try_put(t, ticket); break;
     case IMAGE: if (length != page_bytes) try_image(t, ticket, length); break;
     case CAME: if (length != page_bytes || !seat_of(t, ticket)) try_came(t, ticket, t->device[0], length % MOST_BYTES); break;
     case READ: try_read(t, ticket, below(3), below(page_bytes), length); break;
@@ -476,7 +521,7 @@ static void end(tried *t) {
 }
 
 static void show(void) {
-    static const char *const names[] = {"open", "prepare", "enter", "start", "next", "go", "image", "came", "read", "write", "leave",
+    static const char *const names[] = {"open", "prepare", "enter", "start", "next", "go", "get", "put", "image", "came", "read", "write", "leave",
         "flusher", "wanted", "stats", "close", "abandon", "stop"};
     for (int call = 0; call < CALLS; call++) {
         printf("%-8s", names[call]);

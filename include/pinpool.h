@@ -95,7 +95,8 @@ typedef enum pinpool_answer {
     PINPOOL_STILL_DIRTY = 13,   /* pages are newer than the device's */
     PINPOOL_OTHER_SETTINGS = 14, /* a bounded life, no flush, more than 32 workers: not settings of a pool that stands */
     PINPOOL_TOO_MANY_PLANS = 15, /* 4,096 plans are kept already */
-    PINPOOL_BROKEN = 16         /* a slip of the pool's own. No test has met it. The chair stays out: abandon the pool */
+    PINPOOL_BROKEN = 16,        /* a slip of the pool's own. No test has met it. The chair stays out: abandon the pool */
+    PINPOOL_NOT_AT_ONCE = 17    /* not by this one call: make the steps one by one, by pinpool_go */
 } pinpool_answer;
 
 /* What the next step of a ticket is, and which argument pinpool_go wants for it. Where none is named, it is 0. */
@@ -218,7 +219,7 @@ PINPOOL_API const char *pinpool_version(void);
 PINPOOL_API const char *pinpool_answer_name(uint32_t answer);
 
 /* Opens a pool into a handle that holds none. `settings` is the text of a settings file of version 2 (docs/formats.md) whose life
-** is endless, with 32 workers at most and a flush at least. It takes the memory of all frames, of an image for each worker and two
+** is endless, with 32 workers at most and a flush at least. It takes the memory of all frames, of an image for each worker and one
 ** more, and of 40 bytes or so for each page number and each place in the queue. A step for each of these.
 ** DONE; IN_USE where the handle holds a pool; WRONG_ARGUMENT where the text isn't UTF-8 or the queue isn't 1 to 65,000; REFUSED;
 ** OTHER_SETTINGS; OUT_OF_MEMORY. But for DONE the handle is as before. `fault` is written where the answer is REFUSED. */
@@ -252,7 +253,7 @@ PINPOOL_API PINPOOL_MUST_USE pinpool_answer pinpool_enter(pinpool *pool, uint32_
 ** spent and replaced by that of the chair, with another bell, and the first step is TAKE. A step for each one that waits and each
 ** chair.
 ** DONE; NO_POOL; NOT_NOW: sleep until the bell rings; STOPPED: nobody starts any more, the ticket is spent, and is written as 0;
-** BAD_TICKET; WRONG_STEP where the ticket has started already, or is the flusher's. */
+** BAD_TICKET; WRONG_STEP where the ticket has started already, or is the flusher's; BROKEN: the ticket is spent, and stays as it is. */
 PINPOOL_API PINPOOL_MUST_USE pinpool_answer pinpool_start(pinpool *pool, uint64_t *ticket, pinpool_ask *ask, pinpool_told *told);
 
 /* Tells the next step of a ticket, and changes nothing. A fixed number of steps. DONE; NO_POOL; BAD_TICKET; WRONG_STEP where the
@@ -260,8 +261,8 @@ PINPOOL_API PINPOOL_MUST_USE pinpool_answer pinpool_start(pinpool *pool, uint64_
 PINPOOL_API PINPOOL_MUST_USE pinpool_answer pinpool_next(pinpool *pool, uint64_t ticket, pinpool_ask *ask);
 
 /* Makes the ticket's next step with this argument (see pinpool_step), and tells the one behind it. Of a step that isn't TAKE a
-** fixed number of steps, but for the search for a page that leaves (once over each page that is fixed), and one for each slot that
-** is latched. TAKE gets memory for an image and for as many events as the dearest plan makes, where the chair lacks it; no other
+** fixed number of steps, but for the search for a page that leaves (once over each page that is fixed), one for each slot that
+** is latched, one for each chair and each one that waits to start, and where threads of plans sleep one for each two chairs. TAKE gets memory for an image and for as many events as the dearest plan makes, where the chair lacks it; no other
 ** step takes memory.
 ** DONE: the step was made. With it the plan may have ended: then `ask` says OVER or GONE, and the ticket is spent. NO_POOL;
 ** BAD_TICKET. NOT_NOW: sleep until the bell rings. WRONG_ARGUMENT where the argument isn't one of those that may be named.
@@ -269,6 +270,19 @@ PINPOOL_API PINPOOL_MUST_USE pinpool_answer pinpool_next(pinpool *pool, uint64_t
 ** TAKE: make it again, or leave. At a FLUSH also NONE_TO_FLUSH and FLUSHES_SPENT. BROKEN. */
 PINPOOL_API PINPOOL_MUST_USE pinpool_answer pinpool_go(
     pinpool *pool, uint64_t ticket, uint32_t argument, pinpool_ask *ask, pinpool_told *told);
+
+/* Two steps by one call, for pages that are only read. At a FIX: fixes this page and latches it S, where the plan asks that latch next, the
+** page is in the pool, and nobody has it latched X; then copies so many bytes of its body, from byte `from` on, as pinpool_read does. Steps
+** as those of pinpool_go, and one for each byte.
+** DONE: both steps were made. NO_POOL; BAD_TICKET; WRONG_STEP where the ticket waits to start, or is the flusher's; WRONG_ARGUMENT where the
+** bytes don't lie in the body; else NOT_AT_ONCE: make the steps by pinpool_go, with the same page. */
+PINPOOL_API PINPOOL_MUST_USE pinpool_answer pinpool_get(pinpool *pool, uint64_t ticket, uint32_t page, uint32_t from, uint8_t *bytes,
+    size_t length, pinpool_ask *ask, pinpool_told *told);
+
+/* At an UNLATCH of a page that is latched S: takes the latch off and unfixes the page, where the plan asks that next. Steps as those of
+** pinpool_go.
+** DONE: both steps were made. NO_POOL; BAD_TICKET; WRONG_STEP as for pinpool_get; else NOT_AT_ONCE. */
+PINPOOL_API PINPOOL_MUST_USE pinpool_answer pinpool_put(pinpool *pool, uint64_t ticket, pinpool_ask *ask, pinpool_told *told);
 
 /* Copies the image that the device is to write, at a WRITE. Length: page_bytes. It changes nothing, and takes a step a byte.
 ** DONE; NO_POOL; BAD_TICKET; WRONG_STEP; WRONG_ARGUMENT where the length is another. */
@@ -279,7 +293,7 @@ PINPOOL_API PINPOOL_MUST_USE pinpool_answer pinpool_image(pinpool *pool, uint64_
 PINPOOL_API PINPOOL_MUST_USE pinpool_answer pinpool_came(pinpool *pool, uint64_t ticket, const uint8_t *bytes, size_t length);
 
 /* Copies bytes of the body of the page in this slot, which is latched S or X: so many, from byte `from` of the body on. It changes
-** nothing. A step for each byte from the body's first to the last that is copied.
+** nothing. A step a byte.
 ** DONE; NO_POOL; BAD_TICKET; WRONG_STEP where the slot has no page that is latched; WRONG_ARGUMENT where they don't lie in the
 ** body, which has page_bytes - 12. */
 PINPOOL_API PINPOOL_MUST_USE pinpool_answer pinpool_read(
@@ -299,7 +313,7 @@ PINPOOL_API PINPOOL_MUST_USE pinpool_answer pinpool_leave(pinpool *pool, uint64_
 /* ---- the flusher */
 
 /* Gives the flusher's ticket out. Its steps are FLUSH and WRITE, by turns, and pinpool_leave gives it back. One thread has it at a
-** time. A fixed number of steps. DONE; NO_POOL; IN_USE where it is out; then the ticket is written as 0. */
+** time. A fixed number of steps. DONE; NO_POOL; IN_USE where it is out, or was given out 2^48 - 1 times; then the ticket is written as 0. */
 PINPOOL_API PINPOOL_MUST_USE pinpool_answer pinpool_flusher(pinpool *pool, uint64_t *ticket, pinpool_ask *ask);
 
 /* Whether the flusher's thread is to flush now, by the policy. `is_on` is 0 where it has slept or has just begun, and 1 behind a

@@ -115,6 +115,7 @@ pub mod answer {
     pub const STILL_DIRTY: u32 = 13;
     pub const OTHER_SETTINGS: u32 = 14;
     pub const TOO_MANY_PLANS: u32 = 15;
+    pub const NOT_AT_ONCE: u32 = 17;
 }
 
 /// Steps of a ticket (`pinpool_step`).
@@ -178,6 +179,17 @@ extern "C" {
         ask: *mut Ask,
         told: *mut Told,
     ) -> u32;
+    pub fn pinpool_get(
+        pool: *mut Handle,
+        ticket: u64,
+        page: u32,
+        from: u32,
+        bytes: *mut u8,
+        length: usize,
+        ask: *mut Ask,
+        told: *mut Told,
+    ) -> u32;
+    pub fn pinpool_put(pool: *mut Handle, ticket: u64, ask: *mut Ask, told: *mut Told) -> u32;
     pub fn pinpool_image(pool: *mut Handle, ticket: u64, bytes: *mut u8, length: usize) -> u32;
     pub fn pinpool_came(pool: *mut Handle, ticket: u64, bytes: *const u8, length: usize) -> u32;
     pub fn pinpool_read(

@@ -24,6 +24,13 @@ impl Room {
     }
 }
 
+/// How a page is latched.
+#[derive(Clone, Copy, PartialEq)]
+enum Latch {
+    Shared,
+    Exclusive,
+}
+
 /// A plan that runs, by a chair. Where it falls before its end, as by a panic, what is left of the
 /// plan is run without its work.
 pub(crate) struct Running<'p, D: Device> {
@@ -87,8 +94,8 @@ impl<'p, D: Device> Running<'p, D> {
         self.is_broken || self.ask.step == step::OVER || self.ask.step == step::GONE
     }
 
-    /// Makes the next step: first what it wants of the work or the device, then the step, and then
-    /// the work sees a page that was latched.
+    /// Makes the next step, or two by one call where a page is only read: first what it wants of the
+    /// work or the device, then the step, and then the work sees a page that was latched.
     fn turn<W: Work + ?Sized>(&mut self, work: Option<&mut W>) -> Result<(), Error> {
         let mut work = work.filter(|_| !self.is_given_up);
         let now = self.ask;
@@ -99,22 +106,87 @@ impl<'p, D: Device> Running<'p, D> {
             step::WRITE => u32::from(work.is_some() && self.write()),
             _ => 0,
         };
-        let mut held = self.pool.shared.hold();
-        if now.step == step::UNLATCH {
-            self.put_back(&mut held, now.slot);
-        }
-        let mut held = self.go(held, argument)?;
-        let is_mine = now.step == step::LATCH_X;
-        if let (Some(work), true) = (work, is_mine || now.step == step::LATCH_S) {
-            self.copy(&mut held, now, is_mine);
-            drop(held);
-            match is_mine {
-                true => work.change(now.slot, &mut self.room.pages),
-                false => work.see(now.slot, &self.room.pages),
+        let is_shown = work.is_some() && !self.is_given_up;
+        let latched = self.step(argument, is_shown)?;
+        if let (Some(work), Some(latch)) = (work, latched) {
+            match latch {
+                Latch::Exclusive => work.change(now.slot, &mut self.room.pages),
+                Latch::Shared => work.see(now.slot, &self.room.pages),
             }
             self.is_given_up |= self.room.pages.take_given_up();
         }
         Ok(())
+    }
+
+    /// Makes the next step, or two by one call. Tells how a page was latched that the work is to
+    /// see, if it is shown any; the page is copied then.
+    fn step(&mut self, argument: u32, is_shown: bool) -> Result<Option<Latch>, Error> {
+        let now = self.ask;
+        let mut held = self.pool.shared.hold();
+        match now.step {
+            step::FIX if is_shown && self.get(&mut held, argument)? => {
+                return Ok(Some(Latch::Shared));
+            }
+            step::UNLATCH => {
+                let was_mine = self.put_back(&mut held, now.slot);
+                if !was_mine && self.put(&mut held)? {
+                    return Ok(None);
+                }
+            }
+            _ => {}
+        }
+        let mut held = self.go(held, argument)?;
+        let latch = match now.step {
+            step::LATCH_S if is_shown => Latch::Shared,
+            step::LATCH_X if is_shown => Latch::Exclusive,
+            _ => return Ok(None),
+        };
+        self.copy(&mut held, now, latch == Latch::Exclusive);
+        Ok(Some(latch))
+    }
+
+    /// Fixes the page, latches it S and copies it by one call, where that goes.
+    fn get(&mut self, held: &mut Held<'p>, page: u32) -> Result<bool, Error> {
+        let (slot, mut told) = (self.ask.slot, Told::NOBODY);
+        let body = self.room.pages.hold(slot, page, false);
+        let answer = unsafe {
+            ffi::pinpool_get(
+                &mut held.0,
+                self.ticket,
+                page,
+                0,
+                body.as_mut_ptr(),
+                body.len(),
+                &mut self.ask,
+                &mut told,
+            )
+        };
+        self.pool.shared.ring(&told);
+        if answer != answer::DONE {
+            self.room.pages.let_go(slot);
+        }
+        self.is_done_at_once(answer)
+    }
+
+    /// Takes a latch S off and unfixes the page by one call, where that goes.
+    fn put(&mut self, held: &mut Held<'p>) -> Result<bool, Error> {
+        let mut told = Told::NOBODY;
+        let answer =
+            unsafe { ffi::pinpool_put(&mut held.0, self.ticket, &mut self.ask, &mut told) };
+        self.pool.shared.ring(&told);
+        self.is_done_at_once(answer)
+    }
+
+    /// Whether two steps were made by one call; where they couldn't be, they are made one by one.
+    fn is_done_at_once(&mut self, answer: u32) -> Result<bool, Error> {
+        match answer {
+            answer::DONE => Ok(true),
+            answer::NOT_AT_ONCE => Ok(false),
+            _ => {
+                self.is_broken = true;
+                Err(Error::Broken)
+            }
+        }
     }
 
     /// Makes the step, once it is possible.
@@ -213,15 +285,18 @@ impl<'p, D: Device> Running<'p, D> {
     }
 
     /// The slot is about to be unlatched: what is in its body becomes the page, unless the work has
-    /// given up.
-    fn put_back(&mut self, held: &mut Held<'p>, slot: u32) {
-        if let Some(body) = self.room.pages.mine(slot).filter(|_| !self.is_given_up) {
+    /// given up. Tells whether it was latched X.
+    fn put_back(&mut self, held: &mut Held<'p>, slot: u32) -> bool {
+        let mine = self.room.pages.mine(slot);
+        let is_mine = mine.is_some();
+        if let Some(body) = mine.filter(|_| !self.is_given_up) {
             let put = unsafe {
                 ffi::pinpool_write(&mut held.0, self.ticket, slot, 0, body.as_ptr(), body.len())
             };
             debug_assert_eq!(put, answer::DONE);
         }
         self.room.pages.let_go(slot);
+        is_mine
     }
 }
 

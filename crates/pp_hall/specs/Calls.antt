@@ -83,6 +83,7 @@ OpenFails c devices error =
 -- Nothing was done yet, each chair is home, with its worker, and the flusher, and nobody waits.
 pub record IsFresh (c : Configuration) (kept : Policy) (h : Parts) : Type 0 where
   pub opens : StandsFor h.seating.vault (opening (kept_of c))
+  pub page_bytes : h.seating.vault.page_bytes ≡ c.page_bytes
   pub seating : h.seating ≡ record {
     vault = h.seating.vault;
     frames = c.frames;
@@ -195,7 +196,7 @@ pub record Performs (old : Parts) (asked : Request) (response : Response) (told 
 abbrev pub Rises : Parts → (worker : ℕ) → Told → Parts → Type 0
 Rises old worker told new = Settles (with_waiters old (with_place old.waiters (Some worker) None)) told new
 
--- A page that is cached was fixed and latched S: two moves.
+-- A page that is cached was fixed and latched S: two moves. Its worker doesn't sleep any more.
 pub record Reads (old : Parts) (x : Session) (page : ℕ) (y : Session) (h : ReadGuard) (frame : ℕ) (told : Told) (new : Parts)
     : Type 0 where
   pub seating : seatings.Parts
@@ -204,7 +205,7 @@ pub record Reads (old : Parts) (x : Session) (page : ℕ) (y : Session) (h : Rea
     vault = seating.vault;
     counts = record old.seating.counts { hits = raised old.seating.counts.hits };
   }
-  pub settles : Settles (with_seating old seating) told new
+  pub settles : Settles (record old { seating = seating; waiters = with_place old.waiters (Some x.worker) None }) told new
 
 -- A latch S was taken off, and its page unfixed: two moves.
 pub record EndsRead (old : Parts) (x : Session) (g : ReadGuard) (y : Session) (mark : ℕ) (told : Told) (new : Parts)

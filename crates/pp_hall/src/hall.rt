@@ -1,12 +1,14 @@
 //! The hall.
 
 ghost use Rattle.std.specs.Prelude.{◌≡◌, ◌+◌, ◌<◌, ◌≤◌, ◌&&◌, not, true, false, None, Some, is_ok, is_some, is_none};
-ghost use Rattle.std.specs.Prelude.{count_by, IfOk, IfErr, OnOk, OnErr, vec_len, length, min, ◌^◌, ◌-◌};
+ghost use Rattle.std.specs.Prelude.{count_by, IfOk, IfErr, IfSome, OnOk, OnErr, vec_len, length, min, ◌^◌, ◌-◌};
 ghost use Rattle.pp_settings.specs.declared.span.Span.TheVariants.{Bounded};
 ghost use Rattle.pp_core.specs.Submits.{PrepareFails};
 ghost use Rattle.pp_model.specs.Pool.{State, dirty_pages};
 ghost use Rattle.pp_device.specs.Image.{head_of};
 ghost use Rattle.pp_vault.specs.Headline.{Holds};
+ghost use Rattle.pp_vault.specs.Looks.{may_see, ShowsBody};
+ghost use Rattle.pp_vault.specs.Reads.{may_read, may_end_read};
 ghost use Rattle.pp_vault.specs.StandsFor.{StandsFor};
 ghost use Rattle.pp_vault.specs.Stages.{stage_worker};
 ghost use Rattle.pp_pool.specs.declared.request.Request.TheVariants as request;
@@ -304,22 +306,25 @@ impl<D: Device + Drop> Hall<D> {
     }
 
     /// Fixes a page that is cached and latches it S, where both are possible at once, as [`pp_vault::Vault::read`]
-    /// does.
+    /// does. Its worker doesn't sleep any more.
     ///
     /// # Errors
     ///
-    /// The session. Nothing has changed. Then [`Hall::perform`] goes on.
+    /// The session, exactly where the vault gives it back. Nothing has changed. Then [`Hall::perform`] goes on.
     pub fn read(
         &mut self,
         session: Session,
         page: u32,
     ) -> Result<(Session, ReadGuard, u32, Told), Session>
+        ensures exact { (s : State) → StandsFor self.old.seating.vault s → is_ok result ≡ may_read session page s }
         ensures ok { IfOk result (λ now. Reads self.old session page now.0 now.1 now.2 now.3 self.new) }
         ensures back { IfErr result (λ e. e ≡ session) }
         ensures unchanged { OnErr result (self.new ≡ self.old) }
     {
+        let worker = session.worker();
         match self.seating.read(session, page) {
             Ok((session, guard, frame)) => {
+                self.waiters.rise(worker);
                 let told = self.waiters.settle(&self.seating, self.policy.flush_from);
                 Ok((session, guard, frame, told))
             }
@@ -332,12 +337,13 @@ impl<D: Device + Drop> Hall<D> {
     ///
     /// # Errors
     ///
-    /// The tokens. Nothing has changed. Then [`Hall::perform`] goes on.
+    /// The tokens, exactly where the vault gives them back. Nothing has changed. Then [`Hall::perform`] goes on.
     pub fn end_read(
         &mut self,
         session: Session,
         guard: ReadGuard,
     ) -> Result<(Session, u64, Told), (Session, ReadGuard)>
+        ensures exact { (s : State) → StandsFor self.old.seating.vault s → is_ok result ≡ may_end_read session guard s }
         ensures ok { IfOk result (λ now. EndsRead self.old session guard now.0 now.1 now.2 self.new) }
         ensures back { IfErr result (λ e. (e.0 ≡ session) × (e.1 ≡ guard)) }
         ensures unchanged { OnErr result (self.new ≡ self.old) }
@@ -361,6 +367,22 @@ impl<D: Device + Drop> Hall<D> {
         ensures unchanged { self.new ≡ self.old }
     {
         self.seating.look(guard, bytes)
+    }
+
+    /// How many bytes a page has: 64 at least.
+    pub fn page_bytes(&self) -> usize
+        ensures { result ≡ self.now.seating.vault.page_bytes }
+    {
+        self.seating.page_bytes()
+    }
+
+    /// The body of the image of a page that is latched S: its bytes from byte 12 on, where they stand, as
+    /// [`pp_vault::Vault::see`] lends them. None where the guard isn't one of this state.
+    pub fn see(&self, guard: &ReadGuard) -> Option<&[u8]>
+        ensures some { (s : State) → StandsFor self.now.seating.vault s → is_some result ≡ may_see guard.now s }
+        ensures shown { IfSome result (λ body. ShowsBody self.now.seating.vault guard.now.page body.now) }
+    {
+        self.seating.see(guard)
     }
 
     // ---- the flusher

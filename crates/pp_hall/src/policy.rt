@@ -3,7 +3,7 @@
 /// What the host of a hall decides.
 #[derive(Clone, Copy, Debug)]
 pub struct Policy {
-    /// How many may wait to start at once.
+    /// How many may wait to start at once. With 0 nobody ever starts, since each waits first.
     pub queue: u32,
     /// How many that came later may start before one that waits.
     pub bypass: u32,

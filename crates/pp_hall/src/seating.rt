@@ -1,7 +1,7 @@
 //! The vault of a hall, and which of its chairs are out.
 
 ghost use Rattle.std.specs.Prelude.{◌≡◌, ◌≢◌, ℕ, ◌≤◌, ◌&&◌, true, false, None, Some, IfOk, IfErr, IfSome, OnOk, OnErr};
-ghost use Rattle.std.specs.Prelude.{◌<◌, ◌↔◌, replicate, slice_index_or, slice_get, is_some, count_by, is_none};
+ghost use Rattle.std.specs.Prelude.{◌<◌, ◌↔◌, replicate, slice_index_or, slice_get, is_ok, is_some, count_by, is_none};
 ghost use Rattle.pp_frames.specs.Marks.{dirty_from};
 ghost use Rattle.pp_settings.specs.declared.span.Span.TheVariants.{Bounded};
 ghost use Rattle.pp_model.specs.Pool.{State, opening, dirty_pages};
@@ -9,7 +9,8 @@ ghost use Rattle.pp_core.specs.Opening.{kept_of};
 ghost use Rattle.pp_core.specs.Submits.{PrepareFails};
 ghost use Rattle.pp_core.specs.Queries.{is_idle, flushed_page};
 ghost use Rattle.pp_vault.specs.Headline.{Holds};
-ghost use Rattle.pp_vault.specs.Reads.{Reads, EndsRead};
+ghost use Rattle.pp_vault.specs.Looks.{may_see, ShowsBody};
+ghost use Rattle.pp_vault.specs.Reads.{may_read, may_end_read, Reads, EndsRead};
 ghost use Rattle.pp_vault.specs.StandsFor.{StandsFor};
 ghost use Rattle.pp_vault.specs.Stages.{AllIdle};
 ghost use Rattle.pp_pool.specs.Performing.{is_no};
@@ -73,6 +74,7 @@ impl Seating {
     pub(crate) fn new(alloc: Global, settings: &Settings) -> Result<(Seating, Hands), AllocError>
         requires { settings.now.span ≢ Bounded }
         ensures opens { IfOk result (λ made. StandsFor made.0.vault (opening (kept_of settings.now))) }
+        ensures page_bytes { IfOk result (λ made. made.0.vault.page_bytes ≡ settings.now.page_bytes) }
         ensures frames { IfOk result (λ made. made.0.frames ≡ settings.now.frames) }
         ensures peaks { IfOk result (λ made. made.0.peaks ≡ replicate settings.now.workers None) }
         ensures counts { IfOk result (λ made. made.0.counts ≡ no_counts) }
@@ -279,6 +281,7 @@ impl Seating {
         session: Session,
         page: u32,
     ) -> Result<(Session, ReadGuard, u32), Session>
+        ensures exact { (s : State) → StandsFor self.old.vault s → is_ok result ≡ may_read session page s }
         ensures ok { IfOk result (λ now. Reads self.old.vault session page self.new.vault now.0 now.1 now.2) }
         ensures rest { OnOk result (self.new ≡ record self.old {
           vault = self.new.vault;
@@ -302,12 +305,28 @@ impl Seating {
         session: Session,
         guard: ReadGuard,
     ) -> Result<(Session, u64), (Session, ReadGuard)>
+        ensures exact { (s : State) → StandsFor self.old.vault s → is_ok result ≡ may_end_read session guard s }
         ensures ok { IfOk result (λ now. EndsRead self.old.vault session guard self.new.vault now.0 now.1) }
         ensures rest { OnOk result (self.new ≡ record self.old { vault = self.new.vault }) }
         ensures back { IfErr result (λ e. (e.0 ≡ session) × (e.1 ≡ guard)) }
         ensures unchanged { OnErr result (self.new ≡ self.old) }
     {
         self.site.vault.end_read(session, guard)
+    }
+
+    /// How many bytes a page has.
+    pub(crate) fn page_bytes(&self) -> usize
+        ensures { result ≡ self.now.vault.page_bytes }
+    {
+        self.site.vault.page_bytes()
+    }
+
+    /// The body of the image of a page that is latched S, where it stands.
+    pub(crate) fn see(&self, guard: &ReadGuard) -> Option<&[u8]>
+        ensures some { (s : State) → StandsFor self.now.vault s → is_some result ≡ may_see guard.now s }
+        ensures shown { IfSome result (λ body. ShowsBody self.now.vault guard.now.page body.now) }
+    {
+        self.site.vault.see(guard)
     }
 
     // ---- the flusher

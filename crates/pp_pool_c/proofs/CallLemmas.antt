@@ -17,6 +17,7 @@ use Rattle.pp_pool.specs.declared.work.End.{End}
 use Rattle.pp_vault.specs.Parts as vault
 use Rattle.pp_vault.specs.Stages.{is_chair}
 use Rattle.pp_vault.specs.declared.hands.Flushing.{Flushing}
+use Rattle.pp_steps.specs.declared.error.AtOnceError.{AtOnceError}
 use Rattle.pp_steps.specs.declared.error.EnterError.{EnterError}
 use Rattle.pp_steps.specs.declared.error.GoError.{GoError}
 use Rattle.pp_steps.specs.declared.error.GoError.TheVariants as go_error
@@ -36,7 +37,8 @@ use Rattle.pp_steps.specs.declared.error.PassError.{PassError}
 use Rattle.pp_steps.specs.declared.pass.Pass.{Pass}
 use Rattle.pp_steps.specs.declared.seated.Seated.{Seated}
 use Rattle.pp_steps.specs.declared.seats.Place.{Place}
-use Rattle.pp_steps.specs.Bytes.{Brings, BringsIf, reads, errand_at, no_errand}
+use Rattle.pp_steps.specs.Bytes.{Brings, BringsIf, reads, errand_at, no_errand, lies_in}
+use Rattle.pp_steps.specs.Reading.{GetIs, GetsIf, PutIs}
 use Rattle.pp_steps.specs.Seats.{seated_at, seated_in, with_seat}
 use Rattle.pp_steps.specs.Parts.{Parts, is_flushers}
 use Rattle.pp_pool_c.specs.declared.answer.Answer.{Answer}
@@ -50,8 +52,8 @@ use Rattle.pp_pool_c.specs.declared.refusal.Refusal.TheVariants.{NotText, Settin
 use Rattle.pp_pool_c.specs.declared.told.Told.{Told}
 use Rattle.pp_pool_c.specs.Answers.{code, of_done, is_refusal}
 use Rattle.pp_pool_c.specs.Calls as calls
-use Rattle.pp_pool_c.specs.Calls.{Goes, BringsTo, CameTo, pass_of, Makes, Begins, GoesAway, Comes, EnterIs, GivesFlusher, Wishes, IsntKept, Prepares}
-use Rattle.pp_pool_c.specs.Calls.{answer_of, start_answer, leave_answer, enter_answer, wish_answer}
+use Rattle.pp_pool_c.specs.Calls.{Goes, BringsTo, CameTo, pass_of, Makes, Begins, GoesAway, Comes, EnterIs, GivesFlusher, Wishes, IsntKept, Prepares, GetsBy, PutsBy}
+use Rattle.pp_pool_c.specs.Calls.{answer_of, at_once_answer, start_answer, leave_answer, enter_answer, wish_answer}
 use Rattle.pp_pool_c.specs.Figures.{AreListed, dirty_of}
 use Rattle.pp_pool_c.specs.Texts.{same, is_memory, fault_of, answer_to, answer_by, fault_after, fault_by, IsTold}
 
@@ -59,7 +61,7 @@ use Rattle.pp_pool_c.specs.Texts.{same, is_memory, fault_of, answer_to, answer_b
 
 -- all answers, by their numbers
 answers : List Answer
-answers = answer.Done ∷ answer.NotNow ∷ answer.NoneToFlush ∷ answer.FlushesSpent ∷ answer.Refused ∷ answer.OutOfMemory ∷ answer.WrongArgument ∷ answer.NoPool ∷ answer.WrongStep ∷ answer.BadTicket ∷ answer.InUse ∷ answer.QueueFull ∷ answer.Stopped ∷ answer.StillDirty ∷ answer.OtherSettings ∷ answer.TooManyPlans ∷ answer.Broken ∷ []
+answers = answer.Done ∷ answer.NotNow ∷ answer.NoneToFlush ∷ answer.FlushesSpent ∷ answer.Refused ∷ answer.OutOfMemory ∷ answer.WrongArgument ∷ answer.NoPool ∷ answer.WrongStep ∷ answer.BadTicket ∷ answer.InUse ∷ answer.QueueFull ∷ answer.Stopped ∷ answer.StillDirty ∷ answer.OtherSettings ∷ answer.TooManyPlans ∷ answer.Broken ∷ answer.NotAtOnce ∷ []
 
 at_code : (a : Answer) → slice_get answers (code a) ≡ Some a
 unfolding answers
@@ -80,6 +82,7 @@ at_code answer.StillDirty = refl
 at_code answer.OtherSettings = refl
 at_code answer.TooManyPlans = refl
 at_code answer.Broken = refl
+at_code answer.NotAtOnce = refl
 
 -- two answers with one number are one
 pub same_code : (a b : Answer) → code a ≡ code b → a ≡ b
@@ -259,6 +262,38 @@ pub step_stays : (pass : Pass) (argument : ℕ) (answered : Answer) (ask : Ask) 
 step_stays pass argument answered ask told old new h e =
     go_stays (is_flushers old pass) old pass argument h.went h.rings new h.goes (sym (ap is_refusal h.answer_is) ∙ e)
 
+-- a reading that was begun or ended
+gets_if : (lies : Bool) (old : Parts) (pass : Pass) (s : Seated) (page from : ℕ) (before : List ℕ) (got : Result Step AtOnceError)
+    (rings : Rings) (after : List ℕ) (new : Parts) → GetsIf lies old pass s page from before got rings after new
+    → is_refusal (at_once_answer got) ≡ true → new ≡ old
+gets_if false old pass s page from before got rings after new h e = h.0.same
+gets_if true old pass s page from before got rings after new (inl h) e =
+    absurd (isnt at_once_answer got _ h.result_is refl e)
+gets_if true old pass s page from before got rings after new (inr h) e = h.1.same
+
+get_is : (seated : Option Seated) (old : Parts) (pass : Pass) (page from : ℕ) (before : List ℕ) (got : Result Step AtOnceError)
+    (rings : Rings) (after : List ℕ) (new : Parts) → GetIs seated old pass page from before got rings after new
+    → is_refusal (at_once_answer got) ≡ true → new ≡ old
+get_is None old pass page from before got rings after new h e = h.0.same
+get_is (Some s) old pass page from before got rings after new h e =
+    gets_if (lies_in old.hall.seating.vault.page_bytes from (length before)) old pass s page from before got rings after new h e
+
+pub get_stays : (pass : Pass) (page from : ℕ) (before : List ℕ) (answered : Answer) (after : List ℕ) (ask : Ask) (told : Told)
+    (old new : Parts) → GetsBy pass page from before answered after ask told old new → is_refusal answered ≡ true → new ≡ old
+get_stays pass page from before answered after ask told old new h e =
+    get_is (seated_at old.seats pass) old pass page from before h.got h.rings after new h.gets (sym (ap is_refusal h.answer_is) ∙ e)
+
+put_is : (seated : Option Seated) (old : Parts) (pass : Pass) (ended : Result Step AtOnceError) (rings : Rings) (new : Parts)
+    → PutIs seated old pass ended rings new → is_refusal (at_once_answer ended) ≡ true → new ≡ old
+put_is None old pass ended rings new h e = h.same
+put_is (Some s) old pass ended rings new (inl h) e = absurd (isnt at_once_answer ended _ h.result_is refl e)
+put_is (Some s) old pass ended rings new (inr h) e = h.1.same
+
+pub put_stays : (pass : Pass) (answered : Answer) (ask : Ask) (told : Told) (old new : Parts) → PutsBy pass answered ask told old new
+    → is_refusal answered ≡ true → new ≡ old
+put_stays pass answered ask told old new h e =
+    put_is (seated_at old.seats pass) old pass h.ended h.rings new h.puts (sym (ap is_refusal h.answer_is) ∙ e)
+
 start_is : (old : Parts) (waiter : Waiter) (pass : Pass) (started : Result Pass GoError) (rings : Rings) (new : Parts)
     → StartIs old waiter pass started rings new → is_refusal (start_answer started) ≡ true → ⊥
 start_is old waiter pass (Ok next) rings new h e = false≢true e
@@ -332,7 +367,7 @@ enter_stays plan ticket answered old new h not = enter_is h.entered plan ticket 
 gives_is : (pass : Option Pass) (ticket : ℕ) (ask : Ask) (answered : Answer) (old new : Parts)
     → calls.FlusherIs pass ticket ask answered old new → answered ≢ answer.Done → new ≡ old
 gives_is (Some pass) ticket ask answered old new h not = absurd (not h.3)
-gives_is None ticket ask answered old new h not = h.0
+gives_is None ticket ask answered old new h not = h.1
 
 pub flusher_given : (ticket : ℕ) (ask : Ask) (answered : Answer) (old new : Parts) → GivesFlusher ticket ask answered old new
     → answered ≢ answer.Done → new ≡ old

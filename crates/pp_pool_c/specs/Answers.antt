@@ -2,6 +2,8 @@
 use Rattle.std.specs.Prelude.{ℕ, Bool, true, false, Result, Ok, Err}
 use Rattle.pp_core.specs.declared.error.PrepareError.TheVariants as prepare
 use Rattle.pp_hall.specs.declared.error.OpenError.TheVariants as hall
+use Rattle.pp_steps.specs.declared.error.AtOnceError.{AtOnceError}
+use Rattle.pp_steps.specs.declared.error.AtOnceError.TheVariants as at_once
 use Rattle.pp_steps.specs.declared.error.EnterError.{EnterError}
 use Rattle.pp_steps.specs.declared.error.EnterError.TheVariants as enter
 use Rattle.pp_steps.specs.declared.error.GoError.{GoError}
@@ -36,12 +38,18 @@ code answer.StillDirty = 13
 code answer.OtherSettings = 14
 code answer.TooManyPlans = 15
 code answer.Broken = 16
+code answer.NotAtOnce = 17
 
 -- What each error is to C.
 abbrev pub of_pass : PassError → Answer
 of_pass pass.BadPass = answer.BadTicket
 of_pass pass.WrongStep = answer.WrongStep
 of_pass pass.WrongLength = answer.WrongArgument
+
+-- What C is answered where a reading isn't begun or ended by one call.
+abbrev pub of_at_once : AtOnceError → Answer
+of_at_once (at_once.Pass why) = of_pass why
+of_at_once at_once.NotAtOnce = answer.NotAtOnce
 
 -- What C is answered where a step or a start isn't made.
 abbrev pub of_go : GoError → Answer
@@ -84,9 +92,10 @@ abbrev pub of_done : Result (Unit {0}) PassError → Answer
 of_done (Ok u) = answer.Done
 of_done (Err e) = of_pass e
 
--- Whether a call was refused for the ticket or the number that it was given.
+-- Whether a call was refused: for the ticket or the number that it was given, or as it can't be made at once.
 abbrev pub is_refusal : Answer → Bool
 is_refusal answer.BadTicket = true
 is_refusal answer.WrongStep = true
 is_refusal answer.WrongArgument = true
+is_refusal answer.NotAtOnce = true
 is_refusal _ = false

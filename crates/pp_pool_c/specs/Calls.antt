@@ -6,6 +6,7 @@ use Rattle.pp_settings.specs.Spelling.{IsText}
 use Rattle.pp_plan.specs.Spelling.{IsText as IsPlanText}
 use Rattle.pp_cert.specs.Accepted.{Acceptance, IsAccepted}
 use Rattle.pp_hall.specs.declared.policy.Policy.{Policy}
+use Rattle.pp_steps.specs.declared.error.AtOnceError.{AtOnceError}
 use Rattle.pp_steps.specs.declared.error.EnterError.{EnterError}
 use Rattle.pp_steps.specs.declared.error.GoError.{GoError}
 use Rattle.pp_steps.specs.declared.error.GoError.TheVariants as go_error
@@ -21,13 +22,14 @@ use Rattle.pp_steps.specs.declared.plans.KeptPlan.{KeptPlan}
 use Rattle.pp_steps.specs.declared.rings.Rings.{Rings}
 use Rattle.pp_steps.specs.declared.seated.Seated.{Seated}
 use Rattle.pp_steps.specs.declared.step.Step.{Step}
-use Rattle.pp_steps.specs.Calls.{Keeps, KeepFails, Enters, EnterFails, StartOf, GoIs, LeaveOf, HandsOut, WishIs, next_of}
+use Rattle.pp_steps.specs.Calls.{Keeps, KeepFails, Enters, EnterFails, StartOf, GoIs, LeaveOf, HandsOut, IsntHandedOut, WishIs, next_of}
 use Rattle.pp_steps.specs.Bytes.{CopiesImage, errand_of, no_errand, Brings, ReadsBody, ReadFails, WritesBody, WriteFails}
 use Rattle.pp_steps.specs.Ending.{WhyOpenIs}
 use Rattle.pp_steps.specs.Lines.{waiter_at}
 use Rattle.pp_steps.specs.Opening.{IsOpened, OpenFails}
 use Rattle.pp_steps.specs.Parts.{Parts, is_flushers}
 use Rattle.pp_steps.specs.Passes.{told_by}
+use Rattle.pp_steps.specs.Reading.{GetIs, PutIs}
 use Rattle.pp_steps.specs.Seats.{seated_at, with_seat}
 use Rattle.pp_pool_c.specs.declared.answer.Answer.{Answer}
 use Rattle.pp_pool_c.specs.declared.answer.Answer.TheVariants as answer
@@ -37,8 +39,8 @@ use Rattle.pp_pool_c.specs.declared.figures.PreparedPlan.{PreparedPlan}
 use Rattle.pp_pool_c.specs.declared.handle.Kept.{Kept}
 use Rattle.pp_pool_c.specs.declared.refusal.Refusal.{Refusal}
 use Rattle.pp_pool_c.specs.declared.told.Told.{Told}
-use Rattle.pp_pool_c.specs.Answers.{code, of_pass, of_go, of_enter, of_keep, of_open, of_why, of_done}
-use Rattle.pp_pool_c.specs.Asks.{ask_went, ask_next, no_ask, told_of, told_nobody}
+use Rattle.pp_pool_c.specs.Answers.{code, of_pass, of_at_once, of_go, of_enter, of_keep, of_open, of_why, of_done}
+use Rattle.pp_pool_c.specs.Asks.{ask_of, ask_went, ask_next, no_ask, told_of, told_nobody}
 use Rattle.pp_pool_c.specs.Figures.{prepared_of}
 use Rattle.pp_pool_c.specs.Texts.{settings_in, IsTold}
 
@@ -99,6 +101,49 @@ pub record Steps (ticket argument status : ℕ) (ask : Ask) (told : Told) (old n
 abbrev pub next_answer : Result Step PassError → Answer
 next_answer (Ok step) = answer.Done
 next_answer (Err why) = of_pass why
+
+-- ---- readings
+
+-- What one is answered that begins a reading or ends one.
+abbrev pub at_once_answer : Result Step AtOnceError → Answer
+at_once_answer (Ok step) = answer.Done
+at_once_answer (Err why) = of_at_once why
+
+-- What comes next, where it was done or not.
+abbrev pub ask_at_once : Result Step AtOnceError → Parts → Pass → Ask
+ask_at_once (Ok step) x pass = ask_of step
+ask_at_once (Err why) x pass = ask_of_pass x pass
+
+-- The one with this pass begins a reading, as the pool's own call does.
+pub record GetsBy (pass : Pass) (page from : ℕ) (before : List ℕ) (answered : Answer) (after : List ℕ) (ask : Ask) (told : Told)
+    (old new : Parts) : Type 0 where
+  pub got : Result Step AtOnceError
+  pub rings : Rings
+  pub gets : GetIs (seated_at old.seats pass) old pass page from before got rings after new
+  pub answer_is : answered ≡ at_once_answer got
+  pub ask_is : ask ≡ ask_at_once got new pass
+  pub told_is : told ≡ told_of rings
+
+-- The same of a ticket.
+pub record GetsTo (ticket page from : ℕ) (before : List ℕ) (status : ℕ) (after : List ℕ) (ask : Ask) (told : Told)
+    (old new : Parts) : Type 0 where
+  pub answered : Answer
+  pub gets : GetsBy (pass_of ticket) page from before answered after ask told old new
+  pub status_is : status ≡ code answered
+
+-- It ends one.
+pub record PutsBy (pass : Pass) (answered : Answer) (ask : Ask) (told : Told) (old new : Parts) : Type 0 where
+  pub ended : Result Step AtOnceError
+  pub rings : Rings
+  pub puts : PutIs (seated_at old.seats pass) old pass ended rings new
+  pub answer_is : answered ≡ at_once_answer ended
+  pub ask_is : ask ≡ ask_at_once ended new pass
+  pub told_is : told ≡ told_of rings
+
+pub record PutsTo (ticket status : ℕ) (ask : Ask) (told : Told) (old new : Parts) : Type 0 where
+  pub answered : Answer
+  pub puts : PutsBy (pass_of ticket) answered ask told old new
+  pub status_is : status ≡ code answered
 
 -- ---- a start
 
@@ -189,7 +234,7 @@ abbrev pub FlusherIs : Option Pass → (ticket : ℕ) → Ask → Answer → Par
 FlusherIs (Some pass) ticket ask answered old new =
     HandsOut old pass new × IsTicket pass ticket × (ask ≡ ask_of_pass new pass) × (answered ≡ answer.Done)
 FlusherIs None ticket ask answered old new =
-    (new ≡ old) × (ticket ≡ 0) × (ask ≡ no_ask) × (answered ≡ answer.InUse)
+    IsntHandedOut old × (new ≡ old) × (ticket ≡ 0) × (ask ≡ no_ask) × (answered ≡ answer.InUse)
 
 pub record GivesFlusher (ticket : ℕ) (ask : Ask) (answered : Answer) (old new : Parts) : Type 0 where
   pub pass : Option Pass

@@ -1,10 +1,10 @@
 //! What a call answers.
 
 ghost use Rattle.std.specs.Prelude.{◌≡◌};
-ghost use Rattle.pp_pool_c.specs.Answers.{code, of_pass, of_go, of_enter, of_keep, of_open, of_why};
+ghost use Rattle.pp_pool_c.specs.Answers.{code, of_pass, of_at_once, of_go, of_enter, of_keep, of_open, of_why};
 
 use pp_core::PrepareError;
-use pp_steps::{EnterError, GoError, KeepError, OpenError, PassError, WhyOpen};
+use pp_steps::{AtOnceError, EnterError, GoError, KeepError, OpenError, PassError, WhyOpen};
 
 /// What a call answers, to C as a number.
 #[derive(Clone, Copy, Debug, PartialEq, Eq)]
@@ -43,6 +43,8 @@ pub enum Answer {
     TooManyPlans,
     /// A slip.
     Broken,
+    /// Not by one call.
+    NotAtOnce,
 }
 
 impl Answer {
@@ -68,6 +70,7 @@ impl Answer {
             Answer::OtherSettings => 14,
             Answer::TooManyPlans => 15,
             Answer::Broken => 16,
+            Answer::NotAtOnce => 17,
         }
     }
 }
@@ -80,6 +83,17 @@ impl From<PassError> for Answer {
             PassError::BadPass => Answer::BadTicket,
             PassError::WrongStep => Answer::WrongStep,
             PassError::WrongLength => Answer::WrongArgument,
+        }
+    }
+}
+
+impl From<AtOnceError> for Answer {
+    ghost from_gives = { λ error answer. answer ≡ of_at_once error };
+
+    fn from(error: AtOnceError) -> Answer {
+        match error {
+            AtOnceError::Pass(error) => Answer::from(error),
+            AtOnceError::NotAtOnce => Answer::NotAtOnce,
         }
     }
 }

@@ -124,7 +124,7 @@ fn ticket_left(error: GoError, ticket: u64) -> u64
 }
 
 /// The next step of one with this pass; none where it has none.
-fn asked(kept: &Kept, pass: Pass) -> Ask
+pub(crate) fn asked(kept: &Kept, pass: Pass) -> Ask
     ensures { result ≡ ask_of_pass kept.now.steps pass }
 {
     match kept.steps.next(pass) {

@@ -12,7 +12,6 @@ use Rattle.pp_vault.specs.declared.guards.Guard.TheVariants as guard
 use Rattle.pp_vault.specs.declared.guards.ReadGuard.{ReadGuard}
 use Rattle.pp_vault.specs.declared.guards.WriteGuard.{WriteGuard}
 use Rattle.pp_vault.specs.Parts as vault
-use Rattle.pp_ledger.specs.Sites.{ShowsPage}
 use Rattle.pp_steps.specs.declared.error.PassError.{PassError}
 use Rattle.pp_steps.specs.declared.error.PassError.TheVariants as pass_error
 use Rattle.pp_steps.specs.declared.pass.Pass.{Pass}
@@ -64,51 +63,23 @@ part_put : (body bytes : List ℕ) (from n : ℕ) → n ≡ length bytes → put
 part_put body bytes from n e =
     ap (λ l. take from body ++ (bytes ++ l)) (drop-drop n from body ∙ ap (λ m. drop (from + m) body) e)
 
--- Bytes were copied out of the front of an image.
-part_shown : (front bytes : List ℕ) (from count : ℕ) → length bytes ≡ count
-    → bytes ≡ take (12 + from + count - (12 + from)) (drop (12 + from) front)
-    → bytes ≡ part_of (body_of front) from (length bytes)
-part_shown front bytes from count long e =
-    let n : 12 + from + count - (12 + from) ≡ length bytes = omega arith in
-    e ∙ ap (λ m. take m (drop (12 + from) front)) n
-    ∙ ap (λ l. take (length bytes) l) (sym (drop-drop from 12 front))
-
--- And of a body.
-part_copied : (body bytes : List ℕ) (from count : ℕ) → length bytes ≡ count
-    → bytes ≡ take (from + count - from) (drop from body) → bytes ≡ part_of body from (length bytes)
-part_copied body bytes from count long e =
-    let n : from + count - from ≡ length bytes = omega arith in
-    e ∙ ap (λ m. take m (drop from body)) n
-
 -- ---- a slot
 
--- What was copied out of the shown front of the page that is latched S is of its body.
-pub reads_shared : (v u : vault.Parts) (guards : List (Option Guard)) (slot from count : ℕ) (g : ReadGuard) (shown : Bool)
-    (before front given bytes : List ℕ) → placed guards slot ≡ Some (guard.Read g) → ShowsPage u g before shown front
-    → u ≡ v → shown ≡ true → length given ≡ count → given ≡ take (12 + from + count - (12 + from)) (drop (12 + from) front)
-    → bytes ≡ given → ReadsGuard v (placed guards slot) from bytes
-reads_shared v u guards slot from count g shown before front given bytes is shows under done long e same =
-    subst (λ (o : Option Guard). ReadsGuard v o from bytes) (sym is)
-    (subst (λ (l : List ℕ). ReadsShared v g from l) (sym same)
-    (record {
-      before = before;
-      front = front;
-      shows =
-          subst (λ (w : vault.Parts). ShowsPage w g before true front) under
-          (subst (λ (b : Bool). ShowsPage u g before b front) done shows);
-      part = part_shown front given from count long e;
-    }))
-
--- And out of that of a page that is latched X.
-pub reads_exclusive : (v : vault.Parts) (guards : List (Option Guard)) (slot from count : ℕ) (g : WriteGuard)
-    (body given bytes : List ℕ) → placed guards slot ≡ Some (guard.Write g) → body ≡ body_of g.image
-    → length given ≡ count → given ≡ take (from + count - from) (drop from body) → bytes ≡ given
+-- What was copied out of the body of the page that is latched S, or X.
+pub reads_shared : (v : vault.Parts) (guards : List (Option Guard)) (slot from : ℕ) (g : ReadGuard) (given bytes : List ℕ)
+    → placed guards slot ≡ Some (guard.Read g) → ReadsShared v g from given → bytes ≡ given
     → ReadsGuard v (placed guards slot) from bytes
-reads_exclusive v guards slot from count g body given bytes is under long e same =
+reads_shared v guards slot from g given bytes is read same =
+    subst (λ (o : Option Guard). ReadsGuard v o from bytes) (sym is)
+    (subst (λ (l : List ℕ). ReadsShared v g from l) (sym same) read)
+
+pub reads_exclusive : (v : vault.Parts) (guards : List (Option Guard)) (slot from : ℕ) (g : WriteGuard) (body given bytes : List ℕ)
+    → placed guards slot ≡ Some (guard.Write g) → body ≡ body_of g.image → given ≡ part_of body from (length given) → bytes ≡ given
+    → ReadsGuard v (placed guards slot) from bytes
+reads_exclusive v guards slot from g body given bytes is under e same =
     subst (λ (o : Option Guard). ReadsGuard v o from bytes) (sym is)
     (subst (λ (l : List ℕ). l ≡ part_of (body_of g.image) from (length l)) (sym same)
-    (part_copied (body_of g.image) given from count long
-    (e ∙ ap (λ l. take (from + count - from) (drop from l)) under)))
+    (e ∙ ap (λ l. part_of l from (length given)) under))
 
 -- The page that is latched X has other bytes, and its guard is back.
 pub writes_slot : (guards taken after : List (Option Guard)) (slot from : ℕ) (body given bytes : List ℕ) (g h : WriteGuard)
@@ -250,13 +221,13 @@ brought_in x y pass bytes brought seats same b s e =
 -- Bytes of a body were read.
 pub read_in : (x y : Parts) (pass : Pass) (slot from count : ℕ) (bytes : List ℕ) (read : Result (Unit {0}) PassError) → x ≡ y
     → HasRead x.hall.seating.vault x.seats pass slot from count bytes read → length bytes ≡ count
-    → lies_in x.page_bytes from count ≡ true → OnOk read (ReadsBody y pass slot from bytes)
+    → lies_in x.hall.seating.vault.page_bytes from count ≡ true → OnOk read (ReadsBody y pass slot from bytes)
 read_in x y pass slot from count bytes read same h long lies =
     on_ok read (ReadsGuard x.hall.seating.vault (placed h.0.worker.hand.guards slot) from bytes)
     (ReadsBody y pass slot from bytes)
     (λ r. subst (λ (z : Parts). ReadsBody z pass slot from bytes) same (record {
       seated = h.0;
       there = h.1;
-      lies = subst (λ n. lies_in x.page_bytes from n ≡ true) (sym long) lies;
+      lies = subst (λ n. lies_in x.hall.seating.vault.page_bytes from n ≡ true) (sym long) lies;
       reads = r;
     })) h.2

@@ -49,7 +49,6 @@ steps_kept x h s i = record {
   seats = seats_kept x.hall h x.seats s.peaks (ap (λ p. p.there) s.posts) i.seats;
   flusher = on_flusher x.hall h (ap (λ p. p.is_flusher_home) s.posts) x i.flusher;
   wide = i.wide ∙ ap length (sym s.peaks);
-  long = i.long;
 }
 
 -- ---- one comes home
@@ -171,5 +170,4 @@ home_steps x h pass s told i e p =
       wide =
           length-set x.seats pass.bell (record { turn = pass.turn; seated = None }) ∙ i.wide
           ∙ sym (parked_length x.hall h s.worker.hand.stage told p);
-      long = i.long;
     }

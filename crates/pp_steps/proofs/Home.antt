@@ -42,8 +42,8 @@ use Rattle.pp_steps.proofs.Seating.{each_by, each_set, out, out_begun, out_begun
 
 -- Nobody runs yet, and the flusher is home.
 pub opened_steps : (c : Configuration) (kept : Policy) (h : halls.Parts) (plans : List KeptPlan) (line : lines.Parts)
-    (seats : List (Place Seated)) (page_bytes : ℕ) → hall.IsFresh c kept h
-    → seats ≡ replicate c.workers (record { turn = 0; seated = None }) → 64 ≤ page_bytes
+    (seats : List (Place Seated)) → hall.IsFresh c kept h
+    → seats ≡ replicate c.workers (record { turn = 0; seated = None })
     → IsSteps (record {
       hall = h;
       plans = plans;
@@ -51,16 +51,14 @@ pub opened_steps : (c : Configuration) (kept : Policy) (h : halls.Parts) (plans 
       seats = seats;
       flushed = 0;
       flusher = None;
-      page_bytes = page_bytes;
     })
-opened_steps c kept h plans line seats page_bytes fresh free long = record {
+opened_steps c kept h plans line seats fresh free = record {
   seats =
       subst (λ (ps : List (Place Seated)). AreSeated h ps) (sym free) (none_seated (IsSeated h) c.workers);
   flusher = tt;
   wide =
       ap length free ∙ length-replicate c.workers _
       ∙ sym (ap (λ s. length s.peaks) fresh.seating ∙ length-replicate c.workers _);
-  long = long;
 }
 
 hall_fault : (c : Configuration) (devices : ℕ) (why : HallError) → hall.OpenFails c devices why
@@ -70,16 +68,17 @@ hall_fault c devices why (inr e) all n = absurd (n e.1)
 
 -- Its hall wasn't opened.
 pub unopened_fails : (c : Configuration) (kept : Policy) (devices : ℕ) (why : HallError) → 1 ≤ kept.queue
-    → kept.queue ≤ 65000 → hall.OpenFails c devices why → devices ≡ c.workers + 1 → OpenFails c kept (unopened why)
-unopened_fails c kept devices hall_error.OutOfMemory some few f all = (some, few)
-unopened_fails c kept devices hall_error.Bounded some few f all =
-    (some, few, inl (hall_fault c devices hall_error.Bounded f all (λ e. cc)))
-unopened_fails c kept devices hall_error.NoFlushes some few f all =
-    (some, few, inl (hall_fault c devices hall_error.NoFlushes f all (λ e. cc)))
-unopened_fails c kept devices hall_error.TooManyWorkers some few f all =
-    (some, few, inl (hall_fault c devices hall_error.TooManyWorkers f all (λ e. cc)))
-unopened_fails c kept devices hall_error.OtherEnds some few f all =
-    (some, few, inl (hall_fault c devices hall_error.OtherEnds f all (λ e. cc)))
+    → kept.queue ≤ 65000 → c.workers ≤ 32 → hall.OpenFails c devices why → devices ≡ c.workers + 1
+    → OpenFails c kept (unopened why)
+unopened_fails c kept devices hall_error.OutOfMemory some few seats f all = (some, few, seats)
+unopened_fails c kept devices hall_error.Bounded some few seats f all =
+    (some, few, inl (seats, hall_fault c devices hall_error.Bounded f all (λ e. cc)))
+unopened_fails c kept devices hall_error.NoFlushes some few seats f all =
+    (some, few, inl (seats, hall_fault c devices hall_error.NoFlushes f all (λ e. cc)))
+unopened_fails c kept devices hall_error.TooManyWorkers some few seats f all =
+    (some, few, inl (seats, hall_fault c devices hall_error.TooManyWorkers f all (λ e. cc)))
+unopened_fails c kept devices hall_error.OtherEnds some few seats f all =
+    (some, few, inl (seats, hall_fault c devices hall_error.OtherEnds f all (λ e. cc)))
 
 -- ---- one starts
 
@@ -164,7 +163,6 @@ started_steps x ticket worker told after line pass one i is s same rests = recor
       length-set x.seats pass.bell (record { turn = pass.turn; seated = Some one }) ∙ i.wide
       ∙ sym (ap (λ (q : halls.Parts). length q.seating.peaks) s.settles.rest
       ∙ length-set x.hall.seating.peaks s.chair (Some s.peak));
-  long = i.long;
 }
 
 -- The chair on which one starts is out then.
@@ -202,7 +200,6 @@ broken_steps x ticket at told more between after line i s k = record {
       ∙ sym (parked_length between after at more k
       ∙ ap (λ (q : halls.Parts). length q.seating.peaks) s.settles.rest
       ∙ length-set x.hall.seating.peaks s.chair (Some s.peak));
-  long = i.long;
 }
   where
     chairs : k.chair ≡ s.chair
@@ -304,7 +301,6 @@ changed_steps x pass s t i e site own =
           each_set (IsSeated x.hall) x.seats pass.bell (record { turn = pass.turn; seated = Some t }) i.seats now;
       flusher = i.flusher;
       wide = length-set x.seats pass.bell (record { turn = pass.turn; seated = Some t }) ∙ i.wide;
-      long = i.long;
     }
 
 -- It has bytes that its device has read: its site stays, and its tokens.

@@ -6,3 +6,4 @@ pub mod Seating
 pub mod Halls
 mod Entering
 pub mod Turns
+mod AtOnce

@@ -166,7 +166,6 @@ with_left x h pass s left out i e rest =
       seats = turned_seats x.hall h x.seats pass s left out i.seats e rest;
       flusher = kept.flusher;
       wide = length-set x.seats pass.bell (record { turn = pass.turn; seated = Some left }) ∙ kept.wide;
-      long = i.long;
     }
 
 -- A pool after a turn of one that runs, or where none was made.
@@ -345,7 +344,6 @@ flushed_steps x h o out i none =
       seats = kept.seats;
       flusher = subst (λ (p : Option AwayFlusher). IfSome p (IsFlushing h)) (sym none) tt;
       wide = kept.wide;
-      long = i.long;
     }
 
 -- The flusher that is out is at rest, and not at home.

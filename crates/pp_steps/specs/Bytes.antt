@@ -1,5 +1,5 @@
 -- Bytes that a host hands in, and is handed.
-use Rattle.std.specs.Prelude.{◌≡◌, ℕ, ◌+◌, ◌-◌, ◌==◌, ◌||◌, nat_le, max, Bool, true, false, Option, None, Some, Ok, Err, Result}
+use Rattle.std.specs.Prelude.{◌≡◌, ◌⊎◌, ℕ, ◌+◌, ◌-◌, ◌==◌, ◌||◌, nat_le, Bool, true, false, Option, None, Some, Ok, Err, Result}
 use Rattle.std.specs.Prelude.{is_some, List, ◌++◌, length, take, drop, slice_set, if◌then◌else◌}
 use Rattle.pp_device.specs.Image.{body_of}
 use Rattle.pp_vault.specs.declared.tokens.Errand.{Errand}
@@ -14,11 +14,10 @@ use Rattle.pp_vault.specs.declared.stage.Stage.TheVariants as stage
 use Rattle.pp_vault.specs.Duties.{is_reading}
 use Rattle.pp_vault.specs.Holding.{placed}
 use Rattle.pp_vault.specs.Lending.{with_body}
+use Rattle.pp_vault.specs.Looks.{may_see, ShowsBody}
 use Rattle.pp_vault.specs.Parts as vault
 use Rattle.pp_vault.specs.StandsFor.{StandsFor}
 use Rattle.pp_model.specs.Pool.{State}
-use Rattle.pp_pool.specs.Fronts.{may_show}
-use Rattle.pp_ledger.specs.Sites.{ShowsPage}
 use Rattle.pp_steps.specs.declared.device.Answer.TheVariants as answer
 use Rattle.pp_steps.specs.declared.error.PassError.{PassError}
 use Rattle.pp_steps.specs.declared.error.PassError.TheVariants as pass_error
@@ -104,12 +103,18 @@ part_of body from count = take count (drop from body)
 abbrev pub with_part : List ℕ → (from : ℕ) → List ℕ → List ℕ
 with_part body from bytes = take from body ++ (bytes ++ drop (from + length bytes) body)
 
--- A page that is latched S: the vault shows the front of its image, and these are bytes of its body.
+-- A page that is latched S: the guard is one of the vault's, which shows this body of the page, and these are bytes of it.
 pub record ReadsShared (v : vault.Parts) (g : ReadGuard) (from : ℕ) (bytes : List ℕ) : Type 0 where
-  pub before : List ℕ
-  pub front : List ℕ
-  pub shows : ShowsPage v g before true front
-  pub part : bytes ≡ part_of (body_of front) from (length bytes)
+  pub fits : (s : State) → StandsFor v s → may_see g s ≡ true
+  pub body : List ℕ
+  pub shown : ShowsBody v g.page body
+  pub part : bytes ≡ part_of body from (length bytes)
+
+-- Why so many bytes from this one on aren't read of such a page: the guard isn't one of the vault's, or the body hasn't so many.
+abbrev pub CannotSee : vault.Parts → ReadGuard → (from count : ℕ) → Type 0
+CannotSee v g from count =
+    ((s : State) → StandsFor v s → may_see g s ≡ false)
+    ⊎ ((body : List ℕ) × ShowsBody v g.page body × (nat_le (from + count) (length body) ≡ false))
 
 -- The bytes are those of the page in the slot, which is latched.
 abbrev pub ReadsGuard : vault.Parts → Option Guard → (from : ℕ) → List ℕ → Type 0
@@ -122,10 +127,9 @@ abbrev pub fits_in : WriteGuard → (from count : ℕ) → Bool
 fits_in g from count = nat_le (from + count) (length (body_of g.image))
 
 -- Why so many bytes from this one on aren't read of the page in such a slot: it isn't latched; or it is latched S, and the vault shows
--- no front that has them; or it is latched X, and its body hasn't so many.
+-- no such bytes; or it is latched X, and its body hasn't so many.
 abbrev pub CannotRead : vault.Parts → Option Guard → (from count : ℕ) → Type 0
-CannotRead v (Some (guard.Read g)) from count =
-    (s : State) → StandsFor v s → may_show v.page_bytes g (max (12 + from + count) 64) s ≡ false
+CannotRead v (Some (guard.Read g)) from count = CannotSee v g from count
 CannotRead v (Some (guard.Write g)) from count = fits_in g from count ≡ false
 CannotRead v _ from count = Unit {0}
 
@@ -137,13 +141,14 @@ ReadFailsBy true x s slot from count error =
 -- Why bytes aren't read: nobody runs with the pass; or so many don't lie in a body; or the page in the slot can't be read.
 abbrev pub ReadFails : Option Seated → Parts → Pass → (slot from count : ℕ) → PassError → Type 0
 ReadFails None x pass slot from count error = error ≡ no_errand x pass
-ReadFails (Some s) x pass slot from count error = ReadFailsBy (lies_in x.page_bytes from count) x s slot from count error
+ReadFails (Some s) x pass slot from count error =
+    ReadFailsBy (lies_in x.hall.seating.vault.page_bytes from count) x s slot from count error
 
 -- One with this pass runs, and the bytes are those of the body of the page in its slot.
 pub record ReadsBody (x : Parts) (pass : Pass) (slot from : ℕ) (bytes : List ℕ) : Type 0 where
   pub seated : Seated
   pub there : seated_at x.seats pass ≡ Some seated
-  pub lies : lies_in x.page_bytes from (length bytes) ≡ true
+  pub lies : lies_in x.hall.seating.vault.page_bytes from (length bytes) ≡ true
   pub reads : ReadsGuard x.hall.seating.vault (placed seated.worker.hand.guards slot) from bytes
 
 -- The guard of a page that is latched X, with these bytes in its body.
@@ -168,7 +173,8 @@ WriteFailsBy true s slot from count error = CannotWrite (placed s.worker.hand.gu
 -- Why bytes aren't written: nobody runs with the pass; or so many don't lie in a body; or the page in the slot can't be written.
 abbrev pub WriteFails : Option Seated → Parts → Pass → (slot from count : ℕ) → PassError → Type 0
 WriteFails None x pass slot from count error = error ≡ no_errand x pass
-WriteFails (Some s) x pass slot from count error = WriteFailsBy (lies_in x.page_bytes from count) s slot from count error
+WriteFails (Some s) x pass slot from count error =
+    WriteFailsBy (lies_in x.hall.seating.vault.page_bytes from count) s slot from count error
 
 -- It is so, unless bytes went in or out.
 abbrev pub OnNoRead : Option (Result (Unit {0}) PassError) → Type 0 → Type 0
@@ -190,6 +196,6 @@ pub record WritesSeat (old : List (Place Seated)) (pass : Pass) (slot from : ℕ
 
 -- The same in a pool, where the bytes lie in a body.
 pub record WritesBody (old : Parts) (pass : Pass) (slot from : ℕ) (bytes : List ℕ) (new : Parts) : Type 0 where
-  pub lies : lies_in old.page_bytes from (length bytes) ≡ true
+  pub lies : lies_in old.hall.seating.vault.page_bytes from (length bytes) ≡ true
   pub seats : WritesSeat old.seats pass slot from bytes new.seats
   pub rest : new ≡ record old { seats = new.seats }

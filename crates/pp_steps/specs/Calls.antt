@@ -1,6 +1,6 @@
 -- What the calls of a pool do whose host is asked for each step.
-use Rattle.std.specs.Prelude.{◌≡◌, ◌⊎◌, ℕ, ◌+◌, ◌-◌, ◌==◌, ◌&&◌, ◌||◌, ◌*◌, ◌^◌, ◌↔◌, min, not, Bool, true, false, Option, None, Some, Ok, Err, Result}
-use Rattle.std.specs.Prelude.{IfOk, IsOk, is_some, List, ◌++◌, ◌∷◌, [], length, slice_get, if◌then◌else◌}
+use Rattle.std.specs.Prelude.{◌≡◌, ◌⊎◌, ℕ, ◌+◌, ◌-◌, ◌==◌, ◌&&◌, ◌||◌, ◌*◌, ◌^◌, ◌↔◌, ◌≤◌, min, not, Bool, true, false, Option, None, Some, Ok, Err, Result}
+use Rattle.std.specs.Prelude.{IfOk, IsOk, IsSome, is_some, List, ◌++◌, ◌∷◌, [], length, slice_get, if◌then◌else◌}
 use Rattle.pp_cert.specs.Accepted.{Acceptance}
 use Rattle.pp_cert.specs.Limits.{step_events, plan_events}
 use Rattle.pp_core.specs.Submits.{PrepareFails}
@@ -93,7 +93,7 @@ pub record IsFullFor (old : Parts) (plan : ℕ) : Type 0 where
 -- Why one doesn't come.
 abbrev pub EnterFails : Parts → (plan : ℕ) → EnterError → Type 0
 EnterFails old plan enter_error.NoSuchPlan = slice_get old.plans plan ≡ None
-EnterFails old plan enter_error.Stopped = old.hall.waiters.is_stopped ≡ true
+EnterFails old plan enter_error.Stopped = IsSome (slice_get old.plans plan) × (old.hall.waiters.is_stopped ≡ true)
 EnterFails old plan enter_error.Full = IsFullFor old plan
 
 -- The pool without the one that waits with this pass.
@@ -448,6 +448,10 @@ LeaveOf None false old pass result new = RunnerLeaves (seated_at old.seats pass)
 
 -- ---- the flusher's pass
 
+-- The flusher is out, or had its last pass.
+abbrev pub IsntHandedOut : Parts → Type 0
+IsntHandedOut x = (x.hall.posts.is_flusher_home ≡ false) ⊎ (281474976710655 ≤ x.flushed)
+
 -- The flusher is out, with nothing changed but that.
 pub record HandsOut (old : Parts) (pass : Pass) (new : Parts) : Type 0 where
   pub home : old.hall.posts.is_flusher_home ≡ true
@@ -466,15 +470,18 @@ is_sleep flush_wish.Sleep = true
 is_sleep flush_wish.Flush = false
 is_sleep flush_wish.Stop = false
 
--- What the flusher's thread is told to do: to end, where nobody starts any more; to flush, where a flush is wanted; and else to sleep.
+-- What the flusher's thread is told to do: to end, where nobody starts any more; to flush, where a flush is wanted, or behind one where more
+-- pages are newer than are to be left; and else to sleep.
 pub record Wishes (old : Parts) (is_on : Bool) (wish : FlushWish) (new : Parts) : Type 0 where
   pub stop : (wish ≡ flush_wish.Stop) ↔ (old.hall.waiters.is_stopped ≡ true)
   pub flush : wish ≡ flush_wish.Flush → (s : State) → StandsFor old.hall.seating.vault s
       → (is_wanted old.hall.policy.flush_from s || (is_on && is_wanted (min (old.hall.policy.flush_to + 1) (2 ^ 32 - 1)) s))
       ≡ true
   pub sleep : wish ≡ flush_wish.Sleep → (s : State) → StandsFor old.hall.seating.vault s
-      → is_wanted old.hall.policy.flush_from s ≡ false
-  pub asleep : (new ≡ old) ⊎ (new ≡ record old { hall = hall.with_flusher_asleep old.hall (is_sleep wish) })
+      → (is_wanted old.hall.policy.flush_from s || (is_on && is_wanted (min (old.hall.policy.flush_to + 1) (2 ^ 32 - 1)) s))
+      ≡ false
+  pub asleep : wish ≡ flush_wish.Sleep → new ≡ record old { hall = hall.with_flusher_asleep old.hall true }
+  pub rest : (new ≡ old) ⊎ (new ≡ record old { hall = hall.with_flusher_asleep old.hall (is_sleep wish) })
 
 -- What is answered to one that asks whether to flush, with the flusher's pass or another.
 abbrev pub WishIs : (flushers : Bool) → Parts → Pass → (is_on : Bool) → Result FlushWish PassError → Parts → Type 0

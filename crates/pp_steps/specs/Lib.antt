@@ -6,6 +6,7 @@ pub mod Lines
 pub mod Opening
 pub mod Parts
 pub mod Passes
+pub mod Reading
 pub mod Ringing
 pub mod Seats
 pub mod Sites

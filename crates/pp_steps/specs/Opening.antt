@@ -18,7 +18,6 @@ pub record IsOpened (c : Configuration) (kept : Policy) (x : Parts) : Type 0 whe
   pub seats : x.seats ≡ replicate c.workers (record { turn = 0; seated = None })
   pub flushed : x.flushed ≡ 0
   pub flusher : x.flusher ≡ None
-  pub page_bytes : x.page_bytes ≡ c.page_bytes
 
 -- Why it isn't opened, by why its hall isn't.
 abbrev pub unopened : HallError → OpenError
@@ -29,5 +28,5 @@ unopened why = error.Hall why
 abbrev pub OpenFails : Configuration → Policy → OpenError → Type 0
 OpenFails c kept error.BadQueue = (kept.queue ≡ 0) ⊎ (65000 < kept.queue)
 OpenFails c kept (error.Hall why) = (1 ≤ kept.queue) × (kept.queue ≤ 65000)
-    × ((open_fault c (c.workers + 1) ≡ Some why) ⊎ ((why ≡ hall.TooManyWorkers) × (32 < c.workers)))
-OpenFails c kept error.OutOfMemory = (1 ≤ kept.queue) × (kept.queue ≤ 65000)
+    × (((c.workers ≤ 32) × (open_fault c (c.workers + 1) ≡ Some why)) ⊎ ((why ≡ hall.TooManyWorkers) × (32 < c.workers)))
+OpenFails c kept error.OutOfMemory = (1 ≤ kept.queue) × (kept.queue ≤ 65000) × (c.workers ≤ 32)

@@ -23,7 +23,6 @@ pub record Parts : Type 0 where
   -- how many had the flusher's pass, and the flusher, where it is out
   pub flushed : ℕ
   pub flusher : Option AwayFlusher
-  pub page_bytes : ℕ
 
 -- The one that runs on this chair is at rest, and its chair is out of the hall.
 pub record IsSeated (h : halls.Parts) (chair : ℕ) (seated : Seated) : Type 0 where
@@ -44,7 +43,6 @@ pub record IsSteps (x : Parts) : Type 0 where
   pub seats : AreSeated x.hall x.seats
   pub flusher : IfSome x.flusher (IsFlushing x.hall)
   pub wide : length x.seats ≡ length x.hall.seating.peaks
-  pub long : 64 ≤ x.page_bytes
 
 -- Whether this is the flusher's pass.
 abbrev pub is_flushers : Parts → Pass → Bool

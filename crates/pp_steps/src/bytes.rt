@@ -1,11 +1,11 @@
 //! Bytes that a host hands in, and is handed.
 
-ghost use Rattle.std.specs.Prelude.{◌≡◌, ◌≤◌, ◌+◌, ◌-◌, ℕ, true, None, Some, IfOk, IfSome, IfNone, IfErr, OnOk, OnErr, length, slice_set, ◌==◌, Err};
+ghost use Rattle.std.specs.Prelude.{◌≡◌, ◌≤◌, ◌+◌, ◌-◌, ℕ, nat_le, true, false, None, Some, IfOk, IfSome, IfNone, IfErr, OnOk, OnErr, length, slice_set, ◌==◌, Err};
 ghost use Rattle.pp_vault.specs.Holding.{placed, slot_by, is_free};
 ghost use Rattle.pp_vault.specs.Duties.{is_reading};
 ghost use Rattle.pp_steps.specs.Bytes.{CopiesImage, CopiesIf, errand_of, no_errand, Brings, lies_in, ReadsGuard, ReadsBody};
 ghost use Rattle.pp_steps.specs.Bytes.{WritesSlot, WritesSeat, WritesBody, OnNoRead};
-ghost use Rattle.pp_steps.specs.Bytes.{CannotRead, ReadFails, CannotWrite, WriteFails};
+ghost use Rattle.pp_steps.specs.Bytes.{CannotRead, ReadFails, CannotWrite, WriteFails, ReadsShared, CannotSee, part_of};
 ghost use Rattle.pp_steps.specs.declared.error.PassError.TheVariants as pass_error;
 ghost use Rattle.pp_steps.specs.declared.seated.Seated.{Seated};
 ghost use Rattle.pp_steps.specs.Parts.{is_flushers};
@@ -17,13 +17,10 @@ use crate::seated::Seated;
 use crate::seats::Seats;
 use crate::site::KeptHall;
 use crate::steps::Steps;
-use pp_vault::{Errand, Flushing, Guard, Guards, Stage};
+use pp_vault::{Errand, Flushing, Guard, Guards, ReadGuard, Stage};
 
 /// How many bytes of an image the head takes.
 const HEAD: usize = 12;
-
-/// How many bytes of an image are looked at, at least.
-const SHORTEST: usize = 64;
 
 impl Steps {
     /// Copies the image that the host's device is to write.
@@ -95,13 +92,10 @@ impl Steps {
         if self.seats.get(pass).is_none() {
             return Err(self.no_errand(pass));
         }
-        if !lies_in(self.image.len(), from, bytes.len()) {
+        if !lies_in(self.hall.page_bytes(), from, bytes.len()) {
             return Err(PassError::WrongLength);
         }
-        let read = self
-            .seats
-            .read(pass, &mut self.hall, &mut self.image, slot, from, bytes);
-        match read {
+        match self.seats.read(pass, &self.hall, slot, from, bytes) {
             Some(read) => read,
             None => Err(self.no_errand(pass)),
         }
@@ -121,7 +115,7 @@ impl Steps {
         if self.seats.get(pass).is_none() {
             return Err(self.no_errand(pass));
         }
-        if !lies_in(self.image.len(), from, bytes.len()) {
+        if !lies_in(self.hall.page_bytes(), from, bytes.len()) {
             return Err(PassError::WrongLength);
         }
         match self.seats.write(pass, slot, from, bytes) {
@@ -131,7 +125,7 @@ impl Steps {
     }
 
     /// Why a call of a device's bytes, or a page's, is refused by a pass with which nobody runs.
-    fn no_errand(&self, pass: Pass) -> PassError
+    pub(crate) fn no_errand(&self, pass: Pass) -> PassError
         ensures { result ≡ no_errand self.now pass }
     {
         let is_known = self.is_flushers(pass) || self.seats.get(pass).is_some();
@@ -163,24 +157,19 @@ impl Seats<Seated> {
     fn read(
         &mut self,
         pass: Pass,
-        hall: &mut KeptHall,
-        image: &mut [u8],
+        hall: &KeptHall,
         slot: u32,
         from: u32,
         bytes: &mut [u8],
     ) -> Option<Result<(), PassError>>
-        requires long { 64 ≤ length image.old }
-        requires lies { lies_in (length image.old) from (length bytes.old) ≡ true }
         ensures some { IfSome result (λ read. (s : Seated) × (seated_at self.old pass ≡ Some s)
-            × OnOk read (ReadsGuard hall.old.value.seating.vault (placed s.worker.hand.guards slot) from bytes.new)
+            × OnOk read (ReadsGuard hall.now.value.seating.vault (placed s.worker.hand.guards slot) from bytes.new)
             × IfErr read (λ e. (e ≡ pass_error.WrongStep)
-            × CannotRead hall.old.value.seating.vault (placed s.worker.hand.guards slot) from (length bytes.old))) }
+            × CannotRead hall.now.value.seating.vault (placed s.worker.hand.guards slot) from (length bytes.old))) }
         ensures none { IfNone result (seated_at self.old pass ≡ None) }
         ensures bytes { length bytes.new ≡ length bytes.old }
         ensures err { OnNoRead result (bytes.new ≡ bytes.old) }
         ensures unchanged { self.new ≡ self.old }
-        ensures hall { hall.new.value ≡ hall.old.value }
-        ensures image { length image.new ≡ length image.old }
     {
         self.get(pass)?;
         let place = &mut self.places[pass.bell as usize];
@@ -188,7 +177,6 @@ impl Seats<Seated> {
             Some(seated) => Some(read_slot(
                 hall,
                 &mut seated.worker.hand.guards,
-                image,
                 slot,
                 from as usize,
                 bytes,
@@ -241,54 +229,34 @@ fn copied(errand: &Errand, bytes: &mut [u8]) -> Result<(), PassError>
 }
 
 /// Whether so many bytes from this one on lie in the body of an image of this length.
-fn lies_in(page_bytes: usize, from: u32, count: usize) -> bool
-    requires { 12 ≤ page_bytes }
+pub(crate) fn lies_in(page_bytes: usize, from: u32, count: usize) -> bool
     ensures { result ≡ lies_in page_bytes from count }
 {
-    let body = page_bytes - HEAD;
+    let body = page_bytes.saturating_sub(HEAD);
     (from as usize) <= body && count <= body - from as usize
 }
 
 /// Copies bytes of the slot's body, where it is latched.
 fn read_slot(
-    hall: &mut KeptHall,
+    hall: &KeptHall,
     guards: &mut Guards,
-    image: &mut [u8],
     slot: u32,
     from: usize,
     bytes: &mut [u8],
 ) -> Result<(), PassError>
-    requires long { 64 ≤ length image.old }
-    requires lies { lies_in (length image.old) from (length bytes.old) ≡ true }
-    ensures ok { OnOk result (ReadsGuard hall.old.value.seating.vault (placed guards.old slot) from bytes.new) }
+    ensures ok { OnOk result (ReadsGuard hall.now.value.seating.vault (placed guards.old slot) from bytes.new) }
     ensures bytes { length bytes.new ≡ length bytes.old }
     ensures err { OnErr result (bytes.new ≡ bytes.old) }
     ensures why { IfErr result (λ e. (e ≡ pass_error.WrongStep)
-        × CannotRead hall.old.value.seating.vault (placed guards.old slot) from (length bytes.old)) }
+        × CannotRead hall.now.value.seating.vault (placed guards.old slot) from (length bytes.old)) }
     ensures guards { guards.new ≡ guards.old }
-    ensures hall { hall.new.value ≡ hall.old.value }
-    ensures image { length image.new ≡ length image.old }
 {
     let Some(guard) = guards.take(slot) else {
         return Err(PassError::WrongStep);
     };
     let is_read = match &guard {
-        Guard::Read(guard) => {
-            let front = &mut image[..(HEAD + from + bytes.len()).max(SHORTEST)];
-            let is_shown = hall.look(guard, front);
-            if is_shown {
-                bytes.copy_from_slice(&front[HEAD + from..HEAD + from + bytes.len()]);
-            }
-            is_shown
-        }
-        Guard::Write(guard) => {
-            let body = guard.body();
-            let fits = from <= body.len() && bytes.len() <= body.len() - from;
-            if fits {
-                bytes.copy_from_slice(&body[from..from + bytes.len()]);
-            }
-            fits
-        }
+        Guard::Read(guard) => copied_shared(hall, guard, from, bytes),
+        Guard::Write(guard) => copied_part(guard.body(), from, bytes),
         _ => false,
     };
     put(guards, guard);
@@ -297,6 +265,39 @@ fn read_slot(
     } else {
         Err(PassError::WrongStep)
     }
+}
+
+/// Copies bytes of the body of a page that is latched S, from this one on. Tells whether it did: not, where the guard isn't one
+/// of the hall's, or the body hasn't so many.
+pub(crate) fn copied_shared(
+    hall: &KeptHall,
+    guard: &ReadGuard,
+    from: usize,
+    bytes: &mut [u8],
+) -> bool
+    ensures read { result ≡ true → ReadsShared hall.now.value.seating.vault guard.now from bytes.new }
+    ensures why { result ≡ false → CannotSee hall.now.value.seating.vault guard.now from (length bytes.old) }
+    ensures stays { result ≡ false → bytes.new ≡ bytes.old }
+    ensures long { length bytes.new ≡ length bytes.old }
+{
+    match hall.see(guard) {
+        Some(body) => copied_part(body, from, bytes),
+        None => false,
+    }
+}
+
+/// Copies bytes of a body, from this one on. Tells whether it did: not, where the body hasn't so many.
+fn copied_part(body: &[u8], from: usize, bytes: &mut [u8]) -> bool
+    ensures exact { result ≡ nat_le (from + length bytes.old) (length body.now) }
+    ensures part { result ≡ true → bytes.new ≡ part_of body.now from (length bytes.new) }
+    ensures stays { result ≡ false → bytes.new ≡ bytes.old }
+    ensures long { length bytes.new ≡ length bytes.old }
+{
+    let fits = from <= body.len() && bytes.len() <= body.len() - from;
+    if fits {
+        bytes.copy_from_slice(&body[from..from + bytes.len()]);
+    }
+    fits
 }
 
 /// Puts bytes into the slot's body, where it is latched X.
@@ -328,7 +329,7 @@ fn write_slot(guards: &mut Guards, slot: u32, from: usize, bytes: &[u8]) -> Resu
 }
 
 /// Puts a guard back into its place, which is free.
-fn put(guards: &mut Guards, guard: Guard)
+pub(crate) fn put(guards: &mut Guards, guard: Guard)
     requires { is_free guards.old (slot_by guard) ≡ true }
     ensures { guards.new ≡ slice_set guards.old (slot_by guard) (Some guard) }
 {

@@ -55,6 +55,17 @@ pub enum PassError {
     WrongLength,
 }
 
+/// Why a reading isn't begun or ended by one call.
+#[derive(Clone, Copy, Debug, PartialEq, Eq, thiserror::Error)]
+pub enum AtOnceError {
+    /// Nobody runs with the pass, or the bytes don't lie in a body.
+    #[error(transparent)]
+    Pass(PassError),
+    /// Both moves aren't possible at once.
+    #[error("not possible at once")]
+    NotAtOnce,
+}
+
 /// Why a step isn't made, or no start.
 #[derive(Clone, Copy, Debug, PartialEq, Eq, thiserror::Error)]
 pub enum GoError {

@@ -1,7 +1,7 @@
 //! The flusher.
 
-ghost use Rattle.std.specs.Prelude.{◌≡◌, true, false, ℕ, Some, None, IfSome, IfNone, if◌then◌else◌, ◌≤◌, ◌⊎◌};
-ghost use Rattle.pp_steps.specs.Calls.{FlusherIs, HandsOut, WishIs, FlusherLeaves, flusher_told, no_flush, flush_went, is_other};
+ghost use Rattle.std.specs.Prelude.{◌≡◌, true, false, ℕ, Some, None, IfSome, IfNone, if◌then◌else◌};
+ghost use Rattle.pp_steps.specs.Calls.{FlusherIs, HandsOut, IsntHandedOut, WishIs, FlusherLeaves, flusher_told, no_flush, flush_went, is_other};
 ghost use Rattle.pp_steps.specs.declared.error.PassError.TheVariants as pass_error;
 ghost use Rattle.pp_steps.specs.Parts.{is_flushers, IsFlushing};
 ghost use Rattle.pp_steps.specs.Sites.{SameOut};
@@ -92,7 +92,7 @@ impl Steps {
     /// Gives the flusher's pass out, where the flusher is home.
     pub fn take_flusher(&mut self) -> Option<Pass>
         ensures some { IfSome result (λ pass. HandsOut self.old pass self.new) }
-        ensures none { IfNone result ((self.old.hall.posts.is_flusher_home ≡ false) ⊎ (281474976710655 ≤ self.old.flushed)) }
+        ensures none { IfNone result (IsntHandedOut self.old) }
         ensures unchanged { IfNone result (self.new ≡ self.old) }
     {
         if self.flusher.is_some() || self.flushed >= LAST_TURN {

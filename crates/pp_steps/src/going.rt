@@ -163,7 +163,6 @@ impl Steps {
             mut seats,
             flushed,
             flusher,
-            image,
         } = self;
         let (hall, came) = seats.go(pass, hall, argument);
         let steps = Steps {
@@ -173,7 +172,6 @@ impl Steps {
             seats,
             flushed,
             flusher,
-            image,
         };
         (steps, came)
     }

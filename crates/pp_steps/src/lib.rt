@@ -9,7 +9,7 @@
 //! answered by an error, and nothing has changed then.
 #![tactic(auto)]
 
-pub use error::{EnterError, GoError, KeepError, OpenError, PassError, WhyOpen};
+pub use error::{AtOnceError, EnterError, GoError, KeepError, OpenError, PassError, WhyOpen};
 pub use flusher::FlushWish;
 pub use going::Went;
 pub use pass::Pass;
@@ -29,6 +29,7 @@ mod line;
 mod named;
 mod pass;
 mod plans;
+mod reading;
 mod rings;
 mod seated;
 mod seats;

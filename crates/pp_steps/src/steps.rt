@@ -51,13 +51,10 @@ pub struct Steps {
     // How many had the flusher's pass, and the flusher, where it is out.
     pub(crate) flushed: u64,
     pub(crate) flusher: Option<AwayFlusher>,
-    // Room for one image.
-    pub(crate) image: Vec<u8>,
 }
 
 impl Model for Steps {
     ghost use Rattle.std.specs.Coded.{codes};
-    ghost use Rattle.std.specs.Prelude.{vec_len};
     ghost use Rattle.pp_hall.specs.Coding.{coded_seating};
     ghost use Rattle.pp_steps.specs.contracts.seated.Seated as seated;
     ghost use Rattle.pp_steps.specs.contracts.flusher.AwayFlusher as away;
@@ -74,7 +71,6 @@ impl Model for Steps {
       seats = s.seats;
       flushed = s.flushed;
       flusher = s.flusher;
-      page_bytes = vec_len s.image;
     } };
 
     ghost invariant = { λ s. IsSteps (record {
@@ -84,7 +80,6 @@ impl Model for Steps {
       seats = s.seats;
       flushed = s.flushed;
       flusher = s.flusher;
-      page_bytes = vec_len s.image;
     }) };
 }
 
@@ -106,10 +101,9 @@ impl Steps {
         if workers > MOST_WORKERS {
             return Err(OpenError::Hall(pp_hall::OpenError::TooManyWorkers));
         }
-        let (Ok(devices), Ok(line), Ok(image)) = (
+        let (Ok(devices), Ok(line)) = (
             devices_of(alloc, settings),
             Line::new(alloc, workers, policy.queue),
-            vec![in alloc; 0; settings.page_bytes() as usize],
         ) else {
             return Err(OpenError::OutOfMemory);
         };
@@ -132,7 +126,6 @@ impl Steps {
             seats,
             flushed: 0,
             flusher: None,
-            image,
         })
     }
 

@@ -98,7 +98,6 @@ impl Steps {
             seats,
             flushed: _,
             flusher,
-            image: _image,
         } = self;
         if let Some(flusher) = flusher {
             park_flusher(&mut hall, flusher);

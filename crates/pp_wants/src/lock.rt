@@ -11,7 +11,7 @@ const PAUSES: u32 = 20;
 /// How often the lock is tried with one rest before it, and from then on with twice as many rests before each try. Where it is
 /// held now and then, one of these first tries has it. Where all want it all the time, each of them would take it away from a
 /// thread that is about to want it again, and with it all that it guards goes from one processor's cache to another's.
-const SOON: u32 = 3;
+const SOON: u32 = 4;
 
 /// How many rests there are at most before a try: some fifty microseconds. So where all want the lock, a thread takes it many
 /// times before another does, and four threads do half as much again as with rests of one length. Longer ones gain little more,
@@ -45,7 +45,7 @@ fn hold_later<'a, T, R: Wait>(rt: &R, lock: &'a Mutex<T>) -> MutexGuard<'a, T> {
         if let Some(locked) = lock.try_lock() {
             return locked;
         }
-        if tried >= SOON {
+        if tried + 1 >= SOON {
             rests = rests.saturating_mul(2).min(LONGEST);
         }
     }

@@ -1,4 +1,6 @@
-use Rattle.std.proofs.Common.{◌≡◌, refl, sym, ap, subst, rules}
+use Rattle.std.proofs.Common.{◌≡◌, Some, None, refl, sym, ap, subst, rules}
+use Rattle.pp_vault.specs.Parts as vault
+use Rattle.pp_vault.specs.StandsFor.{StandsFor}
 use Rattle.pp_hall.specs.Seatings as seatings
 use Rattle.pp_hall.specs.Waiters as waiters
 use Rattle.pp_hall.specs.Halls.{Parts}
@@ -30,6 +32,13 @@ returns-in-Ok-clause-ok g c =
       seating = c.read.new.self;
       reads = c.in-Ok.ensures.ok;
       rest = c.in-Ok.ensures.rest;
-      settles = settled (record h { seating = c.read.new.self }) h.waiters c.settle-told.new.self c.settle-told.result refl
-          c.settle-told.ensures.settles;
+      settles = settled (record h {
+        seating = c.read.new.self;
+        waiters = waiters.with_place h.waiters (Some c.args.session.worker) None;
+      }) c.rise.new.self c.settle-told.new.self c.settle-told.result (search rules) c.settle-told.ensures.settles;
     })
+
+pub returns-in-Ok-clause-exact : goal.returns-in-Ok-clause-exact
+returns-in-Ok-clause-exact g c = λ s stands.
+    c.in-Ok.ensures.exact s
+    (subst (λ (v : vault.Parts). StandsFor v s) (sym (ap (λ (h : Parts). h.seating.vault) c.self.view_is)) stands)

@@ -1,4 +1,4 @@
-use Rattle.std.proofs.Common.{sym, subst, vec_len}
+use Rattle.std.proofs.Common.{sym, subst}
 use Rattle.pp_steps.specs.Parts.{Parts, IsSteps}
 use Rattle.pp_steps.proofs.Bodies.{Brought, brought_in}
 use Rattle.pp_steps.proofs.Home.{brought_steps}
@@ -13,7 +13,6 @@ invariant_of-self c =
       seats = c.self.inside.seats;
       flushed = c.self.inside.flushed;
       flusher = c.self.inside.flusher;
-      page_bytes = vec_len c.self.inside.image;
     } in
     let b : Brought x.seats c.args.pass c.args.bytes.now c.bring.new.self c.in-Some.brought = c.in-Some.ensures.some in
     subst (λ seats. IsSteps (record x { seats = seats })) (sym b.4)
@@ -28,7 +27,6 @@ returns-in-Some-clause-some c =
       seats = c.self.inside.seats;
       flushed = c.self.inside.flushed;
       flusher = c.self.inside.flusher;
-      page_bytes = vec_len c.self.inside.image;
     } in
     brought_in x c.args.self.now c.args.pass c.args.bytes.now c.in-Some.brought c.bring.new.self c.self.view_is
     c.in-Some.ensures.some

@@ -1,5 +1,4 @@
 use Rattle.std.proofs.Common.{◌≡◌, ◌∙◌, true, Some, rules, ap, subst}
-use Rattle.std.specs.Prelude.{vec_len}
 use Rattle.pp_model.specs.Pool.{State}
 use Rattle.pp_vault.specs.StandsFor.{StandsFor}
 use Rattle.pp_hall.specs.Halls as halls
@@ -24,7 +23,6 @@ invariant_of-self-2 c =
       seats = c.self.inside.seats;
       flushed = c.self.inside.flushed;
       flusher = c.self.inside.flusher;
-      page_bytes = vec_len c.self.inside.image;
     } in
     let out : SameOut x.hall c.replace_with-away.new.dest.value = search rules in
     flushed_steps x c.replace_with-away.new.dest.value c.take.new.self out c.self.invariant c.take.ensures.after

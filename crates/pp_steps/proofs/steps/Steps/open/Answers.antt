@@ -1,4 +1,4 @@
-use Rattle.std.proofs.Common.{◌∙◌, ◌≤◌, None, replicate, sym, ap, subst, vec_len, arith}
+use Rattle.std.proofs.Common.{◌∙◌, None, replicate, sym, ap, subst, vec_len, arith}
 use Rattle.pp_hall.specs.Halls as halls
 use Rattle.pp_hall.specs.Calls as hall
 use Rattle.pp_steps.specs.Opening.{OpenFails}
@@ -8,16 +8,15 @@ use Rattle.pp_steps.proofs.steps.Steps.open.Goals as goal
 pub returns-in-Err-clause-error : goal.returns-in-Err-clause-error
 returns-in-Err-clause-error c =
     subst (λ error. OpenFails c.args.settings.now c.args.policy error) (sym c.unopened.ensures)
-    (unopened_fails c.args.settings.now c.args.policy (vec_len c.in-Ok-Ok-Ok.devices) c.in-Err.error (omega arith)
-    (omega arith) c.in-Err.ensures.error c.in-Ok-Ok-Ok.ensures)
+    (unopened_fails c.args.settings.now c.args.policy (vec_len c.in-Ok-Ok.devices) c.in-Err.error (omega arith)
+    (omega arith) (omega (arith, c.workers-workers.ensures.is)) c.in-Err.ensures.error c.in-Ok-Ok.ensures)
 
 pub invariant_of-result : goal.invariant_of-result
 invariant_of-result c =
     let fresh : hall.IsFresh c.args.settings.now c.args.policy c.in-Ok-new.hall.value =
     subst (λ (h : halls.Parts). hall.IsFresh c.args.settings.now c.args.policy h) (sym c.in-Ok-new.ensures.ok)
     c.in-Ok.ensures.fresh in
-    let long : 64 ≤ vec_len c.in-Ok-Ok-Ok.image = omega (arith, c.in-Ok-Ok-Ok.ensures''.len, c.page_bytes.ensures.within) in
-    opened_steps c.args.settings.now c.args.policy c.in-Ok-new.hall.value c.new-4.result.items c.in-Ok-Ok-Ok.line
-    c.in-Ok-new-2.seats (vec_len c.in-Ok-Ok-Ok.image) fresh
+    opened_steps c.args.settings.now c.args.policy c.in-Ok-new.hall.value c.new-4.result.items c.in-Ok-Ok.line
+    c.in-Ok-new-2.seats fresh
     (c.in-Ok-new-2.ensures
-    ∙ ap (λ n. replicate n (record { turn = 0; seated = None })) c.workers-workers.ensures.is) long
+    ∙ ap (λ n. replicate n (record { turn = 0; seated = None })) c.workers-workers.ensures.is)

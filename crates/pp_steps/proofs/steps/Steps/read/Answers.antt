@@ -1,4 +1,5 @@
-use Rattle.std.proofs.Common.{◌∙◌, length, sym, ap, vec_len}
+use Rattle.std.proofs.Common.{◌∙◌, length, sym, ap}
+use Rattle.pp_hall.specs.Halls as halls
 use Rattle.pp_steps.specs.Bytes.{lies_in}
 use Rattle.pp_steps.specs.Parts.{Parts}
 use Rattle.pp_steps.proofs.Bodies.{read_in}
@@ -13,9 +14,9 @@ returns-in-Some-clause-ok c =
       seats = c.self.inside.seats;
       flushed = c.self.inside.flushed;
       flusher = c.self.inside.flusher;
-      page_bytes = vec_len c.self.inside.image;
     } in
-    read_in x c.args.self.now c.args.pass c.args.slot c.args.from (length c.args.bytes.now) c.read-read.new.bytes
+    read_in x c.args.self.now c.args.pass c.args.slot c.args.from (length c.args.bytes.now) c.read.new.bytes
     c.in-Some.read c.self.view_is c.in-Some.ensures.some c.in-Some.ensures.bytes
-    (ap (λ n. lies_in n c.args.from (length c.args.bytes.now)) (sym c.len.ensures) ∙ sym c.lies_in.ensures
+    (ap (λ (h : halls.Parts). lies_in h.seating.vault.page_bytes c.args.from (length c.args.bytes.now)) (sym c.deref.ensures)
+    ∙ ap (λ n. lies_in n c.args.from (length c.args.bytes.now)) (sym c.page_bytes.ensures) ∙ sym c.lies_in.ensures
     ∙ c.if-not-lies_in.false)

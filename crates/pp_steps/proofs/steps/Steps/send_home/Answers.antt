@@ -1,4 +1,4 @@
-use Rattle.std.proofs.Common.{◌∙◌, sym, subst, vec_len}
+use Rattle.std.proofs.Common.{◌∙◌, sym, subst}
 use Rattle.pp_steps.specs.Parts.{Parts, IsSteps}
 use Rattle.pp_steps.proofs.Halls.{home_steps}
 use Rattle.pp_steps.proofs.steps.Steps.send_home.Goals as goal
@@ -12,7 +12,6 @@ invariant_of-self c =
       seats = c.self.inside.seats;
       flushed = c.self.inside.flushed;
       flusher = c.self.inside.flusher;
-      page_bytes = vec_len c.self.inside.image;
     } in
     subst (λ seats. IsSteps (record x { hall = c.park.new.hall.value; seats = seats })) (sym c.in-Some.ensures.taken)
     (home_steps x c.park.new.hall.value c.args.pass c.in-Some.seated c.park.result c.self.invariant

@@ -1,4 +1,4 @@
-use Rattle.std.proofs.Common.{◌≡◌, ◌∙◌, true, false, Some, Ok, Err, sym, ap, subst, vec_len}
+use Rattle.std.proofs.Common.{◌≡◌, ◌∙◌, true, false, Some, Ok, Err, sym, ap, subst}
 use Rattle.std.proofs.lemmas.Bool.{false≢true}
 use Rattle.pp_vault.specs.Stages.{is_chair, stage_worker}
 use Rattle.pp_hall.specs.Halls as halls
@@ -22,7 +22,6 @@ bring_back-requires c =
       seats = c.self.inside.seats;
       flushed = c.self.inside.flushed;
       flusher = c.self.inside.flusher;
-      page_bytes = vec_len c.self.inside.image;
     } in
     let is : halls.IsHall x.hall = subst (λ (h : halls.Parts). halls.IsHall h) c.deref.ensures c.known.ensures.hall in
     let starts : hall.Starts x.hall c.in-Some.waiter.ticket (stage_worker c.in-Takes.post.hand.stage) c.in-Takes.told c.start.new.self =
@@ -39,7 +38,6 @@ invariant_of-self c =
       seats = c.self.inside.seats;
       flushed = c.self.inside.flushed;
       flusher = c.self.inside.flusher;
-      page_bytes = vec_len c.self.inside.image;
     } in
     let starts : hall.Starts x.hall c.in-Some.waiter.ticket (stage_worker c.in-Takes.post.hand.stage) c.in-Takes.told c.start.new.self =
     subst (λ (h : halls.Parts). hall.Starts h c.in-Some.waiter.ticket (stage_worker c.in-Takes.post.hand.stage) c.in-Takes.told c.start.new.self)
@@ -56,7 +54,6 @@ returns-then-not-matches c =
       seats = c.self.inside.seats;
       flushed = c.self.inside.flushed;
       flusher = c.self.inside.flusher;
-      page_bytes = vec_len c.self.inside.image;
     } in
     let starts : hall.Starts x.hall c.in-Some.waiter.ticket (stage_worker c.in-Takes.post.hand.stage) c.in-Takes.told c.start.new.self =
     subst (λ (h : halls.Parts). hall.Starts h c.in-Some.waiter.ticket (stage_worker c.in-Takes.post.hand.stage) c.in-Takes.told c.start.new.self)
@@ -91,7 +88,6 @@ seat-next-requires c =
       seats = c.self.inside.seats;
       flushed = c.self.inside.flushed;
       flusher = c.self.inside.flusher;
-      page_bytes = vec_len c.self.inside.image;
     } in
     let starts : hall.Starts x.hall c.in-Some.waiter.ticket (stage_worker c.in-Takes.post.hand.stage) c.in-Takes.told c.start.new.self =
     subst (λ (h : halls.Parts). hall.Starts h c.in-Some.waiter.ticket (stage_worker c.in-Takes.post.hand.stage) c.in-Takes.told c.start.new.self)
@@ -111,7 +107,6 @@ invariant_of-self-in-Takes c =
       seats = c.self.inside.seats;
       flushed = c.self.inside.flushed;
       flusher = c.self.inside.flusher;
-      page_bytes = vec_len c.self.inside.image;
     } in
     let is : halls.IsHall x.hall = subst (λ (h : halls.Parts). halls.IsHall h) c.deref.ensures c.known.ensures.hall in
     let starts : hall.Starts x.hall c.in-Some.waiter.ticket (stage_worker c.in-Takes.post.hand.stage) c.in-Takes.told c.start.new.self =
@@ -134,7 +129,6 @@ returns-else-not-matches c =
       seats = c.self.inside.seats;
       flushed = c.self.inside.flushed;
       flusher = c.self.inside.flusher;
-      page_bytes = vec_len c.self.inside.image;
     } in
     let starts : hall.Starts x.hall c.in-Some.waiter.ticket (stage_worker c.in-Takes.post.hand.stage) c.in-Takes.told c.start.new.self =
     subst (λ (h : halls.Parts). hall.Starts h c.in-Some.waiter.ticket (stage_worker c.in-Takes.post.hand.stage) c.in-Takes.told c.start.new.self)

@@ -1,4 +1,3 @@
-use Rattle.std.specs.Prelude.{vec_len}
 use Rattle.pp_steps.specs.Parts.{Parts}
 use Rattle.pp_steps.proofs.Turns.{turned_steps}
 use Rattle.pp_steps.proofs.steps.Steps.turned.Goals as goal
@@ -12,7 +11,6 @@ invariant_of-steps c =
       seats = c.self.inside.seats;
       flushed = c.self.inside.flushed;
       flusher = c.self.inside.flusher;
-      page_bytes = vec_len c.self.inside.image;
     } in
     turned_steps x c.go-hall.result.0.value c.go-hall.new.self c.args.pass c.args.argument c.go-hall.result.1
     c.self.invariant c.go-hall.ensures.turns c.go-hall.ensures.rests c.go-hall.ensures.out
