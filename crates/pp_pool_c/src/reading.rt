@@ -1,6 +1,6 @@
 //! The calls by which pages that are cached are read, one call for two moves.
 
-ghost use Rattle.std.specs.Prelude.{◌≡◌, None, length};
+ghost use Rattle.std.specs.Prelude.{◌≡◌, None, true, length};
 ghost use Rattle.pp_pool_c.specs.declared.answer.Answer.{Answer as AnAnswer};
 ghost use Rattle.pp_pool_c.specs.declared.answer.Answer.TheVariants as answer;
 ghost use Rattle.pp_pool_c.specs.Answers.{code, is_refusal};
